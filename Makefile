@@ -1,0 +1,16 @@
+# The three ways in: the program, the tests, the figures.
+.PHONY: run test bench
+
+# Proves and builds the program, and leaves it at bin/warg_check.
+run:
+	@if [ ! -d crates/warg_check_cli ]; then echo "the program warg_check is not written yet"; exit 0; fi; \
+	cd crates/warg_check_cli && rt run < stdin > /dev/null && cd ../.. && \
+	mkdir -p bin && cp crates/warg_check_cli/out/warg_check_cli bin/warg_check && \
+	echo "bin/warg_check reads commands on standard input, as: printf 'push -\\nlog\\n' | bin/warg_check"
+
+# Proves every crate from nothing, tries the must-fail edits, runs the tests and the program.
+test:
+	rt ci
+
+bench:
+	@if [ ! -d crates/warg_bench ]; then echo "there is nothing to measure yet"; exit 0; fi
