@@ -1,0 +1,2 @@
+pub mod EmptyTrees
+pub mod WeakDigests

@@ -1,0 +1,154 @@
+//! Hashes: digests with the name of their digest function.
+
+ghost use Rattle.std.specs.Prelude.{◌≡◌, ⊤, ℕ, ◌↔◌, List, length, false, IfOk, IsOk, vec_len};
+
+use crate::digest::SupportedDigest;
+use crate::visit::{ByteVisitor, VisitBytes};
+use std::alloc::{AllocError, Allocator};
+use std::marker::{Model, PhantomData};
+
+/// A digest of 32 bytes, by the digest function `D`.
+///
+/// Equality, order and `Hash` go by the bytes, for every `D`.
+#[derive_where(Debug, PartialEq, Eq, PartialOrd, Ord, Hash)]
+pub struct Hash<D> {
+    bytes: [u8; 32],
+    of: PhantomData<D>,
+}
+
+// Contracts see a hash as the list of its bytes.
+impl<D> Model for Hash<D> {
+    ghost Value = { List ℕ };
+
+    ghost view = { λ h. h.bytes };
+
+    ghost invariant = { λ h. length h.bytes ≡ 32 };
+
+    ghost inverse = { λ l. record { bytes = l; of = record {} } };
+}
+
+/// Never refuses: a hash takes no memory beside its own.
+impl<D> Clone for Hash<D> {
+    ghost is_clone = { λ x y. y ≡ x };
+
+    ghost is_infallible = { λ _. ⊤ };
+
+    fn clone(&self) -> Result<Hash<D>, AllocError> {
+        Ok(self.copied())
+    }
+}
+
+impl<D> Drop for Hash<D> {
+    fn drop(self) {
+        let Hash { bytes: _, of: _ } = self;
+    }
+}
+
+/// The hash's 32 bytes.
+impl<D> VisitBytes for Hash<D> {
+    ghost bytes = { λ h. h };
+
+    fn visit<W: ByteVisitor>(&self, to: &mut W) {
+        to.visit_bytes(&self.bytes);
+    }
+}
+
+impl<D: SupportedDigest> Hash<D> {
+    /// The digest of the value's bytes.
+    pub fn of<T: VisitBytes>(value: &T) -> Hash<D>
+        ensures { result ≡ D.digest (T.bytes value.now) }
+    {
+        let mut digest = D::start();
+        value.visit(&mut digest);
+        Hash::from_array(digest.finish())
+    }
+}
+
+impl<D> Hash<D> {
+    /// The hash with these bytes, whatever they are the digest of.
+    pub fn from_array(bytes: [u8; 32]) -> Hash<D>
+        ensures { result ≡ bytes }
+    {
+        Hash {
+            bytes,
+            of: PhantomData,
+        }
+    }
+
+    /// The hash with the bytes of a list: `HashLength` exactly where they aren't 32.
+    pub fn try_from<A: Allocator>(bytes: Vec<u8, A>) -> Result<Hash<D>, HashLength>
+        ensures ok { IfOk result (λ h. h ≡ bytes.items) }
+        ensures exactly { IsOk result ↔ (vec_len bytes ≡ 32) }
+    {
+        match <[u8; 32]>::try_from(bytes.as_slice()) {
+            Ok(array) => Ok(Hash::from_array(array)),
+            Err(_) => Err(HashLength),
+        }
+    }
+
+    /// The same hash again, which takes no memory and can't be refused.
+    pub fn copied(&self) -> Hash<D>
+        ensures { result ≡ self.now }
+    {
+        Hash::from_array(self.bytes)
+    }
+
+    /// The hash's 32 bytes.
+    pub fn bytes(&self) -> &[u8]
+        ensures { result.now ≡ self.now }
+    {
+        &self.bytes
+    }
+
+    /// The number of bytes, 32.
+    pub fn len(&self) -> usize
+        ensures value { result ≡ 32 }
+        ensures bytes { length self.now ≡ result }
+    {
+        let _ = &self.bytes;
+        self.bytes.len()
+    }
+
+    /// The number of bits, 256.
+    pub fn bit_len(&self) -> usize
+        ensures value { result ≡ 256 }
+    {
+        self.len() * 8
+    }
+}
+
+/// That a list of bytes isn't 32 bytes long, and so no hash.
+#[derive(Clone, Copy, Debug, PartialEq, Eq)]
+pub struct HashLength;
+
+// Keeps the bytes that it takes, until a growth is refused.
+#[derive(Drop)]
+struct Collector<A: Allocator> {
+    bytes: Vec<u8, A>,
+    refused: bool,
+}
+
+impl<A: Allocator> ByteVisitor for Collector<A> {
+    ghost stands_for = { λ c m. c.refused ≡ false → c.bytes.items ≡ m };
+
+    fn visit_bytes(&mut self, bytes: &[u8]) {
+        if !self.refused && self.bytes.extend_from_slice(bytes).is_err() {
+            self.refused = true;
+        }
+    }
+}
+
+/// The value's bytes, as a list over `alloc`. It refuses only where a growth was refused.
+pub fn bytes_of<T: VisitBytes, A: Allocator>(alloc: A, value: &T) -> Result<Vec<u8, A>, AllocError>
+    ensures { IfOk result (λ v. v.items ≡ T.bytes value.now) }
+{
+    let mut collector = Collector {
+        bytes: Vec::new(alloc),
+        refused: false,
+    };
+    value.visit(&mut collector);
+    if collector.refused {
+        return Err(AllocError);
+    }
+    Ok(collector.bytes)
+}
