@@ -1,1 +1,4 @@
+pub mod Nodes
 pub mod Tree
+pub mod Cut
+pub mod Walks

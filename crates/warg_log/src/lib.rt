@@ -1,6 +1,18 @@
-//! The append-only Merkle log, with the tree of RFC 6962 section 2.1.
+//! A verifiable log: an append-only list of entries with the Merkle tree of RFC 6962, section 2.1.
+//!
+//! A log answers a checkpoint, its root and length. A proof leads from the digest of one leaf, or from
+//! an older root, to a root, over any digests. The definitions that the contracts cite stand in
+//! `specs/`: read Nodes, Tree and Cut, in this order.
 #![tactic(auto)]
 
+mod interval;
 mod log;
+mod node;
+mod proof;
+mod vec_log;
 
-pub use log::{hash_branch, hash_empty, hash_leaf};
+pub use interval::Interval;
+pub use log::{Checkpoint, LogBuilder, LogData, hash_branch, hash_empty, hash_leaf, push_all};
+pub use node::{Node, Side};
+pub use proof::{InclusionProof, InclusionProofError, range_root, stored_root};
+pub use vec_log::VecLog;

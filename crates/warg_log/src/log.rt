@@ -1,18 +1,21 @@
-//! The hashes of the log's tree.
+//! What all logs have in common: the hashes of the tree, checkpoints, and the two traits.
 
-ghost use Rattle.std.specs.Prelude.{◌≡◌, [], ◌∷◌};
-ghost use Rattle.warg_log.specs.Tree.{branch};
+ghost use Rattle.std.specs.Prelude.{◌≡◌, ℕ, ◌+◌, ◌*◌, ◌^◌, ◌<◌, ◌≤◌, ◌↔◌, map, take, List, [], ◌∷◌, ◌++◌, length, Option, IsTrue, IsSome, IfOk, OnOk, OnErr};
+ghost use Rattle.warg_log.specs.Tree.{branch, root_of, leaves_of};
 
+use crate::node::Node;
+use crate::proof::InclusionProof;
+use std::alloc::AllocError;
 use warg_crypto::{ByteVisitor, Hash, SupportedDigest, VisitBytes};
 
-/// The root of the tree of no entries: the digest of no bytes (RFC 6962 section 2.1).
+/// The root of the tree of no entries: the digest of no bytes (RFC 6962, section 2.1).
 pub fn hash_empty<D: SupportedDigest>() -> Hash<D>
     ensures { result ≡ D.digest [] }
 {
     Hash::of(&())
 }
 
-/// The digest of a leaf: that of the byte 00 and the entry's bytes (RFC 6962 section 2.1).
+/// The digest of a leaf: that of the byte 00 and the entry's bytes (RFC 6962, section 2.1).
 pub fn hash_leaf<D: SupportedDigest, V: VisitBytes>(entry: &V) -> Hash<D>
     ensures { result ≡ D.digest (0 ∷ V.bytes entry.now) }
 {
@@ -22,7 +25,7 @@ pub fn hash_leaf<D: SupportedDigest, V: VisitBytes>(entry: &V) -> Hash<D>
     Hash::from_array(digest.finish())
 }
 
-/// The digest of a branch: that of the byte 01, the left digest and the right one (RFC 6962
+/// The digest of a branch: that of the byte 01, the left digest and the right one (RFC 6962,
 /// section 2.1).
 pub fn hash_branch<D: SupportedDigest>(left: &Hash<D>, right: &Hash<D>) -> Hash<D>
     ensures { result ≡ branch D.digest left.now right.now }
@@ -32,4 +35,107 @@ pub fn hash_branch<D: SupportedDigest>(left: &Hash<D>, right: &Hash<D>) -> Hash<
     left.visit(&mut digest);
     right.visit(&mut digest);
     Hash::from_array(digest.finish())
+}
+
+/// A log's root and length, which together fix what the log holds.
+///
+/// Checkpoints are ordered by their roots' bytes, and then by their lengths.
+#[derive_where(Clone, Debug, PartialEq, Eq, PartialOrd, Ord)]
+#[derive(Drop)]
+pub struct Checkpoint<D> {
+    root: Hash<D>,
+    length: usize,
+}
+
+impl<D> Checkpoint<D> {
+    pub(crate) fn new(root: Hash<D>, length: usize) -> Checkpoint<D>
+        ensures root { result.root ≡ root }
+        ensures length { result.length ≡ length }
+    {
+        Checkpoint { root, length }
+    }
+
+    /// The root of the tree over the log's entries.
+    pub fn root(&self) -> Hash<D>
+        ensures { result ≡ self.now.root }
+    {
+        self.root.copied()
+    }
+
+    /// The number of the log's entries.
+    pub fn length(&self) -> usize
+        ensures { result ≡ self.now.length }
+    {
+        self.length
+    }
+}
+
+/// A log that grows by one entry at a time, at its end.
+pub trait LogBuilder<D: SupportedDigest, V: VisitBytes> {
+    // The number of entries.
+    ghost len: { Self → ℕ };
+
+    // The log stands for this list of leaf digests. A log that keeps few digests may stand for several
+    // lists.
+    ghost stands_for: { Self → List (List ℕ) → Type 0 };
+
+    /// The log's root, that of the tree over its entries, and its length.
+    fn checkpoint(&self) -> Checkpoint<D>
+        ensures root { (ds : List (List ℕ)) → stands_for self.now ds → result.root ≡ root_of D.digest ds }
+        ensures length { result.length ≡ len self.now };
+
+    /// Adds an entry at the end, and answers its leaf's node. A refused push leaves the log as it was.
+    fn push(&mut self, entry: &V) -> Result<Node, AllocError>
+        requires { len self.old < 2 ^ 63 }
+        ensures node { IfOk result (λ node. node.0 ≡ 2 * len self.old) }
+        ensures length { OnOk result (len self.new ≡ len self.old + 1) }
+        ensures ok { OnOk result ((ds : List (List ℕ)) → stands_for self.old ds → stands_for self.new (ds ++ D.digest (0 ∷ V.bytes entry.now) ∷ [])) }
+        ensures err { OnErr result (self.new ≡ self.old) };
+
+    // Each list that the log stands for has as many digests as the log has entries.
+    ghost stands_len: { (s : Self) (ds : List (List ℕ)) → stands_for s ds → length ds ≡ len s };
+}
+
+/// Digests by node, of whatever source: a log's own, or those that came with a proof.
+pub trait LogData<D: SupportedDigest, V: VisitBytes> {
+    // The digest that is held for a node's number, if there is one.
+    ghost digest_at: { Self → ℕ → Option (List ℕ) };
+
+    /// Whether the node's digest is held.
+    fn has_hash(&self, node: Node) -> bool
+        ensures { IsTrue result ↔ IsSome (digest_at self.now node.0) };
+
+    /// The node's digest, if it is held.
+    fn hash_for(&self, node: Node) -> Option<Hash<D>>
+        ensures { result ≡ digest_at self.now node.0 };
+
+    /// The proof that leads from the digest of a node, mostly a leaf, to the root at a length. Neither
+    /// has to be one of this data's: the proof's evaluation says whether they are.
+    fn prove_inclusion(&self, leaf: Node, log_length: usize) -> InclusionProof<D, V>
+        requires { log_length ≤ 2 ^ 63 }
+        ensures leaf { result.leaf ≡ leaf }
+        ensures log_length { result.log_length ≡ log_length }
+    {
+        InclusionProof::new(leaf, log_length)
+    }
+}
+
+/// Pushes the entries in order, and answers the checkpoint after them.
+///
+/// A refusal leaves the log with the entries of before it: those that it had, and a beginning of the
+/// new ones.
+pub fn push_all<D: SupportedDigest, V: VisitBytes, B: LogBuilder<D, V>>(
+    log: &mut B,
+    entries: &[V],
+) -> Result<Checkpoint<D>, AllocError>
+    requires { B.len log.old + length entries.now ≤ 2 ^ 63 }
+    ensures ok { OnOk result ((ds : List (List ℕ)) → B.stands_for log.old ds → B.stands_for log.new (ds ++ leaves_of D.digest (map (λ e. V.bytes e) entries.now))) }
+    ensures root { IfOk result (λ checkpoint. (ds : List (List ℕ)) → B.stands_for log.old ds → checkpoint.root ≡ root_of D.digest (ds ++ leaves_of D.digest (map (λ e. V.bytes e) entries.now))) }
+    ensures length { IfOk result (λ checkpoint. checkpoint.length ≡ B.len log.old + length entries.now) }
+    ensures err { OnErr result ((k : ℕ) × (k < length entries.now) × ((ds : List (List ℕ)) → B.stands_for log.old ds → B.stands_for log.new (ds ++ leaves_of D.digest (map (λ e. V.bytes e) (take k entries.now))))) }
+{
+    'entries: for entry in entries {
+        log.push(entry)?;
+    }
+    Ok(log.checkpoint())
 }

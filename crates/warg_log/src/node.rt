@@ -1,0 +1,192 @@
+//! The nodes of a log's tree, by their numbers.
+
+ghost use Rattle.std.specs.Prelude.{◌≡◌, ℕ, ◌+◌, ◌-◌, ◌*◌, ◌/◌, ◌%◌, ◌^◌, ◌<◌, ◌≤◌, ◌↔◌, IsTrue, IfOk, map};
+ghost use Rattle.warg_log.specs.Nodes.{IsNode, ExistsAt, height_of, place_of, sibling_place, start_of, end_of, balanced_roots};
+
+use crate::interval::Interval;
+use std::alloc::{AllocError, Allocator};
+
+/// A node of a log's tree by its number: a leaf, or a branch over a power of two of leaves.
+///
+/// Leaf `i` is `Node(2 * i)`, and each branch lies between its two children:
+///
+/// ```text
+/// height 3                       7
+/// height 2           3                       11
+/// height 1     1           5           9           13
+/// height 0  0     2     4     6     8     10    12    14
+/// leaf      0     1     2     3     4     5     6     7
+/// ```
+///
+/// `Node(x)` with `x + 1 = 2^k * (2 * j + 1)` is the `j`-th node of height `k`, and stands for the
+/// leaves from `j * 2^k` up to but not including `(j + 1) * 2^k`. `Node(usize::MAX)` has height 64 and
+/// exists at no length.
+#[derive(Clone, Copy, PartialEq, Eq, PartialOrd, Ord, Hash, Debug)]
+pub struct Node(pub usize);
+
+/// The side of its parent on which a node stands.
+#[derive(Clone, Copy, PartialEq, Eq, Debug)]
+pub enum Side {
+    Left,
+    Right,
+}
+
+impl Node {
+    /// The node's number.
+    pub fn index(&self) -> usize
+        ensures { result ≡ self.now.0 }
+    {
+        self.0
+    }
+
+    /// The node's height: 0 for a leaf, and one more than its children's for a branch.
+    pub fn height(&self) -> u32
+        ensures value { result ≡ height_of self.now.0 }
+        ensures node { IsNode self.now.0 result (place_of self.now.0) }
+    {
+        self.0.trailing_ones()
+    }
+
+    // How far the parent's number is from the node's.
+    fn distance(&self) -> usize
+        requires { height_of self.now.0 < 64 }
+        ensures { result ≡ 2 ^ height_of self.now.0 }
+    {
+        2usize.pow(self.height())
+    }
+
+    /// The side of its parent on which the node stands: left where its place among the nodes of its
+    /// height is even.
+    pub fn side(&self) -> Side
+        requires { height_of self.now.0 < 63 }
+        ensures left { result ≡ Side.Left → place_of self.now.0 % 2 ≡ 0 }
+        ensures right { result ≡ Side.Right → place_of self.now.0 % 2 ≡ 1 }
+    {
+        if (self.0 >> (self.height() + 1)) & 1 == 0 {
+            Side::Left
+        } else {
+            Side::Right
+        }
+    }
+
+    /// The other child of the node's parent.
+    pub fn sibling(&self) -> Node
+        requires { height_of self.now.0 < 63 }
+        ensures { IsNode result.0 (height_of self.now.0) (sibling_place (place_of self.now.0)) }
+    {
+        match self.side() {
+            Side::Left => self.right_sibling(),
+            Side::Right => self.left_sibling(),
+        }
+    }
+
+    /// The sibling of a node that stands on the right.
+    pub fn left_sibling(&self) -> Node
+        requires low { height_of self.now.0 < 63 }
+        requires right { place_of self.now.0 % 2 ≡ 1 }
+        ensures { IsNode result.0 (height_of self.now.0) (place_of self.now.0 - 1) }
+    {
+        let distance = self.distance();
+        Node(self.0 - distance - distance)
+    }
+
+    /// The sibling of a node that stands on the left.
+    pub fn right_sibling(&self) -> Node
+        requires low { height_of self.now.0 < 63 }
+        requires left { place_of self.now.0 % 2 ≡ 0 }
+        ensures { IsNode result.0 (height_of self.now.0) (place_of self.now.0 + 1) }
+    {
+        let distance = self.distance();
+        Node(self.0 + distance + distance)
+    }
+
+    /// The node one higher that stands for this one's leaves and its sibling's.
+    pub fn parent(&self) -> Node
+        requires { height_of self.now.0 < 63 }
+        ensures { IsNode result.0 (height_of self.now.0 + 1) (place_of self.now.0 / 2) }
+    {
+        match self.side() {
+            Side::Left => Node(self.0 + self.distance()),
+            Side::Right => Node(self.0 - self.distance()),
+        }
+    }
+
+    /// The two nodes one lower that stand for the first and the second half of a branch's leaves.
+    pub fn children(&self) -> (Node, Node)
+        requires branch { 0 < height_of self.now.0 }
+        requires low { height_of self.now.0 < 64 }
+        ensures left { IsNode result.0.0 (height_of self.now.0 - 1) (2 * place_of self.now.0) }
+        ensures right { IsNode result.1.0 (height_of self.now.0 - 1) (2 * place_of self.now.0 + 1) }
+    {
+        let distance = 2usize.pow(self.height() - 1);
+        (Node(self.0 - distance), Node(self.0 + distance))
+    }
+
+    /// The last leaf below the node.
+    pub fn rightmost_descendent(&self) -> Node
+        requires { height_of self.now.0 < 64 }
+        ensures { result.0 ≡ 2 * (end_of self.now.0 - 1) }
+    {
+        Node(self.0 + (self.distance() - 1))
+    }
+
+    /// The first leaf below the node.
+    pub fn leftmost_descendent(&self) -> Node
+        requires { height_of self.now.0 < 64 }
+        ensures { result.0 ≡ 2 * start_of self.now.0 }
+    {
+        Node(self.0 - (self.distance() - 1))
+    }
+
+    /// Whether a log of this length has the node: all leaves below it are in the log.
+    pub fn exists_at_length(&self, length: usize) -> bool
+        ensures { IsTrue result ↔ ExistsAt self.now.0 length }
+    {
+        self.height() < 64 && self.rightmost_descendent().0 / 2 < length
+    }
+
+    /// The first node of a height, at most the node's own, to the right of the node's leaves.
+    pub fn next_node_with_height(&self, height: u32) -> Node
+        requires low { height_of self.now.0 < 64 }
+        requires most { height ≤ height_of self.now.0 }
+        requires fits { 2 * end_of self.now.0 + 2 ^ height - 1 < 2 ^ 64 }
+        ensures height { height_of result.0 ≡ height }
+        ensures start { start_of result.0 ≡ end_of self.now.0 }
+    {
+        Node(self.rightmost_descendent().0 + 2 + (2usize.pow(height) - 1))
+    }
+
+    /// The node of a height that stands for the first leaves of all, `2^height` of them.
+    pub fn first_node_with_height(height: u32) -> Node
+        requires { height < 64 }
+        ensures { IsNode result.0 height 0 }
+    {
+        Node(2usize.pow(height) - 1)
+    }
+
+    /// The balanced roots of a length: the nodes that its binary digits cut from the left, greatest
+    /// first. Memory is the only error.
+    pub fn broots_for_len<A: Allocator>(alloc: A, length: usize) -> Result<Vec<Node, A>, AllocError>
+        requires { length ≤ 2 ^ 63 }
+        ensures { IfOk result (λ roots. map (λ x. x.0) roots.items ≡ balanced_roots length) }
+    {
+        let mut roots = Vec::new(alloc);
+        let mut start = 0;
+        'roots: while start < length {
+            let root = Interval::first_root(start, length);
+            roots.push(root.node())?;
+            start = root.end();
+        }
+        Ok(roots)
+    }
+
+    /// The leaves below the node.
+    pub fn interval(&self) -> Interval
+        requires { end_of self.now.0 ≤ 2 ^ 63 }
+        ensures start { result.start ≡ start_of self.now.0 }
+        ensures count { result.count ≡ 2 ^ height_of self.now.0 }
+    {
+        let count = self.distance();
+        Interval::new((self.0 - (count - 1)) / 2, count)
+    }
+}

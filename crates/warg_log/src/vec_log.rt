@@ -1,0 +1,156 @@
+//! A log that keeps the digest of every node.
+
+ghost use Rattle.std.specs.Prelude.{◌≡◌, ℕ, ◌+◌, ◌*◌, ◌^◌, ◌<◌, List, [], ◌∷◌, ◌++◌, length, IfOk, OnOk, OnErr};
+ghost use Rattle.std.proofs.Common.{ap, sym};
+ghost use Rattle.warg_log.specs.Nodes.{height_of, end_of};
+ghost use Rattle.warg_log.specs.Tree.{IsSlice, IsSliceUpTo, root_of, leaves_below, leaves_in, own_digest};
+
+use crate::interval::Interval;
+use crate::log::{Checkpoint, LogBuilder, LogData, hash_branch, hash_empty, hash_leaf};
+use crate::node::{Node, Side};
+use crate::proof::stored_root;
+use std::alloc::{AllocError, Allocator, Global};
+use std::marker::{Model, PhantomData};
+use warg_crypto::{Hash, SupportedDigest, VisitBytes};
+
+/// A log that keeps the digest of every node in one slice, at the place of the node's number.
+///
+/// It answers each of its own inclusion and consistency proofs, at any length up to its own. For `n`
+/// entries it keeps `2 * n - 1` digests; a node that doesn't exist yet has a spacer at its place, the
+/// digest of no bytes, which is never answered as the node's.
+#[derive(Drop)]
+pub struct VecLog<D: SupportedDigest, V: VisitBytes, A: Allocator = Global> {
+    count: usize,
+    tree: Vec<Hash<D>, A>,
+    of: PhantomData<V>,
+}
+
+// Contracts see the log as the list of its leaf digests.
+impl<D: SupportedDigest, V: VisitBytes, A: Allocator> Model for VecLog<D, V, A> {
+    ghost use Rattle.std.specs.Prelude.{◌≡◌, ℕ, List, length};
+    ghost use Rattle.warg_log.specs.Tree.{IsSlice, leaves_in};
+
+    ghost Value = { List (List ℕ) };
+
+    ghost view = { λ l. leaves_in l.tree.items };
+
+    ghost invariant = { λ l. (l.count ≡ length (leaves_in l.tree.items)) × IsSlice D.digest (leaves_in l.tree.items) l.tree.items };
+}
+
+impl<D: SupportedDigest, V: VisitBytes, A: Allocator> VecLog<D, V, A> {
+    /// The log of no entries. It takes no memory yet.
+    pub fn default(alloc: A) -> Self
+        ensures { result ≡ [] }
+    {
+        VecLog {
+            count: 0,
+            tree: Vec::new(alloc),
+            of: PhantomData,
+        }
+    }
+
+    /// The number of entries.
+    pub fn length(&self) -> usize
+        ensures { result ≡ length self.now }
+    {
+        self.count
+    }
+
+    /// The digests of the nodes by their numbers, up to the last leaf's: `2 * n - 1` for `n` entries. A
+    /// node that doesn't exist yet has the digest of no bytes.
+    pub fn as_ref(&self) -> &[Hash<D>]
+        ensures { IsSlice D.digest self.now result.now }
+    {
+        self.tree.as_slice()
+    }
+
+    /// A log of the same entries. Memory is the only error.
+    pub fn clone(&self) -> Result<Self, AllocError>
+    where
+        A: Clone,
+        ensures { IfOk result (λ log. log ≡ self.now) }
+    {
+        Ok(VecLog {
+            count: self.count,
+            tree: self.tree.clone()?,
+            of: PhantomData,
+        })
+    }
+}
+
+impl<D: SupportedDigest, V: VisitBytes, A: Allocator> LogBuilder<D, V> for VecLog<D, V, A> {
+    ghost len = { λ l. length l };
+
+    ghost stands_for = { λ l ds. l ≡ ds };
+
+    fn checkpoint(&self) -> Checkpoint<D>
+        ensures root { result.root ≡ root_of D.digest self.now }
+        ensures length { result.length ≡ length self.now }
+    {
+        if self.count == 0 {
+            return Checkpoint::new(hash_empty(), 0);
+        }
+        let whole = Interval::new(0, self.count);
+        match stored_root::<D, V, Self>(self, &whole) {
+            Some(root) => Checkpoint::new(root, self.count),
+            None => unreachable!(),
+        }
+    }
+
+    fn push(&mut self, entry: &V) -> Result<Node, AllocError>
+        requires { length self.old < 2 ^ 63 }
+        ensures node { IfOk result (λ node. node.0 ≡ 2 * length self.old) }
+        ensures ok { OnOk result (self.new ≡ self.old ++ D.digest (0 ∷ V.bytes entry.now) ∷ []) }
+        ensures err { OnErr result (self.new ≡ self.old) }
+    {
+        let digest = hash_leaf::<D, V>(entry);
+        self.tree.reserve(2)?;
+        if self.count != 0 {
+            self.tree.push_reserved(hash_empty::<D>());
+        }
+        let leaf = Node(self.tree.len());
+        self.tree.push_reserved(digest.copied());
+        self.count += 1;
+        join_up(&mut self.tree, leaf, digest);
+        Ok(leaf)
+    }
+
+    ghost stands_len = { λ s ds e. ap length (sym e) };
+}
+
+impl<D: SupportedDigest, V: VisitBytes, A: Allocator> LogData<D, V> for VecLog<D, V, A> {
+    ghost digest_at = { λ l x. own_digest D.digest l x };
+
+    fn has_hash(&self, node: Node) -> bool {
+        node.exists_at_length(self.count)
+    }
+
+    fn hash_for(&self, node: Node) -> Option<Hash<D>> {
+        if node.exists_at_length(self.count) {
+            Some(self.tree[node.0].copied())
+        } else {
+            None
+        }
+    }
+}
+
+// Fills in the digests of the branches that a new last leaf completes.
+fn join_up<D: SupportedDigest, A: Allocator>(
+    tree: &mut Vec<Hash<D>, A>,
+    leaf: Node,
+    digest: Hash<D>,
+)
+    requires last { end_of leaf.0 ≡ length (leaves_in tree.old.items) }
+    requires slice { IsSliceUpTo D.digest (leaves_in tree.old.items) tree.old.items (height_of leaf.0) }
+    requires digest { digest ≡ root_of D.digest (leaves_below leaf.0 (leaves_in tree.old.items)) }
+    ensures leaves { leaves_in tree.new.items ≡ leaves_in tree.old.items }
+    ensures slice { IsSlice D.digest (leaves_in tree.old.items) tree.new.items }
+{
+    let mut node = leaf;
+    let mut digest = digest;
+    'up: while let Side::Right = node.side() {
+        digest = hash_branch(&tree[node.left_sibling().0], &digest);
+        node = node.parent();
+        tree[node.0] = digest.copied();
+    }
+}
