@@ -97,7 +97,7 @@ impl<D> Hash<D> {
     pub fn bytes(&self) -> &[u8]
         ensures { result.now ≡ self.now }
     {
-        &self.bytes
+        self.bytes.as_slice()
     }
 
     /// The number of bytes, 32.

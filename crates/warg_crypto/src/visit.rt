@@ -80,7 +80,7 @@ impl<A: Allocator> VisitBytes for String<A> {
     ghost bytes = { string_bytes };
 
     fn visit<W: ByteVisitor>(&self, to: &mut W) {
-        to.visit_bytes(self.as_bytes());
+        self.as_str().visit(to);
     }
 }
 
@@ -89,8 +89,9 @@ impl<S: VisitBytes, T: VisitBytes> VisitBytes for (S, T) {
     ghost bytes = { λ p. S.bytes p.0 ++ T.bytes p.1 };
 
     fn visit<W: ByteVisitor>(&self, to: &mut W) {
-        self.0.visit(to);
-        self.1.visit(to);
+        let (first, second) = self;
+        first.visit(to);
+        second.visit(to);
     }
 }
 
@@ -99,8 +100,9 @@ impl<S: VisitBytes, T: VisitBytes, U: VisitBytes> VisitBytes for (S, T, U) {
     ghost bytes = { λ p. S.bytes p.0 ++ T.bytes p.1 ++ U.bytes p.2 };
 
     fn visit<W: ByteVisitor>(&self, to: &mut W) {
-        self.0.visit(to);
-        self.1.visit(to);
-        self.2.visit(to);
+        let (first, second, third) = self;
+        first.visit(to);
+        second.visit(to);
+        third.visit(to);
     }
 }

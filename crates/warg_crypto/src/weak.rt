@@ -36,7 +36,7 @@ impl SupportedDigest for Sum {
     }
 
     fn finish(self) -> [u8; 32] {
-        let mut digest = [0; 32];
+        let mut digest = [0u8; 32];
         digest[31] = self.total;
         digest
     }
@@ -85,7 +85,7 @@ impl SupportedDigest for Own32 {
     fn start() -> Own32 {
         Own32 {
             hasher: sha2::Sha256::new(),
-            first: [0; 32],
+            first: [0u8; 32],
             count: 0,
         }
     }
