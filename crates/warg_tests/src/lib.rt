@@ -1,0 +1,5 @@
+//! Rows and vectors over all crates, one module a subject.
+#![tactic(auto)]
+
+#[cfg(test)]
+mod crypto;
