@@ -1,2 +1,3 @@
+pub mod Digests
 pub mod EmptyTrees
 pub mod WeakDigests

@@ -1,0 +1,12 @@
+use Rattle.std.proofs.Common.{◌≤◌, ◌+◌, length, string_bytes}
+use Rattle.warg_check.proofs.TextLemmas.{Stands}
+use Rattle.warg_check.proofs.program.session.answers.Given as goal
+
+abbrev pub invariant-loop-rest : goal.invariant-loop-rest
+invariant-loop-rest g l = record {
+  stands : Stands l.input l.rest l.session.log (string_bytes l.session.text) l.number;
+  few : l.number + length l.rest ≤ length l.input;
+}
+
+abbrev pub decreases-loop-rest : goal.decreases-loop-rest
+decreases-loop-rest g l = length l.rest

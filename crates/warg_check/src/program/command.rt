@@ -1,0 +1,123 @@
+//! The commands, and the lines that spell them.
+
+ghost use Rattle.std.specs.Prelude.{◌≡◌, IfOk, [], ◌∷◌, Option};
+ghost use Rattle.std.specs.Option.{option_map};
+ghost use Rattle.warg_check.specs.Words.{words_of};
+ghost use Rattle.warg_check.specs.Orders.{order_of};
+
+use crate::program::word::{LogLength, bytes, log_length, number, split_first};
+use std::alloc::{AllocError, Allocator};
+use warg_log::Node;
+
+/// What a good line orders.
+#[derive(Drop)]
+pub(super) enum Command<A: Allocator> {
+    Push(Vec<u8, A>),
+    Log,
+    Include {
+        node: Node,
+        length: LogLength,
+        value: Vec<u8, A>,
+    },
+}
+
+// The words of a line, as far as any command has them.
+#[derive(Clone, Copy)]
+enum Words<'a> {
+    One(&'a [u8]),
+    Two(&'a [u8], &'a [u8]),
+    Three(&'a [u8], &'a [u8], &'a [u8]),
+    Four(&'a [u8], &'a [u8], &'a [u8], &'a [u8]),
+    More,
+}
+
+impl<'a> Words<'a> {
+    ghost use Rattle.warg_check.specs.Commands.{AreWords};
+
+    fn of(line: &'a [u8]) -> Words<'a>
+        ensures { AreWords (words_of line.now) result }
+    {
+        let (first, rest) = split_first(line, b' ');
+        let Some(rest) = rest else {
+            return Words::One(first);
+        };
+        let (second, rest) = split_first(rest, b' ');
+        let Some(rest) = rest else {
+            return Words::Two(first, second);
+        };
+        let (third, rest) = split_first(rest, b' ');
+        let Some(rest) = rest else {
+            return Words::Three(first, second, third);
+        };
+        let (fourth, rest) = split_first(rest, b' ');
+        match rest {
+            None => Words::Four(first, second, third, fourth),
+            Some(_) => Words::More,
+        }
+    }
+}
+
+impl<A: Allocator> Command<A> {
+    ghost use Rattle.warg_check.specs.Commands.{order_seen};
+
+    #[tactic(auto, unfolding(crate::specs::Orders::order_of))]
+    /// The command that a line spells, None for a line that spells none.
+    pub(super) fn parse(alloc: A, line: &[u8]) -> Result<Option<Command<A>>, AllocError>
+        ensures { IfOk result (λ command. option_map order_seen command ≡ order_of (words_of line.now)) }
+    {
+        match Words::of(line) {
+            Words::One(name) => Ok(Command::of_one(name)),
+            Words::Two(name, first) => Command::of_two(alloc, name, first),
+            Words::Three(..) | Words::More => Ok(None),
+            Words::Four(name, first, second, third) => {
+                Command::of_four(alloc, name, first, second, third)
+            }
+        }
+    }
+
+    #[tactic(auto, unfolding(crate::specs::Orders::order_of))]
+    fn of_one(name: &[u8]) -> Option<Command<A>>
+        ensures { option_map order_seen result ≡ order_of (name.now ∷ []) }
+    {
+        if name == b"log".as_slice() {
+            return Some(Command::Log);
+        }
+        None
+    }
+
+    #[tactic(auto, unfolding(crate::specs::Orders::order_of))]
+    fn of_two(alloc: A, name: &[u8], first: &[u8]) -> Result<Option<Command<A>>, AllocError>
+        ensures { IfOk result (λ command. option_map order_seen command ≡ order_of (name.now ∷ first.now ∷ [])) }
+    {
+        if name != b"push".as_slice() {
+            return Ok(None);
+        }
+        Ok(bytes(alloc, first)?.map(|entry| Command::Push(entry)))
+    }
+
+    #[tactic(auto, unfolding(crate::specs::Orders::order_of))]
+    fn of_four(
+        alloc: A,
+        name: &[u8],
+        first: &[u8],
+        second: &[u8],
+        third: &[u8],
+    ) -> Result<Option<Command<A>>, AllocError>
+        ensures { IfOk result (λ command. option_map order_seen command ≡ order_of (name.now ∷ first.now ∷ second.now ∷ third.now ∷ [])) }
+    {
+        if name != b"include".as_slice() {
+            return Ok(None);
+        }
+        let (Some(node), Some(length)) = (number(first), log_length(second)) else {
+            return Ok(None);
+        };
+        let Some(value) = bytes(alloc, third)? else {
+            return Ok(None);
+        };
+        Ok(Some(Command::Include {
+            node: Node(node),
+            length,
+            value,
+        }))
+    }
+}

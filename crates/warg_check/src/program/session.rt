@@ -1,0 +1,154 @@
+//! A run of commands: the log that they push to, and the text that answers them.
+
+ghost use Rattle.std.specs.Prelude.{◌≡◌, ℕ, ◌≤◌, ◌^◌, List, [], ◌∷◌, ◌++◌, ◌↔◌, length, IfOk, IfErr, OnOk, codes, string_bytes};
+ghost use Rattle.hex.specs.Hex.{encode_lower};
+ghost use Rattle.warg_crypto.specs.Digests.{sha256};
+ghost use Rattle.warg_check.specs.Words.{lines_of};
+ghost use Rattle.warg_check.specs.Orders.{line_of, push, log, include};
+ghost use Rattle.warg_check.specs.Errors.{IsAnswersError};
+ghost use Rattle.warg_check.specs.Text.{leaves, answer, said, pushed, entries_after, is_not_bad, text_of, all_good, Answers};
+
+use crate::program::RunError;
+use crate::program::command::Command;
+use crate::program::word::{LogLength, next_line};
+use std::alloc::{AllocError, Allocator};
+use std::fmt::Write;
+use warg_crypto::Sha256;
+use warg_log::{InclusionProofError, LogBuilder, LogData, Node, VecLog};
+
+// What a run keeps from line to line.
+#[derive(Drop)]
+struct Session<A: Allocator> {
+    alloc: A,
+    log: VecLog<Sha256, Vec<u8, A>, A>,
+    text: String<A>,
+    ghost few: { length log ≤ 2 ^ 63 },
+}
+
+impl<A: Allocator + Copy> Session<A> {
+    ghost use Rattle.warg_check.specs.Commands.{order_seen};
+    ghost use Rattle.warg_check.specs.Errors.{IsSessionError, IsLineError};
+
+    fn new(alloc: A) -> Session<A>
+        ensures log { result.log ≡ [] }
+        ensures text { string_bytes result.text ≡ [] }
+    {
+        Session {
+            alloc,
+            log: VecLog::default(alloc),
+            text: String::new(alloc),
+        }
+    }
+
+    #[tactic(auto, unfolding(crate::specs::Orders::line_of))]
+    // Answers the line of this number, and says whether it was good.
+    fn line(&mut self, number: usize, line: &[u8]) -> Result<bool, RunError>
+        ensures good { IfOk result (λ good. good ≡ is_not_bad (line_of line.now)) }
+        ensures ok { OnOk result ((entries : List (List ℕ)) → self.old.log ≡ leaves entries → (self.new.log ≡ leaves (entries_after entries (line_of line.now))) × (string_bytes self.new.text ≡ string_bytes self.old.text ++ said number entries (line_of line.now))) }
+        ensures errors { IfErr result (IsLineError (length self.old.log) (line_of line.now)) }
+    {
+        if line.is_empty() {
+            return Ok(true);
+        }
+        match Command::parse(self.alloc, line)? {
+            Some(command) => {
+                self.answer(command)?;
+                Ok(true)
+            }
+            None => {
+                writeln!(self.text, "bad line {number}")?;
+                Ok(false)
+            }
+        }
+    }
+
+    fn answer(&mut self, command: Command<A>) -> Result<(), RunError>
+        ensures ok { OnOk result ((entries : List (List ℕ)) → self.old.log ≡ leaves entries → Answers self.old.log self.new.log (string_bytes self.old.text) (string_bytes self.new.text) entries (order_seen command)) }
+        ensures errors { IfErr result (IsSessionError (length self.old.log) (order_seen command)) }
+    {
+        match command {
+            Command::Push(entry) => self.push(&entry),
+            Command::Log => self.checkpoint(),
+            Command::Include {
+                node,
+                length,
+                value,
+            } => self.include(node, &length, &value),
+        }
+    }
+
+    #[tactic(auto, unfolding(crate::specs::Text::answer))]
+    fn push(&mut self, entry: &Vec<u8, A>) -> Result<(), RunError>
+        ensures ok { OnOk result ((entries : List (List ℕ)) → self.old.log ≡ leaves entries → Answers self.old.log self.new.log (string_bytes self.old.text) (string_bytes self.new.text) entries (push entry.now.items)) }
+        ensures errors { IfErr result (IsSessionError (length self.old.log) (push entry.now.items)) }
+    {
+        if self.log.length() == 1 << 63 {
+            return Err(RunError::Full);
+        }
+        let node = self.log.push(entry)?;
+        let number = node.index();
+        writeln!(self.text, "node {number}")?;
+        Ok(())
+    }
+
+    #[tactic(auto, unfolding(crate::specs::Text::answer))]
+    fn checkpoint(&mut self) -> Result<(), RunError>
+        ensures ok { OnOk result ((entries : List (List ℕ)) → self.old.log ≡ leaves entries → Answers self.old.log self.new.log (string_bytes self.old.text) (string_bytes self.new.text) entries log) }
+        ensures errors { IfErr result (IsSessionError (length self.old.log) log) }
+    {
+        let checkpoint = self.log.checkpoint();
+        let length = checkpoint.length();
+        let root = hex::encode(self.alloc, checkpoint.root().bytes())?;
+        writeln!(self.text, "log {length} {root}")?;
+        Ok(())
+    }
+
+    #[tactic(auto, unfolding(crate::specs::Text::answer))]
+    fn include(
+        &mut self,
+        node: Node,
+        log_length: &LogLength,
+        value: &Vec<u8, A>,
+    ) -> Result<(), RunError>
+        ensures ok { OnOk result ((entries : List (List ℕ)) → self.old.log ≡ leaves entries → Answers self.old.log self.new.log (string_bytes self.old.text) (string_bytes self.new.text) entries (include node.0 log_length.now.value value.now.items)) }
+        ensures errors { IfErr result (IsSessionError (length self.old.log) (include node.0 log_length.now.value value.now.items)) }
+    {
+        let proof = self.log.prove_inclusion(node, log_length.value);
+        match proof.evaluate_value(&self.log, value) {
+            Ok(root) => {
+                let root = hex::encode(self.alloc, root.bytes())?;
+                writeln!(self.text, "root {root}")?;
+            }
+            Err(InclusionProofError::LeafTooNew) => writeln!(self.text, "refused leaf too new")?,
+            Err(InclusionProofError::HashNotKnown) => {
+                writeln!(self.text, "refused hash not known")?
+            }
+            Err(InclusionProofError::Memory) => return Err(RunError::Memory),
+        }
+        Ok(())
+    }
+}
+
+/// The text for an input, and whether every line was good.
+pub(super) fn answers<A: Allocator + Copy>(
+    alloc: A,
+    input: &[u8],
+) -> Result<(String<A>, bool), RunError>
+    ensures text { IfOk result (λ answers. string_bytes answers.0 ≡ text_of input.now) }
+    ensures good { IfOk result (λ answers. answers.1 ≡ all_good (lines_of input.now)) }
+    ensures errors { IfErr result (IsAnswersError input.now) }
+{
+    let mut session = Session::new(alloc);
+    let mut rest = input;
+    let mut number = 0usize;
+    while !rest.is_empty() {
+        let (line, after) = next_line(rest);
+        rest = after;
+        number += 1;
+        let good = session.line(number, line)?;
+        if !good {
+            return Ok((session.text, false));
+        }
+    }
+    Ok((session.text, true))
+}

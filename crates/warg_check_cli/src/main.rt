@@ -1,0 +1,17 @@
+//! `warg_check`: reads commands on standard input and writes their answers on standard output.
+//!
+//! The exit status is 0 where every line was good, 1 where one was bad, 2 where a read or a write
+//! failed, and 3 for want of memory or a full log or map.
+#![tactic(auto)]
+
+use std::process::ExitCode;
+use warg_check::program::{RunError, run};
+
+fn main(rt: HostRuntime) -> ExitCode {
+    match run(rt.alloc(), &mut rt.stdin(), &mut rt.stdout()) {
+        Ok(true) => ExitCode::from(0),
+        Ok(false) => ExitCode::from(1),
+        Err(RunError::Read | RunError::Write) => ExitCode::from(2),
+        Err(RunError::Memory | RunError::Full) => ExitCode::from(3),
+    }
+}
