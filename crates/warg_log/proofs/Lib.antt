@@ -5,3 +5,5 @@ pub mod AppendLemmas
 pub mod SideLemmas
 pub mod SliceLemmas
 pub mod CutLemmas
+pub mod WalkLemmas
+pub mod LawLemmas

@@ -6,6 +6,7 @@
 #![tactic(auto)]
 
 mod interval;
+pub mod laws;
 mod log;
 mod node;
 mod proof;
