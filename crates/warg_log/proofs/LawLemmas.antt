@@ -97,10 +97,10 @@ node_is_number a b e = let P : ℕ → Node = λ n. record { 0 = n } in ap P e
 one_number : (x y k j : ℕ) → IsNode x k j → IsNode y k j → x ≡ y
 one_number x y k j is is' = let e : x + 1 ≡ y + 1 = is ∙ sym is' in omega arith
 
-sibling_even : (j : ℕ) → j % 2 ≡ 0 → sibling_place j ≡ j + 1
+pub sibling_even : (j : ℕ) → j % 2 ≡ 0 → sibling_place j ≡ j + 1
 sibling_even j even = rw (eq-eqb (j % 2) 0 even) refl
 
-sibling_odd : (j : ℕ) → j % 2 ≡ 1 → sibling_place j ≡ j - 1
+pub sibling_odd : (j : ℕ) → j % 2 ≡ 1 → sibling_place j ≡ j - 1
 sibling_odd j odd = rw (ne_eqb (j % 2) 0 (λ e. omega arith)) refl
 
 sibling_half : (j : ℕ) → sibling_place j / 2 ≡ j / 2

@@ -7,3 +7,5 @@ pub mod SliceLemmas
 pub mod CutLemmas
 pub mod WalkLemmas
 pub mod LawLemmas
+pub mod OrderLemmas
+pub mod StepLemmas
