@@ -5,3 +5,7 @@ pub mod AppendLemmas
 pub mod SideLemmas
 pub mod SliceLemmas
 pub mod CutLemmas
+pub mod WalkLemmas
+pub mod LawLemmas
+pub mod OrderLemmas
+pub mod StepLemmas

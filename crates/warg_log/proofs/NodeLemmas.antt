@@ -33,7 +33,7 @@ node_from_bits x k zero_at ones =
     lemma p q d r x s a b c e = let b' : q * (2 ^ 1 * p) + r ≡ x = rw a at b in omega arith
 
 -- a product of powers cancels
-cancel : (p q m : ℕ) → 0 < p → p * m ≤ p * q → m ≤ q
+pub cancel : (p q m : ℕ) → 0 < p → p * m ≤ p * q → m ≤ q
 cancel p q m pos le = ⊎_elim
     (λ less. let more : p * (q + 1) ≤ p * m = mul-le-mul_left p (let le : q + 1 ≤ m = omega arith in le) in absurd (omega arith))
     (λ done. done) (cases_lt q m)

@@ -41,6 +41,10 @@ sibling_place j = if j % 2 == 0 then j + 1 else j - 1
 abbrev pub node_over : ℕ → ℕ → ℕ
 node_over a n = 2 * a + n - 1
 
+-- The number of the j-th node of height k.
+abbrev pub number_of : ℕ → ℕ → ℕ
+number_of k j = node_over (j * 2 ^ k) (2 ^ k)
+
 -- The nodes that the h lowest binary digits of n cut from the leaves from a on, greatest first.
 unfoldable pub balanced_within : ℕ → ℕ → ℕ → List ℕ
 balanced_within zero a n = []
@@ -49,7 +53,10 @@ balanced_within (suc h) a n =
     then node_over a (2 ^ h) ∷ balanced_within h (a + 2 ^ h) (n - 2 ^ h)
     else balanced_within h a n
 
+-- The balanced roots of the n leaves from a on: a number n has at most n binary digits.
+abbrev pub balanced_over : ℕ → ℕ → List ℕ
+balanced_over a n = balanced_within n a n
+
 -- The balanced roots of a length: the nodes that its binary digits cut from the left, greatest first.
--- A number n has at most n of them.
 abbrev pub balanced_roots : ℕ → List ℕ
-balanced_roots n = balanced_within n 0 n
+balanced_roots n = balanced_over 0 n

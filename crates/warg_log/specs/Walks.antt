@@ -1,6 +1,6 @@
 -- The nodes that the cut root reads.
-use Rattle.std.specs.Prelude.{ℕ, zero, suc, ◌+◌, ◌-◌, ◌^◌, ◌&&◌, ◌==◌, nat_le, if◌then◌else◌, List, [], ◌∷◌, ◌++◌, Option, IsSome}
-use Rattle.warg_log.specs.Nodes.{height_of, start_of, node_over}
+use Rattle.std.specs.Prelude.{◌≡◌, ℕ, zero, suc, length, reverse, ◌/◌, ◌+◌, ◌-◌, ◌^◌, ◌&&◌, ◌==◌, nat_le, if◌then◌else◌, List, [], ◌∷◌, ◌++◌, Option, IsSome}
+use Rattle.warg_log.specs.Nodes.{height_of, place_of, sibling_place, start_of, node_over, number_of, balanced_over}
 use Rattle.warg_log.specs.Cut.{is_target, is_beside}
 
 -- The nodes at which cut_within reads in a range. Those of the part that holds the target come first;
@@ -18,11 +18,35 @@ needed_within s w (suc h) a n =
     then needed_within s w h (a + 2 ^ h) (n - 2 ^ h) ++ needed_within s w h a (2 ^ h)
     else needed_within s w h a (2 ^ h) ++ needed_within s w h (a + 2 ^ h) (n - 2 ^ h)
 
+-- The nodes at which cut_over reads.
+abbrev pub needed_over : ℕ → ℕ → ℕ → ℕ → List ℕ
+needed_over s w a n = needed_within s w n a n
+
 -- The needed nodes of the node t at length n: those at which cut_root reads.
 abbrev pub needed : ℕ → ℕ → List ℕ
-needed t n = needed_within (start_of t) (2 ^ height_of t) n 0 n
+needed t n = needed_over (start_of t) (2 ^ height_of t) 0 n
 
 -- Each of the nodes has a digest.
 abbrev pub IsKnown : (ℕ → Option (List ℕ)) → List ℕ → Type 0
 IsKnown F [] = Unit {0}
 IsKnown F (x ∷ xs) = IsSome (F x) × IsKnown F xs
+
+-- The siblings on the first c steps up from the j-th node of height k.
+abbrev pub siblings_up : ℕ → ℕ → ℕ → List ℕ
+siblings_up zero k j = []
+siblings_up (suc c) k j = siblings_up c k j ++ number_of (k + c) (sibling_place (j / 2 ^ c)) ∷ []
+
+-- The walk from the node t over the n leaves from a on: the siblings on the way up to a balanced root,
+-- and then the balanced roots right of that root and those left of it, both from right to left. The
+-- three parts have `initial`, `lower` and `upper` nodes.
+pub record IsWalkOver (t a n : ℕ) (nodes : List ℕ) (initial lower upper : ℕ) : Type 0 where
+  pub left : List ℕ
+  pub right : List ℕ
+  pub roots : balanced_over a n ≡ left ++ number_of (height_of t + initial) (place_of t / 2 ^ initial) ∷ right
+  pub order : nodes ≡ siblings_up initial (height_of t) (place_of t) ++ reverse right ++ reverse left
+  pub lower_count : length right ≡ lower
+  pub upper_count : length left ≡ upper
+
+-- The walk from the node t at length n.
+abbrev pub IsWalk : ℕ → ℕ → List ℕ → ℕ → ℕ → ℕ → Type 0
+IsWalk t n nodes initial lower upper = IsWalkOver t 0 n nodes initial lower upper

@@ -6,6 +6,7 @@
 #![tactic(auto)]
 
 mod interval;
+pub mod laws;
 mod log;
 mod node;
 mod proof;
@@ -14,5 +15,5 @@ mod vec_log;
 pub use interval::Interval;
 pub use log::{Checkpoint, LogBuilder, LogData, hash_branch, hash_empty, hash_leaf, push_all};
 pub use node::{Node, Side};
-pub use proof::{InclusionProof, InclusionProofError, range_root, stored_root};
+pub use proof::{InclusionProof, InclusionProofError, InclusionProofWalk, range_root, stored_root};
 pub use vec_log::VecLog;

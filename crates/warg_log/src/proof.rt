@@ -1,13 +1,15 @@
 //! Inclusion proofs, and the roots that digests lead to.
 
-ghost use Rattle.std.specs.Prelude.{◌≡◌, ◌≢◌, ⊤, ℕ, ◌^◌, ◌<◌, ◌≤◌, ◌∷◌, ◌↔◌, None, Some, IfOk};
-ghost use Rattle.warg_log.specs.Nodes.{ExistsAt};
+ghost use Rattle.std.specs.Prelude.{◌≡◌, ◌≢◌, ⊤, ℕ, ◌+◌, ◌-◌, ◌*◌, ◌^◌, ◌<◌, ◌≤◌, ◌∷◌, [], ◌++◌, ◌↔◌, None, Some, IfOk, OnOk, map, length, reverse, nat_eq};
+ghost use Rattle.std.specs.List.{IsDistinct};
+ghost use Rattle.warg_log.specs.Nodes.{ExistsAt, height_of, place_of, start_of, end_of, balanced_over};
 ghost use Rattle.warg_log.specs.Cut.{cut_root, cut_over, old_over};
+ghost use Rattle.warg_log.specs.Walks.{needed, needed_over, siblings_up, IsWalk, IsWalkOver};
 
 use crate::interval::Interval;
 use crate::log::{LogData, hash_branch, hash_leaf};
 use crate::node::Node;
-use std::alloc::AllocError;
+use std::alloc::{AllocError, Allocator, Global};
 use std::marker::PhantomData;
 use thiserror::Error;
 use warg_crypto::{Hash, SupportedDigest, VisitBytes};
@@ -82,6 +84,35 @@ impl<D, V> InclusionProof<D, V> {
 }
 
 impl<D: SupportedDigest, V: VisitBytes> InclusionProof<D, V> {
+    /// The nodes whose digests the evaluation reads: the siblings on the way up from the proof's node to
+    /// a balanced root of the length, then the balanced roots right of that root, and then those left of
+    /// it, both from right to left.
+    ///
+    /// `LeafTooNew` exactly where the node doesn't exist at the length; else memory is the only error. A
+    /// length of `b` binary digits has at most `2 * (b - 1)` such nodes.
+    pub fn walk<A: Allocator>(&self, alloc: A) -> Result<InclusionProofWalk<A>, InclusionProofError>
+        ensures too_new { (result ≡ Err InclusionProofError.LeafTooNew) ↔ ¬ ExistsAt self.now.leaf.0 self.now.log_length }
+        ensures not_known { result ≢ Err InclusionProofError.HashNotKnown }
+        ensures needed { IfOk result (λ walk. map (λ x. x.0) walk.nodes.items ≡ needed self.now.leaf.0 self.now.log_length) }
+        ensures order { IfOk result (λ walk. IsWalk self.now.leaf.0 self.now.log_length (map (λ x. x.0) walk.nodes.items) walk.initial_walk_len walk.lower_broots walk.upper_broots) }
+        ensures once { IfOk result (λ walk. IsDistinct nat_eq (map (λ x. x.0) walk.nodes.items)) }
+        ensures most { IfOk result (λ walk. (b : ℕ) → self.now.log_length < 2 ^ b → length walk.nodes.items ≤ 2 * (b - 1)) }
+    {
+        if !self.leaf.exists_at_length(self.log_length) {
+            return Err(InclusionProofError::LeafTooNew);
+        }
+        let mut nodes = Vec::new(alloc);
+        match add_walk(&mut nodes, self.leaf, 0, self.log_length) {
+            Ok(parts) => Ok(InclusionProofWalk {
+                upper_broots: nodes.len() - parts.initial - parts.lower,
+                nodes,
+                initial_walk_len: parts.initial,
+                lower_broots: parts.lower,
+            }),
+            Err(_) => Err(InclusionProofError::Memory),
+        }
+    }
+
     /// The root that the log has if the proof's node is a leaf with this value: as
     /// [`InclusionProof::evaluate_hash`] with the digest of the byte 00 and the value's bytes, whatever
     /// the node. It takes no memory.
@@ -122,6 +153,118 @@ impl<D: SupportedDigest, V: VisitBytes> InclusionProof<D, V> {
             None => Err(InclusionProofError::HashNotKnown),
         }
     }
+}
+
+/// The nodes whose digests an inclusion proof's evaluation reads, in the order of
+/// [`InclusionProof::walk`], and how many of them each of the three parts has.
+#[derive_where(Debug, PartialEq, Eq)]
+#[derive(Drop)]
+pub struct InclusionProofWalk<A: Allocator = Global> {
+    nodes: Vec<Node, A>,
+    initial_walk_len: usize,
+    lower_broots: usize,
+    upper_broots: usize,
+}
+
+impl<A: Allocator> InclusionProofWalk<A> {
+    /// The nodes, in order.
+    pub fn nodes(&self) -> &[Node]
+        ensures { result.now ≡ self.now.nodes.items }
+    {
+        self.nodes.as_slice()
+    }
+
+    /// How many nodes lie on the way up to the balanced root: the first part.
+    pub fn initial_walk_len(&self) -> usize
+        ensures { result ≡ self.now.initial_walk_len }
+    {
+        self.initial_walk_len
+    }
+
+    /// How many balanced roots lie right of that root: the second part.
+    pub fn lower_broots(&self) -> usize
+        ensures { result ≡ self.now.lower_broots }
+    {
+        self.lower_broots
+    }
+
+    /// How many balanced roots lie left of that root: the third part.
+    pub fn upper_broots(&self) -> usize
+        ensures { result ≡ self.now.upper_broots }
+    {
+        self.upper_broots
+    }
+}
+
+// How many nodes the first two parts of a walk have.
+#[derive(Clone, Copy)]
+struct WalkParts {
+    initial: usize,
+    lower: usize,
+}
+
+// Puts the walk from a node over the leaves from `start` up to `end` into an empty list.
+fn add_walk<A: Allocator>(
+    nodes: &mut Vec<Node, A>,
+    leaf: Node,
+    start: usize,
+    end: usize,
+) -> Result<WalkParts, AllocError>
+    requires empty { nodes.old.items ≡ [] }
+    requires aligned { (h c : ℕ) × (start ≡ c * 2 ^ h) × (end - start < 2 ^ h) }
+    requires starts { start ≤ start_of leaf.0 }
+    requires ends { end_of leaf.0 ≤ end }
+    requires fits { end ≤ 2 ^ 63 }
+    ensures needed { OnOk result (map (λ x. x.0) nodes.new.items ≡ needed_over (start_of leaf.0) (2 ^ height_of leaf.0) start (end - start)) }
+    ensures order { IfOk result (λ parts. (upper : ℕ) × IsWalkOver leaf.0 start (end - start) (map (λ x. x.0) nodes.new.items) parts.initial parts.lower upper) }
+{
+    let root = Interval::first_root(start, end);
+    if root.is_beside(&leaf.interval()) {
+        let parts = add_walk(nodes, leaf, root.end(), end)?;
+        nodes.push(root.node())?;
+        return Ok(parts);
+    }
+    add_siblings(nodes, leaf, root.count.ilog2())?;
+    let initial = nodes.len();
+    add_roots(nodes, root.end(), end)?;
+    let lower = nodes.len() - initial;
+    Ok(WalkParts { initial, lower })
+}
+
+// Adds the siblings on the way up from a node to the height of one above it.
+fn add_siblings<A: Allocator>(
+    nodes: &mut Vec<Node, A>,
+    leaf: Node,
+    height: u32,
+) -> Result<(), AllocError>
+    requires above { height_of leaf.0 ≤ height }
+    requires low { height < 64 }
+    ensures { OnOk result (map (λ x. x.0) nodes.new.items ≡ map (λ x. x.0) nodes.old.items ++ siblings_up (height - height_of leaf.0) (height_of leaf.0) (place_of leaf.0)) }
+{
+    let mut node = leaf;
+    'up: while node.height() < height {
+        nodes.push(node.sibling())?;
+        node = node.parent();
+    }
+    Ok(())
+}
+
+// Adds the balanced roots of the leaves from `start` up to `end`, from right to left.
+fn add_roots<A: Allocator>(
+    nodes: &mut Vec<Node, A>,
+    start: usize,
+    end: usize,
+) -> Result<(), AllocError>
+    requires { end ≤ 2 ^ 63 }
+    ensures { OnOk result (map (λ x. x.0) nodes.new.items ≡ map (λ x. x.0) nodes.old.items ++ reverse (balanced_over start (end - start))) }
+{
+    if start >= end {
+        return Ok(());
+    }
+    let root = Interval::first_root(start, end);
+    add_roots(nodes, root.end(), end)?;
+    nodes.push(root.node())?;
+    Ok(())
 }
 
 /// The cut root of one range: the root of the range's leaves by the data's digests, with `hash` in the

@@ -22,19 +22,20 @@ use warg_crypto::{Hash, SupportedDigest, VisitBytes};
 pub struct VecLog<D: SupportedDigest, V: VisitBytes, A: Allocator = Global> {
     count: usize,
     tree: Vec<Hash<D>, A>,
+    spacer: Hash<D>,
     of: PhantomData<V>,
 }
 
 // Contracts see the log as the list of its leaf digests.
 impl<D: SupportedDigest, V: VisitBytes, A: Allocator> Model for VecLog<D, V, A> {
-    ghost use Rattle.std.specs.Prelude.{◌≡◌, ℕ, List, length};
+    ghost use Rattle.std.specs.Prelude.{◌≡◌, ℕ, List, [], length};
     ghost use Rattle.warg_log.specs.Tree.{IsSlice, leaves_in};
 
     ghost Value = { List (List ℕ) };
 
     ghost view = { λ l. leaves_in l.tree.items };
 
-    ghost invariant = { λ l. (l.count ≡ length (leaves_in l.tree.items)) × IsSlice D.digest (leaves_in l.tree.items) l.tree.items };
+    ghost invariant = { λ l. (l.count ≡ length (leaves_in l.tree.items)) × IsSlice D.digest (leaves_in l.tree.items) l.tree.items × (l.spacer ≡ D.digest []) };
 }
 
 impl<D: SupportedDigest, V: VisitBytes, A: Allocator> VecLog<D, V, A> {
@@ -45,6 +46,7 @@ impl<D: SupportedDigest, V: VisitBytes, A: Allocator> VecLog<D, V, A> {
         VecLog {
             count: 0,
             tree: Vec::new(alloc),
+            spacer: hash_empty(),
             of: PhantomData,
         }
     }
@@ -73,6 +75,7 @@ impl<D: SupportedDigest, V: VisitBytes, A: Allocator> VecLog<D, V, A> {
         Ok(VecLog {
             count: self.count,
             tree: self.tree.clone()?,
+            spacer: self.spacer.copied(),
             of: PhantomData,
         })
     }
@@ -88,7 +91,7 @@ impl<D: SupportedDigest, V: VisitBytes, A: Allocator> LogBuilder<D, V> for VecLo
         ensures length { result.length ≡ length self.now }
     {
         if self.count == 0 {
-            return Checkpoint::new(hash_empty(), 0);
+            return Checkpoint::new(self.spacer.copied(), 0);
         }
         let whole = Interval::new(0, self.count);
         match stored_root::<D, V, Self>(self, &whole) {
@@ -106,7 +109,7 @@ impl<D: SupportedDigest, V: VisitBytes, A: Allocator> LogBuilder<D, V> for VecLo
         let digest = hash_leaf::<D, V>(entry);
         self.tree.reserve(2)?;
         if self.count != 0 {
-            self.tree.push_reserved(hash_empty::<D>());
+            self.tree.push_reserved(self.spacer.copied());
         }
         let leaf = Node(self.tree.len());
         self.tree.push_reserved(digest.copied());

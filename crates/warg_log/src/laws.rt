@@ -1,0 +1,123 @@
+//! Laws of the definitions in `specs/`: the contract of each function is the law, and it has no effect.
+//!
+//! Read them beside the definitions: they state the standard's own words (RFC 6962, section 2.1) where
+//! a definition takes another road, and they are all that a proof about the definitions needs.
+
+ghost use Rattle.std.specs.Prelude.{◌≡◌, ℕ, ◌+◌, ◌-◌, ◌*◌, ◌%◌, ◌^◌, ◌<◌, ◌≤◌, ◌⊎◌, ◌↔◌, List, [], ◌∷◌, length, take, drop, Option, Some, IsSome, slice_index_or};
+ghost use Rattle.warg_log.specs.Nodes.{IsNode, ExistsAt, height_of, place_of, start_of, end_of, node_over};
+ghost use Rattle.warg_log.specs.Tree.{branch, front_of, root_of, root_over, leaves_of, leaves_below, own_digest};
+ghost use Rattle.warg_log.specs.Cut.{joined, cut_over, cut_root, old_over, old_root, IsFull, IsBeside};
+ghost use Rattle.warg_log.specs.Walks.{needed, IsKnown};
+
+use crate::node::Node;
+
+/// The root of no digests is the digest of no bytes (RFC 6962, section 2.1).
+pub fn root_of_none()
+    ensures { (H : List ℕ → List ℕ) → root_of H [] ≡ H [] }
+{}
+
+/// The root of one digest is that digest (RFC 6962, section 2.1).
+pub fn root_of_one()
+    ensures { (H : List ℕ → List ℕ) (d : List ℕ) → root_of H (d ∷ []) ≡ d }
+{}
+
+/// The root of more digests is the branch over the root of the first k and that of the rest, k the
+/// greatest power of two below their number (RFC 6962, section 2.1).
+pub fn root_of_more()
+    ensures { (H : List ℕ → List ℕ) (ds : List (List ℕ)) → 1 < length ds → root_of H ds ≡ branch H (root_of H (take (front_of (length ds)) ds)) (root_of H (drop (front_of (length ds)) ds)) }
+{}
+
+/// `front_of n` is the greatest power of two below `n`: it is one, it lies below `n`, and its double
+/// doesn't.
+pub fn front_is_greatest()
+    ensures { (n : ℕ) → 1 < n → IsFull (front_of n) × (front_of n < n) × (n ≤ 2 * front_of n) }
+{}
+
+/// The root over one leaf is that leaf's digest.
+pub fn root_over_one()
+    ensures { (H : List ℕ → List ℕ) (ds : List (List ℕ)) (a : ℕ) → a < length ds → root_over H ds a 1 ≡ slice_index_or ds a [] }
+{}
+
+/// The root over a range of more leaves is the branch over the roots of its two parts.
+pub fn root_over_parts()
+    ensures { (H : List ℕ → List ℕ) (ds : List (List ℕ)) (a n : ℕ) → 1 < n → a + n ≤ length ds → root_over H ds a n ≡ branch H (root_over H ds a (front_of n)) (root_over H ds (a + front_of n) (n - front_of n)) }
+{}
+
+/// Each number is the node of one height and one place.
+pub fn number_is_node()
+    ensures is { (x : ℕ) → IsNode x (height_of x) (place_of x) }
+    ensures only { (x k j : ℕ) → IsNode x k j → (height_of x ≡ k) × (place_of x ≡ j) }
+{}
+
+/// Each interval of `2^k` leaves that begins at a multiple of `2^k` has one number.
+pub fn interval_has_number()
+    ensures has { (k j : ℕ) → IsNode (node_over (j * 2 ^ k) (2 ^ k)) k j }
+    ensures only { (x k j : ℕ) → IsNode x k j → x ≡ node_over (j * 2 ^ k) (2 ^ k) }
+{}
+
+/// The parent of a node's sibling is the node's parent: both are answered, and are the same.
+pub fn parent_of_sibling(node: Node) -> (Node, Node)
+    requires { height_of node.0 < 63 }
+    ensures { result.0 ≡ result.1 }
+{
+    (node.sibling().parent(), node.parent())
+}
+
+/// The children of a node's parent are the node and its sibling, in the order of their sides: the
+/// children and the sibling are answered.
+pub fn children_of_parent(node: Node) -> ((Node, Node), Node)
+    requires { height_of node.0 < 63 }
+    ensures left { place_of node.0 % 2 ≡ 0 → (result.0.0 ≡ node) × (result.0.1 ≡ result.1) }
+    ensures right { place_of node.0 % 2 ≡ 1 → (result.0.0 ≡ result.1) × (result.0.1 ≡ node) }
+{
+    (node.parent().children(), node.sibling())
+}
+
+/// The cut root of the target's own range is the digest in its place.
+pub fn cut_target()
+    ensures { (H : List ℕ → List ℕ) (F : ℕ → Option (List ℕ)) (x : List ℕ) (s w : ℕ) → cut_over H F x s w s w ≡ Some x }
+{}
+
+/// The cut root of a range that misses the target and has a power of two of leaves is the digest that
+/// is held for it.
+pub fn cut_beside()
+    ensures { (H : List ℕ → List ℕ) (F : ℕ → Option (List ℕ)) (x : List ℕ) (s w a n : ℕ) → 0 < w → IsFull n → IsBeside s w a n → cut_over H F x s w a n ≡ F (node_over a n) }
+{}
+
+/// The cut root of any other range is the branch over those of its two parts.
+pub fn cut_parts()
+    ensures { (H : List ℕ → List ℕ) (F : ℕ → Option (List ℕ)) (x : List ℕ) (s w a n : ℕ) → 1 < n → (a ≡ s → n ≡ w → ⊥) → (IsFull n → IsBeside s w a n → ⊥) → cut_over H F x s w a n ≡ joined H (cut_over H F x s w a (front_of n)) (cut_over H F x s w (a + front_of n) (n - front_of n)) }
+{}
+
+/// A cut root is there exactly where the digest of each needed node is.
+pub fn needed_known()
+    ensures { (H : List ℕ → List ℕ) (F : ℕ → Option (List ℕ)) (t : ℕ) (x : List ℕ) (n : ℕ) → IsKnown F (needed t n) ↔ IsSome (cut_root H F t x n) }
+{}
+
+/// Over a log's own digests, with a node's own digest in its place, the cut root at each length up to
+/// the log's is the root of that many leaves.
+pub fn cut_own()
+    ensures { (H : List ℕ → List ℕ) (ds : List (List ℕ)) (t n : ℕ) → 0 < n → n ≤ length ds → cut_root H (own_digest H ds) t (root_of H (leaves_below t ds)) n ≡ Some (root_of H (take n ds)) }
+{}
+
+/// A log's proof of an entry of its own leads to the log's root: over the log's own digests, leaf `i`
+/// with entry `i` has, at each length above `i` up to the log's, the root of that many entries.
+pub fn own_inclusion()
+    ensures { (H : List ℕ → List ℕ) (entries : List (List ℕ)) (i n : ℕ) → i < n → n ≤ length entries → ExistsAt (2 * i) n × (cut_root H (own_digest H (leaves_of H entries)) (2 * i) (H (0 ∷ slice_index_or entries i [])) n ≡ Some (root_of H (leaves_of H (take n entries)))) }
+{}
+
+/// The old root of a range of a power of two of leaves is the digest that is held for it.
+pub fn old_full()
+    ensures { (H : List ℕ → List ℕ) (F : ℕ → Option (List ℕ)) (a n : ℕ) → IsFull n → old_over H F a n ≡ F (node_over a n) }
+{}
+
+/// The old root of any other range is the branch over those of its two parts.
+pub fn old_parts()
+    ensures { (H : List ℕ → List ℕ) (F : ℕ → Option (List ℕ)) (a n : ℕ) → 1 < n → (IsFull n → ⊥) → old_over H F a n ≡ joined H (old_over H F a (front_of n)) (old_over H F (a + front_of n) (n - front_of n)) }
+{}
+
+/// Over a log's own digests, the old root at each length up to the log's is the root of that many
+/// leaves.
+pub fn old_own()
+    ensures { (H : List ℕ → List ℕ) (ds : List (List ℕ)) (m : ℕ) → 0 < m → m ≤ length ds → old_root H (own_digest H ds) m ≡ Some (root_of H (take m ds)) }
+{}
