@@ -95,7 +95,7 @@ field_takes bytes x e =
       parts = tag.parts ∙ ap (λ (z : List ℕ). tag.text ++ z) t.0.parts ∙ sym (append_assoc tag.text t.0.text b.0.1);
     })
 
-wire_type_small : (c : Payload) → wire_type c < 8
+pub wire_type_small : (c : Payload) → wire_type c < 8
 wire_type_small (varint n) = omega arith
 wire_type_small (fixed64 bytes) = omega arith
 wire_type_small (delimited bytes) = omega arith

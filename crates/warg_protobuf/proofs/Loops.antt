@@ -4,11 +4,11 @@ use Rattle.std.proofs.lemmas.Bool.{eqb-true, eqb-false}
 use Rattle.std.proofs.lemmas.List.{append-nil}
 use Rattle.warg_protobuf.specs.declared.error.WireError.{WireError}
 use Rattle.warg_protobuf.specs.declared.error.WireError.TheVariants as errors
-use Rattle.warg_protobuf.specs.Reading.{◌>>=◌, Fails, void, found, all_in, all_of}
+use Rattle.warg_protobuf.specs.Reading.{◌>>=◌, Fails, outcome, values_read, all_in, all_of}
 use Rattle.warg_protobuf.specs.Varint.{varint_at}
 use Rattle.warg_protobuf.specs.Field.{Field, field_at}
-use Rattle.warg_protobuf.specs.Schema.{Schema, small, packed, check_by, message_of, Adds}
-use Rattle.warg_protobuf.proofs.Steps.{chosen, ok_is, Fails-then, Fails-void}
+use Rattle.warg_protobuf.specs.Schema.{Schema, as_uint32, packed_uint32s, check_by, message_of, Adds}
+use Rattle.warg_protobuf.proofs.Steps.{chosen, ok_is, Fails-then, Fails-outcome}
 use Rattle.warg_protobuf.proofs.Sequences.{Shrinks, all_more, varints_shrink, fields_shrink}
 
 -- what was read before, and what is still read
@@ -65,28 +65,28 @@ is_empty b n is e = eqb-true n 0 (sym is ∙ e)
 
 -- The loop stands before rest, and has put the numbers before it behind the old ones.
 abbrev pub CollectsNumbers : List ℕ → List ℕ → List ℕ → List ℕ → Type 0
-CollectsNumbers old bytes rest numbers = Collects varint_at (λ n. void (small n)) (λ ns. old ++ ns) bytes rest numbers
+CollectsNumbers old bytes rest numbers = Collects varint_at (λ n. outcome (as_uint32 n)) (λ ns. old ++ ns) bytes rest numbers
 
 numbers_add : (old : List ℕ) → Adds (λ (ns : List ℕ). old ++ ns) (λ (m : List ℕ) (n : ℕ). m ++ n ∷ [])
 numbers_add old = record { push = λ ns n. sym (append_assoc old ns (n ∷ [])) }
 
-small_is : (n m : ℕ) → small n ≡ Ok m → m ≡ n
+small_is : (n m : ℕ) → as_uint32 n ≡ Ok m → m ≡ n
 small_is n m e = elim (chosen (ltb n (2 ^ 32)) (Ok n) (Err errors.NumberTooLarge) (Ok m) e) [ inl p ↦ sym (ok_is n m p.1) | inr p ↦ absurd (let bad : Err errors.NumberTooLarge ≡ Ok m = p.1 in cc) ]
 
-pub numbers_done : (old bytes rest numbers : List ℕ) → length rest ≡ 0 → CollectsNumbers old bytes rest numbers → (void (packed bytes) ≡ Ok tt) × (numbers ≡ old ++ found (packed bytes))
-unfolding packed
-numbers_done old bytes rest numbers e c = let d = Collects-done varint_at (λ n. void (small n)) (λ ns. old ++ ns) bytes rest numbers e c in (rw d.1 refl, rw d.1 d.2)
+pub numbers_done : (old bytes rest numbers : List ℕ) → length rest ≡ 0 → CollectsNumbers old bytes rest numbers → (outcome (packed_uint32s bytes) ≡ Ok tt) × (numbers ≡ old ++ values_read (packed_uint32s bytes))
+unfolding packed_uint32s
+numbers_done old bytes rest numbers e c = let d = Collects-done varint_at (λ n. outcome (as_uint32 n)) (λ ns. old ++ ns) bytes rest numbers e c in (rw d.1 refl, rw d.1 d.2)
 
-pub numbers_unsplit : (old bytes rest numbers : List ℕ) (e : WireError) → 0 < length rest → Fails e (varint_at rest) → CollectsNumbers old bytes rest numbers → Fails e (void (packed bytes))
-unfolding packed
-numbers_unsplit old bytes rest numbers e long h c = Fails-void e (all_of varint_at (λ n. void (small n)) bytes) (Collects-unsplit varint_at (λ n. void (small n)) (λ ns. old ++ ns) varints_shrink bytes rest numbers e long h c)
+pub numbers_unsplit : (old bytes rest numbers : List ℕ) (e : WireError) → 0 < length rest → Fails e (varint_at rest) → CollectsNumbers old bytes rest numbers → Fails e (outcome (packed_uint32s bytes))
+unfolding packed_uint32s
+numbers_unsplit old bytes rest numbers e long h c = Fails-outcome e (all_of varint_at (λ n. outcome (as_uint32 n)) bytes) (Collects-unsplit varint_at (λ n. outcome (as_uint32 n)) (λ ns. old ++ ns) varints_shrink bytes rest numbers e long h c)
 
-pub numbers_unchecked : (old bytes rest numbers : List ℕ) (n : ℕ) (after : List ℕ) (e : WireError) → 0 < length rest → varint_at rest ≡ Ok (n, after) → Fails e (small n) → CollectsNumbers old bytes rest numbers → Fails e (void (packed bytes))
-unfolding packed
-numbers_unchecked old bytes rest numbers n after e long is h c = Fails-void e (all_of varint_at (λ n. void (small n)) bytes) (Collects-unchecked varint_at (λ n. void (small n)) (λ ns. old ++ ns) varints_shrink bytes rest numbers n after e long is (Fails-void e (small n) h) c)
+pub numbers_unchecked : (old bytes rest numbers : List ℕ) (n : ℕ) (after : List ℕ) (e : WireError) → 0 < length rest → varint_at rest ≡ Ok (n, after) → Fails e (as_uint32 n) → CollectsNumbers old bytes rest numbers → Fails e (outcome (packed_uint32s bytes))
+unfolding packed_uint32s
+numbers_unchecked old bytes rest numbers n after e long is h c = Fails-outcome e (all_of varint_at (λ n. outcome (as_uint32 n)) bytes) (Collects-unchecked varint_at (λ n. outcome (as_uint32 n)) (λ ns. old ++ ns) varints_shrink bytes rest numbers n after e long is (Fails-outcome e (as_uint32 n) h) c)
 
-pub numbers_next : (old bytes rest numbers : List ℕ) (n m : ℕ) (after : List ℕ) → 0 < length rest → varint_at rest ≡ Ok (n, after) → small n ≡ Ok m → CollectsNumbers old bytes rest numbers → CollectsNumbers old bytes after (numbers ++ m ∷ [])
-numbers_next old bytes rest numbers n m after long is h c = Collects-next varint_at (λ n. void (small n)) (λ ns. old ++ ns) (λ (l : List ℕ) (n : ℕ). l ++ n ∷ []) varints_shrink (numbers_add old) bytes rest numbers n after (numbers ++ m ∷ []) long is (rw h refl, ap (λ (k : ℕ). numbers ++ k ∷ []) (small_is n m h)) c
+pub numbers_next : (old bytes rest numbers : List ℕ) (n m : ℕ) (after : List ℕ) → 0 < length rest → varint_at rest ≡ Ok (n, after) → as_uint32 n ≡ Ok m → CollectsNumbers old bytes rest numbers → CollectsNumbers old bytes after (numbers ++ m ∷ [])
+numbers_next old bytes rest numbers n m after long is h c = Collects-next varint_at (λ n. outcome (as_uint32 n)) (λ ns. old ++ ns) (λ (l : List ℕ) (n : ℕ). l ++ n ∷ []) varints_shrink (numbers_add old) bytes rest numbers n after (numbers ++ m ∷ []) long is (rw h refl, ap (λ (k : ℕ). numbers ++ k ∷ []) (small_is n m h)) c
 
 -- ---- the loop over fields
 

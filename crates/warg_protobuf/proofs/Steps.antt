@@ -1,7 +1,7 @@
 -- Steps of reading: what an `Ok` or a fault of two steps says of each.
 use Rattle.std.proofs.Common.{◌≡◌, Bool, true, false, cond, Result, Ok, Err, refl, ap, inl, inr, ◌⊎◌}
 use Rattle.warg_protobuf.specs.declared.error.WireError.{WireError}
-use Rattle.warg_protobuf.specs.Reading.{◌>>=◌, Fails, void}
+use Rattle.warg_protobuf.specs.Reading.{◌>>=◌, Fails, outcome}
 
 abbrev done : {A : Type 0} → A → Result A WireError
 done x = Ok x
@@ -34,5 +34,5 @@ pub Fails-then : {A B : Type 0} (e : WireError) (r : Result A WireError) (f : A 
 Fails-then e r f h = elim h [ inl memory ↦ inl memory | inr fault ↦ inr (rw fault refl) ]
 
 -- a fault stays without the value
-pub Fails-void : {A : Type 0} (e : WireError) (r : Result A WireError) → Fails e r → Fails e (void r)
-Fails-void e r h = elim h [ inl memory ↦ inl memory | inr fault ↦ inr (rw fault refl) ]
+pub Fails-outcome : {A : Type 0} (e : WireError) (r : Result A WireError) → Fails e r → Fails e (outcome r)
+Fails-outcome e r h = elim h [ inl memory ↦ inl memory | inr fault ↦ inr (rw fault refl) ]

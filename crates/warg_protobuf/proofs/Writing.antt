@@ -7,13 +7,14 @@ use Rattle.std.proofs.lemmas.Bool.{lt-ltb, ne_eqb, eqb-true, eq-eqb, cases_Bool}
 use Rattle.std.proofs.lemmas.List.{append-nil, length-append, nil_from_length}
 use Rattle.std.proofs.lemmas.List.Concat.{flat_map-append}
 use Rattle.warg_protobuf.specs.declared.error.WireError.{WireError}
-use Rattle.warg_protobuf.specs.Reading.{void}
+use Rattle.warg_protobuf.specs.Reading.{outcome}
 use Rattle.warg_protobuf.specs.Varint.{IsVarint, varint_at, varint_bytes}
 use Rattle.warg_protobuf.specs.Field.{Payload, varint, fixed64, delimited, fixed32, Field, wire_type, SpellsPayload, SpellsField, SpellsAll}
-use Rattle.warg_protobuf.specs.Schema.{Schema, check_by, small, packed, uint32_in, bytes_in, uint32s_in, message_of, message_in, each, value, values, last_of}
+use Rattle.warg_protobuf.specs.Schema.{Schema, check_by, as_uint32, packed_uint32s, uint32_in, bytes_in, uint32s_in, message_of, message_in, each, value, values, last_of}
 use Rattle.warg_protobuf.specs.Spelled.{AllCheck, IsSpelled}
 use Rattle.warg_protobuf.specs.Written.{payload_bytes, field_bytes, fields_bytes, varint_field, delimited_field, uint32_fields, bytes_fields, packed_fields, repeated_fields}
 use Rattle.warg_protobuf.proofs.Varints.{varint_bytes_is}
+use Rattle.warg_protobuf.proofs.Fields.{wire_type_small}
 use Rattle.warg_protobuf.proofs.Sequences.{varints, all_again}
 use Rattle.warg_protobuf.proofs.Decoders.{spelled_read}
 
@@ -40,12 +41,6 @@ AreWritten schema k fs = AllByRecursion (IsWritten schema k) fs
 -- A field as it is written, of whatever number.
 abbrev pub IsOneWritten : {M : Type 0} → Schema M → Field → Type 0
 IsOneWritten schema f = (k : ℕ) × IsWritten schema k f
-
-wire_type_small : (p : Payload) → wire_type p < 8
-wire_type_small (varint n) = omega arith
-wire_type_small (fixed64 inner) = omega arith
-wire_type_small (delimited inner) = omega arith
-wire_type_small (fixed32 inner) = omega arith
 
 payload_spelled : (p : Payload) → PayloadFits p → length (payload_bytes p) < 2 ^ 64 → SpellsPayload (payload_bytes p) p
 payload_spelled (varint n) fits short = varint_bytes_is n fits
@@ -135,7 +130,7 @@ front k read fs gs e = values-append k read fs gs ∙ ap (λ (l : List _). value
 pub back : {A : Type 0} (k : ℕ) (read : Payload → Result (List A) WireError) (fs gs : List Field) → values k read fs ≡ [] → values k read (fs ++ gs) ≡ values k read gs
 back k read fs gs e = values-append k read fs gs ∙ ap (λ (l : List _). l ++ values k read gs) e
 
-pub small_ok : (n : ℕ) → n < 2 ^ 32 → small n ≡ Ok n
+pub small_ok : (n : ℕ) → n < 2 ^ 32 → as_uint32 n ≡ Ok n
 small_ok n lt = rw (lt-ltb n (2 ^ 32) lt) refl
 
 pub uint32_value : (k n : ℕ) → n < 2 ^ 32 → last_of 0 (values k (each uint32_in) (uint32_fields k n)) ≡ n
@@ -158,13 +153,13 @@ packed_spelled : (ns : List ℕ) → AllByRecursion (λ n. n < 2 ^ 32) ns → Sp
 packed_spelled [] fits = refl
 packed_spelled (n ∷ ns) fits = (varint_bytes n, flat_map varint_bytes ns, varint_bytes_is n (omega (arith, fits.0)), packed_spelled ns fits.1, refl)
 
-packed_checked : (ns : List ℕ) → AllByRecursion (λ n. n < 2 ^ 32) ns → AllCheck (λ n. void (small n)) ns
+packed_checked : (ns : List ℕ) → AllByRecursion (λ n. n < 2 ^ 32) ns → AllCheck (λ n. outcome (as_uint32 n)) ns
 packed_checked [] fits = tt
 packed_checked (n ∷ ns) fits = (rw (small_ok n fits.0) refl, packed_checked ns fits.1)
 
-pub packed_again : (ns : List ℕ) → AllByRecursion (λ n. n < 2 ^ 32) ns → packed (flat_map varint_bytes ns) ≡ Ok ns
-unfolding packed
-packed_again ns fits = all_again varint_at IsVarint (λ n. void (small n)) varints (flat_map varint_bytes ns) ns (packed_spelled ns fits) (packed_checked ns fits)
+pub packed_again : (ns : List ℕ) → AllByRecursion (λ n. n < 2 ^ 32) ns → packed_uint32s (flat_map varint_bytes ns) ≡ Ok ns
+unfolding packed_uint32s
+packed_again ns fits = all_again varint_at IsVarint (λ n. outcome (as_uint32 n)) varints (flat_map varint_bytes ns) ns (packed_spelled ns fits) (packed_checked ns fits)
 
 pub packed_value : (k : ℕ) (ns : List ℕ) → AllByRecursion (λ n. n < 2 ^ 32) ns → values k uint32s_in (packed_fields k ns) ≡ ns
 unfolding values uint32s_in
@@ -203,7 +198,7 @@ all_read schema fields Fits reads k (m ∷ ms) fits short =
 
 -- The outer message checks such a field as the inner one.
 abbrev pub ChecksInner : {O M : Type 0} → Schema O → Schema M → ℕ → Type 0
-ChecksInner outer schema k = (inner : List ℕ) → check_by outer.table (delimited_field k inner) ≡ void (message_of schema inner)
+ChecksInner outer schema k = (inner : List ℕ) → check_by outer.table (delimited_field k inner) ≡ outcome (message_of schema inner)
 
 nested_checked : {O M : Type 0} (outer : Schema O) (schema : Schema M) (fields : M → List Field) (k : ℕ) → ChecksInner outer schema k → (ms : List M) → AllRead schema fields ms → AllByRecursion (λ inner. check_by outer.table (delimited_field k inner) ≡ Ok tt) (map (λ m. fields_bytes (fields m)) ms)
 nested_checked outer schema fields k checks [] read = tt

@@ -19,19 +19,19 @@ Gives view (Ok x) read = read ≡ Ok (view x)
 Gives view (Err e) read = Fails e read
 
 -- Whether reading went well, without what was read.
-abbrev pub void : {A : Type 0} → Result A WireError → Result (Unit {0}) WireError
-void (Ok x) = Ok tt
-void (Err e) = Err e
+abbrev pub outcome : {A : Type 0} → Result A WireError → Result (Unit {0}) WireError
+outcome (Ok x) = Ok tt
+outcome (Err e) = Err e
 
 -- The values that were read, none where there is a fault.
-abbrev pub found : {A : Type 0} → Result (List A) WireError → List A
-found (Ok xs) = xs
-found (Err e) = []
+abbrev pub values_read : {A : Type 0} → Result (List A) WireError → List A
+values_read (Ok xs) = xs
+values_read (Err e) = []
 
 -- One value that was read, as a list.
-abbrev pub one : {A : Type 0} → Result A WireError → Result (List A) WireError
-one (Ok x) = Ok (x ∷ [])
-one (Err e) = Err e
+abbrev pub as_list : {A : Type 0} → Result A WireError → Result (List A) WireError
+as_list (Ok x) = Ok (x ∷ [])
+as_list (Err e) = Err e
 
 -- While bytes are left, and at most `more` times, one thing is split off the front and checked.
 unfoldable pub all_in : {X : Type 0} → (List ℕ → Result (X × List ℕ) WireError) → (X → Result (Unit {0}) WireError) → ℕ → List ℕ → Result (List X) WireError

@@ -3,19 +3,19 @@ use Rattle.std.specs.Prelude.{◌≡◌, ℕ, ◌^◌, List, [], ◌∷◌, ◌+
 use Rattle.std.specs.List.{flat_map}
 use Rattle.warg_protobuf.specs.declared.error.WireError.{WireError}
 use Rattle.warg_protobuf.specs.declared.error.WireError.TheVariants.{WrongWireType, NumberTooLarge}
-use Rattle.warg_protobuf.specs.Reading.{◌>>=◌, Fails, void, found, one, all_of}
+use Rattle.warg_protobuf.specs.Reading.{◌>>=◌, Fails, outcome, values_read, as_list, all_of}
 use Rattle.warg_protobuf.specs.Varint.{varint_at}
 use Rattle.warg_protobuf.specs.Field.{Payload, varint, fixed64, delimited, fixed32, Field, field_at}
 
 -- ---- what a payload holds
 
 -- A number as a uint32; a larger one is refused (proto3 cuts it to 32 bits).
-abbrev pub small : ℕ → Result ℕ WireError
-small n = if nat_lt n (2 ^ 32) then Ok n else Err NumberTooLarge
+abbrev pub as_uint32 : ℕ → Result ℕ WireError
+as_uint32 n = if nat_lt n (2 ^ 32) then Ok n else Err NumberTooLarge
 
 -- The uint32 that a payload holds: a varint (proto3 encoding, "More Integer Types").
 unfoldable pub uint32_in : Payload → Result ℕ WireError
-uint32_in (varint n) = small n
+uint32_in (varint n) = as_uint32 n
 uint32_in (fixed64 bytes) = Err WrongWireType
 uint32_in (delimited bytes) = Err WrongWireType
 uint32_in (fixed32 bytes) = Err WrongWireType
@@ -28,14 +28,14 @@ bytes_in (delimited bytes) = Ok bytes
 bytes_in (fixed32 bytes) = Err WrongWireType
 
 -- Packed uint32s: varints one after the other (proto3 encoding, "Packed Repeated Fields").
-unfoldable pub packed : List ℕ → Result (List ℕ) WireError
-packed bytes = all_of varint_at (λ n. void (small n)) bytes
+unfoldable pub packed_uint32s : List ℕ → Result (List ℕ) WireError
+packed_uint32s bytes = all_of varint_at (λ n. outcome (as_uint32 n)) bytes
 
 -- The uint32s that a payload of a repeated field holds, one by itself or packed ones (proto3 encoding, "Packed Repeated Fields").
 unfoldable pub uint32s_in : Payload → Result (List ℕ) WireError
-uint32s_in (varint n) = one (small n)
+uint32s_in (varint n) = as_list (as_uint32 n)
 uint32s_in (fixed64 bytes) = Err WrongWireType
-uint32s_in (delimited bytes) = packed bytes
+uint32s_in (delimited bytes) = packed_uint32s bytes
 uint32s_in (fixed32 bytes) = Err WrongWireType
 
 -- ---- the fields of a message
@@ -69,25 +69,25 @@ message_in schema (fixed32 bytes) = Err WrongWireType
 
 -- A `uint32`, or a `repeated uint32` of which each comes by itself (proto3).
 abbrev pub uint32 : Payload → Result (Unit {0}) WireError
-uint32 p = void (uint32_in p)
+uint32 p = outcome (uint32_in p)
 
 -- A `repeated uint32`, packed or not (proto3).
 abbrev pub uint32s : Payload → Result (Unit {0}) WireError
-uint32s p = void (uint32s_in p)
+uint32s p = outcome (uint32s_in p)
 
 -- `bytes`, or each of `repeated bytes` (proto3).
 abbrev pub bytes : Payload → Result (Unit {0}) WireError
-bytes p = void (bytes_in p)
+bytes p = outcome (bytes_in p)
 
 -- A message, or each of a repeated one (proto3).
 abbrev pub message : {M : Type 0} → Schema M → Payload → Result (Unit {0}) WireError
-message schema p = void (message_in schema p)
+message schema p = outcome (message_in schema p)
 
 -- ---- fields by their number
 
 -- The values in a field of this number, none in another.
 abbrev pub value : {A : Type 0} → ℕ → (Payload → Result (List A) WireError) → Field → List A
-value k read f = if f.number == k then found (read f.payload) else []
+value k read f = if f.number == k then values_read (read f.payload) else []
 
 -- The values in all fields of this number, in order (proto3, "Optional and Repeated Elements").
 unfoldable pub values : {A : Type 0} → ℕ → (Payload → Result (List A) WireError) → List Field → List A
@@ -95,7 +95,7 @@ values k read fs = flat_map (value k read) fs
 
 -- A reader of one value, as a reader of several.
 abbrev pub each : {A : Type 0} → (Payload → Result A WireError) → Payload → Result (List A) WireError
-each read p = one (read p)
+each read p = as_list (read p)
 
 -- The last of the values, or what stands where none comes (proto3 encoding, "Last One Wins").
 unfoldable pub last_of : {A : Type 0} → A → List A → A

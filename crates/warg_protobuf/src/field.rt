@@ -22,7 +22,7 @@ pub(crate) struct Field<'a> {
 }
 
 /// So many bytes at the front, and the bytes after them.
-fn read_bytes(len: u64, bytes: &[u8]) -> Result<(&[u8], &[u8]), WireError>
+fn split_bytes(len: u64, bytes: &[u8]) -> Result<(&[u8], &[u8]), WireError>
     ensures { Gives (λ x. (x.0.now, x.1.now)) result (bytes_at len bytes.now) }
 {
     if (bytes.len() as u64) < len {
@@ -42,17 +42,17 @@ fn read_payload(wire_type: u64, bytes: &[u8]) -> Result<(Payload<'_>, &[u8]), Wi
             Ok((Payload::Varint(number), rest))
         }
         1 => {
-            let (inner, rest) = read_bytes(8, bytes)?;
+            let (inner, rest) = split_bytes(8, bytes)?;
             Ok((Payload::Fixed64(inner), rest))
         }
         2 => {
             let (len, rest) = read_varint(bytes)?;
-            let (inner, rest) = read_bytes(len, rest)?;
+            let (inner, rest) = split_bytes(len, rest)?;
             Ok((Payload::Delimited(inner), rest))
         }
         3 | 4 => Err(WireError::Group),
         5 => {
-            let (inner, rest) = read_bytes(4, bytes)?;
+            let (inner, rest) = split_bytes(4, bytes)?;
             Ok((Payload::Fixed32(inner), rest))
         }
         _ => Err(WireError::BadWireType),

@@ -9,10 +9,9 @@ ghost use Rattle.warg_protobuf.specs.Spelled.{IsSpelled, FaultStands};
 use crate::error::WireError;
 use crate::field::Field;
 use crate::hash_entry::HashEntry;
-use crate::message::{Message, decode_message, encode_message, push_messages, read_into};
-use crate::reader::read_uint32;
-use crate::writer::push_uint32;
-use crate::{reader, writer};
+use crate::message::{Message, decode_message, encode_message, push_messages, read_element};
+use crate::reader::{read_uint32, read_uint32s};
+use crate::writer::{push_uint32, push_uint32s};
 use std::alloc::{AllocError, Allocator, Global};
 
 /// Proofs of a log, and the digests that they need.
@@ -58,9 +57,9 @@ impl<A: Allocator + Copy> Message<A> for LogProofBundle<A> {
     fn put(&mut self, alloc: A, field: Field<'_>) -> Result<(), WireError> {
         match field.number {
             1 => self.log_length = read_uint32(field.payload)?,
-            2 => reader::push_uint32s(&mut self.consistent_lengths, field.payload)?,
-            3 => reader::push_uint32s(&mut self.included_indices, field.payload)?,
-            4 => read_into(alloc, &mut self.hashes, field.payload)?,
+            2 => read_uint32s(&mut self.consistent_lengths, field.payload)?,
+            3 => read_uint32s(&mut self.included_indices, field.payload)?,
+            4 => read_element(alloc, &mut self.hashes, field.payload)?,
             _ => {}
         }
         Ok(())
@@ -68,8 +67,8 @@ impl<A: Allocator + Copy> Message<A> for LogProofBundle<A> {
 
     fn push_to(&self, alloc: A, out: &mut Vec<u8, A>) -> Result<(), AllocError> {
         push_uint32(out, 1, self.log_length)?;
-        writer::push_uint32s(alloc, out, 2, &self.consistent_lengths)?;
-        writer::push_uint32s(alloc, out, 3, &self.included_indices)?;
+        push_uint32s(alloc, out, 2, &self.consistent_lengths)?;
+        push_uint32s(alloc, out, 3, &self.included_indices)?;
         push_messages(alloc, out, 4, &self.hashes)?;
         Ok(())
     }

@@ -3,7 +3,7 @@ ghost use Rattle.std.specs.Prelude.{ℕ, List, Option};
 
 use crate::error::WireError;
 use crate::field::Field;
-use crate::message::{Message, push_messages, read_into};
+use crate::message::{Message, push_messages, read_element};
 use crate::optional_hash::OptionalHash;
 use std::alloc::{AllocError, Allocator, Global};
 
@@ -40,7 +40,7 @@ impl<A: Allocator + Copy> Message<A> for MapInclusionProof<A> {
 
     fn put(&mut self, alloc: A, field: Field<'_>) -> Result<(), WireError> {
         match field.number {
-            1 => read_into(alloc, &mut self.hashes, field.payload)?,
+            1 => read_element(alloc, &mut self.hashes, field.payload)?,
             _ => {}
         }
         Ok(())

@@ -9,7 +9,7 @@ ghost use Rattle.warg_protobuf.specs.Spelled.{IsSpelled, FaultStands};
 use crate::error::WireError;
 use crate::field::Field;
 use crate::map_inclusion_proof::MapInclusionProof;
-use crate::message::{Message, decode_message, encode_message, push_messages, read_into};
+use crate::message::{Message, decode_message, encode_message, push_messages, read_element};
 use std::alloc::{AllocError, Allocator, Global};
 
 /// Proofs of a map: of keys that it holds, and of keys that it doesn't hold.
@@ -48,8 +48,8 @@ impl<A: Allocator + Copy> Message<A> for MapProofBundle<A> {
 
     fn put(&mut self, alloc: A, field: Field<'_>) -> Result<(), WireError> {
         match field.number {
-            1 => read_into(alloc, &mut self.proofs, field.payload)?,
-            2 => read_into(alloc, &mut self.absences, field.payload)?,
+            1 => read_element(alloc, &mut self.proofs, field.payload)?,
+            2 => read_element(alloc, &mut self.absences, field.payload)?,
             _ => {}
         }
         Ok(())

@@ -2,7 +2,7 @@
 ghost use Rattle.std.specs.Prelude.{◌≡◌, ◌⊎◌, ◌++◌, ◌<◌, ◌^◌, [], List, ℕ, Result, Ok, Err, All, OnOk, IfOk, IfErr, length, map};
 ghost use Rattle.warg_protobuf.specs.declared.error.WireError.{WireError};
 ghost use Rattle.warg_protobuf.specs.declared.error.WireError.TheVariants.{Memory};
-ghost use Rattle.warg_protobuf.specs.Reading.{Gives, void, found, one};
+ghost use Rattle.warg_protobuf.specs.Reading.{Gives, outcome, values_read, as_list};
 ghost use Rattle.warg_protobuf.specs.Field.{Field as AnyField, field_view, payload_view};
 ghost use Rattle.warg_protobuf.specs.Schema.{Schema, Puts, Adds, check_by, message_of, message_in};
 ghost use Rattle.warg_protobuf.specs.Spelled.{IsSpelled, FaultStands};
@@ -15,16 +15,21 @@ use std::alloc::{AllocError, Allocator};
 
 /// A message that is read by taking one field after the other in, and written field by field.
 pub(crate) trait Message<A: Allocator + Copy>: Drop {
+    // The message without where it lies in memory, and how to see it so.
     ghost Seen: { Type 0 };
 
     ghost view: { Self → Seen };
 
+    // How its bytes are read.
     ghost schema: { Schema Seen };
 
+    // What one field more makes of it.
     ghost add: { Seen → AnyField → Seen };
 
+    // The fields that are written of it.
     ghost fields: { Seen → List AnyField };
 
+    // What its fields' types say of it.
     ghost Fits: { Seen → Type 0 };
 
     /// The message of no fields.
@@ -33,13 +38,15 @@ pub(crate) trait Message<A: Allocator + Copy>: Drop {
 
     /// Takes one field in, and skips it where its number is unknown.
     fn put(&mut self, alloc: A, field: Field<'_>) -> Result<(), WireError>
-        ensures { Puts result (check_by schema.table (field_view field.entry)) (add (view self.old) (field_view field.entry)) (view self.new) };
+        ensures { let f = field_view field.entry in
+            Puts result (check_by schema.table f) (add (view self.old) f) (view self.new) };
 
     /// Writes the message at the end.
     fn push_to(&self, alloc: A, out: &mut Vec<u8, A>) -> Result<(), AllocError>
         ensures written { OnOk result (out.new.items ≡ out.old.items ++ fields_bytes (fields (view self.now))) }
         ensures fits { OnOk result (Fits (view self.now)) };
 
+    // Fields one after the other add up to what they say together.
     ghost adds: { Adds schema.message add };
 }
 
@@ -59,12 +66,14 @@ fn read_message<A: Allocator + Copy, M: Message<A>>(alloc: A, bytes: &[u8]) -> R
 
 /// Puts the message that a payload holds at the end of a list.
 #[tactic(auto, unfolding(crate::specs::Schema::message_in))]
-pub(crate) fn read_into<A: Allocator + Copy, M: Message<A>>(
+pub(crate) fn read_element<A: Allocator + Copy, M: Message<A>>(
     alloc: A,
     messages: &mut Vec<M, A>,
     payload: Payload<'_>,
 ) -> Result<(), WireError>
-    ensures { let read = message_in M.schema (payload_view payload.entry) in Puts result (void read) (map M.view messages.old.items ++ found (one read)) (map M.view messages.new.items) }
+    ensures { let read = message_in M.schema (payload_view payload.entry) in
+        let added = map M.view messages.old.items ++ values_read (as_list read) in
+        Puts result (outcome read) added (map M.view messages.new.items) }
 {
     match payload {
         Payload::Delimited(bytes) => {
@@ -116,7 +125,8 @@ pub(crate) fn push_messages<A: Allocator + Copy, M: Message<A>>(
     field: u8,
     messages: &[M],
 ) -> Result<(), AllocError>
-    ensures written { OnOk result (out.new.items ≡ out.old.items ++ fields_bytes (repeated_fields field (map (λ m. fields_bytes (M.fields m)) (map M.view messages.now)))) }
+    ensures written { let inners = map (λ m. fields_bytes (M.fields m)) (map M.view messages.now) in
+        OnOk result (out.new.items ≡ out.old.items ++ fields_bytes (repeated_fields field inners)) }
     ensures fits { OnOk result (All M.Fits (map M.view messages.now)) }
 {
     let mut inner = Vec::new(alloc);

@@ -9,7 +9,7 @@ ghost use Rattle.warg_protobuf.specs.Spelled.{IsSpelled, FaultStands};
 use crate::error::WireError;
 use crate::field::Field;
 use crate::hash_entry::HashEntry;
-use crate::message::{Message, decode_message, encode_message, push_messages, read_into};
+use crate::message::{Message, decode_message, encode_message, push_messages, read_element};
 use crate::reader::read_uint32;
 use crate::writer::push_uint32;
 use std::alloc::{AllocError, Allocator, Global};
@@ -51,7 +51,7 @@ impl<A: Allocator + Copy> Message<A> for StackLog<A> {
     fn put(&mut self, alloc: A, field: Field<'_>) -> Result<(), WireError> {
         match field.number {
             1 => self.length = read_uint32(field.payload)?,
-            2 => read_into(alloc, &mut self.stack, field.payload)?,
+            2 => read_element(alloc, &mut self.stack, field.payload)?,
             _ => {}
         }
         Ok(())

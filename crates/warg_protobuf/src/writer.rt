@@ -53,7 +53,7 @@ pub(crate) fn push_bytes<A: Allocator>(
     Ok(())
 }
 
-fn packed<A: Allocator + Copy>(alloc: A, numbers: &[u32]) -> Result<Vec<u8, A>, AllocError>
+fn packed_bytes<A: Allocator + Copy>(alloc: A, numbers: &[u32]) -> Result<Vec<u8, A>, AllocError>
     ensures written { IfOk result (λ v. v.items ≡ flat_map varint_bytes numbers.now) }
     ensures fits { All (λ n. n < 2 ^ 32) numbers.now }
 {
@@ -77,7 +77,7 @@ pub(crate) fn push_uint32s<A: Allocator + Copy>(
     if numbers.is_empty() {
         return Ok(());
     }
-    let bytes = packed(alloc, numbers)?;
+    let bytes = packed_bytes(alloc, numbers)?;
     push_delimited(out, field, &bytes)?;
     Ok(())
 }
