@@ -1,15 +1,17 @@
 -- Fields: what is read is spelled so, and what is spelled so is read, whatever follows.
-use Rattle.std.proofs.Common.{◌≡◌, ◌≢◌, ℕ, zero, suc, ◌+◌, ◌*◌, ◌/◌, ◌%◌, ◌^◌, ◌<◌, ◌≤◌, cond, ltb, leb, eqb, List, ◌++◌, ◌||◌, length, take, drop, Ok, Err, refl, sym, ap, subst, ◌∙◌, append_assoc, arith}
+use Rattle.std.proofs.Common.{◌≡◌, ◌≢◌, ℕ, zero, suc, ◌+◌, ◌*◌, ◌/◌, ◌%◌, ◌^◌, ◌<◌, ◌≤◌, cond, ltb, leb, eqb, List, ◌++◌, ◌||◌, length, take, drop, Ok, Err, refl, sym, ap, subst, ◌∙◌, append_assoc, arith, Result}
 use Rattle.std.proofs.lemmas.Bool.{le-ltb, lt-leb, ltb-false, leb-false, eqb-false, ne_eqb, or_parts}
 use Rattle.std.proofs.lemmas.List.{length-append, length-take, take-append-drop, take_at, drop_at}
+use Rattle.warg_protobuf.specs.declared.error.WireError.{WireError}
 use Rattle.warg_protobuf.specs.declared.error.WireError.TheVariants as errors
 use Rattle.warg_protobuf.specs.Reading.{◌>>=◌}
 use Rattle.warg_protobuf.specs.Varint.{IsVarint, varint_at}
 use Rattle.warg_protobuf.specs.Field.{Payload, varint, fixed64, delimited, fixed32, Field, wire_type, SpellsPayload, SpellsField, bytes_at, payload_at, field_at}
 use Rattle.warg_protobuf.proofs.Steps.{bind_ok, guard_ok, ok_is}
-use Rattle.warg_protobuf.proofs.Varints.{Takes, varint_takes, varint_again, varint_not_empty}
+use Rattle.warg_protobuf.proofs.Varints.{Takes, parts_joined, varint_takes, varint_again, varint_not_empty}
 
-bytes_takes : (len : ℕ) (bytes : List ℕ) (x : List ℕ × List ℕ) → bytes_at len bytes ≡ Ok x → (length x.0 ≡ len) × (bytes ≡ x.0 ++ x.1)
+bytes_takes : (len : ℕ) (bytes : List ℕ) (x : List ℕ × List ℕ) → bytes_at len bytes ≡ Ok x
+    → (length x.0 ≡ len) × (bytes ≡ x.0 ++ x.1)
 bytes_takes len bytes x e =
     let g = guard_ok (ltb (length bytes) len) errors.Truncated (Ok (take len bytes, drop len bytes)) x e in
     let le = ltb-false (length bytes) len g.0 in
@@ -37,7 +39,8 @@ bad_kind kind bytes le =
 abbrev IsPayload : ℕ → List ℕ → Payload × List ℕ → Type 0
 IsPayload kind bytes x = Takes SpellsPayload bytes x × (wire_type x.0 ≡ kind)
 
-payload_takes : (kind : ℕ) (bytes : List ℕ) (x : Payload × List ℕ) → payload_at kind bytes ≡ Ok x → IsPayload kind bytes x
+payload_takes : (kind : ℕ) (bytes : List ℕ) (x : Payload × List ℕ) → payload_at kind bytes ≡ Ok x
+    → IsPayload kind bytes x
 unfolding payload_at
 payload_takes zero bytes x e =
     let n = bind_ok (varint_at bytes) (λ n. Ok (varint n.0, n.1)) x e in
@@ -56,7 +59,9 @@ payload_takes (suc (suc zero)) bytes x e =
     let t = bytes_takes l.0.0 l.0.1 n.0 n.1 in
     let made : Payload × List ℕ = (delimited n.0.0, n.0.1) in
     let spelled_len : IsVarint len.text (length n.0.0) = subst (IsVarint len.text) (sym t.0) len.spelled in
-    subst (IsPayload 2 bytes) (ok_is made x n.2) (record { text = len.text ++ n.0.0; spelled = (len.text, spelled_len, refl); parts = len.parts ∙ ap (λ (z : List ℕ). len.text ++ z) t.1 ∙ sym (append_assoc len.text n.0.0 n.0.1) }, refl)
+    let parts = parts_joined bytes len.text n.0.0 l.0.1 n.0.1 len.parts t.1 in
+    let takes : Takes SpellsPayload bytes (delimited n.0.0, n.0.1) = record { text = len.text ++ n.0.0; spelled = (len.text, spelled_len, refl); parts = parts } in
+    subst (IsPayload 2 bytes) (ok_is made x n.2) (takes, refl)
 payload_takes (suc (suc (suc zero))) bytes x e = absurd cc
 payload_takes (suc (suc (suc (suc zero)))) bytes x e = absurd cc
 payload_takes (suc (suc (suc (suc (suc zero))))) bytes x e =
@@ -66,33 +71,57 @@ payload_takes (suc (suc (suc (suc (suc zero))))) bytes x e =
     subst (IsPayload 5 bytes) (ok_is made x n.2) (record { text = n.0.0; spelled = (refl, t.0); parts = t.1 }, refl)
 payload_takes (suc (suc (suc (suc (suc (suc kind)))))) bytes x e = absurd (let bad = bad_kind (suc (suc (suc (suc (suc (suc kind)))))) bytes (omega arith) in cc)
 
-payload_again : (bytes : List ℕ) (c : Payload) (rest : List ℕ) → SpellsPayload bytes c → payload_at (wire_type c) (bytes ++ rest) ≡ Ok (c, rest)
+payload_again : (bytes : List ℕ) (c : Payload) (rest : List ℕ) → SpellsPayload bytes c
+    → payload_at (wire_type c) (bytes ++ rest) ≡ Ok (c, rest)
 unfolding payload_at
 payload_again bytes (varint n) rest h = rw (varint_again bytes n rest h) refl
 payload_again bytes (fixed64 found) rest h = rw (h.0, bytes_again 8 found rest h.1) refl
 payload_again bytes (delimited found) rest h =
-    let regrouped : bytes ++ rest ≡ h.0 ++ (found ++ rest) = ap (λ (z : List ℕ). z ++ rest) h.2 ∙ append_assoc h.0 found rest in
+    let regrouped : bytes ++ rest ≡ h.0 ++ (found ++ rest) =
+    ap (λ (z : List ℕ). z ++ rest) h.2 ∙ append_assoc h.0 found rest in
     rw (regrouped, varint_again h.0 (length found) (found ++ rest) h.1, bytes_again (length found) found rest refl) refl
 payload_again bytes (fixed32 found) rest h = rw (h.0, bytes_again 4 found rest h.1) refl
+
+-- ---- fields
+
+-- a field whose number stands in the tag, with the payload behind the tag
+abbrev with_payload : ℕ × List ℕ → Result (Field × List ℕ) WireError
+with_payload tag =
+    payload_at (tag.0 % 8) tag.1 >>= λ payload. Ok (record { number = tag.0 / 8; payload = payload.0 }, payload.1)
+
+-- a tag that is in range, and what stands behind it
+abbrev behind_tag : ℕ × List ℕ → Result (Field × List ℕ) WireError
+behind_tag tag = cond (leb (2 ^ 32) tag.0 || eqb (tag.0 / 8) 0) (Err errors.BadTag) (with_payload tag)
+
+field_spelled : (tag text : List ℕ) (n : ℕ) (p : Payload) → IsVarint tag n → n < 2 ^ 32 → n / 8 ≢ 0
+    → SpellsPayload text p → wire_type p ≡ n % 8 → SpellsField (tag ++ text) (record { number = n / 8; payload = p })
+field_spelled tag text n p tag_spelled low ne spelled kind =
+    let is : n ≡ n / 8 * 8 + wire_type p = omega arith in
+    record {
+      tag = tag;
+      payload = text;
+      tag_spelled = subst (IsVarint tag) is tag_spelled;
+      payload_spelled = spelled;
+      has_number = omega arith;
+      in_range = omega arith;
+      joined = refl;
+    }
 
 pub field_takes : (bytes : List ℕ) (x : Field × List ℕ) → field_at bytes ≡ Ok x → Takes SpellsField bytes x
 unfolding field_at
 field_takes bytes x e =
-    let a = bind_ok (varint_at bytes) (λ tag. cond (leb (2 ^ 32) tag.0 || eqb (tag.0 / 8) 0) (Err errors.BadTag) (payload_at (tag.0 % 8) tag.1 >>= λ payload. Ok (record { number = tag.0 / 8; payload = payload.0 }, payload.1))) x e in
+    let a = bind_ok (varint_at bytes) behind_tag x e in
     let n = a.0.0 in
-    let g = guard_ok (leb (2 ^ 32) n || eqb (n / 8) 0) errors.BadTag (payload_at (n % 8) a.0.1 >>= λ payload. Ok (record { number = n / 8; payload = payload.0 }, payload.1)) x a.2 in
+    let g = guard_ok (leb (2 ^ 32) n || eqb (n / 8) 0) errors.BadTag (with_payload a.0) x a.2 in
     let b = bind_ok (payload_at (n % 8) a.0.1) (λ payload. Ok (record { number = n / 8; payload = payload.0 }, payload.1)) x g.1 in
     let tag = varint_takes bytes a.0 a.1 in
     let t = payload_takes (n % 8) a.0.1 b.0 b.1 in
-    let o = or_parts _ _ g.0 in
-    let lt = leb-false (2 ^ 32) n o.0 in
-    let ne = eqb-false (n / 8) 0 o.1 in
-    let is : n ≡ n / 8 * 8 + wire_type b.0.0 = omega (arith, t.1) in
+    let tests = or_parts _ _ g.0 in
     let made : Field × List ℕ = (record { number = n / 8; payload = b.0.0 }, b.0.1) in
     subst (Takes SpellsField bytes) (ok_is made x b.2) (record {
       text = tag.text ++ t.0.text;
-      spelled = record { tag = tag.text; payload = t.0.text; tag_spelled = subst (IsVarint tag.text) is tag.spelled; payload_spelled = t.0.spelled; has_number = omega arith; in_range = omega arith; joined = refl };
-      parts = tag.parts ∙ ap (λ (z : List ℕ). tag.text ++ z) t.0.parts ∙ sym (append_assoc tag.text t.0.text b.0.1);
+      spelled = field_spelled tag.text t.0.text n b.0.0 tag.spelled (leb-false (2 ^ 32) n tests.0) (eqb-false (n / 8) 0 tests.1) t.0.spelled t.1;
+      parts = parts_joined bytes tag.text t.0.text a.0.1 b.0.1 tag.parts t.0.parts;
     })
 
 pub wire_type_small : (c : Payload) → wire_type c < 8
@@ -101,17 +130,20 @@ wire_type_small (fixed64 bytes) = omega arith
 wire_type_small (delimited bytes) = omega arith
 wire_type_small (fixed32 bytes) = omega arith
 
-pub field_again : (bytes : List ℕ) (f : Field) (rest : List ℕ) → SpellsField bytes f → field_at (bytes ++ rest) ≡ Ok (f, rest)
+pub field_again : (bytes : List ℕ) (f : Field) (rest : List ℕ) → SpellsField bytes f
+    → field_at (bytes ++ rest) ≡ Ok (f, rest)
 unfolding field_at
 field_again bytes f rest h =
     let k = wire_type_small f.payload in
-    let n : ℕ = f.number * 8 + wire_type f.payload in
-    let regrouped : bytes ++ rest ≡ h.tag ++ (h.payload ++ rest) = ap (λ (z : List ℕ). z ++ rest) h.joined ∙ append_assoc h.tag h.payload rest in
+    let regrouped : bytes ++ rest ≡ h.tag ++ (h.payload ++ rest) =
+    ap (λ (z : List ℕ). z ++ rest) h.joined ∙ append_assoc h.tag h.payload rest in
     let front : (f.number * 8 + wire_type f.payload) / 8 ≡ f.number = omega arith in
     let back : (f.number * 8 + wire_type f.payload) % 8 ≡ wire_type f.payload = omega arith in
     let low : f.number * 8 + wire_type f.payload < 2 ^ 32 = omega (arith, h.in_range) in
     let ne : f.number ≢ 0 = omega (arith, h.has_number) in
-    rw (regrouped, varint_again h.tag (f.number * 8 + wire_type f.payload) (h.payload ++ rest) h.tag_spelled, front, back, lt-leb (2 ^ 32) (f.number * 8 + wire_type f.payload) low, ne_eqb f.number 0 ne, payload_again h.payload f.payload rest h.payload_spelled) refl
+    let tag = varint_again h.tag (f.number * 8 + wire_type f.payload) (h.payload ++ rest) h.tag_spelled in
+    let payload = payload_again h.payload f.payload rest h.payload_spelled in
+    rw (regrouped, tag, front, back, lt-leb (2 ^ 32) (f.number * 8 + wire_type f.payload) low, ne_eqb f.number 0 ne, payload) refl
 
 pub field_not_empty : (bytes : List ℕ) (f : Field) → SpellsField bytes f → 0 < length bytes
 field_not_empty bytes f h = rw h.joined (omega (arith, length-append h.tag h.payload, varint_not_empty h.tag _ h.tag_spelled))

@@ -14,7 +14,7 @@ use Rattle.warg_protobuf.specs.MapInclusionProof.{proof_schema, proof_fields}
 use Rattle.warg_protobuf.specs.MapProofBundle.{MapBundle, map_schema, map_fields}
 use Rattle.warg_protobuf.specs.StackLog.{StackImage, StackFits, stack_schema, stack_fields}
 use Rattle.warg_protobuf.specs.VecLog.{VecImage, VecFits, vec_schema, vec_fields}
-use Rattle.warg_protobuf.proofs.Writing.{IsOneWritten, AreWritten, IsNumber, ReadsAgain, AllRead, nested_fields, written_spelled, any_number, all_append, delimited_written, uint32_written, bytes_written, packed_written, repeated_written, none, front, back, small_ok, uint32_value, bytes_value, packed_again, packed_value, repeated_value, all_read, nested_written, nested_value}
+use Rattle.warg_protobuf.proofs.Writing.{IsOneWritten, AreWritten, IsNumber, ReadsAgain, AllRead, nested_fields, written_spelled, any_number, all_append, delimited_written, uint32_written, bytes_written, packed_written, repeated_written, none, front, back, uint32_ok, uint32_value, bytes_value, packed_again, packed_value, repeated_value, all_read, nested_written, nested_value}
 
 number_1 : IsNumber 1
 number_1 = record { not_zero = omega arith; in_range = omega arith }
@@ -44,7 +44,7 @@ always P f (x ∷ xs) = (f x, always P f xs)
 
 entry_index : (m : Entry) → EntryFits m → AreWritten entry_schema 1 (uint32_fields 1 m.index)
 unfolding entry_schema uint32_in
-entry_index m fits = uint32_written entry_schema 1 m.index number_1 fits.index (rw (small_ok m.index fits.index) refl)
+entry_index m fits = uint32_written entry_schema 1 m.index number_1 fits.index (rw (uint32_ok m.index fits.index) refl)
 
 entry_hash : (m : Entry) → AreWritten entry_schema 2 (bytes_fields 2 m.hash)
 unfolding entry_schema bytes_in
@@ -69,7 +69,7 @@ entries_again = record { again = λ m fits short. written_spelled entry_schema (
 
 log_length : (m : LogBundle) → LogFits m → AreWritten log_schema 1 (uint32_fields 1 m.log_length)
 unfolding log_schema uint32_in
-log_length m fits = uint32_written log_schema 1 m.log_length number_1 fits.log_length (rw (small_ok m.log_length fits.log_length) refl)
+log_length m fits = uint32_written log_schema 1 m.log_length number_1 fits.log_length (rw (uint32_ok m.log_length fits.log_length) refl)
 
 log_lengths : (m : LogBundle) → LogFits m → AreWritten log_schema 2 (packed_fields 2 m.consistent_lengths)
 unfolding log_schema uint32s_in
@@ -79,11 +79,13 @@ log_indices : (m : LogBundle) → LogFits m → AreWritten log_schema 3 (packed_
 unfolding log_schema uint32s_in
 log_indices m fits = packed_written log_schema 3 m.included_indices number_3 (rw (packed_again m.included_indices (recursion_from_All (λ n. n < 2 ^ 32) m.included_indices fits.included_indices)) refl)
 
-log_hashes : (m : LogBundle) → AllRead entry_schema entry_fields m.hashes → AreWritten log_schema 4 (nested_fields entry_fields 4 m.hashes)
+log_hashes : (m : LogBundle) → AllRead entry_schema entry_fields m.hashes
+    → AreWritten log_schema 4 (nested_fields entry_fields 4 m.hashes)
 unfolding log_schema message_in
 log_hashes m read = nested_written log_schema entry_schema entry_fields 4 number_4 (λ inner. refl) m.hashes read
 
-log_says : (m : LogBundle) → LogFits m → AllRead entry_schema entry_fields m.hashes → log_schema.message (log_fields m) ≡ m
+log_says : (m : LogBundle) → LogFits m → AllRead entry_schema entry_fields m.hashes
+    → log_schema.message (log_fields m) ≡ m
 unfolding log_schema log_fields
 log_says m fits read =
     let p1 : List Field = uint32_fields 1 m.log_length in
@@ -106,7 +108,8 @@ log_says m fits read =
     back 4 h (p1 ++ p2 ++ p3) p4 (back 4 h (p1 ++ p2) p3 (back 4 h p1 p2 (none log_schema 4 1 h p1 (omega arith) w1) ∙ none log_schema 4 2 h p2 (omega arith) w2) ∙ none log_schema 4 3 h p3 (omega arith) w3) ∙ nested_value entry_schema entry_fields 4 m.hashes read in
     rw (a, b, c, d) refl
 
-log_written : (m : LogBundle) → LogFits m → AllRead entry_schema entry_fields m.hashes → AllByRecursion (IsOneWritten log_schema) (log_fields m)
+log_written : (m : LogBundle) → LogFits m → AllRead entry_schema entry_fields m.hashes
+    → AllByRecursion (IsOneWritten log_schema) (log_fields m)
 unfolding log_fields
 log_written m fits read =
     let P : Field → Type 0 = IsOneWritten log_schema in
@@ -132,13 +135,15 @@ logs_again = record {
 
 stack_length : (m : StackImage) → StackFits m → AreWritten stack_schema 1 (uint32_fields 1 m.length)
 unfolding stack_schema uint32_in
-stack_length m fits = uint32_written stack_schema 1 m.length number_1 fits.length (rw (small_ok m.length fits.length) refl)
+stack_length m fits = uint32_written stack_schema 1 m.length number_1 fits.length (rw (uint32_ok m.length fits.length) refl)
 
-stack_roots : (m : StackImage) → AllRead entry_schema entry_fields m.stack → AreWritten stack_schema 2 (nested_fields entry_fields 2 m.stack)
+stack_roots : (m : StackImage) → AllRead entry_schema entry_fields m.stack
+    → AreWritten stack_schema 2 (nested_fields entry_fields 2 m.stack)
 unfolding stack_schema message_in
 stack_roots m read = nested_written stack_schema entry_schema entry_fields 2 number_2 (λ inner. refl) m.stack read
 
-stack_says : (m : StackImage) → StackFits m → AllRead entry_schema entry_fields m.stack → stack_schema.message (stack_fields m) ≡ m
+stack_says : (m : StackImage) → StackFits m → AllRead entry_schema entry_fields m.stack
+    → stack_schema.message (stack_fields m) ≡ m
 unfolding stack_schema stack_fields
 stack_says m fits read =
     let p1 : List Field = uint32_fields 1 m.length in
@@ -161,7 +166,7 @@ stacks_again = record {
 
 vec_length : (m : VecImage) → VecFits m → AreWritten vec_schema 1 (uint32_fields 1 m.length)
 unfolding vec_schema uint32_in
-vec_length m fits = uint32_written vec_schema 1 m.length number_1 fits.length (rw (small_ok m.length fits.length) refl)
+vec_length m fits = uint32_written vec_schema 1 m.length number_1 fits.length (rw (uint32_ok m.length fits.length) refl)
 
 vec_tree : (m : VecImage) → AreWritten vec_schema 2 (repeated_fields 2 m.tree)
 unfolding vec_schema bytes_in
@@ -203,11 +208,13 @@ hashes_again = record { again = λ m fits short. written_spelled hash_schema (ha
 
 -- ---- MapInclusionProof
 
-proof_written : (m : List (Option (List ℕ))) → AllRead hash_schema hash_fields m → AreWritten proof_schema 1 (nested_fields hash_fields 1 m)
+proof_written : (m : List (Option (List ℕ))) → AllRead hash_schema hash_fields m
+    → AreWritten proof_schema 1 (nested_fields hash_fields 1 m)
 unfolding proof_schema message_in
 proof_written m read = nested_written proof_schema hash_schema hash_fields 1 number_1 (λ inner. refl) m read
 
-proof_says : (m : List (Option (List ℕ))) → AllRead hash_schema hash_fields m → proof_schema.message (proof_fields m) ≡ m
+proof_says : (m : List (Option (List ℕ))) → AllRead hash_schema hash_fields m
+    → proof_schema.message (proof_fields m) ≡ m
 unfolding proof_schema proof_fields
 proof_says m read = nested_value hash_schema hash_fields 1 m read
 
@@ -221,15 +228,18 @@ proofs_again = record {
 
 -- ---- MapProofBundle
 
-map_proofs : (m : MapBundle) → AllRead proof_schema proof_fields m.proofs → AreWritten map_schema 1 (nested_fields proof_fields 1 m.proofs)
+map_proofs : (m : MapBundle) → AllRead proof_schema proof_fields m.proofs
+    → AreWritten map_schema 1 (nested_fields proof_fields 1 m.proofs)
 unfolding map_schema message_in
 map_proofs m read = nested_written map_schema proof_schema proof_fields 1 number_1 (λ inner. refl) m.proofs read
 
-map_absences : (m : MapBundle) → AllRead proof_schema proof_fields m.absences → AreWritten map_schema 2 (nested_fields proof_fields 2 m.absences)
+map_absences : (m : MapBundle) → AllRead proof_schema proof_fields m.absences
+    → AreWritten map_schema 2 (nested_fields proof_fields 2 m.absences)
 unfolding map_schema message_in
 map_absences m read = nested_written map_schema proof_schema proof_fields 2 number_2 (λ inner. refl) m.absences read
 
-map_says : (m : MapBundle) → AllRead proof_schema proof_fields m.proofs → AllRead proof_schema proof_fields m.absences → map_schema.message (map_fields m) ≡ m
+map_says : (m : MapBundle) → AllRead proof_schema proof_fields m.proofs
+    → AllRead proof_schema proof_fields m.absences → map_schema.message (map_fields m) ≡ m
 unfolding map_schema map_fields
 map_says m proofs absences =
     let read = λ (c : Payload). each (message_in proof_schema) c in

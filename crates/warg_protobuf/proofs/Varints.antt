@@ -14,7 +14,8 @@ use Rattle.warg_protobuf.proofs.Steps.{bind_ok, chosen, ok_is, Fails-then}
 pub one_le : (more : ℕ) → 1 ≤ 128 ^ more
 one_le more = one-le-pow more 128 (omega arith)
 
-pub high_fits : (more high : ℕ) → more ≢ 0 → more < 10 → high < 2 * 128 ^ (more - 1) → (128 * high + 128 ≤ 2 * 128 ^ more) × (128 * high + 128 ≤ 2 ^ 64)
+pub high_fits : (more high : ℕ) → more ≢ 0 → more < 10 → high < 2 * 128 ^ (more - 1)
+    → (128 * high + 128 ≤ 2 * 128 ^ more) × (128 * high + 128 ≤ 2 ^ 64)
 high_fits zero high ne lt below = absurd (ne refl)
 high_fits (suc more) high ne lt below =
     let le : more ≤ 8 = omega arith in
@@ -23,7 +24,8 @@ high_fits (suc more) high ne lt below =
     let x = pow-succ' 128 more in
     (omega arith, omega arith)
 
-pub high_fails : (e : WireError) (more : ℕ) (bytes : List ℕ) → more ≢ 0 → 1 ≤ length bytes → 128 ≤ get_or bytes 0 0 → Fails e (varint_in (more - 1) (drop 1 bytes)) → Fails e (varint_in more bytes)
+pub high_fails : (e : WireError) (more : ℕ) (bytes : List ℕ) → more ≢ 0 → 1 ≤ length bytes → 128 ≤ get_or bytes 0 0
+    → Fails e (varint_in (more - 1) (drop 1 bytes)) → Fails e (varint_in more bytes)
 unfolding varint_in
 high_fails e more [] ne long le h = absurd (omega arith)
 high_fails e zero (b ∷ bytes) ne long le h = absurd (ne refl)
@@ -45,7 +47,8 @@ pub starts : (out : List ℕ) (n : ℕ) → n < 2 ^ 64 → Writes out n (out ++ 
 unfolding varint_bytes
 starts out n lt = (9, omega arith, refl)
 
-pub writes_more : (out : List ℕ) (left : ℕ) (total : List ℕ) → 128 ≤ left → Writes out left total → Writes (out ++ (left % 128 + 128) ∷ []) (left / 128) total
+pub writes_more : (out : List ℕ) (left : ℕ) (total : List ℕ) → 128 ≤ left → Writes out left total
+    → Writes (out ++ (left % 128 + 128) ∷ []) (left / 128) total
 unfolding varint_bytes_in
 writes_more out left total le (zero, below, so_far) = absurd (omega arith)
 writes_more out left total le (suc more, below, so_far) =
@@ -53,7 +56,8 @@ writes_more out left total le (suc more, below, so_far) =
     let one : out ++ varint_bytes_in (suc more) left ≡ (out ++ (left % 128 + 128) ∷ []) ++ varint_bytes_in more (left / 128) = rw (le-ltb left 128 le) (simp append_assoc) in
     (more, omega arith, sym one ∙ so_far)
 
-pub writes_last : (out : List ℕ) (left : ℕ) (total : List ℕ) → left < 128 → Writes out left total → out ++ left ∷ [] ≡ total
+pub writes_last : (out : List ℕ) (left : ℕ) (total : List ℕ) → left < 128 → Writes out left total
+    → out ++ left ∷ [] ≡ total
 unfolding varint_bytes_in
 writes_last out left total lt (zero, below, so_far) = so_far
 writes_last out left total lt (suc more, below, so_far) =
@@ -62,7 +66,8 @@ writes_last out left total lt (suc more, below, so_far) =
 
 -- ---- what is read is spelled so, and what is spelled so is read
 
-groups_more : (b : ℕ) (text : List ℕ) (n high : ℕ) → 128 ≤ b → n ≡ b % 128 + 128 * high → IsGroups text high → IsGroups (b ∷ text) n
+groups_more : (b : ℕ) (text : List ℕ) (n high : ℕ) → 128 ≤ b → n ≡ b % 128 + 128 * high → IsGroups text high
+    → IsGroups (b ∷ text) n
 groups_more b [] n high le eq g = absurd g
 groups_more b (c ∷ text) n high le eq g = (le, high, eq, g)
 
@@ -105,7 +110,8 @@ varint_takes_in (suc more) (b ∷ bytes) x e =
           })
     ]
 
-varint_again_in : (more : ℕ) (text : List ℕ) (n : ℕ) (rest : List ℕ) → IsGroups text n → length text ≤ suc more → n < 2 * 128 ^ more → varint_in more (text ++ rest) ≡ Ok (n, rest)
+varint_again_in : (more : ℕ) (text : List ℕ) (n : ℕ) (rest : List ℕ) → IsGroups text n → length text ≤ suc more
+    → n < 2 * 128 ^ more → varint_in more (text ++ rest) ≡ Ok (n, rest)
 unfolding varint_in
 varint_again_in more [] n rest g short below = absurd g
 varint_again_in zero (b ∷ []) n rest g short below =
@@ -124,6 +130,11 @@ pub record Takes {X : Type 0} (Spells : List ℕ → X → Type 0) (bytes : List
   pub spelled : Spells text x.0
   pub parts : bytes ≡ text ++ x.1
 
+-- what two readers took, one after the other
+pub parts_joined : (bytes a b rest after : List ℕ) → bytes ≡ a ++ rest → rest ≡ b ++ after
+    → bytes ≡ (a ++ b) ++ after
+parts_joined bytes a b rest after e f = e ∙ ap (λ (l : List ℕ). a ++ l) f ∙ sym (append_assoc a b after)
+
 pub varint_takes : (bytes : List ℕ) (x : ℕ × List ℕ) → varint_at bytes ≡ Ok x → Takes IsVarint bytes x
 unfolding varint_at
 varint_takes bytes x e =
@@ -140,7 +151,8 @@ varint_not_empty (b ∷ text) n v = omega arith
 
 -- ---- what is written
 
-varint_bytes_is_in : (more n : ℕ) → n < 2 * 128 ^ more → IsGroups (varint_bytes_in more n) n × (length (varint_bytes_in more n) ≤ suc more)
+varint_bytes_is_in : (more n : ℕ) → n < 2 * 128 ^ more
+    → IsGroups (varint_bytes_in more n) n × (length (varint_bytes_in more n) ≤ suc more)
 unfolding varint_bytes_in
 varint_bytes_is_in zero n below = ((omega arith, refl), omega arith)
 varint_bytes_is_in (suc more) n below =
@@ -170,7 +182,8 @@ one_form {X} Spells at again a b s t x y p q e =
     let same : s ≡ t = ap (λ (z : X × List ℕ). z.1) pair in
     (append_cancel_right a b s (e ∙ ap (λ (z : List ℕ). b ++ z) (sym same)), ap (λ (z : X × List ℕ). z.0) pair)
 
-varint_shortest_in : (more n : ℕ) (other : List ℕ) → n < 2 * 128 ^ more → IsGroups other n → length (varint_bytes_in more n) ≤ length other
+varint_shortest_in : (more n : ℕ) (other : List ℕ) → n < 2 * 128 ^ more → IsGroups other n
+    → length (varint_bytes_in more n) ≤ length other
 unfolding varint_bytes_in
 varint_shortest_in more n [] below g = absurd g
 varint_shortest_in zero n (b ∷ other) below g = omega arith

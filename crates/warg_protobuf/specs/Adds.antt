@@ -14,7 +14,8 @@ use Rattle.warg_protobuf.specs.MapProofBundle.{map_schema, map_add}
 use Rattle.warg_protobuf.specs.StackLog.{stack_schema, stack_add}
 use Rattle.warg_protobuf.specs.VecLog.{vec_schema, vec_add}
 
-values-push : {A : Type 0} (k : ℕ) (read : Payload → Result (List A) WireError) (fs : List Field) (f : Field) → values k read (fs ++ f ∷ []) ≡ values k read fs ++ value k read f
+values-push : {A : Type 0} (k : ℕ) (read : Payload → Result (List A) WireError) (fs : List Field) (f : Field)
+    → values k read (fs ++ f ∷ []) ≡ values k read fs ++ value k read f
 unfolding values
 values-push k read fs f = flat_map-append (value k read) fs (f ∷ []) ∙ ap (λ (l : List _). values k read fs ++ l) (append-nil (value k read f))
 

@@ -1,11 +1,10 @@
 -- Fields one after the other: each is a tag and a payload (proto3 encoding, "Message Structure").
-use Rattle.std.specs.Prelude.{◌≡◌, ℕ, ◌+◌, ◌*◌, ◌/◌, ◌%◌, ◌^◌, ◌<◌, List, [], ◌∷◌, ◌++◌, length, take, drop, Result, Ok, Err, nat_lt, nat_le, ◌==◌, ◌||◌, if◌then◌else◌}
-use Rattle.warg_protobuf.specs.declared.error.WireError.{WireError}
+use Rattle.std.specs.Prelude.{◌≡◌, ℕ, ◌+◌, ◌*◌, ◌/◌, ◌%◌, ◌^◌, ◌<◌, List, [], ◌∷◌, ◌++◌, length, take, drop, Ok, Err, nat_lt, nat_le, ◌==◌, ◌||◌, if◌then◌else◌}
 use Rattle.warg_protobuf.specs.declared.error.WireError.TheVariants.{Truncated, BadTag, Group, BadWireType}
 use Rattle.warg_protobuf.specs.declared.field.Field.{Field as LentField}
 use Rattle.warg_protobuf.specs.declared.field.Payload.{Payload as LentPayload}
 use Rattle.warg_protobuf.specs.declared.field.Payload.TheVariants as lent
-use Rattle.warg_protobuf.specs.Reading.{◌>>=◌}
+use Rattle.warg_protobuf.specs.Reading.{◌>>=◌, Reader}
 use Rattle.warg_protobuf.specs.Varint.{IsVarint, varint_at}
 
 -- What stands behind a tag: the wire types VARINT, I64, LEN and I32 (proto3 encoding).
@@ -61,11 +60,11 @@ abbrev pub field_view : LentField → Field
 field_view f = record { number = f.number; payload = payload_view f.payload }
 
 -- So many bytes at the front, and the bytes after them.
-abbrev pub bytes_at : ℕ → List ℕ → Result (List ℕ × List ℕ) WireError
+abbrev pub bytes_at : ℕ → Reader (List ℕ)
 bytes_at len bytes = if nat_lt (length bytes) len then Err Truncated else Ok (take len bytes, drop len bytes)
 
 -- The payload of a wire type at the front, and the bytes after it; groups are refused (proto3 encoding; the refusals are this crate's).
-unfoldable pub payload_at : ℕ → List ℕ → Result (Payload × List ℕ) WireError
+unfoldable pub payload_at : ℕ → Reader Payload
 payload_at kind bytes =
     if kind == 0 then (varint_at bytes >>= λ n. Ok (varint n.0, n.1)) else
     if kind == 1 then (bytes_at 8 bytes >>= λ x. Ok (fixed64 x.0, x.1)) else
@@ -76,7 +75,7 @@ payload_at kind bytes =
     Err BadWireType
 
 -- The field at the front, and the bytes after it, or the first fault in it (proto3 encoding; the faults are this crate's).
-unfoldable pub field_at : List ℕ → Result (Field × List ℕ) WireError
+unfoldable pub field_at : Reader Field
 field_at bytes = do
   tag ← varint_at bytes
   if nat_le (2 ^ 32) tag.0 || tag.0 / 8 == 0 then Err BadTag else (do

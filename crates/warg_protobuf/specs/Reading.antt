@@ -33,8 +33,16 @@ abbrev pub as_list : {A : Type 0} → Result A WireError → Result (List A) Wir
 as_list (Ok x) = Ok (x ∷ [])
 as_list (Err e) = Err e
 
+-- What stands at the front of bytes, and the bytes after it, or the first fault in it.
+abbrev pub Reader : Type 0 → Type 0
+Reader X = List ℕ → Result (X × List ℕ) WireError
+
+-- Whether what was read is good, or the first fault in it.
+abbrev pub Check : Type 0 → Type 0
+Check X = X → Result (Unit {0}) WireError
+
 -- While bytes are left, and at most `more` times, one thing is split off the front and checked.
-unfoldable pub all_in : {X : Type 0} → (List ℕ → Result (X × List ℕ) WireError) → (X → Result (Unit {0}) WireError) → ℕ → List ℕ → Result (List X) WireError
+unfoldable pub all_in : {X : Type 0} → Reader X → Check X → ℕ → List ℕ → Result (List X) WireError
 all_in split check zero bytes = Ok []
 all_in split check (suc more) [] = Ok []
 all_in split check (suc more) (b ∷ bytes) = do
@@ -44,5 +52,5 @@ all_in split check (suc more) (b ∷ bytes) = do
   Ok (x.0 ∷ others)
 
 -- While bytes are left, one thing is split off the front and checked; each takes a byte at least.
-unfoldable pub all_of : {X : Type 0} → (List ℕ → Result (X × List ℕ) WireError) → (X → Result (Unit {0}) WireError) → List ℕ → Result (List X) WireError
+unfoldable pub all_of : {X : Type 0} → Reader X → Check X → List ℕ → Result (List X) WireError
 all_of split check bytes = all_in split check (length bytes) bytes

@@ -1,8 +1,7 @@
 -- Numbers of one to ten bytes (proto3 encoding, "Base 128 Varints").
-use Rattle.std.specs.Prelude.{◌≡◌, ℕ, zero, suc, ◌+◌, ◌*◌, ◌/◌, ◌%◌, ◌^◌, ◌<◌, ◌≤◌, List, [], ◌∷◌, length, Result, Ok, Err, nat_lt, if◌then◌else◌}
-use Rattle.warg_protobuf.specs.declared.error.WireError.{WireError}
+use Rattle.std.specs.Prelude.{◌≡◌, ℕ, zero, suc, ◌+◌, ◌*◌, ◌/◌, ◌%◌, ◌^◌, ◌<◌, ◌≤◌, List, [], ◌∷◌, length, Ok, Err, nat_lt, if◌then◌else◌}
 use Rattle.warg_protobuf.specs.declared.error.WireError.TheVariants.{Truncated, BadVarint}
-use Rattle.warg_protobuf.specs.Reading.{◌>>=◌}
+use Rattle.warg_protobuf.specs.Reading.{◌>>=◌, Reader}
 
 -- Each byte but the last has its top bit set, and the number has the low seven bits of each, least significant first (proto3 encoding).
 abbrev pub IsGroups : List ℕ → ℕ → Type 0
@@ -17,7 +16,7 @@ pub record IsVarint (bytes : List ℕ) (n : ℕ) : Type 0 where
   pub fits : n < 2 ^ 64
 
 -- The number at the front, of at most `1 + more` bytes, and the bytes after it.
-unfoldable pub varint_in : ℕ → List ℕ → Result (ℕ × List ℕ) WireError
+unfoldable pub varint_in : ℕ → Reader ℕ
 varint_in zero [] = Err Truncated
 varint_in zero (b ∷ bytes) = if nat_lt b 2 then Ok (b, bytes) else Err BadVarint
 varint_in (suc more) [] = Err Truncated
@@ -26,7 +25,7 @@ varint_in (suc more) (b ∷ bytes) = if nat_lt b 128 then Ok (b, bytes) else (do
   Ok (b % 128 + 128 * high.0, high.1))
 
 -- The number at the front, and the bytes after it (proto3 encoding).
-unfoldable pub varint_at : List ℕ → Result (ℕ × List ℕ) WireError
+unfoldable pub varint_at : Reader ℕ
 varint_at bytes = varint_in 9 bytes
 
 -- The groups of a number, at most `1 + more` of them, as few as hold it.
