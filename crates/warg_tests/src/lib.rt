@@ -5,3 +5,5 @@
 mod crypto;
 #[cfg(test)]
 mod program;
+#[cfg(test)]
+mod protobuf;

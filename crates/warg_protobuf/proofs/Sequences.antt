@@ -1,0 +1,113 @@
+-- Things one after the other: what is read is spelled so, and what is spelled so is read.
+use Rattle.std.proofs.Common.{◌≡◌, ℕ, zero, suc, ◌<◌, ◌≤◌, List, [], ◌∷◌, ◌++◌, length, Result, Ok, Err, refl, ap, subst, ◌∙◌, arith}
+use Rattle.std.proofs.lemmas.List.{length-append, nil_from_length}
+use Rattle.warg_protobuf.specs.declared.error.WireError.{WireError}
+use Rattle.warg_protobuf.specs.Reading.{◌>>=◌, all_in, all_of, Reader, Check}
+use Rattle.warg_protobuf.specs.Varint.{IsVarint, varint_at}
+use Rattle.warg_protobuf.specs.Field.{SpellsField, SpellsAll, field_at}
+use Rattle.warg_protobuf.specs.Spelled.{AllCheck}
+use Rattle.warg_protobuf.proofs.Steps.{bind_ok, ok_is}
+use Rattle.warg_protobuf.proofs.Varints.{Takes, varint_takes, varint_again, varint_not_empty}
+use Rattle.warg_protobuf.proofs.Fields.{field_takes, field_again, field_not_empty}
+
+-- what is split off has bytes
+pub record Shrinks {X : Type 0} (split : Reader X) : Type 0 where
+  pub shrinks : (bytes : List ℕ) (x : X × List ℕ) → split bytes ≡ Ok x → length x.1 < length bytes
+
+takes_shrink : {X : Type 0} (Spells : List ℕ → X → Type 0)
+    → ((text : List ℕ) (x : X) → Spells text x → 0 < length text) → (bytes : List ℕ) (x : X × List ℕ)
+    → Takes Spells bytes x → length x.1 < length bytes
+takes_shrink Spells not_empty bytes x t = rw t.parts (omega (arith, length-append t.text x.1, not_empty t.text x.0 t.spelled))
+
+pub varints_shrink : Shrinks varint_at
+varints_shrink = record { shrinks = λ bytes x e. takes_shrink IsVarint varint_not_empty bytes x (varint_takes bytes x e) }
+
+pub fields_shrink : Shrinks field_at
+fields_shrink = record { shrinks = λ bytes x e. takes_shrink SpellsField field_not_empty bytes x (field_takes bytes x e) }
+
+-- reading goes on in the same way after each first thing
+then_same : {X : Type 0} (split : Reader X) (check : Check X) (a b : ℕ) (r : Result (X × List ℕ) WireError)
+    → ((x : X × List ℕ) → r ≡ Ok x → all_in split check a x.1 ≡ all_in split check b x.1)
+    → (r >>= λ x. check x.0 >>= λ checked. all_in split check a x.1 >>= λ others. Ok (x.0 ∷ others)) ≡ (r >>= λ x. check x.0 >>= λ checked. all_in split check b x.1 >>= λ others. Ok (x.0 ∷ others))
+then_same split check a b (Err e) same = refl
+then_same split check a b (Ok x) same = rw (same x refl) refl
+
+-- enough is enough
+same_in : {X : Type 0} (split : Reader X) (check : Check X) → Shrinks split → (a b : ℕ) (bytes : List ℕ)
+    → length bytes ≤ a → length bytes ≤ b → all_in split check a bytes ≡ all_in split check b bytes
+unfolding all_in
+same_in split check s zero zero bytes la lb = refl
+same_in split check s zero (suc b) [] la lb = refl
+same_in split check s (suc a) zero [] la lb = refl
+same_in split check s (suc a) (suc b) [] la lb = refl
+same_in split check s zero (suc b) (c ∷ bytes) la lb = absurd (omega arith)
+same_in split check s (suc a) zero (c ∷ bytes) la lb = absurd (omega arith)
+same_in split check s (suc a) (suc b) (c ∷ bytes) la lb =
+    then_same split check a b (split (c ∷ bytes)) (λ x e. let lt = s.shrinks (c ∷ bytes) x e in same_in split check s a b x.1 (omega arith) (omega arith))
+
+all_more_in : {X : Type 0} (split : Reader X) (check : Check X) (a : ℕ) (r : Result (X × List ℕ) WireError)
+    → ((x : X × List ℕ) → r ≡ Ok x → all_in split check a x.1 ≡ all_in split check (length x.1) x.1)
+    → (r >>= λ x. check x.0 >>= λ checked. all_in split check a x.1 >>= λ others. Ok (x.0 ∷ others)) ≡ (r >>= λ x. check x.0 >>= λ checked. all_of split check x.1 >>= λ others. Ok (x.0 ∷ others))
+unfolding all_of
+all_more_in split check a (Err e) same = refl
+all_more_in split check a (Ok x) same = rw (same x refl) refl
+
+-- one step of reading
+pub all_more : {X : Type 0} (split : Reader X) (check : Check X) → Shrinks split → (bytes : List ℕ) → 0 < length bytes
+    → all_of split check bytes ≡ (split bytes >>= λ x. check x.0 >>= λ checked. all_of split check x.1 >>= λ others. Ok (x.0 ∷ others))
+unfolding all_in all_of
+all_more split check s [] long = absurd (omega arith)
+all_more split check s (c ∷ bytes) long =
+    all_more_in split check (length bytes) (split (c ∷ bytes)) (λ x e. let lt = s.shrinks (c ∷ bytes) x e in same_in split check s (length bytes) (length x.1) x.1 (omega arith) (omega arith))
+
+-- ---- both directions
+
+-- a spelling that one reader reads, whatever follows it
+pub record IsCode {X : Type 0} (split : Reader X) (Spells : List ℕ → X → Type 0) : Type 0 where
+  pub shrink : Shrinks split
+  pub takes : (bytes : List ℕ) (x : X × List ℕ) → split bytes ≡ Ok x → Takes Spells bytes x
+  pub again : (text : List ℕ) (x : X) (rest : List ℕ) → Spells text x → split (text ++ rest) ≡ Ok (x, rest)
+  pub not_empty : (text : List ℕ) (x : X) → Spells text x → 0 < length text
+
+pub varints : IsCode varint_at IsVarint
+varints = record { shrink = varints_shrink; takes = varint_takes; again = varint_again; not_empty = varint_not_empty }
+
+pub fields : IsCode field_at SpellsField
+fields = record { shrink = fields_shrink; takes = field_takes; again = field_again; not_empty = field_not_empty }
+
+all_takes_in : {X : Type 0} (split : Reader X) (Spells : List ℕ → X → Type 0) (check : Check X)
+    → IsCode split Spells → (more : ℕ) (bytes : List ℕ) (xs : List X) → length bytes ≤ more
+    → all_in split check more bytes ≡ Ok xs → SpellsAll Spells bytes xs × AllCheck check xs
+unfolding all_in
+all_takes_in {X} split Spells check code zero bytes xs le e = subst (λ (ys : List X). SpellsAll Spells bytes ys × AllCheck check ys) (ok_is [] xs e) (nil_from_length bytes (omega arith), tt)
+all_takes_in {X} split Spells check code (suc more) [] xs le e = subst (λ (ys : List X). SpellsAll Spells [] ys × AllCheck check ys) (ok_is [] xs e) (refl, tt)
+all_takes_in {X} split Spells check code (suc more) (b ∷ bytes) xs le e =
+    let a = bind_ok (split (b ∷ bytes)) (λ x. check x.0 >>= λ checked. all_in split check more x.1 >>= λ others. Ok (x.0 ∷ others)) xs e in
+    let c = bind_ok (check a.0.0) (λ checked. all_in split check more a.0.1 >>= λ others. Ok (a.0.0 ∷ others)) xs a.2 in
+    let d = bind_ok (all_in split check more a.0.1) (λ others. Ok (a.0.0 ∷ others)) xs c.2 in
+    let t = code.takes (b ∷ bytes) a.0 a.1 in
+    let lt = code.shrink.shrinks (b ∷ bytes) a.0 a.1 in
+    let others = all_takes_in split Spells check code more a.0.1 d.0 (omega arith) d.1 in
+    subst (λ (ys : List X). SpellsAll Spells (b ∷ bytes) ys × AllCheck check ys) (ok_is (a.0.0 ∷ d.0) xs d.2) ((t.text, a.0.1, t.spelled, others.0, t.parts), (c.1, others.1))
+
+pub all_takes : {X : Type 0} (split : Reader X) (Spells : List ℕ → X → Type 0) (check : Check X)
+    → IsCode split Spells → (bytes : List ℕ) (xs : List X) → all_of split check bytes ≡ Ok xs
+    → SpellsAll Spells bytes xs × AllCheck check xs
+unfolding all_of
+all_takes split Spells check code bytes xs e = all_takes_in split Spells check code (length bytes) bytes xs (omega arith) e
+
+-- one thing and what follows it
+pub all_cons : {X : Type 0} (split : Reader X) (Spells : List ℕ → X → Type 0) (check : Check X)
+    → IsCode split Spells → (first rest : List ℕ) (x : X) → Spells first x → check x ≡ Ok tt
+    → all_of split check (first ++ rest) ≡ (all_of split check rest >>= λ others. Ok (x ∷ others))
+all_cons split Spells check code first rest x s ok =
+    let long : 0 < length (first ++ rest) = omega (arith, length-append first rest, code.not_empty first x s) in
+    all_more split check code.shrink (first ++ rest) long ∙ rw (code.again first x rest s, ok) refl
+
+pub all_again : {X : Type 0} (split : Reader X) (Spells : List ℕ → X → Type 0) (check : Check X)
+    → IsCode split Spells → (bytes : List ℕ) (xs : List X) → SpellsAll Spells bytes xs → AllCheck check xs
+    → all_of split check bytes ≡ Ok xs
+unfolding all_of all_in
+all_again split Spells check code bytes [] s ok = ap (all_of split check) s
+all_again split Spells check code bytes (x ∷ xs) s ok =
+    ap (all_of split check) s.4 ∙ all_cons split Spells check code s.0 s.1 x s.2 ok.0 ∙ rw (all_again split Spells check code s.1 xs s.3 ok.1) refl

@@ -1,0 +1,14 @@
+pub mod Reading
+pub mod Varint
+pub mod Field
+pub mod Schema
+pub mod Spelled
+pub mod Written
+pub mod Adds
+pub mod HashEntry
+pub mod LogProofBundle
+pub mod OptionalHash
+pub mod MapInclusionProof
+pub mod MapProofBundle
+pub mod StackLog
+pub mod VecLog

@@ -1,0 +1,59 @@
+//! The message `HashEntry`.
+use crate::error::WireError;
+use crate::field::Field;
+use crate::message::Message;
+use crate::reader::{read_bytes, read_uint32};
+use crate::writer::{push_bytes, push_uint32};
+use std::alloc::{AllocError, Allocator, Global};
+
+/// A digest, and the number of the log's node that has it.
+#[derive_where(PartialEq)]
+#[derive(Drop)]
+pub struct HashEntry<A: Allocator = Global> {
+    /// The number of the node.
+    pub index: u32,
+    /// The digest, of any length on the wire.
+    pub hash: Vec<u8, A>,
+}
+
+#[tactic(auto, unfolding(crate::specs::HashEntry::entry_schema, crate::specs::HashEntry::entry_add, crate::specs::HashEntry::entry_fields, crate::specs::Schema::last_of, crate::specs::Schema::values))]
+impl<A: Allocator + Copy> Message<A> for HashEntry<A> {
+    ghost use Rattle.warg_protobuf.specs.HashEntry.{Entry, entry_view, entry_schema, entry_add, entry_fields, EntryFits};
+    ghost use Rattle.warg_protobuf.specs.Adds.{entry_adds};
+
+    ghost Seen = { Entry };
+
+    ghost view = { entry_view };
+
+    ghost schema = { entry_schema };
+
+    ghost add = { entry_add };
+
+    ghost fields = { entry_fields };
+
+    ghost Fits = { EntryFits };
+
+    fn empty(alloc: A) -> Self {
+        HashEntry {
+            index: 0,
+            hash: Vec::new(alloc),
+        }
+    }
+
+    fn put(&mut self, alloc: A, field: Field<'_>) -> Result<(), WireError> {
+        match field.number {
+            1 => self.index = read_uint32(field.payload)?,
+            2 => self.hash = Vec::from_slice(alloc, read_bytes(field.payload)?)?,
+            _ => {}
+        }
+        Ok(())
+    }
+
+    fn push_to(&self, _alloc: A, out: &mut Vec<u8, A>) -> Result<(), AllocError> {
+        push_uint32(out, 1, self.index)?;
+        push_bytes(out, 2, &self.hash)?;
+        Ok(())
+    }
+
+    ghost adds = { entry_adds };
+}

@@ -1,0 +1,117 @@
+//! The message `LogProofBundle`.
+ghost use Rattle.std.specs.Prelude.{◌≡◌, ◌⊎◌, IfOk, IfErr, Ok, Err};
+ghost use Rattle.warg_protobuf.specs.declared.error.WireError.{WireError as Fault};
+ghost use Rattle.warg_protobuf.specs.declared.error.WireError.TheVariants.{Memory};
+ghost use Rattle.warg_protobuf.specs.Reading.{Gives};
+ghost use Rattle.warg_protobuf.specs.Schema.{message_of};
+ghost use Rattle.warg_protobuf.specs.Spelled.{IsSpelled, FaultStands};
+
+use crate::error::WireError;
+use crate::field::Field;
+use crate::hash_entry::HashEntry;
+use crate::message::{Message, decode_message, encode_message, push_messages, read_element};
+use crate::reader::{read_uint32, read_uint32s};
+use crate::writer::{push_uint32, push_uint32s};
+use std::alloc::{AllocError, Allocator, Global};
+
+/// Proofs of a log, and the digests that they need.
+#[derive_where(PartialEq)]
+#[derive(Drop)]
+pub struct LogProofBundle<A: Allocator = Global> {
+    /// The length, in entries, of the log that all proofs speak of.
+    pub log_length: u32,
+    /// The old length of each consistency proof, in entries.
+    pub consistent_lengths: Vec<u32, A>,
+    /// The node number of each inclusion proof.
+    pub included_indices: Vec<u32, A>,
+    /// The digests, each with its node number.
+    pub hashes: Vec<HashEntry<A>, A>,
+}
+
+#[tactic(auto, unfolding(crate::specs::LogProofBundle::log_schema, crate::specs::LogProofBundle::log_add, crate::specs::LogProofBundle::log_fields, crate::specs::Schema::last_of, crate::specs::Schema::values))]
+impl<A: Allocator + Copy> Message<A> for LogProofBundle<A> {
+    ghost use Rattle.warg_protobuf.specs.LogProofBundle.{LogBundle, log_view, log_schema, log_add, log_fields, LogFits};
+    ghost use Rattle.warg_protobuf.specs.Adds.{log_adds};
+
+    ghost Seen = { LogBundle };
+
+    ghost view = { log_view };
+
+    ghost schema = { log_schema };
+
+    ghost add = { log_add };
+
+    ghost fields = { log_fields };
+
+    ghost Fits = { LogFits };
+
+    fn empty(alloc: A) -> Self {
+        LogProofBundle {
+            log_length: 0,
+            consistent_lengths: Vec::new(alloc),
+            included_indices: Vec::new(alloc),
+            hashes: Vec::new(alloc),
+        }
+    }
+
+    fn put(&mut self, alloc: A, field: Field<'_>) -> Result<(), WireError> {
+        match field.number {
+            1 => self.log_length = read_uint32(field.payload)?,
+            2 => read_uint32s(&mut self.consistent_lengths, field.payload)?,
+            3 => read_uint32s(&mut self.included_indices, field.payload)?,
+            4 => read_element(alloc, &mut self.hashes, field.payload)?,
+            _ => {}
+        }
+        Ok(())
+    }
+
+    fn push_to(&self, alloc: A, out: &mut Vec<u8, A>) -> Result<(), AllocError> {
+        push_uint32(out, 1, self.log_length)?;
+        push_uint32s(alloc, out, 2, &self.consistent_lengths)?;
+        push_uint32s(alloc, out, 3, &self.included_indices)?;
+        push_messages(alloc, out, 4, &self.hashes)?;
+        Ok(())
+    }
+
+    ghost adds = { log_adds };
+}
+
+impl<A: Allocator + Copy> LogProofBundle<A> {
+    ghost use Rattle.warg_protobuf.specs.LogProofBundle.{LogBundle, log_view, log_schema, log_bytes};
+
+    /// Reads the message that the bytes spell.
+    ///
+    /// # Errors
+    ///
+    /// The first fault of the bytes ([`WireError`]), or `Memory` where a growth was refused. Memory grows with
+    /// the bytes read, and never by a length that they announce.
+    pub fn decode(alloc: A, bytes: &[u8]) -> Result<Self, WireError>
+        // What is read is spelled so.
+        ensures found { IfOk result (λ m. IsSpelled log_schema bytes.now (log_view m)) }
+        // What is spelled so is read, unless memory runs out.
+        ensures only { (m : LogBundle) → IsSpelled log_schema bytes.now m → Gives log_view result (Ok m) }
+        // A fault that is named stands in the bytes.
+        ensures fault { IfErr result (λ e. (e ≡ Memory) ⊎ FaultStands log_schema bytes.now e) }
+        // A fault that stands in the bytes is named, unless memory runs out.
+        ensures faulty { (e : Fault) → FaultStands log_schema bytes.now e → Gives log_view result (Err e) }
+        // All of this as a function of the bytes.
+        ensures exact { Gives log_view result (message_of log_schema bytes.now) }
+    {
+        decode_message(alloc, bytes)
+    }
+
+    /// Writes the message in its one written form. The message stays as it was.
+    ///
+    /// # Errors
+    ///
+    /// `AllocError` where a growth was refused.
+    pub fn encode(&self, alloc: A) -> Result<Vec<u8, A>, AllocError>
+        ensures written { IfOk result (λ v. v.items ≡ log_bytes (log_view self.now)) }
+        // What is written spells the message.
+        ensures spelled { IfOk result (λ v. IsSpelled log_schema v.items (log_view self.now)) }
+        // What is written is read as the same message.
+        ensures again { IfOk result (λ v. message_of log_schema v.items ≡ Ok (log_view self.now)) }
+    {
+        encode_message(alloc, self)
+    }
+}

@@ -1,0 +1,105 @@
+//! The message `MapProofBundle`.
+ghost use Rattle.std.specs.Prelude.{◌≡◌, ◌⊎◌, IfOk, IfErr, Ok, Err};
+ghost use Rattle.warg_protobuf.specs.declared.error.WireError.{WireError as Fault};
+ghost use Rattle.warg_protobuf.specs.declared.error.WireError.TheVariants.{Memory};
+ghost use Rattle.warg_protobuf.specs.Reading.{Gives};
+ghost use Rattle.warg_protobuf.specs.Schema.{message_of};
+ghost use Rattle.warg_protobuf.specs.Spelled.{IsSpelled, FaultStands};
+
+use crate::error::WireError;
+use crate::field::Field;
+use crate::map_inclusion_proof::MapInclusionProof;
+use crate::message::{Message, decode_message, encode_message, push_messages, read_element};
+use std::alloc::{AllocError, Allocator, Global};
+
+/// Proofs of a map: of keys that it holds, and of keys that it doesn't hold.
+#[derive_where(PartialEq)]
+#[derive(Drop)]
+pub struct MapProofBundle<A: Allocator = Global> {
+    /// The proofs of keys that are held.
+    pub proofs: Vec<MapInclusionProof<A>, A>,
+    /// The proofs of keys that are absent.
+    pub absences: Vec<MapInclusionProof<A>, A>,
+}
+
+#[tactic(auto, unfolding(crate::specs::MapProofBundle::map_schema, crate::specs::MapProofBundle::map_add, crate::specs::MapProofBundle::map_fields, crate::specs::Schema::values))]
+impl<A: Allocator + Copy> Message<A> for MapProofBundle<A> {
+    ghost use Rattle.warg_protobuf.specs.MapProofBundle.{MapBundle, map_view, map_schema, map_add, map_fields};
+    ghost use Rattle.warg_protobuf.specs.Adds.{map_adds};
+
+    ghost Seen = { MapBundle };
+
+    ghost view = { map_view };
+
+    ghost schema = { map_schema };
+
+    ghost add = { map_add };
+
+    ghost fields = { map_fields };
+
+    ghost Fits = { λ m. Unit {0} };
+
+    fn empty(alloc: A) -> Self {
+        MapProofBundle {
+            proofs: Vec::new(alloc),
+            absences: Vec::new(alloc),
+        }
+    }
+
+    fn put(&mut self, alloc: A, field: Field<'_>) -> Result<(), WireError> {
+        match field.number {
+            1 => read_element(alloc, &mut self.proofs, field.payload)?,
+            2 => read_element(alloc, &mut self.absences, field.payload)?,
+            _ => {}
+        }
+        Ok(())
+    }
+
+    fn push_to(&self, alloc: A, out: &mut Vec<u8, A>) -> Result<(), AllocError> {
+        push_messages(alloc, out, 1, &self.proofs)?;
+        push_messages(alloc, out, 2, &self.absences)?;
+        Ok(())
+    }
+
+    ghost adds = { map_adds };
+}
+
+impl<A: Allocator + Copy> MapProofBundle<A> {
+    ghost use Rattle.warg_protobuf.specs.MapProofBundle.{MapBundle, map_view, map_schema, map_bytes};
+
+    /// Reads the message that the bytes spell.
+    ///
+    /// # Errors
+    ///
+    /// The first fault of the bytes ([`WireError`]), or `Memory` where a growth was refused. Memory grows with
+    /// the bytes read, and never by a length that they announce.
+    pub fn decode(alloc: A, bytes: &[u8]) -> Result<Self, WireError>
+        // What is read is spelled so.
+        ensures found { IfOk result (λ m. IsSpelled map_schema bytes.now (map_view m)) }
+        // What is spelled so is read, unless memory runs out.
+        ensures only { (m : MapBundle) → IsSpelled map_schema bytes.now m → Gives map_view result (Ok m) }
+        // A fault that is named stands in the bytes.
+        ensures fault { IfErr result (λ e. (e ≡ Memory) ⊎ FaultStands map_schema bytes.now e) }
+        // A fault that stands in the bytes is named, unless memory runs out.
+        ensures faulty { (e : Fault) → FaultStands map_schema bytes.now e → Gives map_view result (Err e) }
+        // All of this as a function of the bytes.
+        ensures exact { Gives map_view result (message_of map_schema bytes.now) }
+    {
+        decode_message(alloc, bytes)
+    }
+
+    /// Writes the message in its one written form. The message stays as it was.
+    ///
+    /// # Errors
+    ///
+    /// `AllocError` where a growth was refused.
+    pub fn encode(&self, alloc: A) -> Result<Vec<u8, A>, AllocError>
+        ensures written { IfOk result (λ v. v.items ≡ map_bytes (map_view self.now)) }
+        // What is written spells the message.
+        ensures spelled { IfOk result (λ v. IsSpelled map_schema v.items (map_view self.now)) }
+        // What is written is read as the same message.
+        ensures again { IfOk result (λ v. message_of map_schema v.items ≡ Ok (map_view self.now)) }
+    {
+        encode_message(alloc, self)
+    }
+}

@@ -1,0 +1,139 @@
+//! What all messages share: one loop that reads them, and one that writes them in lists.
+ghost use Rattle.std.specs.Prelude.{◌≡◌, ◌⊎◌, ◌++◌, ◌<◌, ◌^◌, [], List, ℕ, Result, Ok, Err, All, OnOk, IfOk, IfErr, length, map};
+ghost use Rattle.warg_protobuf.specs.declared.error.WireError.{WireError};
+ghost use Rattle.warg_protobuf.specs.declared.error.WireError.TheVariants.{Memory};
+ghost use Rattle.warg_protobuf.specs.Reading.{Gives, outcome, values_read, as_list};
+ghost use Rattle.warg_protobuf.specs.Field.{Field as AnyField, field_view, payload_view};
+ghost use Rattle.warg_protobuf.specs.Schema.{Schema, Puts, Adds, check_by, message_of, message_in};
+ghost use Rattle.warg_protobuf.specs.Spelled.{IsSpelled, FaultStands};
+ghost use Rattle.warg_protobuf.specs.Written.{fields_bytes, repeated_fields};
+
+use crate::error::WireError;
+use crate::field::{Field, Payload, read_field};
+use crate::writer::push_delimited;
+use std::alloc::{AllocError, Allocator};
+
+/// A message that is read by taking one field after the other in, and written field by field.
+pub(crate) trait Message<A: Allocator + Copy>: Drop {
+    // The message without where it lies in memory, and how to see it so.
+    ghost Seen: { Type 0 };
+
+    ghost view: { Self → Seen };
+
+    // How its bytes are read.
+    ghost schema: { Schema Seen };
+
+    // What one field more makes of it.
+    ghost add: { Seen → AnyField → Seen };
+
+    // The fields that are written of it.
+    ghost fields: { Seen → List AnyField };
+
+    // What its fields' types say of it.
+    ghost Fits: { Seen → Type 0 };
+
+    /// The message of no fields.
+    fn empty(alloc: A) -> Self
+        ensures { view result ≡ schema.message [] };
+
+    /// Takes one field in, and skips it where its number is unknown.
+    fn put(&mut self, alloc: A, field: Field<'_>) -> Result<(), WireError>
+        ensures { let f = field_view field.entry in
+            Puts result (check_by schema.table f) (add (view self.old) f) (view self.new) };
+
+    /// Writes the message at the end.
+    fn push_to(&self, alloc: A, out: &mut Vec<u8, A>) -> Result<(), AllocError>
+        ensures written { OnOk result (out.new.items ≡ out.old.items ++ fields_bytes (fields (view self.now))) }
+        ensures fits { OnOk result (Fits (view self.now)) };
+
+    // Fields one after the other add up to what they say together.
+    ghost adds: { Adds schema.message add };
+}
+
+/// The message of these bytes.
+fn read_message<A: Allocator + Copy, M: Message<A>>(alloc: A, bytes: &[u8]) -> Result<M, WireError>
+    ensures { Gives M.view result (message_of M.schema bytes.now) }
+{
+    let mut message = M::empty(alloc);
+    let mut rest = bytes;
+    while !rest.is_empty() {
+        let (field, after) = read_field(rest)?;
+        message.put(alloc, field)?;
+        rest = after;
+    }
+    Ok(message)
+}
+
+/// Puts the message that a payload holds at the end of a list.
+#[tactic(auto, unfolding(crate::specs::Schema::message_in))]
+pub(crate) fn read_element<A: Allocator + Copy, M: Message<A>>(
+    alloc: A,
+    messages: &mut Vec<M, A>,
+    payload: Payload<'_>,
+) -> Result<(), WireError>
+    ensures { let read = message_in M.schema (payload_view payload.entry) in
+        let added = map M.view messages.old.items ++ values_read (as_list read) in
+        Puts result (outcome read) added (map M.view messages.new.items) }
+{
+    match payload {
+        Payload::Delimited(bytes) => {
+            let message: M = read_message(alloc, bytes)?;
+            messages.push(message)?;
+            Ok(())
+        }
+        _ => Err(WireError::WrongWireType),
+    }
+}
+
+/// What each `decode` promises.
+pub(crate) fn decode_message<A: Allocator + Copy, M: Message<A>>(
+    alloc: A,
+    bytes: &[u8],
+) -> Result<M, WireError>
+    // What is read is spelled so.
+    ensures found { IfOk result (λ m. IsSpelled M.schema bytes.now (M.view m)) }
+    // What is spelled so is read, unless memory runs out.
+    ensures only { (m : M.Seen) → IsSpelled M.schema bytes.now m → Gives M.view result (Ok m) }
+    // A fault that is named stands in the bytes.
+    ensures fault { IfErr result (λ e. (e ≡ Memory) ⊎ FaultStands M.schema bytes.now e) }
+    // A fault that stands in the bytes is named, unless memory runs out.
+    ensures faulty { (e : WireError) → FaultStands M.schema bytes.now e → Gives M.view result (Err e) }
+    // All of this as a function of the bytes.
+    ensures exact { Gives M.view result (message_of M.schema bytes.now) }
+{
+    read_message(alloc, bytes)
+}
+
+/// The written form of a message.
+pub(crate) fn encode_message<A: Allocator + Copy, M: Message<A>>(
+    alloc: A,
+    message: &M,
+) -> Result<Vec<u8, A>, AllocError>
+    ensures written { IfOk result (λ v. v.items ≡ fields_bytes (M.fields (M.view message.now))) }
+    ensures fits { OnOk result (M.Fits (M.view message.now)) }
+    ensures short { IfOk result (λ v. length v.items < 2 ^ 64) }
+{
+    let mut out = Vec::new(alloc);
+    message.push_to(alloc, &mut out)?;
+    Ok(out)
+}
+
+/// Writes each message in a field of its own. The bytes of one are collected first, in memory that the next one uses again.
+pub(crate) fn push_messages<A: Allocator + Copy, M: Message<A>>(
+    alloc: A,
+    out: &mut Vec<u8, A>,
+    field: u8,
+    messages: &[M],
+) -> Result<(), AllocError>
+    ensures written { let inners = map (λ m. fields_bytes (M.fields m)) (map M.view messages.now) in
+        OnOk result (out.new.items ≡ out.old.items ++ fields_bytes (repeated_fields field inners)) }
+    ensures fits { OnOk result (All M.Fits (map M.view messages.now)) }
+{
+    let mut inner = Vec::new(alloc);
+    for message in messages {
+        inner.clear();
+        message.push_to(alloc, &mut inner)?;
+        push_delimited(out, field, &inner)?;
+    }
+    Ok(())
+}

@@ -1,0 +1,107 @@
+//! The message `StackLog`.
+ghost use Rattle.std.specs.Prelude.{◌≡◌, ◌⊎◌, IfOk, IfErr, Ok, Err};
+ghost use Rattle.warg_protobuf.specs.declared.error.WireError.{WireError as Fault};
+ghost use Rattle.warg_protobuf.specs.declared.error.WireError.TheVariants.{Memory};
+ghost use Rattle.warg_protobuf.specs.Reading.{Gives};
+ghost use Rattle.warg_protobuf.specs.Schema.{message_of};
+ghost use Rattle.warg_protobuf.specs.Spelled.{IsSpelled, FaultStands};
+
+use crate::error::WireError;
+use crate::field::Field;
+use crate::hash_entry::HashEntry;
+use crate::message::{Message, decode_message, encode_message, push_messages, read_element};
+use crate::reader::read_uint32;
+use crate::writer::push_uint32;
+use std::alloc::{AllocError, Allocator, Global};
+
+/// The image of a log that keeps its balanced roots.
+#[derive_where(PartialEq)]
+#[derive(Drop)]
+pub struct StackLog<A: Allocator = Global> {
+    /// The log's length, in entries.
+    pub length: u32,
+    /// The balanced roots, from left to right.
+    pub stack: Vec<HashEntry<A>, A>,
+}
+
+#[tactic(auto, unfolding(crate::specs::StackLog::stack_schema, crate::specs::StackLog::stack_add, crate::specs::StackLog::stack_fields, crate::specs::Schema::last_of, crate::specs::Schema::values))]
+impl<A: Allocator + Copy> Message<A> for StackLog<A> {
+    ghost use Rattle.warg_protobuf.specs.StackLog.{StackImage, stack_view, stack_schema, stack_add, stack_fields, StackFits};
+    ghost use Rattle.warg_protobuf.specs.Adds.{stack_adds};
+
+    ghost Seen = { StackImage };
+
+    ghost view = { stack_view };
+
+    ghost schema = { stack_schema };
+
+    ghost add = { stack_add };
+
+    ghost fields = { stack_fields };
+
+    ghost Fits = { StackFits };
+
+    fn empty(alloc: A) -> Self {
+        StackLog {
+            length: 0,
+            stack: Vec::new(alloc),
+        }
+    }
+
+    fn put(&mut self, alloc: A, field: Field<'_>) -> Result<(), WireError> {
+        match field.number {
+            1 => self.length = read_uint32(field.payload)?,
+            2 => read_element(alloc, &mut self.stack, field.payload)?,
+            _ => {}
+        }
+        Ok(())
+    }
+
+    fn push_to(&self, alloc: A, out: &mut Vec<u8, A>) -> Result<(), AllocError> {
+        push_uint32(out, 1, self.length)?;
+        push_messages(alloc, out, 2, &self.stack)?;
+        Ok(())
+    }
+
+    ghost adds = { stack_adds };
+}
+
+impl<A: Allocator + Copy> StackLog<A> {
+    ghost use Rattle.warg_protobuf.specs.StackLog.{StackImage, stack_view, stack_schema, stack_bytes};
+
+    /// Reads the message that the bytes spell.
+    ///
+    /// # Errors
+    ///
+    /// The first fault of the bytes ([`WireError`]), or `Memory` where a growth was refused. Memory grows with
+    /// the bytes read, and never by a length that they announce.
+    pub fn decode(alloc: A, bytes: &[u8]) -> Result<Self, WireError>
+        // What is read is spelled so.
+        ensures found { IfOk result (λ m. IsSpelled stack_schema bytes.now (stack_view m)) }
+        // What is spelled so is read, unless memory runs out.
+        ensures only { (m : StackImage) → IsSpelled stack_schema bytes.now m → Gives stack_view result (Ok m) }
+        // A fault that is named stands in the bytes.
+        ensures fault { IfErr result (λ e. (e ≡ Memory) ⊎ FaultStands stack_schema bytes.now e) }
+        // A fault that stands in the bytes is named, unless memory runs out.
+        ensures faulty { (e : Fault) → FaultStands stack_schema bytes.now e → Gives stack_view result (Err e) }
+        // All of this as a function of the bytes.
+        ensures exact { Gives stack_view result (message_of stack_schema bytes.now) }
+    {
+        decode_message(alloc, bytes)
+    }
+
+    /// Writes the message in its one written form. The message stays as it was.
+    ///
+    /// # Errors
+    ///
+    /// `AllocError` where a growth was refused.
+    pub fn encode(&self, alloc: A) -> Result<Vec<u8, A>, AllocError>
+        ensures written { IfOk result (λ v. v.items ≡ stack_bytes (stack_view self.now)) }
+        // What is written spells the message.
+        ensures spelled { IfOk result (λ v. IsSpelled stack_schema v.items (stack_view self.now)) }
+        // What is written is read as the same message.
+        ensures again { IfOk result (λ v. message_of stack_schema v.items ≡ Ok (stack_view self.now)) }
+    {
+        encode_message(alloc, self)
+    }
+}
