@@ -21,12 +21,12 @@ use Rattle.warg_map.proofs.Sparse.{bits_total, same_sparse, get-join_nil, get-jo
 find-stripped : (b : Bool) (q : List Bool) (es : List (List Bool × List ℕ)) → find bits_cmp q (stripped b es) ≡ find bits_cmp (b ∷ q) es
 unfolding stripped
 find-stripped b q [] = refl
-find-stripped true q (([] , v) ∷ es) = find-stripped true q es
-find-stripped false q (([] , v) ∷ es) = find-stripped false q es
-find-stripped true q ((true ∷ p , v) ∷ es) = ap (cond (eq_by_cmp bits_cmp q p) (Some v)) (find-stripped true q es)
-find-stripped true q ((false ∷ p , v) ∷ es) = find-stripped true q es
-find-stripped false q ((true ∷ p , v) ∷ es) = find-stripped false q es
-find-stripped false q ((false ∷ p , v) ∷ es) = ap (cond (eq_by_cmp bits_cmp q p) (Some v)) (find-stripped false q es)
+find-stripped true q (([], v) ∷ es) = find-stripped true q es
+find-stripped false q (([], v) ∷ es) = find-stripped false q es
+find-stripped true q ((true ∷ p, v) ∷ es) = ap (cond (eq_by_cmp bits_cmp q p) (Some v)) (find-stripped true q es)
+find-stripped true q ((false ∷ p, v) ∷ es) = find-stripped true q es
+find-stripped false q ((true ∷ p, v) ∷ es) = find-stripped false q es
+find-stripped false q ((false ∷ p, v) ∷ es) = ap (cond (eq_by_cmp bits_cmp q p) (Some v)) (find-stripped false q es)
 
 pub get-after : (b : Bool) (m : SparseMap) (q : List Bool) → get (after b m) q ≡ get m (b ∷ q)
 unfolding after
@@ -88,9 +88,9 @@ not_zero n e z = let x = sym (eq-eqb n 0 z) ∙ e in cc
 
 pub some_held : (m : SparseMap) → HoldsKey m → 0 < len m
 some_held m h = elim (nat_eq (len m) 0) as (λ b. nat_eq (len m) 0 ≡ b → 0 < len m) [
-    | true ↦ λ e. absurd (let x = ap (λ t. contains_key t h.0) (empty_of_len m (eqb-true (len m) 0 e)) in let y : true ≡ false = sym h.1 ∙ x ∙ contains_key-empty h.0 in cc)
-    | false ↦ λ e. (let x = not_zero (len m) e in omega (arith, x))
-  ] refl
+  | true ↦ λ e. absurd (let x = ap (λ t. contains_key t h.0) (empty_of_len m (eqb-true (len m) 0 e)) in let y : true ≡ false = sym h.1 ∙ x ∙ contains_key-empty h.0 in cc)
+  | false ↦ λ e. (let x = not_zero (len m) e in omega (arith, x))
+] refl
 
 -- how many nodes
 is_not : (a b : ℕ) → ¬ (a ≡ b) → nat_eq a b ≡ false

@@ -22,12 +22,12 @@ pub fork_formed : {D A : _} (b : Bool) (near far : ℕ × SparseMap) (f : Fork' 
 fork_formed true near far f h e lt n o =
     record {
       level = (cc, rw (ap (λ d. d.0) h.left, ← e) lt);
-      formed = (subst (λ (d : ℕ × SparseMap). HoldsKey d.1) (sym h.left) o, subst (λ (d : ℕ × SparseMap). HoldsKey d.1) (sym h.right) n)
+      formed = (subst (λ (d : ℕ × SparseMap). HoldsKey d.1) (sym h.left) o, subst (λ (d : ℕ × SparseMap). HoldsKey d.1) (sym h.right) n);
     }
 fork_formed false near far f h e lt n o =
     record {
       level = (cc, rw (ap (λ d. d.0) h.left) lt);
-      formed = (subst (λ (d : ℕ × SparseMap). HoldsKey d.1) (sym h.left) n, subst (λ (d : ℕ × SparseMap). HoldsKey d.1) (sym h.right) o)
+      formed = (subst (λ (d : ℕ × SparseMap). HoldsKey d.1) (sym h.left) n, subst (λ (d : ℕ × SparseMap). HoldsKey d.1) (sym h.right) o);
     }
 
 pub fork_has : {D A : _} (b : Bool) (near far : ℕ × SparseMap) (f : Fork' D A) (key : List ℕ) → IsForkOf b near far f → near.0 ≡ far.0 → near.0 < 256 → bit_at key (255 - near.0) ≡ b → contains_key near.1 (last_bits key near.0) ≡ true → contains_key (held_by (Fork f)) (last_bits key (height_of (Fork f))) ≡ true
@@ -86,7 +86,7 @@ raised_none n key from len h w =
     let e : height_of n ≡ height_of n + len = omega (arith, h) in
     record {
       seen_as = ap (λ j. (j, held_by n)) e ∙ ap (λ m. (height_of n + len, m)) (sym (under-none (held_by n)) ∙ ap (λ t. under t (held_by n)) (sym (bits_from-none key from)) ∙ ap (λ j. under (bits_from key from j) (held_by n)) (sym h));
-      well_formed = w
+      well_formed = w;
     }
 
 pub raised_other : {D A : _} (node : Node D A) (s : Stem' D A) (key : List ℕ) (from len : ℕ) → IsWellFormed node → Carries node → ((x : Stem' D A) → node ≡ Stem x → ⊥) → ¬ (len ≡ 0) → from + len + height_of node ≡ 256 → s.key ≡ key → s.from ≡ from → s.len ≡ len → s.below ≡ seen node → IsSeen (Stem s) (height_of node + len) (under (bits_from key from len) (held_by node))
@@ -95,8 +95,8 @@ raised_other node s key from len w c n z h ek ef el eb =
       seen_as = ap (λ d. (d.0 + s.len, under (bits_from s.key s.from s.len) d.1)) eb ∙ ap (λ j. (height_of node + j, under (bits_from s.key s.from j) (held_by node))) el ∙ ap (λ j. (height_of node + len, under (bits_from s.key j len) (held_by node))) ef ∙ ap (λ j. (height_of node + len, under (bits_from j from len) (held_by node))) ek;
       well_formed = record {
         level = ap (λ j. j + s.len + s.below.0) ef ∙ ap (λ j. from + j + s.below.0) el ∙ ap (λ d. from + len + d.0) eb ∙ h;
-        formed = (omega (arith, el, z), subst (λ (d : ℕ × SparseMap). Splits d.1 ⊎ ((s.len ≡ 1) × (d.0 ≡ 255) × IsLone d.1)) (sym eb) (subst (λ (j : ℕ). Splits (held_by node) ⊎ ((j ≡ 1) × (height_of node ≡ 255) × IsLone (held_by node))) (sym el) (formed_below node from len w c n z h)))
-      }
+        formed = (omega (arith, el, z), subst (λ (d : ℕ × SparseMap). Splits d.1 ⊎ ((s.len ≡ 1) × (d.0 ≡ 255) × IsLone d.1)) (sym eb) (subst (λ (j : ℕ). Splits (held_by node) ⊎ ((j ≡ 1) × (height_of node ≡ 255) × IsLone (held_by node))) (sym el) (formed_below node from len w c n z h)));
+      };
     }
 
 lower_splits : (lower_len k from len : ℕ) (m : SparseMap) → ¬ (len ≡ 0) → from + len + (k + lower_len) ≡ 256 → Splits m ⊎ ((lower_len ≡ 1) × (k ≡ 255) × IsLone m) → Splits m
@@ -118,8 +118,8 @@ stem_more lower s key from len w z h has ek ef el eb =
       seen_as = ap (λ d. (d.0 + s.len, under (bits_from s.key s.from s.len) d.1)) eb ∙ ap (λ j. (k + j, under (bits_from s.key s.from j) m)) el ∙ ap (λ j. (k + (len + l), under (bits_from s.key j (len + l)) m)) ef ∙ ap (λ j. (k + (len + l), under (bits_from j from (len + l)) m)) ek ∙ ap (λ t. (k + (len + l), t)) held ∙ ap (λ j. (j, under (bits_from key from len) (held_by (Stem lower)))) sum;
       well_formed = record {
         level = ap (λ j. j + s.len + s.below.0) ef ∙ ap (λ j. from + j + s.below.0) el ∙ ap (λ d. from + (len + l) + d.0) eb ∙ lev;
-        formed = (omega (arith, el, z), inl (subst (λ (d : ℕ × SparseMap). Splits d.1) (sym eb) (lower_splits l k from len m z h w.formed.1)))
-      }
+        formed = (omega (arith, el, z), inl (subst (λ (d : ℕ × SparseMap). Splits d.1) (sym eb) (lower_splits l k from len m z h w.formed.1)));
+      };
     }
 
 pub raised_stem : {D A : _} (node : Node D A) (lower s : Stem' D A) (key : List ℕ) (from len : ℕ) → node ≡ Stem lower → IsWellFormed node → ¬ (len ≡ 0) → from + len + height_of node ≡ 256 → contains_key (held_by node) (last_bits key (height_of node)) ≡ true → s.key ≡ key → s.from ≡ from → s.len ≡ len + lower.len → s.below ≡ lower.below → IsSeen (Stem s) (height_of node + len) (under (bits_from key from len) (held_by node))

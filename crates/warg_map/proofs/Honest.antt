@@ -43,9 +43,9 @@ peer_there H peers before os o i e place few =
     let at : length peers - 1 - length before ≡ i - (256 - length peers) = omega (arith, n, place, few) in
     there (nat_lt i (256 - length peers)) _ _ (not_lt i (256 - length peers) (omega (arith, n, place, few)))
     ∙ ap (λ x. unwrap_or x (empty_root H i))
-      (sym (ap (λ j. get_or peers j None) at)
-      ∙ sym (get_or-reverse peers (length before) None (omega (arith, n)))
-      ∙ ap (λ xs. get_or xs (length before) None) e ∙ at_end before o os)
+    (sym (ap (λ j. get_or peers j None) at)
+    ∙ sym (get_or-reverse peers (length before) None (omega (arith, n)))
+    ∙ ap (λ xs. get_or xs (length before) None) e ∙ at_end before o os)
 
 other_none : (H : List ℕ → List ℕ) (k : ℕ) (m : List Bool → Option (List ℕ)) → ((q : List Bool) → m q ≡ None) → root_of H k m ≡ empty_root H k
 other_none H k m h = root-same H k m (λ q. None) h ∙ root-nothing H k

@@ -26,13 +26,13 @@ inserts_fork old b p v k m o near far f fresh was n e lt ho h is =
     let same : near.0 ≡ far.0 = ap (λ d. d.0) n ∙ sym (ap (λ d. d.0) e) in
     record {
       seen_as =
-        fork_held b near far f h same
-        ∙ ap (λ d. (d.0 + 1, join_at b d.1 far.1)) n
-        ∙ ap (λ d. (k + 1, join_at b (insert m p v) d.1)) e
-        ∙ ap (λ d. (k + 1, d)) (sym (insert-join_at b m o p v))
-        ∙ sym (ap (λ d. (d.0, insert d.1 (b ∷ p) v)) was);
+          fork_held b near far f h same
+          ∙ ap (λ d. (d.0 + 1, join_at b d.1 far.1)) n
+          ∙ ap (λ d. (k + 1, join_at b (insert m p v) d.1)) e
+          ∙ ap (λ d. (k + 1, d)) (sym (insert-join_at b m o p v))
+          ∙ sym (ap (λ d. (d.0, insert d.1 (b ∷ p) v)) was);
       well_formed = fork_formed b near far f h same (rw (ap (λ d. d.0) n) lt) (subst (λ (d : ℕ × SparseMap). HoldsKey d.1) (sym n) (p, contains_key-insert_same m p v)) (subst (λ (d : ℕ × SparseMap). HoldsKey d.1) (sym e) ho);
-      is_fresh = is ∙ ap not (sym (contains_key-join_at b m o p)) ∙ ap (λ d. not (contains_key d.1 (b ∷ p))) (sym was)
+      is_fresh = is ∙ ap not (sym (contains_key-join_at b m o p)) ∙ ap (λ d. not (contains_key d.1 (b ∷ p))) (sym was);
     }
 
 into_fork : {D A : _} (f0 : Fork' D A) (b : Bool) (p : List Bool) (v : List ℕ) (child node : Node D A) (fresh : Bool) (f : Fork' D A) (link : ℕ × SparseMap) → IsWellFormed (Fork f0) → seen child ≡ (cond b f0.right f0.left) → Inserts child p v node fresh → link ≡ seen node → IsForkOf b link (cond b f0.left f0.right) f → Inserts (Fork f0) (b ∷ p) v (Fork f) fresh
@@ -55,7 +55,7 @@ replaces_leaf old x v e =
     record {
       seen_as = ap (λ m. (0, m)) (sym (insert-again empty [] x v)) ∙ sym (ap (λ d. (d.0, insert d.1 [] v)) e);
       well_formed = record { level = tt; formed = tt };
-      is_fresh = ap not (sym (contains_key-insert_same empty [] x)) ∙ sym (ap (λ d. absent d.1 []) e)
+      is_fresh = ap not (sym (contains_key-insert_same empty [] x)) ∙ sym (ap (λ d. absent d.1 []) e);
     }
 
 pub inserts_leaf : {D A : _} (old : Node D A) (bits : List Bool) (x v : List ℕ) → old ≡ Leaf x → bits ≡ [] → Inserts old bits v (Leaf v) false
@@ -70,13 +70,13 @@ pub inserts_same : {D A : _} (s new : Lone) (v : List ℕ) (bits : List Bool) �
 inserts_same s new v bits w e f h x =
     record {
       seen_as =
-        ap (λ j. (j, insert empty (last_bits new.key new.height) new.value)) h
-        ∙ ap (λ q. (s.height, insert empty q new.value)) f
-        ∙ ap (λ y. (s.height, insert empty bits y)) x
-        ∙ ap (λ m. (s.height, m)) (sym (insert-again empty bits s.value v))
-        ∙ ap (λ q. (s.height, insert (insert empty q s.value) bits v)) (sym e);
+          ap (λ j. (j, insert empty (last_bits new.key new.height) new.value)) h
+          ∙ ap (λ q. (s.height, insert empty q new.value)) f
+          ∙ ap (λ y. (s.height, insert empty bits y)) x
+          ∙ ap (λ m. (s.height, m)) (sym (insert-again empty bits s.value v))
+          ∙ ap (λ q. (s.height, insert (insert empty q s.value) bits v)) (sym e);
       well_formed = record { level = omega (arith, h, w); formed = omega (arith, h, w) };
-      is_fresh = ap not (sym (contains_key-insert_same empty bits s.value)) ∙ ap (λ q. absent (insert empty q s.value) bits) (sym e)
+      is_fresh = ap not (sym (contains_key-insert_same empty bits s.value)) ∙ ap (λ q. absent (insert empty q s.value) bits) (sym e);
     }
 
 -- the bits of a path whose first bit was taken
@@ -96,7 +96,7 @@ parts old n a b c cs p m v h was apart new w =
     record {
       seen_as = new ∙ ap (λ t. (h, t)) (sym (insert-under_apart a b c cs p m v apart)) ∙ sym (ap (λ d. (d.0, insert d.1 (a ++ b ∷ p) v)) was);
       well_formed = w;
-      is_fresh = ap (λ o. not (is_some o)) (sym (get-under_apart a b c cs p m apart)) ∙ sym (ap (λ d. absent d.1 (a ++ b ∷ p)) was)
+      is_fresh = ap (λ o. not (is_some o)) (sym (get-under_apart a b c cs p m apart)) ∙ sym (ap (λ d. absent d.1 (a ++ b ∷ p)) was);
     }
 
 -- the bits of one digest part from those of another after j bits
@@ -113,9 +113,9 @@ inserts_parted old n bits one key v from j len rest k m far was e lt whole same 
     let height : 256 - from ≡ len + k = omega (arith, whole) in
     rw mine
     (parts old n a b (bit_at one (from + j)) cs p m v (len + k)
-      (was ∙ ap (λ t. (len + k, under t m)) split) apart
-      (h.seen_as ∙ ap (λ i. (i, under a (join_at b (insert empty (last_bits key far.0) v) far.1))) height ∙ ap (λ q. (len + k, under a (join_at b (insert empty q v) far.1))) low ∙ ap (λ t. (len + k, under a (join_at b (insert empty p v) t))) fm)
-      h.well_formed)
+    (was ∙ ap (λ t. (len + k, under t m)) split) apart
+    (h.seen_as ∙ ap (λ i. (i, under a (join_at b (insert empty (last_bits key far.0) v) far.1))) height ∙ ap (λ q. (len + k, under a (join_at b (insert empty q v) far.1))) low ∙ ap (λ t. (len + k, under a (join_at b (insert empty p v) t))) fm)
+    h.well_formed)
 
 pub lone_parted : {D A : _} (s : Lone) (n : Node D A) (bits : List Bool) (key v : List ℕ) (from j : ℕ) (far : ℕ × SparseMap) → bits ≡ bits_from key from s.height → j < s.height → from + s.height ≡ 256 → bits_from s.key from j ≡ bits_from key from j → ¬ (bit_at s.key (from + j) ≡ bit_at key (from + j)) → far ≡ (s.height - j - 1, insert empty (last_bits s.key (s.height - j - 1)) s.value) → IsSeen n (256 - from) (under (bits_from key from j) (join_at (bit_at key (from + j)) (insert empty (last_bits key far.0) v) far.1)) → Inserts (Singleton s) bits v n true
 lone_parted s n bits key v from j far e lt whole same apart fs h =
@@ -164,7 +164,7 @@ inserts_below old s below node n bits low key hash v from len index fresh is w h
     (record {
       seen_as = h.seen_as ∙ ap (λ d. (d.0 + len, under a d.1)) new ∙ ap (λ t. (k + len, t)) (sym (insert-under a p m v)) ∙ sym (ap (λ d. (d.0, insert d.1 (a ++ p) v)) held);
       well_formed = h.well_formed;
-      is_fresh = ins.is_fresh ∙ ap (λ d. absent d.1 low) b ∙ ap (absent m) lowk ∙ ap (λ o. not (is_some o)) (sym (get-under a p m)) ∙ sym (ap (λ d. absent d.1 (a ++ p)) held)
+      is_fresh = ins.is_fresh ∙ ap (λ d. absent d.1 low) b ∙ ap (absent m) lowk ∙ ap (λ o. not (is_some o)) (sym (get-under a p m)) ∙ sym (ap (λ d. absent d.1 (a ++ p)) held);
     })
 
 -- what was inserted is held
@@ -190,5 +190,5 @@ inserts_first old n k s bits key hash v index is w height e kh ek eh ev h =
     (record {
       seen_as = h.seen_as ∙ ap (λ j. (j + 1, under a (insert empty (last_bits s.key s.height) s.value))) eh ∙ ap (λ m. (256, under a m)) low ∙ ap (λ m. (256, m)) (sym (lone-append a p v)) ∙ sym (ap (λ d. (d.0, insert d.1 (a ++ p) v)) was);
       well_formed = h.well_formed;
-      is_fresh = ap not (sym (contains_key-empty (a ++ p))) ∙ sym (ap (λ d. absent d.1 (a ++ p)) was)
+      is_fresh = ap not (sym (contains_key-empty (a ++ p))) ∙ sym (ap (λ d. absent d.1 (a ++ p)) was);
     })

@@ -36,8 +36,8 @@ proves_lone H h p v lt = record {
   peers_from_top = λ q n. get-insert bits_total empty p v q ∙ ap (cond (eq_by_cmp bits_cmp q p) (Some v)) (get-empty bits_cmp q) ∙ tied_or_none (eq_by_cmp bits_cmp q p) p q v (tied q p) n;
   count = record {
     above = λ q c n. absurd (n (tied q p (lone_tied p q v c)));
-    reached = inl (sym (not_high h lt), λ q c. tied q p (lone_tied p q v c))
-  }
+    reached = inl (sym (not_high h lt), λ q c. tied q p (lone_tied p q v c));
+  };
 }
 
 -- what a join holds
@@ -72,8 +72,8 @@ above_join : (L : ℕ) (b : Bool) (near far : SparseMap) (p : List Bool) (n : �
 above_join L b near far p n h q c ne =
     elim (join_holds b near far q c) [
       | inl w ↦ let x : shared (b ∷ p) q ≡ suc (shared p w.0) = ap (shared (b ∷ p)) w.1 ∙ shared_same b p w.0 in
-                let y : shared p w.0 < n = h.above w.0 w.2 (λ e. ne (w.1 ∙ ap (λ t. b ∷ t) e)) in
-                omega (arith, x, y)
+          let y : shared p w.0 < n = h.above w.0 w.2 (λ e. ne (w.1 ∙ ap (λ t. b ∷ t) e)) in
+          omega (arith, x, y)
       | inr w ↦ let x : shared (b ∷ p) q ≡ 0 = ap (shared (b ∷ p)) w.1 ∙ shared_other b p w.0 in omega (arith, x)
     ]
 
@@ -83,19 +83,22 @@ fork_count L b near far p n o h = record {
   reached = elim h.reached [
     | inl w ↦ inr (not b ∷ o.0, holds_far b near far o.0 o.1, other_head b p o.0, ap (λ x. x + 1) (w.0 ∙ sym (shared_other b p o.0)))
     | inr w ↦ inr (b ∷ w.0, holds_near b near far w.0 w.1, (λ e. w.2 (tail_same _ _ _ _ e)), (let x = shared_same b p w.0 in omega (arith, x, w.3)))
-  ]
+  ];
 }
 
 step_count : (L : ℕ) (b : Bool) (near : SparseMap) (p : List Bool) (n : ℕ) → IsPeerCount L near p n → IsPeerCount (L + 1) (join_at b near empty) (b ∷ p) (n + 1)
 step_count L b near p n h = record {
   above = above_join L b near empty p n h;
   reached = elim h.reached [
-    | inl w ↦ inl (ap (λ x. x + 1) w.0, λ q c. elim (join_holds b near empty q c) [
+    | inl w ↦ inl (
+      ap (λ x. x + 1) w.0,
+      λ q c. elim (join_holds b near empty q c) [
         | inl x ↦ x.1 ∙ ap (λ t. b ∷ t) (w.1 x.0 x.2)
         | inr x ↦ absurd (no_some _ (get-empty bits_cmp x.0) x.2)
-      ])
+      ],
+    )
     | inr w ↦ inr (b ∷ w.0, holds_near b near empty w.0 w.1, (λ e. w.2 (tail_same _ _ _ _ e)), (let x = shared_same b p w.0 in omega (arith, x, w.3)))
-  ]
+  ];
 }
 
 stem_count : (L : ℕ) (a : List Bool) (m : SparseMap) (p : List Bool) (n : ℕ) → IsPeerCount L m p n → IsPeerCount (L + length a) (under a m) (a ++ p) (n + length a)
@@ -117,7 +120,7 @@ cancel (x ∷ a) p q e = cancel a p q (tail_same _ _ _ _ e)
 recount : (L L' : ℕ) (m : SparseMap) (bits : List Bool) (n : ℕ) → ((n ≡ L) → ((q : List Bool) → IsTrue (contains_key m q) → q ≡ bits) → n ≡ L') → IsPeerCount L m bits n → IsPeerCount L' m bits n
 recount L L' m bits n f h = record {
   above = h.above;
-  reached = elim h.reached [ inl w ↦ inl (f w.0 w.1, w.1) | inr w ↦ inr w ]
+  reached = elim h.reached [ inl w ↦ inl (f w.0 w.1, w.1) | inr w ↦ inr w ];
 }
 
 splits_two : (a : List Bool) (m : SparseMap) (bits : List Bool) → Splits m → ((q : List Bool) → IsTrue (contains_key (under a m) q) → q ≡ bits) → ⊥
@@ -162,7 +165,7 @@ stem_peers H [] p m ps h = subst (λ (x : List (Option (List ℕ))). IsPeers H (
 stem_peers H (b ∷ a) p m ps h =
     subst (λ (x : List (Option (List ℕ))). IsPeers H (get (join_at b (under a m) empty)) (b ∷ (a ++ p)) (reverse x)) (append_assoc ps (empty_peers H (length p) (length a)) _)
     (join_peers H b (under a m) empty (a ++ p) (ps ++ empty_peers H (length p) (length a)) (empty_root H (length p + length a))
-      (ap (empty_root H) (sym (length-append-list a p)) ∙ sym (sparse_root-empty H (length (a ++ p)))) (stem_peers H a p m ps h))
+    (ap (empty_root H) (sym (length-append-list a p)) ∙ sym (sparse_root-empty H (length (a ++ p)))) (stem_peers H a p m ps h))
 
 pub length_peers : {A : Type 0} (xs ys : List A) → length (xs ++ ys) ≡ length xs + length ys
 length_peers [] ys = let e : length ys ≡ 0 + length ys = omega arith in e
@@ -178,7 +181,7 @@ fork_proves : (H : List ℕ → List ℕ) (h k : ℕ) (b : Bool) (near far : Spa
 fork_proves H h k b near far p ps d lt o e pr = record {
   held = holds_near b near far p pr.held;
   peers_from_top = join_peers H b near far p ps d e pr.peers_from_top;
-  count = subst (IsPeerCount (lone_peers h) (join_at b near far) (b ∷ p)) (sym (length_peers ps (Some d ∷ []))) (fork_count (lone_peers h) b near far p (length ps) o (subst (λ (j : ℕ). IsPeerCount j near p (length ps)) (not_high k lt) pr.count))
+  count = subst (IsPeerCount (lone_peers h) (join_at b near far) (b ∷ p)) (sym (length_peers ps (Some d ∷ []))) (fork_count (lone_peers h) b near far p (length ps) o (subst (λ (j : ℕ). IsPeerCount j near p (length ps)) (not_high k lt) pr.count));
 }
 
 in_fork : {D A : _} (H : List ℕ → List ℕ) (f : Fork' D A) (b : Bool) (p : List Bool) (ps : List (Option (List ℕ))) (d : List ℕ) (child x : ℕ × SparseMap) → IsWellFormed (Fork f) → length p ≡ f.left.0 → child ≡ (cond b f.right f.left) → x ≡ (cond (not b) f.right f.left) → d ≡ sparse_root H x.0 x.1 → Proves H child.0 child.1 p ps → Proves H (height_of (Fork f)) (held_by (Fork f)) (b ∷ p) (ps ++ Some d ∷ [])
@@ -218,7 +221,7 @@ proves_stem H old below s bits low key from len index low_height ps new is w e h
     let all : Proves H (k + len) (under a m) (a ++ low) new = rw peers (record {
       held = ap is_some (get-under a low m) ∙ below_pr.held;
       peers_from_top = stem_peers H a low m ps below_pr.peers_from_top;
-      count = subst (IsPeerCount (lone_peers (k + len)) (under a m) (a ++ low)) count (below_count len k a m low (length ps) (subst (λ (j : ℕ). Splits m ⊎ ((j ≡ 1) × (k ≡ 255) × IsLone m)) (sym el) ws.formed.1) la below_pr.count)
+      count = subst (IsPeerCount (lone_peers (k + len)) (under a m) (a ++ low)) count (below_count len k a m low (length ps) (subst (λ (j : ℕ). Splits m ⊎ ((j ≡ 1) × (k ≡ 255) × IsLone m)) (sym el) ws.formed.1) la below_pr.count);
     }) in
     rw (stem_bits old s bits low key from len index is w e height el lo ix)
     (subst (λ (d : ℕ × SparseMap). Proves H d.0 d.1 (a ++ low) new) (sym (stem_held old s key from len is w height el same)) all)

@@ -111,10 +111,10 @@ again false x y z = refl
 pub insert-again : (m : SparseMap) (p : List Bool) (v w : List ℕ) → insert (insert m p v) p w ≡ insert m p w
 insert-again m p v w =
     same_sparse _ _ (λ q.
-      get-insert bits_total (insert m p v) p w q
-      ∙ ap (cond (eq_by_cmp bits_cmp q p) (Some w)) (get-insert bits_total m p v q)
-      ∙ again (eq_by_cmp bits_cmp q p) (Some w) (Some v) (get m q)
-      ∙ sym (get-insert bits_total m p w q))
+    get-insert bits_total (insert m p v) p w q
+    ∙ ap (cond (eq_by_cmp bits_cmp q p) (Some w)) (get-insert bits_total m p v q)
+    ∙ again (eq_by_cmp bits_cmp q p) (Some w) (Some v) (get m q)
+    ∙ sym (get-insert bits_total m p w q))
 
 -- roots
 pub root-nothing : (H : List ℕ → List ℕ) (k : ℕ) → root_of H k (λ q. None) ≡ empty_root H k

@@ -6,11 +6,11 @@ use Rattle.warg_map.specs.Sparse.{SparseMap}
 -- The entries whose bits begin with a bit, without it.
 unfoldable pub stripped : Bool → List (List Bool × List ℕ) → List (List Bool × List ℕ)
 stripped b [] = []
-stripped b (([] , v) ∷ es) = stripped b es
-stripped true ((true ∷ q , v) ∷ es) = (q, v) ∷ stripped true es
-stripped true ((false ∷ q , v) ∷ es) = stripped true es
-stripped false ((true ∷ q , v) ∷ es) = stripped false es
-stripped false ((false ∷ q , v) ∷ es) = (q, v) ∷ stripped false es
+stripped b (([], v) ∷ es) = stripped b es
+stripped true ((true ∷ q, v) ∷ es) = (q, v) ∷ stripped true es
+stripped true ((false ∷ q, v) ∷ es) = stripped true es
+stripped false ((true ∷ q, v) ∷ es) = stripped false es
+stripped false ((false ∷ q, v) ∷ es) = (q, v) ∷ stripped false es
 
 -- What a map holds after a bit.
 unfoldable pub after : Bool → SparseMap → SparseMap

@@ -1,11 +1,12 @@
 //! The way of a key digest through the tree, as the sides that its bits choose.
 
-ghost use Rattle.std.specs.Prelude.{◌≡◌, ℕ, ◌+◌, ◌-◌, ◌<◌, ◌≤◌, not};
+ghost use Rattle.std.specs.Prelude.{◌≡◌, ℕ, ◌+◌, ◌-◌, ◌<◌, ◌≤◌, ◌∷◌, ◌++◌, not, if◌then◌else◌};
 ghost use Rattle.warg_map.specs.Bits.{bit_at, bits_from};
 ghost use Rattle.warg_map.specs.Side.{side_bit};
 
 use std::alloc::AllocError;
-use warg_crypto::Hash;
+use warg_crypto::{Hash, SupportedDigest};
+use warg_log::hash_branch;
 
 /// A side of a fork: the one that a bit of a key digest chooses.
 #[derive(Clone, Copy, Debug, PartialEq, Eq, Hash)]
@@ -24,6 +25,18 @@ impl Side {
         match self {
             Side::Left => Side::Right,
             Side::Right => Side::Left,
+        }
+    }
+}
+
+impl Side {
+    /// The digest of the branch with `near` on this side and `far` on the other.
+    pub(crate) fn branch<D: SupportedDigest>(&self, near: &Hash<D>, far: &Hash<D>) -> Hash<D>
+        ensures { result ≡ D.digest (1 ∷ (if side_bit self.now then far.now ++ near.now else near.now ++ far.now)) }
+    {
+        match self {
+            Side::Left => hash_branch(near, far),
+            Side::Right => hash_branch(far, near),
         }
     }
 }
