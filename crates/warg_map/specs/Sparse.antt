@@ -29,6 +29,10 @@ root_of H (suc k) held = H (1 ∷ (root_of H k (λ bits. held (false ∷ bits)) 
 abbrev pub sparse_root : (List ℕ → List ℕ) → ℕ → SparseMap → List ℕ
 sparse_root H k m = root_of H k (get m)
 
+-- The leaf digest of bits: the one that is held, or else that of an empty leaf.
+abbrev pub leaf_at : (List ℕ → List ℕ) → SparseMap → List Bool → List ℕ
+leaf_at H m bits = unwrap_or (get m bits) (empty_root H 0)
+
 -- The digest of a leaf: H(00 ++ value).
 abbrev pub leaf_digest : (List ℕ → List ℕ) → List ℕ → List ℕ
 leaf_digest H value = H (0 ∷ value)

@@ -5,5 +5,7 @@ mod fork;
 mod link;
 mod node;
 mod path;
+mod proof;
 mod singleton;
 mod stem;
+pub use proof::Proof;
