@@ -43,6 +43,14 @@ finds_lone old s bits r is e h = ap Some h ∙ sym (ap (λ n. get (held_by n) bi
 pub finds_leaf : {D A : _} (old : Node D A) (x : List ℕ) (bits : List Bool) (r : List ℕ) → old ≡ Leaf x → bits ≡ [] → r ≡ x → Some r ≡ get (held_by old) bits
 finds_leaf old x bits r is e h = ap Some h ∙ sym (ap (λ n. get (held_by n) bits) is ∙ ap (get (insert empty [] x)) e ∙ get-lone [] x)
 
+-- a path that shares all the bits of a lone key
+pub lone_same : {D A : _} (old : Node D A) (s : Lone) (hash : List ℕ) (from j : ℕ) → old ≡ Singleton s → height_of old + from ≡ 256 → j ≡ s.height → bits_from s.key from j ≡ bits_from hash from j → last_bits hash (256 - from) ≡ last_bits s.key s.height
+lone_same old s hash from j is height all same =
+    let hs : s.height + from ≡ 256 = sym (ap (λ d. height_of d + from) is) ∙ height in
+    let n : 256 - from ≡ s.height = omega (arith, hs) in
+    let whole : from + s.height ≡ 256 = omega (arith, hs) in
+    ap (last_bits hash) n ∙ last_bits-at hash from s.height whole ∙ ap (bits_from hash from) (sym all) ∙ sym same ∙ ap (bits_from s.key from) all ∙ sym (last_bits-at s.key from s.height whole)
+
 finds_parted : (m held : SparseMap) (bits : List Bool) (one key : List ℕ) (from j len k : ℕ) → held ≡ under (bits_from one from len) m → bits ≡ bits_from key from (len + k) → j < len → bits_from one from j ≡ bits_from key from j → ¬ (bit_at one (from + j) ≡ bit_at key (from + j)) → None ≡ get held bits
 finds_parted m held bits one key from j len k was e lt same apart =
     let a = bits_from key from j in

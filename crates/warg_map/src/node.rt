@@ -8,7 +8,8 @@ ghost use Rattle.warg_map.specs.Under.{join_at, under, HoldsKey};
 
 use crate::fork::Fork;
 use crate::link::Link;
-use crate::path::{Path, side_at};
+use crate::path::{Path, Side, side_at};
+use crate::proof::Proof;
 use crate::singleton::Singleton;
 use crate::stem::Stem;
 use std::alloc::{AllocError, Allocator, Global};
@@ -166,6 +167,123 @@ impl<D: SupportedDigest, A: Allocator + Copy> Node<D, A> {
                 let (node, fresh) = stem.below.node().insert(alloc, path, value)?;
                 Ok((Node::raised(alloc, &key, from, shared, node)?, fresh))
             }
+        }
+    }
+}
+
+impl<D: SupportedDigest, A: Allocator> Node<D, A> {
+    ghost use Rattle.warg_map.specs.Path.{bits_left};
+    ghost use Rattle.warg_map.specs.Seen.{height_of, held_by, IsWellFormed};
+
+    /// The leaf digest that is held under the bits that the path has left.
+    pub(crate) fn find(&self, mut path: Path<'_, D>) -> Option<Hash<D>>
+        requires well_formed { IsWellFormed self.now }
+        requires height { height_of self.now + path.index ≡ 256 }
+        ensures { result ≡ map.get (held_by self.now) (bits_left path.entry) }
+    {
+        match self {
+            Node::Leaf(hash) => Some(hash.copied()),
+            Node::Empty(_) => None,
+            Node::Fork(fork) => {
+                let Some(side) = path.next() else {
+                    unreachable!()
+                };
+                fork[side].node().find(path)
+            }
+            Node::Singleton(singleton) => {
+                if singleton.shared_with(&path) < singleton.height() {
+                    return None;
+                }
+                Some(singleton.value().copied())
+            }
+            Node::Stem(stem) => {
+                if stem.shared_with(&path) < stem.len {
+                    return None;
+                }
+                path.advance(stem.len);
+                stem.below.node().find(path)
+            }
+        }
+    }
+}
+
+impl<D: SupportedDigest, A: Allocator + Copy> Node<D, A> {
+    ghost use Rattle.std.specs.Prelude.{MatchOption, false, length, IfSome};
+    ghost use Rattle.warg_map.specs.Path.{bits_left};
+    ghost use Rattle.warg_map.specs.Peers.{Proves};
+    ghost use Rattle.warg_map.specs.Shown.{peers_of};
+    ghost use Rattle.warg_map.specs.Seen.{height_of, held_by, IsWellFormed};
+
+    /// The proof that the bits that the path has left are held, or `None` exactly where they aren't.
+    pub fn prove<K, V>(&self, alloc: A, mut path: Path<'_, D>) -> Result<Option<Proof<D, K, V, A>>, AllocError>
+        requires well_formed { IsWellFormed self.now }
+        requires height { height_of self.now + path.index ≡ 256 }
+        ensures answer { IfOk result (λ o.
+            MatchOption o
+            (map.contains_key (held_by self.now) (bits_left path.entry) ≡ false)
+            (λ p. Proves D.digest (height_of self.now) (held_by self.now) (bits_left path.entry) (peers_of p))) }
+        ensures few { IfOk result (λ o. IfSome o (λ p. length (peers_of p) ≤ height_of self.now)) }
+    {
+        match self {
+            Node::Leaf(_) => Ok(Some(Proof::new(Vec::new(alloc)))),
+            Node::Empty(_) => Ok(None),
+            Node::Fork(fork) => {
+                let Some(side) = path.next() else {
+                    unreachable!()
+                };
+                let Some(mut proof) = fork[side].node().prove(alloc, path)? else {
+                    return Ok(None);
+                };
+                proof.push(Some(fork[side.opposite()].hash().copied()))?;
+                Ok(Some(proof))
+            }
+            Node::Singleton(singleton) => {
+                if singleton.shared_with(&path) < singleton.height() {
+                    return Ok(None);
+                }
+                Ok(Some(Proof::new(Vec::new(alloc))))
+            }
+            Node::Stem(stem) => {
+                if stem.shared_with(&path) < stem.len {
+                    return Ok(None);
+                }
+                path.advance(stem.len);
+                let Some(mut proof) = stem.below.node().prove(alloc, path)? else {
+                    return Ok(None);
+                };
+                proof.push_empties(256 - stem.from - stem.len, stem.len)?;
+                Ok(Some(proof))
+            }
+        }
+    }
+}
+
+impl<D: SupportedDigest, A: Allocator> Node<D, A> {
+    ghost use Rattle.std.specs.Prelude.{◌*◌, ◌^◌, ◌⊎◌, false};
+    ghost use Rattle.warg_map.specs.Under.{Splits};
+    ghost use Rattle.warg_map.specs.Count.{nodes};
+    ghost use Rattle.warg_map.specs.Seen.{height_of, held_by, IsWellFormed};
+
+    /// The number of nodes of a tree that holds a key, and more than one where it is the whole tree of 256 levels.
+    pub(crate) fn count(&self) -> u128
+        requires well_formed { IsWellFormed self.now }
+        requires some { 0 < map.len (held_by self.now) }
+        requires more { (height_of self.now < 256) ⊎ (1 < map.len (held_by self.now)) }
+        requires fits { map.len (held_by self.now) < 2 ^ 64 }
+        ensures exact { result ≡ nodes (height_of self.now) (held_by self.now) false }
+        ensures few { result + 2 ≤ 3 * map.len (held_by self.now) }
+        ensures fewer { Splits (held_by self.now) → result + 3 ≤ 3 * map.len (held_by self.now) }
+    {
+        match self {
+            Node::Leaf(_) => 1,
+            Node::Singleton(_) => 1,
+            Node::Empty(_) => 1,
+            Node::Fork(fork) => {
+                let left = fork[Side::Left].node().count();
+                let right = fork[Side::Right].node().count();
+                1 + left + right
+            }
+            Node::Stem(stem) => 1 + stem.below.node().count(),
         }
     }
 }
