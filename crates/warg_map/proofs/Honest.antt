@@ -4,12 +4,14 @@ use Rattle.std.proofs.lemmas.List.{get_or-reverse, length-reverse}
 use Rattle.std.proofs.lemmas.Bool.{lt-ltb, ltb-true}
 use Rattle.std.proofs.Math.ListN.{get_or}
 use Rattle.std.specs.Prelude.{reverse, slice_index_or}
-use Rattle.std.specs.FinMap.{get, contains_key}
+use Rattle.std.specs.FinMap.{get, insert, contains_key, get-insert}
+use Rattle.std.specs.Ordering.{eq_by_cmp}
 use Rattle.warg_crypto.specs.EmptyTrees.{empty_root}
-use Rattle.warg_map.specs.Sparse.{SparseMap, root_of, sparse_root}
+use Rattle.warg_map.specs.Sparse.{SparseMap, bits_cmp, root_of, sparse_root}
 use Rattle.warg_map.specs.ProofValue.{peer_of, proof_value}
 use Rattle.warg_map.specs.Peers.{IsPeers, IsAbsentPeers, IsOther, Proves, ProvesAbsent}
-use Rattle.warg_map.proofs.Sparse.{root-nothing, root-same}
+use Rattle.warg_map.proofs.Sparse.{bits_total, same_sparse, root-nothing, root-same, tied_itself_bits}
+use Rattle.warg_map.proofs.Finds.{tied}
 use Rattle.warg_map.proofs.Peers.{length_peers}
 
 -- peers from the top by which the tree over the bits is known: each stands for the other half, and below the last nothing else is held
@@ -99,12 +101,48 @@ explains_absent H bits m [] h = λ q _. h q
 explains_absent H [] m (o ∷ os) h = h
 explains_absent H (b ∷ bits) m (o ∷ os) h = (explains_other H (length bits) (λ q. m (not b ∷ q)) o h.0, explains_absent H bits (λ q. m (b ∷ q)) os h.1)
 
--- a proof of a held key, with the leaf digest that is held
-pub honest_held : (H : List ℕ → List ℕ) (h : ℕ) (bits : List Bool) (m : SparseMap) (peers : List (Option (List ℕ))) (v : List ℕ) → length bits ≡ 256 → length peers ≤ 256 → Proves H h m bits peers → get m bits ≡ Some v → proof_value H peers v bits ≡ sparse_root H 256 m
-honest_held H h bits m peers v n few p e =
+-- what is held beside the bits decides what explains them
+pub explains_alike : (H : List ℕ → List ℕ) (bits : List Bool) (m n : List Bool → Option (List ℕ)) (os : List (Option (List ℕ))) → ((q : List Bool) → ¬ (q ≡ bits) → n q ≡ m q) → Explains H m bits os → Explains H n bits os
+unfolding Explains
+explains_alike H bits m n [] same h = λ q other. same q other ∙ h q other
+explains_alike H [] m n (o ∷ os) same h = h
+explains_alike H (b ∷ bits) m n (o ∷ os) same h =
+    ( h.0 ∙ sym (root-same H (length bits) (λ q. n (not b ∷ q)) (λ q. m (not b ∷ q)) (λ q. same (not b ∷ q) (head_differs b q bits)))
+    , explains_alike H bits (λ q. m (b ∷ q)) (λ q. n (b ∷ q)) os (λ q other. same (b ∷ q) (λ e. other (tail_is b q bits e))) h.1)
+
+untied : (b : Bool) (x y : Option (List ℕ)) → (b ≡ true → ⊥) → cond b x y ≡ y
+untied true x y h = absurd (h refl)
+untied false x y h = refl
+
+pub get-insert_other : (m : SparseMap) (p q : List Bool) (x : List ℕ) → ¬ (q ≡ p) → get (insert m p x) q ≡ get m q
+get-insert_other m p q x h = get-insert bits_total m p x q ∙ untied (eq_by_cmp bits_cmp q p) (Some x) (get m q) (λ e. h (tied q p e))
+
+some_tied : (b : Bool) (x : List ℕ) (o : Option (List ℕ)) → b ≡ true → cond b (Some x) o ≡ Some x
+some_tied true x o e = refl
+some_tied false x o e = cc
+
+pub get-insert_same : (m : SparseMap) (p : List Bool) (x : List ℕ) → get (insert m p x) p ≡ Some x
+get-insert_same m p x = get-insert bits_total m p x p ∙ some_tied (eq_by_cmp bits_cmp p p) x (get m p) (tied_itself_bits p)
+
+held_again : (b : Bool) (x : List ℕ) (o : Option (List ℕ)) → (b ≡ true → o ≡ Some x) → cond b (Some x) o ≡ o
+held_again true x o h = sym (h refl)
+held_again false x o h = refl
+
+pub insert_held : (m : SparseMap) (p : List Bool) (x : List ℕ) → get m p ≡ Some x → insert m p x ≡ m
+insert_held m p x h = same_sparse (insert m p x) m (λ q. get-insert bits_total m p x q ∙ held_again (eq_by_cmp bits_cmp q p) x (get m q) (λ e. ap (get m) (tied q p e) ∙ h))
+
+-- a proof of held bits, from any leaf digest
+pub honest_replaced : (H : List ℕ → List ℕ) (h : ℕ) (bits : List Bool) (m : SparseMap) (peers : List (Option (List ℕ))) (x : List ℕ) → length bits ≡ 256 → length peers ≤ 256 → Proves H h m bits peers → proof_value H peers x bits ≡ sparse_root H 256 (insert m bits x)
+honest_replaced H h bits m peers x n few p =
     let z : 0 + length bits ≡ 256 = omega (arith, n) in
-    honest H bits (get m) peers [] (reverse peers) v refl z few (explains_held H bits (get m) (reverse peers) p.peers_from_top) (ap (λ x. unwrap_or x (empty_root H 0)) e)
-    ∙ ap (λ k. sparse_root H k m) n
+    honest H bits (get (insert m bits x)) peers [] (reverse peers) x refl z few
+    (explains_alike H bits (get m) (get (insert m bits x)) (reverse peers) (λ q other. get-insert_other m bits q x other) (explains_held H bits (get m) (reverse peers) p.peers_from_top))
+    (ap (λ o. unwrap_or o (empty_root H 0)) (get-insert_same m bits x))
+    ∙ ap (λ k. sparse_root H k (insert m bits x)) n
+
+-- a proof of held bits, from the leaf digest that is held
+pub honest_held : (H : List ℕ → List ℕ) (h : ℕ) (bits : List Bool) (m : SparseMap) (peers : List (Option (List ℕ))) (x : List ℕ) → length bits ≡ 256 → length peers ≤ 256 → Proves H h m bits peers → get m bits ≡ Some x → proof_value H peers x bits ≡ sparse_root H 256 m
+honest_held H h bits m peers x n few p e = honest_replaced H h bits m peers x n few p ∙ ap (sparse_root H 256) (insert_held m bits x e)
 
 none_of : (o : Option (List ℕ)) → is_some o ≡ false → o ≡ None
 none_of None e = refl

@@ -3,9 +3,12 @@
 
 mod fork;
 mod link;
+mod map;
 mod node;
 mod path;
 mod proof;
 mod singleton;
 mod stem;
+
+pub use map::{Map, MapError};
 pub use proof::Proof;
