@@ -152,7 +152,7 @@ after_carries old s below node p v is w b wn e =
     let ws : IsWellFormed (Stem s) = subst IsWellFormed is w in
     after_by s.len s.from s.below.0 s.below.1 p v node ws.level ws.formed.0 ws.formed.1 wn (e ∙ ap (λ d. (d.0, insert d.1 p v)) b)
 
-stem_holds : (len k : ℕ) (m : SparseMap) → Splits m ⊎ ((len ≡ 1) × (k ≡ 255) × IsLone m) → HoldsKey m
+pub stem_holds : (len k : ℕ) (m : SparseMap) → Splits m ⊎ ((len ≡ 1) × (k ≡ 255) × IsLone m) → HoldsKey m
 stem_holds len k m (inl s) = (false ∷ s.0.0, s.0.1)
 stem_holds len k m (inr o) = (o.2.0, ap (λ t. contains_key t o.2.0) o.2.2 ∙ contains_key-insert_same empty o.2.0 o.2.1)
 

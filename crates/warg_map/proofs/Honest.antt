@@ -106,9 +106,10 @@ pub explains_alike : (H : List ℕ → List ℕ) (bits : List Bool) (m n : List 
 unfolding Explains
 explains_alike H bits m n [] same h = λ q other. same q other ∙ h q other
 explains_alike H [] m n (o ∷ os) same h = h
-explains_alike H (b ∷ bits) m n (o ∷ os) same h =
-    ( h.0 ∙ sym (root-same H (length bits) (λ q. n (not b ∷ q)) (λ q. m (not b ∷ q)) (λ q. same (not b ∷ q) (head_differs b q bits)))
-    , explains_alike H bits (λ q. m (b ∷ q)) (λ q. n (b ∷ q)) os (λ q other. same (b ∷ q) (λ e. other (tail_is b q bits e))) h.1)
+explains_alike H (b ∷ bits) m n (o ∷ os) same h = (
+  h.0 ∙ sym (root-same H (length bits) (λ q. n (not b ∷ q)) (λ q. m (not b ∷ q)) (λ q. same (not b ∷ q) (head_differs b q bits))),
+  explains_alike H bits (λ q. m (b ∷ q)) (λ q. n (b ∷ q)) os (λ q other. same (b ∷ q) (λ e. other (tail_is b q bits e))) h.1,
+)
 
 untied : (b : Bool) (x y : Option (List ℕ)) → (b ≡ true → ⊥) → cond b x y ≡ y
 untied true x y h = absurd (h refl)

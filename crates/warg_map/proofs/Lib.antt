@@ -9,4 +9,5 @@ pub mod Len
 pub mod ProofValue
 pub mod Peers
 pub mod Counts
+pub mod Absences
 pub mod Honest

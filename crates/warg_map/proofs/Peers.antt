@@ -41,29 +41,29 @@ proves_lone H h p v lt = record {
 }
 
 -- what a join holds
-join_holds : (b : Bool) (near far : SparseMap) (q : List Bool) → IsTrue (contains_key (join_at b near far) q) → ((r : List Bool) × (q ≡ b ∷ r) × IsTrue (contains_key near r)) ⊎ ((r : List Bool) × (q ≡ not b ∷ r) × IsTrue (contains_key far r))
+pub join_holds : (b : Bool) (near far : SparseMap) (q : List Bool) → IsTrue (contains_key (join_at b near far) q) → ((r : List Bool) × (q ≡ b ∷ r) × IsTrue (contains_key near r)) ⊎ ((r : List Bool) × (q ≡ not b ∷ r) × IsTrue (contains_key far r))
 join_holds b near far [] h = absurd (no_some _ (get-join_at_nil b near far) h)
 join_holds true near far (true ∷ q) h = inl (q, refl, ap is_some (sym (get-join_at true near far q)) ∙ h)
 join_holds true near far (false ∷ q) h = inr (q, refl, ap is_some (sym (get-join_at_other false true near far q (λ e. cc))) ∙ h)
 join_holds false near far (true ∷ q) h = inr (q, refl, ap is_some (sym (get-join_at_other true false near far q (λ e. cc))) ∙ h)
 join_holds false near far (false ∷ q) h = inl (q, refl, ap is_some (sym (get-join_at false near far q)) ∙ h)
 
-holds_near : (b : Bool) (near far : SparseMap) (q : List Bool) → IsTrue (contains_key near q) → IsTrue (contains_key (join_at b near far) (b ∷ q))
+pub holds_near : (b : Bool) (near far : SparseMap) (q : List Bool) → IsTrue (contains_key near q) → IsTrue (contains_key (join_at b near far) (b ∷ q))
 holds_near b near far q h = ap is_some (get-join_at b near far q) ∙ h
 
-holds_far : (b : Bool) (near far : SparseMap) (q : List Bool) → IsTrue (contains_key far q) → IsTrue (contains_key (join_at b near far) (not b ∷ q))
+pub holds_far : (b : Bool) (near far : SparseMap) (q : List Bool) → IsTrue (contains_key far q) → IsTrue (contains_key (join_at b near far) (not b ∷ q))
 holds_far true near far q h = ap is_some (get-join_at_other false true near far q (λ e. cc)) ∙ h
 holds_far false near far q h = ap is_some (get-join_at_other true false near far q (λ e. cc)) ∙ h
 
-shared_same : (b : Bool) (p q : List Bool) → shared (b ∷ p) (b ∷ q) ≡ suc (shared p q)
+pub shared_same : (b : Bool) (p q : List Bool) → shared (b ∷ p) (b ∷ q) ≡ suc (shared p q)
 shared_same true p q = refl
 shared_same false p q = refl
 
-shared_other : (b : Bool) (p q : List Bool) → shared (b ∷ p) (not b ∷ q) ≡ 0
+pub shared_other : (b : Bool) (p q : List Bool) → shared (b ∷ p) (not b ∷ q) ≡ 0
 shared_other true p q = refl
 shared_other false p q = refl
 
-other_head : (b : Bool) (p q : List Bool) → ¬ (not b ∷ q ≡ b ∷ p)
+pub other_head : (b : Bool) (p q : List Bool) → ¬ (not b ∷ q ≡ b ∷ p)
 other_head true p q e = cc
 other_head false p q e = cc
 
@@ -142,7 +142,7 @@ unfolding IsPeers
 more H b m l o p d os near far e h =
     (ap Some (e ∙ (λ i. root_of H (length p) (λ q. sym (far q) i))), subst (λ (f : List Bool → Option (List ℕ)). IsPeers H f p os) (λ i q. sym (near q) i) h)
 
-get-far : (b : Bool) (near far : SparseMap) (q : List Bool) → get (join_at b near far) (not b ∷ q) ≡ get far q
+pub get-far : (b : Bool) (near far : SparseMap) (q : List Bool) → get (join_at b near far) (not b ∷ q) ≡ get far q
 get-far true near far q = get-join_at_other false true near far q (λ e. cc)
 get-far false near far q = get-join_at_other true false near far q (λ e. cc)
 
@@ -155,7 +155,7 @@ length-append-list : (a b : List Bool) → length (a ++ b) ≡ length b + length
 length-append-list [] b = let e : length b ≡ length b + 0 = omega arith in e
 length-append-list (x ∷ a) b = let e = length-append-list a b in omega (arith, e)
 
-nothing_more : (ps : List (Option (List ℕ))) → ps ++ [] ≡ ps
+pub nothing_more : (ps : List (Option (List ℕ))) → ps ++ [] ≡ ps
 nothing_more [] = refl
 nothing_more (p ∷ ps) = ap (λ t. p ∷ t) (nothing_more ps)
 

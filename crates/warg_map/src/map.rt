@@ -3,21 +3,21 @@
 ghost use Rattle.std.specs.Prelude.{◌≡◌, ℕ, List, ◌+◌, ◌*◌, ◌<◌, ◌≤◌, ◌↔◌, IfOk, IfSome, IsSome, IsTrue, MatchOption, Some, false};
 ghost use Rattle.std.specs.FinMap as map;
 ghost use Rattle.warg_map.specs.Bits.{key_bits};
-ghost use Rattle.warg_map.specs.Sparse.{sparse_root, leaf_digest};
+ghost use Rattle.warg_crypto.specs.EmptyTrees.{empty_root};
+ghost use Rattle.warg_map.specs.Sparse.{sparse_root, leaf_at, leaf_digest};
 ghost use Rattle.warg_map.specs.ProofValue.{proof_value};
-ghost use Rattle.warg_map.specs.Peers.{Proves};
+ghost use Rattle.warg_map.specs.Peers.{Proves, ProvesAbsent};
 ghost use Rattle.warg_map.specs.Count.{node_count};
 ghost use Rattle.warg_map.specs.Shown.{peers_of};
-
-use std::alloc::{AllocError, Allocator, Global};
-use std::marker::{Model, PhantomData};
 
 use crate::link::Link;
 use crate::node::Node;
 use crate::path::Path;
 use crate::proof::Proof;
+use std::alloc::{AllocError, Allocator, Global};
+use std::marker::{Model, PhantomData};
 use thiserror::Error;
-use warg_crypto::{Hash, SupportedDigest, VisitBytes};
+use warg_crypto::{Hash, SupportedDigest, VisitBytes, empty_tree_hash};
 use warg_log::hash_leaf;
 
 /// Why an insertion was refused. The map that it was to go into stays as it was.
@@ -170,7 +170,12 @@ impl<D: SupportedDigest, K, V, A: Allocator> Map<D, K, V, A> {
     }
 }
 
-impl<D: SupportedDigest, K: VisitBytes + Drop, V: VisitBytes + Drop, A: Allocator + Copy> Map<D, K, V, A> {
+impl<D: SupportedDigest, K: VisitBytes + Drop, V: VisitBytes + Drop, A: Allocator + Copy> Map<
+    D,
+    K,
+    V,
+    A,
+> {
     /// The map of nothing, which keeps `alloc` for its nodes and proofs.
     pub fn default(alloc: A) -> Result<Map<D, K, V, A>, AllocError>
         ensures { IfOk result (λ m. m ≡ map.empty) }
@@ -207,6 +212,38 @@ impl<D: SupportedDigest, K: VisitBytes + Drop, V: VisitBytes + Drop, A: Allocato
         let key = Hash::of(&key);
         let Some(proof) = self.link.node().prove(self.alloc, Path::new(&key))? else {
             return Ok(None);
+        };
+        Ok(Some(proof))
+    }
+
+    /// The proof that the leaf digest under `key` is that of an empty leaf, or `None` exactly where it isn't.
+    ///
+    /// For a key whose digest isn't held the proof has one peer more than the most bits that this digest shares with one
+    /// that is held, and none in the map of nothing; a peer is `None` where its subtree holds no key. For one that is held
+    /// with the digest of an empty leaf, as a value without bytes gives it, it is the proof of [`prove`](Map::prove).
+    pub fn prove_absence(&self, key: K) -> Result<Option<Proof<D, K, V, A>>, AllocError>
+        ensures empty { IfOk result (λ o. IsSome o
+            ↔ (leaf_at D.digest self.now (key_bits D.digest (K.bytes key)) ≡ empty_root D.digest 0)) }
+        ensures peers { IfOk result (λ o. IfSome o (λ p.
+            MatchOption (map.get self.now (key_bits D.digest (K.bytes key)))
+            (ProvesAbsent D.digest self.now (key_bits D.digest (K.bytes key)) (peers_of p))
+            (λ _. Proves D.digest 256 self.now (key_bits D.digest (K.bytes key)) (peers_of p)))) }
+
+        // From an empty leaf the proof leads to the root.
+        ensures honest { IfOk result (λ o. IfSome o (λ p.
+            proof_value D.digest (peers_of p) (empty_root D.digest 0) (key_bits D.digest (K.bytes key)) ≡ sparse_root D.digest 256 self.now)) }
+    {
+        let key = Hash::of(&key);
+        let node = self.link.node();
+        let Some(leaf) = node.find(Path::new(&key)) else {
+            let proof = node.prove_absent(self.alloc, Path::new(&key))?;
+            return Ok(Some(proof));
+        };
+        if leaf != empty_tree_hash(0) {
+            return Ok(None);
+        }
+        let Some(proof) = node.prove(self.alloc, Path::new(&key))? else {
+            unreachable!()
         };
         Ok(Some(proof))
     }

@@ -215,7 +215,11 @@ impl<D: SupportedDigest, A: Allocator + Copy> Node<D, A> {
     ghost use Rattle.warg_map.specs.Seen.{height_of, held_by, IsWellFormed};
 
     /// The proof that the bits that the path has left are held, or `None` exactly where they aren't.
-    pub fn prove<K, V>(&self, alloc: A, mut path: Path<'_, D>) -> Result<Option<Proof<D, K, V, A>>, AllocError>
+    pub fn prove<K, V>(
+        &self,
+        alloc: A,
+        mut path: Path<'_, D>,
+    ) -> Result<Option<Proof<D, K, V, A>>, AllocError>
         requires well_formed { IsWellFormed self.now }
         requires height { height_of self.now + path.index ≡ 256 }
         ensures answer { IfOk result (λ o.
@@ -253,6 +257,55 @@ impl<D: SupportedDigest, A: Allocator + Copy> Node<D, A> {
                 };
                 proof.push_empties(256 - stem.from - stem.len, stem.len)?;
                 Ok(Some(proof))
+            }
+        }
+    }
+}
+
+impl<D: SupportedDigest, A: Allocator + Copy> Node<D, A> {
+    ghost use Rattle.std.specs.Prelude.{false, length};
+    ghost use Rattle.warg_map.specs.Path.{bits_left};
+    ghost use Rattle.warg_map.specs.Peers.{ProvesAbsent};
+    ghost use Rattle.warg_map.specs.Shown.{peers_of};
+    ghost use Rattle.warg_map.specs.Seen.{height_of, held_by, IsWellFormed};
+
+    /// The proof that the bits that the path has left aren't held.
+    pub(crate) fn prove_absent<K, V>(
+        &self,
+        alloc: A,
+        mut path: Path<'_, D>,
+    ) -> Result<Proof<D, K, V, A>, AllocError>
+        requires well_formed { IsWellFormed self.now }
+        requires height { height_of self.now + path.index ≡ 256 }
+        requires absent { map.contains_key (held_by self.now) (bits_left path) ≡ false }
+        ensures answer { IfOk result (λ p. ProvesAbsent D.digest (held_by self.now) (bits_left path.entry) (peers_of p)) }
+        ensures few { IfOk result (λ p. length (peers_of p) ≤ height_of self.now) }
+    {
+        match self {
+            Node::Leaf(_) => unreachable!(),
+            Node::Empty(_) => Ok(Proof::new(Vec::new(alloc))),
+            Node::Fork(fork) => {
+                let Some(side) = path.next() else {
+                    unreachable!()
+                };
+                let mut proof = fork[side].node().prove_absent(alloc, path)?;
+                proof.push(Some(fork[side.opposite()].hash().copied()))?;
+                Ok(proof)
+            }
+            Node::Singleton(singleton) => {
+                let shared = singleton.shared_with(&path);
+                let far = singleton.lowered(singleton.height() - shared - 1);
+                Ok(Proof::parted(alloc, far.hash(), shared)?)
+            }
+            Node::Stem(stem) => {
+                let shared = stem.shared_with(&path);
+                if shared < stem.len {
+                    return Ok(Proof::parted(alloc, stem.hash_below(shared + 1), shared)?);
+                }
+                path.advance(stem.len);
+                let mut proof = stem.below.node().prove_absent(alloc, path)?;
+                proof.push_missing(stem.len)?;
+                Ok(proof)
             }
         }
     }

@@ -1,16 +1,15 @@
 //! Proofs of presence and absence.
 
-ghost use Rattle.std.specs.Prelude.{◌≡◌, ℕ, ◌+◌, ◌<◌, ◌≤◌, ◌∷◌, ◌++◌, [], length, OnOk, None, replicate};
+ghost use Rattle.std.specs.Prelude.{◌≡◌, ℕ, ◌+◌, ◌<◌, ◌≤◌, ◌∷◌, ◌++◌, [], length, IfOk, OnOk, Some, None, replicate};
 ghost use Rattle.warg_crypto.specs.EmptyTrees.{empty_root};
 ghost use Rattle.warg_map.specs.Bits.{key_bits, last_bits};
 ghost use Rattle.warg_map.specs.Sparse.{leaf_digest};
 ghost use Rattle.warg_map.specs.ProofValue.{peer_of, proof_value};
 ghost use Rattle.warg_map.specs.Peers.{empty_peers};
 
+use crate::path::side_at;
 use std::alloc::{AllocError, Allocator, Global};
 use std::marker::PhantomData;
-
-use crate::path::side_at;
 use warg_crypto::{Hash, SupportedDigest, VisitBytes, empty_tree_hash};
 use warg_log::hash_leaf;
 
@@ -67,6 +66,21 @@ impl<D, K, V, A: Allocator> Proof<D, K, V, A> {
         ensures few { length result.now ≤ 256 }
     {
         &self.peers
+    }
+
+    /// The proof with one peer below `missing` times `None`.
+    pub(crate) fn parted(
+        alloc: A,
+        peer: Hash<D>,
+        missing: usize,
+    ) -> Result<Proof<D, K, V, A>, AllocError>
+        requires { missing < 256 }
+        ensures { IfOk result (λ p. peers_of p ≡ Some peer ∷ replicate missing None) }
+    {
+        let mut proof = Proof::new(Vec::new(alloc));
+        proof.push(Some(peer))?;
+        proof.push_missing(missing)?;
+        Ok(proof)
     }
 }
 

@@ -50,7 +50,16 @@ impl<D: SupportedDigest, A: Allocator> Stem<D, A> {
         requires { self.now.from + self.now.len + self.now.below.0 ≡ 256 }
         ensures { result ≡ sparse_root D.digest (self.now.below.0 + self.now.len) (under (bits_from self.now.key self.now.from self.now.len) self.now.below.1) }
     {
-        lifted(&self.key, self.from, self.len, self.below.hash())
+        self.hash_below(0)
+    }
+
+    /// The digest of what stands below the stem's first `at` bits.
+    pub(crate) fn hash_below(&self, at: usize) -> Hash<D>
+        requires level { self.now.from + self.now.len + self.now.below.0 ≡ 256 }
+        requires place { at ≤ self.now.len }
+        ensures { result ≡ sparse_root D.digest (self.now.below.0 + (self.now.len - at)) (under (bits_from self.now.key (self.now.from + at) (self.now.len - at)) self.now.below.1) }
+    {
+        lifted(&self.key, self.from + at, self.len - at, self.below.hash())
     }
 
     /// How many of the stem's bits a path shares before it parts.

@@ -21,6 +21,7 @@ pub loop-pushed-preserved : goal.loop-pushed-preserved
 loop-pushed-preserved g c =
     let H = g.D.SupportedDigest.digest in
     let n = c.loop-pushed.pushed in
-    let z : c.args.low + c.loop-pushed.pushed + 1 ≡ c.args.low + (c.loop-pushed.pushed + 1) = omega arith in
-    ( c.in_ok-push.ensures ∙ ap (λ x. c.loop-pushed.self.peers.items ++ Some x ∷ []) (c.copied.ensures ∙ c.loop-pushed.invariant.1) ∙ ap (λ t. t ++ Some (empty_root H (c.args.low + n)) ∷ []) c.loop-pushed.invariant.0 ∙ pushed_more H c.args.low n c.args.self.now.peers.items
-    , c.empty_above-empty.ensures ∙ ap (empty_root H) z)
+    let z : c.args.low + c.loop-pushed.pushed + 1 ≡ c.args.low + (c.loop-pushed.pushed + 1) = omega arith in (
+      c.in_ok-push.ensures ∙ ap (λ x. c.loop-pushed.self.peers.items ++ Some x ∷ []) (c.copied.ensures ∙ c.loop-pushed.invariant.1) ∙ ap (λ t. t ++ Some (empty_root H (c.args.low + n)) ∷ []) c.loop-pushed.invariant.0 ∙ pushed_more H c.args.low n c.args.self.now.peers.items,
+      c.empty_above-empty.ensures ∙ ap (empty_root H) z,
+    )
