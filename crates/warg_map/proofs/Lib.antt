@@ -11,3 +11,4 @@ pub mod Peers
 pub mod Counts
 pub mod Absences
 pub mod Honest
+pub mod Insertions

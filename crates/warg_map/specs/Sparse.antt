@@ -1,5 +1,6 @@
 -- The plain sparse Merkle tree over a finite map from bit lists to leaf digests.
-use Rattle.std.specs.Prelude.{ℕ, zero, suc, Bool, true, false, List, [], ◌∷◌, ◌++◌, Option, unwrap_or}
+use Rattle.std.specs.Prelude.{◌≡◌, ℕ, zero, suc, Bool, true, false, List, [], ◌∷◌, ◌++◌, map, Option, unwrap_or}
+use Rattle.std.specs.List.{AllPairs}
 use Rattle.std.specs.FinMap.{FinMap, get, insert, empty, code}
 use Rattle.std.specs.Ordering.{bool_cmp}
 use Rattle.std.specs.Cmp.Lexicographic.{slice_cmp}
@@ -45,3 +46,11 @@ inserted H m (e ∷ es) = inserted H (insert m (key_bits H e.0) (leaf_digest H e
 -- The map of insertions, made in order into the map of nothing.
 abbrev pub map_of : (List ℕ → List ℕ) → List (List ℕ × List ℕ) → SparseMap
 map_of H es = inserted H empty es
+
+-- The bytes of keys and values, in order.
+abbrev pub pair_bytes : {K V : Type 0} → (K → List ℕ) → (V → List ℕ) → List (K × V) → List (List ℕ × List ℕ)
+pair_bytes key_bytes value_bytes es = map (λ e. (key_bytes e.0, value_bytes e.1)) es
+
+-- No two of the insertions have keys of one digest.
+abbrev pub HasDistinctKeys : (List ℕ → List ℕ) → List (List ℕ × List ℕ) → Type 0
+HasDistinctKeys H es = AllPairs (λ e f. ¬ (key_bits H e.0 ≡ key_bits H f.0)) es

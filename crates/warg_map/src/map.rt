@@ -1,10 +1,11 @@
 //! The map.
 
-ghost use Rattle.std.specs.Prelude.{◌≡◌, ℕ, List, ◌+◌, ◌*◌, ◌<◌, ◌≤◌, ◌↔◌, IfOk, IfSome, IsSome, IsTrue, MatchOption, Some, false};
+ghost use Rattle.std.specs.Prelude.{◌≡◌, ℕ, List, ◌+◌, ◌*◌, ◌<◌, ◌≤◌, ◌↔◌, ◌∷◌, ◌++◌, [], IfOk, IfSome, IsSome, IsTrue, MatchOption, Some, false};
 ghost use Rattle.std.specs.FinMap as map;
+ghost use Rattle.std.specs.Iterator.{IsFinite, Drains, Yields};
 ghost use Rattle.warg_map.specs.Bits.{key_bits};
 ghost use Rattle.warg_crypto.specs.EmptyTrees.{empty_root};
-ghost use Rattle.warg_map.specs.Sparse.{sparse_root, leaf_at, leaf_digest};
+ghost use Rattle.warg_map.specs.Sparse.{sparse_root, leaf_at, leaf_digest, inserted, pair_bytes};
 ghost use Rattle.warg_map.specs.ProofValue.{proof_value};
 ghost use Rattle.warg_map.specs.Peers.{Proves, ProvesAbsent};
 ghost use Rattle.warg_map.specs.Count.{node_count};
@@ -15,6 +16,8 @@ use crate::node::Node;
 use crate::path::Path;
 use crate::proof::Proof;
 use std::alloc::{AllocError, Allocator, Global};
+use std::fmt;
+use std::fmt::Debug;
 use std::marker::{Model, PhantomData};
 use thiserror::Error;
 use warg_crypto::{Hash, SupportedDigest, VisitBytes, empty_tree_hash};
@@ -271,5 +274,33 @@ impl<D: SupportedDigest, K: VisitBytes + Drop, V: VisitBytes + Drop, A: Allocato
             key: PhantomData,
             value: PhantomData,
         })
+    }
+
+    /// The map with all the pairs of an iterator inserted, in order.
+    ///
+    /// `Full` comes where one of them is a new key digest at a `len` of `usize::MAX`. After a refusal the rest of the
+    /// iterator is dropped.
+    pub fn extend<I: Iterator<Item = (K, V)> + Drop>(&self, iter: I) -> Result<Map<D, K, V, A>, MapError>
+        requires can { I.can_next iter }
+        requires ends { IsFinite (I.remaining iter) }
+        ensures ok { IfOk result (λ m. ((es : List (K × V)) × Drains I.next_gives iter es
+            × (m ≡ inserted D.digest self.now (pair_bytes K.bytes V.bytes es)))) }
+        ensures full { result ≡ Err MapError.Full → ((es : List (K × V)) × (e : K × V) × (rest : I) × Yields I.next_gives iter (es ++ e ∷ []) rest
+            × (map.len (inserted D.digest self.now (pair_bytes K.bytes V.bytes es)) ≡ usize.MAX)
+            × (map.contains_key (inserted D.digest self.now (pair_bytes K.bytes V.bytes es)) (key_bits D.digest (K.bytes e.0)) ≡ false)) }
+    {
+        let mut all = self.clone()?;
+        for (key, val) in iter {
+            all = all.insert(key, val)?;
+        }
+        Ok(all)
+    }
+}
+
+/// As `Map(ROOT)`.
+impl<D: SupportedDigest, K, V, A: Allocator> Debug for Map<D, K, V, A> {
+    fn fmt<W: fmt::Write>(&self, f: &mut fmt::Formatter<W>) -> fmt::Result {
+        let root = self.link.hash();
+        write!(f, "Map({root:?})")
     }
 }

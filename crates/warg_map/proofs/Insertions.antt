@@ -1,0 +1,30 @@
+-- Laws of insertions.
+use Rattle.std.proofs.Common.{◌≡◌, ℕ, zero, suc, ◌+◌, ◌<◌, ◌≤◌, Bool, true, false, cond, List, [], ◌∷◌, ◌++◌, length, Option, Some, None, refl, sym, ap, ◌∙◌, subst, arith, ◌⊎◌, inl, inr}
+use Rattle.std.specs.Prelude.{slice_index_or}
+use Rattle.std.specs.List.{Contains}
+use Rattle.std.specs.List.Sorted.{IsPermutation}
+use Rattle.std.proofs.lemmas.List.Sorted.{Contains-permutation, IsPermutation-sym}
+use Rattle.std.specs.FinMap.{get, insert, get-insert}
+use Rattle.std.specs.Ordering.{eq_by_cmp}
+use Rattle.warg_map.specs.Bits.{key_bits}
+use Rattle.warg_map.specs.Sparse.{SparseMap, bits_cmp, leaf_digest, inserted, pair_bytes, HasDistinctKeys}
+use Rattle.warg_map.proofs.Sparse.{bits_total, same_sparse}
+use Rattle.warg_map.proofs.Finds.{tied}
+use Rattle.warg_map.proofs.Honest.{get-insert_other, get-insert_same}
+
+-- one insertion more
+pub inserted-none : (H : List ℕ → List ℕ) (m : SparseMap) → inserted H m [] ≡ m
+unfolding inserted
+inserted-none H m = refl
+
+pub inserted-push : (H : List ℕ → List ℕ) (m : SparseMap) (es : List (List ℕ × List ℕ)) (e : List ℕ × List ℕ) → inserted H m (es ++ e ∷ []) ≡ insert (inserted H m es) (key_bits H e.0) (leaf_digest H e.1)
+unfolding inserted
+inserted-push H m [] e = refl
+inserted-push H m (x ∷ es) e = inserted-push H (insert m (key_bits H x.0) (leaf_digest H x.1)) es e
+
+pub pair_bytes-push : {K V : Type 0} (kb : K → List ℕ) (vb : V → List ℕ) (es : List (K × V)) (e : K × V) → pair_bytes kb vb (es ++ e ∷ []) ≡ pair_bytes kb vb es ++ (kb e.0, vb e.1) ∷ []
+pair_bytes-push kb vb [] e = refl
+pair_bytes-push kb vb (x ∷ es) e = ap (λ t. (kb x.0, vb x.1) ∷ t) (pair_bytes-push kb vb es e)
+
+pub inserted-pair : {K V : Type 0} (H : List ℕ → List ℕ) (kb : K → List ℕ) (vb : V → List ℕ) (m : SparseMap) (es : List (K × V)) (e : K × V) → inserted H m (pair_bytes kb vb (es ++ e ∷ [])) ≡ insert (inserted H m (pair_bytes kb vb es)) (key_bits H (kb e.0)) (leaf_digest H (vb e.1))
+inserted-pair H kb vb m es e = ap (inserted H m) (pair_bytes-push kb vb es e) ∙ inserted-push H m (pair_bytes kb vb es) (kb e.0, vb e.1)
