@@ -12,3 +12,4 @@ pub mod Counts
 pub mod Absences
 pub mod Honest
 pub mod Insertions
+pub mod Unique

@@ -2,6 +2,7 @@
 #![tactic(auto)]
 
 mod fork;
+pub mod laws;
 mod link;
 mod map;
 mod node;

@@ -280,7 +280,10 @@ impl<D: SupportedDigest, K: VisitBytes + Drop, V: VisitBytes + Drop, A: Allocato
     ///
     /// `Full` comes where one of them is a new key digest at a `len` of `usize::MAX`. After a refusal the rest of the
     /// iterator is dropped.
-    pub fn extend<I: Iterator<Item = (K, V)> + Drop>(&self, iter: I) -> Result<Map<D, K, V, A>, MapError>
+    pub fn extend<I: Iterator<Item = (K, V)> + Drop>(
+        &self,
+        iter: I,
+    ) -> Result<Map<D, K, V, A>, MapError>
         requires can { I.can_next iter }
         requires ends { IsFinite (I.remaining iter) }
         ensures ok { IfOk result (λ m. ((es : List (K × V)) × Drains I.next_gives iter es

@@ -16,11 +16,14 @@ pub returns-in_err-all-2-clause-full : goal.returns-in_err-all-2-clause-full
 returns-in_err-all-2-clause-full g c = λ full.
     let e : Err c.in_err-all-2.field-0.0 ≡ Err Full = search rules in
     let h = c.in_err-all-2.ensures.full.0 e in
-    let H = g.D.SupportedDigest.digest in
-    ( c.loop-key.yielded, (c.in-Some.key, c.in-Some.val), c.next.new.self
-    , Yields-more g.I.Iterator.next_gives c.args.iter c.loop-key.yielded c.loop-key.key-iterator (c.in-Some.key, c.in-Some.val) c.next.new.self (subst (λ (it : _). Yields g.I.Iterator.next_gives it c.loop-key.yielded c.loop-key.key-iterator) c.into_iter-key-iterator.ensures.into_iter_gives c.loop-key.yielded_by) c.in-Some.ensures.steps
-    , sym (ap len c.loop-key.invariant) ∙ h.0
-    , sym (ap (λ m. contains_key m (key_bits H (g.K.VisitBytes.bytes c.in-Some.key))) c.loop-key.invariant) ∙ h.1 )
+    let H = g.D.SupportedDigest.digest in (
+      c.loop-key.yielded,
+      (c.in-Some.key, c.in-Some.val),
+      c.next.new.self,
+      Yields-more g.I.Iterator.next_gives c.args.iter c.loop-key.yielded c.loop-key.key-iterator (c.in-Some.key, c.in-Some.val) c.next.new.self (subst (λ (it : _). Yields g.I.Iterator.next_gives it c.loop-key.yielded c.loop-key.key-iterator) c.into_iter-key-iterator.ensures.into_iter_gives c.loop-key.yielded_by) c.in-Some.ensures.steps,
+      sym (ap len c.loop-key.invariant) ∙ h.0,
+      sym (ap (λ m. contains_key m (key_bits H (g.K.VisitBytes.bytes c.in-Some.key))) c.loop-key.invariant) ∙ h.1,
+    )
 
 pub loop-key-preserved : goal.loop-key-preserved
 loop-key-preserved g c =

@@ -18,9 +18,28 @@ unreachable-requires g t c =
     cc
 
 pub prove_absent-requires : goal.prove_absent-requires
-prove_absent-requires g t c κs within =
-    (search rules, (search rules, (search rules, (search rules, (search rules, (c.node.ensures.well_formed, (search rules,
-      ap is_some (finds_in_fork c.args.self.now c.node.result.now c.in-Fork.fork _ (side_bit c.in-Some.side) _ _ c.in-Fork.is c.in-Some.ensures.steps.bits (search rules) refl) ∙ c.requires.absent)))))))
+prove_absent-requires g t c κs within = (
+  search rules,
+  (
+    search rules,
+    (
+      search rules,
+      (
+        search rules,
+        (
+          search rules,
+          (
+            c.node.ensures.well_formed,
+            (
+              search rules,
+              ap is_some (finds_in_fork c.args.self.now c.node.result.now c.in-Fork.fork _ (side_bit c.in-Some.side) _ _ c.in-Fork.is c.in-Some.ensures.steps.bits (search rules) refl) ∙ c.requires.absent,
+            ),
+          ),
+        ),
+      ),
+    ),
+  ),
+)
 
 pub overflow_sub-height-in-Singleton : goal.overflow_sub-height-in-Singleton
 overflow_sub-height-in-Singleton g t c =
@@ -38,10 +57,29 @@ prove_absent-requires-in-Stem g t c κs within =
     let i = c.args.path.index in
     let hash = c.args.path.hash.now in
     let all : c.shared_with-shared-in-Stem.result ≡ c.in-Stem.stem.len = omega (arith, c.shared_with-shared-in-Stem.ensures.at_most, c.if-shared-stem.false) in
-    let same : bits_from s.key i s.len ≡ bits_from hash i s.len = ap (bits_from s.key i) (sym all) ∙ c.shared_with-shared-in-Stem.ensures.same ∙ ap (bits_from hash i) all in
-    (search rules, (search rules, (search rules, (search rules, (search rules, (c.node-in-Stem.ensures.well_formed, (search rules,
-      ap is_some (finds_below c.args.self.now c.node-in-Stem.result.now s _ _ hash i s.len c.advance.new.self.index _ c.in-Stem.is c.requires.well_formed refl c.requires.height refl same
-        c.node-in-Stem.ensures.seen (ap (λ y. last_bits y (256 - c.advance.new.self.index)) c.advance.ensures.digest) c.advance.ensures.index refl) ∙ c.requires.absent)))))))
+    let same : bits_from s.key i s.len ≡ bits_from hash i s.len = ap (bits_from s.key i) (sym all) ∙ c.shared_with-shared-in-Stem.ensures.same ∙ ap (bits_from hash i) all in (
+      search rules,
+      (
+        search rules,
+        (
+          search rules,
+          (
+            search rules,
+            (
+              search rules,
+              (
+                c.node-in-Stem.ensures.well_formed,
+                (
+                  search rules,
+                  ap is_some (finds_below c.args.self.now c.node-in-Stem.result.now s _ _ hash i s.len c.advance.new.self.index _ c.in-Stem.is c.requires.well_formed refl c.requires.height refl same
+                      c.node-in-Stem.ensures.seen (ap (λ y. last_bits y (256 - c.advance.new.self.index)) c.advance.ensures.digest) c.advance.ensures.index refl) ∙ c.requires.absent,
+                ),
+              ),
+            ),
+          ),
+        ),
+      ),
+    )
 
 pub returns-in-Empty-clause-answer : goal.returns-in-Empty-clause-answer
 returns-in-Empty-clause-answer g t c = absent_nothing g.D.SupportedDigest.digest c.args.self.now c.in-Empty.field-0 _ _ c.in-Empty.is (c.new-in-Empty.ensures ∙ c.new.ensures.items)
