@@ -3,7 +3,7 @@
 ghost use Rattle.std.specs.Prelude.{◌≡◌, ℕ, ◌+◌, ◌-◌, ◌<◌, ◌≤◌, ◌∷◌, IfOk};
 ghost use Rattle.warg_map.specs.Bits.{bit_at, bits_from};
 ghost use Rattle.warg_map.specs.Sparse.{sparse_root};
-ghost use Rattle.warg_map.specs.Lone.{held_alone};
+ghost use Rattle.warg_map.specs.Lone.{held_alone, IsKept};
 
 use crate::link::Link;
 use crate::node::Node;
@@ -13,10 +13,17 @@ use std::alloc::{AllocError, Allocator};
 use std::marker::Model;
 use warg_crypto::{Hash, SupportedDigest};
 
+/// The height at which a lone key keeps its digest. A split lowers most lone keys to little above it.
+const KEPT: usize = 224;
+
 /// A lone key: a tree of any height that holds one key and nothing else.
+///
+/// It keeps the digest of its tree of 224 levels, from which those of higher trees follow, so a split that lowers a lone
+/// key hashes few levels anew.
 pub struct Singleton<D: SupportedDigest> {
     key: Hash<D>,
     value: Hash<D>,
+    low: Hash<D>,
     height: usize,
 }
 
@@ -29,7 +36,19 @@ impl<D: SupportedDigest> Model for Singleton<D> {
 
     ghost view = { λ s. record { key = s.key; value = s.value; height = s.height } };
 
-    ghost invariant = { λ s. s.height ≤ 256 };
+    ghost use Rattle.warg_map.specs.Lone.{IsKept};
+
+    ghost invariant = { λ s. (s.height ≤ 256) × IsKept D.digest s.low s.key s.value s.height };
+}
+
+/// The digest that a lone key of this height keeps: that of its tree of 224 levels, or nothing of use in a lower tree.
+fn kept_digest<D: SupportedDigest>(key: &Hash<D>, value: &Hash<D>, height: usize) -> Hash<D>
+    ensures { IsKept D.digest result key.now value.now height }
+{
+    if height < KEPT {
+        return value.copied();
+    }
+    lifted(key, 256 - KEPT, KEPT, value)
 }
 
 impl<D: SupportedDigest> Drop for Singleton<D> {
@@ -37,6 +56,7 @@ impl<D: SupportedDigest> Drop for Singleton<D> {
         let Singleton {
             key: _,
             value: _,
+            low: _,
             height: _,
         } = self;
     }
@@ -67,7 +87,13 @@ impl<D: SupportedDigest> Singleton<D> {
         ensures value { result.value ≡ value }
         ensures height { result.height ≡ height }
     {
-        Singleton { key, value, height }
+        let low = kept_digest(&key, &value, height);
+        Singleton {
+            key,
+            value,
+            low,
+            height,
+        }
     }
 
     /// The digest of the key.
@@ -102,6 +128,7 @@ impl<D: SupportedDigest> Singleton<D> {
         Singleton {
             key: self.key.copied(),
             value: self.value.copied(),
+            low: self.low.copied(),
             height,
         }
     }
@@ -110,7 +137,11 @@ impl<D: SupportedDigest> Singleton<D> {
     pub fn hash(&self) -> Hash<D>
         ensures { result ≡ sparse_root D.digest self.now.height (held_alone self.now) }
     {
-        lifted(&self.key, 256 - self.height, self.height, &self.value)
+        let from = 256 - self.height;
+        if self.height < KEPT {
+            return lifted(&self.key, from, self.height, &self.value);
+        }
+        lifted(&self.key, from, self.height - KEPT, &self.low)
     }
 
     /// How many of the bits that a path has left the key shares before it parts.
