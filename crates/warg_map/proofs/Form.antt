@@ -1,0 +1,162 @@
+-- The form of the tree.
+use Rattle.std.proofs.Common.{◌≡◌, ℕ, zero, suc, length, ◌+◌, ◌-◌, ◌<◌, ◌≤◌, Bool, true, false, cond, not, List, [], ◌∷◌, ◌++◌, Some, None, is_some, refl, sym, ap, ◌∙◌, subst, arith, add-one, ◌⊎◌, inl, inr, IsTrue}
+use Rattle.std.specs.FinMap.{get, insert, empty, contains_key, get-insert, get-empty}
+use Rattle.std.specs.Ordering.{eq_by_cmp}
+use Rattle.warg_map.specs.declared.node.Node.{Node}
+use Rattle.warg_map.specs.declared.node.Node.TheVariants.{Leaf, Fork, Singleton, Stem, Empty}
+use Rattle.warg_map.specs.declared.fork.Fork.{Fork as Fork'}
+use Rattle.warg_map.specs.declared.stem.Stem.{Stem as Stem'}
+use Rattle.warg_map.specs.Lone.{Lone}
+use Rattle.warg_map.specs.Bits.{bit_at, bits_from, last_bits}
+use Rattle.warg_map.specs.Sparse.{SparseMap, bits_cmp}
+use Rattle.warg_map.specs.Under.{join, join_at, under, HoldsKey, Splits, IsLone}
+use Rattle.warg_map.specs.Seen.{seen, height_of, held_by, IsLevel, IsFormed, IsWellFormed, IsForkOf, IsSeen, Carries}
+use Rattle.warg_map.proofs.Sparse.{bits_total, get-join_true, get-join_false, contains_key-join_at, contains_key-empty, contains_key-insert_same, last_bits-step, length-bits_from}
+use Rattle.warg_map.proofs.Under.{under-append, under-none, bits_from-none, bits_from-append, last_bits-at, under_same, holds-under}
+
+pub fork_held : {D A : _} (b : Bool) (near far : ℕ × SparseMap) (f : Fork' D A) → IsForkOf b near far f → near.0 ≡ far.0 → seen (Fork f) ≡ (near.0 + 1, join_at b near.1 far.1)
+fork_held true near far f h e = cc
+fork_held false near far f h e = cc
+
+pub fork_formed : {D A : _} (b : Bool) (near far : ℕ × SparseMap) (f : Fork' D A) → IsForkOf b near far f → near.0 ≡ far.0 → near.0 < 256 → HoldsKey near.1 → HoldsKey far.1 → IsWellFormed (Fork f)
+fork_formed true near far f h e lt n o =
+    record {
+      level = (cc, rw (ap (λ d. d.0) h.left, ← e) lt);
+      formed = (subst (λ (d : ℕ × SparseMap). HoldsKey d.1) (sym h.left) o, subst (λ (d : ℕ × SparseMap). HoldsKey d.1) (sym h.right) n);
+    }
+fork_formed false near far f h e lt n o =
+    record {
+      level = (cc, rw (ap (λ d. d.0) h.left) lt);
+      formed = (subst (λ (d : ℕ × SparseMap). HoldsKey d.1) (sym h.left) n, subst (λ (d : ℕ × SparseMap). HoldsKey d.1) (sym h.right) o);
+    }
+
+pub fork_has : {D A : _} (b : Bool) (near far : ℕ × SparseMap) (f : Fork' D A) (key : List ℕ) → IsForkOf b near far f → near.0 ≡ far.0 → near.0 < 256 → bit_at key (255 - near.0) ≡ b → contains_key near.1 (last_bits key near.0) ≡ true → contains_key (held_by (Fork f)) (last_bits key (height_of (Fork f))) ≡ true
+fork_has b near far f key h e lt at has =
+    subst (λ (d : ℕ × SparseMap). contains_key d.1 (last_bits key d.0) ≡ true) (sym (fork_held b near far f h e))
+    (ap (contains_key (join_at b near.1 far.1)) (last_bits-step key near.0 lt ∙ ap (λ x. x ∷ last_bits key near.0) at) ∙ contains_key-join_at b near.1 far.1 (last_bits key near.0) ∙ has)
+
+pub lone_seen : (s : Lone) (k : ℕ) (key v : List ℕ) → s.height ≡ k → s.key ≡ key → s.value ≡ v → ◌≡◌ {A = ℕ × SparseMap} (s.height, insert empty (last_bits s.key s.height) s.value) (k, insert empty (last_bits key k) v)
+lone_seen s k key v h e x = ap (λ j. (j, insert empty (last_bits s.key j) s.value)) h ∙ ap (λ y. (k, insert empty (last_bits y k) s.value)) e ∙ ap (λ y. (k, insert empty (last_bits key k) y)) x
+
+pub lone_holds : (d : ℕ × SparseMap) (k : ℕ) (q : List Bool) (v : List ℕ) → d ≡ (k, insert empty q v) → HoldsKey d.1
+lone_holds d k q v e = subst (λ (d : ℕ × SparseMap). HoldsKey d.1) (sym e) (q, contains_key-insert_same empty q v)
+
+pub lone_has : (d : ℕ × SparseMap) (k : ℕ) (key v : List ℕ) → d ≡ (k, insert empty (last_bits key k) v) → contains_key d.1 (last_bits key d.0) ≡ true
+lone_has d k key v e = subst (λ (d : ℕ × SparseMap). contains_key d.1 (last_bits key d.0) ≡ true) (sym e) (contains_key-insert_same empty (last_bits key k) v)
+
+-- what splits
+pub splits_join : (l r : SparseMap) → HoldsKey l → HoldsKey r → Splits (join l r)
+splits_join l r hl hr = ((hl.0, ap is_some (get-join_false l r hl.0) ∙ hl.1), (hr.0, ap is_some (get-join_true l r hr.0) ∙ hr.1))
+
+still : (b : Bool) (v : List ℕ) (m : SparseMap) (q : List Bool) → is_some (get m q) ≡ true → is_some (cond b (Some v) (get m q)) ≡ true
+still true v m q h = refl
+still false v m q h = h
+
+pub held_after : (m : SparseMap) (p q : List Bool) (v : List ℕ) → contains_key m q ≡ true → contains_key (insert m p v) q ≡ true
+held_after m p q v h = ap is_some (get-insert bits_total m p v q) ∙ still (eq_by_cmp bits_cmp q p) v m q h
+
+pub splits_after : (m : SparseMap) (p : List Bool) (v : List ℕ) → Splits m → Splits (insert m p v)
+splits_after m p v s = ((s.0.0, held_after m p _ v s.0.1), (s.1.0, held_after m p _ v s.1.1))
+
+pub one_false : (b : Bool) (v : List ℕ) → is_some (cond b (Some v) None) ≡ true → b ≡ true
+one_false true v h = refl
+one_false false v h = cc
+
+pub lone_tied : (p q : List Bool) (v : List ℕ) → contains_key (insert (empty {K = List Bool} {X = List ℕ} {R = bits_cmp}) p v) q ≡ true → eq_by_cmp bits_cmp q p ≡ true
+lone_tied p q v h = one_false (eq_by_cmp bits_cmp q p) v (sym (ap is_some (get-insert bits_total empty p v q ∙ ap (cond (eq_by_cmp bits_cmp q p) (Some v)) (get-empty bits_cmp q))) ∙ h)
+
+pub no_lone : (p q r : List Bool) → eq_by_cmp bits_cmp (false ∷ q) p ≡ true → eq_by_cmp bits_cmp (true ∷ r) p ≡ true → ⊥
+no_lone [] q r h k = cc
+no_lone (true ∷ p) q r h k = cc
+no_lone (false ∷ p) q r h k = cc
+
+pub lone_no_split : (p : List Bool) (v : List ℕ) → ¬ Splits (insert empty p v)
+lone_no_split p v s = no_lone p s.0.0 s.1.0 (lone_tied p _ v s.0.1) (lone_tied p _ v s.1.1)
+
+-- what stands below bits
+formed_below : {D A : _} (node : Node D A) (from len : ℕ) → IsWellFormed node → Carries node → ((s : Stem' D A) → node ≡ Stem s → ⊥) → ¬ (len ≡ 0) → from + len + height_of node ≡ 256 → Splits (held_by node) ⊎ ((len ≡ 1) × (height_of node ≡ 255) × IsLone (held_by node))
+formed_below (Leaf d) from len w c n z h = absurd c
+formed_below (Fork f) from len w c n z h = inl (splits_join f.left.1 f.right.1 w.formed.0 w.formed.1)
+formed_below (Singleton s) from len w c n z h = inr (omega (arith, c, h, z), c, (last_bits s.key s.height, s.value, refl))
+formed_below (Stem s) from len w c n z h = absurd (n s refl)
+formed_below (Empty k) from len w c n z h = absurd c
+
+pub raised_none : {D A : _} (n : Node D A) (key : List ℕ) (from len : ℕ) → len ≡ 0 → IsWellFormed n → IsSeen n (height_of n + len) (under (bits_from key from len) (held_by n))
+raised_none n key from len h w =
+    let e : height_of n ≡ height_of n + len = omega (arith, h) in
+    record {
+      seen_as = ap (λ j. (j, held_by n)) e ∙ ap (λ m. (height_of n + len, m)) (sym (under-none (held_by n)) ∙ ap (λ t. under t (held_by n)) (sym (bits_from-none key from)) ∙ ap (λ j. under (bits_from key from j) (held_by n)) (sym h));
+      well_formed = w;
+    }
+
+pub raised_other : {D A : _} (node : Node D A) (s : Stem' D A) (key : List ℕ) (from len : ℕ) → IsWellFormed node → Carries node → ((x : Stem' D A) → node ≡ Stem x → ⊥) → ¬ (len ≡ 0) → from + len + height_of node ≡ 256 → s.key ≡ key → s.from ≡ from → s.len ≡ len → s.below ≡ seen node → IsSeen (Stem s) (height_of node + len) (under (bits_from key from len) (held_by node))
+raised_other node s key from len w c n z h ek ef el eb =
+    record {
+      seen_as = ap (λ d. (d.0 + s.len, under (bits_from s.key s.from s.len) d.1)) eb ∙ ap (λ j. (height_of node + j, under (bits_from s.key s.from j) (held_by node))) el ∙ ap (λ j. (height_of node + len, under (bits_from s.key j len) (held_by node))) ef ∙ ap (λ j. (height_of node + len, under (bits_from j from len) (held_by node))) ek;
+      well_formed = record {
+        level = ap (λ j. j + s.len + s.below.0) ef ∙ ap (λ j. from + j + s.below.0) el ∙ ap (λ d. from + len + d.0) eb ∙ h;
+        formed = (omega (arith, el, z), subst (λ (d : ℕ × SparseMap). Splits d.1 ⊎ ((s.len ≡ 1) × (d.0 ≡ 255) × IsLone d.1)) (sym eb) (subst (λ (j : ℕ). Splits (held_by node) ⊎ ((j ≡ 1) × (height_of node ≡ 255) × IsLone (held_by node))) (sym el) (formed_below node from len w c n z h)));
+      };
+    }
+
+lower_splits : (lower_len k from len : ℕ) (m : SparseMap) → ¬ (len ≡ 0) → from + len + (k + lower_len) ≡ 256 → Splits m ⊎ ((lower_len ≡ 1) × (k ≡ 255) × IsLone m) → Splits m
+lower_splits l k from len m z h (inl s) = s
+lower_splits l k from len m z h (inr o) = absurd (omega (arith, o.0, o.1, z, h))
+
+stem_more : {D A : _} (lower s : Stem' D A) (key : List ℕ) (from len : ℕ) → IsWellFormed (Stem lower) → ¬ (len ≡ 0) → from + len + (lower.below.0 + lower.len) ≡ 256 → contains_key (held_by (Stem lower)) (last_bits key (lower.below.0 + lower.len)) ≡ true → s.key ≡ key → s.from ≡ from → s.len ≡ len + lower.len → s.below ≡ lower.below → IsSeen (Stem s) (lower.below.0 + lower.len + len) (under (bits_from key from len) (held_by (Stem lower)))
+stem_more lower s key from len w z h has ek ef el eb =
+    let k = lower.below.0 in
+    let m = lower.below.1 in
+    let l = lower.len in
+    let swap : k + l ≡ l + k = omega arith in
+    let whole : last_bits key (k + l) ≡ bits_from key (from + len) l ++ bits_from key (from + len + l) k = last_bits-at key (from + len) (k + l) h ∙ ap (bits_from key (from + len)) swap ∙ bits_from-append key (from + len) l k in
+    let same : bits_from key (from + len) l ≡ bits_from lower.key lower.from l = under_same _ _ (bits_from key (from + len + l) k) m (length-bits_from key (from + len) l ∙ sym (length-bits_from lower.key lower.from l)) (ap (contains_key (held_by (Stem lower))) (sym whole) ∙ has) in
+    let held : under (bits_from key from (len + l)) m ≡ under (bits_from key from len) (held_by (Stem lower)) = ap (λ t. under t m) (bits_from-append key from len l) ∙ under-append (bits_from key from len) (bits_from key (from + len) l) m ∙ ap (λ t. under (bits_from key from len) (under t m)) same in
+    let sum : k + (len + l) ≡ k + l + len = omega arith in
+    let lev : from + (len + l) + k ≡ 256 = omega (arith, h) in
+    record {
+      seen_as = ap (λ d. (d.0 + s.len, under (bits_from s.key s.from s.len) d.1)) eb ∙ ap (λ j. (k + j, under (bits_from s.key s.from j) m)) el ∙ ap (λ j. (k + (len + l), under (bits_from s.key j (len + l)) m)) ef ∙ ap (λ j. (k + (len + l), under (bits_from j from (len + l)) m)) ek ∙ ap (λ t. (k + (len + l), t)) held ∙ ap (λ j. (j, under (bits_from key from len) (held_by (Stem lower)))) sum;
+      well_formed = record {
+        level = ap (λ j. j + s.len + s.below.0) ef ∙ ap (λ j. from + j + s.below.0) el ∙ ap (λ d. from + (len + l) + d.0) eb ∙ lev;
+        formed = (omega (arith, el, z), inl (subst (λ (d : ℕ × SparseMap). Splits d.1) (sym eb) (lower_splits l k from len m z h w.formed.1)));
+      };
+    }
+
+pub raised_stem : {D A : _} (node : Node D A) (lower s : Stem' D A) (key : List ℕ) (from len : ℕ) → node ≡ Stem lower → IsWellFormed node → ¬ (len ≡ 0) → from + len + height_of node ≡ 256 → contains_key (held_by node) (last_bits key (height_of node)) ≡ true → s.key ≡ key → s.from ≡ from → s.len ≡ len + lower.len → s.below ≡ lower.below → IsSeen (Stem s) (height_of node + len) (under (bits_from key from len) (held_by node))
+raised_stem node lower s key from len is w z h has ek ef el eb =
+    rw is (stem_more lower s key from len (subst IsWellFormed is w) z (rw is at h) (rw is at has) ek ef el eb)
+
+-- what stands below a stem after an insertion
+splits_carries : {D A : _} (node : Node D A) → IsWellFormed node → height_of node < 256 → Splits (held_by node) → Carries node
+splits_carries (Leaf d) w h s = lone_no_split [] d s
+splits_carries (Fork f) w h s = tt
+splits_carries (Singleton l) w h s = absurd (lone_no_split (last_bits l.key l.height) l.value s)
+splits_carries (Stem t) w h s = tt
+splits_carries (Empty n) w h s = omega (arith, w.formed, h)
+
+high_carries : {D A : _} (node : Node D A) → IsWellFormed node → height_of node ≡ 255 → Carries node
+high_carries (Leaf d) w h = omega (arith, h)
+high_carries (Fork f) w h = tt
+high_carries (Singleton l) w h = h
+high_carries (Stem t) w h = tt
+high_carries (Empty n) w h = omega (arith, w.formed, h)
+
+after_by : {D A : _} (len from k : ℕ) (m : SparseMap) (p : List Bool) (v : List ℕ) (node : Node D A) → from + len + k ≡ 256 → 0 < len → Splits m ⊎ ((len ≡ 1) × (k ≡ 255) × IsLone m) → IsWellFormed node → seen node ≡ (k, insert m p v) → Carries node
+after_by len from k m p v node lev some (inl s) w e =
+    let h : height_of node ≡ k = ap (λ d. d.0) e in
+    splits_carries node w (omega (arith, h, lev, some)) (subst (λ (d : ℕ × SparseMap). Splits d.1) (sym e) (splits_after m p v s))
+after_by len from k m p v node lev some (inr o) w e = high_carries node w (ap (λ d. d.0) e ∙ o.1)
+
+pub after_carries : {D A : _} (old : Node D A) (s : Stem' D A) (below node : Node D A) (p : List Bool) (v : List ℕ) → old ≡ Stem s → IsWellFormed old → seen below ≡ s.below → IsWellFormed node → seen node ≡ (height_of below, insert (held_by below) p v) → Carries node
+after_carries old s below node p v is w b wn e =
+    let ws : IsWellFormed (Stem s) = subst IsWellFormed is w in
+    after_by s.len s.from s.below.0 s.below.1 p v node ws.level ws.formed.0 ws.formed.1 wn (e ∙ ap (λ d. (d.0, insert d.1 p v)) b)
+
+pub stem_holds : (len k : ℕ) (m : SparseMap) → Splits m ⊎ ((len ≡ 1) × (k ≡ 255) × IsLone m) → HoldsKey m
+stem_holds len k m (inl s) = (false ∷ s.0.0, s.0.1)
+stem_holds len k m (inr o) = (o.2.0, ap (λ t. contains_key t o.2.0) o.2.2 ∙ contains_key-insert_same empty o.2.0 o.2.1)
+
+pub rest_holds : {D A : _} (old : Node D A) (s : Stem' D A) (far : ℕ × SparseMap) (k : ℕ) (bs : List Bool) → old ≡ Stem s → IsWellFormed old → far ≡ (k, under bs s.below.1) → HoldsKey far.1
+rest_holds old s far k bs is w e =
+    let ws : IsWellFormed (Stem s) = subst IsWellFormed is w in
+    subst (λ (d : ℕ × SparseMap). HoldsKey d.1) (sym e) (holds-under bs s.below.1 (stem_holds s.len s.below.0 s.below.1 ws.formed.1))

@@ -1,0 +1,15 @@
+pub mod Sparse
+pub mod Under
+pub mod Side
+pub mod Roots
+pub mod Form
+pub mod Inserts
+pub mod Finds
+pub mod Len
+pub mod ProofValue
+pub mod Peers
+pub mod Counts
+pub mod Absences
+pub mod Honest
+pub mod Insertions
+pub mod Unique

@@ -1,0 +1,19 @@
+-- What `==` on sides says of their bits.
+use Rattle.std.proofs.Common.{◌≡◌, Bool, true, false, not, refl}
+use denote.Enum.Bare.{sameb}
+use Rattle.warg_map.specs.contracts.path.Side.{the_type}
+use Rattle.warg_map.specs.declared.path.Side.{Side}
+use Rattle.warg_map.specs.declared.path.Side.TheVariants.{Left, Right}
+use Rattle.warg_map.specs.Side.{side_bit}
+
+pub same_bit : (x y : Side) → not (sameb the_type x y) ≡ false → side_bit x ≡ side_bit y
+same_bit Left Left e = refl
+same_bit Left Right e = cc
+same_bit Right Left e = cc
+same_bit Right Right e = refl
+
+pub other_bit : (x y : Side) → not (sameb the_type x y) ≡ true → ¬ (side_bit x ≡ side_bit y)
+other_bit Left Left e h = cc
+other_bit Left Right e h = cc
+other_bit Right Left e h = cc
+other_bit Right Right e h = cc

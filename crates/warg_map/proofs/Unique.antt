@@ -1,0 +1,83 @@
+-- A map has one root, and one proof of each key.
+use Rattle.std.proofs.Common.{◌≡◌, ℕ, zero, suc, ◌+◌, ◌<◌, Bool, true, false, not, List, [], ◌∷◌, ◌++◌, length, Option, Some, None, is_some, unwrap_or, refl, sym, ap, ◌∙◌, arith, ◌⊎◌, inl, inr, IsTrue}
+use Rattle.std.proofs.lemmas.List.{length-reverse, reverse-reverse}
+use Rattle.std.specs.Prelude.{reverse}
+use Rattle.std.specs.FinMap.{get, contains_key}
+use Rattle.warg_crypto.specs.EmptyTrees.{empty_root}
+use Rattle.warg_map.specs.Sparse.{SparseMap, root_of, sparse_root, leaf_at}
+use Rattle.warg_map.specs.Peers.{shared, IsPeers, IsPeerCount, Proves, IsOther, IsAbsentPeers, IsAbsentCount, ProvesAbsent}
+use Rattle.warg_map.proofs.Under.{no_some}
+
+-- the leaf digests decide the root
+root-leaves : (H : List ℕ → List ℕ) (k : ℕ) (m n : List Bool → Option (List ℕ)) → ((bits : List Bool) → length bits ≡ k → unwrap_or (m bits) (empty_root H 0) ≡ unwrap_or (n bits) (empty_root H 0)) → root_of H k m ≡ root_of H k n
+unfolding root_of
+root-leaves H zero m n h = h [] refl
+root-leaves H (suc k) m n h =
+    ap (λ l. H (1 ∷ (l ++ root_of H k (λ bits. m (true ∷ bits))))) (root-leaves H k (λ bits. m (false ∷ bits)) (λ bits. n (false ∷ bits)) (λ bits e. h (false ∷ bits) (ap suc e)))
+    ∙ ap (λ r. H (1 ∷ (root_of H k (λ bits. n (false ∷ bits)) ++ r))) (root-leaves H k (λ bits. m (true ∷ bits)) (λ bits. n (true ∷ bits)) (λ bits e. h (true ∷ bits) (ap suc e)))
+
+pub same_root : (H : List ℕ → List ℕ) (m n : SparseMap) → ((bits : List Bool) → length bits ≡ 256 → leaf_at H m bits ≡ leaf_at H n bits) → sparse_root H 256 m ≡ sparse_root H 256 n
+same_root H m n h = root-leaves H 256 (get m) (get n) h
+
+turned : (ps qs : List (Option (List ℕ))) → reverse ps ≡ reverse qs → ps ≡ qs
+turned ps qs e = sym (reverse-reverse ps) ∙ ap reverse e ∙ reverse-reverse qs
+
+turned_lengths : (ps qs : List (Option (List ℕ))) → length ps ≡ length qs → length (reverse ps) ≡ length (reverse qs)
+turned_lengths ps qs e = length-reverse ps ∙ e ∙ sym (length-reverse qs)
+
+-- proofs of presence
+same_count : (lone : ℕ) (m : SparseMap) (bits : List Bool) (n k : ℕ) → IsPeerCount lone m bits n → IsPeerCount lone m bits k → n ≡ k
+same_count lone m bits n k g h =
+    elim g.reached [
+      | inl w ↦ elim h.reached [ inl x ↦ w.0 ∙ sym x.0 | inr x ↦ absurd (x.2 (w.1 x.0 x.1)) ]
+      | inr w ↦ elim h.reached [
+        | inl x ↦ absurd (w.2 (x.1 w.0 w.1))
+        | inr x ↦ let up = h.above w.0 w.1 w.2 in let down = g.above x.0 x.1 x.2 in omega (arith, up, down, w.3, x.3)
+      ]
+    ]
+
+same_peers : (H : List ℕ → List ℕ) (bits : List Bool) (m : List Bool → Option (List ℕ)) (ps qs : List (Option (List ℕ))) → length ps ≡ length qs → IsPeers H m bits ps → IsPeers H m bits qs → ps ≡ qs
+unfolding IsPeers
+same_peers H bits m [] [] n g h = refl
+same_peers H bits m [] (q ∷ qs) n g h = absurd (omega (arith, n))
+same_peers H bits m (p ∷ ps) [] n g h = absurd (omega (arith, n))
+same_peers H [] m (p ∷ ps) (q ∷ qs) n g h = absurd g
+same_peers H (b ∷ bits) m (p ∷ ps) (q ∷ qs) n g h =
+    ap (λ x. x ∷ ps) (g.0 ∙ sym h.0) ∙ ap (λ t. q ∷ t) (same_peers H bits (λ r. m (b ∷ r)) ps qs (omega (arith, n)) g.1 h.1)
+
+pub same_proof : (H : List ℕ → List ℕ) (height : ℕ) (m : SparseMap) (bits : List Bool) (ps qs : List (Option (List ℕ))) → Proves H height m bits ps → Proves H height m bits qs → ps ≡ qs
+same_proof H height m bits ps qs g h =
+    turned ps qs (same_peers H bits (get m) (reverse ps) (reverse qs) (turned_lengths ps qs (same_count _ m bits (length ps) (length qs) g.count h.count)) g.peers_from_top h.peers_from_top)
+
+-- proofs of absence
+same_absent_count : (m : SparseMap) (bits : List Bool) (n k : ℕ) → IsAbsentCount m bits n → IsAbsentCount m bits k → n ≡ k
+same_absent_count m bits n k g h =
+    elim g.reached [
+      | inl w ↦ elim h.reached [ inl x ↦ w.0 ∙ sym x.0 | inr x ↦ absurd (both m x.0 (w.1 x.0) x.1) ]
+      | inr w ↦ elim h.reached [
+        | inl x ↦ absurd (both m w.0 (x.1 w.0) w.1)
+        | inr x ↦ let up = h.above w.0 w.1 in let down = g.above x.0 x.1 in omega (arith, up, down, w.2, x.2)
+      ]
+    ]
+  where
+    both : (m : SparseMap) (q : List Bool) → contains_key m q ≡ false → contains_key m q ≡ true → ⊥
+    both m q n h = let e : false ≡ true = sym n ∙ h in cc
+
+same_other : (H : List ℕ → List ℕ) (k : ℕ) (m : List Bool → Option (List ℕ)) (o p : Option (List ℕ)) → IsOther H k m o → IsOther H k m p → o ≡ p
+same_other H k m o p (inl g) (inl h) = g.0 ∙ sym h.0
+same_other H k m o p (inl g) (inr h) = absurd (no_some (m h.1.0) (g.1 h.1.0) h.1.1)
+same_other H k m o p (inr g) (inl h) = absurd (no_some (m g.1.0) (h.1 g.1.0) g.1.1)
+same_other H k m o p (inr g) (inr h) = g.0 ∙ sym h.0
+
+same_absent_peers : (H : List ℕ → List ℕ) (bits : List Bool) (m : List Bool → Option (List ℕ)) (ps qs : List (Option (List ℕ))) → length ps ≡ length qs → IsAbsentPeers H m bits ps → IsAbsentPeers H m bits qs → ps ≡ qs
+unfolding IsAbsentPeers
+same_absent_peers H bits m [] [] n g h = refl
+same_absent_peers H bits m [] (q ∷ qs) n g h = absurd (omega (arith, n))
+same_absent_peers H bits m (p ∷ ps) [] n g h = absurd (omega (arith, n))
+same_absent_peers H [] m (p ∷ ps) (q ∷ qs) n g h = absurd g
+same_absent_peers H (b ∷ bits) m (p ∷ ps) (q ∷ qs) n g h =
+    ap (λ x. x ∷ ps) (same_other H (length bits) (λ r. m (not b ∷ r)) p q g.0 h.0) ∙ ap (λ t. q ∷ t) (same_absent_peers H bits (λ r. m (b ∷ r)) ps qs (omega (arith, n)) g.1 h.1)
+
+pub same_absence : (H : List ℕ → List ℕ) (m : SparseMap) (bits : List Bool) (ps qs : List (Option (List ℕ))) → ProvesAbsent H m bits ps → ProvesAbsent H m bits qs → ps ≡ qs
+same_absence H m bits ps qs g h =
+    turned ps qs (same_absent_peers H bits (get m) (reverse ps) (reverse qs) (turned_lengths ps qs (same_absent_count m bits (length ps) (length qs) g.count h.count)) g.peers_from_top h.peers_from_top)

@@ -1,0 +1,5 @@
+use Rattle.warg_map.proofs.Insertions.{inserted-order}
+use Rattle.warg_map.proofs.laws.any_order.Goals as goal
+
+pub returns : goal.returns
+returns c = inserted-order

@@ -1,0 +1,25 @@
+use Rattle.std.proofs.Common.{◌≡◌, ◌∙◌, ap, sym, refl, ◌+◌, ◌-◌, ◌<◌, arith}
+use Rattle.std.specs.FinMap.{insert, empty}
+use Rattle.warg_map.specs.Side.{side_bit}
+use Rattle.warg_map.specs.Bits.{bit_at, last_bits}
+use Rattle.warg_map.specs.Seen.{seen}
+use Rattle.warg_map.proofs.Sparse.{contains_key-insert_same}
+use Rattle.warg_map.proofs.Form.{fork_formed, fork_has, lone_seen, lone_holds, lone_has}
+use Rattle.warg_map.proofs.node.Node.parted.Goals as goal
+
+pub raised-requires-clause-well_formed : goal.raised-requires-clause-well_formed
+raised-requires-clause-well_formed g c =
+    let k = 255 - c.args.from - c.args.shared in
+    let near = c.in_ok-near.ensures ∙ lone_seen c.new-lone.result k c.args.key.now c.args.value c.new-lone.ensures.height (c.new-lone.ensures.key ∙ c.copied.ensures) c.new-lone.ensures.value in
+    let h = ap (λ d. d.0) near in
+    fork_formed (side_bit c.side_at.result) c.in_ok-near.near c.args.far c.beside-fork.result c.beside-fork.ensures
+    (omega (arith, h, c.requires.height)) (omega (arith, h, c.requires.height)) (lone_holds _ k _ _ near) c.requires.holds
+
+pub raised-requires-clause-held : goal.raised-requires-clause-held
+raised-requires-clause-held g c =
+    let k = 255 - c.args.from - c.args.shared in
+    let near = c.in_ok-near.ensures ∙ lone_seen c.new-lone.result k c.args.key.now c.args.value c.new-lone.ensures.height (c.new-lone.ensures.key ∙ c.copied.ensures) c.new-lone.ensures.value in
+    let h = ap (λ d. d.0) near in
+    let place : 255 - c.in_ok-near.near.0 ≡ c.args.from + c.args.shared = omega (arith, h, c.requires.height) in
+    fork_has (side_bit c.side_at.result) c.in_ok-near.near c.args.far c.beside-fork.result c.args.key.now c.beside-fork.ensures
+    (omega (arith, h, c.requires.height)) (omega (arith, h, c.requires.height)) (ap (bit_at c.args.key.now) place ∙ sym c.side_at.ensures) (lone_has _ k c.args.key.now c.args.value near)

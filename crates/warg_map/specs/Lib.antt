@@ -1,0 +1,11 @@
+pub mod Bits
+pub mod Sparse
+pub mod Under
+pub mod ProofValue
+pub mod Peers
+pub mod Count
+pub mod Side
+pub mod Path
+pub mod Lone
+pub mod Seen
+pub mod Shown

@@ -1,0 +1,19 @@
+-- A lone key, as a contract sees it.
+use Rattle.std.specs.Prelude.{◌≡◌, ℕ, ◌≤◌, List}
+use Rattle.std.specs.FinMap.{insert, empty}
+use Rattle.warg_map.specs.Bits.{last_bits}
+use Rattle.warg_map.specs.Sparse.{SparseMap, sparse_root}
+
+-- A key digest with its leaf digest, and the height of the tree that holds nothing else.
+pub record Lone : Type 0 where
+  pub key : List ℕ
+  pub value : List ℕ
+  pub height : ℕ
+
+-- What a lone key's tree holds: the leaf digest under the last bits of the key digest.
+abbrev pub held_alone : Lone → SparseMap
+held_alone s = insert empty (last_bits s.key s.height) s.value
+
+-- In a tree of 224 levels or more, the digest kept is that of the lone key's tree of 224 levels.
+abbrev pub IsKept : (List ℕ → List ℕ) → List ℕ → List ℕ → List ℕ → ℕ → Type 0
+IsKept H low key value height = 224 ≤ height → low ≡ sparse_root H 224 (insert empty (last_bits key 224) value)

@@ -1,0 +1,85 @@
+//! Forks: two nodes of one height.
+
+ghost use Rattle.std.specs.Prelude.{◌≡◌, ℕ, ◌+◌, IfOk, if◌then◌else◌};
+ghost use Rattle.warg_map.specs.Sparse.{sparse_root};
+ghost use Rattle.warg_map.specs.Under.{join};
+
+use crate::link::Link;
+use crate::path::Side;
+use std::alloc::{AllocError, Allocator, Global};
+use std::ops::Index;
+use warg_crypto::{Hash, SupportedDigest};
+use warg_log::hash_branch;
+
+/// Two links of one height.
+#[cycle(tree)]
+#[derive(Drop)]
+pub struct Fork<D: SupportedDigest, A: Allocator = Global> {
+    left: Link<D, A>,
+    right: Link<D, A>,
+}
+
+impl<D: SupportedDigest, A: Allocator> Fork<D, A> {
+    ghost use Rattle.warg_map.specs.Side.{side_bit};
+    ghost use Rattle.warg_map.specs.Seen.{IsForkOf};
+
+    /// The fork of two links.
+    pub fn new(left: Link<D, A>, right: Link<D, A>) -> Fork<D, A>
+        ensures left { result.left ≡ left }
+        ensures right { result.right ≡ right }
+    {
+        Fork { left, right }
+    }
+
+    /// The fork of two links, the first on a side and the second on the other.
+    pub(crate) fn beside(side: Side, near: Link<D, A>, far: Link<D, A>) -> Fork<D, A>
+        ensures { IsForkOf (side_bit side) near far result }
+    {
+        match side {
+            Side::Left => Fork::new(near, far),
+            Side::Right => Fork::new(far, near),
+        }
+    }
+
+    /// The digest of the tree.
+    pub fn hash(&self) -> Hash<D>
+        requires { self.now.left.0 ≡ self.now.right.0 }
+        ensures { result ≡ sparse_root D.digest (self.now.left.0 + 1) (join self.now.left.1 self.now.right.1) }
+    {
+        hash_branch(self.left.hash(), self.right.hash())
+    }
+
+    /// The fork with another link on a side. The link on the other side is shared.
+    pub fn with_side(&self, side: Side, link: Link<D, A>) -> Result<Fork<D, A>, AllocError>
+        ensures { IfOk result (λ f. IsForkOf (side_bit side) link (if side_bit side then self.now.left else self.now.right) f) }
+    {
+        let other = self[side.opposite()].clone()?;
+        Ok(Fork::beside(side, link, other))
+    }
+}
+
+impl<D: SupportedDigest, A: Allocator> Index<Side> for Fork<D, A> {
+    type Output = Link<D, A>;
+
+    ghost use Rattle.std.specs.Prelude.{◌≡◌, if◌then◌else◌};
+    ghost use Rattle.warg_map.specs.Side.{side_bit};
+
+    ghost index_gives = { λ f side link. link ≡ (if side_bit side then f.right else f.left) };
+
+    fn index(&self, index: Side) -> &Link<D, A> {
+        match index {
+            Side::Left => &self.left,
+            Side::Right => &self.right,
+        }
+    }
+}
+
+impl<D: SupportedDigest, A: Allocator> Clone for Fork<D, A> {
+    ghost use Rattle.std.specs.Prelude.{◌≡◌};
+
+    ghost is_clone = { λ f copy. copy ≡ f };
+
+    fn clone(&self) -> Result<Fork<D, A>, AllocError> {
+        Ok(Fork::new(self.left.clone()?, self.right.clone()?))
+    }
+}

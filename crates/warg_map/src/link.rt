@@ -1,0 +1,85 @@
+//! Links: shared nodes with their digests.
+
+ghost use Rattle.std.specs.Prelude.{◌≡◌, ℕ, IfOk};
+ghost use Rattle.warg_map.specs.Sparse.{sparse_root};
+
+use crate::node::Node;
+use std::alloc::{AllocError, Allocator, Global};
+use std::marker::Model;
+use std::rc::Rc;
+use warg_crypto::{Hash, SupportedDigest};
+
+/// A shared node, with its digest.
+///
+/// Contracts see a link as the height of its node and the map that the node stands for.
+#[cycle(tree)]
+#[derive(Drop)]
+pub struct Link<D: SupportedDigest, A: Allocator = Global> {
+    hash: Hash<D>,
+    node: Rc<Node<D, A>, A>,
+}
+
+impl<D: SupportedDigest, A: Allocator> Model for Link<D, A> {
+    ghost use Rattle.std.specs.Prelude.{◌≡◌, ℕ};
+    ghost use Rattle.std.specs.Coded.{coded×, coded_ℕ};
+    ghost use Rattle.warg_map.specs.Sparse.{SparseMap, sparse_map_code, sparse_root};
+
+    ghost Value = { ℕ × SparseMap };
+
+    ghost coded = { coded× coded_ℕ sparse_map_code };
+
+    ghost use Rattle.warg_map.specs.Seen.{seen, IsWellFormed};
+
+    ghost view = { λ a. seen a.node.value };
+
+    ghost invariant = { λ a. IsWellFormed a.node.value × (a.hash ≡ sparse_root D.digest (seen a.node.value).0 (seen a.node.value).1) };
+
+    ghost size = { λ d. d.0 };
+
+    ghost use Rattle.std.proofs.Common.{arith};
+
+    ghost size_decreases = { λ a h. Prim.grind arith };
+}
+
+impl<D: SupportedDigest, A: Allocator> Link<D, A> {
+    ghost use Rattle.warg_map.specs.Seen.{seen, IsWellFormed};
+
+    /// A link to a node, whose digest it computes.
+    pub fn new(alloc: A, node: Node<D, A>) -> Result<Link<D, A>, AllocError>
+        requires { IsWellFormed node }
+        ensures { IfOk result (λ link. link ≡ seen node) }
+    {
+        let hash = node.hash();
+        let node = Rc::new(alloc, node)?;
+        Ok(Link { hash, node })
+    }
+
+    /// The digest of the node.
+    pub fn hash(&self) -> &Hash<D>
+        ensures { result.now ≡ sparse_root D.digest self.now.0 self.now.1 }
+    {
+        &self.hash
+    }
+
+    /// The node.
+    pub fn node(&self) -> &Node<D, A>
+        ensures seen { seen result.now ≡ self.now }
+        ensures well_formed { IsWellFormed result.now }
+    {
+        &self.node
+    }
+}
+
+/// The node is shared. It takes no memory, and refuses only where the owners of the node can't be counted.
+impl<D: SupportedDigest, A: Allocator> Clone for Link<D, A> {
+    ghost use Rattle.std.specs.Prelude.{◌≡◌};
+
+    ghost is_clone = { λ l copy. copy ≡ l };
+
+    fn clone(&self) -> Result<Link<D, A>, AllocError> {
+        Ok(Link {
+            hash: self.hash.copied(),
+            node: self.node.clone()?,
+        })
+    }
+}

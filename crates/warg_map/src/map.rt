@@ -1,0 +1,309 @@
+//! The map.
+
+ghost use Rattle.std.specs.Prelude.{◌≡◌, ℕ, List, ◌+◌, ◌*◌, ◌<◌, ◌≤◌, ◌↔◌, ◌∷◌, ◌++◌, [], IfOk, IfSome, IsSome, IsTrue, MatchOption, Some, false};
+ghost use Rattle.std.specs.FinMap as map;
+ghost use Rattle.std.specs.Iterator.{IsFinite, Drains, Yields};
+ghost use Rattle.warg_map.specs.Bits.{key_bits};
+ghost use Rattle.warg_crypto.specs.EmptyTrees.{empty_root};
+ghost use Rattle.warg_map.specs.Sparse.{sparse_root, leaf_at, leaf_digest, inserted, pair_bytes};
+ghost use Rattle.warg_map.specs.ProofValue.{proof_value};
+ghost use Rattle.warg_map.specs.Peers.{Proves, ProvesAbsent};
+ghost use Rattle.warg_map.specs.Count.{node_count};
+ghost use Rattle.warg_map.specs.Shown.{peers_of};
+
+use crate::link::Link;
+use crate::node::Node;
+use crate::path::Path;
+use crate::proof::Proof;
+use std::alloc::{AllocError, Allocator, Global};
+use std::fmt;
+use std::fmt::Debug;
+use std::marker::{Model, PhantomData};
+use thiserror::Error;
+use warg_crypto::{Hash, SupportedDigest, VisitBytes, empty_tree_hash};
+use warg_log::hash_leaf;
+
+/// Why an insertion was refused. The map that it was to go into stays as it was.
+#[derive(Debug, PartialEq, Eq, Drop, Error)]
+pub enum MapError {
+    /// A new key digest, where as many are held as a `usize` can count.
+    #[error("map is full")]
+    Full,
+    /// A growth was refused.
+    #[error("out of memory")]
+    Memory,
+}
+
+impl From<AllocError> for MapError {
+    ghost use Rattle.std.specs.Prelude.{◌≡◌};
+    ghost use Rattle.warg_map.specs.declared.map.MapError.TheVariants.{Memory};
+
+    ghost from_gives = { λ _ e. e ≡ Memory };
+
+    fn from(_error: AllocError) -> MapError {
+        MapError::Memory
+    }
+}
+
+/// An immutable map from keys to values, as a sparse Merkle tree of 256 levels.
+///
+/// A key's bits are those of its digest, and lead from the top of the tree to a leaf: 0 goes left and 1 right. A leaf has
+/// the digest of the byte 00 and the value's bytes, a branch that of the byte 01, the left digest and the right one, and
+/// where no key is held the leaf is that of no bytes. Under each key digest the value inserted last counts.
+///
+/// An insertion gives a new map, which shares with the old one what it doesn't change. The root fixes the contents, up to
+/// values without bytes: a key with such a value counts in [`len`](Map::len), and has the root of a map without it.
+///
+/// Contracts see a map as the finite map from key bits to leaf digests.
+#[derive(Drop)]
+pub struct Map<D: SupportedDigest, K, V, A: Allocator = Global> {
+    link: Link<D, A>,
+    len: usize,
+    alloc: A,
+    key: PhantomData<K>,
+    value: PhantomData<V>,
+}
+
+impl<D: SupportedDigest, K, V, A: Allocator> Model for Map<D, K, V, A> {
+    ghost use Rattle.std.specs.Prelude.{◌≡◌};
+    ghost use Rattle.std.specs.FinMap.{len as held_len};
+    ghost use Rattle.warg_map.specs.Sparse.{SparseMap, sparse_map_code};
+
+    ghost Value = { SparseMap };
+
+    ghost coded = { sparse_map_code };
+
+    ghost view = { λ m. m.link.1 };
+
+    ghost invariant = { λ m. (m.link.0 ≡ 256) × (m.len ≡ held_len m.link.1) };
+}
+
+/// By the root alone: a key with a value without bytes makes no difference.
+impl<D: SupportedDigest, K, V, A: Allocator> PartialEq for Map<D, K, V, A> {
+    ghost use Rattle.std.specs.Cmp.Lexicographic.{pointwise};
+    ghost use Rattle.std.specs.Prelude.{nat_eq};
+    ghost use Rattle.std.specs.Ordering.{on};
+    ghost use Rattle.std.specs.Cmp.Rules.{comparing};
+    ghost use Rattle.std.proofs.Common.{rules};
+    ghost use Rattle.warg_map.specs.Sparse.{sparse_root};
+
+    ghost eq = { on (sparse_root D.digest 256) (pointwise nat_eq) };
+
+    ghost laws = { Prim.search (comparing, rules) };
+
+    fn eq(&self, other: &Map<D, K, V, A>) -> bool {
+        self.link.hash() == other.link.hash()
+    }
+}
+
+impl<D: SupportedDigest, K, V, A: Allocator> Eq for Map<D, K, V, A> {
+    ghost use Rattle.std.specs.Cmp.Rules.{comparing};
+    ghost use Rattle.std.proofs.Common.{rules};
+
+    ghost laws = { Prim.search (comparing, rules) };
+}
+
+/// By the root alone.
+impl<D: SupportedDigest, K, V, A: Allocator> std::hash::Hash for Map<D, K, V, A> {
+    ghost use Rattle.std.specs.Hash as fed;
+    ghost use Rattle.std.specs.Cmp.Rules.{comparing, hashing};
+    ghost use Rattle.std.proofs.Common.{rules};
+    ghost use Rattle.warg_map.specs.Sparse.{sparse_root};
+
+    ghost hash_input = { λ m. fed.slice fed.u8 (sparse_root D.digest 256 m) };
+
+    ghost respects_eq = { Prim.search (hashing, rules) };
+
+    fn hash<H: std::hash::Hasher>(&self, state: &mut H) {
+        self.link.hash().bytes().hash(state);
+    }
+}
+
+/// The tree is shared. It takes no memory, and refuses only where the owners of the tree can't be counted.
+impl<D: SupportedDigest, K, V, A: Allocator + Copy> Clone for Map<D, K, V, A> {
+    ghost use Rattle.std.specs.Prelude.{◌≡◌};
+
+    ghost is_clone = { λ m copy. copy ≡ m };
+
+    fn clone(&self) -> Result<Map<D, K, V, A>, AllocError> {
+        Ok(Map {
+            link: self.link.clone()?,
+            len: self.len,
+            alloc: self.alloc,
+            key: PhantomData,
+            value: PhantomData,
+        })
+    }
+}
+
+impl<D: SupportedDigest, K, V, A: Allocator> Map<D, K, V, A> {
+    /// The digest of the top of the tree.
+    pub fn root(&self) -> &Hash<D>
+        ensures { result.now ≡ sparse_root D.digest 256 self.now }
+    {
+        self.link.hash()
+    }
+
+    /// The number of key digests that are held.
+    pub fn len(&self) -> usize
+        ensures { result ≡ map.len self.now }
+    {
+        self.len
+    }
+
+    /// Whether no key digest is held.
+    pub fn is_empty(&self) -> bool
+        ensures { IsTrue result ↔ (map.len self.now ≡ 0) }
+    {
+        self.len == 0
+    }
+
+    /// The number of nodes that the tree is made of, a shared one counted at each place: 1 for the map of nothing, 2 for
+    /// a lone key, and at most `3 * n - 2` for `n` of two or more key digests.
+    pub fn node_count(&self) -> u128
+        ensures exact { result ≡ node_count self.now }
+        ensures few { 1 < map.len self.now → result + 2 ≤ 3 * map.len self.now }
+    {
+        let len = self.len;
+        match len {
+            0 => 1,
+            1 => 2,
+            _ => self.link.node().count(),
+        }
+    }
+}
+
+impl<D: SupportedDigest, K: VisitBytes + Drop, V: VisitBytes + Drop, A: Allocator + Copy> Map<
+    D,
+    K,
+    V,
+    A,
+> {
+    /// The map of nothing, which keeps `alloc` for its nodes and proofs.
+    pub fn default(alloc: A) -> Result<Map<D, K, V, A>, AllocError>
+        ensures { IfOk result (λ m. m ≡ map.empty) }
+    {
+        Ok(Map {
+            link: Link::new(alloc, Node::Empty(256))?,
+            len: 0,
+            alloc,
+            key: PhantomData,
+            value: PhantomData,
+        })
+    }
+
+    /// The proof of what is held under `key`, or `None` exactly where its digest isn't held.
+    ///
+    /// The proof has one peer more than the most bits that the key's digest shares with another that is held, and one for
+    /// a lone key.
+    pub fn prove(&self, key: K) -> Result<Option<Proof<D, K, V, A>>, AllocError>
+        ensures answer { IfOk result (λ o.
+            MatchOption o
+            (map.contains_key self.now (key_bits D.digest (K.bytes key)) ≡ false)
+            (λ p. Proves D.digest 256 self.now (key_bits D.digest (K.bytes key)) (peers_of p))) }
+
+        // From the leaf digest that is held the proof leads to the root.
+        ensures honest { IfOk result (λ o. IfSome o (λ p.
+            (x : List ℕ) → map.get self.now (key_bits D.digest (K.bytes key)) ≡ Some x
+            → proof_value D.digest (peers_of p) x (key_bits D.digest (K.bytes key)) ≡ sparse_root D.digest 256 self.now)) }
+
+        // From any leaf digest it leads to the root of the map that holds this one in its place.
+        ensures replaced { IfOk result (λ o. IfSome o (λ p.
+            (x : List ℕ) → proof_value D.digest (peers_of p) x (key_bits D.digest (K.bytes key))
+            ≡ sparse_root D.digest 256 (map.insert self.now (key_bits D.digest (K.bytes key)) x))) }
+    {
+        let key = Hash::of(&key);
+        let Some(proof) = self.link.node().prove(self.alloc, Path::new(&key))? else {
+            return Ok(None);
+        };
+        Ok(Some(proof))
+    }
+
+    /// The proof that the leaf digest under `key` is that of an empty leaf, or `None` exactly where it isn't.
+    ///
+    /// For a key whose digest isn't held the proof has one peer more than the most bits that this digest shares with one
+    /// that is held, and none in the map of nothing; a peer is `None` where its subtree holds no key. For one that is held
+    /// with the digest of an empty leaf, as a value without bytes gives it, it is the proof of [`prove`](Map::prove).
+    pub fn prove_absence(&self, key: K) -> Result<Option<Proof<D, K, V, A>>, AllocError>
+        ensures empty { IfOk result (λ o. IsSome o
+            ↔ (leaf_at D.digest self.now (key_bits D.digest (K.bytes key)) ≡ empty_root D.digest 0)) }
+        ensures peers { IfOk result (λ o. IfSome o (λ p.
+            MatchOption (map.get self.now (key_bits D.digest (K.bytes key)))
+            (ProvesAbsent D.digest self.now (key_bits D.digest (K.bytes key)) (peers_of p))
+            (λ _. Proves D.digest 256 self.now (key_bits D.digest (K.bytes key)) (peers_of p)))) }
+
+        // From an empty leaf the proof leads to the root.
+        ensures honest { IfOk result (λ o. IfSome o (λ p.
+            proof_value D.digest (peers_of p) (empty_root D.digest 0) (key_bits D.digest (K.bytes key)) ≡ sparse_root D.digest 256 self.now)) }
+    {
+        let key = Hash::of(&key);
+        let node = self.link.node();
+        let Some(leaf) = node.find(Path::new(&key)) else {
+            let proof = node.prove_absent(self.alloc, Path::new(&key))?;
+            return Ok(Some(proof));
+        };
+        if leaf != empty_tree_hash(0) {
+            return Ok(None);
+        }
+        let Some(proof) = node.prove(self.alloc, Path::new(&key))? else {
+            unreachable!()
+        };
+        Ok(Some(proof))
+    }
+
+    /// The map with `val` under `key`, in place of what was held under the key's digest.
+    ///
+    /// `Full` comes exactly for a new key digest where `len` is `usize::MAX`, before anything grows.
+    pub fn insert(&self, key: K, val: V) -> Result<Map<D, K, V, A>, MapError>
+        ensures ok { IfOk result (λ m. m ≡ map.insert self.now (key_bits D.digest (K.bytes key)) (leaf_digest D.digest (V.bytes val))) }
+        ensures full { (result ≡ Err MapError.Full)
+            ↔ ((map.len self.now ≡ usize.MAX) × (map.contains_key self.now (key_bits D.digest (K.bytes key)) ≡ false)) }
+    {
+        let key = Hash::of(&key);
+        let node = self.link.node();
+        let counted = self.len < usize::MAX || node.find(Path::new(&key)).is_some();
+        if !counted {
+            return Err(MapError::Full);
+        }
+        let (node, fresh) = node.insert(self.alloc, &mut Path::new(&key), hash_leaf(&val))?;
+        let len = if fresh { self.len + 1 } else { self.len };
+        Ok(Map {
+            link: Link::new(self.alloc, node)?,
+            len,
+            alloc: self.alloc,
+            key: PhantomData,
+            value: PhantomData,
+        })
+    }
+
+    /// The map with all the pairs of an iterator inserted, in order.
+    ///
+    /// `Full` comes where one of them is a new key digest at a `len` of `usize::MAX`. After a refusal the rest of the
+    /// iterator is dropped.
+    pub fn extend<I: Iterator<Item = (K, V)> + Drop>(
+        &self,
+        iter: I,
+    ) -> Result<Map<D, K, V, A>, MapError>
+        requires can { I.can_next iter }
+        requires ends { IsFinite (I.remaining iter) }
+        ensures ok { IfOk result (λ m. ((es : List (K × V)) × Drains I.next_gives iter es
+            × (m ≡ inserted D.digest self.now (pair_bytes K.bytes V.bytes es)))) }
+        ensures full { result ≡ Err MapError.Full → ((es : List (K × V)) × (e : K × V) × (rest : I) × Yields I.next_gives iter (es ++ e ∷ []) rest
+            × (map.len (inserted D.digest self.now (pair_bytes K.bytes V.bytes es)) ≡ usize.MAX)
+            × (map.contains_key (inserted D.digest self.now (pair_bytes K.bytes V.bytes es)) (key_bits D.digest (K.bytes e.0)) ≡ false)) }
+    {
+        let mut all = self.clone()?;
+        for (key, val) in iter {
+            all = all.insert(key, val)?;
+        }
+        Ok(all)
+    }
+}
+
+/// As `Map(ROOT)`.
+impl<D: SupportedDigest, K, V, A: Allocator> Debug for Map<D, K, V, A> {
+    fn fmt<W: fmt::Write>(&self, f: &mut fmt::Formatter<W>) -> fmt::Result {
+        let root = self.link.hash();
+        write!(f, "Map({root:?})")
+    }
+}

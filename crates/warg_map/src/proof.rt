@@ -1,0 +1,171 @@
+//! Proofs of presence and absence.
+
+ghost use Rattle.std.specs.Prelude.{◌≡◌, ℕ, ◌+◌, ◌<◌, ◌≤◌, ◌∷◌, ◌++◌, [], length, IfOk, OnOk, Some, None, replicate};
+ghost use Rattle.warg_crypto.specs.EmptyTrees.{empty_root};
+ghost use Rattle.warg_map.specs.Bits.{key_bits, last_bits};
+ghost use Rattle.warg_map.specs.Sparse.{leaf_digest};
+ghost use Rattle.warg_map.specs.ProofValue.{peer_of, proof_value};
+ghost use Rattle.warg_map.specs.Peers.{empty_peers};
+
+use crate::path::side_at;
+use std::alloc::{AllocError, Allocator, Global};
+use std::marker::PhantomData;
+use warg_crypto::{Hash, SupportedDigest, VisitBytes, empty_tree_hash};
+use warg_log::hash_leaf;
+
+/// A proof of what a map holds under a key, or that it holds nothing there.
+///
+/// It has the digests of the subtrees beside the key's path, called peers, from the bottom of the tree to the top, and
+/// at most 256 of them. Peers that are missing at the bottom count as `None`, and `None` stands for an empty subtree.
+#[derive(Drop)]
+pub struct Proof<D, K, V, A: Allocator = Global> {
+    peers: Vec<Option<Hash<D>>, A>,
+    key: PhantomData<K>,
+    value: PhantomData<V>,
+    pub ghost at_most_256: { length peers.items ≤ 256 },
+}
+
+impl<D, K, V, A: Allocator> Proof<D, K, V, A> {
+    ghost use Rattle.warg_map.specs.Shown.{peers_of};
+
+    /// The proof of these peers.
+    pub(crate) fn new(peers: Vec<Option<Hash<D>>, A>) -> Proof<D, K, V, A>
+        requires { length peers.items ≤ 256 }
+        ensures { peers_of result ≡ peers.items }
+    {
+        Proof {
+            peers,
+            key: PhantomData,
+            value: PhantomData,
+        }
+    }
+
+    /// Adds a peer at the top.
+    pub(crate) fn push(&mut self, peer: Option<Hash<D>>) -> Result<(), AllocError>
+        requires { length (peers_of self.old) < 256 }
+        ensures { OnOk result (peers_of self.new ≡ peers_of self.old ++ peer ∷ []) }
+    {
+        self.peers.push(peer)?;
+        Ok(())
+    }
+
+    /// Adds `len` times `None` at the top.
+    pub(crate) fn push_missing(&mut self, len: usize) -> Result<(), AllocError>
+        requires { length (peers_of self.old) + len ≤ 256 }
+        ensures { OnOk result (peers_of self.new ≡ peers_of self.old ++ replicate len None) }
+    {
+        for _ in 0..len {
+            self.push(None)?;
+        }
+        Ok(())
+    }
+
+    /// The peers, from the bottom of the tree to the top: at most 256.
+    pub fn peers(&self) -> &[Option<Hash<D>>]
+        ensures value { result.now ≡ peers_of self.now }
+        ensures few { length result.now ≤ 256 }
+    {
+        &self.peers
+    }
+
+    /// The proof with one peer below `missing` times `None`.
+    pub(crate) fn parted(
+        alloc: A,
+        peer: Hash<D>,
+        missing: usize,
+    ) -> Result<Proof<D, K, V, A>, AllocError>
+        requires { missing < 256 }
+        ensures { IfOk result (λ p. peers_of p ≡ Some peer ∷ replicate missing None) }
+    {
+        let mut proof = Proof::new(Vec::new(alloc));
+        proof.push(Some(peer))?;
+        proof.push_missing(missing)?;
+        Ok(proof)
+    }
+}
+
+impl<D, K, V, A: Allocator> From<Proof<D, K, V, A>> for Vec<Option<Hash<D>>, A> {
+    ghost use Rattle.std.specs.Prelude.{◌≡◌};
+    ghost use Rattle.warg_map.specs.Shown.{peers_of};
+
+    ghost from_gives = { λ proof peers. peers.items ≡ peers_of proof };
+
+    fn from(proof: Proof<D, K, V, A>) -> Vec<Option<Hash<D>>, A> {
+        let Proof {
+            peers,
+            key: _,
+            value: _,
+        } = proof;
+        peers
+    }
+}
+
+impl<D: SupportedDigest, K, V, A: Allocator> Proof<D, K, V, A> {
+    ghost use Rattle.warg_map.specs.Shown.{peers_of};
+
+    /// Adds the digests of the empty trees of `len` heights at the top, the first of height `low`.
+    pub(crate) fn push_empties(&mut self, low: usize, len: usize) -> Result<(), AllocError>
+        requires room { length (peers_of self.old) + len ≤ 256 }
+        requires heights { low + len ≤ 256 }
+        ensures { OnOk result (peers_of self.new ≡ peers_of self.old ++ empty_peers D.digest low len) }
+    {
+        let mut empty = empty_tree_hash::<D>(low);
+        for pushed in 0..len {
+            self.push(Some(empty.copied()))?;
+            empty = D::empty_above(low + pushed, &empty);
+        }
+        Ok(())
+    }
+
+    /// The peer of a height, where `empty` is the digest of the empty tree of that height.
+    fn peer<'a>(&'a self, height: usize, empty: &'a Hash<D>) -> &'a Hash<D>
+        requires place { height < 256 }
+        requires empty { empty.now ≡ empty_root D.digest height }
+        ensures { result.now ≡ peer_of D.digest (peers_of self.now) height }
+    {
+        let missing = 256 - self.peers.len();
+        if height < missing {
+            return empty;
+        }
+        match &self.peers[height - missing] {
+            Some(peer) => peer,
+            None => empty,
+        }
+    }
+
+    /// The root to which the peers lead from a leaf digest under a key digest.
+    fn root_from(&self, key: &Hash<D>, leaf: Hash<D>) -> Hash<D>
+        ensures { result ≡ proof_value D.digest (peers_of self.now) leaf (last_bits key.now 256) }
+    {
+        let mut hash = leaf;
+        let mut empty = empty_tree_hash(0);
+        for height in 0..256 {
+            let peer = self.peer(height, &empty);
+            hash = side_at(key, 255 - height).branch(&hash, peer);
+            empty = D::empty_above(height, &empty);
+        }
+        hash
+    }
+}
+
+impl<D: SupportedDigest, K: VisitBytes, V: VisitBytes, A: Allocator> Proof<D, K, V, A> {
+    ghost use Rattle.warg_map.specs.Shown.{peers_of};
+
+    /// The root to which the proof leads from `value` under `key`.
+    ///
+    /// A proof of [`Map::prove`](crate::Map::prove) leads to the map's root from the value last kept under the key.
+    pub fn evaluate(&self, key: &K, value: &V) -> Hash<D>
+        ensures { result ≡ proof_value D.digest (peers_of self.now) (leaf_digest D.digest (V.bytes value.now)) (key_bits D.digest (K.bytes key.now)) }
+    {
+        self.root_from(&Hash::of(key), hash_leaf(value))
+    }
+
+    /// The root to which the proof leads from an empty leaf under `key`.
+    ///
+    /// A proof of [`Map::prove_absence`](crate::Map::prove_absence) leads to the map's root.
+    pub fn evaluate_absent(&self, key: &K) -> Hash<D>
+        ensures { result ≡ proof_value D.digest (peers_of self.now) (empty_root D.digest 0) (key_bits D.digest (K.bytes key.now)) }
+    {
+        self.root_from(&Hash::of(key), empty_tree_hash(0))
+    }
+}

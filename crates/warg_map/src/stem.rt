@@ -1,0 +1,115 @@
+//! Stems: runs of bits beside which all is empty.
+
+ghost use Rattle.std.specs.Prelude.{◌≡◌, ℕ, ◌+◌, ◌-◌, ◌<◌, ◌≤◌, IfOk};
+ghost use Rattle.warg_map.specs.Bits.{bit_at, bits_from};
+ghost use Rattle.warg_map.specs.Sparse.{sparse_root};
+ghost use Rattle.warg_map.specs.Under.{under, lift};
+
+use crate::link::Link;
+use crate::node::Node;
+use crate::path::{Path, shared_bits, side_at};
+use std::alloc::{AllocError, Allocator, Global};
+use warg_crypto::{Hash, SupportedDigest, empty_tree_hash};
+
+/// Bits beside which all is empty: `len` bits of a key digest, from bit `from` on, over a lower node.
+///
+/// The bits stand at their own place in the digest, so a stem that is cut or lengthened shifts nothing.
+#[cycle(tree)]
+#[derive(Drop)]
+pub struct Stem<D: SupportedDigest, A: Allocator = Global> {
+    pub(crate) key: Hash<D>,
+    pub(crate) from: usize,
+    pub(crate) len: usize,
+    pub(crate) below: Link<D, A>,
+}
+
+/// The digest of the tree in which `len` bits of `key`, from bit `from` on, lead down to a tree with digest `low`, and
+/// all beside them is empty.
+pub(crate) fn lifted<D: SupportedDigest>(
+    key: &Hash<D>,
+    from: usize,
+    len: usize,
+    low: &Hash<D>,
+) -> Hash<D>
+    requires { from + len ≤ 256 }
+    ensures { result ≡ lift D.digest (256 - (from + len)) low.now (bits_from key.now from len) }
+{
+    let bottom = 256 - (from + len);
+    let mut hash = low.copied();
+    let mut empty = empty_tree_hash(bottom);
+    for above in 0..len {
+        hash = side_at(key, from + (len - 1 - above)).branch(&hash, &empty);
+        empty = D::empty_above(bottom + above, &empty);
+    }
+    hash
+}
+
+impl<D: SupportedDigest, A: Allocator> Stem<D, A> {
+    /// The digest of the tree.
+    pub fn hash(&self) -> Hash<D>
+        requires { self.now.from + self.now.len + self.now.below.0 ≡ 256 }
+        ensures { result ≡ sparse_root D.digest (self.now.below.0 + self.now.len) (under (bits_from self.now.key self.now.from self.now.len) self.now.below.1) }
+    {
+        self.hash_below(0)
+    }
+
+    /// The digest of what stands below the stem's first `at` bits.
+    pub(crate) fn hash_below(&self, at: usize) -> Hash<D>
+        requires level { self.now.from + self.now.len + self.now.below.0 ≡ 256 }
+        requires place { at ≤ self.now.len }
+        ensures { result ≡ sparse_root D.digest (self.now.below.0 + (self.now.len - at)) (under (bits_from self.now.key (self.now.from + at) (self.now.len - at)) self.now.below.1) }
+    {
+        lifted(&self.key, self.from + at, self.len - at, self.below.hash())
+    }
+
+    /// How many of the stem's bits a path shares before it parts.
+    pub(crate) fn shared_with(&self, path: &Path<'_, D>) -> usize
+        requires { path.now.index + self.now.len ≤ 256 }
+        ensures at_most { result ≤ self.now.len }
+        ensures same { bits_from self.now.key path.now.index result ≡ bits_from path.now.hash.now path.now.index result }
+        ensures apart { result < self.now.len → ¬ (bit_at self.now.key (path.now.index + result) ≡ bit_at path.now.hash.now (path.now.index + result)) }
+    {
+        shared_bits(&self.key, path.hash(), path.index(), self.len)
+    }
+}
+
+impl<D: SupportedDigest, A: Allocator + Copy> Stem<D, A> {
+    ghost use Rattle.warg_map.specs.Seen.{IsWellFormed};
+
+    /// What stands below the stem's first `at` bits.
+    pub(crate) fn rest(&self, alloc: A, at: usize) -> Result<Link<D, A>, AllocError>
+        requires well_formed { IsWellFormed (Node.Stem self.now) }
+        requires some { 0 < at }
+        requires place { at ≤ self.now.len }
+        ensures { IfOk result (λ r. r ≡ (self.now.below.0 + (self.now.len - at), under (bits_from self.now.key (self.now.from + at) (self.now.len - at)) self.now.below.1)) }
+    {
+        let below = self.below.clone()?;
+        if at == self.len {
+            return Ok(below);
+        }
+        Link::new(
+            alloc,
+            Node::Stem(Stem {
+                key: self.key.copied(),
+                from: self.from + at,
+                len: self.len - at,
+                below,
+            }),
+        )
+    }
+}
+
+impl<D: SupportedDigest, A: Allocator> Clone for Stem<D, A> {
+    ghost use Rattle.std.specs.Prelude.{◌≡◌};
+
+    ghost is_clone = { λ s copy. copy ≡ s };
+
+    fn clone(&self) -> Result<Stem<D, A>, AllocError> {
+        Ok(Stem {
+            key: self.key.copied(),
+            from: self.from,
+            len: self.len,
+            below: self.below.clone()?,
+        })
+    }
+}
