@@ -1,0 +1,17 @@
+-- A proof that leads to the root of given entries, and what a witness knows of it.
+use Rattle.std.specs.Prelude.{◌≡◌, ℕ, ◌^◌, List, Option}
+use Rattle.warg_log.specs.Nodes.{height_of, start_of}
+use Rattle.warg_log.specs.Tree.{leaves_of, root_over, own_digest}
+use Rattle.warg_witness.specs.Claims.{IsMet}
+use Rattle.warg_witness.specs.Parting.{IsParting}
+use Rattle.warg_witness.specs.declared.descent.Parting.{Parting}
+
+-- The claim with a digest at the node is met; the tree is the one over the entries, the target the node's
+-- range, with the plain digest over it, and the evaluation parts from the tree as said.
+pub record IsMeeting {D : _} (H : List ℕ → List ℕ) (F : ℕ → Option (List ℕ)) (digest : List ℕ) (node n : ℕ) (entries : List (List ℕ)) (tree : List (List ℕ)) (start count : ℕ) (plain : List ℕ) (parting : Parting D) : Type 0 where
+  pub met : IsMet H F digest node n entries
+  pub tree_is : tree ≡ leaves_of H entries
+  pub start_is : start ≡ start_of node
+  pub count_is : count ≡ 2 ^ height_of node
+  pub plain_is : plain ≡ root_over H (leaves_of H entries) start count
+  pub parts : IsParting H F digest (own_digest H tree) plain start count 0 n parting

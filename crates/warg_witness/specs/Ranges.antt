@@ -1,0 +1,35 @@
+-- The ranges of the tree's recursion.
+use Rattle.std.specs.Prelude.{◌≡◌, ℕ, ◌+◌, ◌-◌, ◌*◌, ◌^◌, ◌<◌, ◌≤◌, ◌⊎◌}
+use Rattle.warg_log.specs.Tree.{front_of}
+
+-- The ranges of the recursion of RFC 6962, section 2.1, from n₀ leaves from a₀ on: these themselves, and
+-- of each range of more than one leaf its first leaves, as many as the greatest power of two below its
+-- count, and the rest.
+pub data IsPart (a₀ n₀ : ℕ) : ℕ → ℕ → Type 0 where
+  whole : IsPart a₀ n₀ a₀ n₀
+  front : (a n : ℕ) → IsPart a₀ n₀ a n → 1 < n → IsPart a₀ n₀ a (front_of n)
+  rest : (a n : ℕ) → IsPart a₀ n₀ a n → 1 < n → IsPart a₀ n₀ (a + front_of n) (n - front_of n)
+
+-- The range of n leaves from a on has all the w leaves from s on.
+pub record IsAround (s w a n : ℕ) : Type 0 where
+  pub starts : a ≤ s
+  pub ends : s + w ≤ a + n
+
+-- The range is one that the recursion over some log could meet: at most a power of two of leaves, from a
+-- multiple of it on.
+pub record IsAligned (a n : ℕ) : Type 0 where
+  pub height : ℕ
+  pub place : ℕ
+  pub start : a ≡ place * 2 ^ height
+  pub most : n ≤ 2 ^ height
+
+-- The range is a node's: a power of two of leaves, from a multiple of it on.
+pub record IsNodeRange (s w : ℕ) : Type 0 where
+  pub height : ℕ
+  pub place : ℕ
+  pub start : s ≡ place * 2 ^ height
+  pub count : w ≡ 2 ^ height
+
+-- The second range is one of the two parts of the first.
+abbrev pub IsSide : ℕ → ℕ → ℕ → ℕ → Type 0
+IsSide a n b m = ((b ≡ a) × (m ≡ front_of n)) ⊎ ((b ≡ a + front_of n) × (m ≡ n - front_of n))

@@ -1,0 +1,105 @@
+//! Collisions, and what a witness found.
+
+ghost use Rattle.std.specs.Prelude.{◌≡◌, ℕ, List, [], ◌∷◌, ◌++◌, IfOk};
+ghost use Rattle.warg_witness.specs.Inputs.{branch_input};
+
+use std::alloc::{AllocError, Allocator, Global};
+use std::marker::{Model, PhantomData};
+use warg_crypto::{ByteVisitor, Hash, SupportedDigest, VisitBytes, bytes_of};
+
+/// Two byte strings that differ and have equal digests.
+#[derive(Drop)]
+pub struct Collision<D: SupportedDigest, A: Allocator = Global> {
+    first: Vec<u8, A>,
+    second: Vec<u8, A>,
+    of: PhantomData<D>,
+}
+
+// Contracts see the pair of the two byte strings.
+impl<D: SupportedDigest, A: Allocator> Model for Collision<D, A> {
+    ghost use Rattle.std.specs.Prelude.{◌≡◌, ℕ, List};
+
+    ghost Value = { List ℕ × List ℕ };
+
+    ghost view = { λ c. (c.first.items, c.second.items) };
+
+    ghost invariant = { λ c. (c.first.items ≡ c.second.items → ⊥) × (D.digest c.first.items ≡ D.digest c.second.items) };
+}
+
+impl<D: SupportedDigest, A: Allocator> Collision<D, A> {
+    pub(crate) fn new(first: Vec<u8, A>, second: Vec<u8, A>) -> Collision<D, A>
+        requires differ { first.items ≡ second.items → ⊥ }
+        requires same { D.digest first.items ≡ D.digest second.items }
+        ensures first { result.0 ≡ first.items }
+        ensures second { result.1 ≡ second.items }
+    {
+        Collision {
+            first,
+            second,
+            of: PhantomData,
+        }
+    }
+
+    /// The first byte string. It differs from the second one, and both have one digest.
+    pub fn first(&self) -> &[u8]
+        ensures value { result.now ≡ self.now.0 }
+        ensures differ { self.now.0 ≡ self.now.1 → ⊥ }
+        ensures same { D.digest self.now.0 ≡ D.digest self.now.1 }
+    {
+        self.first.as_slice()
+    }
+
+    /// The second byte string. It differs from the first one, and both have one digest.
+    pub fn second(&self) -> &[u8]
+        ensures value { result.now ≡ self.now.1 }
+        ensures differ { self.now.0 ≡ self.now.1 → ⊥ }
+        ensures same { D.digest self.now.0 ≡ D.digest self.now.1 }
+    {
+        self.second.as_slice()
+    }
+}
+
+/// What a witness found.
+#[derive(Drop)]
+pub enum Finding<D: SupportedDigest, A: Allocator = Global> {
+    /// The claim is met, and it is true.
+    Holds,
+    /// The claim isn't met: the evaluation fails, or leads to another root.
+    NotMet,
+    /// The claim is met and false.
+    Collision(Collision<D, A>),
+}
+
+// A leaf, as what the digest function takes of it: the byte 00 and the value.
+#[derive(Drop)]
+struct Leaf<'a, V>(&'a V);
+
+impl<V: VisitBytes> VisitBytes for Leaf<'_, V> {
+    ghost bytes = { λ leaf. 0 ∷ V.bytes leaf.0.now };
+
+    fn visit<W: ByteVisitor>(&self, to: &mut W) {
+        to.visit_bytes(&[0]);
+        self.0.visit(to);
+    }
+}
+
+/// What the digest function takes at a leaf.
+pub(crate) fn leaf_bytes<V: VisitBytes, A: Allocator>(
+    alloc: A,
+    value: &V,
+) -> Result<Vec<u8, A>, AllocError>
+    ensures { IfOk result (λ bytes. bytes.items ≡ 0 ∷ V.bytes value.now) }
+{
+    bytes_of(alloc, &Leaf(value))
+}
+
+/// What the digest function takes at a branch.
+pub(crate) fn branch_bytes<D, A: Allocator>(
+    alloc: A,
+    left: &Hash<D>,
+    right: &Hash<D>,
+) -> Result<Vec<u8, A>, AllocError>
+    ensures { IfOk result (λ bytes. bytes.items ≡ branch_input left.now right.now) }
+{
+    bytes_of(alloc, &(1u8, left.copied(), right.copied()))
+}

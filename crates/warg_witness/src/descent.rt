@@ -1,0 +1,118 @@
+//! The way down two trees that have one digest, to where they part.
+
+ghost use Rattle.std.specs.Prelude.{◌≡◌, ℕ, ◌+◌, ◌-◌, ◌<◌, ◌≤◌, ◌↔◌, List, length, Some, IsSome, IsTrue};
+ghost use Rattle.warg_log.specs.Tree.{front_of};
+ghost use Rattle.warg_log.specs.Cut.{cut_over};
+ghost use Rattle.warg_witness.specs.Parting.{HaveOneDigest, IsParting};
+ghost use Rattle.warg_witness.specs.Ranges.{IsAround, IsAligned, IsNodeRange, IsSide};
+
+use warg_crypto::{Hash, SupportedDigest, VisitBytes};
+use warg_log::{Interval, LogData, range_root};
+
+/// Where two trees part that have one digest at a range.
+#[derive(Drop)]
+pub(crate) enum Parting<D> {
+    /// Nowhere: they have one digest at the target too.
+    Target,
+    /// At a branch with these digests on both sides.
+    Branch {
+        first_left: Hash<D>,
+        first_right: Hash<D>,
+        second_left: Hash<D>,
+        second_right: Hash<D>,
+    },
+}
+
+/// Whether two hashes are the same.
+pub(crate) fn is_equal<D>(hash: &Hash<D>, other: &Hash<D>) -> bool
+    ensures { IsTrue result ↔ (hash.now ≡ other.now) }
+{
+    hash == other
+}
+
+// Whether two branches have the same digests below them.
+fn is_same<D>(left: &Hash<D>, other_left: &Hash<D>, right: &Hash<D>, other_right: &Hash<D>) -> bool
+    ensures same { IsTrue result ↔ ((left.now ≡ other_left.now) × (right.now ≡ other_right.now)) }
+    ensures sizes { length left.now ≡ length other_left.now }
+{
+    left.len() == other_left.len() && left == other_left && right == other_right
+}
+
+// The digests of the two parts of a range around the target.
+fn parts<D: SupportedDigest, V: VisitBytes, L: LogData<D, V>>(
+    hashes: &L,
+    target: &Interval,
+    hash: &Hash<D>,
+    range: &Interval,
+) -> (Hash<D>, Hash<D>)
+    requires around { IsAround target.now.start target.now.count range.now.start range.now.count }
+    requires other { range.now.start ≡ target.now.start → range.now.count ≡ target.now.count → ⊥ }
+    requires some { IsSome (cut_over D.digest (L.digest_at hashes.now) hash.now target.now.start target.now.count range.now.start range.now.count) }
+    ensures left { cut_over D.digest (L.digest_at hashes.now) hash.now target.now.start target.now.count
+        range.now.start (front_of range.now.count) ≡ Some result.0 }
+    ensures right { cut_over D.digest (L.digest_at hashes.now) hash.now target.now.start target.now.count
+        (range.now.start + front_of range.now.count) (range.now.count - front_of range.now.count) ≡ Some result.1 }
+{
+    let (front, rest) = range.split();
+    let Some(left) = range_root(hashes, target, hash, &front) else {
+        unreachable!()
+    };
+    let Some(right) = range_root(hashes, target, hash, &rest) else {
+        unreachable!()
+    };
+    (left, right)
+}
+
+// The part of a range that has the target, where the range is larger.
+fn part_around(target: &Interval, range: &Interval) -> Interval
+    requires node { IsNodeRange target.now.start target.now.count }
+    requires aligned { IsAligned range.now.start range.now.count }
+    requires around { IsAround target.now.start target.now.count range.now.start range.now.count }
+    requires other { range.now.start ≡ target.now.start → range.now.count ≡ target.now.count → ⊥ }
+    ensures smaller { result.count < range.now.count }
+    ensures aligned { IsAligned result.start result.count }
+    ensures around { IsAround target.now.start target.now.count result.start result.count }
+    ensures side { IsSide range.now.start range.now.count result.start result.count }
+{
+    let (front, rest) = range.split();
+    if target.start < rest.start {
+        front
+    } else {
+        rest
+    }
+}
+
+/// Goes down from a range at which two evaluations have one digest to the target, and answers where
+/// their inputs differ first.
+pub(crate) fn descend<D: SupportedDigest, V: VisitBytes, L: LogData<D, V>, M: LogData<D, V>>(
+    first: &L,
+    first_hash: &Hash<D>,
+    second: &M,
+    second_hash: &Hash<D>,
+    target: &Interval,
+    range: &Interval,
+) -> Parting<D>
+    requires node { IsNodeRange target.now.start target.now.count }
+    requires aligned { IsAligned range.now.start range.now.count }
+    requires around { IsAround target.now.start target.now.count range.now.start range.now.count }
+    requires one { HaveOneDigest D.digest (L.digest_at first.now) first_hash.now (M.digest_at second.now) second_hash.now
+        target.now.start target.now.count range.now.start range.now.count }
+    ensures { IsParting D.digest (L.digest_at first.now) first_hash.now (M.digest_at second.now) second_hash.now
+        target.now.start target.now.count range.now.start range.now.count result }
+{
+    if range.equals(target) {
+        return Parting::Target;
+    }
+    let (first_left, first_right) = parts(first, target, first_hash, range);
+    let (second_left, second_right) = parts(second, target, second_hash, range);
+    if !is_same(&first_left, &second_left, &first_right, &second_right) {
+        return Parting::Branch {
+            first_left,
+            first_right,
+            second_left,
+            second_right,
+        };
+    }
+    let held = part_around(target, range);
+    descend(first, first_hash, second, second_hash, target, &held)
+}

@@ -1,0 +1,17 @@
+//! Witnesses: whoever holds the entries turns a proof that leads to their root, and lies, into two byte
+//! strings of one digest. By agreement whoever holds one root alone does so with two proofs that lead to
+//! it.
+//!
+//! Each call answers a [`Finding`]: the proof's evaluation doesn't lead to the roots of the given entries;
+//! or it does, and the proof's claim is true; or it does, the claim is false, and here are two different
+//! byte strings of equal digest.
+#![tactic(auto)]
+
+mod collision;
+mod compare;
+mod descent;
+mod log;
+mod plain;
+
+pub use collision::{Collision, Finding};
+pub use log::{witness_hash, witness_value};

@@ -1,0 +1,193 @@
+//! Witnesses for the log's proofs.
+
+ghost use Rattle.std.specs.Prelude.{◌≡◌, ℕ, ◌+◌, ◌^◌, ◌≤◌, ◌↔◌, List, [], ◌∷◌, length, map, IfOk, MatchOption};
+ghost use Rattle.warg_log.specs.Tree.{leaves_of};
+ghost use Rattle.warg_witness.specs.Ranges.{IsNodeRange};
+ghost use Rattle.warg_witness.specs.Compared.{AreClaimedInputs};
+ghost use Rattle.warg_witness.specs.Claims.{IsMet, IsEntry, IsRootBelow, AgreesOn};
+ghost use Rattle.warg_witness.specs.Placed.{IsValuePlaced, IsHashPlaced, IsAgreementPlaced};
+ghost use Rattle.warg_witness.specs.Parting.{Collides, PartsAtBranch, pair_of};
+ghost use Rattle.warg_witness.specs.Meeting.{IsMeeting};
+
+use crate::collision::{Collision, Finding, branch_bytes, leaf_bytes};
+use crate::compare::{LeafInputs, leaf_inputs};
+use crate::descent::{Parting, descend, is_equal};
+use crate::plain::{plain_bytes, plain_digest, plain_root, plain_tree};
+use std::alloc::{AllocError, Allocator};
+use warg_crypto::{Hash, SupportedDigest, VisitBytes};
+use warg_log::{InclusionProof, Interval, LogData, VecLog, hash_leaf};
+
+/// A proof whose evaluation leads to the root of the given entries.
+#[derive(Drop)]
+pub(crate) struct Meeting<D: SupportedDigest, V: VisitBytes, A: Allocator> {
+    // The tree over the entries.
+    tree: VecLog<D, V, A>,
+    // The node's leaves, and the root over them in that tree.
+    target: Interval,
+    plain: Hash<D>,
+    // Where the evaluation parts from the tree on the way from the root to the node.
+    parting: Parting<D>,
+}
+
+// The meeting of a proof with a digest at its node with the entries, or None where they don't meet.
+fn meet<D: SupportedDigest, V: VisitBytes, L: LogData<D, V>, A: Allocator + Copy>(
+    alloc: A,
+    proof: &InclusionProof<D, V>,
+    hashes: &L,
+    hash: &Hash<D>,
+    entries: &[V],
+) -> Result<Option<Meeting<D, V, A>>, AllocError>
+    ensures { IfOk result (λ met. MatchOption met
+        (IsMet D.digest (L.digest_at hashes.now) hash.now proof.now.leaf.0 proof.now.log_length (map (λ e. V.bytes e) entries.now) → ⊥)
+        (λ m. IsMeeting D.digest (L.digest_at hashes.now) hash.now proof.now.leaf.0 proof.now.log_length (map (λ e. V.bytes e) entries.now)
+        m.tree m.target.start m.target.count m.plain m.parting)) }
+{
+    if entries.len() != proof.log_length() {
+        return Ok(None);
+    }
+    let Ok(root) = proof.evaluate_hash(hashes, hash.copied()) else {
+        return Ok(None);
+    };
+    let tree = plain_tree(alloc, entries)?;
+    if !is_equal(&root, &plain_root(&tree)) {
+        return Ok(None);
+    }
+    let target = proof.leaf().interval();
+    let whole = Interval::new(0, proof.log_length());
+    let plain = plain_digest(&tree, &target);
+    let parting = descend(hashes, hash, &tree, &plain, &target, &whole);
+    Ok(Some(Meeting {
+        tree,
+        target,
+        plain,
+        parting,
+    }))
+}
+
+// What the digest function takes at the node for the claimed value and in the tree over the entries, or None
+// where the claim is true.
+fn claimed_inputs<D: SupportedDigest, V: VisitBytes, A: Allocator + Copy>(
+    alloc: A,
+    met: &Meeting<D, V, A>,
+    value: &V,
+    entries: &[V],
+) -> Result<Option<LeafInputs<A>>, AllocError>
+    requires tree { met.now.tree ≡ leaves_of D.digest (map (λ e. V.bytes e) entries.now) }
+    requires node { IsNodeRange met.now.target.start met.now.target.count }
+    requires within { met.now.target.start + met.now.target.count ≤ length entries.now }
+    ensures { IfOk result (AreClaimedInputs D.digest (V.bytes value.now) (map (λ e. V.bytes e) entries.now) met.now.target.start met.now.target.count) }
+{
+    if met.target.count == 1 {
+        return leaf_inputs(alloc, value, &entries[met.target.start]);
+    }
+    let first = leaf_bytes(alloc, value)?;
+    let second = plain_bytes(alloc, &met.tree, entries, &met.target)?;
+    Ok(Some(LeafInputs { first, second }))
+}
+
+// The pair that a parting shows: the branch's inputs, or those at the target.
+fn collide<D: SupportedDigest, A: Allocator + Copy>(
+    alloc: A,
+    parting: &Parting<D>,
+    at_target: LeafInputs<A>,
+) -> Result<Collision<D, A>, AllocError>
+    requires { Collides D.digest (pair_of parting.now at_target.first.items at_target.second.items) }
+    ensures { IfOk result (λ c. c ≡ pair_of parting.now at_target.first.items at_target.second.items) }
+{
+    match parting {
+        Parting::Target => Ok(Collision::new(at_target.first, at_target.second)),
+        Parting::Branch { .. } => part(alloc, parting),
+    }
+}
+
+// The pair of the branch at which two evaluations part.
+fn part<D: SupportedDigest, A: Allocator + Copy>(
+    alloc: A,
+    parting: &Parting<D>,
+) -> Result<Collision<D, A>, AllocError>
+    requires { PartsAtBranch D.digest parting.now }
+    ensures { IfOk result (λ c. c ≡ pair_of parting.now [] []) }
+{
+    match parting {
+        Parting::Target => unreachable!(),
+        Parting::Branch {
+            first_left,
+            first_right,
+            second_left,
+            second_right,
+        } => {
+            let first = branch_bytes(alloc, first_left, first_right)?;
+            let second = branch_bytes(alloc, second_left, second_right)?;
+            Ok(Collision::new(first, second))
+        }
+    }
+}
+
+/// Whether a proof's claim about a value is true of the entries: the node is a leaf, and its entry has the
+/// value's bytes.
+///
+/// `NotMet` exactly where the entries aren't as many as the proof's length says, which is decided before
+/// any growth, or the evaluation over the data isn't Ok with the root of the tree over the entries. `Holds`
+/// exactly where it is, and the claim is true. Else a collision: what the digest function takes in the
+/// evaluation (first) and in the tree over the entries (second) at one range around the node.
+///
+/// It hashes each leaf and branch of the tree over the entries once, and few digests on one path beside
+/// them. Want of memory is the only error.
+pub fn witness_value<D: SupportedDigest, V: VisitBytes, L: LogData<D, V>, A: Allocator + Copy>(
+    alloc: A,
+    proof: &InclusionProof<D, V>,
+    hashes: &L,
+    value: &V,
+    entries: &[V],
+) -> Result<Finding<D, A>, AllocError>
+    ensures not_met { IfOk result (λ f. (f ≡ Finding.NotMet)
+        ↔ (IsMet D.digest (L.digest_at hashes.now) (D.digest (0 ∷ V.bytes value.now)) proof.now.leaf.0 proof.now.log_length (map (λ e. V.bytes e) entries.now) → ⊥)) }
+    ensures holds { IfOk result (λ f. (f ≡ Finding.Holds)
+        ↔ (IsMet D.digest (L.digest_at hashes.now) (D.digest (0 ∷ V.bytes value.now)) proof.now.leaf.0 proof.now.log_length (map (λ e. V.bytes e) entries.now)
+        × IsEntry (V.bytes value.now) proof.now.leaf.0 (map (λ e. V.bytes e) entries.now))) }
+    ensures collision { IfOk result (λ f. (c : _) → f ≡ Finding.Collision c
+        → IsValuePlaced D.digest (L.digest_at hashes.now) (V.bytes value.now) proof.now.leaf.0 (map (λ e. V.bytes e) entries.now) c.0 c.1) }
+{
+    let hash = hash_leaf::<D, V>(value);
+    let Some(met) = meet(alloc, proof, hashes, &hash, entries)? else {
+        return Ok(Finding::NotMet);
+    };
+    let Some(inputs) = claimed_inputs(alloc, &met, value, entries)? else {
+        return Ok(Finding::Holds);
+    };
+    Ok(Finding::Collision(collide(alloc, &met.parting, inputs)?))
+}
+
+/// Whether a proof's claim about a hash is true of the entries: the hash is the root of the entries below
+/// the node.
+///
+/// `NotMet` exactly where the entries aren't as many as the proof's length says, which is decided before
+/// any growth, or the evaluation over the data isn't Ok with the root of the tree over the entries. `Holds`
+/// exactly where it is, and the claim is true. Else a collision: what the digest function takes in the
+/// evaluation (first) and in the tree over the entries (second) at one range around the node.
+///
+/// It hashes each leaf and branch of the tree over the entries once, and few digests on one path beside
+/// them. Want of memory is the only error.
+pub fn witness_hash<D: SupportedDigest, V: VisitBytes, L: LogData<D, V>, A: Allocator + Copy>(
+    alloc: A,
+    proof: &InclusionProof<D, V>,
+    hashes: &L,
+    hash: Hash<D>,
+    entries: &[V],
+) -> Result<Finding<D, A>, AllocError>
+    ensures not_met { IfOk result (λ f. (f ≡ Finding.NotMet)
+        ↔ (IsMet D.digest (L.digest_at hashes.now) hash proof.now.leaf.0 proof.now.log_length (map (λ e. V.bytes e) entries.now) → ⊥)) }
+    ensures holds { IfOk result (λ f. (f ≡ Finding.Holds)
+        ↔ (IsMet D.digest (L.digest_at hashes.now) hash proof.now.leaf.0 proof.now.log_length (map (λ e. V.bytes e) entries.now)
+        × IsRootBelow D.digest hash proof.now.leaf.0 (map (λ e. V.bytes e) entries.now))) }
+    ensures collision { IfOk result (λ f. (c : _) → f ≡ Finding.Collision c
+        → IsHashPlaced D.digest (L.digest_at hashes.now) hash proof.now.leaf.0 (map (λ e. V.bytes e) entries.now) c.0 c.1) }
+{
+    let Some(met) = meet(alloc, proof, hashes, &hash, entries)? else {
+        return Ok(Finding::NotMet);
+    };
+    if is_equal(&hash, &met.plain) {
+        return Ok(Finding::Holds);
+    }
+    Ok(Finding::Collision(part(alloc, &met.parting)?))
+}

@@ -1,0 +1,71 @@
+//! The tree over given entries, and its digests by ranges.
+
+ghost use Rattle.std.specs.Prelude.{◌≡◌, ℕ, ◌+◌, ◌^◌, ◌<◌, ◌≤◌, List, length, map, IfOk};
+ghost use Rattle.warg_log.specs.Tree.{leaves_of, root_of, root_over};
+ghost use Rattle.warg_witness.specs.Ranges.{IsAligned};
+ghost use Rattle.warg_witness.specs.Inputs.{plain_input};
+
+use crate::collision::{branch_bytes, leaf_bytes};
+use std::alloc::{AllocError, Allocator};
+use warg_crypto::{Hash, SupportedDigest, VisitBytes};
+use warg_log::{Interval, LogBuilder, VecLog, push_all, stored_root};
+
+/// The tree over the entries: the log of them. It hashes each leaf and each branch once.
+pub(crate) fn plain_tree<D: SupportedDigest, V: VisitBytes, A: Allocator>(
+    alloc: A,
+    entries: &[V],
+) -> Result<VecLog<D, V, A>, AllocError>
+    requires { length entries.now ≤ 2 ^ 63 }
+    ensures { IfOk result (λ tree. tree ≡ leaves_of D.digest (map (λ e. V.bytes e) entries.now)) }
+{
+    let mut tree = VecLog::default(alloc);
+    push_all(&mut tree, entries)?;
+    Ok(tree)
+}
+
+/// The root of the tree.
+pub(crate) fn plain_root<D: SupportedDigest, V: VisitBytes, A: Allocator>(
+    tree: &VecLog<D, V, A>,
+) -> Hash<D>
+    ensures { result ≡ root_of D.digest tree.now }
+{
+    tree.checkpoint().root()
+}
+
+/// The root over a range of the tree.
+pub(crate) fn plain_digest<D: SupportedDigest, V: VisitBytes, A: Allocator>(
+    tree: &VecLog<D, V, A>,
+    range: &Interval,
+) -> Hash<D>
+    requires aligned { IsAligned range.now.start range.now.count }
+    requires within { range.now.start + range.now.count ≤ length tree.now }
+    ensures { result ≡ root_over D.digest tree.now range.now.start range.now.count }
+{
+    match stored_root::<D, V, VecLog<D, V, A>>(tree, range) {
+        Some(digest) => digest,
+        None => unreachable!(),
+    }
+}
+
+/// What the digest function takes at a range of the tree over the entries.
+pub(crate) fn plain_bytes<D: SupportedDigest, V: VisitBytes, A: Allocator + Copy>(
+    alloc: A,
+    tree: &VecLog<D, V, A>,
+    entries: &[V],
+    range: &Interval,
+) -> Result<Vec<u8, A>, AllocError>
+    requires tree { tree.now ≡ leaves_of D.digest (map (λ e. V.bytes e) entries.now) }
+    requires aligned { IsAligned range.now.start range.now.count }
+    requires within { range.now.start + range.now.count ≤ length entries.now }
+    ensures { IfOk result (λ bytes. bytes.items ≡ plain_input D.digest (map (λ e. V.bytes e) entries.now) range.now.start range.now.count) }
+{
+    if range.count == 1 {
+        return leaf_bytes(alloc, &entries[range.start]);
+    }
+    let (front, rest) = range.split();
+    branch_bytes(
+        alloc,
+        &plain_digest(tree, &front),
+        &plain_digest(tree, &rest),
+    )
+}
