@@ -3,3 +3,4 @@ pub mod DescentLemmas
 pub mod PlainLemmas
 pub mod EntryLemmas
 pub mod ValueLemmas
+pub mod AgreementLemmas

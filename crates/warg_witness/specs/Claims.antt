@@ -26,7 +26,8 @@ pub record IsMet (H : List ℕ → List ℕ) (F : ℕ → Option (List ℕ)) (di
   pub is : cut_root H F node digest n ≡ Some (root_of H (leaves_of H entries))
 
 -- The agreement of two digests over two data is met: the node exists, and both cut roots are one.
-pub record AgreesOn (H : List ℕ → List ℕ) (F : ℕ → Option (List ℕ)) (first : List ℕ) (G : ℕ → Option (List ℕ)) (second : List ℕ) (node n : ℕ) (root : List ℕ) : Type 0 where
+pub record IsAgreement (H : List ℕ → List ℕ) (F : ℕ → Option (List ℕ)) (first : List ℕ) (G : ℕ → Option (List ℕ)) (second : List ℕ) (node n : ℕ) : Type 0 where
+  pub root : List ℕ
   pub exists : ExistsAt node n
   pub first_is : cut_root H F node first n ≡ Some root
   pub second_is : cut_root H G node second n ≡ Some root

@@ -4,7 +4,7 @@ ghost use Rattle.std.specs.Prelude.{◌≡◌, ℕ, ◌+◌, ◌^◌, ◌≤◌,
 ghost use Rattle.warg_log.specs.Tree.{leaves_of};
 ghost use Rattle.warg_witness.specs.Ranges.{IsNodeRange};
 ghost use Rattle.warg_witness.specs.Compared.{AreClaimedInputs};
-ghost use Rattle.warg_witness.specs.Claims.{IsMet, IsEntry, IsRootBelow, AgreesOn};
+ghost use Rattle.warg_witness.specs.Claims.{IsMet, IsEntry, IsRootBelow, IsAgreement};
 ghost use Rattle.warg_witness.specs.Placed.{IsValuePlaced, IsHashPlaced, IsAgreementPlaced};
 ghost use Rattle.warg_witness.specs.Parting.{Collides, PartsAtBranch, pair_of};
 ghost use Rattle.warg_witness.specs.Meeting.{IsMeeting};
@@ -190,4 +190,59 @@ pub fn witness_hash<D: SupportedDigest, V: VisitBytes, L: LogData<D, V>, A: Allo
         return Ok(Finding::Holds);
     }
     Ok(Finding::Collision(part(alloc, &met.parting)?))
+}
+
+/// Whether two evaluations of one proof, over two data and with two values, that lead to one root, whichever
+/// it is, are of the same value: for a client that holds no entries.
+///
+/// `NotMet` exactly where one evaluation isn't Ok or both lead to different roots. `Holds` exactly where both
+/// are Ok with one root, and the values have the same bytes. Else a collision: what the digest function takes
+/// in the first and in the second evaluation at one range around the node. Want of memory is the only error.
+pub fn agree_value<
+    D: SupportedDigest,
+    V: VisitBytes,
+    L: LogData<D, V>,
+    M: LogData<D, V>,
+    A: Allocator + Copy,
+>(
+    alloc: A,
+    proof: &InclusionProof<D, V>,
+    first_hashes: &L,
+    first_value: &V,
+    second_hashes: &M,
+    second_value: &V,
+) -> Result<Finding<D, A>, AllocError>
+    ensures not_met { IfOk result (λ f. (f ≡ Finding.NotMet)
+        ↔ (IsAgreement D.digest (L.digest_at first_hashes.now) (D.digest (0 ∷ V.bytes first_value.now)) (M.digest_at second_hashes.now) (D.digest (0 ∷ V.bytes second_value.now)) proof.now.leaf.0 proof.now.log_length → ⊥)) }
+    ensures holds { IfOk result (λ f. (f ≡ Finding.Holds)
+        ↔ (IsAgreement D.digest (L.digest_at first_hashes.now) (D.digest (0 ∷ V.bytes first_value.now)) (M.digest_at second_hashes.now) (D.digest (0 ∷ V.bytes second_value.now)) proof.now.leaf.0 proof.now.log_length
+            × (V.bytes first_value.now ≡ V.bytes second_value.now))) }
+    ensures collision { IfOk result (λ f. (c : _) → f ≡ Finding.Collision c
+        → IsAgreementPlaced D.digest (L.digest_at first_hashes.now) (V.bytes first_value.now) (M.digest_at second_hashes.now) (V.bytes second_value.now) proof.now.leaf.0 proof.now.log_length c.0 c.1) }
+{
+    let first_hash = hash_leaf::<D, V>(first_value);
+    let second_hash = hash_leaf::<D, V>(second_value);
+    let Ok(first_root) = proof.evaluate_hash(first_hashes, first_hash.copied()) else {
+        return Ok(Finding::NotMet);
+    };
+    let Ok(second_root) = proof.evaluate_hash(second_hashes, second_hash.copied()) else {
+        return Ok(Finding::NotMet);
+    };
+    if !is_equal(&first_root, &second_root) {
+        return Ok(Finding::NotMet);
+    }
+    let Some(inputs) = leaf_inputs(alloc, first_value, second_value)? else {
+        return Ok(Finding::Holds);
+    };
+    let target = proof.leaf().interval();
+    let whole = Interval::new(0, proof.log_length());
+    let parting = descend(
+        first_hashes,
+        &first_hash,
+        second_hashes,
+        &second_hash,
+        &target,
+        &whole,
+    );
+    Ok(Finding::Collision(collide(alloc, &parting, inputs)?))
 }

@@ -1,0 +1,36 @@
+use Rattle.std.proofs.Common.{◌≡◌, ◌^◌, List, ℕ, refl, ◌∙◌, ap, sym}
+use Rattle.warg_log.specs.Nodes.{height_of, start_of}
+use Rattle.warg_log.specs.declared.node.Node.{Node}
+use Rattle.warg_witness.proofs.PlainLemmas.{whole_aligned}
+use Rattle.warg_witness.proofs.AgreementLemmas.{have_both, agreement_shown, agreement_placed_as}
+use Rattle.warg_witness.proofs.log.agree_value.Goals as goal
+
+pub descend-parting-requires-clause-aligned : goal.descend-parting-requires-clause-aligned
+descend-parting-requires-clause-aligned g c = whole_aligned _ _ _ c.new-whole.ensures.start c.new-whole.ensures.count
+
+pub descend-parting-requires-clause-one : goal.descend-parting-requires-clause-one
+descend-parting-requires-clause-one g c =
+    let leaf = c.leaf.ensures in
+    let first = rw c.copied.ensures at c.in-Ok.ensures.ok.1 in
+    let second = rw c.copied-2.ensures at c.in-Ok-evaluate_hash.ensures.ok.1 in
+    have_both _ _ _ _ _ _ _ _ _ _ _ _ _ first second (c.if-not-is_equal.ensures.0 refl)
+    (c.interval-target.ensures.start ∙ ap (λ (x : Node). start_of x.0) leaf) (c.interval-target.ensures.count ∙ ap (λ (x : Node). 2 ^ height_of x.0) leaf)
+    c.new-whole.ensures.start (c.new-whole.ensures.count ∙ c.log_length.ensures.value)
+
+pub collide-requires : goal.collide-requires
+collide-requires g c =
+    let inputs = rw c.in-Some.is at c.in_ok-inputs.ensures in
+    let leaf = c.leaf.ensures in
+    let parting = rw (c.new-whole.ensures.start, c.new-whole.ensures.count, c.log_length.ensures.value, c.hash_leaf-first_hash.ensures, c.hash_leaf-second_hash.ensures) at c.descend-parting.ensures in
+    (agreement_shown _ _ _ _ _ _ _ _ _ _ _ _
+    (c.interval-target.ensures.start ∙ ap (λ (x : Node). start_of x.0) leaf) (c.interval-target.ensures.count ∙ ap (λ (x : Node). 2 ^ height_of x.0) leaf) parting inputs).collides
+
+pub returns-clause-collision : goal.returns-clause-collision
+returns-clause-collision g c k is =
+    let inputs = rw c.in-Some.is at c.in_ok-inputs.ensures in
+    let leaf = c.leaf.ensures in
+    let parting = rw (c.new-whole.ensures.start, c.new-whole.ensures.count, c.log_length.ensures.value, c.hash_leaf-first_hash.ensures, c.hash_leaf-second_hash.ensures) at c.descend-parting.ensures in
+    let shown = (agreement_shown _ _ _ _ _ _ _ _ _ _ _ _
+    (c.interval-target.ensures.start ∙ ap (λ (x : Node). start_of x.0) leaf) (c.interval-target.ensures.count ∙ ap (λ (x : Node). 2 ^ height_of x.0) leaf) parting inputs).placed in
+    let same : ◌≡◌ {A = List ℕ × List ℕ} k c.in_ok-collide.field-0 = cc in
+    agreement_placed_as _ _ _ _ _ _ _ _ k (same ∙ c.in_ok-collide.ensures) shown
