@@ -9,3 +9,4 @@ pub mod WalkLemmas
 pub mod LawLemmas
 pub mod OrderLemmas
 pub mod StepLemmas
+pub mod AgreeLemmas

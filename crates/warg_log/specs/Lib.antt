@@ -2,3 +2,4 @@ pub mod Nodes
 pub mod Tree
 pub mod Cut
 pub mod Walks
+pub mod Consistency

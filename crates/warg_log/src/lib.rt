@@ -5,13 +5,16 @@
 //! `specs/`: read Nodes, Tree and Cut, in this order.
 #![tactic(auto)]
 
+mod consistency;
 mod interval;
+mod join;
 pub mod laws;
 mod log;
 mod node;
 mod proof;
 mod vec_log;
 
+pub use consistency::{ConsistencyProof, ConsistencyProofError};
 pub use interval::Interval;
 pub use log::{Checkpoint, LogBuilder, LogData, hash_branch, hash_empty, hash_leaf, push_all};
 pub use node::{Node, Side};
