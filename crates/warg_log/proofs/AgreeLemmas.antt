@@ -42,7 +42,7 @@ same_refl : (xs : List ℕ) → pointwise nat_eq xs xs ≡ true
 same_refl [] = refl
 same_refl (x ∷ xs) = and_from (nat_eq x x) (pointwise nat_eq xs xs) (eq-eqb x x refl) (same_refl xs)
 
-same_equal : (xs ys : List ℕ) → pointwise nat_eq xs ys ≡ true → xs ≡ ys
+pub same_equal : (xs ys : List ℕ) → pointwise nat_eq xs ys ≡ true → xs ≡ ys
 same_equal [] [] e = refl
 same_equal [] (y ∷ ys) e = absurd (cc)
 same_equal (x ∷ xs) [] e = absurd (cc)

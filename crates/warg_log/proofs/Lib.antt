@@ -10,3 +10,4 @@ pub mod LawLemmas
 pub mod OrderLemmas
 pub mod StepLemmas
 pub mod AgreeLemmas
+pub mod MetLemmas

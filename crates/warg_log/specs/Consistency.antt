@@ -1,6 +1,7 @@
 -- What a consistency proof from a length m to a length n evaluates to, over digests F.
-use Rattle.std.specs.Prelude.{ℕ, ◌==◌, nat_eq, nat_lt, if◌then◌else◌, List, [], ◌∷◌, Option, Some, None, Result, Ok, Err}
+use Rattle.std.specs.Prelude.{◌≡◌, ℕ, ◌<◌, ◌≤◌, ◌==◌, nat_eq, nat_lt, if◌then◌else◌, List, [], ◌∷◌, Option, Some, None, Result, Ok, Err}
 use Rattle.std.specs.Cmp.Lexicographic.{pointwise}
+use Rattle.std.specs.List.{AllByRecursion}
 use Rattle.warg_log.specs.declared.proof.InclusionProofError.TheVariants as Inclusion
 use Rattle.warg_log.specs.declared.consistency.ConsistencyProofError.{ConsistencyProofError}
 use Rattle.warg_log.specs.declared.consistency.ConsistencyProofError.TheVariants as Consistency
@@ -56,3 +57,15 @@ consistency H F m n =
     else if nat_lt n m
     then Err Consistency.PointsOutOfOrder
     else both_roots (old_root H F m) (new_root_of H F n (balanced_roots m))
+
+-- The node t leads to the root r: its digest is held, and its cut root is r.
+abbrev pub LeadsTo : (List ℕ → List ℕ) → (ℕ → Option (List ℕ)) → ℕ → List ℕ → ℕ → Type 0
+LeadsTo H F n r t = (x : List ℕ) × (F t ≡ Some x) × (cut_root H F t x n ≡ Some r)
+
+-- The proof is met by an old and a new root: the old one is the old root, and all balanced roots of the
+-- old length lead to the new one.
+pub record IsConsistent (H : List ℕ → List ℕ) (F : ℕ → Option (List ℕ)) (m n : ℕ) (old new : List ℕ) : Type 0 where
+  pub some : 0 < m
+  pub order : m ≤ n
+  pub old_root_is : old_root H F m ≡ Some old
+  pub new_root_is : AllByRecursion (LeadsTo H F n new) (balanced_roots m)
