@@ -11,3 +11,4 @@ pub mod OrderLemmas
 pub mod StepLemmas
 pub mod AgreeLemmas
 pub mod MetLemmas
+pub mod SparseLemmas

@@ -1,13 +1,11 @@
 -- What a consistency proof's evaluation says.
-use Rattle.std.proofs.Common.{◌≡◌, ℕ, zero, suc, ◌+◌, ◌-◌, ◌*◌, ◌^◌, ◌<◌, ◌≤◌, ◌==◌, Bool, true, false, nat_eq, nat_lt, nat_le, List, [], ◌∷◌, ◌++◌, length, take, Option, Some, None, Result, Ok, Err, refl, sym, ap, ◌∙◌, arith, subst, ⊎_elim, ◌⊎◌}
+use Rattle.std.proofs.Common.{◌≡◌, ℕ, zero, suc, ◌+◌, ◌-◌, ◌*◌, ◌^◌, ◌<◌, ◌≤◌, true, false, nat_eq, nat_lt, List, [], ◌∷◌, length, take, Option, Some, None, Result, Ok, Err, refl, ap, ◌∙◌, arith, subst, ⊎_elim}
 use Rattle.std.specs.Cmp.Lexicographic.{pointwise}
 use Rattle.std.specs.List.{AllByRecursion}
 use Rattle.std.proofs.Math.Nat.{pow-suc}
-use Rattle.std.proofs.lemmas.Nat.{pow_pos}
-use Rattle.std.proofs.lemmas.Bool.{le-leb, lt-leb, leb-true, eq-eqb, eqb-true, ne_eqb, ltb-false, le-ltb, cases_Bool, cases_lt, cases_eq}
+use Rattle.std.proofs.lemmas.Bool.{le-leb, lt-leb, eq-eqb, ne_eqb, ltb-false, le-ltb, cases_Bool, cases_lt, cases_eq}
 use Rattle.warg_log.specs.declared.consistency.ConsistencyProofError.{ConsistencyProofError}
-use Rattle.warg_log.specs.declared.consistency.ConsistencyProofError.TheVariants as Consistency
-use Rattle.warg_log.specs.Nodes.{height_of, place_of, start_of, end_of, node_over, balanced_within, balanced_over, balanced_roots}
+use Rattle.warg_log.specs.Nodes.{end_of, node_over, balanced_within, balanced_over, balanced_roots}
 use Rattle.warg_log.specs.Tree.{root_of, leaves_below, own_digest}
 use Rattle.warg_log.specs.Cut.{cut_root, old_root}
 use Rattle.warg_log.specs.Consistency.{root_or_fault, root_given, root_to, agreeing, agreed_root, agreed_after, new_root_of, both_roots, consistency, LeadsTo, IsConsistent}
@@ -16,7 +14,7 @@ use Rattle.warg_log.proofs.RootLemmas.{below_pow}
 use Rattle.warg_log.proofs.CutLemmas.{cut_root-own, old_root-own}
 use Rattle.warg_log.proofs.LawLemmas.{number_over}
 use Rattle.warg_log.proofs.AgreeLemmas.{same_true, same_equal}
-use Rattle.warg_log.proofs.BalancedLemmas.{balanced_first, balanced_at}
+use Rattle.warg_log.proofs.BalancedLemmas.{balanced_first}
 
 -- an evaluation that is Ok
 fault_ok : (p : Option (List ℕ)) (r : List ℕ) → root_or_fault p ≡ Ok r → p ≡ Some r
@@ -66,16 +64,16 @@ pub consistency-only : (H : List ℕ → List ℕ) (F : ℕ → Option (List ℕ
 consistency-only H F m n old new e = ⊎_elim
     (λ (none : m ≡ 0). absurd (let f = rw (eq-eqb m 0 none) at e in cc))
     (λ (some : m ≡ 0 → ⊥). ⊎_elim
-        (λ (t : nat_lt n m ≡ true). absurd (let f = rw (ne_eqb m 0 some, t) at e in cc))
-        (λ (t : nat_lt n m ≡ false).
-            let f : both_roots (old_root H F m) (new_root_of H F n (balanced_roots m)) ≡ Ok (old, new) = rw (ne_eqb m 0 some, t) at e in
-            let p = both_ok (old_root H F m) (new_root_of H F n (balanced_roots m)) old new f in
-            record { some = omega arith; order = ltb_false n m t; old_root_is = p.0; new_root_is = new_ok H F n new (balanced_roots m) p.1 })
-        (cases_Bool (nat_lt n m)))
+    (λ (t : nat_lt n m ≡ true). absurd (let f = rw (ne_eqb m 0 some, t) at e in cc))
+    (λ (t : nat_lt n m ≡ false).
+    let f : both_roots (old_root H F m) (new_root_of H F n (balanced_roots m)) ≡ Ok (old, new) = rw (ne_eqb m 0 some, t) at e in
+    let p = both_ok (old_root H F m) (new_root_of H F n (balanced_roots m)) old new f in
+    record { some = omega arith; order = ltb_false n m t; old_root_is = p.0; new_root_is = new_ok H F n new (balanced_roots m) p.1 })
+    (cases_Bool (nat_lt n m)))
     (cases_eq m 0)
-    where
-      ltb_false : (n m : ℕ) → nat_lt n m ≡ false → m ≤ n
-      ltb_false n m t = ltb-false n m t
+  where
+    ltb_false : (n m : ℕ) → nat_lt n m ≡ false → m ≤ n
+    ltb_false n m t = ltb-false n m t
 
 -- roots that meet it
 pub leads_to : (H : List ℕ → List ℕ) (F : ℕ → Option (List ℕ)) (n t : ℕ) (r : List ℕ) → LeadsTo H F n r t → root_to H F n t ≡ Ok r
@@ -106,9 +104,9 @@ consistency-then H F m n old new is =
     let first = has_first m is.some in
     let some : m ≡ 0 → ⊥ = λ e. let s = is.some in omega (arith, s) in
     rw (ne_eqb m 0 some, ltb_no n m is.order, is.old_root_is, new_all H F n m first.0 new first.1 (balanced_roots m) first.2 is.new_root_is) refl
-    where
-      ltb_no : (n m : ℕ) → m ≤ n → nat_lt n m ≡ false
-      ltb_no n m le = le-ltb n m le
+  where
+    ltb_no : (n m : ℕ) → m ≤ n → nat_lt n m ≡ false
+    ltb_no n m le = le-ltb n m le
 
 -- a log's own digests
 balanced_exist : (h c n e : ℕ) → n < 2 ^ h → c * 2 ^ h + n ≤ e → AllByRecursion (λ t. end_of t ≤ e) (balanced_within h (c * 2 ^ h) n)
@@ -121,9 +119,9 @@ balanced_exist (suc h) c n e lt fits =
     rw start (⊎_elim
     (λ (low : n < 2 ^ h). rw (lt-leb (2 ^ h) n low) (balanced_exist h (2 * c) n e low (omega arith)))
     (λ (high : 2 ^ h ≤ n).
-        let at = node_at (node_over (2 * c * 2 ^ h) (2 ^ h)) h (2 * c) (number_over h (2 * c)) in
-        let end : end_of (node_over (2 * c * 2 ^ h) (2 ^ h)) ≤ e = rw (at.0, at.1) (omega arith) in
-        rw (le-leb (2 ^ h) n high, middle) (end, balanced_exist h (2 * c + 1) (n - 2 ^ h) e (omega arith) (omega arith)))
+    let at = node_at (node_over (2 * c * 2 ^ h) (2 ^ h)) h (2 * c) (number_over h (2 * c)) in
+    let end : end_of (node_over (2 * c * 2 ^ h) (2 ^ h)) ≤ e = rw (at.0, at.1) (omega arith) in
+    rw (le-leb (2 ^ h) n high, middle) (end, balanced_exist h (2 * c + 1) (n - 2 ^ h) e (omega arith) (omega arith)))
     (cases_lt n (2 ^ h)))
 
 own_leads : (H : List ℕ → List ℕ) (ds : List (List ℕ)) (n t : ℕ) → 0 < n → n ≤ length ds → end_of t ≤ length ds → LeadsTo H (own_digest H ds) n (root_of H (take n ds)) t

@@ -3,3 +3,4 @@ pub mod Tree
 pub mod Cut
 pub mod Walks
 pub mod Consistency
+pub mod Sparse

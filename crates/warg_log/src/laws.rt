@@ -127,12 +127,10 @@ pub fn old_own()
 pub fn consistency_met()
     ensures only { (H : List ℕ → List ℕ) (F : ℕ → Option (List ℕ)) (m n : ℕ) (old new : List ℕ) → consistency H F m n ≡ Ok (old, new) → IsConsistent H F m n old new }
     ensures then { (H : List ℕ → List ℕ) (F : ℕ → Option (List ℕ)) (m n : ℕ) (old new : List ℕ) → IsConsistent H F m n old new → consistency H F m n ≡ Ok (old, new) }
-{
-}
+{}
 
 /// A log's consistency proofs lead to the roots that it had: over the log's own digests, a proof from a
 /// length of at least 1 to one that isn't smaller, up to the log's, has the roots of that many leaves.
 pub fn own_consistency()
     ensures { (H : List ℕ → List ℕ) (ds : List (List ℕ)) (m n : ℕ) → 0 < m → m ≤ n → n ≤ length ds → consistency H (own_digest H ds) m n ≡ Ok (root_of H (take m ds), root_of H (take n ds)) }
-{
-}
+{}

@@ -12,6 +12,7 @@ pub mod laws;
 mod log;
 mod node;
 mod proof;
+mod sparse_data;
 mod vec_log;
 
 pub use consistency::{ConsistencyProof, ConsistencyProofError};
@@ -19,4 +20,5 @@ pub use interval::Interval;
 pub use log::{Checkpoint, LogBuilder, LogData, hash_branch, hash_empty, hash_leaf, push_all};
 pub use node::{Node, Side};
 pub use proof::{InclusionProof, InclusionProofError, InclusionProofWalk, range_root, stored_root};
+pub use sparse_data::SparseLogData;
 pub use vec_log::VecLog;
