@@ -12,3 +12,4 @@ pub mod StepLemmas
 pub mod AgreeLemmas
 pub mod MetLemmas
 pub mod SparseLemmas
+pub mod StackLemmas

@@ -96,6 +96,9 @@ exponent_under (suc f) n some lt = ⊎_elim
     (λ (low : n < 2 ^ f). exponent_under f n some low)
     (λ (high : 2 ^ f ≤ n). let found : (h : ℕ) × (2 ^ h ≤ n) × (n < 2 ^ suc h) = (f, high, lt) in found) (cases_lt n (2 ^ f))
 
+pub has_first_over : (a n : ℕ) → 0 < n → (t : ℕ) × (ts : List ℕ) × (balanced_over a n ≡ t ∷ ts)
+has_first_over a n some = let e = exponent_under n n some (below_pow n) in (node_over a (2 ^ e.0), balanced_over (a + 2 ^ e.0) (n - 2 ^ e.0), balanced_first e.0 a n e.1 e.2)
+
 pub has_first : (m : ℕ) → 0 < m → (t : ℕ) × (ts : List ℕ) × (balanced_roots m ≡ t ∷ ts)
 has_first m some = let e = exponent_under m m some (below_pow m) in (node_over 0 (2 ^ e.0), balanced_over (0 + 2 ^ e.0) (m - 2 ^ e.0), balanced_first e.0 0 m e.1 e.2)
 
@@ -109,7 +112,7 @@ consistency-then H F m n old new is =
     ltb_no n m le = le-ltb n m le
 
 -- a log's own digests
-balanced_exist : (h c n e : ℕ) → n < 2 ^ h → c * 2 ^ h + n ≤ e → AllByRecursion (λ t. end_of t ≤ e) (balanced_within h (c * 2 ^ h) n)
+pub balanced_exist : (h c n e : ℕ) → n < 2 ^ h → c * 2 ^ h + n ≤ e → AllByRecursion (λ t. end_of t ≤ e) (balanced_within h (c * 2 ^ h) n)
 unfolding balanced_within
 balanced_exist zero c n e lt fits = tt
 balanced_exist (suc h) c n e lt fits =

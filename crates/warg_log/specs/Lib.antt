@@ -4,3 +4,4 @@ pub mod Cut
 pub mod Walks
 pub mod Consistency
 pub mod Sparse
+pub mod Blocks

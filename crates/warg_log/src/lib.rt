@@ -13,6 +13,7 @@ mod log;
 mod node;
 mod proof;
 mod sparse_data;
+mod stack_log;
 mod vec_log;
 
 pub use consistency::{ConsistencyProof, ConsistencyProofError};
@@ -21,4 +22,5 @@ pub use log::{Checkpoint, LogBuilder, LogData, hash_branch, hash_empty, hash_lea
 pub use node::{Node, Side};
 pub use proof::{InclusionProof, InclusionProofError, InclusionProofWalk, range_root, stored_root};
 pub use sparse_data::SparseLogData;
+pub use stack_log::StackLog;
 pub use vec_log::VecLog;
