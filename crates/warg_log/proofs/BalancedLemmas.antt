@@ -3,8 +3,9 @@ use Rattle.std.proofs.Common.{◌≡◌, ℕ, zero, suc, ◌+◌, ◌-◌, ◌*�
 use Rattle.std.proofs.Math.Nat.{pow-suc, pow-le-pow_right}
 use Rattle.std.proofs.lemmas.List.{map-append, append-nil}
 use Rattle.std.proofs.lemmas.Bool.{le-leb, lt-leb}
+use Rattle.std.specs.List.{AllByRecursion}
 use Rattle.warg_log.specs.declared.node.Node.{Node}
-use Rattle.warg_log.specs.Nodes.{node_over, balanced_within, balanced_roots}
+use Rattle.warg_log.specs.Nodes.{node_over, balanced_within, balanced_over, balanced_roots}
 use Rattle.warg_log.proofs.RootLemmas.{below_pow}
 
 -- any number of digits that is enough
@@ -37,19 +38,33 @@ balanced_first h a n low high =
     balanced_at n (suc h) a n enough high
     ∙ rw (le-leb (2 ^ h) n low) (ap (λ l. node_over a (2 ^ h) ∷ l) (balanced_at h (n - 2 ^ h) (a + 2 ^ h) (n - 2 ^ h) rest_fits rest_enough))
 
--- one more root is pushed
-pub root_pushed : (xs ys : List Node) (r : Node) (start count length h : ℕ) → ys ≡ xs ++ r ∷ [] → r.0 ≡ node_over start count
-    → count ≡ 2 ^ h → 2 ^ h ≤ length - start → length - start < 2 ^ (h + 1)
-    → map (λ (m : Node). m.0) xs ++ balanced_within (length - start) start (length - start) ≡ balanced_roots length
-    → map (λ (m : Node). m.0) ys ++ balanced_within (length - (start + count)) (start + count) (length - (start + count)) ≡ balanced_roots length
-root_pushed xs ys r start count length h pushed number width low high so_far =
+-- one more root is cut off
+pub root_cut : (ns : List ℕ) (r start count length h : ℕ) → r ≡ node_over start count → count ≡ 2 ^ h → 2 ^ h ≤ length - start → length - start < 2 ^ (h + 1)
+    → ns ++ balanced_over start (length - start) ≡ balanced_roots length
+    → (ns ++ r ∷ []) ++ balanced_over (start + count) (length - (start + count)) ≡ balanced_roots length
+root_cut ns r start count length h number width low high so_far =
     let next : h + 1 ≡ suc h = omega arith in
     let high' : length - start < 2 ^ suc h = rw (← next) high in
     let rest : length - start - 2 ^ h ≡ length - (start + 2 ^ h) = omega arith in
-    let first : balanced_within (length - start) start (length - start) ≡ node_over start (2 ^ h) ∷ balanced_within (length - (start + 2 ^ h)) (start + 2 ^ h) (length - (start + 2 ^ h)) =
+    let first : balanced_over start (length - start) ≡ node_over start (2 ^ h) ∷ balanced_over (start + 2 ^ h) (length - (start + 2 ^ h)) =
     balanced_first h start (length - start) low high' ∙ rw rest refl in
-    let mapped : map (λ (m : Node). m.0) ys ≡ map (λ (m : Node). m.0) xs ++ r.0 ∷ [] = ap (λ l. map (λ (m : Node). m.0) l) pushed ∙ map-append (λ (m : Node). m.0) xs (r ∷ []) in
-    rw (mapped, number, width) (append_assoc (map (λ (m : Node). m.0) xs) (node_over start (2 ^ h) ∷ []) _ ∙ ap (λ l. map (λ (m : Node). m.0) xs ++ l) (sym first) ∙ so_far)
+    rw (number, width) (append_assoc ns (node_over start (2 ^ h) ∷ []) _ ∙ ap (λ l. ns ++ l) (sym first) ∙ so_far)
+
+pub map-push : {X : Type 0} (f : X → ℕ) (xs ys : List X) (x : X) → ys ≡ xs ++ x ∷ [] → map f ys ≡ map f xs ++ f x ∷ []
+map-push f xs ys x e = ap (λ l. map f l) e ∙ map-append f xs (x ∷ [])
+
+pub all_push : {X : Type 0} (P : X → Type 0) (xs : List X) (x : X) → AllByRecursion P xs → P x → AllByRecursion P (xs ++ x ∷ [])
+all_push P [] x all last = (last, tt)
+all_push P (y ∷ xs) x all last = (all.0, all_push P xs x all.1 last)
+
+-- one more root is pushed
+pub root_pushed : (xs ys : List Node) (r : Node) (start count length h : ℕ) → ys ≡ xs ++ r ∷ [] → r.0 ≡ node_over start count
+    → count ≡ 2 ^ h → 2 ^ h ≤ length - start → length - start < 2 ^ (h + 1)
+    → map (λ (m : Node). m.0) xs ++ balanced_over start (length - start) ≡ balanced_roots length
+    → map (λ (m : Node). m.0) ys ++ balanced_over (start + count) (length - (start + count)) ≡ balanced_roots length
+root_pushed xs ys r start count length h pushed number width low high so_far =
+    ap (λ l. l ++ balanced_over (start + count) (length - (start + count))) (map-push (λ (m : Node). m.0) xs ys r pushed)
+    ∙ root_cut (map (λ (m : Node). m.0) xs) r.0 start count length h number width low high so_far
 
 pub no_more : (xs : List ℕ) (n a length : ℕ) → length ≤ a → xs ++ balanced_within (length - a) a (length - a) ≡ balanced_roots length → xs ≡ balanced_roots length
 unfolding balanced_within

@@ -9,3 +9,7 @@ pub mod WalkLemmas
 pub mod LawLemmas
 pub mod OrderLemmas
 pub mod StepLemmas
+pub mod AgreeLemmas
+pub mod MetLemmas
+pub mod SparseLemmas
+pub mod StackLemmas

@@ -217,7 +217,7 @@ need_around k j (suc h) c le low high = ⊎_elim (here k j h c low high) (λ (ot
         (no_straddle k j h (2 * c + 1) le)
 
 -- a number strictly between two powers is none
-not_power : (h k n : ℕ) → 2 ^ h < n → n < 2 ^ suc h → n ≡ 2 ^ k → ⊥
+pub not_power : (h k n : ℕ) → 2 ^ h < n → n < 2 ^ suc h → n ≡ 2 ^ k → ⊥
 not_power h k n low high is =
     let next : 2 ^ suc h ≡ 2 ^ h * 2 = pow-suc 2 h in
     let same : n ≡ 2 ^ h = same_power n h k (omega arith) (omega arith) is in
@@ -361,15 +361,15 @@ pub record IsWithin (a e : ℕ) (xs : List ℕ) : Type 0 where
   pub lie : AllByRecursion (Lies a e) xs
   pub distinct : IsDistinct nat_eq xs
 
-within_none : (a e : ℕ) → IsWithin a e []
+pub within_none : (a e : ℕ) → IsWithin a e []
 unfolding IsDistinct
 within_none a e = record { lie = tt; distinct = tt }
 
-within_one : (a n : ℕ) → 0 < n → IsWithin a (a + n) (node_over a n ∷ [])
+pub within_one : (a n : ℕ) → 0 < n → IsWithin a (a + n) (node_over a n ∷ [])
 unfolding IsDistinct
 within_one a n some = record { lie = ((omega arith, omega arith), tt); distinct = (tt, tt) }
 
-within_both : (a m e : ℕ) (xs ys : List ℕ) → a ≤ m → m ≤ e → IsWithin a m xs → IsWithin m e ys → IsWithin a e (xs ++ ys) × IsWithin a e (ys ++ xs)
+pub within_both : (a m e : ℕ) (xs ys : List ℕ) → a ≤ m → m ≤ e → IsWithin a m xs → IsWithin m e ys → IsWithin a e (xs ++ ys) × IsWithin a e (ys ++ xs)
 within_both a m e xs ys low high left right =
     let lx : AllByRecursion (Lies a e) xs = all_weaken (Lies a m) (Lies a e) (λ x p. (p.0, let q : x + 2 ≤ 2 * e = let r = p.1 in omega (arith, r) in q)) xs left.lie in
     let ly : AllByRecursion (Lies a e) ys = all_weaken (Lies m e) (Lies a e) (λ x p. (let q : 2 * a ≤ x = let r = p.0 in omega (arith, r) in q, p.1)) ys right.lie in (

@@ -3,11 +3,12 @@
 //! Read them beside the definitions: they state the standard's own words (RFC 6962, section 2.1) where
 //! a definition takes another road, and they are all that a proof about the definitions needs.
 
-ghost use Rattle.std.specs.Prelude.{◌≡◌, ℕ, ◌+◌, ◌-◌, ◌*◌, ◌%◌, ◌^◌, ◌<◌, ◌≤◌, ◌⊎◌, ◌↔◌, List, [], ◌∷◌, length, take, drop, Option, Some, IsSome, slice_index_or};
+ghost use Rattle.std.specs.Prelude.{◌≡◌, ℕ, ◌+◌, ◌-◌, ◌*◌, ◌%◌, ◌^◌, ◌<◌, ◌≤◌, ◌⊎◌, ◌↔◌, List, [], ◌∷◌, length, take, drop, Option, Some, Ok, IsSome, slice_index_or};
 ghost use Rattle.warg_log.specs.Nodes.{IsNode, ExistsAt, height_of, place_of, start_of, end_of, node_over};
 ghost use Rattle.warg_log.specs.Tree.{branch, front_of, root_of, root_over, leaves_of, leaves_below, own_digest};
 ghost use Rattle.warg_log.specs.Cut.{joined, cut_over, cut_root, old_over, old_root, IsFull, IsBeside};
 ghost use Rattle.warg_log.specs.Walks.{needed, IsKnown};
+ghost use Rattle.warg_log.specs.Consistency.{consistency, IsConsistent};
 
 use crate::node::Node;
 
@@ -120,4 +121,16 @@ pub fn old_parts()
 /// leaves.
 pub fn old_own()
     ensures { (H : List ℕ → List ℕ) (ds : List (List ℕ)) (m : ℕ) → 0 < m → m ≤ length ds → old_root H (own_digest H ds) m ≡ Some (root_of H (take m ds)) }
+{}
+
+/// A consistency proof evaluates to two roots exactly where these meet it.
+pub fn consistency_met()
+    ensures only { (H : List ℕ → List ℕ) (F : ℕ → Option (List ℕ)) (m n : ℕ) (old new : List ℕ) → consistency H F m n ≡ Ok (old, new) → IsConsistent H F m n old new }
+    ensures then { (H : List ℕ → List ℕ) (F : ℕ → Option (List ℕ)) (m n : ℕ) (old new : List ℕ) → IsConsistent H F m n old new → consistency H F m n ≡ Ok (old, new) }
+{}
+
+/// A log's consistency proofs lead to the roots that it had: over the log's own digests, a proof from a
+/// length of at least 1 to one that isn't smaller, up to the log's, has the roots of that many leaves.
+pub fn own_consistency()
+    ensures { (H : List ℕ → List ℕ) (ds : List (List ℕ)) (m n : ℕ) → 0 < m → m ≤ n → n ≤ length ds → consistency H (own_digest H ds) m n ≡ Ok (root_of H (take m ds), root_of H (take n ds)) }
 {}

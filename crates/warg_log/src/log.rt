@@ -3,6 +3,7 @@
 ghost use Rattle.std.specs.Prelude.{◌≡◌, ℕ, ◌+◌, ◌*◌, ◌^◌, ◌<◌, ◌≤◌, ◌↔◌, map, take, List, [], ◌∷◌, ◌++◌, length, Option, IsTrue, IsSome, IfOk, OnOk, OnErr};
 ghost use Rattle.warg_log.specs.Tree.{branch, root_of, leaves_of};
 
+use crate::consistency::ConsistencyProof;
 use crate::node::Node;
 use crate::proof::InclusionProof;
 use std::alloc::AllocError;
@@ -117,6 +118,17 @@ pub trait LogData<D: SupportedDigest, V: VisitBytes> {
         ensures log_length { result.log_length ≡ log_length }
     {
         InclusionProof::new(leaf, log_length)
+    }
+
+    /// The proof that the log of an old length is a beginning of that of a new one. Neither has to be one
+    /// of this data's, nor the old one the smaller: the proof's evaluation says whether they are.
+    fn prove_consistency(&self, old_length: usize, new_length: usize) -> ConsistencyProof<D, V>
+        requires old_fits { old_length ≤ 2 ^ 63 }
+        requires new_fits { new_length ≤ 2 ^ 63 }
+        ensures old_length { result.old_length ≡ old_length }
+        ensures new_length { result.new_length ≡ new_length }
+    {
+        ConsistencyProof::new(old_length, new_length)
     }
 }
 

@@ -7,6 +7,7 @@ ghost use Rattle.warg_log.specs.Cut.{cut_root, cut_over, old_over};
 ghost use Rattle.warg_log.specs.Walks.{needed, needed_over, siblings_up, IsWalk, IsWalkOver};
 
 use crate::interval::Interval;
+use crate::join::{Hashing, Join};
 use crate::log::{LogData, hash_branch, hash_leaf};
 use crate::node::Node;
 use std::alloc::{AllocError, Allocator, Global};
@@ -280,6 +281,21 @@ pub fn range_root<D: SupportedDigest, V: VisitBytes, L: LogData<D, V>>(
 ) -> Option<Hash<D>>
     ensures { result ≡ cut_over D.digest (L.digest_at hashes.now) hash.now target.now.start target.now.count range.now.start range.now.count }
 {
+    range_root_by(&mut Hashing, hashes, target, hash, range)
+}
+
+// The same, where `joins` gives the digests of branches.
+pub(crate) fn range_root_by<D: SupportedDigest, V: VisitBytes, L: LogData<D, V>, J: Join<D>>(
+    joins: &mut J,
+    hashes: &L,
+    target: &Interval,
+    hash: &Hash<D>,
+    range: &Interval,
+) -> Option<Hash<D>>
+    requires { J.is_true joins.old }
+    ensures value { result ≡ cut_over D.digest (L.digest_at hashes.now) hash.now target.now.start target.now.count range.now.start range.now.count }
+    ensures kept { J.is_true joins.new }
+{
     if range.equals(target) {
         return Some(hash.copied());
     }
@@ -287,9 +303,9 @@ pub fn range_root<D: SupportedDigest, V: VisitBytes, L: LogData<D, V>>(
         return hashes.hash_for(range.node());
     }
     let (front, rest) = range.split();
-    let left = range_root(hashes, target, hash, &front)?;
-    let right = range_root(hashes, target, hash, &rest)?;
-    Some(hash_branch(&left, &right))
+    let left = range_root_by(joins, hashes, target, hash, &front)?;
+    let right = range_root_by(joins, hashes, target, hash, &rest)?;
+    Some(joins.join(&left, &right))
 }
 
 /// The old root of one range: the root of the range's leaves by the digests that the data holds for the

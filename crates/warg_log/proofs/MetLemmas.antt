@@ -1,0 +1,149 @@
+-- What a consistency proof's evaluation says.
+use Rattle.std.proofs.Common.{◌≡◌, ℕ, zero, suc, ◌+◌, ◌-◌, ◌*◌, ◌^◌, ◌<◌, ◌≤◌, true, false, nat_eq, nat_lt, List, [], ◌∷◌, length, take, Option, Some, None, Result, Ok, Err, refl, ap, ◌∙◌, arith, subst, ⊎_elim}
+use Rattle.std.specs.Cmp.Lexicographic.{pointwise}
+use Rattle.std.specs.List.{AllByRecursion}
+use Rattle.std.proofs.Math.Nat.{pow-suc}
+use Rattle.std.proofs.lemmas.Bool.{le-leb, lt-leb, eq-eqb, ne_eqb, ltb-false, le-ltb, cases_Bool, cases_lt, cases_eq}
+use Rattle.warg_log.specs.declared.consistency.ConsistencyProofError.{ConsistencyProofError}
+use Rattle.warg_log.specs.Nodes.{end_of, node_over, balanced_within, balanced_over, balanced_roots}
+use Rattle.warg_log.specs.Tree.{root_of, leaves_below, own_digest}
+use Rattle.warg_log.specs.Cut.{cut_root, old_root}
+use Rattle.warg_log.specs.Consistency.{root_or_fault, root_given, root_to, agreeing, agreed_root, agreed_after, new_root_of, both_roots, consistency, LeadsTo, IsConsistent}
+use Rattle.warg_log.proofs.NodeLemmas.{node_at}
+use Rattle.warg_log.proofs.RootLemmas.{below_pow}
+use Rattle.warg_log.proofs.CutLemmas.{cut_root-own, old_root-own}
+use Rattle.warg_log.proofs.LawLemmas.{number_over}
+use Rattle.warg_log.proofs.AgreeLemmas.{same_true, same_equal}
+use Rattle.warg_log.proofs.BalancedLemmas.{balanced_first}
+
+-- an evaluation that is Ok
+fault_ok : (p : Option (List ℕ)) (r : List ℕ) → root_or_fault p ≡ Ok r → p ≡ Some r
+fault_ok (Some s) r e = cc
+fault_ok None r e = absurd (cc)
+
+given_ok : (H : List ℕ → List ℕ) (F : ℕ → Option (List ℕ)) (n t : ℕ) (p : Option (List ℕ)) (r : List ℕ) → root_given H F n t p ≡ Ok r
+    → (x : List ℕ) × (p ≡ Some x) × (cut_root H F t x n ≡ Some r)
+given_ok H F n t (Some x) r e = (x, refl, fault_ok (cut_root H F t x n) r e)
+given_ok H F n t None r e = absurd (cc)
+
+agreeing_ok : (a r : List ℕ) (q rest : Result (List ℕ) ConsistencyProofError) → agreeing a q rest ≡ Ok r → (q ≡ Ok a) × (rest ≡ Ok r)
+agreeing_ok a r (Ok s) rest e = ⊎_elim
+    (λ (t : pointwise nat_eq s a ≡ true). (ap Ok (same_equal s a t), rw t at e))
+    (λ (t : pointwise nat_eq s a ≡ false). absurd (let f = rw t at e in cc))
+    (cases_Bool (pointwise nat_eq s a))
+agreeing_ok a r (Err fault) rest e = absurd (cc)
+
+agreed_ok : (H : List ℕ → List ℕ) (F : ℕ → Option (List ℕ)) (n : ℕ) (a r : List ℕ) (ts : List ℕ) → agreed_root H F n a ts ≡ Ok r
+    → (a ≡ r) × AllByRecursion (LeadsTo H F n a) ts
+agreed_ok H F n a r [] e = (cc, tt)
+agreed_ok H F n a r (t ∷ ts) e =
+    let p = agreeing_ok a r (root_to H F n t) (agreed_root H F n a ts) e in
+    let q = agreed_ok H F n a r ts p.1 in
+    (q.0, (given_ok H F n t (F t) a p.0, q.1))
+
+after_ok : (H : List ℕ → List ℕ) (F : ℕ → Option (List ℕ)) (n t : ℕ) (q : Result (List ℕ) ConsistencyProofError) (r : List ℕ) (ts : List ℕ) → root_to H F n t ≡ q → agreed_after H F n q ts ≡ Ok r
+    → AllByRecursion (LeadsTo H F n r) (t ∷ ts)
+after_ok H F n t (Ok s) r ts is e =
+    let p = agreed_ok H F n s r ts e in
+    let P : List ℕ → Type 0 = λ v. AllByRecursion (LeadsTo H F n v) (t ∷ ts) in
+    subst P p.0 (given_ok H F n t (F t) s is, p.1)
+after_ok H F n t (Err fault) r ts is e = absurd (cc)
+
+new_ok : (H : List ℕ → List ℕ) (F : ℕ → Option (List ℕ)) (n : ℕ) (r : List ℕ) (ts : List ℕ) → new_root_of H F n ts ≡ Ok r → AllByRecursion (LeadsTo H F n r) ts
+new_ok H F n r [] e = absurd (cc)
+new_ok H F n r (t ∷ ts) e = after_ok H F n t (root_to H F n t) r ts refl e
+
+both_ok : (p : Option (List ℕ)) (q : Result (List ℕ) ConsistencyProofError) (o r : List ℕ) → both_roots p q ≡ Ok (o, r) → (p ≡ Some o) × (q ≡ Ok r)
+both_ok (Some s) (Ok t) o r e =
+    let f : ◌≡◌ {A = List ℕ × List ℕ} (s, t) (o, r) = cc in
+    (ap (λ (p : List ℕ × List ℕ). Some p.0) f, ap (λ (p : List ℕ × List ℕ). Ok p.1) f)
+both_ok None (Ok t) o r e = absurd (cc)
+both_ok p (Err fault) o r e = absurd (cc)
+
+pub consistency-only : (H : List ℕ → List ℕ) (F : ℕ → Option (List ℕ)) (m n : ℕ) (old new : List ℕ) → consistency H F m n ≡ Ok (old, new) → IsConsistent H F m n old new
+consistency-only H F m n old new e = ⊎_elim
+    (λ (none : m ≡ 0). absurd (let f = rw (eq-eqb m 0 none) at e in cc))
+    (λ (some : m ≡ 0 → ⊥). ⊎_elim
+    (λ (t : nat_lt n m ≡ true). absurd (let f = rw (ne_eqb m 0 some, t) at e in cc))
+    (λ (t : nat_lt n m ≡ false).
+    let f : both_roots (old_root H F m) (new_root_of H F n (balanced_roots m)) ≡ Ok (old, new) = rw (ne_eqb m 0 some, t) at e in
+    let p = both_ok (old_root H F m) (new_root_of H F n (balanced_roots m)) old new f in
+    record { some = omega arith; order = ltb_false n m t; old_root_is = p.0; new_root_is = new_ok H F n new (balanced_roots m) p.1 })
+    (cases_Bool (nat_lt n m)))
+    (cases_eq m 0)
+  where
+    ltb_false : (n m : ℕ) → nat_lt n m ≡ false → m ≤ n
+    ltb_false n m t = ltb-false n m t
+
+-- roots that meet it
+pub leads_to : (H : List ℕ → List ℕ) (F : ℕ → Option (List ℕ)) (n t : ℕ) (r : List ℕ) → LeadsTo H F n r t → root_to H F n t ≡ Ok r
+leads_to H F n t r leads = rw leads.1 (ap root_or_fault leads.2)
+
+agreed_all : (H : List ℕ → List ℕ) (F : ℕ → Option (List ℕ)) (n : ℕ) (r : List ℕ) (ts : List ℕ) → AllByRecursion (LeadsTo H F n r) ts → agreed_root H F n r ts ≡ Ok r
+agreed_all H F n r [] all = refl
+agreed_all H F n r (t ∷ ts) all = rw (leads_to H F n t r all.0, same_true r r refl) (agreed_all H F n r ts all.1)
+
+new_all : (H : List ℕ → List ℕ) (F : ℕ → Option (List ℕ)) (n m t : ℕ) (r : List ℕ) (ts roots : List ℕ) → roots ≡ t ∷ ts → AllByRecursion (LeadsTo H F n r) roots → new_root_of H F n roots ≡ Ok r
+new_all H F n m t r ts roots is all =
+    let P : List ℕ → Type 0 = λ l. AllByRecursion (LeadsTo H F n r) l in
+    let all' : AllByRecursion (LeadsTo H F n r) (t ∷ ts) = subst P is all in
+    ap (new_root_of H F n) is ∙ rw (leads_to H F n t r all'.0) (agreed_all H F n r ts all'.1)
+
+-- a length above 0 has a balanced root
+exponent_under : (f n : ℕ) → 0 < n → n < 2 ^ f → (h : ℕ) × (2 ^ h ≤ n) × (n < 2 ^ suc h)
+exponent_under zero n some lt = absurd (omega arith)
+exponent_under (suc f) n some lt = ⊎_elim
+    (λ (low : n < 2 ^ f). exponent_under f n some low)
+    (λ (high : 2 ^ f ≤ n). let found : (h : ℕ) × (2 ^ h ≤ n) × (n < 2 ^ suc h) = (f, high, lt) in found) (cases_lt n (2 ^ f))
+
+pub has_first_over : (a n : ℕ) → 0 < n → (t : ℕ) × (ts : List ℕ) × (balanced_over a n ≡ t ∷ ts)
+has_first_over a n some = let e = exponent_under n n some (below_pow n) in (node_over a (2 ^ e.0), balanced_over (a + 2 ^ e.0) (n - 2 ^ e.0), balanced_first e.0 a n e.1 e.2)
+
+pub has_first : (m : ℕ) → 0 < m → (t : ℕ) × (ts : List ℕ) × (balanced_roots m ≡ t ∷ ts)
+has_first m some = let e = exponent_under m m some (below_pow m) in (node_over 0 (2 ^ e.0), balanced_over (0 + 2 ^ e.0) (m - 2 ^ e.0), balanced_first e.0 0 m e.1 e.2)
+
+pub consistency-then : (H : List ℕ → List ℕ) (F : ℕ → Option (List ℕ)) (m n : ℕ) (old new : List ℕ) → IsConsistent H F m n old new → consistency H F m n ≡ Ok (old, new)
+consistency-then H F m n old new is =
+    let first = has_first m is.some in
+    let some : m ≡ 0 → ⊥ = λ e. let s = is.some in omega (arith, s) in
+    rw (ne_eqb m 0 some, ltb_no n m is.order, is.old_root_is, new_all H F n m first.0 new first.1 (balanced_roots m) first.2 is.new_root_is) refl
+  where
+    ltb_no : (n m : ℕ) → m ≤ n → nat_lt n m ≡ false
+    ltb_no n m le = le-ltb n m le
+
+-- a log's own digests
+pub balanced_exist : (h c n e : ℕ) → n < 2 ^ h → c * 2 ^ h + n ≤ e → AllByRecursion (λ t. end_of t ≤ e) (balanced_within h (c * 2 ^ h) n)
+unfolding balanced_within
+balanced_exist zero c n e lt fits = tt
+balanced_exist (suc h) c n e lt fits =
+    let twice : 2 ^ suc h ≡ 2 ^ h * 2 = pow-suc 2 h in
+    let start : c * 2 ^ suc h ≡ 2 * c * 2 ^ h = rw twice (omega arith) in
+    let middle : 2 * c * 2 ^ h + 2 ^ h ≡ (2 * c + 1) * 2 ^ h = omega arith in
+    rw start (⊎_elim
+    (λ (low : n < 2 ^ h). rw (lt-leb (2 ^ h) n low) (balanced_exist h (2 * c) n e low (omega arith)))
+    (λ (high : 2 ^ h ≤ n).
+    let at = node_at (node_over (2 * c * 2 ^ h) (2 ^ h)) h (2 * c) (number_over h (2 * c)) in
+    let end : end_of (node_over (2 * c * 2 ^ h) (2 ^ h)) ≤ e = rw (at.0, at.1) (omega arith) in
+    rw (le-leb (2 ^ h) n high, middle) (end, balanced_exist h (2 * c + 1) (n - 2 ^ h) e (omega arith) (omega arith)))
+    (cases_lt n (2 ^ h)))
+
+own_leads : (H : List ℕ → List ℕ) (ds : List (List ℕ)) (n t : ℕ) → 0 < n → n ≤ length ds → end_of t ≤ length ds → LeadsTo H (own_digest H ds) n (root_of H (take n ds)) t
+own_leads H ds n t some fits exists =
+    (root_of H (leaves_below t ds), rw (le-leb (end_of t) (length ds) exists) refl, cut_root-own H ds t n (root_of H (leaves_below t ds)) refl some fits)
+
+all_lead : (H : List ℕ → List ℕ) (ds : List (List ℕ)) (n : ℕ) → 0 < n → n ≤ length ds → (ts : List ℕ) → AllByRecursion (λ t. end_of t ≤ length ds) ts
+    → AllByRecursion (LeadsTo H (own_digest H ds) n (root_of H (take n ds))) ts
+all_lead H ds n some fits [] all = tt
+all_lead H ds n some fits (t ∷ ts) all = (own_leads H ds n t some fits all.0, all_lead H ds n some fits ts all.1)
+
+pub consistency-own : (H : List ℕ → List ℕ) (ds : List (List ℕ)) (m n : ℕ) → 0 < m → m ≤ n → n ≤ length ds
+    → consistency H (own_digest H ds) m n ≡ Ok (root_of H (take m ds), root_of H (take n ds))
+consistency-own H ds m n some order fits =
+    let zero_start : 0 * 2 ^ m ≡ 0 = omega arith in
+    let roots : AllByRecursion (λ t. end_of t ≤ length ds) (balanced_roots m) = rw zero_start at (balanced_exist m 0 m (length ds) (below_pow m) (omega arith)) in
+    consistency-then H (own_digest H ds) m n (root_of H (take m ds)) (root_of H (take n ds)) (record {
+      some = some;
+      order = order;
+      old_root_is = old_root-own H ds m some (omega arith);
+      new_root_is = all_lead H ds n (omega arith) fits (balanced_roots m) roots;
+    })

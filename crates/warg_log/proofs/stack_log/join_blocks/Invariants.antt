@@ -1,0 +1,15 @@
+use Rattle.std.proofs.Common.{◌≡◌, ℕ, ◌+◌, ◌*◌, ◌^◌, ◌<◌, List, length, map, vec_len}
+use Rattle.std.specs.Prelude.{vec_capacity}
+use Rattle.warg_log.specs.Nodes.{height_of, start_of, balanced_roots}
+use Rattle.warg_log.specs.Blocks.{Grows}
+use Rattle.warg_log.proofs.StackLemmas.{IsJoined}
+use Rattle.warg_log.proofs.stack_log.join_blocks.Given as goal
+
+abbrev pub invariant-up : goal.invariant-up
+invariant-up g l = record {
+  room : vec_len l.blocks < vec_capacity l.blocks;
+  joined : (i : ℕ) × IsJoined g.D.SupportedDigest.digest l.count l.fn.digest l.initial.blocks.items i l.rest l.blocks.items l.digest;
+}
+
+abbrev pub decreases-up : goal.decreases-up
+decreases-up g l = l.rest

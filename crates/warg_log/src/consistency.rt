@@ -1,0 +1,224 @@
+//! Consistency proofs.
+
+ghost use Rattle.std.specs.Prelude.{◌≡◌, ⊤, ℕ, ◌+◌, ◌*◌, ◌^◌, ◌<◌, ◌≤◌, ◌↔◌, ◌⊎◌, List, IfOk, All, map};
+ghost use Rattle.std.specs.List.{AllByRecursion};
+ghost use Rattle.warg_log.specs.Nodes.{balanced_roots, node_over};
+ghost use Rattle.warg_log.specs.Tree.{branch};
+ghost use Rattle.warg_log.specs.Consistency.{root_to, new_root_of, consistency};
+
+use crate::interval::Interval;
+use crate::join::{Branches, Join, same};
+use crate::log::LogData;
+use crate::proof::{InclusionProof, InclusionProofError, range_root_by, stored_root};
+use std::alloc::{AllocError, Allocator};
+use std::marker::PhantomData;
+use thiserror::Error;
+use warg_crypto::{Hash, SupportedDigest, VisitBytes};
+
+/// Why a consistency proof leads to no roots.
+#[derive(Debug, PartialEq, Eq, Drop, Error)]
+pub enum ConsistencyProofError {
+    /// The old length is above the new one.
+    #[error("tries to prove later value comes before earlier")]
+    PointsOutOfOrder,
+    /// The digest of a balanced root of the old length isn't in the data.
+    #[error("a hash needed for evaluation was not available")]
+    HashNotKnown,
+    /// The inclusion proof of a balanced root of the old length leads to no root.
+    #[error("constituent inclusion proof failed")]
+    InclusionError(InclusionProofError),
+    /// Two balanced roots of the old length lead to different roots.
+    #[error("constituent inclusion proofs diverge produce different roots")]
+    DivergingRoots,
+    /// The old length is zero: the empty log is consistent with every log, and has no digest to show.
+    #[error("old length is zero")]
+    OldLengthZero,
+    /// Memory was refused.
+    #[error("out of memory")]
+    Memory,
+}
+
+impl From<InclusionProofError> for ConsistencyProofError {
+    ghost use Rattle.warg_log.specs.declared.consistency.ConsistencyProofError.TheVariants.{InclusionError};
+
+    ghost from_gives = { λ fault result. result ≡ InclusionError fault };
+
+    fn from(fault: InclusionProofError) -> Self {
+        ConsistencyProofError::InclusionError(fault)
+    }
+}
+
+/// The claim that the log of an old length is a beginning of the log of a new one.
+///
+/// It holds the two lengths, up to 2^63; the digests come from any [`LogData`]. Its evaluation shows
+/// that each balanced root of the old length is part of one tree of the new length, and answers the
+/// roots of both.
+#[derive_where(Debug, PartialEq, Eq)]
+pub struct ConsistencyProof<D, V> {
+    old_length: usize,
+    new_length: usize,
+    of: PhantomData<(D, V)>,
+    ghost old_fits: { old_length ≤ 2 ^ 63 },
+    ghost new_fits: { new_length ≤ 2 ^ 63 },
+}
+
+impl<D, V> Copy for ConsistencyProof<D, V> {}
+
+/// Never refuses: a proof takes no memory beside its own.
+impl<D, V> Clone for ConsistencyProof<D, V> {
+    ghost is_clone = { λ x y. y ≡ x };
+
+    ghost is_infallible = { λ _. ⊤ };
+
+    fn clone(&self) -> Result<Self, AllocError> {
+        Ok(*self)
+    }
+}
+
+impl<D, V> ConsistencyProof<D, V> {
+    pub(crate) fn new(old_length: usize, new_length: usize) -> Self
+        requires old_fits { old_length ≤ 2 ^ 63 }
+        requires new_fits { new_length ≤ 2 ^ 63 }
+        ensures old_length { result.old_length ≡ old_length }
+        ensures new_length { result.new_length ≡ new_length }
+    {
+        ConsistencyProof {
+            old_length,
+            new_length,
+            of: PhantomData,
+        }
+    }
+
+    /// The old length.
+    pub fn old_length(&self) -> usize
+        ensures value { result ≡ self.now.old_length }
+        ensures most { result ≤ 2 ^ 63 }
+    {
+        self.old_length
+    }
+
+    /// The new length.
+    pub fn new_length(&self) -> usize
+        ensures value { result ≡ self.now.new_length }
+        ensures most { result ≤ 2 ^ 63 }
+    {
+        self.new_length
+    }
+}
+
+impl<D: SupportedDigest, V: VisitBytes> ConsistencyProof<D, V> {
+    /// The inclusion proofs that make up this one: one at the new length for each balanced root of the
+    /// old length, from left to right. None for the old length zero.
+    ///
+    /// `PointsOutOfOrder` exactly where the old length is above the new one; else memory is the only
+    /// error.
+    pub fn inclusions<A: Allocator>(
+        &self,
+        alloc: A,
+    ) -> Result<Vec<InclusionProof<D, V>, A>, ConsistencyProofError>
+        ensures order { (result ≡ Err ConsistencyProofError.PointsOutOfOrder) ↔ (self.now.new_length < self.now.old_length) }
+        ensures others { (fault : ConsistencyProofError) → result ≡ Err fault → (fault ≡ ConsistencyProofError.PointsOutOfOrder) ⊎ (fault ≡ ConsistencyProofError.Memory) }
+        ensures leaves { IfOk result (λ proofs. map (λ p. p.leaf.0) proofs.items ≡ balanced_roots self.now.old_length) }
+        ensures lengths { IfOk result (λ proofs. AllByRecursion (λ p. p.log_length ≡ self.now.new_length) proofs.items) }
+    {
+        if self.old_length > self.new_length {
+            return Err(ConsistencyProofError::PointsOutOfOrder);
+        }
+        match inclusions_of(alloc, self.old_length, self.new_length) {
+            Ok(proofs) => Ok(proofs),
+            Err(_) => Err(ConsistencyProofError::Memory),
+        }
+    }
+
+    /// The roots of the old and the new log: the old root over the data, and the one root to which the
+    /// inclusion proofs of the old length's balanced roots lead. It takes no memory.
+    ///
+    /// `OldLengthZero` where the old length is 0, then `PointsOutOfOrder` where it is above the new one.
+    /// Then the first fault, from left to right, decides: `HashNotKnown` where a balanced root's digest
+    /// isn't in the data, `InclusionError(HashNotKnown)` where a digest that its inclusion proof reads
+    /// isn't, `DivergingRoots` where it leads to another root than the first one.
+    pub fn evaluate<L: LogData<D, V>>(
+        &self,
+        hashes: &L,
+    ) -> Result<(Hash<D>, Hash<D>), ConsistencyProofError>
+        ensures { result ≡ consistency D.digest (L.digest_at hashes.now) self.now.old_length self.now.new_length }
+    {
+        if self.old_length == 0 {
+            return Err(ConsistencyProofError::OldLengthZero);
+        }
+        if self.old_length > self.new_length {
+            return Err(ConsistencyProofError::PointsOutOfOrder);
+        }
+        let new_root = self.new_root(hashes)?;
+        let old = Interval::new(0, self.old_length);
+        match stored_root(hashes, &old) {
+            Some(old_root) => Ok((old_root, new_root)),
+            None => Err(ConsistencyProofError::HashNotKnown),
+        }
+    }
+
+    // The one root to which the balanced roots of the old length lead.
+    fn new_root<L: LogData<D, V>>(&self, hashes: &L) -> Result<Hash<D>, ConsistencyProofError>
+        requires some { 0 < self.now.old_length }
+        requires order { self.now.old_length ≤ self.now.new_length }
+        ensures { result ≡ new_root_of D.digest (L.digest_at hashes.now) self.now.new_length (balanced_roots self.now.old_length) }
+    {
+        let mut branches = Branches::new();
+        let whole = Interval::new(0, self.new_length);
+        let first = Interval::first_root(0, self.old_length);
+        let agreed = root_from(&mut branches, hashes, &first, &whole)?;
+        let mut start = first.end();
+        'roots: while start < self.old_length {
+            let root = Interval::first_root(start, self.old_length);
+            let other = root_from(&mut branches, hashes, &root, &whole)?;
+            if !same(&other, &agreed) {
+                return Err(ConsistencyProofError::DivergingRoots);
+            }
+            start = root.end();
+        }
+        Ok(agreed)
+    }
+}
+
+// The inclusion proofs of an old length's balanced roots at a new length, from left to right.
+fn inclusions_of<D, V, A: Allocator>(
+    alloc: A,
+    old_length: usize,
+    new_length: usize,
+) -> Result<Vec<InclusionProof<D, V>, A>, AllocError>
+    requires old_fits { old_length ≤ 2 ^ 63 }
+    requires new_fits { new_length ≤ 2 ^ 63 }
+    ensures leaves { IfOk result (λ proofs. map (λ p. p.leaf.0) proofs.items ≡ balanced_roots old_length) }
+    ensures lengths { IfOk result (λ proofs. AllByRecursion (λ p. p.log_length ≡ new_length) proofs.items) }
+{
+    let mut proofs = Vec::new(alloc);
+    let mut start = 0;
+    'roots: while start < old_length {
+        let root = Interval::first_root(start, old_length);
+        proofs.push(InclusionProof::new(root.node(), new_length))?;
+        start = root.end();
+    }
+    Ok(proofs)
+}
+
+// The root to which a balanced root of the old length leads.
+fn root_from<D: SupportedDigest, V: VisitBytes, L: LogData<D, V>>(
+    branches: &mut Branches<D>,
+    hashes: &L,
+    root: &Interval,
+    whole: &Interval,
+) -> Result<Hash<D>, ConsistencyProofError>
+    requires true_branches { AllByRecursion (λ b. b.digest ≡ branch D.digest b.left b.right) branches.old.joined.items }
+    requires is_root { (h c : ℕ) × (root.now.start ≡ c * 2 ^ h) × (root.now.count ≡ 2 ^ h) }
+    requires whole { whole.now.start ≡ 0 }
+    ensures value { result ≡ root_to D.digest (L.digest_at hashes.now) whole.now.count (node_over root.now.start root.now.count) }
+    ensures kept { AllByRecursion (λ b. b.digest ≡ branch D.digest b.left b.right) branches.new.joined.items }
+{
+    match hashes.hash_for(root.node()) {
+        Some(hash) => match range_root_by(branches, hashes, root, &hash, whole) {
+            Some(found) => Ok(found),
+            None => Err(ConsistencyProofError::InclusionError(InclusionProofError::HashNotKnown)),
+        },
+        None => Err(ConsistencyProofError::HashNotKnown),
+    }
+}

@@ -1,0 +1,60 @@
+//! Digests of some nodes, as they come with a proof.
+
+ghost use Rattle.std.specs.Prelude.{◌≡◌, ℕ, List};
+ghost use Rattle.warg_log.specs.Sparse.{IsAscending, held_digest};
+
+use crate::log::LogData;
+use crate::node::Node;
+use std::alloc::{Allocator, Global};
+use std::marker::{Model, PhantomData};
+use warg_crypto::{Hash, SupportedDigest, VisitBytes};
+
+/// The digests of some nodes, in the order of the nodes' numbers.
+#[derive(Drop)]
+pub struct SparseLogData<D: SupportedDigest, V: VisitBytes, A: Allocator = Global> {
+    pairs: Vec<(Node, Hash<D>), A>,
+    of: PhantomData<V>,
+}
+
+// Contracts see the data as its list of nodes with their digests.
+impl<D: SupportedDigest, V: VisitBytes, A: Allocator> Model for SparseLogData<D, V, A> {
+    ghost use Rattle.warg_log.specs.Sparse.{Pairs, IsAscending};
+
+    ghost Value = { Pairs };
+
+    ghost view = { λ s. s.pairs.items };
+
+    ghost invariant = { λ s. IsAscending s.pairs.items };
+}
+
+impl<D: SupportedDigest, V: VisitBytes, A: Allocator> SparseLogData<D, V, A> {
+    /// The data that holds these digests. It takes no memory.
+    pub fn from(pairs: Vec<(Node, Hash<D>), A>) -> Self
+        requires { IsAscending pairs.items }
+        ensures { result ≡ pairs.items }
+    {
+        SparseLogData {
+            pairs,
+            of: PhantomData,
+        }
+    }
+}
+
+impl<D: SupportedDigest, V: VisitBytes, A: Allocator> LogData<D, V> for SparseLogData<D, V, A> {
+    ghost digest_at = { λ s x. held_digest s x };
+
+    fn has_hash(&self, node: Node) -> bool {
+        LogData::<D, V>::hash_for(self, node).is_some()
+    }
+
+    fn hash_for(&self, node: Node) -> Option<Hash<D>> {
+        match self
+            .pairs
+            .as_slice()
+            .binary_search_by_key(&node.0, |pair| pair.0.0)
+        {
+            Ok(place) => Some(self.pairs[place].1.copied()),
+            Err(_) => None,
+        }
+    }
+}
