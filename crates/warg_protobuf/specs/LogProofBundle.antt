@@ -38,7 +38,7 @@ log_schema = record {
   };
 }
 
--- A bundle with one field more.
+-- A bundle with one field more, as the reading loop takes it in.
 unfoldable pub log_add : LogBundle → Field → LogBundle
 log_add m f = record {
   log_length = last_of m.log_length (value 1 (each uint32_in) f);

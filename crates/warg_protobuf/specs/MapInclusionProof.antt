@@ -21,7 +21,7 @@ proof_schema = record {
   message = λ fs. values 1 (each (message_in hash_schema)) fs;
 }
 
--- A proof with one field more.
+-- A proof with one field more, as the reading loop takes it in.
 unfoldable pub proof_add : List (Option (List ℕ)) → Field → List (Option (List ℕ))
 proof_add m f = m ++ value 1 (each (message_in hash_schema)) f
 

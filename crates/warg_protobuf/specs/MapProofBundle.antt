@@ -29,7 +29,7 @@ map_schema = record {
   };
 }
 
--- A bundle with one field more.
+-- A bundle with one field more, as the reading loop takes it in.
 unfoldable pub map_add : MapBundle → Field → MapBundle
 map_add m f = record {
   proofs = m.proofs ++ value 1 (each (message_in proof_schema)) f;

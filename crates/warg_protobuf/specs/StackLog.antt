@@ -29,7 +29,7 @@ stack_schema = record {
   };
 }
 
--- A log image with one field more.
+-- A log image with one field more, as the reading loop takes it in.
 unfoldable pub stack_add : StackImage → Field → StackImage
 stack_add m f = record {
   length = last_of m.length (value 1 (each uint32_in) f);

@@ -118,7 +118,9 @@ pub(crate) fn encode_message<A: Allocator + Copy, M: Message<A>>(
     Ok(out)
 }
 
-/// Writes each message in a field of its own. The bytes of one are collected first, in memory that the next one uses again.
+/// Writes each message in a field of its own.
+///
+/// The bytes of one are collected first, in memory that the next one uses again.
 pub(crate) fn push_messages<A: Allocator + Copy, M: Message<A>>(
     alloc: A,
     out: &mut Vec<u8, A>,
