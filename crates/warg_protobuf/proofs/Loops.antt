@@ -36,18 +36,28 @@ Collects-start split check message bytes state e = record { taken = []; so_far =
 
 pub Collects-next : {X M : Type 0} (split : Reader X) (check : Check X) (message : List X → M) (add : M → X → M)
     → Shrinks split → Adds message add
-    → (bytes rest : List ℕ) (state : M) (x : X) (after : List ℕ) (next : M) → 0 < length rest → split rest ≡ Ok (x, after) → (check x ≡ Ok tt) × (next ≡ add state x) → Collects split check message bytes rest state → Collects split check message bytes after next
+    → (bytes rest : List ℕ) (state : M) (x : X) (after : List ℕ) (next : M) → 0 < length rest
+    → split rest ≡ Ok (x, after) → (check x ≡ Ok tt) × (next ≡ add state x)
+    → Collects split check message bytes rest state → Collects split check message bytes after next
 Collects-next split check message add s a bytes rest state x after next long e did c =
-    let one : with_front c.taken (all_of split check rest) ≡ with_front (c.taken ++ x ∷ []) (all_of split check after) = rw (all_more split check s rest long, e, did.0) (regroup c.taken x (all_of split check after)) in
-    record { taken = c.taken ++ x ∷ []; so_far = sym one ∙ c.so_far; state_is = did.1 ∙ ap (λ (m : _). add m x) c.state_is ∙ sym (a.push c.taken x) }
+    let one : with_front c.taken (all_of split check rest) ≡ with_front (c.taken ++ x ∷ []) (all_of split check after) =
+    rw (all_more split check s rest long, e, did.0) (regroup c.taken x (all_of split check after)) in
+    record {
+      taken = c.taken ++ x ∷ [];
+      so_far = sym one ∙ c.so_far;
+      state_is = did.1 ∙ ap (λ (m : _). add m x) c.state_is ∙ sym (a.push c.taken x);
+    }
 
 pub Collects-unsplit : {X M : Type 0} (split : Reader X) (check : Check X) (message : List X → M) → Shrinks split
-    → (bytes rest : List ℕ) (state : M) (e : WireError) → 0 < length rest → Fails e (split rest) → Collects split check message bytes rest state → Fails e (all_of split check bytes)
+    → (bytes rest : List ℕ) (state : M) (e : WireError) → 0 < length rest → Fails e (split rest)
+    → Collects split check message bytes rest state → Fails e (all_of split check bytes)
 Collects-unsplit split check message s bytes rest state e long h c =
     rw (← c.so_far, all_more split check s rest long) (Fails-then e _ _ (Fails-then e (split rest) _ h))
 
 pub Collects-unchecked : {X M : Type 0} (split : Reader X) (check : Check X) (message : List X → M) → Shrinks split
-    → (bytes rest : List ℕ) (state : M) (x : X) (after : List ℕ) (e : WireError) → 0 < length rest → split rest ≡ Ok (x, after) → Fails e (check x) → Collects split check message bytes rest state → Fails e (all_of split check bytes)
+    → (bytes rest : List ℕ) (state : M) (x : X) (after : List ℕ) (e : WireError) → 0 < length rest
+    → split rest ≡ Ok (x, after) → Fails e (check x) → Collects split check message bytes rest state
+    → Fails e (all_of split check bytes)
 Collects-unchecked split check message s bytes rest state x after e long is h c =
     rw (← c.so_far, all_more split check s rest long, is) (Fails-then e _ _ (Fails-then e (check x) _ h))
 
@@ -76,7 +86,11 @@ numbers_add : (old : List ℕ) → Adds (λ (ns : List ℕ). old ++ ns) (λ (m :
 numbers_add old = record { push = λ ns n. sym (append_assoc old ns (n ∷ [])) }
 
 uint32_is : (n m : ℕ) → as_uint32 n ≡ Ok m → m ≡ n
-uint32_is n m e = elim (chosen (ltb n (2 ^ 32)) (Ok n) (Err errors.NumberTooLarge) (Ok m) e) [ inl p ↦ sym (ok_is n m p.1) | inr p ↦ absurd (let bad : Err errors.NumberTooLarge ≡ Ok m = p.1 in cc) ]
+uint32_is n m e =
+    elim (chosen (ltb n (2 ^ 32)) (Ok n) (Err errors.NumberTooLarge) (Ok m) e) [
+      | inl p ↦ sym (ok_is n m p.1)
+      | inr p ↦ absurd (let bad : Err errors.NumberTooLarge ≡ Ok m = p.1 in cc)
+    ]
 
 pub numbers_done : (old bytes rest numbers : List ℕ) → length rest ≡ 0 → CollectsNumbers old bytes rest numbers
     → (outcome (packed_uint32s bytes) ≡ Ok tt) × (numbers ≡ old ++ values_read (packed_uint32s bytes))

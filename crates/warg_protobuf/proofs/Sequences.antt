@@ -17,7 +17,8 @@ pub record Shrinks {X : Type 0} (split : Reader X) : Type 0 where
 takes_shrink : {X : Type 0} (Spells : List ℕ → X → Type 0)
     → ((text : List ℕ) (x : X) → Spells text x → 0 < length text) → (bytes : List ℕ) (x : X × List ℕ)
     → Takes Spells bytes x → length x.1 < length bytes
-takes_shrink Spells not_empty bytes x t = rw t.parts (omega (arith, length-append t.text x.1, not_empty t.text x.0 t.spelled))
+takes_shrink Spells not_empty bytes x t =
+    rw t.parts (omega (arith, length-append t.text x.1, not_empty t.text x.0 t.spelled))
 
 pub varints_shrink : Shrinks varint_at
 varints_shrink = record { shrinks = λ bytes x e. takes_shrink IsVarint varint_not_empty bytes x (varint_takes bytes x e) }
@@ -25,12 +26,17 @@ varints_shrink = record { shrinks = λ bytes x e. takes_shrink IsVarint varint_n
 pub fields_shrink : Shrinks field_at
 fields_shrink = record { shrinks = λ bytes x e. takes_shrink SpellsField field_not_empty bytes x (field_takes bytes x e) }
 
--- reading goes on in the same way after each first thing
-then_same : {X : Type 0} (split : Reader X) (check : Check X) (a b : ℕ) (r : Result (X × List ℕ) WireError)
-    → ((x : X × List ℕ) → r ≡ Ok x → all_in split check a x.1 ≡ all_in split check b x.1)
-    → (r >>= λ x. check x.0 >>= λ checked. all_in split check a x.1 >>= λ others. Ok (x.0 ∷ others)) ≡ (r >>= λ x. check x.0 >>= λ checked. all_in split check b x.1 >>= λ others. Ok (x.0 ∷ others))
-then_same split check a b (Err e) same = refl
-then_same split check a b (Ok x) same = rw (same x refl) refl
+-- one thing is split off and checked, and the others are read behind it
+abbrev pub and_others : {X : Type 0} → (List ℕ → Result (List X) WireError) → Check X
+    → Result (X × List ℕ) WireError → Result (List X) WireError
+and_others others check first = first >>= λ x. check x.0 >>= λ _. others x.1 >>= λ xs. Ok (x.0 ∷ xs)
+
+-- what reads the same bytes behind the first thing reads the same
+same_others : {X : Type 0} (others more : List ℕ → Result (List X) WireError) (check : Check X)
+    (first : Result (X × List ℕ) WireError) → ((x : X × List ℕ) → first ≡ Ok x → others x.1 ≡ more x.1)
+    → and_others others check first ≡ and_others more check first
+same_others others more check (Err e) same = refl
+same_others others more check (Ok x) same = rw (same x refl) refl
 
 -- enough is enough
 same_in : {X : Type 0} (split : Reader X) (check : Check X) → Shrinks split → (a b : ℕ) (bytes : List ℕ)
@@ -43,22 +49,17 @@ same_in split check s (suc a) (suc b) [] la lb = refl
 same_in split check s zero (suc b) (c ∷ bytes) la lb = absurd (omega arith)
 same_in split check s (suc a) zero (c ∷ bytes) la lb = absurd (omega arith)
 same_in split check s (suc a) (suc b) (c ∷ bytes) la lb =
-    then_same split check a b (split (c ∷ bytes)) (λ x e. let lt = s.shrinks (c ∷ bytes) x e in same_in split check s a b x.1 (omega arith) (omega arith))
-
-all_more_in : {X : Type 0} (split : Reader X) (check : Check X) (a : ℕ) (r : Result (X × List ℕ) WireError)
-    → ((x : X × List ℕ) → r ≡ Ok x → all_in split check a x.1 ≡ all_in split check (length x.1) x.1)
-    → (r >>= λ x. check x.0 >>= λ checked. all_in split check a x.1 >>= λ others. Ok (x.0 ∷ others)) ≡ (r >>= λ x. check x.0 >>= λ checked. all_of split check x.1 >>= λ others. Ok (x.0 ∷ others))
-unfolding all_of
-all_more_in split check a (Err e) same = refl
-all_more_in split check a (Ok x) same = rw (same x refl) refl
+    same_others (all_in split check a) (all_in split check b) check (split (c ∷ bytes))
+    (λ x e. let lt = s.shrinks (c ∷ bytes) x e in same_in split check s a b x.1 (omega arith) (omega arith))
 
 -- one step of reading
-pub all_more : {X : Type 0} (split : Reader X) (check : Check X) → Shrinks split → (bytes : List ℕ) → 0 < length bytes
-    → all_of split check bytes ≡ (split bytes >>= λ x. check x.0 >>= λ checked. all_of split check x.1 >>= λ others. Ok (x.0 ∷ others))
+pub all_more : {X : Type 0} (split : Reader X) (check : Check X) → Shrinks split → (bytes : List ℕ)
+    → 0 < length bytes → all_of split check bytes ≡ and_others (all_of split check) check (split bytes)
 unfolding all_in all_of
 all_more split check s [] long = absurd (omega arith)
 all_more split check s (c ∷ bytes) long =
-    all_more_in split check (length bytes) (split (c ∷ bytes)) (λ x e. let lt = s.shrinks (c ∷ bytes) x e in same_in split check s (length bytes) (length x.1) x.1 (omega arith) (omega arith))
+    same_others (all_in split check (length bytes)) (all_of split check) check (split (c ∷ bytes))
+    (λ x e. let lt = s.shrinks (c ∷ bytes) x e in same_in split check s (length bytes) (length x.1) x.1 (omega arith) (omega arith))
 
 -- ---- both directions
 
@@ -75,26 +76,36 @@ varints = record { shrink = varints_shrink; takes = varint_takes; again = varint
 pub fields : IsCode field_at SpellsField
 fields = record { shrink = fields_shrink; takes = field_takes; again = field_again; not_empty = field_not_empty }
 
+-- These things are spelled in the bytes, and they check.
+abbrev pub AreThere : {X : Type 0} → (List ℕ → X → Type 0) → Check X → List ℕ → List X → Type 0
+AreThere Spells check bytes xs = SpellsAll Spells bytes xs × AllCheck check xs
+
 all_takes_in : {X : Type 0} (split : Reader X) (Spells : List ℕ → X → Type 0) (check : Check X)
     → IsCode split Spells → (more : ℕ) (bytes : List ℕ) (xs : List X) → length bytes ≤ more
-    → all_in split check more bytes ≡ Ok xs → SpellsAll Spells bytes xs × AllCheck check xs
+    → all_in split check more bytes ≡ Ok xs → AreThere Spells check bytes xs
 unfolding all_in
-all_takes_in {X} split Spells check code zero bytes xs le e = subst (λ (ys : List X). SpellsAll Spells bytes ys × AllCheck check ys) (ok_is [] xs e) (nil_from_length bytes (omega arith), tt)
-all_takes_in {X} split Spells check code (suc more) [] xs le e = subst (λ (ys : List X). SpellsAll Spells [] ys × AllCheck check ys) (ok_is [] xs e) (refl, tt)
+all_takes_in split Spells check code zero bytes xs le e =
+    subst (AreThere Spells check bytes) (ok_is [] xs e) (nil_from_length bytes (omega arith), tt)
+all_takes_in split Spells check code (suc more) [] xs le e =
+    subst (AreThere Spells check []) (ok_is [] xs e) (refl, tt)
 all_takes_in {X} split Spells check code (suc more) (b ∷ bytes) xs le e =
-    let a = bind_ok (split (b ∷ bytes)) (λ x. check x.0 >>= λ checked. all_in split check more x.1 >>= λ others. Ok (x.0 ∷ others)) xs e in
-    let c = bind_ok (check a.0.0) (λ checked. all_in split check more a.0.1 >>= λ others. Ok (a.0.0 ∷ others)) xs a.2 in
-    let d = bind_ok (all_in split check more a.0.1) (λ others. Ok (a.0.0 ∷ others)) xs c.2 in
+    let others = λ (x : X × List ℕ). all_in split check more x.1 >>= λ ys. Ok (x.0 ∷ ys) in
+    let a = bind_ok (split (b ∷ bytes)) (λ x. check x.0 >>= λ _. others x) xs e in
+    let c = bind_ok (check a.0.0) (λ _. others a.0) xs a.2 in
+    let d = bind_ok (all_in split check more a.0.1) (λ ys. Ok (a.0.0 ∷ ys)) xs c.2 in
     let t = code.takes (b ∷ bytes) a.0 a.1 in
     let lt = code.shrink.shrinks (b ∷ bytes) a.0 a.1 in
-    let others = all_takes_in split Spells check code more a.0.1 d.0 (omega arith) d.1 in
-    subst (λ (ys : List X). SpellsAll Spells (b ∷ bytes) ys × AllCheck check ys) (ok_is (a.0.0 ∷ d.0) xs d.2) ((t.text, a.0.1, t.spelled, others.0, t.parts), (c.1, others.1))
+    let rest = all_takes_in split Spells check code more a.0.1 d.0 (omega arith) d.1 in
+    let there : AreThere Spells check (b ∷ bytes) (a.0.0 ∷ d.0) =
+    ((t.text, a.0.1, t.spelled, rest.0, t.parts), (c.1, rest.1)) in
+    subst (AreThere Spells check (b ∷ bytes)) (ok_is (a.0.0 ∷ d.0) xs d.2) there
 
 pub all_takes : {X : Type 0} (split : Reader X) (Spells : List ℕ → X → Type 0) (check : Check X)
     → IsCode split Spells → (bytes : List ℕ) (xs : List X) → all_of split check bytes ≡ Ok xs
-    → SpellsAll Spells bytes xs × AllCheck check xs
+    → AreThere Spells check bytes xs
 unfolding all_of
-all_takes split Spells check code bytes xs e = all_takes_in split Spells check code (length bytes) bytes xs (omega arith) e
+all_takes split Spells check code bytes xs e =
+    all_takes_in split Spells check code (length bytes) bytes xs (omega arith) e
 
 -- one thing and what follows it
 pub all_cons : {X : Type 0} (split : Reader X) (Spells : List ℕ → X → Type 0) (check : Check X)
@@ -110,4 +121,5 @@ pub all_again : {X : Type 0} (split : Reader X) (Spells : List ℕ → X → Typ
 unfolding all_of all_in
 all_again split Spells check code bytes [] s ok = ap (all_of split check) s
 all_again split Spells check code bytes (x ∷ xs) s ok =
-    ap (all_of split check) s.4 ∙ all_cons split Spells check code s.0 s.1 x s.2 ok.0 ∙ rw (all_again split Spells check code s.1 xs s.3 ok.1) refl
+    let first = all_cons split Spells check code s.0 s.1 x s.2 ok.0 in
+    ap (all_of split check) s.4 ∙ first ∙ rw (all_again split Spells check code s.1 xs s.3 ok.1) refl

@@ -53,7 +53,9 @@ unfolding varint_bytes_in
 writes_more out left total le (zero, below, so_far) = absurd (omega arith)
 writes_more out left total le (suc more, below, so_far) =
     let x = pow-succ' 128 more in
-    let one : out ++ varint_bytes_in (suc more) left ≡ (out ++ (left % 128 + 128) ∷ []) ++ varint_bytes_in more (left / 128) = rw (le-ltb left 128 le) (simp append_assoc) in
+    let one : out ++ varint_bytes_in (suc more) left ≡
+    (out ++ (left % 128 + 128) ∷ []) ++ varint_bytes_in more (left / 128) =
+    rw (le-ltb left 128 le) (simp append_assoc) in
     (more, omega arith, sym one ∙ so_far)
 
 pub writes_last : (out : List ℕ) (left : ℕ) (total : List ℕ) → left < 128 → Writes out left total
@@ -85,7 +87,15 @@ varint_takes_in zero [] x e = absurd cc
 varint_takes_in (suc more) [] x e = absurd cc
 varint_takes_in zero (b ∷ bytes) x e =
     elim (chosen (ltb b 2) (Ok (b, bytes)) (Err errors.BadVarint) (Ok x) e) [
-      | inl p ↦ let lt = ltb-true b 2 p.0 in subst (TakesNumber 0 (b ∷ bytes)) (ok_is (b, bytes) x p.1) (record { text = b ∷ []; groups = (omega arith, refl); short = omega arith; below = omega arith; parts = refl })
+      | inl p ↦
+          let lt = ltb-true b 2 p.0 in
+          subst (TakesNumber 0 (b ∷ bytes)) (ok_is (b, bytes) x p.1) (record {
+            text = b ∷ [];
+            groups = (omega arith, refl);
+            short = omega arith;
+            below = omega arith;
+            parts = refl;
+          })
       | inr p ↦ absurd (let e : Err errors.BadVarint ≡ Ok x = p.1 in cc)
     ]
 varint_takes_in (suc more) (b ∷ bytes) x e =
@@ -94,7 +104,13 @@ varint_takes_in (suc more) (b ∷ bytes) x e =
           let lt = ltb-true b 128 p.0 in
           let y = pow-succ' 128 more in
           let o = one_le more in
-          subst (TakesNumber (suc more) (b ∷ bytes)) (ok_is (b, bytes) x p.1) (record { text = b ∷ []; groups = (lt, refl); short = omega arith; below = omega arith; parts = refl })
+          subst (TakesNumber (suc more) (b ∷ bytes)) (ok_is (b, bytes) x p.1) (record {
+            text = b ∷ [];
+            groups = (lt, refl);
+            short = omega arith;
+            below = omega arith;
+            parts = refl;
+          })
       | inr p ↦
           let le = ltb-false b 128 p.0 in
           let h = bind_ok (varint_in more bytes) (λ high. Ok (b % 128 + 128 * high.0, high.1)) x p.1 in
@@ -161,7 +177,9 @@ varint_bytes_is_in (suc more) n below =
       | inl lt ↦ rw (lt-ltb n 128 lt) ((lt, refl), omega arith)
       | inr le ↦
           let h = varint_bytes_is_in more (n / 128) (omega arith) in
-          rw (le-ltb n 128 le) (groups_more (n % 128 + 128) (varint_bytes_in more (n / 128)) n (n / 128) (omega arith) (omega arith) h.0, omega (arith, h.1))
+          let last = varint_bytes_in more (n / 128) in
+          let groups = groups_more (n % 128 + 128) last n (n / 128) (omega arith) (omega arith) h.0 in
+          rw (le-ltb n 128 le) (groups, omega (arith, h.1))
     ]
 
 pub varint_bytes_is : (n : ℕ) → n < 2 ^ 64 → IsVarint (varint_bytes n) n

@@ -12,7 +12,7 @@ use Rattle.warg_protobuf.specs.Varint.{IsVarint, varint_at, varint_bytes}
 use Rattle.warg_protobuf.specs.Field.{Payload, varint, fixed64, delimited, fixed32, Field, wire_type, SpellsPayload, SpellsField, SpellsAll}
 use Rattle.warg_protobuf.specs.Schema.{Schema, check_by, as_uint32, packed_uint32s, uint32_in, bytes_in, uint32s_in, message_of, message_in, each, value, values, last_of, is_uint32}
 use Rattle.warg_protobuf.specs.Spelled.{AllCheck, IsSpelled}
-use Rattle.warg_protobuf.specs.Written.{payload_bytes, field_bytes, fields_bytes, varint_field, delimited_field, uint32_fields, bytes_fields, packed_fields, repeated_fields}
+use Rattle.warg_protobuf.specs.Written.{payload_bytes, field_bytes, fields_bytes, varint_field, delimited_field, uint32_fields, bytes_fields, packed_fields, repeated_fields, message_fields}
 use Rattle.warg_protobuf.proofs.Varints.{varint_bytes_is}
 use Rattle.warg_protobuf.proofs.Fields.{wire_type_small}
 use Rattle.warg_protobuf.proofs.Sequences.{varints, all_again}
@@ -45,7 +45,9 @@ IsOneWritten schema f = (k : ℕ) × IsWritten schema k f
 payload_spelled : (p : Payload) → PayloadFits p → length (payload_bytes p) < 2 ^ 64 → SpellsPayload (payload_bytes p) p
 payload_spelled (varint n) fits short = varint_bytes_is n fits
 payload_spelled (fixed64 inner) fits short = (refl, fits)
-payload_spelled (delimited inner) fits short = (varint_bytes (length inner), varint_bytes_is (length inner) (omega (arith, length-append (varint_bytes (length inner)) inner)), refl)
+payload_spelled (delimited inner) fits short =
+    let l = length-append (varint_bytes (length inner)) inner in
+    (varint_bytes (length inner), varint_bytes_is (length inner) (omega arith), refl)
 payload_spelled (fixed32 inner) fits short = (refl, fits)
 
 field_spelled : {M : Type 0} (schema : Schema M) (f : Field) → IsOneWritten schema f
@@ -53,11 +55,12 @@ field_spelled : {M : Type 0} (schema : Schema M) (f : Field) → IsOneWritten sc
 field_spelled schema f is short =
     let small_type = wire_type_small f.payload in
     let in_range : f.number < 2 ^ 29 = is.1.in_range in
+    let l = length-append (varint_bytes (f.number * 8 + wire_type f.payload)) (payload_bytes f.payload) in
     record {
       tag = varint_bytes (f.number * 8 + wire_type f.payload);
       payload = payload_bytes f.payload;
       tag_spelled = varint_bytes_is (f.number * 8 + wire_type f.payload) (omega arith);
-      payload_spelled = payload_spelled f.payload is.1.fits (omega (arith, length-append (varint_bytes (f.number * 8 + wire_type f.payload)) (payload_bytes f.payload)));
+      payload_spelled = payload_spelled f.payload is.1.fits (omega arith);
       has_number = is.1.not_zero;
       in_range = in_range;
       joined = refl;
@@ -79,7 +82,12 @@ fields_checked schema (f ∷ fs) are = (are.0.1.checks, fields_checked schema fs
 pub written_spelled : {M : Type 0} (schema : Schema M) (fs : List Field) (m : M)
     → AllByRecursion (IsOneWritten schema) fs → schema.message fs ≡ m → length (fields_bytes fs) < 2 ^ 64
     → IsSpelled schema (fields_bytes fs) m
-written_spelled schema fs m are says short = record { fields = fs; spelled = fields_spelled schema fs are short; checked = fields_checked schema fs are; is = sym says }
+written_spelled schema fs m are says short = record {
+  fields = fs;
+  spelled = fields_spelled schema fs are short;
+  checked = fields_checked schema fs are;
+  is = sym says;
+}
 
 -- ---- parts of a written message
 
@@ -105,26 +113,45 @@ pub record IsNumber (k : ℕ) : Type 0 where
 
 pub delimited_written : {M : Type 0} (schema : Schema M) (k : ℕ) (inner : List ℕ) → IsNumber k
     → check_by schema.table (delimited_field k inner) ≡ Ok tt → IsWritten schema k (delimited_field k inner)
-delimited_written schema k inner number checks = record { has_number = refl; not_zero = number.not_zero; in_range = number.in_range; fits = tt; checks = checks }
+delimited_written schema k inner number checks = record {
+  has_number = refl;
+  not_zero = number.not_zero;
+  in_range = number.in_range;
+  fits = tt;
+  checks = checks;
+}
 
 pub uint32_written : {M : Type 0} (schema : Schema M) (k n : ℕ) → IsNumber k → n < 2 ^ 32
     → check_by schema.table (varint_field k n) ≡ Ok tt → AreWritten schema k (uint32_fields k n)
-uint32_written schema k n number lt checks = optional (IsWritten schema k) (eqb n 0) (varint_field k n) (record { has_number = refl; not_zero = number.not_zero; in_range = number.in_range; fits = omega arith; checks = checks })
+uint32_written schema k n number lt checks =
+    let is : IsWritten schema k (varint_field k n) = record {
+      has_number = refl;
+      not_zero = number.not_zero;
+      in_range = number.in_range;
+      fits = omega arith;
+      checks = checks;
+    } in
+    optional (IsWritten schema k) (eqb n 0) (varint_field k n) is
 
 pub bytes_written : {M : Type 0} (schema : Schema M) (k : ℕ) (inner : List ℕ) → IsNumber k
     → check_by schema.table (delimited_field k inner) ≡ Ok tt → AreWritten schema k (bytes_fields k inner)
-bytes_written schema k inner number checks = optional (IsWritten schema k) (eqb (length inner) 0) (delimited_field k inner) (delimited_written schema k inner number checks)
+bytes_written schema k inner number checks =
+    let is = delimited_written schema k inner number checks in
+    optional (IsWritten schema k) (eqb (length inner) 0) (delimited_field k inner) is
 
 pub packed_written : {M : Type 0} (schema : Schema M) (k : ℕ) (ns : List ℕ) → IsNumber k
     → check_by schema.table (delimited_field k (flat_map varint_bytes ns)) ≡ Ok tt
     → AreWritten schema k (packed_fields k ns)
-packed_written schema k ns number checks = optional (IsWritten schema k) (eqb (length ns) 0) (delimited_field k (flat_map varint_bytes ns)) (delimited_written schema k (flat_map varint_bytes ns) number checks)
+packed_written schema k ns number checks =
+    let is = delimited_written schema k (flat_map varint_bytes ns) number checks in
+    optional (IsWritten schema k) (eqb (length ns) 0) (delimited_field k (flat_map varint_bytes ns)) is
 
 pub repeated_written : {M : Type 0} (schema : Schema M) (k : ℕ) (inners : List (List ℕ)) → IsNumber k
     → AllByRecursion (λ inner. check_by schema.table (delimited_field k inner) ≡ Ok tt) inners
     → AreWritten schema k (repeated_fields k inners)
 repeated_written schema k [] number checks = tt
-repeated_written schema k (inner ∷ inners) number checks = (delimited_written schema k inner number checks.0, repeated_written schema k inners number checks.1)
+repeated_written schema k (inner ∷ inners) number checks =
+    (delimited_written schema k inner number checks.0, repeated_written schema k inners number checks.1)
 
 -- ---- values of fields
 
@@ -135,15 +162,18 @@ unfolding values
 none schema k j read [] ne are = refl
 none schema k j read (f ∷ fs) ne are = rw (are.0.has_number, ne_eqb j k ne) (none schema k j read fs ne are.1)
 
-values-append : {A : Type 0} (k : ℕ) (read : Payload → Result (List A) WireError) (fs gs : List Field)
+pub values-append : {A : Type 0} (k : ℕ) (read : Payload → Result (List A) WireError) (fs gs : List Field)
     → values k read (fs ++ gs) ≡ values k read fs ++ values k read gs
 unfolding values
 values-append k read fs gs = flat_map-append (value k read) fs gs
 
+-- the values of a number that the second part lacks
 pub front : {A : Type 0} (k : ℕ) (read : Payload → Result (List A) WireError) (fs gs : List Field)
     → values k read gs ≡ [] → values k read (fs ++ gs) ≡ values k read fs
-front k read fs gs e = values-append k read fs gs ∙ ap (λ (l : List _). values k read fs ++ l) e ∙ append-nil (values k read fs)
+front k read fs gs e =
+    values-append k read fs gs ∙ ap (λ (l : List _). values k read fs ++ l) e ∙ append-nil (values k read fs)
 
+-- the values of a number that the first part lacks
 pub back : {A : Type 0} (k : ℕ) (read : Payload → Result (List A) WireError) (fs gs : List Field)
     → values k read fs ≡ [] → values k read (fs ++ gs) ≡ values k read gs
 back k read fs gs e = values-append k read fs gs ∙ ap (λ (l : List _). l ++ values k read gs) e
@@ -158,6 +188,13 @@ uint32_value k n lt =
       | inl is ↦ rw is (sym (eqb-true n 0 is))
       | inr not ↦ rw (not, eq-eqb k k refl, uint32_ok n lt) refl
     ]
+
+-- a single number, written before a part that lacks its number
+pub uint32_says : {M : Type 0} (schema : Schema M) (k j n : ℕ) (gs : List Field) → j ≢ k → n < 2 ^ 32
+    → AreWritten schema j gs → last_of 0 (values k (each uint32_in) (uint32_fields k n ++ gs)) ≡ n
+uint32_says schema k j n gs ne lt are =
+    let only = front k (each uint32_in) (uint32_fields k n) gs (none schema k j (each uint32_in) gs ne are) in
+    ap (last_of 0) only ∙ uint32_value k n lt
 
 pub bytes_value : (k : ℕ) (inner : List ℕ) → last_of [] (values k (each bytes_in) (bytes_fields k inner)) ≡ inner
 unfolding values last_of bytes_in
@@ -204,19 +241,17 @@ pub record ReadsAgain {M : Type 0} (schema : Schema M) (fields : M → List Fiel
 abbrev pub AllRead : {M : Type 0} → Schema M → (M → List Field) → List M → Type 0
 AllRead schema fields ms = AllByRecursion (λ m. message_of schema (fields_bytes (fields m)) ≡ Ok m) ms
 
--- The fields of messages in a list.
-abbrev pub nested_fields : {M : Type 0} → (M → List Field) → ℕ → List M → List Field
-nested_fields fields k ms = repeated_fields k (map (λ m. fields_bytes (fields m)) ms)
-
 pub all_read : {M : Type 0} (schema : Schema M) (fields : M → List Field) (Fits : M → Type 0)
     → ReadsAgain schema fields Fits → (k : ℕ) (ms : List M) → AllByRecursion Fits ms
-    → length (fields_bytes (nested_fields fields k ms)) < 2 ^ 64 → AllRead schema fields ms
+    → length (fields_bytes (message_fields k fields ms)) < 2 ^ 64 → AllRead schema fields ms
 all_read schema fields Fits reads k [] fits short = tt
 all_read schema fields Fits reads k (m ∷ ms) fits short =
-    let a = length-append (field_bytes (delimited_field k (fields_bytes (fields m)))) (fields_bytes (nested_fields fields k ms)) in
+    let a = length-append (field_bytes (delimited_field k (fields_bytes (fields m)))) (fields_bytes (message_fields k fields ms)) in
     let b = length-append (varint_bytes (k * 8 + 2)) (varint_bytes (length (fields_bytes (fields m))) ++ fields_bytes (fields m)) in
     let c = length-append (varint_bytes (length (fields_bytes (fields m)))) (fields_bytes (fields m)) in
-    (spelled_read schema (fields_bytes (fields m)) m (reads.again m fits.0 (omega (arith, a, b, c, short))), all_read schema fields Fits reads k ms fits.1 (omega (arith, a, short)))
+    let spelled = reads.again m fits.0 (omega (arith, a, b, c, short)) in
+    let others = all_read schema fields Fits reads k ms fits.1 (omega (arith, a, short)) in
+    (spelled_read schema (fields_bytes (fields m)) m spelled, others)
 
 -- The outer message checks such a field as the inner one.
 abbrev pub ChecksInner : {O M : Type 0} → Schema O → Schema M → ℕ → Type 0
@@ -226,18 +261,22 @@ nested_checked : {O M : Type 0} (outer : Schema O) (schema : Schema M) (fields :
     → ChecksInner outer schema k → (ms : List M) → AllRead schema fields ms
     → AllByRecursion (λ inner. check_by outer.table (delimited_field k inner) ≡ Ok tt) (map (λ m. fields_bytes (fields m)) ms)
 nested_checked outer schema fields k checks [] read = tt
-nested_checked outer schema fields k checks (m ∷ ms) read = (checks (fields_bytes (fields m)) ∙ rw read.0 refl, nested_checked outer schema fields k checks ms read.1)
+nested_checked outer schema fields k checks (m ∷ ms) read =
+    (checks (fields_bytes (fields m)) ∙ rw read.0 refl, nested_checked outer schema fields k checks ms read.1)
 
 pub nested_written : {O M : Type 0} (outer : Schema O) (schema : Schema M) (fields : M → List Field) (k : ℕ)
     → IsNumber k → ChecksInner outer schema k → (ms : List M) → AllRead schema fields ms
-    → AreWritten outer k (nested_fields fields k ms)
-nested_written outer schema fields k number checks ms read = repeated_written outer k (map (λ m. fields_bytes (fields m)) ms) number (nested_checked outer schema fields k checks ms read)
+    → AreWritten outer k (message_fields k fields ms)
+nested_written outer schema fields k number checks ms read =
+    let checked = nested_checked outer schema fields k checks ms read in
+    repeated_written outer k (map (λ m. fields_bytes (fields m)) ms) number checked
 
 pub nested_value : {M : Type 0} (schema : Schema M) (fields : M → List Field) (k : ℕ) (ms : List M)
-    → AllRead schema fields ms → values k (each (message_in schema)) (nested_fields fields k ms) ≡ ms
+    → AllRead schema fields ms → values k (each (message_in schema)) (message_fields k fields ms) ≡ ms
 unfolding values message_in
 nested_value schema fields k [] read = refl
-nested_value {M} schema fields k (m ∷ ms) read = rw (eq-eqb k k refl, read.0) (ap (λ (l : List M). m ∷ l) (nested_value schema fields k ms read.1))
+nested_value {M} schema fields k (m ∷ ms) read =
+    rw (eq-eqb k k refl, read.0) (ap (λ (l : List M). m ∷ l) (nested_value schema fields k ms read.1))
 
 -- ---- the clauses of an encoder
 

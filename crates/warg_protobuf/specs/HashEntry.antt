@@ -28,7 +28,7 @@ entry_schema = record {
   };
 }
 
--- An entry with one field more.
+-- An entry with one field more, as the reading loop takes it in.
 unfoldable pub entry_add : Entry → Field → Entry
 entry_add m f = record {
   index = last_of m.index (value 1 (each uint32_in) f);

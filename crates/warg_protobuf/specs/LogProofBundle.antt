@@ -3,7 +3,7 @@ use Rattle.std.specs.Prelude.{ℕ, ◌^◌, ◌<◌, List, [], ◌∷◌, ◌++�
 use Rattle.warg_protobuf.specs.declared.log_proof_bundle.LogProofBundle.{LogProofBundle}
 use Rattle.warg_protobuf.specs.Field.{Field}
 use Rattle.warg_protobuf.specs.Schema.{Table, Schema, uint32, uint32s, message, uint32_in, uint32s_in, message_in, each, value, values, last_of}
-use Rattle.warg_protobuf.specs.Written.{uint32_fields, packed_fields, repeated_fields, fields_bytes}
+use Rattle.warg_protobuf.specs.Written.{uint32_fields, packed_fields, message_fields, fields_bytes}
 use Rattle.warg_protobuf.specs.HashEntry.{Entry, entry_view, entry_schema, entry_fields, EntryFits}
 
 -- Proofs of a log, and the digests that they need.
@@ -38,7 +38,7 @@ log_schema = record {
   };
 }
 
--- A bundle with one field more.
+-- A bundle with one field more, as the reading loop takes it in.
 unfoldable pub log_add : LogBundle → Field → LogBundle
 log_add m f = record {
   log_length = last_of m.log_length (value 1 (each uint32_in) f);
@@ -49,7 +49,11 @@ log_add m f = record {
 
 -- The fields that are written of a bundle.
 unfoldable pub log_fields : LogBundle → List Field
-log_fields m = uint32_fields 1 m.log_length ++ packed_fields 2 m.consistent_lengths ++ packed_fields 3 m.included_indices ++ repeated_fields 4 (map (λ e. fields_bytes (entry_fields e)) m.hashes)
+log_fields m =
+    uint32_fields 1 m.log_length ++
+    packed_fields 2 m.consistent_lengths ++
+    packed_fields 3 m.included_indices ++
+    message_fields 4 entry_fields m.hashes
 
 -- The one written form of a bundle.
 abbrev pub log_bytes : LogBundle → List ℕ

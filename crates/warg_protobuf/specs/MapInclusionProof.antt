@@ -3,7 +3,7 @@ use Rattle.std.specs.Prelude.{ℕ, List, [], ◌∷◌, ◌++◌, map, Option}
 use Rattle.warg_protobuf.specs.declared.map_inclusion_proof.MapInclusionProof.{MapInclusionProof}
 use Rattle.warg_protobuf.specs.Field.{Field}
 use Rattle.warg_protobuf.specs.Schema.{Table, Schema, message, message_in, each, value, values}
-use Rattle.warg_protobuf.specs.Written.{repeated_fields, fields_bytes}
+use Rattle.warg_protobuf.specs.Written.{message_fields}
 use Rattle.warg_protobuf.specs.OptionalHash.{hash_view, hash_schema, hash_fields}
 
 -- A map proof without where it lies in memory.
@@ -21,10 +21,10 @@ proof_schema = record {
   message = λ fs. values 1 (each (message_in hash_schema)) fs;
 }
 
--- A proof with one field more.
+-- A proof with one field more, as the reading loop takes it in.
 unfoldable pub proof_add : List (Option (List ℕ)) → Field → List (Option (List ℕ))
 proof_add m f = m ++ value 1 (each (message_in hash_schema)) f
 
 -- The fields that are written of a proof.
 unfoldable pub proof_fields : List (Option (List ℕ)) → List Field
-proof_fields m = repeated_fields 1 (map (λ h. fields_bytes (hash_fields h)) m)
+proof_fields m = message_fields 1 hash_fields m

@@ -3,7 +3,7 @@ use Rattle.std.specs.Prelude.{ℕ, List, [], ◌∷◌, ◌++◌, map, Option}
 use Rattle.warg_protobuf.specs.declared.map_proof_bundle.MapProofBundle.{MapProofBundle}
 use Rattle.warg_protobuf.specs.Field.{Field}
 use Rattle.warg_protobuf.specs.Schema.{Table, Schema, message, message_in, each, value, values}
-use Rattle.warg_protobuf.specs.Written.{repeated_fields, fields_bytes}
+use Rattle.warg_protobuf.specs.Written.{message_fields, fields_bytes}
 use Rattle.warg_protobuf.specs.MapInclusionProof.{proof_view, proof_schema, proof_fields}
 
 -- Proofs of keys that a map holds, and of keys that it doesn't hold.
@@ -29,7 +29,7 @@ map_schema = record {
   };
 }
 
--- A bundle with one field more.
+-- A bundle with one field more, as the reading loop takes it in.
 unfoldable pub map_add : MapBundle → Field → MapBundle
 map_add m f = record {
   proofs = m.proofs ++ value 1 (each (message_in proof_schema)) f;
@@ -38,7 +38,7 @@ map_add m f = record {
 
 -- The fields that are written of a bundle.
 unfoldable pub map_fields : MapBundle → List Field
-map_fields m = repeated_fields 1 (map (λ p. fields_bytes (proof_fields p)) m.proofs) ++ repeated_fields 2 (map (λ p. fields_bytes (proof_fields p)) m.absences)
+map_fields m = message_fields 1 proof_fields m.proofs ++ message_fields 2 proof_fields m.absences
 
 -- The one written form of a bundle.
 abbrev pub map_bytes : MapBundle → List ℕ

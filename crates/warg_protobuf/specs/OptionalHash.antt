@@ -25,7 +25,7 @@ hash_schema = record {
   message = λ fs. last_of None (map (λ h. Some h) (values 1 (each bytes_in) fs));
 }
 
--- A digest that may be absent, with one field more.
+-- A digest that may be absent, with one field more, as the reading loop takes it in.
 unfoldable pub hash_add : Option (List ℕ) → Field → Option (List ℕ)
 hash_add m f = last_of m (map (λ h. Some h) (value 1 (each bytes_in) f))
 

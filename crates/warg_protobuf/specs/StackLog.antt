@@ -3,7 +3,7 @@ use Rattle.std.specs.Prelude.{ℕ, ◌^◌, ◌<◌, List, [], ◌∷◌, ◌++�
 use Rattle.warg_protobuf.specs.declared.stack_log.StackLog.{StackLog}
 use Rattle.warg_protobuf.specs.Field.{Field}
 use Rattle.warg_protobuf.specs.Schema.{Table, Schema, uint32, message, uint32_in, message_in, each, value, values, last_of}
-use Rattle.warg_protobuf.specs.Written.{uint32_fields, repeated_fields, fields_bytes}
+use Rattle.warg_protobuf.specs.Written.{uint32_fields, message_fields, fields_bytes}
 use Rattle.warg_protobuf.specs.HashEntry.{Entry, entry_view, entry_schema, entry_fields, EntryFits}
 
 -- A log kept as its balanced roots.
@@ -29,7 +29,7 @@ stack_schema = record {
   };
 }
 
--- A log image with one field more.
+-- A log image with one field more, as the reading loop takes it in.
 unfoldable pub stack_add : StackImage → Field → StackImage
 stack_add m f = record {
   length = last_of m.length (value 1 (each uint32_in) f);
@@ -38,7 +38,7 @@ stack_add m f = record {
 
 -- The fields that are written of a log image.
 unfoldable pub stack_fields : StackImage → List Field
-stack_fields m = uint32_fields 1 m.length ++ repeated_fields 2 (map (λ e. fields_bytes (entry_fields e)) m.stack)
+stack_fields m = uint32_fields 1 m.length ++ message_fields 2 entry_fields m.stack
 
 -- The one written form of a log image.
 abbrev pub stack_bytes : StackImage → List ℕ

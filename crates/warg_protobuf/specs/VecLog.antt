@@ -28,7 +28,7 @@ vec_schema = record {
   };
 }
 
--- A log image with one field more.
+-- A log image with one field more, as the reading loop takes it in.
 unfoldable pub vec_add : VecImage → Field → VecImage
 vec_add m f = record {
   length = last_of m.length (value 1 (each uint32_in) f);

@@ -42,3 +42,7 @@ packed_fields k ns = if length ns == 0 then [] else (delimited_field k (flat_map
 -- Repeated bytes, a field for each element, an empty one too (proto3, "Optional and Repeated Elements").
 abbrev pub repeated_fields : ℕ → List (List ℕ) → List Field
 repeated_fields k inners = map (λ inner. delimited_field k inner) inners
+
+-- Repeated messages, a field for each (proto3, "Optional and Repeated Elements").
+abbrev pub message_fields : {M : Type 0} → ℕ → (M → List Field) → List M → List Field
+message_fields k fields ms = repeated_fields k (map (λ m. fields_bytes (fields m)) ms)

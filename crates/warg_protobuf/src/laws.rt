@@ -2,7 +2,7 @@
 ghost use Rattle.std.specs.Prelude.{◌≡◌, ◌≤◌, ◌<◌, ◌^◌, ◌++◌, ◌↔◌, ℕ, List, Ok, Err, length};
 ghost use Rattle.warg_protobuf.specs.declared.error.WireError.{WireError};
 ghost use Rattle.warg_protobuf.specs.Varint.{IsVarint, varint_bytes};
-ghost use Rattle.warg_protobuf.specs.Field.{Field, SpellsField};
+ghost use Rattle.warg_protobuf.specs.Field.{Field, SpellsField, field_at};
 ghost use Rattle.warg_protobuf.specs.Schema.{message_of};
 ghost use Rattle.warg_protobuf.specs.Spelled.{IsSpelled, FaultStands};
 ghost use Rattle.warg_protobuf.specs.LogProofBundle.{LogBundle, log_schema};
@@ -14,6 +14,13 @@ ghost use Rattle.warg_protobuf.specs.VecLog.{VecImage, vec_schema};
 pub fn one_spelling()
     ensures { (a b s t : List ℕ) (x y : Field) →
         SpellsField a x → SpellsField b y → a ++ s ≡ b ++ t → (a ≡ b) × (x ≡ y) }
+{}
+
+/// A field is split off the front of bytes exactly where its spelling stands there.
+pub fn field_at_front()
+    ensures { (bytes rest : List ℕ) (f : Field) →
+        (field_at bytes ≡ Ok (f, rest)) ↔
+        ((front : List ℕ) × SpellsField front f × (bytes ≡ front ++ rest)) }
 {}
 
 /// What is written of a number spells it, and nothing shorter does.

@@ -46,7 +46,7 @@ mod writer;
 
 pub use error::WireError;
 pub use hash_entry::HashEntry;
-pub use laws::{fault_is_met, one_spelling, shortest_varint, spelled_is_read};
+pub use laws::{fault_is_met, field_at_front, one_spelling, shortest_varint, spelled_is_read};
 pub use log_proof_bundle::LogProofBundle;
 pub use map_inclusion_proof::MapInclusionProof;
 pub use map_proof_bundle::MapProofBundle;

@@ -6,7 +6,7 @@ ghost use Rattle.warg_protobuf.specs.Reading.{Gives, outcome, values_read, as_li
 ghost use Rattle.warg_protobuf.specs.Field.{Field as AnyField, field_view, payload_view};
 ghost use Rattle.warg_protobuf.specs.Schema.{Schema, Puts, Adds, check_by, message_of, message_in};
 ghost use Rattle.warg_protobuf.specs.Spelled.{IsSpelled, FaultStands};
-ghost use Rattle.warg_protobuf.specs.Written.{fields_bytes, repeated_fields};
+ghost use Rattle.warg_protobuf.specs.Written.{fields_bytes, message_fields};
 
 use crate::error::WireError;
 use crate::field::{Field, Payload, read_field};
@@ -118,15 +118,17 @@ pub(crate) fn encode_message<A: Allocator + Copy, M: Message<A>>(
     Ok(out)
 }
 
-/// Writes each message in a field of its own. The bytes of one are collected first, in memory that the next one uses again.
+/// Writes each message in a field of its own.
+///
+/// The bytes of one are collected first, in memory that the next one uses again.
 pub(crate) fn push_messages<A: Allocator + Copy, M: Message<A>>(
     alloc: A,
     out: &mut Vec<u8, A>,
     field: u8,
     messages: &[M],
 ) -> Result<(), AllocError>
-    ensures written { let inners = map (λ m. fields_bytes (M.fields m)) (map M.view messages.now) in
-        OnOk result (out.new.items ≡ out.old.items ++ fields_bytes (repeated_fields field inners)) }
+    ensures written { OnOk result
+        (out.new.items ≡ out.old.items ++ fields_bytes (message_fields field M.fields (map M.view messages.now))) }
     ensures fits { OnOk result (All M.Fits (map M.view messages.now)) }
 {
     let mut inner = Vec::new(alloc);

@@ -1,5 +1,9 @@
 //! Messages and their bytes: what the bytes say, how they are written again, and which fault they have.
 
+ghost use Rattle.std.specs.Prelude.{Ok};
+ghost use Rattle.warg_protobuf.specs.Reading.{Gives};
+ghost use Rattle.warg_protobuf.specs.LogProofBundle.{log_view};
+
 use refusing::Refusing;
 use std::alloc::{AllocError, Allocator};
 use std::process::Abort;
@@ -97,6 +101,17 @@ const LOG_ROWS: [LogRow; 14] = [
     ("28 ffffffffffffffffff 01", 0, &[], &[], &[], ""),
 ];
 
+// Decoding what was encoded gives the same message, by the contracts of the two alone.
+fn written_and_read<A: Allocator + Copy>(
+    alloc: A,
+    bundle: &LogProofBundle<A>,
+) -> Result<LogProofBundle<A>, WireError>
+    ensures { Gives log_view result (Ok (log_view bundle.now)) }
+{
+    let bytes = bundle.encode(alloc)?;
+    LogProofBundle::decode(alloc, &bytes)
+}
+
 #[test]
 fn log_bundles(rt: HostRuntime) -> Result<(), Fail> {
     for (bytes, log_length, lengths, indices, hashes, written) in LOG_ROWS {
@@ -107,7 +122,7 @@ fn log_bundles(rt: HostRuntime) -> Result<(), Fail> {
         assert_entries(&rt, rt.alloc(), &bundle.hashes, hashes)?;
         let again = bundle.encode(rt.alloc())?;
         assert_eq!(rt; again, bytes_of(rt.alloc(), written)?, "at {bytes}");
-        assert!(rt; LogProofBundle::decode(rt.alloc(), &again)? == bundle);
+        assert!(rt; written_and_read(rt.alloc(), &bundle)? == bundle);
     }
     Ok(())
 }
