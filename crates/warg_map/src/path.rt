@@ -203,3 +203,6 @@ impl<D> Iterator for ReversePath<D> {
         Some(side_at(&self.hash, self.index))
     }
 }
+
+#[cfg(test)]
+mod tests;

@@ -91,12 +91,7 @@ impl<D, K, V, A: Allocator> From<Proof<D, K, V, A>> for Vec<Option<Hash<D>>, A> 
     ghost from_gives = { λ proof peers. peers.items ≡ peers_of proof };
 
     fn from(proof: Proof<D, K, V, A>) -> Vec<Option<Hash<D>>, A> {
-        let Proof {
-            peers,
-            key: _,
-            value: _,
-        } = proof;
-        peers
+        proof.peers
     }
 }
 
@@ -123,11 +118,12 @@ impl<D: SupportedDigest, K, V, A: Allocator> Proof<D, K, V, A> {
         requires empty { empty.now ≡ empty_root D.digest height }
         ensures { result.now ≡ peer_of D.digest (peers_of self.now) height }
     {
-        let missing = 256 - self.peers.len();
+        let peers = self.peers();
+        let missing = 256 - peers.len();
         if height < missing {
             return empty;
         }
-        match &self.peers[height - missing] {
+        match &peers[height - missing] {
             Some(peer) => peer,
             None => empty,
         }

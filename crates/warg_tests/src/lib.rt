@@ -3,3 +3,5 @@
 
 #[cfg(test)]
 mod crypto;
+#[cfg(test)]
+mod map;
