@@ -1,9 +1,8 @@
 //! Maps and their proofs, against roots computed by a plain recursion in Python with hashlib.
 
 use refusing::Refusing;
-use std::alloc::Global;
+use std::alloc::{AllocError, Global};
 use std::hash::{DefaultHasher, Hasher};
-use std::process::Abort;
 use std::test::Fail;
 use warg_crypto::weak::{Own32, Sum};
 use warg_crypto::{Hash, Sha256, empty_tree_hash};
@@ -11,36 +10,45 @@ use warg_map::{Map, MapError, Proof};
 
 type Bytes = &'static [u8];
 
+type Text = &'static str;
+
 type SumMap = Map<Sum, Bytes, Bytes>;
 
-type TextMap = Map<Sha256, &'static str, &'static str>;
+type SumProof = Proof<Sum, Bytes, Bytes>;
 
-type OwnMap = Map<Own32, [u8; 32], &'static str>;
+type TextMap = Map<Sha256, Text, Text>;
 
-type ScarceMap<'a> = Map<Sha256, &'static str, &'static str, &'a Refusing<Global>>;
+type OwnMap = Map<Own32, [u8; 32], Text>;
+
+type SmallMap = Map<Sha256, u8, [u8; 2]>;
+
+type ScarceMap<'a> = Map<Sha256, Text, Text, &'a Refusing<Global>>;
 
 // The root of the map of nothing: the empty tree of 256 levels.
-const NOTHING: &str = "c6689f10812a0980976d9533d83875282166159567ec35155716c1413af53d6a";
+const NOTHING: Text = "c6689f10812a0980976d9533d83875282166159567ec35155716c1413af53d6a";
 
-const FOO_BAR: &str = "1e0a32bb2b69b490b820a22faa0d19e3121bffcf1509d6bb3267c2c67370e0e9";
+const FOO_BAR: Text = "1e0a32bb2b69b490b820a22faa0d19e3121bffcf1509d6bb3267c2c67370e0e9";
 
-const FOO_BAZ: &str = "00678e6d7b92005c621b7d4a16fd3ab3c31938cac0ce02a0c82247048dbd34aa";
+const FOO_BAZ: Text = "00678e6d7b92005c621b7d4a16fd3ab3c31938cac0ce02a0c82247048dbd34aa";
 
 fn last<D>(hash: &Hash<D>) -> Option<u8> {
     hash.bytes().last().copied()
 }
 
-fn last_of_peer<D>(peer: &Option<Hash<D>>) -> Option<u8> {
+fn last_of_peer(peer: &Option<Hash<Sum>>) -> Option<u8> {
     match peer {
         Some(hash) => last(hash),
         None => None,
     }
 }
 
-fn ending_in(byte: u8) -> [u8; 32] {
-    let mut bytes = [0; 32];
-    bytes[31] = byte;
-    bytes
+fn is_hex<D>(alloc: Global, hash: &Hash<D>, digits: &str) -> Result<bool, AllocError> {
+    let text = hex::encode(alloc, hash.bytes())?;
+    Ok(text.as_str() == digits)
+}
+
+fn is_sum_map(map: &SumMap, len: usize, root: u8, nodes: u128) -> bool {
+    map.len() == len && last(map.root()) == Some(root) && map.node_count() == nodes
 }
 
 #[test]
@@ -51,65 +59,111 @@ fn roots_of_byte_sums(rt: HostRuntime) -> Result<(), Fail> {
         (&[4], &[1], 2, 8, 4),
     ];
     let mut map = SumMap::default(rt.alloc())?;
-    assert_eq!(rt; last(map.root()), Some(255));
-    assert!(rt; map.is_empty() && map.len() == 0 && map.node_count() == 1);
-    let first = map.insert(&[3], &[9])?;
+    assert!(rt; is_sum_map(&map, 0, 255, 1));
     for (key, value, len, root, nodes) in rows {
         map = map.insert(key, value)?;
-        assert_eq!(rt; last(map.root()), Some(root), "after {key:?}");
-        assert_eq!(rt; map.len(), len);
-        assert!(rt; !map.is_empty() && map.node_count() == nodes);
+        assert!(rt; is_sum_map(&map, len, root, nodes));
     }
-    assert!(rt; map == first, "two maps of one root");
     Ok(())
+}
+
+fn two_sums(alloc: Global) -> Result<SumMap, MapError> {
+    let map = SumMap::default(alloc)?;
+    let map = map.insert(&[1, 2], &[8])?;
+    map.insert(&[4], &[1])
+}
+
+#[test]
+fn equal_roots_make_equal_maps(rt: HostRuntime) -> Result<(), Fail> {
+    let lone = SumMap::default(rt.alloc())?.insert(&[3], &[9])?;
+    let two = two_sums(rt.alloc())?;
+    assert!(rt; lone == two && lone.len() != two.len());
+    Ok(())
+}
+
+// 254 peers, of which all but the lowest are empty trees.
+fn are_254_peers(proof: &SumProof, lowest: u8) -> bool {
+    let mut want = lowest;
+    let mut empty = 7u8;
+    for peer in proof.peers() {
+        if last_of_peer(peer) != Some(want) {
+            return false;
+        }
+        want = empty;
+        empty = empty.wrapping_mul(2).wrapping_add(1);
+    }
+    proof.peers().len() == 254
 }
 
 #[test]
 fn peers_of_byte_sums(rt: HostRuntime) -> Result<(), Fail> {
-    let map = SumMap::default(rt.alloc())?;
-    let map = map.insert(&[1, 2], &[8])?.insert(&[4], &[1])?;
+    let map = two_sums(rt.alloc())?;
     let rows: [(Bytes, Bytes, u8); 2] = [(&[3], &[8], 4), (&[4], &[1], 11)];
     for (key, value, lowest) in rows {
         let proof = map.prove(key)?.ok_or("held")?;
-        let peers = proof.peers();
-        assert_eq!(rt; peers.len(), 254);
-        assert_eq!(rt; last_of_peer(&peers[0]), Some(lowest));
-        let mut empty = 7u8;
-        for peer in &peers[1..] {
-            assert_eq!(rt; last_of_peer(peer), Some(empty));
-            empty = empty.wrapping_mul(2).wrapping_add(1);
-        }
-        assert_eq!(rt; last(&proof.evaluate(&key, &value)), Some(8));
+        assert!(rt; are_254_peers(&proof, lowest));
+        assert!(rt; last(&proof.evaluate(&key, &value)) == Some(8));
     }
     Ok(())
 }
 
 #[test]
-fn absences_of_byte_sums(rt: HostRuntime) -> Result<(), Fail> {
+fn absence_from_nothing(rt: HostRuntime) -> Result<(), Fail> {
     let nothing = SumMap::default(rt.alloc())?;
-    let proof = nothing.prove_absence(&[9])?.ok_or("absent")?;
-    assert_eq!(rt; proof.peers().len(), 0);
-    assert_eq!(rt; last(&proof.evaluate_absent(&b"\t".as_slice())), Some(255));
+    let key: Bytes = &[9];
+    let proof = nothing.prove_absence(key)?.ok_or("absent")?;
+    assert!(rt; proof.peers().is_empty());
+    assert!(rt; last(&proof.evaluate_absent(&key)) == Some(255));
+    Ok(())
+}
 
-    let map = nothing.insert(&[3], &[9])?;
-    let proof = map.prove_absence(&[4])?.ok_or("absent")?;
+#[test]
+fn absence_beside_one_key(rt: HostRuntime) -> Result<(), Fail> {
+    let map = SumMap::default(rt.alloc())?.insert(&[3], &[9])?;
+    let key: Bytes = &[4];
+    let proof = map.prove_absence(key)?.ok_or("absent")?;
     let peers = proof.peers();
-    assert_eq!(rt; peers.len(), 254);
-    assert_eq!(rt; last_of_peer(&peers[0]), Some(12));
+    assert!(rt; peers.len() == 254 && last_of_peer(&peers[0]) == Some(12));
     assert!(rt; peers[1..].iter().all(|peer| peer.is_none()));
-    assert_eq!(rt; last(&proof.evaluate_absent(&b"\x04".as_slice())), Some(8));
-    assert!(rt; map.prove_absence(&[1, 2])?.is_none());
-    assert!(rt; map.prove_absence(&[3])?.is_none());
+    assert!(rt; last(&proof.evaluate_absent(&key)) == Some(8));
+    Ok(())
+}
 
-    // A held value with the digest of an empty leaf: one without bytes, and one of the same sum.
-    let values: [Bytes; 2] = [&[], &[255, 1]];
-    for value in values {
-        let map = nothing.insert(&[3], value)?;
-        let proof = map.prove_absence(&[3])?.ok_or("as good as absent")?;
-        assert_eq!(rt; proof.peers().len(), 1);
-        assert!(rt; proof.evaluate_absent(&b"\x03".as_slice()) == *map.root());
+#[test]
+fn no_absence_of_a_held_value(rt: HostRuntime) -> Result<(), Fail> {
+    let map = SumMap::default(rt.alloc())?.insert(&[3], &[9])?;
+    let keys: [Bytes; 2] = [&[1, 2], &[3]];
+    for key in keys {
+        assert!(rt; map.prove_absence(key)?.is_none());
     }
     Ok(())
+}
+
+// A value without bytes, and one of the same sum, have the digest of an empty leaf.
+#[test]
+fn absence_of_a_held_value(rt: HostRuntime) -> Result<(), Fail> {
+    let nothing = SumMap::default(rt.alloc())?;
+    let key: Bytes = &[3];
+    let values: [Bytes; 2] = [&[], &[255, 1]];
+    for value in values {
+        let map = nothing.insert(key, value)?;
+        let proof = map.prove_absence(key)?.ok_or("as good as absent")?;
+        assert!(rt; proof.peers().len() == 1);
+        assert!(rt; proof.evaluate_absent(&key) == *map.root());
+    }
+    Ok(())
+}
+
+fn grown(alloc: Global, pairs: &[(Text, Text)]) -> Result<TextMap, MapError> {
+    let mut map = TextMap::default(alloc)?;
+    for (key, value) in pairs {
+        map = map.insert(*key, *value)?;
+    }
+    Ok(map)
+}
+
+fn is_text_map(map: &TextMap, len: usize, nodes: u128) -> bool {
+    map.len() == len && map.node_count() == nodes && map.is_empty() == (len == 0)
 }
 
 #[test]
@@ -117,7 +171,7 @@ fn roots_of_texts(rt: HostRuntime) -> Result<(), Fail> {
     let bar_bat = "055a0091970e1a25ba15d9766a4a8d58c2d72acf08f1905cc378b8544d5795b1";
     let again = "11bf702c1b66f523687da8783bceca65d8009cbb7edcd764e3aafff1191e7249";
     let one_shared = "b00a6234845fc9212bde30ef8522d6ac29ce81bae9100a305eab204082a576ca";
-    let rows: [(&[(&str, &str)], usize, u128, &str); 8] = [
+    let rows: [(&[(Text, Text)], usize, u128, Text); 8] = [
         (&[], 0, 1, NOTHING),
         (&[("foo", "")], 1, 2, NOTHING),
         (&[("foo", "bar")], 1, 2, FOO_BAR),
@@ -127,182 +181,220 @@ fn roots_of_texts(rt: HostRuntime) -> Result<(), Fail> {
         (&[("foo", "bar"), ("baz", "bat")], 2, 3, FOO_BAZ),
         (&[("baz", "bat"), ("foo", "bar")], 2, 3, FOO_BAZ),
     ];
-    let nothing = TextMap::default(rt.alloc())?;
     for (pairs, len, nodes, root) in rows {
-        let mut map = nothing.clone()?;
-        for (key, value) in pairs {
-            map = map.insert(*key, *value)?;
-        }
-        assert_eq!(rt; hex::encode(rt.alloc(), map.root().bytes())?.as_str(), root, "{pairs:?}");
-        assert_eq!(rt; map.len(), len);
-        assert!(rt; map.node_count() == nodes, "{pairs:?}");
-        assert!(rt; nothing.extend(pairs.iter().copied())? == map);
+        let map = grown(rt.alloc(), pairs)?;
+        assert!(rt; is_text_map(&map, len, nodes));
+        assert!(rt; is_hex(rt.alloc(), map.root(), root)?);
     }
     Ok(())
 }
 
 #[test]
-fn proofs_of_texts(rt: HostRuntime) -> Result<(), Fail> {
-    let nothing = TextMap::default(rt.alloc())?;
-    assert!(rt; nothing.prove("foo")?.is_none());
-    let foo = nothing.insert("foo", "bar")?;
-    let proof = foo.prove("foo")?.ok_or("held")?;
-    assert_eq!(rt; proof.peers().len(), 1);
-    assert!(rt; foo.prove("baz")?.is_none() && foo.prove("qux")?.is_none());
-    let more = foo.extend([("baz", "bat"), ("foo", "qux")].into_iter())?;
-    for (key, value) in [("foo", "qux"), ("baz", "bat")] {
-        let proof = more.prove(key)?.ok_or("held")?;
-        assert!(rt; proof.evaluate(&key, &value) == *more.root());
-        assert!(rt; proof.evaluate(&key, &"other") != *more.root());
-        assert!(rt; proof.evaluate(&"other", &value) != *more.root());
-        let peers = Vec::from(proof);
-        assert_eq!(rt; peers.len(), 1);
-    }
+fn extensions_of_texts(rt: HostRuntime) -> Result<(), Fail> {
+    let nothing = grown(rt.alloc(), &[])?;
+    let pairs = [("foo", "bar"), ("baz", "bat")];
+    let up = nothing.extend(pairs.into_iter())?;
+    assert!(rt; up.len() == 2 && is_hex(rt.alloc(), up.root(), FOO_BAZ)?);
+    let down = nothing.extend(pairs.into_iter().rev())?;
+    assert!(rt; up == down);
+    Ok(())
+}
 
-    // Two keys whose digests share one bit.
-    let bar = nothing.insert("bar", "x")?;
-    let proof = bar.prove_absence("baz")?.ok_or("absent")?;
+fn proves(map: &TextMap, key: Text, value: Text, peers: usize) -> Result<bool, Fail> {
+    let proof = map.prove(key)?.ok_or("held")?;
+    let rooted = proof.evaluate(&key, &value) == *map.root();
+    let misled = proof.evaluate(&key, &"other") == *map.root();
+    let counted = proof.peers().len() == peers;
+    Ok(rooted && !misled && counted && Vec::from(proof).len() == peers)
+}
+
+#[test]
+fn proofs_of_texts(rt: HostRuntime) -> Result<(), Fail> {
+    let rows: [(&[(Text, Text)], Text, Text, usize); 5] = [
+        (&[("foo", "bar")], "foo", "bar", 1),
+        (&[("foo", "bar"), ("baz", "bat"), ("foo", "qux")], "foo", "qux", 1),
+        (&[("foo", "bar"), ("baz", "bat"), ("foo", "qux")], "baz", "bat", 1),
+        (&[("bar", "x"), ("baz", "y")], "bar", "x", 2),
+        (&[("bar", "x"), ("baz", "y")], "baz", "y", 2),
+    ];
+    for (pairs, key, value, peers) in rows {
+        let map = grown(rt.alloc(), pairs)?;
+        assert!(rt; proves(&map, key, value, peers)?);
+        assert!(rt; map.prove("qux")?.is_none());
+    }
+    Ok(())
+}
+
+#[test]
+fn absence_beside_a_text(rt: HostRuntime) -> Result<(), Fail> {
+    let map = grown(rt.alloc(), &[("bar", "x")])?;
+    let proof = map.prove_absence("baz")?.ok_or("absent")?;
     let peers = proof.peers();
     assert!(rt; peers.len() == 2 && peers[0].is_some() && peers[1].is_none());
-    assert!(rt; proof.evaluate_absent(&"baz") == *bar.root());
-    let both = bar.insert("baz", "y")?;
-    for (key, value) in [("bar", "x"), ("baz", "y")] {
-        let proof = both.prove(key)?.ok_or("held")?;
-        assert_eq!(rt; proof.peers().len(), 2);
-        assert!(rt; proof.evaluate(&key, &value) == *both.root());
-    }
+    assert!(rt; proof.evaluate_absent(&"baz") == *map.root());
     Ok(())
 }
 
 #[test]
 fn nodes_in_any_order(rt: HostRuntime) -> Result<(), Fail> {
-    let nothing = TextMap::default(rt.alloc())?;
     let orders = [
-        ["foo", "bar", "baz"],
-        ["foo", "baz", "bar"],
-        ["bar", "foo", "baz"],
-        ["bar", "baz", "foo"],
-        ["baz", "foo", "bar"],
-        ["baz", "bar", "foo"],
+        [("foo", "1"), ("bar", "1"), ("baz", "1")],
+        [("foo", "1"), ("baz", "1"), ("bar", "1")],
+        [("bar", "1"), ("foo", "1"), ("baz", "1")],
+        [("bar", "1"), ("baz", "1"), ("foo", "1")],
+        [("baz", "1"), ("foo", "1"), ("bar", "1")],
+        [("baz", "1"), ("bar", "1"), ("foo", "1")],
     ];
-    let whole = nothing.extend([("foo", "1"), ("bar", "1"), ("baz", "1")].into_iter())?;
     for order in orders {
-        let mut map = nothing.clone()?;
-        for key in order {
-            map = map.insert(key, "1")?;
-        }
-        assert!(rt; map.node_count() == 5 && map == whole, "{order:?}");
+        let map = grown(rt.alloc(), &order)?;
+        assert!(rt; is_text_map(&map, 3, 5));
     }
     Ok(())
 }
 
+fn ending_in(byte: u8) -> [u8; 32] {
+    let mut bytes = [0; 32];
+    bytes[31] = byte;
+    bytes
+}
+
+// Two keys that share 255 bits, and a third that shares none.
+fn long_runs(alloc: Global, third: bool) -> Result<OwnMap, MapError> {
+    let mut map = OwnMap::default(alloc)?;
+    map = map.insert(ending_in(0), "x")?;
+    map = map.insert(ending_in(1), "y")?;
+    if third {
+        let mut far = [0; 32];
+        far[0] = 128;
+        map = map.insert(far, "z")?;
+    }
+    Ok(map)
+}
+
 #[test]
-fn keys_that_share_255_bits(rt: HostRuntime) -> Result<(), Fail> {
+fn roots_of_long_runs(rt: HostRuntime) -> Result<(), Fail> {
     let two_root = "fc581e7e7bca52c6ad33c8ab86d2d56af417436beeecbb84d15e4d38ee0d7c54";
-    let rewritten_root = "2b2d960d51378731ba977f763f98ee1ff8d3154d10b145bac7e5c9407bf3a55c";
+    let again_root = "2b2d960d51378731ba977f763f98ee1ff8d3154d10b145bac7e5c9407bf3a55c";
+    let two = long_runs(rt.alloc(), false)?;
+    assert!(rt; two.len() == 2 && two.node_count() == 4);
+    assert!(rt; is_hex(rt.alloc(), two.root(), two_root)?);
+    let again = two.insert(ending_in(0), "z")?;
+    assert!(rt; again.len() == 2 && is_hex(rt.alloc(), again.root(), again_root)?);
+    Ok(())
+}
+
+#[test]
+fn proofs_of_long_runs(rt: HostRuntime) -> Result<(), Fail> {
     let three_root = "ed83d4716b636b037863e32a43e2493433c01e764c9d4eb68bef8b0ae4f33b8b";
+    let map = long_runs(rt.alloc(), true)?;
+    assert!(rt; map.len() == 3 && is_hex(rt.alloc(), map.root(), three_root)?);
     let mut far = [0; 32];
     far[0] = 128;
-    let nothing = OwnMap::default(rt.alloc())?;
-    let two = nothing.extend([(ending_in(0), "x"), (ending_in(1), "y")].into_iter())?;
-    assert!(rt; two.len() == 2 && two.node_count() == 4);
-    assert_eq!(rt; hex::encode(rt.alloc(), two.root().bytes())?.as_str(), two_root);
-    let again = two.insert(ending_in(0), "z")?;
-    assert_eq!(rt; again.len(), 2);
-    assert_eq!(rt; hex::encode(rt.alloc(), again.root().bytes())?.as_str(), rewritten_root);
-    let three = two.insert(far, "z")?;
-    assert_eq!(rt; three.len(), 3);
-    assert_eq!(rt; hex::encode(rt.alloc(), three.root().bytes())?.as_str(), three_root);
     for (key, value, peers) in [(ending_in(0), "x", 256), (ending_in(1), "y", 256), (far, "z", 1)] {
-        let proof = three.prove(key)?.ok_or("held")?;
-        assert_eq!(rt; proof.peers().len(), peers);
-        assert!(rt; proof.evaluate(&key, &value) == *three.root());
+        let proof = map.prove(key)?.ok_or("held")?;
+        assert!(rt; proof.peers().len() == peers);
+        assert!(rt; proof.evaluate(&key, &value) == *map.root());
     }
-    let proof = two.prove(ending_in(1))?.ok_or("held")?;
-    assert_eq!(rt; proof.peers().len(), 256);
-    assert!(rt; proof.evaluate(&ending_in(1), &"y") == *two.root());
     Ok(())
+}
+
+fn in_steps(alloc: Global, step: u8) -> Result<SmallMap, MapError> {
+    let mut map = SmallMap::default(alloc)?;
+    let mut key = 0u8;
+    for _ in 0..64 {
+        key = key.wrapping_add(step) % 64;
+        map = map.insert(key, [key, key])?;
+    }
+    Ok(map)
+}
+
+fn proves_all(map: &SmallMap) -> Result<bool, Fail> {
+    for key in 0..64u8 {
+        let proof = map.prove(key)?.ok_or("held")?;
+        if proof.evaluate(&key, &[key, key]) != *map.root() {
+            return Ok(false);
+        }
+    }
+    Ok(true)
 }
 
 #[test]
 fn sixty_four_keys_in_three_orders(rt: HostRuntime) -> Result<(), Fail> {
     let root = "71664ce21032c4975d571dea85f0e14b7b62df45b6b7700d22b3d57de940d853";
-    let nothing = Map::<Sha256, u8, [u8; 2]>::default(rt.alloc())?;
-    let up = nothing.extend((0..64u8).map(|i| (i, [i, i])))?;
-    let down = nothing.extend((0..64u8).rev().map(|i| (i, [i, i])))?;
-    let mixed = nothing.extend((0..64u8).map(|i| {
-        let key = i.wrapping_mul(37) % 64;
-        (key, [key, key])
-    }))?;
-    for map in [&up, &down, &mixed] {
-        assert_eq!(rt; map.len(), 64);
-        assert_eq!(rt; hex::encode(rt.alloc(), map.root().bytes())?.as_str(), root);
-        assert!(rt; map.node_count() <= 190 && map.node_count() == up.node_count());
-        for key in 0..64u8 {
-            let proof = map.prove(key)?.ok_or("held")?;
-            assert!(rt; proof.evaluate(&key, &[key, key]) == *map.root());
-        }
-        let proof = map.prove_absence(64)?.ok_or("absent")?;
-        assert!(rt; proof.evaluate_absent(&64) == *map.root());
-        assert!(rt; map.prove_absence(63)?.is_none());
+    for step in [1, 37, 63] {
+        let map = in_steps(rt.alloc(), step)?;
+        assert!(rt; map.len() == 64 && map.node_count() <= 190);
+        assert!(rt; is_hex(rt.alloc(), map.root(), root)?);
+        assert!(rt; proves_all(&map)?);
     }
     Ok(())
 }
 
-// Grows a map of "foo" and "bar", and answers the step that was refused.
-fn refused_step(rt: &impl Abort, alloc: &Refusing<Global>) -> Option<u8> {
-    let Ok(nothing) = ScarceMap::default(alloc) else {
-        return Some(0);
-    };
+// Whether the map of nothing stands as it was after a refused insertion.
+fn first_key(nothing: &ScarceMap<'_>) -> Result<bool, MapError> {
     let foo = match nothing.insert("foo", "bar") {
         Ok(foo) => foo,
         Err(error) => {
-            assert!(rt; error == MapError::Memory);
-            assert!(rt; nothing.is_empty() && *nothing.root() == empty_tree_hash(256));
-            return Some(1);
+            let stands = nothing.len() == 0 && *nothing.root() == empty_tree_hash(256);
+            return if stands { Err(error) } else { Ok(false) };
         }
     };
-    let Ok(Some(proof)) = foo.prove("foo") else {
-        return Some(2);
-    };
-    let step = refused_over(rt, &foo);
-    assert!(rt; foo.len() == 1 && proof.evaluate(&"foo", &"bar") == *foo.root());
-    step
+    more_keys(&foo)
 }
 
-// Goes on from the map of "foo" alone.
-fn refused_over(rt: &impl Abort, foo: &ScarceMap<'_>) -> Option<u8> {
+// Whether the map of "foo" and its proof stand as they were after a refused extension.
+fn more_keys(foo: &ScarceMap<'_>) -> Result<bool, MapError> {
+    let Some(proof) = foo.prove("foo")? else {
+        return Ok(false);
+    };
     let both = match foo.extend([("baz", "bat"), ("bar", "x")].into_iter()) {
         Ok(both) => both,
         Err(error) => {
-            assert!(rt; error == MapError::Memory);
-            return Some(3);
+            let stands = foo.len() == 1 && proof.evaluate(&"foo", &"bar") == *foo.root();
+            return if stands { Err(error) } else { Ok(false) };
         }
     };
-    assert_eq!(rt; both.len(), 3);
-    let Ok(absence) = both.prove_absence("qux") else {
-        return Some(4);
+    absent_key(&both)
+}
+
+fn absent_key(both: &ScarceMap<'_>) -> Result<bool, MapError> {
+    let Some(proof) = both.prove_absence("qux")? else {
+        return Ok(false);
     };
-    assert!(rt; absence.is_some_and(|proof| proof.evaluate_absent(&"qux") == *both.root()));
-    None
+    Ok(both.len() == 3 && proof.evaluate_absent(&"qux") == *both.root())
+}
+
+fn scarce(alloc: &Refusing<Global>) -> Result<bool, MapError> {
+    let nothing = ScarceMap::default(alloc)?;
+    first_key(&nothing)
 }
 
 #[test]
 fn each_growth_refused_in_turn(rt: HostRuntime) {
-    let mut seen = [false; 5];
     let mut whole = false;
     for growths in 0..40u64 {
         let alloc = Refusing::after(rt.alloc(), growths);
-        match refused_step(&rt, &alloc) {
-            Some(step) => {
-                assert_eq!(rt; alloc.left(), 0);
-                assert!(rt; step < 5 && !whole);
-                seen[step as usize] = true;
+        match scarce(&alloc) {
+            Ok(stands) => {
+                assert!(rt; stands && growths > 10);
+                whole = true;
             }
-            None => whole = true,
+            Err(error) => {
+                assert!(rt; error == MapError::Memory && alloc.left() == 0 && !whole);
+            }
         }
     }
-    assert!(rt; whole && seen == [true; 5], "{seen:?}");
+    assert!(rt; whole);
+}
+
+fn hashed(map: &ScarceMap<'_>) -> u64 {
+    let mut hasher = DefaultHasher::new();
+    std::hash::Hash::hash(map, &mut hasher);
+    hasher.finish()
+}
+
+fn is_same(same: &ScarceMap<'_>, map: &ScarceMap<'_>) -> bool {
+    same == map && same.len() == 1 && !same.is_empty() && hashed(same) == hashed(map)
 }
 
 #[test]
@@ -312,26 +404,18 @@ fn calls_without_memory(rt: HostRuntime) -> Result<(), Fail> {
     let proof = map.prove("foo")?.ok_or("held")?;
     let left = alloc.left();
     let same = map.clone()?;
-    assert!(rt; same == map && same.len() == 1 && !same.is_empty() && same.node_count() == 2);
-    assert_eq!(rt; hashed(&same), hashed(&map));
+    assert!(rt; is_same(&same, &map) && same.node_count() == 2);
     assert!(rt; proof.evaluate(&"foo", &"bar") == *same.root());
     assert!(rt; proof.evaluate_absent(&"foo") != *same.root());
-    assert_eq!(rt; proof.peers().len(), 1);
-    assert_eq!(rt; Vec::from(proof).len(), 1);
-    assert_eq!(rt; alloc.left(), left);
+    assert!(rt; Vec::from(proof).len() == 1 && alloc.left() == left);
     Ok(())
-}
-
-fn hashed(map: &ScarceMap<'_>) -> u64 {
-    let mut hasher = DefaultHasher::new();
-    std::hash::Hash::hash(map, &mut hasher);
-    hasher.finish()
 }
 
 #[test]
 fn texts_of_maps_and_faults(rt: HostRuntime) -> Result<(), Fail> {
-    assert_eq!(rt; MapError::Full.to_string(rt.alloc())?.as_str(), "map is full");
-    assert_eq!(rt; MapError::Memory.to_string(rt.alloc())?.as_str(), "out of memory");
+    let full = MapError::Full.to_string(rt.alloc())?;
+    let memory = MapError::Memory.to_string(rt.alloc())?;
+    assert!(rt; full.as_str() == "map is full" && memory.as_str() == "out of memory");
     let map = TextMap::default(rt.alloc())?;
     let text = format!(in rt.alloc(); "{map:?}")?;
     assert!(rt; text.as_str().starts_with("Map("));
