@@ -55,7 +55,6 @@ impl From<AllocError> for MapError {
 /// values without bytes: a key with such a value counts in [`len`](Map::len), and has the root of a map without it.
 ///
 /// Contracts see a map as the finite map from key bits to leaf digests.
-#[derive(Drop)]
 pub struct Map<D: SupportedDigest, K, V, A: Allocator = Global> {
     link: Link<D, A>,
     count: usize,
@@ -76,6 +75,19 @@ impl<D: SupportedDigest, K, V, A: Allocator> Model for Map<D, K, V, A> {
     ghost view = { λ m. m.link.1 };
 
     ghost invariant = { λ m. (m.link.0 ≡ 256) × (m.count ≡ len m.link.1) };
+}
+
+// By hand, so that a caller who drops a map sees a call and not the tree.
+impl<D: SupportedDigest, K, V, A: Allocator> Drop for Map<D, K, V, A> {
+    fn drop(self) {
+        let Map {
+            link: _,
+            count: _,
+            alloc: _,
+            key: _,
+            value: _,
+        } = self;
+    }
 }
 
 /// By the root alone: a key with a value without bytes makes no difference.

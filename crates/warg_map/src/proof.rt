@@ -7,7 +7,7 @@ ghost use Rattle.warg_map.specs.Sparse.{leaf_digest};
 ghost use Rattle.warg_map.specs.ProofValue.{peer_of, proof_value};
 ghost use Rattle.warg_map.specs.Peers.{empty_peers};
 
-use crate::path::side_at;
+use crate::path::ReversePath;
 use std::alloc::{AllocError, Allocator, Global};
 use std::marker::PhantomData;
 use warg_crypto::{Hash, SupportedDigest, VisitBytes, empty_tree_hash};
@@ -135,10 +135,12 @@ impl<D: SupportedDigest, K, V, A: Allocator> Proof<D, K, V, A> {
     {
         let mut hash = leaf;
         let mut empty = empty_tree_hash(0);
-        for height in 0..256 {
-            let peer = self.peer(height, &empty);
-            hash = side_at(key, 255 - height).branch(&hash, peer);
+        let mut height = 0;
+        let mut path = ReversePath::new(key.copied());
+        while let Some(side) = path.next() {
+            hash = side.branch(&hash, self.peer(height, &empty));
             empty = D::empty_above(height, &empty);
+            height += 1;
         }
         hash
     }
