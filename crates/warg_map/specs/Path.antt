@@ -1,5 +1,5 @@
 -- The bits that a path has left.
-use Rattle.std.specs.Prelude.{◌≡◌, ℕ, ◌+◌, ◌-◌, Bool, List, [], ◌∷◌, Option, MatchOption, IfSome, reverse}
+use Rattle.std.specs.Prelude.{◌≡◌, ◌+◌, ◌-◌, Bool, List, Option, MatchOption, IfSome, reverse}
 use Rattle.std.specs.Iterator.{YieldsFirstBy}
 use Rattle.warg_map.specs.declared.path.Path.{Path}
 use Rattle.warg_map.specs.declared.path.ReversePath.{ReversePath}

@@ -1,7 +1,6 @@
-use Rattle.std.proofs.Common.{◌≡◌, ap, sym, ◌∙◌, ◌+◌, cond, true, false}
-use Rattle.std.specs.FinMap.{len, insert}
-use Rattle.warg_map.specs.Path.{bits_left}
-use Rattle.warg_map.specs.Seen.{height_of, held_by}
+use Rattle.std.proofs.Common.{◌≡◌, ap, sym, ◌∙◌, ◌+◌}
+use Rattle.std.specs.FinMap.{len}
+use Rattle.warg_map.specs.Seen.{held_by}
 use Rattle.warg_map.proofs.Len.{len-insert_fresh}
 use Rattle.warg_map.proofs.map.Map.insert.Goals as goal
 use Rattle.warg_map.proofs.map.Map.insert.Goals.{then-fresh, else-fresh}

@@ -1,10 +1,9 @@
-use Rattle.std.proofs.Common.{◌≡◌, ℕ, ◌+◌, ◌-◌, ◌<◌, ◌≤◌, ◌∷◌, [], cond, length, replicate, List, Option, Some, None, true, false, is_some, ap, sym, ◌∙◌, refl, arith, rules}
+use Rattle.std.proofs.Common.{◌≡◌, ℕ, ◌-◌, cond, length, List, Option, None, true, false, is_some, ap, sym, ◌∙◌, refl, arith, rules}
 use Rattle.std.proofs.lemmas.List.{length-replicate}
-use Rattle.std.specs.FinMap.{contains_key, insert, empty}
 use Rattle.warg_map.specs.Side.{side_bit}
 use Rattle.warg_map.specs.Bits.{last_bits, bits_from}
 use Rattle.warg_map.specs.Sparse.{sparse_root}
-use Rattle.warg_map.specs.Seen.{height_of, held_by}
+use Rattle.warg_map.specs.Seen.{height_of}
 use Rattle.warg_map.proofs.Sparse.{length-last_bits, last_bits-end}
 use Rattle.warg_map.proofs.Form.{lone_seen}
 use Rattle.warg_map.proofs.Finds.{finds_in_fork, finds_below, finds_leaf}
