@@ -1,21 +1,21 @@
 -- The peers of proofs of absence.
-use Rattle.std.proofs.Common.{◌≡◌, ℕ, zero, suc, ◌+◌, ◌-◌, ◌<◌, ◌≤◌, Bool, true, false, cond, not, nat_eq, List, [], ◌∷◌, ◌++◌, length, replicate, Option, Some, None, is_some, refl, sym, ap, ◌∙◌, subst, arith, add-one, ◌⊎◌, inl, inr, IsTrue, append_assoc}
+use Rattle.std.proofs.Common.{◌≡◌, ℕ, suc, ◌+◌, ◌-◌, ◌<◌, ◌≤◌, Bool, true, false, cond, not, nat_eq, List, [], ◌∷◌, ◌++◌, length, replicate, Option, Some, None, is_some, refl, sym, ap, ◌∙◌, subst, arith, inl, inr, IsTrue, append_assoc}
 use Rattle.std.proofs.lemmas.List.{reverse-append, replicate_more, length-replicate}
 use Rattle.std.proofs.lemmas.Bool.{eqb-true, eq-eqb}
 use Rattle.std.specs.Prelude.{reverse}
 use Rattle.std.specs.FinMap.{insert, empty, contains_key, get, get-empty}
 use Rattle.warg_map.specs.declared.node.Node.{Node}
-use Rattle.warg_map.specs.declared.node.Node.TheVariants.{Leaf, Fork, Singleton, Stem, Empty}
+use Rattle.warg_map.specs.declared.node.Node.TheVariants.{Fork, Singleton, Stem, Empty}
 use Rattle.warg_map.specs.declared.fork.Fork.{Fork as Fork'}
 use Rattle.warg_map.specs.declared.stem.Stem.{Stem as Stem'}
 use Rattle.warg_map.specs.Lone.{Lone}
 use Rattle.warg_map.specs.Bits.{bit_at, bits_from, last_bits}
-use Rattle.warg_map.specs.Sparse.{SparseMap, bits_cmp, root_of, sparse_root}
-use Rattle.warg_map.specs.Under.{join_at, under, HoldsKey, Splits, IsLone}
+use Rattle.warg_map.specs.Sparse.{SparseMap, bits_cmp, sparse_root}
+use Rattle.warg_map.specs.Under.{join_at, under, HoldsKey}
 use Rattle.warg_map.specs.Seen.{seen, height_of, held_by, IsWellFormed}
 use Rattle.warg_map.specs.Peers.{shared, IsOther, IsAbsentPeers, IsAbsentCount, ProvesAbsent}
 use Rattle.warg_map.proofs.Sparse.{get-join_at, contains_key-join_at, contains_key-empty, contains_key-insert_same, length-bits_from}
-use Rattle.warg_map.proofs.Under.{join_at-other, get-under, get-under_apart, under-append, holds-under, no_some, lone-under, bits_from-part, bits_from-append, last_bits-at}
+use Rattle.warg_map.proofs.Under.{join_at-other, get-under, under-append, holds-under, no_some, lone-under, bits_from-part, last_bits-at}
 use Rattle.warg_map.proofs.Form.{stem_holds}
 use Rattle.warg_map.proofs.Finds.{finds_lone, stem_held, stem_bits, lone_same}
 use Rattle.warg_map.proofs.Peers.{join_holds, holds_near, holds_far, shared_same, shared_other, get-far, nothing_more, length_peers}

@@ -1,21 +1,20 @@
 -- The number of nodes.
-use Rattle.std.proofs.Common.{◌≡◌, ℕ, zero, suc, length, ◌+◌, ◌-◌, ◌*◌, ◌<◌, ◌≤◌, Bool, true, false, cond, not, nat_eq, List, [], ◌∷◌, ◌++◌, Option, Some, None, is_some, refl, sym, ap, ◌∙◌, subst, arith, add-one, ◌⊎◌, inl, inr, IsTrue}
+use Rattle.std.proofs.Common.{◌≡◌, ℕ, zero, suc, length, ◌+◌, ◌<◌, Bool, true, false, cond, nat_eq, List, [], ◌∷◌, Some, is_some, refl, sym, ap, ◌∙◌, subst, arith, add-one, ◌⊎◌, inl, inr}
 use Rattle.std.proofs.lemmas.Bool.{eqb-true, eq-eqb}
-use Rattle.std.specs.FinMap.{FinMap, from_entries, entries, find, get, insert, empty, len, contains_key, get-insert, get-empty, get-entries, get-from_entries, len-insert, len-empty, len-entries, empty_of_len}
+use Rattle.std.specs.FinMap.{from_entries, entries, find, get, insert, empty, len, contains_key, get-entries, get-from_entries, len-insert, len-empty, len-entries, empty_of_len}
 use Rattle.std.specs.Ordering.{eq_by_cmp}
 use Rattle.warg_map.specs.declared.node.Node.{Node}
-use Rattle.warg_map.specs.declared.node.Node.TheVariants.{Leaf, Fork, Singleton, Stem, Empty}
+use Rattle.warg_map.specs.declared.node.Node.TheVariants.{Fork, Stem}
 use Rattle.warg_map.specs.declared.fork.Fork.{Fork as Fork'}
 use Rattle.warg_map.specs.declared.stem.Stem.{Stem as Stem'}
-use Rattle.warg_map.specs.Lone.{Lone}
-use Rattle.warg_map.specs.Bits.{bits_from, last_bits}
+use Rattle.warg_map.specs.Bits.{bits_from}
 use Rattle.warg_map.specs.Sparse.{SparseMap, bits_cmp}
 use Rattle.warg_map.specs.Under.{join, join_at, under, HoldsKey, Splits, IsLone}
-use Rattle.warg_map.specs.Seen.{seen, height_of, held_by, IsWellFormed}
-use Rattle.warg_map.specs.Count.{stripped, after, is_bare, nodes, node_count}
-use Rattle.warg_map.proofs.Form.{one_false, no_lone, lone_no_split}
+use Rattle.warg_map.specs.Seen.{height_of, held_by, IsWellFormed}
+use Rattle.warg_map.specs.Count.{stripped, after, nodes}
+use Rattle.warg_map.proofs.Form.{one_false, no_lone}
 use Rattle.warg_map.proofs.Under.{get-under_head, no_some}
-use Rattle.warg_map.proofs.Sparse.{bits_total, same_sparse, get-join_nil, get-join_true, get-join_false, insert-join_false, insert-join_true, empty-is_join, contains_key-empty, length-bits_from}
+use Rattle.warg_map.proofs.Sparse.{bits_total, same_sparse, get-join_true, get-join_false, insert-join_false, insert-join_true, empty-is_join, contains_key-empty, length-bits_from}
 
 -- what a map holds after a bit
 find-stripped : (b : Bool) (q : List Bool) (es : List (List Bool × List ℕ)) → find bits_cmp q (stripped b es) ≡ find bits_cmp (b ∷ q) es

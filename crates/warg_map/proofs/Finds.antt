@@ -1,15 +1,15 @@
 -- What is found in a node.
-use Rattle.std.proofs.Common.{◌≡◌, ℕ, zero, suc, length, ◌+◌, ◌-◌, ◌<◌, ◌≤◌, Bool, true, false, cond, not, List, [], ◌∷◌, ◌++◌, Option, Some, None, is_some, refl, sym, ap, ◌∙◌, subst, arith}
-use Rattle.std.specs.FinMap.{insert, empty, contains_key, get, get-insert, get-empty}
+use Rattle.std.proofs.Common.{◌≡◌, ℕ, ◌+◌, ◌-◌, ◌<◌, Bool, true, false, cond, List, [], ◌∷◌, ◌++◌, Option, Some, None, refl, sym, ap, ◌∙◌, subst, arith}
+use Rattle.std.specs.FinMap.{insert, empty, get, get-insert}
 use Rattle.std.specs.Ordering.{eq_by_cmp}
 use Rattle.warg_map.specs.declared.node.Node.{Node}
-use Rattle.warg_map.specs.declared.node.Node.TheVariants.{Leaf, Fork, Singleton, Stem, Empty}
+use Rattle.warg_map.specs.declared.node.Node.TheVariants.{Leaf, Fork, Singleton, Stem}
 use Rattle.warg_map.specs.declared.fork.Fork.{Fork as Fork'}
 use Rattle.warg_map.specs.declared.stem.Stem.{Stem as Stem'}
 use Rattle.warg_map.specs.Lone.{Lone}
 use Rattle.warg_map.specs.Bits.{bit_at, bits_from, last_bits}
 use Rattle.warg_map.specs.Sparse.{SparseMap, bits_cmp}
-use Rattle.warg_map.specs.Under.{join, under}
+use Rattle.warg_map.specs.Under.{under}
 use Rattle.warg_map.specs.Seen.{seen, height_of, held_by, IsWellFormed}
 use Rattle.warg_map.proofs.Sparse.{bits_total, get-join_true, get-join_false, tied_itself_bits}
 use Rattle.warg_map.proofs.Under.{get-under, get-under_apart, lone-under, bits_from-part, last_bits-at, bits_from-append}

@@ -1,5 +1,5 @@
 -- The form of the tree.
-use Rattle.std.proofs.Common.{◌≡◌, ℕ, zero, suc, length, ◌+◌, ◌-◌, ◌<◌, ◌≤◌, Bool, true, false, cond, not, List, [], ◌∷◌, ◌++◌, Some, None, is_some, refl, sym, ap, ◌∙◌, subst, arith, add-one, ◌⊎◌, inl, inr, IsTrue}
+use Rattle.std.proofs.Common.{◌≡◌, ℕ, ◌+◌, ◌-◌, ◌<◌, Bool, true, false, cond, List, [], ◌∷◌, ◌++◌, Some, None, is_some, refl, sym, ap, ◌∙◌, subst, arith, ◌⊎◌, inl, inr}
 use Rattle.std.specs.FinMap.{get, insert, empty, contains_key, get-insert, get-empty}
 use Rattle.std.specs.Ordering.{eq_by_cmp}
 use Rattle.warg_map.specs.declared.node.Node.{Node}
@@ -10,8 +10,8 @@ use Rattle.warg_map.specs.Lone.{Lone}
 use Rattle.warg_map.specs.Bits.{bit_at, bits_from, last_bits}
 use Rattle.warg_map.specs.Sparse.{SparseMap, bits_cmp}
 use Rattle.warg_map.specs.Under.{join, join_at, under, HoldsKey, Splits, IsLone}
-use Rattle.warg_map.specs.Seen.{seen, height_of, held_by, IsLevel, IsFormed, IsWellFormed, IsForkOf, IsSeen, Carries}
-use Rattle.warg_map.proofs.Sparse.{bits_total, get-join_true, get-join_false, contains_key-join_at, contains_key-empty, contains_key-insert_same, last_bits-step, length-bits_from}
+use Rattle.warg_map.specs.Seen.{seen, height_of, held_by, IsWellFormed, IsForkOf, IsSeen, Carries}
+use Rattle.warg_map.proofs.Sparse.{bits_total, get-join_true, get-join_false, contains_key-join_at, contains_key-insert_same, last_bits-step, length-bits_from}
 use Rattle.warg_map.proofs.Under.{under-append, under-none, bits_from-none, bits_from-append, last_bits-at, under_same, holds-under}
 
 pub fork_held : {D A : _} (b : Bool) (near far : ℕ × SparseMap) (f : Fork' D A) → IsForkOf b near far f → near.0 ≡ far.0 → seen (Fork f) ≡ (near.0 + 1, join_at b near.1 far.1)

@@ -1,19 +1,19 @@
 -- The peers of a node's proofs.
-use Rattle.std.proofs.Common.{◌≡◌, ℕ, zero, suc, ◌+◌, ◌-◌, ◌<◌, ◌≤◌, Bool, true, false, cond, not, nat_eq, List, [], ◌∷◌, ◌++◌, length, Option, Some, None, is_some, refl, sym, ap, ◌∙◌, subst, arith, add-one, ◌⊎◌, inl, inr, IsTrue, append_assoc}
+use Rattle.std.proofs.Common.{◌≡◌, ℕ, zero, suc, ◌+◌, ◌-◌, ◌<◌, Bool, true, false, cond, not, nat_eq, List, [], ◌∷◌, ◌++◌, length, Option, Some, None, is_some, refl, sym, ap, ◌∙◌, subst, arith, add-one, ◌⊎◌, inl, inr, IsTrue, append_assoc}
 use Rattle.std.proofs.lemmas.List.{reverse-append}
 use Rattle.std.proofs.lemmas.Bool.{eqb-true}
 use Rattle.std.specs.Prelude.{reverse}
 use Rattle.std.specs.FinMap.{insert, empty, contains_key, get, get-insert, get-empty}
 use Rattle.std.specs.Ordering.{eq_by_cmp}
 use Rattle.warg_map.specs.declared.node.Node.{Node}
-use Rattle.warg_map.specs.declared.node.Node.TheVariants.{Leaf, Fork, Singleton, Stem, Empty}
+use Rattle.warg_map.specs.declared.node.Node.TheVariants.{Leaf, Fork, Singleton, Stem}
 use Rattle.warg_map.specs.declared.fork.Fork.{Fork as Fork'}
 use Rattle.warg_map.specs.declared.stem.Stem.{Stem as Stem'}
 use Rattle.warg_map.specs.Lone.{Lone}
 use Rattle.warg_crypto.specs.EmptyTrees.{empty_root}
 use Rattle.warg_map.specs.Bits.{last_bits, bits_from}
 use Rattle.warg_map.specs.Sparse.{SparseMap, bits_cmp, root_of, sparse_root}
-use Rattle.warg_map.specs.Under.{join, join_at, under, HoldsKey, Splits, IsLone}
+use Rattle.warg_map.specs.Under.{join_at, under, HoldsKey, Splits, IsLone}
 use Rattle.warg_map.specs.Seen.{seen, height_of, held_by, IsWellFormed}
 use Rattle.warg_map.specs.Peers.{IsPeers, IsPeerCount, Proves, shared, lone_peers, empty_peers}
 use Rattle.warg_map.proofs.Sparse.{bits_total, get-join_at, contains_key-insert_same, sparse_root-empty, head_same, tail_same, length-bits_from}

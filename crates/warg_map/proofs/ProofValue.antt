@@ -1,5 +1,5 @@
 -- One more level of a proof's value.
-use Rattle.std.proofs.Common.{◌≡◌, ℕ, zero, suc, length, ◌+◌, ◌-◌, ◌<◌, Bool, true, false, cond, List, [], ◌∷◌, ◌++◌, Option, refl, sym, ap, ◌∙◌, arith}
+use Rattle.std.proofs.Common.{◌≡◌, ℕ, ◌+◌, ◌-◌, ◌<◌, cond, List, ◌∷◌, ◌++◌, Option, ap, ◌∙◌}
 use Rattle.warg_map.specs.Bits.{bit_at, last_bits}
 use Rattle.warg_map.specs.ProofValue.{peer_of, proof_value}
 use Rattle.warg_map.proofs.Sparse.{last_bits-step, last_bits-zero, length-last_bits}

@@ -1,5 +1,5 @@
 -- The digests of lone keys and stems.
-use Rattle.std.proofs.Common.{◌≡◌, ℕ, length, ◌+◌, ◌-◌, ◌<◌, ◌≤◌, List, [], ◌++◌, refl, sym, ap, ◌∙◌, arith}
+use Rattle.std.proofs.Common.{◌≡◌, ℕ, ◌+◌, ◌-◌, ◌≤◌, List, [], ◌++◌, sym, ap, ◌∙◌, arith}
 use Rattle.std.specs.FinMap.{insert, empty}
 use Rattle.warg_map.specs.Bits.{bits_from, last_bits}
 use Rattle.warg_map.specs.Sparse.{SparseMap, sparse_root}

@@ -1,5 +1,5 @@
 -- What `==` on sides says of their bits.
-use Rattle.std.proofs.Common.{◌≡◌, Bool, true, false, not, refl}
+use Rattle.std.proofs.Common.{◌≡◌, true, false, not, refl}
 use denote.Enum.Bare.{sameb}
 use Rattle.warg_map.specs.contracts.path.Side.{the_type}
 use Rattle.warg_map.specs.declared.path.Side.{Side}

@@ -1,10 +1,9 @@
 -- Laws of the plain sparse tree.
-use Rattle.std.proofs.Common.{◌≡◌, ℕ, zero, suc, length, ◌+◌, ◌-◌, ◌<◌, ◌≤◌, Bool, true, false, cond, not, List, [], ◌∷◌, ◌++◌, map, Option, Some, None, is_some, unwrap_or, refl, sym, ap, ◌∙◌, subst, arith, add-one, rules}
-use Rattle.std.specs.FinMap.{FinMap, from_entries, entries, get, insert, empty, find, get-empty, get-insert, get-entries, get-from_entries, same_map, IsAntisymmetric, slice_cmp-IsAntisymmetric, contains_key}
-use Rattle.std.specs.Ordering.{bool_cmp, eq_by_cmp, is_eq}
+use Rattle.std.proofs.Common.{◌≡◌, ℕ, zero, suc, length, ◌+◌, ◌-◌, ◌<◌, Bool, true, false, cond, List, [], ◌∷◌, ◌++◌, map, Option, Some, None, is_some, unwrap_or, refl, sym, ap, ◌∙◌, subst, arith, add-one}
+use Rattle.std.specs.FinMap.{entries, get, insert, empty, find, get-empty, get-insert, get-entries, get-from_entries, same_map, IsAntisymmetric, slice_cmp-IsAntisymmetric, contains_key}
+use Rattle.std.specs.Ordering.{bool_cmp, eq_by_cmp}
 use Rattle.std.specs.Cmp.{IsTotalOrder, bool_cmp_total}
-use Rattle.std.specs.Cmp.Lexicographic.{slice_cmp, lists_total}
-use Rattle.std.specs.declared.cmp.Ordering.{Ordering}
+use Rattle.std.specs.Cmp.Lexicographic.{lists_total}
 use Rattle.std.specs.declared.cmp.Ordering.TheVariants.{Less, Equal, Greater}
 use Rattle.warg_crypto.specs.EmptyTrees.{empty_root}
 use Rattle.warg_map.specs.Bits.{bit_at, bits_from, last_bits}

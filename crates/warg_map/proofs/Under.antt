@@ -1,11 +1,11 @@
 -- Laws of bits that are put in front of a map.
-use Rattle.std.proofs.Common.{◌≡◌, ℕ, zero, suc, length, ◌+◌, ◌-◌, ◌<◌, ◌≤◌, Bool, true, false, cond, not, List, [], ◌∷◌, ◌++◌, Option, Some, None, is_some, refl, sym, ap, ◌∙◌, subst, arith, add-one, IsTrue}
+use Rattle.std.proofs.Common.{◌≡◌, ℕ, zero, suc, length, ◌+◌, ◌-◌, ◌<◌, Bool, true, false, cond, List, [], ◌∷◌, ◌++◌, Option, None, is_some, refl, sym, ap, ◌∙◌, arith, add-one}
 use Rattle.std.specs.FinMap.{get, insert, empty, contains_key, get-empty}
 use Rattle.warg_crypto.specs.EmptyTrees.{empty_root}
 use Rattle.warg_map.specs.Bits.{bit_at, bits_from, last_bits}
 use Rattle.warg_map.specs.Sparse.{SparseMap, bits_cmp, sparse_root}
 use Rattle.warg_map.specs.Under.{join_at, under, lift, HoldsKey}
-use Rattle.warg_map.proofs.Sparse.{insert-join_at, get-join_at, insert-empty_at, empty-is_join_at, get-join_nil, sparse_root-join, sparse_root-empty, length-bits_from, head_same}
+use Rattle.warg_map.proofs.Sparse.{insert-join_at, get-join_at, insert-empty_at, get-join_nil, sparse_root-join, sparse_root-empty, length-bits_from}
 
 -- the bits of a digest
 pub bits_from-append : (key : List ℕ) (i m n : ℕ) → bits_from key i (m + n) ≡ bits_from key i m ++ bits_from key (i + m) n

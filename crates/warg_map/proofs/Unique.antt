@@ -1,11 +1,11 @@
 -- A map has one root, and one proof of each key.
-use Rattle.std.proofs.Common.{◌≡◌, ℕ, zero, suc, ◌+◌, ◌<◌, Bool, true, false, not, List, [], ◌∷◌, ◌++◌, length, Option, Some, None, is_some, unwrap_or, refl, sym, ap, ◌∙◌, arith, ◌⊎◌, inl, inr, IsTrue}
+use Rattle.std.proofs.Common.{◌≡◌, ℕ, zero, suc, Bool, true, false, not, List, [], ◌∷◌, ◌++◌, length, Option, unwrap_or, refl, sym, ap, ◌∙◌, arith, inl, inr}
 use Rattle.std.proofs.lemmas.List.{length-reverse, reverse-reverse}
 use Rattle.std.specs.Prelude.{reverse}
 use Rattle.std.specs.FinMap.{get, contains_key}
 use Rattle.warg_crypto.specs.EmptyTrees.{empty_root}
 use Rattle.warg_map.specs.Sparse.{SparseMap, root_of, sparse_root, leaf_at}
-use Rattle.warg_map.specs.Peers.{shared, IsPeers, IsPeerCount, Proves, IsOther, IsAbsentPeers, IsAbsentCount, ProvesAbsent}
+use Rattle.warg_map.specs.Peers.{IsPeers, IsPeerCount, Proves, IsOther, IsAbsentPeers, IsAbsentCount, ProvesAbsent}
 use Rattle.warg_map.proofs.Under.{no_some}
 
 -- the leaf digests decide the root

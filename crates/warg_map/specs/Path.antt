@@ -1,5 +1,5 @@
 -- The bits that a path has left.
-use Rattle.std.specs.Prelude.{◌≡◌, ℕ, ◌+◌, ◌-◌, Bool, List, [], ◌∷◌, Option, MatchOption, IfSome, reverse}
+use Rattle.std.specs.Prelude.{◌≡◌, ◌+◌, ◌-◌, Bool, List, Option, MatchOption, IfSome, reverse}
 use Rattle.std.specs.Iterator.{YieldsFirstBy}
 use Rattle.warg_map.specs.declared.path.Path.{Path}
 use Rattle.warg_map.specs.declared.path.ReversePath.{ReversePath}
@@ -21,3 +21,10 @@ pub record TakesBit {D : _} (p : Path D) (r : Option Side) (q : Path D) : Type 0
 -- The bits that a reverse path has left, from the bottom.
 abbrev pub bits_below : {D : _} → ReversePath D → List Bool
 bits_below p = reverse (bits_from p.hash 0 p.index)
+
+-- A call of `next` takes the lowest bit that is left.
+pub record TakesLowerBit {D : _} (p : ReversePath D) (r : Option Side) (q : ReversePath D) : Type 0 where
+  pub bits : YieldsFirstBy side_bit bits_below p r q
+  pub side : IfSome r (λ s. side_bit s ≡ bit_at p.hash q.index)
+  pub digest : q.hash ≡ p.hash
+  pub index : MatchOption r ((p.index ≡ 0) × (q.index ≡ 0)) (λ _. q.index + 1 ≡ p.index)

@@ -55,10 +55,9 @@ impl From<AllocError> for MapError {
 /// values without bytes: a key with such a value counts in [`len`](Map::len), and has the root of a map without it.
 ///
 /// Contracts see a map as the finite map from key bits to leaf digests.
-#[derive(Drop)]
 pub struct Map<D: SupportedDigest, K, V, A: Allocator = Global> {
     link: Link<D, A>,
-    len: usize,
+    count: usize,
     alloc: A,
     key: PhantomData<K>,
     value: PhantomData<V>,
@@ -66,7 +65,7 @@ pub struct Map<D: SupportedDigest, K, V, A: Allocator = Global> {
 
 impl<D: SupportedDigest, K, V, A: Allocator> Model for Map<D, K, V, A> {
     ghost use Rattle.std.specs.Prelude.{◌≡◌};
-    ghost use Rattle.std.specs.FinMap.{len as held_len};
+    ghost use Rattle.std.specs.FinMap.{len};
     ghost use Rattle.warg_map.specs.Sparse.{SparseMap, sparse_map_code};
 
     ghost Value = { SparseMap };
@@ -75,7 +74,20 @@ impl<D: SupportedDigest, K, V, A: Allocator> Model for Map<D, K, V, A> {
 
     ghost view = { λ m. m.link.1 };
 
-    ghost invariant = { λ m. (m.link.0 ≡ 256) × (m.len ≡ held_len m.link.1) };
+    ghost invariant = { λ m. (m.link.0 ≡ 256) × (m.count ≡ len m.link.1) };
+}
+
+// By hand, so that a caller who drops a map sees a call and not the tree.
+impl<D: SupportedDigest, K, V, A: Allocator> Drop for Map<D, K, V, A> {
+    fn drop(self) {
+        let Map {
+            link: _,
+            count: _,
+            alloc: _,
+            key: _,
+            value: _,
+        } = self;
+    }
 }
 
 /// By the root alone: a key with a value without bytes makes no difference.
@@ -92,7 +104,7 @@ impl<D: SupportedDigest, K, V, A: Allocator> PartialEq for Map<D, K, V, A> {
     ghost laws = { Prim.search (comparing, rules) };
 
     fn eq(&self, other: &Map<D, K, V, A>) -> bool {
-        self.link.hash() == other.link.hash()
+        self.root() == other.root()
     }
 }
 
@@ -115,7 +127,7 @@ impl<D: SupportedDigest, K, V, A: Allocator> std::hash::Hash for Map<D, K, V, A>
     ghost respects_eq = { Prim.search (hashing, rules) };
 
     fn hash<H: std::hash::Hasher>(&self, state: &mut H) {
-        self.link.hash().bytes().hash(state);
+        self.root().bytes().hash(state);
     }
 }
 
@@ -128,7 +140,7 @@ impl<D: SupportedDigest, K, V, A: Allocator + Copy> Clone for Map<D, K, V, A> {
     fn clone(&self) -> Result<Map<D, K, V, A>, AllocError> {
         Ok(Map {
             link: self.link.clone()?,
-            len: self.len,
+            count: self.len(),
             alloc: self.alloc,
             key: PhantomData,
             value: PhantomData,
@@ -148,14 +160,14 @@ impl<D: SupportedDigest, K, V, A: Allocator> Map<D, K, V, A> {
     pub fn len(&self) -> usize
         ensures { result ≡ map.len self.now }
     {
-        self.len
+        self.count
     }
 
     /// Whether no key digest is held.
     pub fn is_empty(&self) -> bool
         ensures { IsTrue result ↔ (map.len self.now ≡ 0) }
     {
-        self.len == 0
+        self.len() == 0
     }
 
     /// The number of nodes that the tree is made of, a shared one counted at each place: 1 for the map of nothing, 2 for
@@ -164,7 +176,7 @@ impl<D: SupportedDigest, K, V, A: Allocator> Map<D, K, V, A> {
         ensures exact { result ≡ node_count self.now }
         ensures few { 1 < map.len self.now → result + 2 ≤ 3 * map.len self.now }
     {
-        let len = self.len;
+        let len = self.len();
         match len {
             0 => 1,
             1 => 2,
@@ -185,7 +197,7 @@ impl<D: SupportedDigest, K: VisitBytes + Drop, V: VisitBytes + Drop, A: Allocato
     {
         Ok(Map {
             link: Link::new(alloc, Node::Empty(256))?,
-            len: 0,
+            count: 0,
             alloc,
             key: PhantomData,
             value: PhantomData,
@@ -261,15 +273,16 @@ impl<D: SupportedDigest, K: VisitBytes + Drop, V: VisitBytes + Drop, A: Allocato
     {
         let key = Hash::of(&key);
         let node = self.link.node();
-        let counted = self.len < usize::MAX || node.find(Path::new(&key)).is_some();
+        let len = self.len();
+        let counted = len < usize::MAX || node.find(Path::new(&key)).is_some();
         if !counted {
             return Err(MapError::Full);
         }
         let (node, fresh) = node.insert(self.alloc, &mut Path::new(&key), hash_leaf(&val))?;
-        let len = if fresh { self.len + 1 } else { self.len };
+        let count = if fresh { len + 1 } else { len };
         Ok(Map {
             link: Link::new(self.alloc, node)?,
-            len,
+            count,
             alloc: self.alloc,
             key: PhantomData,
             value: PhantomData,
@@ -303,7 +316,7 @@ impl<D: SupportedDigest, K: VisitBytes + Drop, V: VisitBytes + Drop, A: Allocato
 /// As `Map(ROOT)`.
 impl<D: SupportedDigest, K, V, A: Allocator> Debug for Map<D, K, V, A> {
     fn fmt<W: fmt::Write>(&self, f: &mut fmt::Formatter<W>) -> fmt::Result {
-        let root = self.link.hash();
+        let root = self.root();
         write!(f, "Map({root:?})")
     }
 }

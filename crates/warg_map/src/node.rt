@@ -289,7 +289,8 @@ impl<D: SupportedDigest, A: Allocator + Copy> Node<D, A> {
                     unreachable!()
                 };
                 let mut proof = fork[side].node().prove_absent(alloc, path)?;
-                proof.push(Some(fork[side.opposite()].hash().copied()))?;
+                let far = fork[side.opposite()].hash();
+                proof.push(Some(far.copied()))?;
                 Ok(proof)
             }
             Node::Singleton(singleton) => {

@@ -187,11 +187,10 @@ impl<D> Clone for ReversePath<D> {
 impl<D> Iterator for ReversePath<D> {
     type Item = Side;
 
-    ghost use Rattle.std.specs.Iterator.{YieldsFirstBy, at_most};
-    ghost use Rattle.warg_map.specs.Side.{side_bit};
-    ghost use Rattle.warg_map.specs.Path.{bits_below};
+    ghost use Rattle.std.specs.Iterator.{at_most};
+    ghost use Rattle.warg_map.specs.Path.{TakesLowerBit};
 
-    ghost next_gives = { YieldsFirstBy side_bit bits_below };
+    ghost next_gives = { TakesLowerBit };
 
     ghost remaining = { λ path. at_most path.index };
 
@@ -203,3 +202,6 @@ impl<D> Iterator for ReversePath<D> {
         Some(side_at(&self.hash, self.index))
     }
 }
+
+#[cfg(test)]
+mod tests;

@@ -7,7 +7,7 @@ ghost use Rattle.warg_map.specs.Sparse.{leaf_digest};
 ghost use Rattle.warg_map.specs.ProofValue.{peer_of, proof_value};
 ghost use Rattle.warg_map.specs.Peers.{empty_peers};
 
-use crate::path::side_at;
+use crate::path::ReversePath;
 use std::alloc::{AllocError, Allocator, Global};
 use std::marker::PhantomData;
 use warg_crypto::{Hash, SupportedDigest, VisitBytes, empty_tree_hash};
@@ -91,12 +91,7 @@ impl<D, K, V, A: Allocator> From<Proof<D, K, V, A>> for Vec<Option<Hash<D>>, A> 
     ghost from_gives = { λ proof peers. peers.items ≡ peers_of proof };
 
     fn from(proof: Proof<D, K, V, A>) -> Vec<Option<Hash<D>>, A> {
-        let Proof {
-            peers,
-            key: _,
-            value: _,
-        } = proof;
-        peers
+        proof.peers
     }
 }
 
@@ -123,11 +118,12 @@ impl<D: SupportedDigest, K, V, A: Allocator> Proof<D, K, V, A> {
         requires empty { empty.now ≡ empty_root D.digest height }
         ensures { result.now ≡ peer_of D.digest (peers_of self.now) height }
     {
-        let missing = 256 - self.peers.len();
+        let peers = self.peers();
+        let missing = 256 - peers.len();
         if height < missing {
             return empty;
         }
-        match &self.peers[height - missing] {
+        match &peers[height - missing] {
             Some(peer) => peer,
             None => empty,
         }
@@ -139,10 +135,12 @@ impl<D: SupportedDigest, K, V, A: Allocator> Proof<D, K, V, A> {
     {
         let mut hash = leaf;
         let mut empty = empty_tree_hash(0);
-        for height in 0..256 {
-            let peer = self.peer(height, &empty);
-            hash = side_at(key, 255 - height).branch(&hash, peer);
+        let mut height = 0;
+        let mut path = ReversePath::new(key.copied());
+        while let Some(side) = path.next() {
+            hash = side.branch(&hash, self.peer(height, &empty));
             empty = D::empty_above(height, &empty);
+            height += 1;
         }
         hash
     }

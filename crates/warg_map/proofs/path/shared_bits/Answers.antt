@@ -1,4 +1,4 @@
-use Rattle.std.proofs.Common.{◌≡◌, ℕ, ◌+◌, ◌-◌, ◌<◌, ◌∷◌, ◌++◌, [], true, false, refl, sym, ap, ◌∙◌, arith, rules}
+use Rattle.std.proofs.Common.{◌+◌, ◌∷◌, ◌++◌, [], sym, ap, ◌∙◌}
 use Rattle.warg_map.specs.Bits.{bit_at, bits_from}
 use Rattle.warg_map.proofs.Side.{same_bit, other_bit}
 use Rattle.warg_map.proofs.Under.{bits_from-append, bits_from-one, bits_from-none}

@@ -1,4 +1,3 @@
-use Rattle.warg_map.specs.declared.map.MapError.{MapError}
 use Rattle.warg_map.specs.declared.map.MapError.TheVariants.{Full}
 use Rattle.std.proofs.Common.{◌≡◌, Err, ap, sym, ◌∙◌, subst, rules}
 use Rattle.std.specs.Iterator.{Yields}

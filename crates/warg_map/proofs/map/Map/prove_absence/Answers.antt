@@ -1,4 +1,4 @@
-use Rattle.std.proofs.Common.{◌≡◌, ap, sym, ◌∙◌, Some, rules}
+use Rattle.std.proofs.Common.{rules}
 use Rattle.warg_map.proofs.Sparse.{length-last_bits}
 use Rattle.warg_map.proofs.Honest.{honest_held, honest_absent}
 use Rattle.warg_map.proofs.map.Map.prove_absence.Goals as goal

@@ -1,7 +1,7 @@
-use Rattle.std.proofs.Common.{◌≡◌, ℕ, ◌+◌, ◌-◌, ◌<◌, ◌≤◌, ◌∷◌, ap, sym, ◌∙◌, refl, arith, rules}
+use Rattle.std.proofs.Common.{◌≡◌, ◌+◌, ◌-◌, ap, sym, ◌∙◌, refl, arith, rules}
 use Rattle.warg_map.specs.Side.{side_bit}
 use Rattle.warg_map.specs.Bits.{last_bits, bits_from, bit_at}
-use Rattle.warg_map.specs.Seen.{seen, height_of}
+use Rattle.warg_map.specs.Seen.{height_of}
 use Rattle.warg_map.proofs.Sparse.{last_bits-end}
 use Rattle.warg_map.proofs.Form.{after_carries, rest_holds, lone_has, lone_seen}
 use Rattle.warg_map.proofs.Inserts.{inserts_into_fork, inserts_leaf, inserts_low_lone, inserts_first, inserts_below, has_inserted, stem_parted}

@@ -1,4 +1,4 @@
-use Rattle.std.proofs.Common.{◌≡◌, ℕ, ◌+◌, ◌-◌, ◌<◌, ◌≤◌, cond, length, is_some, ap, sym, ◌∙◌, refl, arith, rules}
+use Rattle.std.proofs.Common.{◌≡◌, ◌+◌, ◌-◌, ◌<◌, cond, length, is_some, ap, sym, ◌∙◌, refl, arith, rules}
 use Rattle.warg_map.specs.Side.{side_bit}
 use Rattle.warg_map.specs.Bits.{last_bits, bits_from}
 use Rattle.warg_map.specs.Seen.{height_of}

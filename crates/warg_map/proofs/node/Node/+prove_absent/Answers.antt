@@ -1,10 +1,9 @@
-use Rattle.std.proofs.Common.{◌≡◌, ℕ, ◌+◌, ◌-◌, ◌<◌, ◌≤◌, ◌∷◌, [], cond, length, replicate, List, Option, Some, None, true, false, is_some, ap, sym, ◌∙◌, refl, arith, rules}
+use Rattle.std.proofs.Common.{◌≡◌, ℕ, ◌-◌, cond, length, List, Option, None, true, false, is_some, ap, sym, ◌∙◌, refl, arith, rules}
 use Rattle.std.proofs.lemmas.List.{length-replicate}
-use Rattle.std.specs.FinMap.{contains_key, insert, empty}
 use Rattle.warg_map.specs.Side.{side_bit}
 use Rattle.warg_map.specs.Bits.{last_bits, bits_from}
 use Rattle.warg_map.specs.Sparse.{sparse_root}
-use Rattle.warg_map.specs.Seen.{height_of, held_by}
+use Rattle.warg_map.specs.Seen.{height_of}
 use Rattle.warg_map.proofs.Sparse.{length-last_bits, last_bits-end}
 use Rattle.warg_map.proofs.Form.{lone_seen}
 use Rattle.warg_map.proofs.Finds.{finds_in_fork, finds_below, finds_leaf}
@@ -90,7 +89,7 @@ returns-in_ok-push-in-Fork-clause-answer g t c =
     absent_in_fork g.D.SupportedDigest.digest c.args.self.now c.node.result.now c.in-Fork.fork _ (side_bit c.in-Some.side) _ c.in_ok-proof-in-Fork.proof.peers.items _ _ c.index-in-Fork.result.now
     c.in-Fork.is c.requires.well_formed c.in-Some.ensures.steps.bits (omega (arith, n, c.requires.height, c.in-Some.ensures.steps.index)) (search rules)
     (c.index-in-Fork.ensures ∙ ap (λ b. cond b c.in-Fork.fork.right c.in-Fork.fork.left) c.opposite.ensures)
-    (c.copied.ensures ∙ c.hash.ensures) c.in_ok-proof-in-Fork.ensures.answer c.in_ok-push-in-Fork.ensures
+    (c.copied.ensures ∙ c.hash-far.ensures) c.in_ok-proof-in-Fork.ensures.answer c.in_ok-push-in-Fork.ensures
 
 pub returns-in_ok-parted-in-Singleton-clause-answer : goal.returns-in_ok-parted-in-Singleton-clause-answer
 returns-in_ok-parted-in-Singleton-clause-answer g t c =
@@ -98,9 +97,9 @@ returns-in_ok-parted-in-Singleton-clause-answer g t c =
     let j = c.shared_with-shared.result in
     let lt = lone_parts c.args.self.now s c.args.path.hash.now c.args.path.index j c.in-Singleton.is c.requires.height c.shared_with-shared.ensures.at_most c.shared_with-shared.ensures.same c.requires.absent in
     let low : c.lowered-far.result.height ≡ c.in-Singleton.singleton.height - c.shared_with-shared.result - 1 = c.lowered-far.ensures.height ∙ ap (λ h. h - c.shared_with-shared.result - 1) c.height.ensures.value in
-    absent_beside_lone g.D.SupportedDigest.digest c.args.self.now s _ c.args.path.hash.now c.hash-in-Singleton.result c.args.path.index j _ c.in-Singleton.is refl c.requires.height lt
+    absent_beside_lone g.D.SupportedDigest.digest c.args.self.now s _ c.args.path.hash.now c.hash.result c.args.path.index j _ c.in-Singleton.is refl c.requires.height lt
     c.shared_with-shared.ensures.same (c.shared_with-shared.ensures.apart lt)
-    (c.hash-in-Singleton.ensures ∙ ap (λ d. sparse_root g.D.SupportedDigest.digest d.0 d.1) (lone_seen c.lowered-far.result (s.height - j - 1) s.key s.value low c.lowered-far.ensures.key c.lowered-far.ensures.value))
+    (c.hash.ensures ∙ ap (λ d. sparse_root g.D.SupportedDigest.digest d.0 d.1) (lone_seen c.lowered-far.result (s.height - j - 1) s.key s.value low c.lowered-far.ensures.key c.lowered-far.ensures.value))
     c.in_ok-parted-in-Singleton.ensures
 
 pub returns-in_ok-parted-in-Singleton-clause-few : goal.returns-in_ok-parted-in-Singleton-clause-few

@@ -1,6 +1,3 @@
-use Rattle.std.proofs.Common.{sym, ◌∙◌, ap}
-use Rattle.warg_map.specs.Sparse.{sparse_root}
-use Rattle.warg_map.specs.Seen.{height_of, held_by}
 use Rattle.warg_map.proofs.Sparse.{sparse_root-leaf, sparse_root-empty}
 use Rattle.warg_map.proofs.node.Node.hash.Goals as goal
 

@@ -1,9 +1,6 @@
-use Rattle.std.proofs.Common.{◌≡◌, ◌∙◌, ap, sym, refl, ◌+◌, ◌-◌, ◌<◌, arith}
-use Rattle.std.specs.FinMap.{insert, empty}
+use Rattle.std.proofs.Common.{◌≡◌, ◌∙◌, ap, sym, ◌+◌, ◌-◌, arith}
 use Rattle.warg_map.specs.Side.{side_bit}
-use Rattle.warg_map.specs.Bits.{bit_at, last_bits}
-use Rattle.warg_map.specs.Seen.{seen}
-use Rattle.warg_map.proofs.Sparse.{contains_key-insert_same}
+use Rattle.warg_map.specs.Bits.{bit_at}
 use Rattle.warg_map.proofs.Form.{fork_formed, fork_has, lone_seen, lone_holds, lone_has}
 use Rattle.warg_map.proofs.node.Node.parted.Goals as goal
 

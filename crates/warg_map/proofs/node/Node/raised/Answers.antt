@@ -1,4 +1,4 @@
-use Rattle.std.proofs.Common.{◌≡◌, ◌∙◌, ap, sym, refl}
+use Rattle.std.proofs.Common.{refl}
 use Rattle.warg_map.proofs.Form.{raised_none, raised_stem, raised_other}
 use Rattle.warg_map.proofs.node.Node.raised.Goals as goal
 

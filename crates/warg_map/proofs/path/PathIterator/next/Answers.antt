@@ -1,4 +1,4 @@
-use Rattle.std.proofs.Common.{refl, ◌≡◌, ◌∙◌, sym, ap, arith, rules, ◌<◌, ◌+◌, ◌-◌, length, ◌∷◌}
+use Rattle.std.proofs.Common.{refl, ◌∙◌, sym, ap, arith, ◌<◌, ◌+◌, ◌-◌, ◌∷◌}
 use Rattle.warg_map.specs.Bits.{last_bits}
 use Rattle.warg_map.proofs.Sparse.{last_bits-first, last_bits-end}
 use Rattle.warg_map.proofs.path.PathIterator.next.Goals as goal

@@ -1,4 +1,4 @@
-use Rattle.std.proofs.Common.{◌≡◌, ℕ, ◌+◌, ◌-◌, ◌<◌, List, [], ◌∷◌, ◌++◌, refl, sym, ap, ◌∙◌, arith}
+use Rattle.std.proofs.Common.{◌≡◌, ℕ, ◌+◌, ◌-◌, List, [], ◌∷◌, ◌++◌, refl, sym, ap, ◌∙◌, arith}
 use Rattle.std.specs.Prelude.{reverse}
 use Rattle.std.proofs.lemmas.List.{reverse-append}
 use Rattle.warg_map.specs.Bits.{bit_at, bits_from}
@@ -16,10 +16,17 @@ last_first key i =
 
 pub returns-then-self-eq0-clause-steps : goal.returns-then-self-eq0-clause-steps
 returns-then-self-eq0-clause-steps g c =
-    let e = nothing c.args.self.now.hash c.args.self.now.index (omega arith) in (e, e)
+    let e = nothing c.args.self.now.hash c.args.self.now.index (omega arith) in
+    record { bits = (e, e); side = tt; digest = refl; index = (omega arith, omega arith) }
 
 pub returns-clause-steps : goal.returns-clause-steps
 returns-clause-steps g c =
     let up : c.args.self.now.index ≡ c.args.self.now.index - 1 + 1 = omega arith in
-    ap (λ j. reverse (bits_from c.args.self.now.hash 0 j)) up ∙ last_first c.args.self.now.hash (c.args.self.now.index - 1)
-    ∙ ap (λ b. b ∷ reverse (bits_from c.args.self.now.hash 0 (c.args.self.now.index - 1))) (sym c.side_at.ensures)
+    record {
+      bits =
+          ap (λ j. reverse (bits_from c.args.self.now.hash 0 j)) up ∙ last_first c.args.self.now.hash (c.args.self.now.index - 1)
+          ∙ ap (λ b. b ∷ reverse (bits_from c.args.self.now.hash 0 (c.args.self.now.index - 1))) (sym c.side_at.ensures);
+      side = c.side_at.ensures;
+      digest = refl;
+      index = omega arith;
+    }

@@ -1,4 +1,4 @@
-use Rattle.std.proofs.Common.{◌≡◌, ◌∙◌, ap, sym, ◌+◌, ◌-◌, arith}
+use Rattle.std.proofs.Common.{◌≡◌, ◌∙◌, ◌+◌, ◌-◌, arith}
 use Rattle.warg_map.proofs.Roots.{root-stem}
 use Rattle.warg_map.proofs.stem.Stem.hash_below.Goals as goal
 
