@@ -1,9 +1,13 @@
 -- The text of some lines and of those behind them.
-use Rattle.std.proofs.Common.{◌≡◌, ℕ, suc, ◌+◌, Bool, true, false, ◌&&◌, cond, List, [], ◌∷◌, ◌++◌, length, append_assoc, append-nil, length-append, refl, sym, ◌∙◌, ap, arith}
+use Rattle.std.proofs.Common.{◌≡◌, ℕ, suc, ◌+◌, Bool, true, false, ◌&&◌, cond, List, [], ◌∷◌, ◌++◌, length, append_assoc, append-nil, length-append, Err, refl, sym, ◌∙◌, ap, arith}
 use Rattle.std.proofs.lemmas.List.{length-map}
+use Rattle.warg_crypto.specs.Digests.{sha256}
+use Rattle.warg_log.specs.Tree.{own_digest}
+use Rattle.warg_log.specs.Consistency.{consistency}
+use Rattle.warg_log.specs.declared.consistency.ConsistencyProofError.{ConsistencyProofError}
 use Rattle.warg_check.specs.Words.{lines_of}
-use Rattle.warg_check.specs.Orders.{Line, line_of}
-use Rattle.warg_check.specs.Text.{said, is_not_bad, entries_after, text_from, text_of, all_good, entries_over, leaves}
+use Rattle.warg_check.specs.Orders.{Line, line_of, consistent}
+use Rattle.warg_check.specs.Text.{said, is_not_bad, entries_after, text_from, text_of, all_good, entries_over, leaves, answer, refusal, roots_or_refusal}
 use Rattle.warg_check.specs.Errors.{IsLineError, IsAnswersError}
 use Rattle.warg_check.specs.declared.program.RunError.{RunError}
 use Rattle.warg_check.specs.declared.program.RunError.TheVariants.{Read, Write, Memory, Full}
@@ -142,3 +146,11 @@ fails input rest line after log text number Full stands lines why = record {
   is_push = why.1;
   full = sym (length-map (entries_over [] stands.before) _) ∙ ap length (sym stands.log_is) ∙ why.2;
 }
+
+-- the answer where a consistency proof leads to no roots
+pub refused_answer : (log entries : List (List ℕ)) (m n : ℕ) (fault : ConsistencyProofError) → log ≡ leaves entries
+    → consistency sha256 (own_digest sha256 log) m n ≡ Err fault → answer entries (consistent m n) ≡ refusal fault
+unfolding answer
+refused_answer log entries m n fault is fails =
+    let here : consistency sha256 (own_digest sha256 (leaves entries)) m n ≡ Err fault = rw is at fails in
+    ap roots_or_refusal here

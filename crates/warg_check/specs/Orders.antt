@@ -8,21 +8,29 @@ pub data Order : Type 0 where
   push : List ℕ → Order
   log : Order
   include : ℕ → ℕ → List ℕ → Order
+  consistent : ℕ → ℕ → Order
 
 -- An order to evaluate, where each of its words is good.
 abbrev pub include_of : Option ℕ → Option ℕ → Option (List ℕ) → Option Order
 include_of (Some node) (Some length) (Some value) = Some (include node length value)
 include_of _ _ _ = None
 
+-- An order to evaluate consistency, where both its words are good.
+abbrev pub consistent_of : Option ℕ → Option ℕ → Option Order
+consistent_of (Some old) (Some new) = Some (consistent old new)
+consistent_of _ _ = None
+
 -- The order of a line's words:
 --     push BYTES
 --     log
 --     include NODE LENGTH BYTES
+--     consistent OLD NEW
 unfoldable pub order_of : List (List ℕ) → Option Order
 order_of [] = None
 order_of (name ∷ []) = if is_word name (codes "log") then Some log else None
 order_of (name ∷ first ∷ []) = if is_word name (codes "push") then option_map push (bytes_of first) else None
-order_of (name ∷ first ∷ second ∷ []) = None
+order_of (name ∷ first ∷ second ∷ []) =
+    if is_word name (codes "consistent") then consistent_of (length_of first) (length_of second) else None
 order_of (name ∷ first ∷ second ∷ third ∷ []) =
     if is_word name (codes "include") then include_of (number_of first) (length_of second) (bytes_of third) else None
 order_of (name ∷ first ∷ second ∷ third ∷ fourth ∷ more) = None

@@ -1,13 +1,16 @@
 -- What the program writes, as a fold over its lines whose state is the list of the entries pushed.
-use Rattle.std.specs.Prelude.{◌≡◌, ℕ, suc, ◌*◌, ◌^◌, nat_le, Bool, true, false, ◌&&◌, if◌then◌else◌, List, [], ◌∷◌, ◌++◌, length, codes, Option, Some, None}
+use Rattle.std.specs.Prelude.{◌≡◌, ℕ, suc, ◌*◌, ◌^◌, nat_le, Bool, true, false, ◌&&◌, if◌then◌else◌, List, [], ◌∷◌, ◌++◌, length, codes, Option, Some, None, Result, Ok, Err}
 use Rattle.std.specs.Fmt.{decimal}
 use Rattle.hex.specs.Hex.{encode_lower}
 use Rattle.warg_crypto.specs.Digests.{sha256}
 use Rattle.warg_log.specs.Nodes.{end_of}
 use Rattle.warg_log.specs.Tree.{leaves_of, root_of, own_digest}
 use Rattle.warg_log.specs.Cut.{cut_root}
+use Rattle.warg_log.specs.Consistency.{consistency}
+use Rattle.warg_log.specs.declared.consistency.ConsistencyProofError.{ConsistencyProofError}
+use Rattle.warg_log.specs.declared.consistency.ConsistencyProofError.TheVariants.{PointsOutOfOrder, HashNotKnown, InclusionError, DivergingRoots, OldLengthZero, Memory}
 use Rattle.warg_check.specs.Words.{lines_of}
-use Rattle.warg_check.specs.Orders.{Order, push, log, include, Line, empty, bad, good, line_of}
+use Rattle.warg_check.specs.Orders.{Order, push, log, include, consistent, Line, empty, bad, good, line_of}
 
 -- The log's leaf digests.
 abbrev pub leaves : List (List ℕ) → List (List ℕ)
@@ -17,9 +20,24 @@ abbrev pub root_or_refusal : Option (List ℕ) → List ℕ
 root_or_refusal (Some root) = codes "root " ++ encode_lower root
 root_or_refusal None = codes "refused hash not known"
 
+-- Why a consistency proof leads to no roots.
+abbrev pub refusal : ConsistencyProofError → List ℕ
+refusal PointsOutOfOrder = codes "refused points out of order"
+refusal HashNotKnown = codes "refused hash not known"
+refusal (InclusionError _) = codes "refused hash not known"
+refusal DivergingRoots = codes "refused diverging roots"
+refusal OldLengthZero = codes "refused old length zero"
+refusal Memory = []
+
+-- Both roots of a consistency proof, the old one first, or why there are none.
+abbrev pub roots_or_refusal : Result (List ℕ × List ℕ) ConsistencyProofError → List ℕ
+roots_or_refusal (Ok roots) = codes "roots " ++ encode_lower roots.0 ++ 32 ∷ encode_lower roots.1
+roots_or_refusal (Err fault) = refusal fault
+
 -- The answer to an order: the number of the new leaf's node, twice the count of entries before it; the
 -- count and the root of the tree over the entries; the root that the entries' own digests give with the
--- value at the node, or why there is none.
+-- value at the node, or why there is none; the roots of two lengths by the entries' own digests, or why there
+-- are none.
 unfoldable pub answer : List (List ℕ) → Order → List ℕ
 answer entries (push bytes) = codes "node " ++ decimal (2 * length entries)
 answer entries log = codes "log " ++ decimal (length entries) ++ 32 ∷ encode_lower (root_of sha256 (leaves entries))
@@ -27,12 +45,14 @@ answer entries (include node length value) =
     if nat_le (end_of node) length
     then root_or_refusal (cut_root sha256 (own_digest sha256 (leaves entries)) node (sha256 (0 ∷ value)) length)
     else codes "refused leaf too new"
+answer entries (consistent old new) = roots_or_refusal (consistency sha256 (own_digest sha256 (leaves entries)) old new)
 
 -- The entries after an order.
 abbrev pub pushed : List (List ℕ) → Order → List (List ℕ)
 pushed entries (push bytes) = entries ++ bytes ∷ []
 pushed entries log = entries
 pushed entries (include node length value) = entries
+pushed entries (consistent old new) = entries
 
 -- The entries after a line.
 abbrev pub entries_after : List (List ℕ) → Line → List (List ℕ)

@@ -19,6 +19,10 @@ pub(super) enum Command<A: Allocator> {
         length: LogLength,
         value: Vec<u8, A>,
     },
+    Consistent {
+        old: LogLength,
+        new: LogLength,
+    },
 }
 
 // The words of a line, as far as any command has them.
@@ -68,10 +72,11 @@ impl<A: Allocator> Command<A> {
         match Words::of(line) {
             Words::One(name) => Ok(Command::of_one(name)),
             Words::Two(name, first) => Command::of_two(alloc, name, first),
-            Words::Three(..) | Words::More => Ok(None),
+            Words::Three(name, first, second) => Ok(Command::of_three(name, first, second)),
             Words::Four(name, first, second, third) => {
                 Command::of_four(alloc, name, first, second, third)
             }
+            Words::More => Ok(None),
         }
     }
 
@@ -93,6 +98,19 @@ impl<A: Allocator> Command<A> {
             return Ok(None);
         }
         Ok(bytes(alloc, first)?.map(|entry| Command::Push(entry)))
+    }
+
+    #[tactic(auto, unfolding(crate::specs::Orders::order_of))]
+    fn of_three(name: &[u8], first: &[u8], second: &[u8]) -> Option<Command<A>>
+        ensures { option_map order_seen result ≡ order_of (name.now ∷ first.now ∷ second.now ∷ []) }
+    {
+        if name != b"consistent".as_slice() {
+            return None;
+        }
+        let (Some(old), Some(new)) = (log_length(first), log_length(second)) else {
+            return None;
+        };
+        Some(Command::Consistent { old, new })
     }
 
     #[tactic(auto, unfolding(crate::specs::Orders::order_of))]

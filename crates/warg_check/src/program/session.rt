@@ -1,12 +1,12 @@
 //! A run of commands: the log that they push to, and the text that answers them.
 
-ghost use Rattle.std.specs.Prelude.{◌≡◌, ℕ, ◌≤◌, ◌^◌, List, [], ◌∷◌, ◌++◌, ◌↔◌, length, IfOk, IfErr, OnOk, codes, string_bytes};
+ghost use Rattle.std.specs.Prelude.{◌≡◌, ◌≢◌, ℕ, ◌≤◌, ◌^◌, List, [], ◌∷◌, ◌++◌, ◌↔◌, length, IfOk, IfErr, OnOk, codes, string_bytes};
 ghost use Rattle.hex.specs.Hex.{encode_lower};
 ghost use Rattle.warg_crypto.specs.Digests.{sha256};
 ghost use Rattle.warg_check.specs.Words.{lines_of};
-ghost use Rattle.warg_check.specs.Orders.{line_of, push, log, include};
+ghost use Rattle.warg_check.specs.Orders.{line_of, push, log, include, consistent};
 ghost use Rattle.warg_check.specs.Errors.{IsAnswersError};
-ghost use Rattle.warg_check.specs.Text.{leaves, answer, said, pushed, entries_after, is_not_bad, text_of, all_good, Answers};
+ghost use Rattle.warg_check.specs.Text.{leaves, answer, said, pushed, entries_after, is_not_bad, refusal, text_of, all_good, Answers};
 
 use crate::program::RunError;
 use crate::program::command::Command;
@@ -14,7 +14,7 @@ use crate::program::word::{LogLength, next_line};
 use std::alloc::{AllocError, Allocator};
 use std::fmt::Write;
 use warg_crypto::Sha256;
-use warg_log::{InclusionProofError, LogBuilder, LogData, Node, VecLog};
+use warg_log::{ConsistencyProofError, InclusionProofError, LogBuilder, LogData, Node, VecLog};
 
 // What a run keeps from line to line.
 #[derive(Drop)]
@@ -74,6 +74,7 @@ impl<A: Allocator + Copy> Session<A> {
                 length,
                 value,
             } => self.include(node, &length, &value),
+            Command::Consistent { old, new } => self.consistent(&old, &new),
         }
     }
 
@@ -124,6 +125,46 @@ impl<A: Allocator + Copy> Session<A> {
                 writeln!(self.text, "refused hash not known")?
             }
             Err(InclusionProofError::Memory) => return Err(RunError::Memory),
+        }
+        Ok(())
+    }
+
+    #[tactic(auto, unfolding(crate::specs::Text::answer))]
+    fn consistent(&mut self, old: &LogLength, new: &LogLength) -> Result<(), RunError>
+        ensures ok { OnOk result ((entries : List (List ℕ)) → self.old.log ≡ leaves entries → Answers self.old.log self.new.log (string_bytes self.old.text) (string_bytes self.new.text) entries (consistent old.now.value new.now.value)) }
+        ensures errors { IfErr result (IsSessionError (length self.old.log) (consistent old.now.value new.now.value)) }
+    {
+        let proof = self.log.prove_consistency(old.value, new.value);
+        match proof.evaluate(&self.log) {
+            Ok((old_root, new_root)) => {
+                let old_root = hex::encode(self.alloc, old_root.bytes())?;
+                let new_root = hex::encode(self.alloc, new_root.bytes())?;
+                writeln!(self.text, "roots {old_root} {new_root}")?;
+            }
+            Err(fault) => self.refuse(fault)?,
+        }
+        Ok(())
+    }
+
+    fn refuse(&mut self, fault: ConsistencyProofError) -> Result<(), RunError>
+        ensures ok { OnOk result (string_bytes self.new.text ≡ string_bytes self.old.text ++ refusal fault ++ 10 ∷ []) }
+        ensures log { self.new.log ≡ self.old.log }
+        ensures errors { result ≢ Err RunError.Full × (result ≢ Err RunError.Read) × (result ≢ Err RunError.Write) }
+    {
+        match fault {
+            ConsistencyProofError::PointsOutOfOrder => {
+                writeln!(self.text, "refused points out of order")?
+            }
+            ConsistencyProofError::HashNotKnown | ConsistencyProofError::InclusionError(_) => {
+                writeln!(self.text, "refused hash not known")?
+            }
+            ConsistencyProofError::DivergingRoots => {
+                writeln!(self.text, "refused diverging roots")?
+            }
+            ConsistencyProofError::OldLengthZero => {
+                writeln!(self.text, "refused old length zero")?
+            }
+            ConsistencyProofError::Memory => return Err(RunError::Memory),
         }
         Ok(())
     }
