@@ -3,8 +3,7 @@
 
 # Proves and builds the program, and leaves it at bin/warg_check.
 run:
-	@if [ ! -d crates/warg_check_cli ]; then echo "the program warg_check is not written yet"; exit 0; fi; \
-	cd crates/warg_check_cli && rt run < stdin > /dev/null && cd ../.. && \
+	@cd crates/warg_check_cli && rt run < stdin > /dev/null && cd ../.. && \
 	mkdir -p bin && cp crates/warg_check_cli/out/warg_check_cli bin/warg_check && \
 	echo "bin/warg_check reads commands on standard input, as: printf 'push -\\nlog\\n' | bin/warg_check"
 
@@ -12,5 +11,6 @@ run:
 test:
 	rt ci
 
+# Proves and builds the measuring program, and prints its figures.
 bench:
-	@if [ ! -d crates/warg_bench ]; then echo "there is nothing to measure yet"; exit 0; fi
+	@cd crates/warg_bench && rt run && out/warg_bench measure

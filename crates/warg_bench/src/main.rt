@@ -1,0 +1,195 @@
+//! Measures the calls that matter, beside one hash of a branch in the same run. With no argument it
+//! measures nothing and prints nothing.
+#![tactic(auto)]
+
+use anyhow::Result;
+use std::env;
+use std::time::Instant;
+use warg_crypto::{Hash, Sha256};
+use warg_log::{LogBuilder, LogData, Node, StackLog, VecLog, push_all};
+use warg_map::Map;
+use warg_protobuf::{HashEntry, LogProofBundle};
+use warg_witness::witness_value;
+
+type Entry = [u8; 32];
+
+const ENTRIES: usize = 100_000;
+
+fn main(rt: HostRuntime) -> Result<()> {
+    if env::args(&rt)?.count() < 2 {
+        return Ok(());
+    }
+    let branch = branch_time(&rt)?;
+    println!(rt; "one hash of a branch: {branch} ns")?;
+    logs(&rt)?;
+    maps(&rt, 1_000)?;
+    maps(&rt, 10_000)?;
+    bundles(&rt)?;
+    witnesses(&rt)?;
+    Ok(())
+}
+
+// Nanoseconds since a start, for each of some rounds.
+fn each(rt: &HostRuntime, start: Instant, rounds: u128) -> Result<u128> {
+    let nanoseconds = start.elapsed(rt)?.as_nanos();
+    Ok(nanoseconds.checked_div(rounds).unwrap_or(0))
+}
+
+fn branch_time(rt: &HostRuntime) -> Result<u128> {
+    let mut hash = Hash::<Sha256>::of(&());
+    let start = Instant::now(rt)?;
+    for _ in 0..200_000u32 {
+        hash = Hash::of(&(1u8, hash.copied(), hash));
+    }
+    let time = each(rt, start, 200_000)?;
+    println!(rt; "last byte {}", hash.bytes().last().copied().unwrap_or(0))?;
+    Ok(time)
+}
+
+// Entries of 32 bytes, all different.
+fn entries(rt: &HostRuntime, count: usize) -> Result<Vec<Entry>> {
+    let mut list = Vec::new(rt.alloc());
+    for i in 0..count {
+        let mut entry = [7u8; 32];
+        for (place, byte) in entry.iter_mut().zip(i.to_le_bytes()) {
+            *place = byte;
+        }
+        list.push(entry)?;
+    }
+    Ok(list)
+}
+
+fn logs(rt: &HostRuntime) -> Result<()> {
+    let list = entries(rt, ENTRIES)?;
+    let mut log: VecLog<Sha256, Entry> = VecLog::default(rt.alloc());
+    let start = Instant::now(rt)?;
+    push_all(&mut log, list.as_slice())?;
+    println!(rt; "VecLog push: {} ns", each(rt, start, 100_000)?)?;
+
+    let mut stack: StackLog<Sha256, Entry> = StackLog::default(rt.alloc());
+    let start = Instant::now(rt)?;
+    push_all(&mut stack, list.as_slice())?;
+    println!(rt; "StackLog push: {} ns", each(rt, start, 100_000)?)?;
+
+    let mut good = 0u32;
+    let start = Instant::now(rt)?;
+    for (i, entry) in list.iter().enumerate().take(2_000) {
+        let proof = log.prove_inclusion(Node(i.saturating_mul(2)), ENTRIES);
+        if proof.evaluate_value(&log, entry).is_ok() {
+            good = good.saturating_add(1);
+        }
+    }
+    println!(rt;
+        "inclusion evaluation at 100,000: {} ns ({good} of 2000)",
+        each(rt, start, 2_000)?
+    )?;
+
+    let mut good = 0u32;
+    let start = Instant::now(rt)?;
+    for i in 0..1_000usize {
+        let proof = log.prove_consistency(
+            i.saturating_mul(99).saturating_add(1).min(ENTRIES),
+            ENTRIES,
+        );
+        if proof.evaluate(&log).is_ok() {
+            good = good.saturating_add(1);
+        }
+    }
+    println!(rt;
+        "consistency evaluation at 100,000: {} ns ({good} of 1000)",
+        each(rt, start, 1_000)?
+    )?;
+    Ok(())
+}
+
+fn maps(rt: &HostRuntime, count: usize) -> Result<()> {
+    let list = entries(rt, count)?;
+    let rounds = u128::try_from(count).unwrap_or(1);
+    let mut map: Map<Sha256, Entry, Entry> = Map::default(rt.alloc())?;
+    let start = Instant::now(rt)?;
+    for key in &list {
+        map = map.insert(*key, *key)?;
+    }
+    println!(rt;
+        "map insert up to {count} keys: {} ns",
+        each(rt, start, rounds)?
+    )?;
+
+    let start = Instant::now(rt)?;
+    let mut peers = 0usize;
+    for key in &list {
+        if let Some(proof) = map.prove(*key)? {
+            peers = peers.saturating_add(proof.peers().len());
+        }
+    }
+    println!(rt;
+        "map prove at {count} keys: {} ns ({peers} peers)",
+        each(rt, start, rounds)?
+    )?;
+
+    let mut good = 0u32;
+    let start = Instant::now(rt)?;
+    for key in list.iter().take(1_000) {
+        if let Some(proof) = map.prove(*key)? {
+            if proof.evaluate(key, key) == *map.root() {
+                good = good.saturating_add(1);
+            }
+        }
+    }
+    println!(rt;
+        "map prove and evaluate at {count} keys: {} ns ({good} good)",
+        each(rt, start, 1_000)?
+    )?;
+    println!(rt; "map nodes at {count} keys: {}", map.node_count())?;
+    Ok(())
+}
+
+fn bundles(rt: &HostRuntime) -> Result<()> {
+    let mut hashes = Vec::new(rt.alloc());
+    for index in 0..64u32 {
+        let hash = vec![in rt.alloc(); 7u8; 32]?;
+        hashes.push(HashEntry { index, hash })?;
+    }
+    let bundle = LogProofBundle {
+        log_length: 100_000,
+        consistent_lengths: Vec::new(rt.alloc()),
+        included_indices: Vec::new(rt.alloc()),
+        hashes,
+    };
+    let bytes = bundle.encode(rt.alloc())?;
+    let start = Instant::now(rt)?;
+    for _ in 0..1_000u32 {
+        let _ = bundle.encode(rt.alloc())?;
+    }
+    println!(rt;
+        "log bundle of 64 hashes, {} bytes: encode {} ns",
+        bytes.len(),
+        each(rt, start, 1_000)?
+    )?;
+    let start = Instant::now(rt)?;
+    for _ in 0..1_000u32 {
+        let _ = LogProofBundle::decode(rt.alloc(), bytes.as_slice())?;
+    }
+    println!(rt;
+        "log bundle of 64 hashes: decode {} ns",
+        each(rt, start, 1_000)?
+    )?;
+    Ok(())
+}
+
+fn witnesses(rt: &HostRuntime) -> Result<()> {
+    let list = entries(rt, 10_000)?;
+    let mut log: VecLog<Sha256, Entry> = VecLog::default(rt.alloc());
+    let start = Instant::now(rt)?;
+    push_all(&mut log, list.as_slice())?;
+    println!(rt; "the tree over 10,000 entries: {} ns", each(rt, start, 1)?)?;
+    let proof = log.prove_inclusion(Node(4), 10_000);
+    let value = [7u8; 32];
+    let start = Instant::now(rt)?;
+    let _ = witness_value(rt.alloc(), &proof, &log, &value, list.as_slice())?;
+    println!(rt;
+        "witness_value at 10,000 entries: {} ns",
+        each(rt, start, 1)?
+    )?;
+    Ok(())
+}
