@@ -117,14 +117,24 @@ fn absence_from_nothing(rt: HostRuntime) -> Result<(), Fail> {
     Ok(())
 }
 
+// 254 peers, of which the lowest alone is there.
+fn are_one_above_none(proof: &SumProof, lowest: u8) -> bool {
+    let mut want = Some(lowest);
+    for peer in proof.peers() {
+        if last_of_peer(peer) != want {
+            return false;
+        }
+        want = None;
+    }
+    proof.peers().len() == 254
+}
+
 #[test]
 fn absence_beside_one_key(rt: HostRuntime) -> Result<(), Fail> {
     let map = SumMap::default(rt.alloc())?.insert(&[3], &[9])?;
     let key: Bytes = &[4];
     let proof = map.prove_absence(key)?.ok_or("absent")?;
-    let peers = proof.peers();
-    assert!(rt; peers.len() == 254 && last_of_peer(&peers[0]) == Some(12));
-    assert!(rt; peers[1..].iter().all(|peer| peer.is_none()));
+    assert!(rt; are_one_above_none(&proof, 12));
     assert!(rt; last(&proof.evaluate_absent(&key)) == Some(8));
     Ok(())
 }
@@ -176,7 +186,12 @@ fn roots_of_texts(rt: HostRuntime) -> Result<(), Fail> {
         (&[("foo", "")], 1, 2, NOTHING),
         (&[("foo", "bar")], 1, 2, FOO_BAR),
         (&[("foo", "bar"), ("bar", "bat")], 2, 3, bar_bat),
-        (&[("foo", "bar"), ("bar", "bat"), ("foo", "qux")], 2, 3, again),
+        (
+            &[("foo", "bar"), ("bar", "bat"), ("foo", "qux")],
+            2,
+            3,
+            again,
+        ),
         (&[("bar", "x"), ("baz", "y")], 2, 4, one_shared),
         (&[("foo", "bar"), ("baz", "bat")], 2, 3, FOO_BAZ),
         (&[("baz", "bat"), ("foo", "bar")], 2, 3, FOO_BAZ),
@@ -212,8 +227,18 @@ fn proves(map: &TextMap, key: Text, value: Text, peers: usize) -> Result<bool, F
 fn proofs_of_texts(rt: HostRuntime) -> Result<(), Fail> {
     let rows: [(&[(Text, Text)], Text, Text, usize); 5] = [
         (&[("foo", "bar")], "foo", "bar", 1),
-        (&[("foo", "bar"), ("baz", "bat"), ("foo", "qux")], "foo", "qux", 1),
-        (&[("foo", "bar"), ("baz", "bat"), ("foo", "qux")], "baz", "bat", 1),
+        (
+            &[("foo", "bar"), ("baz", "bat"), ("foo", "qux")],
+            "foo",
+            "qux",
+            1,
+        ),
+        (
+            &[("foo", "bar"), ("baz", "bat"), ("foo", "qux")],
+            "baz",
+            "bat",
+            1,
+        ),
         (&[("bar", "x"), ("baz", "y")], "bar", "x", 2),
         (&[("bar", "x"), ("baz", "y")], "baz", "y", 2),
     ];
@@ -229,9 +254,11 @@ fn proofs_of_texts(rt: HostRuntime) -> Result<(), Fail> {
 fn absence_beside_a_text(rt: HostRuntime) -> Result<(), Fail> {
     let map = grown(rt.alloc(), &[("bar", "x")])?;
     let proof = map.prove_absence("baz")?.ok_or("absent")?;
-    let peers = proof.peers();
-    assert!(rt; peers.len() == 2 && peers[0].is_some() && peers[1].is_none());
-    assert!(rt; proof.evaluate_absent(&"baz") == *map.root());
+    let are_there = match proof.peers() {
+        [low, high] => low.is_some() && high.is_none(),
+        _ => false,
+    };
+    assert!(rt; are_there && proof.evaluate_absent(&"baz") == *map.root());
     Ok(())
 }
 
@@ -258,15 +285,19 @@ fn ending_in(byte: u8) -> [u8; 32] {
     bytes
 }
 
+fn far() -> [u8; 32] {
+    let mut bytes = [0; 32];
+    bytes[0] = 128;
+    bytes
+}
+
 // Two keys that share 255 bits, and a third that shares none.
 fn long_runs(alloc: Global, third: bool) -> Result<OwnMap, MapError> {
     let mut map = OwnMap::default(alloc)?;
     map = map.insert(ending_in(0), "x")?;
     map = map.insert(ending_in(1), "y")?;
     if third {
-        let mut far = [0; 32];
-        far[0] = 128;
-        map = map.insert(far, "z")?;
+        map = map.insert(far(), "z")?;
     }
     Ok(map)
 }
@@ -288,9 +319,11 @@ fn proofs_of_long_runs(rt: HostRuntime) -> Result<(), Fail> {
     let three_root = "ed83d4716b636b037863e32a43e2493433c01e764c9d4eb68bef8b0ae4f33b8b";
     let map = long_runs(rt.alloc(), true)?;
     assert!(rt; map.len() == 3 && is_hex(rt.alloc(), map.root(), three_root)?);
-    let mut far = [0; 32];
-    far[0] = 128;
-    for (key, value, peers) in [(ending_in(0), "x", 256), (ending_in(1), "y", 256), (far, "z", 1)] {
+    for (key, value, peers) in [
+        (ending_in(0), "x", 256),
+        (ending_in(1), "y", 256),
+        (far(), "z", 1),
+    ] {
         let proof = map.prove(key)?.ok_or("held")?;
         assert!(rt; proof.peers().len() == peers);
         assert!(rt; proof.evaluate(&key, &value) == *map.root());
@@ -393,7 +426,7 @@ fn hashed(map: &ScarceMap<'_>) -> u64 {
     hasher.finish()
 }
 
-fn is_same(same: &ScarceMap<'_>, map: &ScarceMap<'_>) -> bool {
+fn is_same<'a>(same: &ScarceMap<'a>, map: &ScarceMap<'a>) -> bool {
     same == map && same.len() == 1 && !same.is_empty() && hashed(same) == hashed(map)
 }
 
