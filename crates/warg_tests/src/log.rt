@@ -128,8 +128,7 @@ fn walks_and_roots_of_three_entries(rt: HostRuntime) -> Result<(), Fail> {
     let proof = log.prove_inclusion(Node(0), 2);
     let walk = proof.walk(rt.alloc())?;
     assert!(rt; has_numbers(walk.nodes(), &[2]));
-    assert_eq!(rt; walk.initial_walk_len(), 1);
-    assert_eq!(rt; walk.lower_broots() + walk.upper_broots(), 0);
+    assert_eq!(rt; [walk.initial_walk_len(), walk.lower_broots(), walk.upper_broots()], [1, 0, 0]);
     assert!(rt; Some(proof.evaluate_value(&log, &100)?) == log.hash_for(Node(1)));
     push_all(&mut log, &[104])?;
     let tree = log.as_ref();
