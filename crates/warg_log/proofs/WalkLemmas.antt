@@ -27,13 +27,6 @@ needed_at s w h a n le =
     let swap : n + h ≡ h + n = omega arith in
     sym (needed_any s w n h a n (omega arith)) ∙ ap (λ m. needed_within s w m a n) swap ∙ needed_any s w h n a n le
 
--- what pushes leave
-pub pushed : (xs ys : List Node) (n : Node) (x : ℕ) (ns : List ℕ) → ys ≡ xs ++ n ∷ [] → n.0 ≡ x → ns ≡ x ∷ [] → map (λ (m : Node). m.0) ys ≡ map (λ (m : Node). m.0) xs ++ ns
-pushed xs ys n x ns e f h = ap (λ l. map (λ (m : Node). m.0) l) e ∙ map-append (λ (m : Node). m.0) xs (n ∷ []) ∙ rw (f, h) refl
-
-pub appended_twice : (x y z p q n : List ℕ) → y ≡ x ++ p → z ≡ y ++ q → n ≡ p ++ q → z ≡ x ++ n
-appended_twice x y z p q n e f h = f ∙ ap (λ l. l ++ q) e ∙ append_assoc x p q ∙ ap (λ l. x ++ l) (sym h)
-
 -- the cut root is there exactly where each needed node's digest is
 known_append : (F : ℕ → Option (List ℕ)) (xs ys : List ℕ) → IsKnown F xs → IsKnown F ys → IsKnown F (xs ++ ys)
 known_append F [] ys h i = i

@@ -146,7 +146,7 @@ impl<D: SupportedDigest, V: VisitBytes> ConsistencyProof<D, V> {
         if self.old_length == 0 {
             return Err(ConsistencyProofError::OldLengthZero);
         }
-        if self.old_length > self.new_length {
+        if self.new_length < self.old_length {
             return Err(ConsistencyProofError::PointsOutOfOrder);
         }
         let new_root = self.new_root(hashes)?;

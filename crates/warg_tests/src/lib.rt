@@ -4,6 +4,8 @@
 #[cfg(test)]
 mod crypto;
 #[cfg(test)]
+mod log;
+#[cfg(test)]
 mod map;
 #[cfg(test)]
 mod program;
