@@ -11,3 +11,5 @@ mod map;
 mod program;
 #[cfg(test)]
 mod protobuf;
+#[cfg(test)]
+mod witness;

@@ -10,6 +10,7 @@ const Z: &str = "e3b0c44298fc1c149afbf4c8996fb92427ae41e4649b934ca495991b7852b85
 const L0: &str = "6e340b9cffb37a989ca544e6bb780a2c78901d3fb33738768511a30617afa01d";
 
 const U2: &str = "fac54203e7cc696cf0dfcb42c92a1d9dbaf70ad9e621f4bd8d98662f00e3c125";
+
 const U3: &str = "aeb6bcfe274b70a14fb067a5e5578264db0fa9b51af5e0ba159158f329e06e77";
 
 // The text that a run writes for an input, and whether every line was good.
@@ -83,10 +84,7 @@ fn a_line_on_each_side_of_each_rule(rt: HostRuntime) -> Result<(), Fail> {
     for (input, want) in rows {
         let (text, good) = written(&rt, input)?;
         assert_eq!(rt; text.as_slice(), want.as_bytes(), "at {input:?}");
-        assert_eq!(rt;
-            good,
-            !want.contains("bad line")
-        );
+        assert_eq!(rt; good, !want.contains("bad line"));
     }
     Ok(())
 }
@@ -106,12 +104,20 @@ fn three_entries(rt: HostRuntime) -> Result<(), Fail> {
 
 #[test]
 fn consistency(rt: HostRuntime) -> Result<(), Fail> {
-    let input = b"push -\npush 00\npush 10\nconsistent 2 3\nconsistent 0 3\nconsistent 3 2\nconsistent 1 4\nconsistent 3 3\n";
-    let want = format!(in rt.alloc(); "node 0\nnode 2\nnode 4\nroots {U2} {U3}\nrefused old length zero\nrefused points out of order\nrefused hash not known\nroots {U3} {U3}\n")?;
+    let input =
+        b"push -\npush 00\npush 10\nconsistent 2 3\nconsistent 0 3\nconsistent 3 2\nconsistent 1 4\nconsistent 3 3\n";
+    let want = format!(in rt.alloc();
+        "node 0\nnode 2\nnode 4\nroots {U2} {U3}\nrefused old length zero\nrefused points out of order\nrefused hash not known\nroots {U3} {U3}\n"
+    )?;
     let (text, good) = written(&rt, input)?;
     assert_eq!(rt; text.as_slice(), want.as_bytes());
     assert!(rt; good);
-    for line in ["consistent 1", "consistent 1 2 3", "consistent 1 -", "consistent 1 9223372036854775809"] {
+    for line in [
+        "consistent 1",
+        "consistent 1 2 3",
+        "consistent 1 -",
+        "consistent 1 9223372036854775809",
+    ] {
         let (text, good) = written(&rt, line.as_bytes())?;
         assert_eq!(rt; text.as_slice(), b"bad line 1\n".as_slice());
         assert!(rt; !good);
@@ -235,7 +241,8 @@ fn an_empty_text_is_only_flushed(rt: HostRuntime) -> Result<(), Fail> {
 
 #[test]
 fn each_growth_refused_in_turn(rt: HostRuntime) -> Result<(), Fail> {
-    let input: &[u8] = b"push -\npush 0011\nlog\ninclude 0 2 -\ninclude 0 9 -\nconsistent 1 2\nconsistent 2 1\nbogus\n";
+    let input: &[u8] =
+        b"push -\npush 0011\nlog\ninclude 0 2 -\ninclude 0 9 -\nconsistent 1 2\nconsistent 2 1\nbogus\n";
     let (want, _) = written(&rt, input)?;
     let mut refused = 0u64;
     for growths in 0..60u64 {

@@ -1,9 +1,9 @@
 -- What a proof claims of given entries, and when the claim is met: where the evaluation over the data
 -- leads to the roots of the trees over the entries.
-use Rattle.std.specs.Prelude.{◌≡◌, ℕ, ◌^◌, ◌<◌, ◌≤◌, List, [], length, take, Option, Some, Contains, slice_index_or}
-use Rattle.warg_log.specs.Nodes.{height_of, start_of, ExistsAt, balanced_roots}
+use Rattle.std.specs.Prelude.{◌≡◌, ℕ, ◌^◌, List, [], length, Option, Some, slice_index_or}
+use Rattle.warg_log.specs.Nodes.{height_of, start_of, ExistsAt}
 use Rattle.warg_log.specs.Tree.{leaves_of, root_of, root_over}
-use Rattle.warg_log.specs.Cut.{cut_root, old_root}
+use Rattle.warg_log.specs.Cut.{cut_root}
 
 -- The claim of a value: the node is a leaf, and its entry has the value's bytes.
 pub record IsEntry (value : List ℕ) (node : ℕ) (entries : List (List ℕ)) : Type 0 where
@@ -13,10 +13,6 @@ pub record IsEntry (value : List ℕ) (node : ℕ) (entries : List (List ℕ)) :
 -- The claim of a hash: it is the root of the entries below the node.
 abbrev pub IsRootBelow : (List ℕ → List ℕ) → List ℕ → ℕ → List (List ℕ) → Type 0
 IsRootBelow H hash node entries = hash ≡ root_over H (leaves_of H entries) (start_of node) (2 ^ height_of node)
-
--- The claim of consistency: the old entries begin the new ones.
-abbrev pub Begins : List (List ℕ) → List (List ℕ) → Type 0
-Begins old new = old ≡ take (length old) new
 
 -- The claim with a digest at a node is met: the entries are as many as the proof's length says, the node
 -- exists, and the cut root is the root of the tree over the entries.
@@ -31,14 +27,3 @@ pub record IsAgreement (H : List ℕ → List ℕ) (F : ℕ → Option (List ℕ
   pub exists : ExistsAt node n
   pub first_is : cut_root H F node first n ≡ Some root
   pub second_is : cut_root H G node second n ≡ Some root
-
--- The claim of consistency from m to n is met: m is at least one and not above n, the entries are as many
--- as these lengths say, the old root is that of the tree over the old entries, and with the digest of each
--- balanced root of m in its place the cut root is that of the tree over the new ones.
-pub record IsConsistent (H : List ℕ → List ℕ) (F : ℕ → Option (List ℕ)) (m n : ℕ) (old new : List (List ℕ)) : Type 0 where
-  pub some : 0 < m
-  pub ordered : m ≤ n
-  pub old_count : length old ≡ m
-  pub new_count : length new ≡ n
-  pub old_is : old_root H F m ≡ Some (root_of H (leaves_of H old))
-  pub new_is : (t : ℕ) → Contains (balanced_roots m) t → (x : List ℕ) × (F t ≡ Some x) × (cut_root H F t x n ≡ Some (root_of H (leaves_of H new)))

@@ -1,9 +1,7 @@
--- Values and lists of entries compared by bytes.
-use Rattle.std.specs.Prelude.{◌≡◌, ℕ, ◌<◌, List, [], ◌∷◌, length, Option, Some, None, slice_index_or}
-use Rattle.warg_witness.specs.Claims.{Begins}
+-- Values compared by their bytes.
+use Rattle.std.specs.Prelude.{◌≡◌, ℕ, List, [], ◌∷◌, Option, Some, None, slice_index_or}
 use Rattle.warg_witness.specs.Inputs.{plain_input}
 use Rattle.warg_witness.specs.declared.compare.LeafInputs.{LeafInputs}
-use Rattle.warg_witness.specs.declared.compare.Difference.{Difference}
 
 -- Nothing for the same bytes, else what the digest function takes at their leaves.
 abbrev pub AreLeafInputs : {A : Type 0} → List ℕ → List ℕ → Option (LeafInputs A) → Type 0
@@ -20,15 +18,3 @@ abbrev pub AreClaimedInputs : {A : Type 0} → (List ℕ → List ℕ) → List 
 AreClaimedInputs H value entries start count None = IsAt value entries start count
 AreClaimedInputs H value entries start count (Some inputs) =
     (inputs.first.items ≡ 0 ∷ value) × (inputs.second.items ≡ plain_input H entries start count) × (IsAt value entries start count → ⊥)
-
--- A place at which an old entry is another than the new one, with both leaves' inputs.
-pub record DiffersAt (old new : List (List ℕ)) (place : ℕ) (first second : List ℕ) : Type 0 where
-  pub within : place < length old
-  pub first_is : first ≡ 0 ∷ slice_index_or old place []
-  pub second_is : second ≡ 0 ∷ slice_index_or new place []
-  pub differ : first ≡ second → ⊥
-
--- Nothing where the old entries begin the new ones, else such a place.
-abbrev pub IsDifference : {A : Type 0} → List (List ℕ) → List (List ℕ) → Option (Difference A) → Type 0
-IsDifference old new None = Begins old new
-IsDifference old new (Some difference) = DiffersAt old new difference.place difference.inputs.first.items difference.inputs.second.items

@@ -1,7 +1,7 @@
 //! Values compared by their bytes.
 
-ghost use Rattle.std.specs.Prelude.{◌≤◌, length, map, IfOk};
-ghost use Rattle.warg_witness.specs.Compared.{AreLeafInputs, IsDifference};
+ghost use Rattle.std.specs.Prelude.{IfOk};
+ghost use Rattle.warg_witness.specs.Compared.{AreLeafInputs};
 
 use crate::collision::leaf_bytes;
 use std::alloc::{AllocError, Allocator};
@@ -29,28 +29,4 @@ pub(crate) fn leaf_inputs<V: VisitBytes, A: Allocator + Copy>(
         return Ok(None);
     }
     Ok(Some(LeafInputs { first, second }))
-}
-
-/// A place at which two lists of entries differ, and what the digest function takes at its leaf in both.
-#[derive(Drop)]
-pub(crate) struct Difference<A: Allocator> {
-    pub place: usize,
-    pub inputs: LeafInputs<A>,
-}
-
-/// The first place at which new entries have other bytes than the old ones, if there is one.
-pub(crate) fn first_difference<V: VisitBytes, A: Allocator + Copy>(
-    alloc: A,
-    old: &[V],
-    new: &[V],
-) -> Result<Option<Difference<A>>, AllocError>
-    requires { length old.now ≤ length new.now }
-    ensures { IfOk result (IsDifference (map (λ e. V.bytes e) old.now) (map (λ e. V.bytes e) new.now)) }
-{
-    for (i, entry) in old.iter().enumerate() {
-        if let Some(inputs) = leaf_inputs(alloc, entry, &new[i])? {
-            return Ok(Some(Difference { place: i, inputs }));
-        }
-    }
-    Ok(None)
 }

@@ -216,7 +216,7 @@ pub fn agree_value<
         ↔ (IsAgreement D.digest (L.digest_at first_hashes.now) (D.digest (0 ∷ V.bytes first_value.now)) (M.digest_at second_hashes.now) (D.digest (0 ∷ V.bytes second_value.now)) proof.now.leaf.0 proof.now.log_length → ⊥)) }
     ensures holds { IfOk result (λ f. (f ≡ Finding.Holds)
         ↔ (IsAgreement D.digest (L.digest_at first_hashes.now) (D.digest (0 ∷ V.bytes first_value.now)) (M.digest_at second_hashes.now) (D.digest (0 ∷ V.bytes second_value.now)) proof.now.leaf.0 proof.now.log_length
-            × (V.bytes first_value.now ≡ V.bytes second_value.now))) }
+        × (V.bytes first_value.now ≡ V.bytes second_value.now))) }
     ensures collision { IfOk result (λ f. (c : _) → f ≡ Finding.Collision c
         → IsAgreementPlaced D.digest (L.digest_at first_hashes.now) (V.bytes first_value.now) (M.digest_at second_hashes.now) (V.bytes second_value.now) proof.now.leaf.0 proof.now.log_length c.0 c.1) }
 {
