@@ -3,3 +3,4 @@ pub mod Orders
 pub mod Text
 pub mod Commands
 pub mod Errors
+pub mod Verdicts

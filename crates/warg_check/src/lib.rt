@@ -1,4 +1,8 @@
-//! The program `warg_check` as a library: commands in, roots and proofs out.
+//! Verdicts on proofs in bytes, and the program `warg_check` as a library: commands in, roots and proofs
+//! out.
 #![tactic(auto)]
 
 pub mod program;
+mod verdict;
+
+pub use verdict::{CheckError, check_consistency, check_inclusion};

@@ -13,3 +13,4 @@ pub mod AgreeLemmas
 pub mod MetLemmas
 pub mod SparseLemmas
 pub mod StackLemmas
+pub mod BundleLemmas

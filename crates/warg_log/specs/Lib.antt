@@ -5,3 +5,5 @@ pub mod Walks
 pub mod Consistency
 pub mod Sparse
 pub mod Blocks
+pub mod Decoding
+pub mod Bundles

@@ -6,21 +6,25 @@
 #![tactic(auto)]
 
 mod consistency;
+mod error;
 mod interval;
 mod join;
 pub mod laws;
 mod log;
 mod node;
 mod proof;
+mod proof_bundle;
 mod sparse_data;
 mod stack_log;
 mod vec_log;
 
 pub use consistency::{ConsistencyProof, ConsistencyProofError};
+pub use error::{DecodeError, EncodeError};
 pub use interval::Interval;
 pub use log::{Checkpoint, LogBuilder, LogData, hash_branch, hash_empty, hash_leaf, push_all};
 pub use node::{Node, Side};
 pub use proof::{InclusionProof, InclusionProofError, InclusionProofWalk, range_root, stored_root};
+pub use proof_bundle::{ProofBundle, ProofBundle as LogProofBundle};
 pub use sparse_data::SparseLogData;
 pub use stack_log::StackLog;
 pub use vec_log::VecLog;

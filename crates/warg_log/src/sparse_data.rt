@@ -1,11 +1,11 @@
 //! Digests of some nodes, as they come with a proof.
 
-ghost use Rattle.std.specs.Prelude.{◌≡◌, ℕ, List};
+ghost use Rattle.std.specs.Prelude.{◌≡◌, ℕ, List, IfOk};
 ghost use Rattle.warg_log.specs.Sparse.{IsAscending, held_digest};
 
 use crate::log::LogData;
 use crate::node::Node;
-use std::alloc::{Allocator, Global};
+use std::alloc::{AllocError, Allocator, Global};
 use std::marker::{Model, PhantomData};
 use warg_crypto::{Hash, SupportedDigest, VisitBytes};
 
@@ -37,6 +37,28 @@ impl<D: SupportedDigest, V: VisitBytes, A: Allocator> SparseLogData<D, V, A> {
             pairs,
             of: PhantomData,
         }
+    }
+
+    // The digests with their nodes.
+    pub(crate) fn pairs(&self) -> &[(Node, Hash<D>)]
+        ensures value { result.now ≡ self.now }
+        ensures ascending { IsAscending self.now }
+    {
+        self.pairs.as_slice()
+    }
+
+    // The same data once more.
+    pub(crate) fn copied(&self, alloc: A) -> Result<Self, AllocError>
+        ensures { IfOk result (λ again. again ≡ self.now) }
+    {
+        let mut pairs = Vec::new(alloc);
+        'pairs: for pair in self.pairs.as_slice() {
+            pairs.push((pair.0, pair.1.copied()))?;
+        }
+        Ok(SparseLogData {
+            pairs,
+            of: PhantomData,
+        })
     }
 }
 

@@ -1,0 +1,94 @@
+//! Verdicts on the proofs in a stranger's bytes, for whoever holds a root.
+
+ghost use Rattle.std.specs.Prelude.{◌≡◌, ◌≢◌, Err};
+ghost use Rattle.warg_protobuf.specs.declared.error.WireError.TheVariants as wire;
+ghost use Rattle.warg_log.specs.declared.error.DecodeError.TheVariants as decoding;
+ghost use Rattle.warg_check.specs.Verdicts.{Answers, check_fault, inclusion_verdict, consistency_verdict};
+
+use std::alloc::Allocator;
+use thiserror::Error;
+use warg_crypto::{Hash, SupportedDigest, VisitBytes};
+use warg_log::{DecodeError, ProofBundle};
+
+/// Why there is no verdict.
+#[derive(Debug, PartialEq, Eq, Drop, Error)]
+pub enum CheckError {
+    /// The bytes are no bundle. The fault inside is never `Memory`.
+    #[error("{0}")]
+    Decode(DecodeError),
+    /// The bundle has no proof of the kind at the place.
+    #[error("no such proof")]
+    NoSuchProof,
+    /// Memory was refused.
+    #[error("out of memory")]
+    Memory,
+}
+
+impl From<DecodeError> for CheckError {
+    ghost from_gives = { λ fault error. error ≡ check_fault fault };
+
+    fn from(fault: DecodeError) -> Self {
+        match fault {
+            DecodeError::Memory => CheckError::Memory,
+            fault => CheckError::Decode(fault),
+        }
+    }
+}
+
+/// Whether the inclusion proof at a place of a log bundle, counted from 0, shows that the log with this root
+/// holds the value: whether it evaluates to the root over the bundle's own digests.
+///
+/// `Decode` carries the first fault of the bytes, and `NoSuchProof` says that a bundle without fault has no
+/// more than `at` inclusion proofs. A proof that can't be evaluated isn't true.
+pub fn check_inclusion<D: SupportedDigest, V: VisitBytes, A: Allocator + Copy>(
+    alloc: A,
+    bytes: &[u8],
+    at: usize,
+    value: &V,
+    root: &Hash<D>,
+) -> Result<bool, CheckError>
+    ensures verdict { Answers result (inclusion_verdict D.digest bytes.now at (V.bytes value.now) root.now) }
+    ensures memory { result ≢ Err (CheckError.Decode decoding.Memory) }
+    ensures wire { result ≢ Err (CheckError.Decode (decoding.Wire wire.Memory)) }
+{
+    let bundle = match ProofBundle::<D, V, A>::decode(alloc, bytes) {
+        Ok(bundle) => bundle,
+        Err(fault) => return Err(CheckError::from(fault)),
+    };
+    match bundle.inclusion_proof(at) {
+        Some(proof) => match proof.evaluate_value(bundle.hashes(), value) {
+            Ok(found) => Ok(found == *root),
+            Err(_) => Ok(false),
+        },
+        None => Err(CheckError::NoSuchProof),
+    }
+}
+
+/// Whether the consistency proof at a place of a log bundle, counted from 0, shows that the log with the old
+/// root is a beginning of the log with the new one: whether it evaluates to the two roots over the bundle's
+/// own digests.
+///
+/// The errors are those of [`check_inclusion`], for consistency proofs.
+pub fn check_consistency<D: SupportedDigest, A: Allocator + Copy>(
+    alloc: A,
+    bytes: &[u8],
+    at: usize,
+    old: &Hash<D>,
+    new: &Hash<D>,
+) -> Result<bool, CheckError>
+    ensures verdict { Answers result (consistency_verdict D.digest bytes.now at old.now new.now) }
+    ensures memory { result ≢ Err (CheckError.Decode decoding.Memory) }
+    ensures wire { result ≢ Err (CheckError.Decode (decoding.Wire wire.Memory)) }
+{
+    let bundle = match ProofBundle::<D, (), A>::decode(alloc, bytes) {
+        Ok(bundle) => bundle,
+        Err(fault) => return Err(CheckError::from(fault)),
+    };
+    match bundle.consistency_proof(at) {
+        Some(proof) => match proof.evaluate(bundle.hashes()) {
+            Ok((found_old, found_new)) => Ok(found_old == *old && found_new == *new),
+            Err(_) => Ok(false),
+        },
+        None => Err(CheckError::NoSuchProof),
+    }
+}

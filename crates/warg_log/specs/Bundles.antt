@@ -1,0 +1,73 @@
+-- Log bundles: their messages, and what messages and bytes are read as.
+use Rattle.std.specs.Prelude.{ℕ, suc, ◌^◌, ◌<◌, ◌==◌, nat_le, if◌then◌else◌, List, [], ◌∷◌, length, map, Option, Some, None, Result, Ok, Err}
+use Rattle.std.specs.List.{AllByRecursion}
+use Rattle.warg_protobuf.specs.declared.error.WireError.{WireError}
+use Rattle.warg_protobuf.specs.HashEntry.{Entry}
+use Rattle.warg_protobuf.specs.LogProofBundle.{LogBundle, log_schema}
+use Rattle.warg_protobuf.specs.Schema.{message_of}
+use Rattle.warg_log.specs.declared.node.Node.{Node}
+use Rattle.warg_log.specs.declared.error.DecodeError.{DecodeError}
+use Rattle.warg_log.specs.declared.error.DecodeError.TheVariants.{Wire, HashLength, NotAscending}
+use Rattle.warg_log.specs.Sparse.{Pairs}
+
+-- Proofs that all have one length: the old length of each consistency proof, the node of each inclusion
+-- proof, and digests by node.
+pub record Bundle : Type 0 where
+  pub log_length : ℕ
+  pub consistent_lengths : List ℕ
+  pub included_nodes : List Node
+  pub hashes : Pairs
+
+-- A digest with its node, as an entry of a message.
+abbrev pub entry_of : Node × List ℕ → Entry
+entry_of p = record { index = p.0.0; hash = p.1 }
+
+-- An entry's digest with its node.
+abbrev pub pair_of : Entry → Node × List ℕ
+pair_of e = (record { 0 = e.index }, e.hash)
+
+-- The message of a bundle: each length, node and digest in its own field, in order.
+abbrev pub bundle_message : Bundle → LogBundle
+bundle_message b = record {
+  log_length = b.log_length;
+  consistent_lengths = b.consistent_lengths;
+  included_indices = map (λ (node : Node). node.0) b.included_nodes;
+  hashes = map entry_of b.hashes;
+}
+
+-- The nodes' numbers fit in the 32 bits of a message. Its lengths always do.
+abbrev pub NodesFit : Bundle → Type 0
+NodesFit b = AllByRecursion (λ (node : Node). node.0 < 2 ^ 32) b.included_nodes × AllByRecursion (λ (p : Node × List ℕ). p.0.0 < 2 ^ 32) b.hashes
+
+-- The first fault of entries in order, of which each number has to be at least `least`: at each entry a
+-- digest that isn't 32 bytes, and then a number that isn't above the one before.
+abbrev pub entries_fault : ℕ → List Entry → Option DecodeError
+entries_fault least [] = None
+entries_fault least (e ∷ es) =
+    if length e.hash == 32
+    then (if nat_le least e.index then entries_fault (suc e.index) es else Some NotAscending)
+    else Some HashLength
+
+-- The value, unless there is a fault.
+abbrev pub unless : {X : Type 0} → Option DecodeError → X → Result X DecodeError
+unless None x = Ok x
+unless (Some e) x = Err e
+
+-- The bundle that a message holds, or the first fault of its contents.
+abbrev pub bundle_in : LogBundle → Result Bundle DecodeError
+bundle_in m = unless (entries_fault 0 m.hashes) (record {
+  log_length = m.log_length;
+  consistent_lengths = m.consistent_lengths;
+  included_nodes = map (λ n. record { 0 = n }) m.included_indices;
+  hashes = map pair_of m.hashes;
+})
+
+-- The bundle in what bytes were read as.
+abbrev pub bundle_given : Result LogBundle WireError → Result Bundle DecodeError
+bundle_given (Ok m) = bundle_in m
+bundle_given (Err e) = Err (Wire e)
+
+-- The bundle that bytes spell, or their first fault: that of the message (proto3 encoding), and then that
+-- of its contents.
+abbrev pub bundle_of : List ℕ → Result Bundle DecodeError
+bundle_of bytes = bundle_given (message_of log_schema bytes)

@@ -1,0 +1,318 @@
+//! Proofs of a log together with the digests that they need.
+
+ghost use Rattle.std.specs.Prelude.{◌≡◌, ◌≢◌, ℕ, ◌^◌, ◌<◌, ◌≤◌, ◌↔◌, ◌⊎◌, None, Some, Ok, Err, IfOk, IfErr, OnSome, IfSome, IsTrue, IsNone, length, map, slice_get};
+ghost use Rattle.std.specs.List.{AllByRecursion};
+ghost use Rattle.warg_protobuf.specs.declared.error.WireError.TheVariants as wire;
+ghost use Rattle.warg_protobuf.specs.HashEntry.{entry_view};
+ghost use Rattle.warg_protobuf.specs.LogProofBundle.{log_view, log_bytes};
+ghost use Rattle.warg_log.specs.Sparse.{IsAscending};
+ghost use Rattle.warg_log.specs.Decoding.{Reads};
+ghost use Rattle.warg_log.specs.Bundles.{bundle_message, bundle_in, bundle_of, NodesFit, entry_of, pair_of, entries_fault};
+
+use crate::consistency::ConsistencyProof;
+use crate::error::{DecodeError, EncodeError};
+use crate::node::Node;
+use crate::proof::InclusionProof;
+use crate::sparse_data::SparseLogData;
+use std::alloc::{AllocError, Allocator, Global};
+use std::marker::Model;
+use warg_crypto::{Hash, SupportedDigest, VisitBytes};
+use warg_protobuf::{HashEntry, LogProofBundle as Message};
+
+/// Inclusion and consistency proofs of one log at one length, with digests for their evaluation.
+///
+/// A bundle that was read from bytes may lack digests, and its proofs may be none that can be evaluated:
+/// their evaluation says so.
+#[derive(Drop)]
+pub struct ProofBundle<D: SupportedDigest, V: VisitBytes, A: Allocator = Global> {
+    log_length: u32,
+    consistent_lengths: Vec<u32, A>,
+    included_nodes: Vec<Node, A>,
+    hashes: SparseLogData<D, V, A>,
+}
+
+// Contracts see the bundle as its lengths, nodes and digests.
+impl<D: SupportedDigest, V: VisitBytes, A: Allocator> Model for ProofBundle<D, V, A> {
+    ghost use Rattle.warg_log.specs.Bundles.{Bundle};
+
+    ghost Value = { Bundle };
+
+    ghost view = { λ b. record { log_length = b.log_length; consistent_lengths = b.consistent_lengths.items; included_nodes = b.included_nodes.items; hashes = b.hashes } };
+}
+
+impl<D: SupportedDigest, V: VisitBytes, A: Allocator> ProofBundle<D, V, A> {
+    /// The digests, by node.
+    pub fn hashes(&self) -> &SparseLogData<D, V, A>
+        ensures { result.now ≡ self.now.hashes }
+    {
+        &self.hashes
+    }
+
+    /// The consistency proof at a place, counted from 0. None exactly where there are no more than `at`.
+    pub fn consistency_proof(&self, at: usize) -> Option<ConsistencyProof<D, V>>
+        ensures old_length { IfSome result (λ proof. slice_get self.now.consistent_lengths at ≡ Some proof.old_length) }
+        ensures new_length { IfSome result (λ proof. proof.new_length ≡ self.now.log_length) }
+        ensures none { IsNone result ↔ (slice_get self.now.consistent_lengths at ≡ None) }
+    {
+        match self.consistent_lengths.as_slice().get(at) {
+            Some(old_length) => Some(ConsistencyProof::new(
+                *old_length as usize,
+                self.log_length as usize,
+            )),
+            None => None,
+        }
+    }
+
+    /// The inclusion proof at a place, counted from 0. None exactly where there are no more than `at`.
+    pub fn inclusion_proof(&self, at: usize) -> Option<InclusionProof<D, V>>
+        ensures leaf { IfSome result (λ proof. slice_get self.now.included_nodes at ≡ Some proof.leaf) }
+        ensures log_length { IfSome result (λ proof. proof.log_length ≡ self.now.log_length) }
+        ensures none { IsNone result ↔ (slice_get self.now.included_nodes at ≡ None) }
+    {
+        match self.included_nodes.as_slice().get(at) {
+            Some(node) => Some(InclusionProof::new(*node, self.log_length as usize)),
+            None => None,
+        }
+    }
+}
+
+impl<D: SupportedDigest, V: VisitBytes, A: Allocator + Copy> ProofBundle<D, V, A> {
+    /// The bundle's parts: its digests, its consistency proofs and its inclusion proofs, all in order.
+    pub fn unbundle(
+        &self,
+        alloc: A,
+    ) -> Result<
+        (
+            SparseLogData<D, V, A>,
+            Vec<ConsistencyProof<D, V>, A>,
+            Vec<InclusionProof<D, V>, A>,
+        ),
+        AllocError,
+    >
+        ensures hashes { IfOk result (λ parts. parts.0 ≡ self.now.hashes) }
+        ensures old_lengths { IfOk result (λ parts. map (λ p. p.old_length) parts.1.items ≡ self.now.consistent_lengths) }
+        ensures new_lengths { IfOk result (λ parts. AllByRecursion (λ p. p.new_length ≡ self.now.log_length) parts.1.items) }
+        ensures leaves { IfOk result (λ parts. map (λ p. p.leaf) parts.2.items ≡ self.now.included_nodes) }
+        ensures log_lengths { IfOk result (λ parts. AllByRecursion (λ p. p.log_length ≡ self.now.log_length) parts.2.items) }
+    {
+        Ok((
+            self.hashes.copied(alloc)?,
+            consistency_proofs(alloc, &self.consistent_lengths, self.log_length)?,
+            inclusion_proofs(alloc, &self.included_nodes, self.log_length)?,
+        ))
+    }
+
+    /// The bundle that a message holds.
+    ///
+    /// The faults are looked for entry by entry, at each first `HashLength`, and then `NotAscending` where
+    /// its number isn't above the one before. Lengths and nodes are free.
+    pub fn from_message(alloc: A, message: Message<A>) -> Result<Self, DecodeError>
+        ensures exact { Reads result (bundle_in (log_view message)) }
+        ensures message { IfOk result (λ bundle. bundle_message bundle ≡ log_view message) }
+        ensures wire { (e : _) → result ≢ Err (DecodeError.Wire e) }
+    {
+        let hashes = read_hashes(alloc, message.hashes.as_slice())?;
+        let included_nodes = read_nodes(alloc, message.included_indices.as_slice())?;
+        Ok(ProofBundle {
+            log_length: message.log_length,
+            consistent_lengths: message.consistent_lengths,
+            included_nodes,
+            hashes: SparseLogData::from(hashes),
+        })
+    }
+
+    /// Reads a bundle from the bytes of its message: the first fault of the message, and then that of
+    /// [`ProofBundle::from_message`], is the error.
+    pub fn decode(alloc: A, bytes: &[u8]) -> Result<Self, DecodeError>
+        ensures exact { Reads result (bundle_of bytes.now) }
+        ensures wire { result ≢ Err (DecodeError.Wire wire.Memory) }
+    {
+        let message = match Message::decode(alloc, bytes) {
+            Ok(message) => message,
+            Err(fault) => return Err(DecodeError::from(fault)),
+        };
+        ProofBundle::from_message(alloc, message)
+    }
+
+    /// The bundle's message, which holds the same bundle. `TooLarge` exactly where a node's number is above
+    /// `u32::MAX`, before any growth.
+    pub fn to_message(&self, alloc: A) -> Result<Message<A>, EncodeError>
+        ensures ok { IfOk result (λ message. log_view message ≡ bundle_message self.now) }
+        ensures again { IfOk result (λ message. bundle_in (log_view message) ≡ Ok self.now) }
+        ensures too_large { (result ≡ Err EncodeError.TooLarge) ↔ ¬ NodesFit self.now }
+    {
+        let pairs = self.hashes.pairs();
+        if !nodes_fit(&self.included_nodes) || !pairs_fit(pairs) {
+            return Err(EncodeError::TooLarge);
+        }
+        let consistent_lengths = Vec::from_slice(alloc, self.consistent_lengths.as_slice())?;
+        let included_indices = indices(alloc, self.included_nodes.as_slice())?;
+        let hashes = entries(alloc, pairs)?;
+        Ok(Message {
+            log_length: self.log_length,
+            consistent_lengths,
+            included_indices,
+            hashes,
+        })
+    }
+
+    /// Writes the bytes of the bundle's message, which are read as the same bundle. `TooLarge` exactly where
+    /// a node's number is above `u32::MAX`, before any growth.
+    pub fn encode(&self, alloc: A) -> Result<Vec<u8, A>, EncodeError>
+        ensures written { IfOk result (λ bytes. bytes.items ≡ log_bytes (bundle_message self.now)) }
+        ensures again { IfOk result (λ bytes. bundle_of bytes.items ≡ Ok self.now) }
+        ensures too_large { (result ≡ Err EncodeError.TooLarge) ↔ ¬ NodesFit self.now }
+    {
+        let message = self.to_message(alloc)?;
+        Ok(message.encode(alloc)?)
+    }
+}
+
+// The consistency proofs from these old lengths.
+fn consistency_proofs<D, V, A: Allocator>(
+    alloc: A,
+    old_lengths: &[u32],
+    new_length: u32,
+) -> Result<Vec<ConsistencyProof<D, V>, A>, AllocError>
+    ensures old_lengths { IfOk result (λ proofs. map (λ p. p.old_length) proofs.items ≡ old_lengths.now) }
+    ensures new_lengths { IfOk result (λ proofs. AllByRecursion (λ p. p.new_length ≡ new_length) proofs.items) }
+{
+    let mut proofs = Vec::new(alloc);
+    'lengths: for old_length in old_lengths {
+        proofs.push(ConsistencyProof::new(*old_length as usize, new_length as usize))?;
+    }
+    Ok(proofs)
+}
+
+// The inclusion proofs of these nodes.
+fn inclusion_proofs<D, V, A: Allocator>(
+    alloc: A,
+    nodes: &[Node],
+    log_length: u32,
+) -> Result<Vec<InclusionProof<D, V>, A>, AllocError>
+    ensures leaves { IfOk result (λ proofs. map (λ p. p.leaf) proofs.items ≡ nodes.now) }
+    ensures log_lengths { IfOk result (λ proofs. AllByRecursion (λ p. p.log_length ≡ log_length) proofs.items) }
+{
+    let mut proofs = Vec::new(alloc);
+    'nodes: for node in nodes {
+        proofs.push(InclusionProof::new(*node, log_length as usize))?;
+    }
+    Ok(proofs)
+}
+
+// The nodes of these numbers.
+fn read_nodes<A: Allocator>(alloc: A, indices: &[u32]) -> Result<Vec<Node, A>, AllocError>
+    ensures { IfOk result (λ nodes. nodes.items ≡ map (λ n. record { 0 = n }) indices.now) }
+{
+    let mut nodes = Vec::new(alloc);
+    'indices: for index in indices {
+        nodes.push(Node(*index as usize))?;
+    }
+    Ok(nodes)
+}
+
+// The digests of these entries, by node.
+fn read_hashes<D, A: Allocator>(
+    alloc: A,
+    entries: &[HashEntry<A>],
+) -> Result<Vec<(Node, Hash<D>), A>, DecodeError>
+    ensures ok { IfOk result (λ hashes. hashes.items ≡ map pair_of (map entry_view entries.now)) }
+    ensures ascending { IfOk result (λ hashes. IsAscending hashes.items) }
+    ensures good { IfOk result (λ hashes. entries_fault 0 (map entry_view entries.now) ≡ None) }
+    ensures fault { IfErr result (λ e. (e ≡ DecodeError.Memory) ⊎ (entries_fault 0 (map entry_view entries.now) ≡ Some e)) }
+    ensures wire { (e : _) → result ≢ Err (DecodeError.Wire e) }
+{
+    let mut hashes = Vec::new(alloc);
+    let mut least = 0;
+    'entries: for entry in entries {
+        let hash = read_hash(entry.hash.as_slice())?;
+        let index = entry.index as usize;
+        if index < least {
+            return Err(DecodeError::NotAscending);
+        }
+        hashes.push((Node(index), hash))?;
+        least = index + 1;
+    }
+    Ok(hashes)
+}
+
+// The hash of these bytes.
+pub(crate) fn read_hash<D>(bytes: &[u8]) -> Result<Hash<D>, DecodeError>
+    ensures ok { IfOk result (λ hash. hash ≡ bytes.now) }
+    ensures length { IfOk result (λ hash. length bytes.now ≡ 32) }
+    ensures fault { IfErr result (λ e. (e ≡ DecodeError.HashLength) × (length bytes.now ≢ 32)) }
+{
+    match <[u8; 32]>::try_from(bytes) {
+        Ok(array) => Ok(Hash::from_array(array)),
+        Err(_) => Err(DecodeError::HashLength),
+    }
+}
+
+// Whether all nodes' numbers fit in 32 bits.
+fn nodes_fit(nodes: &[Node]) -> bool
+    ensures { IsTrue result ↔ AllByRecursion (λ node. node.0 < 2 ^ 32) nodes.now }
+{
+    'nodes: for node in nodes {
+        if node.0 > u32::MAX as usize {
+            return false;
+        }
+    }
+    true
+}
+
+// Whether the numbers of all digests' nodes fit in 32 bits.
+fn pairs_fit<D>(pairs: &[(Node, Hash<D>)]) -> bool
+    ensures { IsTrue result ↔ AllByRecursion (λ p. p.0.0 < 2 ^ 32) pairs.now }
+{
+    'pairs: for pair in pairs {
+        if pair.0.0 > u32::MAX as usize {
+            return false;
+        }
+    }
+    true
+}
+
+// The numbers of these nodes.
+fn indices<A: Allocator>(alloc: A, nodes: &[Node]) -> Result<Vec<u32, A>, AllocError>
+    requires { AllByRecursion (λ node. node.0 < 2 ^ 32) nodes.now }
+    ensures { IfOk result (λ indices. indices.items ≡ map (λ node. node.0) nodes.now) }
+{
+    let mut indices = Vec::new(alloc);
+    'nodes: for node in nodes {
+        indices.push(node.0 as u32)?;
+    }
+    Ok(indices)
+}
+
+// The entries of these digests.
+fn entries<D, A: Allocator + Copy>(
+    alloc: A,
+    pairs: &[(Node, Hash<D>)],
+) -> Result<Vec<HashEntry<A>, A>, AllocError>
+    requires { AllByRecursion (λ p. p.0.0 < 2 ^ 32) pairs.now }
+    ensures entries { IfOk result (λ entries. map entry_view entries.items ≡ map entry_of pairs.now) }
+    ensures lengths { IfOk result (λ entries. AllByRecursion (λ p. length p.1 ≡ 32) pairs.now) }
+{
+    let mut entries = Vec::new(alloc);
+    'pairs: for pair in pairs {
+        entries.push(entry(alloc, pair.0.0 as u32, &pair.1)?)?;
+    }
+    Ok(entries)
+}
+
+// The entry of a digest.
+pub(crate) fn entry<D, A: Allocator>(
+    alloc: A,
+    index: u32,
+    hash: &Hash<D>,
+) -> Result<HashEntry<A>, AllocError>
+    ensures index { IfOk result (λ entry. entry.index ≡ index) }
+    ensures hash { IfOk result (λ entry. entry.hash.items ≡ hash.now) }
+    ensures length { length hash.now ≡ 32 }
+{
+    prove_eq!(hash.len(), 32);
+    Ok(HashEntry {
+        index,
+        hash: Vec::from_slice(alloc, hash.bytes())?,
+    })
+}
