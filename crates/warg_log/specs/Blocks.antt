@@ -27,7 +27,7 @@ block_over H F n d (suc h) a = unwrap_or (F (node_over a (2 ^ suc h))) (branch H
 abbrev pub pushed : (List ℕ → List ℕ) → Blocks → List ℕ → Blocks
 pushed H b d = record {
   len = b.len + 1;
-  digests = map (λ t. block_over H (block_at b) b.len d (height_of t) (start_of t)) (balanced_roots (b.len + 1))
+  digests = map (λ t. block_over H (block_at b) b.len d (height_of t) (start_of t)) (balanced_roots (b.len + 1));
 }
 
 -- The blocks stand for these leaf digests: each is the root of the leaves below its node.

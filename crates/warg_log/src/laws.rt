@@ -3,7 +3,7 @@
 //! Read them beside the definitions: they state the standard's own words (RFC 6962, section 2.1) where
 //! a definition takes another road, and they are all that a proof about the definitions needs.
 
-ghost use Rattle.std.specs.Prelude.{◌≡◌, ℕ, ◌+◌, ◌-◌, ◌*◌, ◌%◌, ◌^◌, ◌<◌, ◌≤◌, ◌⊎◌, ◌↔◌, List, [], ◌∷◌, length, take, drop, Option, Some, Ok, IsSome, slice_index_or};
+ghost use Rattle.std.specs.Prelude.{◌≡◌, ℕ, ◌+◌, ◌-◌, ◌*◌, ◌/◌, ◌%◌, ◌^◌, ◌<◌, ◌≤◌, ◌⊎◌, ◌↔◌, List, [], ◌∷◌, length, take, drop, Option, Some, Ok, IsSome, slice_index_or};
 ghost use Rattle.warg_log.specs.Nodes.{IsNode, ExistsAt, height_of, place_of, start_of, end_of, node_over};
 ghost use Rattle.warg_log.specs.Tree.{branch, front_of, root_of, root_over, leaves_of, leaves_below, own_digest};
 ghost use Rattle.warg_log.specs.Cut.{joined, cut_over, cut_root, old_over, old_root, IsFull, IsBeside};
@@ -59,7 +59,8 @@ pub fn interval_has_number()
 /// The parent of a node's sibling is the node's parent: both are answered, and are the same.
 pub fn parent_of_sibling(node: Node) -> (Node, Node)
     requires { height_of node.0 < 63 }
-    ensures { result.0 ≡ result.1 }
+    ensures same { result.0 ≡ result.1 }
+    ensures parent { IsNode result.1.0 (height_of node.0 + 1) (place_of node.0 / 2) }
 {
     (node.sibling().parent(), node.parent())
 }

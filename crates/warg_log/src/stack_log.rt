@@ -110,7 +110,11 @@ impl<D: SupportedDigest, V: VisitBytes, A: Allocator> LogBuilder<D, V> for Stack
 }
 
 // Puts a new last leaf behind the blocks of a length, and joins it with each block of its own height.
-fn join_blocks<D: SupportedDigest, A: Allocator>(blocks: &mut Vec<Hash<D>, A>, count: usize, digest: Hash<D>)
+fn join_blocks<D: SupportedDigest, A: Allocator>(
+    blocks: &mut Vec<Hash<D>, A>,
+    count: usize,
+    digest: Hash<D>,
+)
     requires room { vec_len blocks.old < vec_capacity blocks.old }
     requires count { length blocks.old.items ≡ length (balanced_roots count) }
     ensures count { length blocks.new.items ≡ length (balanced_roots (count + 1)) }
