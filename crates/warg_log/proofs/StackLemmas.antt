@@ -1,13 +1,13 @@
 -- The blocks of a stack log.
-use Rattle.std.proofs.Common.{◌≡◌, ℕ, zero, suc, ◌+◌, ◌-◌, ◌*◌, ◌/◌, ◌%◌, ◌^◌, ◌<◌, ◌≤◌, ◌==◌, nat_eq, true, false, List, [], ◌∷◌, ◌++◌, length, map, take, drop, Option, Some, None, refl, sym, ap, ◌∙◌, arith, lit≤, lit<, subst, ⊎_elim, append_assoc}
-use Rattle.std.proofs.Math.Nat.{pow-suc, pow-le-pow_right, mul-le-mul_left}
-use Rattle.std.proofs.lemmas.List.{map-append, append-nil, length-append, length-map, take_at, drop_at}
+use Rattle.std.proofs.Common.{◌≡◌, ℕ, zero, suc, ◌+◌, ◌-◌, ◌*◌, ◌/◌, ◌%◌, ◌^◌, ◌<◌, ◌≤◌, nat_eq, false, List, [], ◌∷◌, ◌++◌, length, map, take, drop, Option, Some, None, refl, sym, ap, ◌∙◌, arith, ⊎_elim}
+use Rattle.std.proofs.Math.Nat.{pow-suc, mul-le-mul_left}
+use Rattle.std.proofs.lemmas.List.{map-append, length-append, length-map, take_at, drop_at}
 use Rattle.std.proofs.lemmas.Nat.{pow_pos, pow-add}
 use Rattle.std.proofs.lemmas.Bool.{le-leb, lt-leb, eq-eqb, ne_eqb, cases_lt, cases_eq}
 use Rattle.warg_log.specs.Nodes.{height_of, place_of, start_of, end_of, node_over, balanced_within, balanced_over, balanced_roots}
 use Rattle.warg_log.specs.Tree.{branch, front_of, root_of, root_over, leaves_below, own_digest}
 use Rattle.warg_log.specs.Cut.{joined, IsFull, old_over, old_root}
-use Rattle.warg_log.specs.Blocks.{Blocks, Grows, StandsFor, digest_beside, block_at, block_over, pushed, joined_blocks}
+use Rattle.warg_log.specs.Blocks.{Blocks, Grows, StandsFor, digest_beside, block_at, block_over, joined_blocks}
 use Rattle.warg_log.proofs.NodeLemmas.{node_is, node_at, pow_below_pow}
 use Rattle.warg_log.proofs.RootLemmas.{below_pow, front_of-is}
 use Rattle.warg_log.proofs.CutLemmas.{root_over-split, old_over-full, old_over-parts, old_root-own}

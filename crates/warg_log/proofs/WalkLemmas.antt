@@ -1,9 +1,7 @@
 -- The nodes that a proof's evaluation reads.
-use Rattle.std.proofs.Common.{◌≡◌, ℕ, zero, suc, ◌+◌, ◌-◌, ◌^◌, ◌<◌, ◌≤◌, ◌==◌, ◌&&◌, nat_le, true, false, List, [], ◌∷◌, ◌++◌, map, Option, Some, None, refl, sym, ap, ◌∙◌, arith, lit≤, add-zero, ⊎_elim, IsSome}
+use Rattle.std.proofs.Common.{◌≡◌, ℕ, zero, suc, ◌+◌, ◌-◌, ◌^◌, ◌<◌, ◌≤◌, ◌==◌, ◌&&◌, nat_le, true, false, List, [], ◌∷◌, ◌++◌, Option, Some, None, refl, sym, ap, ◌∙◌, arith, lit≤, add-zero, ⊎_elim, IsSome}
 use Rattle.std.proofs.Math.Nat.{pow-le-pow_right}
-use Rattle.std.proofs.lemmas.List.{map-append, append_assoc}
 use Rattle.std.proofs.lemmas.Bool.{le-leb, cases_Bool}
-use Rattle.warg_log.specs.declared.node.Node.{Node}
 use Rattle.warg_log.specs.Cut.{joined, is_target, is_beside, cut_within}
 use Rattle.warg_log.specs.Walks.{needed_within, IsKnown}
 use Rattle.warg_log.proofs.RootLemmas.{below_pow}

@@ -1,7 +1,5 @@
-use Rattle.std.proofs.Common.{◌≡◌, ℕ, suc, ◌+◌, ◌-◌, ◌*◌, ◌/◌, ◌%◌, ◌^◌, ◌<◌, ◌++◌, [], List, length, refl, sym, ap, ◌∙◌, arith, vec_len}
-use Rattle.std.specs.Prelude.{vec_capacity}
-use Rattle.std.proofs.lemmas.List.{append-nil}
-use Rattle.warg_log.proofs.StackLemmas.{IsJoined, join_step, join_some, join_none, join_done}
+use Rattle.std.proofs.Common.{suc, ◌<◌, length, arith}
+use Rattle.warg_log.proofs.StackLemmas.{join_step, join_some, join_done}
 use Rattle.warg_log.proofs.stack_log.join_blocks.Goals as goal
 
 pub unreachable-requires : goal.unreachable-requires

@@ -1,7 +1,5 @@
-use Rattle.std.proofs.Common.{◌≡◌, ℕ, ◌+◌, ◌*◌, ◌^◌, ◌<◌, List, length, map, vec_len}
+use Rattle.std.proofs.Common.{ℕ, ◌<◌, vec_len}
 use Rattle.std.specs.Prelude.{vec_capacity}
-use Rattle.warg_log.specs.Nodes.{height_of, start_of, balanced_roots}
-use Rattle.warg_log.specs.Blocks.{Grows}
 use Rattle.warg_log.proofs.StackLemmas.{IsJoined}
 use Rattle.warg_log.proofs.stack_log.join_blocks.Given as goal
 

@@ -1,6 +1,5 @@
-use Rattle.std.proofs.Common.{◌≡◌, length, refl, ap}
+use Rattle.std.proofs.Common.{length, refl, ap}
 use Rattle.warg_log.specs.Nodes.{balanced_within}
-use Rattle.warg_log.specs.Blocks.{StandsFor}
 use Rattle.warg_log.proofs.stack_log.StackLog.default.Goals as goal
 
 pub invariant_of-result : goal.invariant_of-result

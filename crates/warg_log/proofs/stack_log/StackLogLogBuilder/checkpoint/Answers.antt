@@ -1,6 +1,6 @@
-use Rattle.std.proofs.Common.{◌≡◌, ℕ, ◌<◌, List, [], Some, length, refl, sym, ap, ◌∙◌, subst}
+use Rattle.std.proofs.Common.{◌≡◌, Some, length, sym, ap, ◌∙◌, subst}
 use Rattle.warg_log.specs.Nodes.{balanced_roots}
-use Rattle.warg_log.specs.Blocks.{Blocks, StandsFor, joined_blocks}
+use Rattle.warg_log.specs.Blocks.{Blocks, joined_blocks}
 use Rattle.warg_log.proofs.StackLemmas.{blocks_root, stands_root, none_root}
 use Rattle.warg_log.proofs.stack_log.StackLogLogBuilder.checkpoint.Goals as goal
 
