@@ -2,6 +2,8 @@
 #![tactic(auto)]
 
 #[cfg(test)]
+mod bundle;
+#[cfg(test)]
 mod crypto;
 #[cfg(test)]
 mod log;

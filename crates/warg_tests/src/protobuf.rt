@@ -24,7 +24,7 @@ const L2: &str = "0298d122906dcfc10892cb53a73992fc5b9f493ea4c9badb27b791b4127a7f
 const U2: &str = "fac54203e7cc696cf0dfcb42c92a1d9dbaf70ad9e621f4bd8d98662f00e3c125";
 
 // The bytes of hexadecimal words, one after the other; a digest goes by its name.
-fn bytes_of<A: Allocator + Copy>(alloc: A, words: &str) -> Result<Vec<u8, A>, Fail> {
+pub(crate) fn bytes_of<A: Allocator + Copy>(alloc: A, words: &str) -> Result<Vec<u8, A>, Fail> {
     let mut bytes = Vec::new(alloc);
     for word in words.split(' ') {
         let digits = match word {

@@ -1,0 +1,204 @@
+//! Log bundles read from bytes, verdicts on their proofs, and each refused growth.
+
+use crate::protobuf::bytes_of;
+use refusing::Refusing;
+use std::alloc::Allocator;
+use std::test::Fail;
+use warg_check::{CheckError, check_consistency, check_inclusion};
+use warg_crypto::{Hash, Sha256};
+use warg_log::{DecodeError, EncodeError, LogData, LogProofBundle, Node};
+use warg_protobuf::WireError;
+
+type Bundle<A> = LogProofBundle<Sha256, Vec<u8, A>, A>;
+
+const U3: &str = "aeb6bcfe274b70a14fb067a5e5578264db0fa9b51af5e0ba159158f329e06e77";
+
+// Inclusion of the first of the texts "" and "00" at length 2.
+const INCLUSION: &str = "0802 1a0100 2224 0802 1220 L1";
+
+// Consistency from 2 to 3 in the log of "", "00" and "10".
+const CONSISTENCY: &str = "0803 120102 2224 0801 1220 U2 2224 0804 1220 L2";
+
+// Consistency from 2 to 3 and inclusion of the first and the last text in the same log.
+const BOTH: &str = "0803 120102 1a020004 2224 0801 1220 U2 2224 0802 1220 L1 2224 0804 1220 L2";
+
+fn root<A: Allocator + Copy>(alloc: A, digits: &str) -> Result<Hash<Sha256>, Fail> {
+    let bytes = bytes_of(alloc, digits)?;
+    Ok(Hash::try_from(bytes)?)
+}
+
+#[test]
+fn bundles_read_and_written(rt: HostRuntime) -> Result<(), Fail> {
+    let alloc = rt.alloc();
+    for (bytes, written) in [
+        ("", ""),
+        ("0803 1001 1002", "0803 12020102"),
+        ("2801 2d00000000 0805 0807", "0807"),
+        (INCLUSION, INCLUSION),
+        (CONSISTENCY, CONSISTENCY),
+        (BOTH, BOTH),
+    ] {
+        let bundle = Bundle::decode(alloc, &bytes_of(alloc, bytes)?)?;
+        assert_eq!(rt;
+            bundle.encode(alloc)?,
+            bytes_of(alloc, written)?,
+            "at {bytes}"
+        );
+        let again = Bundle::from_message(alloc, bundle.to_message(alloc)?)?;
+        assert_eq!(rt;
+            again.encode(alloc)?,
+            bytes_of(alloc, written)?,
+            "at {bytes}"
+        );
+    }
+    Ok(())
+}
+
+#[test]
+fn faults_of_bundles(rt: HostRuntime) -> Result<(), Fail> {
+    let alloc = rt.alloc();
+    for (bytes, fault) in [
+        ("08", DecodeError::Wire(WireError::Truncated)),
+        ("00", DecodeError::Wire(WireError::BadTag)),
+        ("0b", DecodeError::Wire(WireError::Group)),
+        ("220108", DecodeError::Wire(WireError::Truncated)),
+        ("2200", DecodeError::HashLength),
+        ("2222 1220 L0 2222 1220 L0", DecodeError::NotAscending),
+    ] {
+        let read = Bundle::decode(alloc, &bytes_of(alloc, bytes)?);
+        assert!(rt; matches!(read, Err(found) if found == fault), "at {bytes}");
+    }
+    Ok(())
+}
+
+#[test]
+fn parts_of_a_bundle(rt: HostRuntime) -> Result<(), Fail> {
+    let alloc = rt.alloc();
+    let bundle = Bundle::decode(alloc, &bytes_of(alloc, BOTH)?)?;
+    let (hashes, consistency, inclusion) = bundle.unbundle(alloc)?;
+    assert_eq!(rt; [consistency.len(), inclusion.len()], [1, 2]);
+    assert!(rt; hashes.has_hash(Node(2)) && bundle.hashes().has_hash(Node(2)));
+    assert!(rt; !hashes.has_hash(Node(0)) && !bundle.hashes().has_hash(Node(0)));
+    for (place, node) in [(0, 0), (1, 4)] {
+        let proof = hashes.prove_inclusion(Node(node), 3);
+        assert!(rt; inclusion[place] == proof && bundle.inclusion_proof(place) == Some(proof));
+    }
+    let proof = hashes.prove_consistency(2, 3);
+    assert!(rt; consistency[0] == proof && bundle.consistency_proof(0) == Some(proof));
+    assert!(rt; bundle.inclusion_proof(2).is_none() && bundle.consistency_proof(1).is_none());
+    let (old, new) = proof.evaluate(&hashes)?;
+    assert!(rt; old == root(alloc, "U2")? && new == root(alloc, U3)?);
+    Ok(())
+}
+
+#[test]
+fn verdicts_from_bytes(rt: HostRuntime) -> Result<(), Fail> {
+    let alloc = rt.alloc();
+    let (u2, u3) = (root(alloc, "U2")?, root(alloc, U3)?);
+    let [none, last]: [&[u8]; 2] = [&[], &[0x10]];
+    let bytes = bytes_of(alloc, INCLUSION)?;
+    assert!(rt; check_inclusion(alloc, &bytes, 0, &none, &u2) == Ok(true));
+    let bytes = bytes_of(alloc, CONSISTENCY)?;
+    assert!(rt; check_consistency(alloc, &bytes, 0, &u2, &u3) == Ok(true));
+    assert!(rt; check_consistency(alloc, &bytes, 0, &u3, &u2) == Ok(false));
+    assert!(rt; check_consistency(alloc, &bytes, 1, &u2, &u3) == Err(CheckError::NoSuchProof));
+    let bytes = bytes_of(alloc, BOTH)?;
+    assert!(rt; check_inclusion(alloc, &bytes, 0, &none, &u3) == Ok(true));
+    assert!(rt; check_inclusion(alloc, &bytes, 1, &last, &u3) == Ok(true));
+    assert!(rt; check_inclusion(alloc, &bytes, 0, &last, &u3) == Ok(false));
+    assert!(rt; check_inclusion(alloc, &bytes, 2, &last, &u3) == Err(CheckError::NoSuchProof));
+    assert!(rt; check_consistency(alloc, &bytes, 0, &u2, &u3) == Ok(true));
+    let fault = CheckError::Decode(DecodeError::Wire(WireError::Truncated));
+    assert!(rt; check_inclusion(alloc, &[8], 0, &none, &u3) == Err(fault));
+    Ok(())
+}
+
+// Each growth refused leads to want of memory or to the answer with ample memory, which comes at last.
+#[test]
+fn bundles_with_each_growth_refused(rt: HostRuntime) -> Result<(), Fail> {
+    let ample = rt.alloc();
+    let bytes = bytes_of(ample, BOTH)?;
+    let (u2, u3) = (root(ample, "U2")?, root(ample, U3)?);
+    let mut refused = 0u32;
+    for growths in 0..16u64 {
+        let alloc = Refusing::after(ample, growths);
+        match check_consistency(&alloc, &bytes, 0, &u2, &u3) {
+            Ok(verdict) => assert!(rt; verdict),
+            Err(fault) => {
+                assert!(rt; fault == CheckError::Memory);
+                refused = refused.saturating_add(1);
+            }
+        }
+        let alloc = Refusing::after(ample, growths);
+        match check_inclusion(&alloc, &bytes, 0, &(), &u3) {
+            Ok(verdict) => assert!(rt; verdict),
+            Err(fault) => assert!(rt; fault == CheckError::Memory),
+        }
+        let alloc = Refusing::after(ample, growths);
+        match LogProofBundle::<Sha256, (), &Refusing<_>>::decode(&alloc, &bytes) {
+            Ok(bundle) => {
+                match bundle.encode(&alloc) {
+                    Ok(written) => assert!(rt; written.as_slice() == bytes.as_slice()),
+                    Err(fault) => assert!(rt; fault == EncodeError::Memory),
+                }
+                assert!(rt; bundle.unbundle(&alloc).is_ok() || alloc.left() == 0);
+            }
+            Err(fault) => assert!(rt; fault == DecodeError::Memory),
+        }
+    }
+    assert!(rt; refused > 0 && refused < 16);
+    Ok(())
+}
+
+#[test]
+fn texts_of_bundle_faults(rt: HostRuntime) -> Result<(), Fail> {
+    let alloc = rt.alloc();
+    assert_eq!(rt;
+        format!(in alloc; "{}", EncodeError::TooLarge)?.as_str(),
+        "number does not fit in 32 bits"
+    );
+    assert_eq!(rt;
+        format!(in alloc; "{}", EncodeError::Memory)?.as_str(),
+        "out of memory"
+    );
+    let fault = DecodeError::Wire(WireError::Truncated);
+    let text = format!(in alloc; "{}", WireError::Truncated)?;
+    assert_eq!(rt; format!(in alloc; "{fault}")?.as_str(), text.as_str());
+    assert_eq!(rt;
+        format!(in alloc; "{}", CheckError::Decode(fault))?.as_str(),
+        text.as_str()
+    );
+    assert_eq!(rt;
+        format!(in alloc; "{}", DecodeError::HashLength)?.as_str(),
+        "hash is not 32 bytes"
+    );
+    assert_eq!(rt;
+        format!(in alloc; "{}", DecodeError::NotAscending)?.as_str(),
+        "hash indices are not ascending"
+    );
+    assert_eq!(rt;
+        format!(in alloc; "{}", DecodeError::NotALog)?.as_str(),
+        "not the image of a log"
+    );
+    assert_eq!(rt;
+        format!(in alloc; "{}", DecodeError::NotAStack)?.as_str(),
+        "not the balanced roots of the length"
+    );
+    assert_eq!(rt;
+        format!(in alloc; "{}", DecodeError::TooManyPeers)?.as_str(),
+        "more than 256 peers"
+    );
+    assert_eq!(rt;
+        format!(in alloc; "{}", DecodeError::Memory)?.as_str(),
+        "out of memory"
+    );
+    assert_eq!(rt;
+        format!(in alloc; "{}", CheckError::NoSuchProof)?.as_str(),
+        "no such proof"
+    );
+    assert_eq!(rt;
+        format!(in alloc; "{}", CheckError::Memory)?.as_str(),
+        "out of memory"
+    );
+    Ok(())
+}
