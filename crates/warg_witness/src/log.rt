@@ -1,6 +1,6 @@
 //! Witnesses for the log's proofs.
 
-ghost use Rattle.std.specs.Prelude.{◌≡◌, ℕ, ◌+◌, ◌^◌, ◌≤◌, ◌↔◌, List, [], ◌∷◌, length, map, IfOk, MatchOption};
+ghost use Rattle.std.specs.Prelude.{◌≡◌, ℕ, ◌+◌, ◌^◌, ◌≤◌, ◌↔◌, List, [], ◌∷◌, length, map, None, Ok, IfOk, MatchOption};
 ghost use Rattle.warg_log.specs.Tree.{leaves_of};
 ghost use Rattle.warg_witness.specs.Ranges.{IsNodeRange};
 ghost use Rattle.warg_witness.specs.Compared.{AreClaimedInputs};
@@ -37,7 +37,8 @@ fn meet<D: SupportedDigest, V: VisitBytes, L: LogData<D, V>, A: Allocator + Copy
     hash: &Hash<D>,
     entries: &[V],
 ) -> Result<Option<Meeting<D, V, A>>, AllocError>
-    ensures { IfOk result (λ met. MatchOption met
+    ensures count { (length entries.now ≡ proof.now.log_length → ⊥) → result ≡ Ok None }
+    ensures met { IfOk result (λ met. MatchOption met
         (IsMet D.digest (L.digest_at hashes.now) hash.now proof.now.leaf.0 proof.now.log_length (map (λ e. V.bytes e) entries.now) → ⊥)
         (λ m. IsMeeting D.digest (L.digest_at hashes.now) hash.now proof.now.leaf.0 proof.now.log_length (map (λ e. V.bytes e) entries.now)
         m.tree m.target.start m.target.count m.plain m.parting)) }
@@ -140,6 +141,7 @@ pub fn witness_value<D: SupportedDigest, V: VisitBytes, L: LogData<D, V>, A: All
     value: &V,
     entries: &[V],
 ) -> Result<Finding<D, A>, AllocError>
+    ensures count { (length entries.now ≡ proof.now.log_length → ⊥) → result ≡ Ok Finding.NotMet }
     ensures not_met { IfOk result (λ f. (f ≡ Finding.NotMet)
         ↔ (IsMet D.digest (L.digest_at hashes.now) (D.digest (0 ∷ V.bytes value.now)) proof.now.leaf.0 proof.now.log_length (map (λ e. V.bytes e) entries.now) → ⊥)) }
     ensures holds { IfOk result (λ f. (f ≡ Finding.Holds)
@@ -175,6 +177,7 @@ pub fn witness_hash<D: SupportedDigest, V: VisitBytes, L: LogData<D, V>, A: Allo
     hash: Hash<D>,
     entries: &[V],
 ) -> Result<Finding<D, A>, AllocError>
+    ensures count { (length entries.now ≡ proof.now.log_length → ⊥) → result ≡ Ok Finding.NotMet }
     ensures not_met { IfOk result (λ f. (f ≡ Finding.NotMet)
         ↔ (IsMet D.digest (L.digest_at hashes.now) hash proof.now.leaf.0 proof.now.log_length (map (λ e. V.bytes e) entries.now) → ⊥)) }
     ensures holds { IfOk result (λ f. (f ≡ Finding.Holds)

@@ -1,4 +1,4 @@
-use Rattle.std.proofs.Common.{◌≡◌, ◌^◌, List, ℕ, refl, ◌∙◌, ap, sym}
+use Rattle.std.proofs.Common.{◌≡◌, ◌^◌, List, ℕ, refl, ◌∙◌, ap}
 use Rattle.warg_log.specs.Nodes.{height_of, start_of}
 use Rattle.warg_log.specs.declared.node.Node.{Node}
 use Rattle.warg_witness.proofs.PlainLemmas.{whole_aligned}

@@ -26,8 +26,8 @@ descend-parting-requires-clause-one g c =
     c.new-whole.ensures.start (c.new-whole.ensures.count ∙ c.log_length-2.ensures.value)
     (sym (length-leaves g.D.SupportedDigest.digest _ _ c.in_ok-tree.ensures ∙ count)) c.new-whole.result.some c.plain_digest-plain.ensures
 
-pub returns : goal.returns
-returns g c =
+pub returns-clause-met : goal.returns-clause-met
+returns-clause-met g c =
     let root = c.if-not-is_equal.ensures.0 refl in
     let ok = c.in-Ok.ensures.ok in
     let evaluation = rw c.copied.ensures at ok.1 in

@@ -7,12 +7,12 @@ not_false e = cc
 
 pub part-requires : goal.part-requires
 part-requires g c =
-    let meeting = rw c.in-Some.is at c.in_ok-met.ensures in
+    let meeting = rw c.in-Some.is at c.in_ok-met.ensures.met in
     (hash_shown _ _ _ _ _ _ _ _ _ _ _ c.in-Some.met.target.some (some_leaves _ _ meeting.met.exists) meeting (λ e. not_false (c.if-is_equal.ensures.1 e))).at_branch
 
 pub returns-clause-collision : goal.returns-clause-collision
 returns-clause-collision g c k is =
-    let meeting = rw c.in-Some.is at c.in_ok-met.ensures in
+    let meeting = rw c.in-Some.is at c.in_ok-met.ensures.met in
     let shown = (hash_shown _ _ _ _ _ _ _ _ _ _ _ c.in-Some.met.target.some (some_leaves _ _ meeting.met.exists) meeting (λ e. not_false (c.if-is_equal.ensures.1 e))).placed in
     let same : ◌≡◌ {A = List ℕ × List ℕ} k c.in_ok-part.field-0 = cc in
     hash_placed_as _ _ _ _ _ _ k (same ∙ c.in_ok-part.ensures) shown
