@@ -1,4 +1,4 @@
-//! The digests of the empty trees.
+//! The digests of empty trees.
 
 ghost use Rattle.std.specs.Prelude.{◌≡◌, ◌≤◌};
 ghost use Rattle.warg_crypto.specs.EmptyTrees.{empty_root};
@@ -7,9 +7,9 @@ use crate::digest::SupportedDigest;
 use crate::hash::Hash;
 
 /// The digest of the empty tree of `height` levels: `H(00)` at height 0, and at each height above
-/// the branch `H(01 ++ e ++ e)` over the digest `e` of the height below.
+/// `H(01 ++ e ++ e)`, with the digest `e` of the height below.
 ///
-/// It hashes once for each height, and under SHA-256 but once.
+/// It hashes once for each height, under SHA-256 but once.
 #[tactic(auto, unfolding(crate::specs::EmptyTrees::empty_root))]
 pub fn empty_tree_hash<D: SupportedDigest>(height: usize) -> Hash<D>
     requires { height ≤ 256 }
@@ -22,7 +22,7 @@ pub fn empty_tree_hash<D: SupportedDigest>(height: usize) -> Hash<D>
     empty
 }
 
-// The digests of the empty trees of 0 to 256 levels by SHA-256, each of them proved.
+// Those of 0 to 256 levels by SHA-256, each of them proved.
 #[rattlefmt::skip]
 pub(crate) static EMPTY_TREES: [[u8; 32]; 257] = [
     [110, 52, 11, 156, 255, 179, 122, 152, 156, 165, 68, 230, 187, 120, 10, 44, 120, 144, 29, 63, 179, 55, 56, 118, 133, 17, 163, 6, 23, 175, 160, 29],
