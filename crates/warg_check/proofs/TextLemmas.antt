@@ -1,5 +1,5 @@
 -- The text of some lines and of those behind them.
-use Rattle.std.proofs.Common.{◌≡◌, ℕ, suc, ◌+◌, Bool, true, false, ◌&&◌, cond, List, [], ◌∷◌, ◌++◌, length, append_assoc, append-nil, length-append, Err, refl, sym, ◌∙◌, ap, arith}
+use Rattle.std.proofs.Common.{◌≡◌, ℕ, suc, ◌+◌, Bool, true, false, ◌&&◌, cond, List, [], ◌∷◌, ◌++◌, length, append_assoc, append-nil, length-append, codes, ◌⊎◌, ⊎_elim, Result, Err, refl, sym, ◌∙◌, ap, arith}
 use Rattle.std.proofs.lemmas.List.{length-map}
 use Rattle.warg_crypto.specs.Digests.{sha256}
 use Rattle.warg_log.specs.Tree.{own_digest}
@@ -7,7 +7,10 @@ use Rattle.warg_log.specs.Consistency.{consistency}
 use Rattle.warg_log.specs.declared.consistency.ConsistencyProofError.{ConsistencyProofError}
 use Rattle.warg_check.specs.Words.{lines_of}
 use Rattle.warg_check.specs.Orders.{Line, line_of, consistent}
-use Rattle.warg_check.specs.Text.{said, is_not_bad, entries_after, text_from, text_of, all_good, entries_over, leaves, answer, refusal, roots_or_refusal}
+use Rattle.warg_check.specs.Text.{said, is_not_bad, entries_after, text_from, text_of, all_good, entries_over, leaves, answer, refusal, roots_or_refusal, verdict_or_refusal}
+use Rattle.warg_log.specs.declared.error.DecodeError.{DecodeError}
+use Rattle.warg_check.specs.declared.verdict.CheckError.{CheckError}
+use Rattle.warg_check.specs.declared.verdict.CheckError.TheVariants as check
 use Rattle.warg_check.specs.Errors.{IsLineError, IsAnswersError}
 use Rattle.warg_check.specs.declared.program.RunError.{RunError}
 use Rattle.warg_check.specs.declared.program.RunError.TheVariants.{Read, Write, Memory, Full}
@@ -154,3 +157,8 @@ unfolding answer
 refused_answer log entries m n fault is fails =
     let here : consistency sha256 (own_digest sha256 (leaves entries)) m n ≡ Err fault = rw is at fails in
     ap roots_or_refusal here
+
+-- bytes that are no bundle are refused for that
+pub not_decoded : (e : DecodeError) (verdict : Result Bool CheckError) → (check.Decode e ≡ check.Memory) ⊎ (verdict ≡ Err (check.Decode e))
+    → verdict_or_refusal verdict ≡ codes "refused not decoded"
+not_decoded e verdict told = ⊎_elim (λ (memory : check.Decode e ≡ check.Memory). absurd (cc)) (λ (is : verdict ≡ Err (check.Decode e)). rw is refl) told

@@ -10,7 +10,10 @@ use Rattle.warg_log.specs.Consistency.{consistency}
 use Rattle.warg_log.specs.declared.consistency.ConsistencyProofError.{ConsistencyProofError}
 use Rattle.warg_log.specs.declared.consistency.ConsistencyProofError.TheVariants.{PointsOutOfOrder, HashNotKnown, InclusionError, DivergingRoots, OldLengthZero, Memory}
 use Rattle.warg_check.specs.Words.{lines_of}
-use Rattle.warg_check.specs.Orders.{Order, push, log, include, consistent, Line, empty, bad, good, line_of}
+use Rattle.warg_check.specs.Verdicts.{inclusion_verdict}
+use Rattle.warg_check.specs.declared.verdict.CheckError.{CheckError}
+use Rattle.warg_check.specs.declared.verdict.CheckError.TheVariants as check
+use Rattle.warg_check.specs.Orders.{Order, push, log, include, consistent, verify, Line, empty, bad, good, line_of}
 
 -- The log's leaf digests.
 abbrev pub leaves : List (List ℕ) → List (List ℕ)
@@ -34,10 +37,18 @@ abbrev pub roots_or_refusal : Result (List ℕ × List ℕ) ConsistencyProofErro
 roots_or_refusal (Ok roots) = codes "roots " ++ encode_lower roots.0 ++ 32 ∷ encode_lower roots.1
 roots_or_refusal (Err fault) = refusal fault
 
+-- A verdict, or why there is none.
+abbrev pub verdict_or_refusal : Result Bool CheckError → List ℕ
+verdict_or_refusal (Ok true) = codes "true"
+verdict_or_refusal (Ok false) = codes "false"
+verdict_or_refusal (Err (check.Decode _)) = codes "refused not decoded"
+verdict_or_refusal (Err check.NoSuchProof) = codes "refused no such proof"
+verdict_or_refusal (Err check.Memory) = []
+
 -- The answer to an order: the number of the new leaf's node, twice the count of entries before it; the
 -- count and the root of the tree over the entries; the root that the entries' own digests give with the
 -- value at the node, or why there is none; the roots of two lengths by the entries' own digests, or why there
--- are none.
+-- are none; the verdict on the first inclusion proof of a bundle's bytes, which no entry bears on.
 unfoldable pub answer : List (List ℕ) → Order → List ℕ
 answer entries (push bytes) = codes "node " ++ decimal (2 * length entries)
 answer entries log = codes "log " ++ decimal (length entries) ++ 32 ∷ encode_lower (root_of sha256 (leaves entries))
@@ -46,6 +57,7 @@ answer entries (include node length value) =
     then root_or_refusal (cut_root sha256 (own_digest sha256 (leaves entries)) node (sha256 (0 ∷ value)) length)
     else codes "refused leaf too new"
 answer entries (consistent old new) = roots_or_refusal (consistency sha256 (own_digest sha256 (leaves entries)) old new)
+answer entries (verify root value bundle) = verdict_or_refusal (inclusion_verdict sha256 bundle 0 value root)
 
 -- The entries after an order.
 abbrev pub pushed : List (List ℕ) → Order → List (List ℕ)
@@ -53,6 +65,7 @@ pushed entries (push bytes) = entries ++ bytes ∷ []
 pushed entries log = entries
 pushed entries (include node length value) = entries
 pushed entries (consistent old new) = entries
+pushed entries (verify root value bundle) = entries
 
 -- The entries after a line.
 abbrev pub entries_after : List (List ℕ) → Line → List (List ℕ)

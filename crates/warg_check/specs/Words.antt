@@ -3,7 +3,7 @@ use Rattle.std.specs.Prelude.{◌≡◌, ◌≢◌, ℕ, ◌+◌, ◌-◌, ◌*�
 use Rattle.std.specs.List.{list_all}
 use Rattle.std.specs.Char.{is_ascii_digit}
 use Rattle.std.specs.Cmp.Lexicographic.{pointwise}
-use Rattle.hex.specs.Hex.{decode_of}
+use Rattle.hex.specs.Hex.{decode_of, decode_sized}
 use Rattle.hex.specs.declared.error.FromHexError.{FromHexError}
 
 -- A byte in front of the first of some parts.
@@ -60,6 +60,10 @@ decoded (Err _) = None
 -- even, positive number, in either case.
 unfoldable pub bytes_of : List ℕ → Option (List ℕ)
 bytes_of word = if is_word word (codes "-") then Some [] else if length word == 0 then None else decoded (decode_of word)
+
+-- The root that a word says: the 32 bytes of 64 hexadecimal digits, in either case.
+abbrev pub root_in : List ℕ → Option (List ℕ)
+root_in word = decoded (decode_sized word 32)
 
 -- The byte is not among these.
 abbrev pub Lacks : ℕ → List ℕ → Type 0

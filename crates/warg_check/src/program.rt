@@ -52,10 +52,12 @@ const READS: u64 = 1 << 48;
 /// | `log` | `log LENGTH ROOT` |
 /// | `include NODE LENGTH BYTES` | `root ROOT`, or `refused leaf too new` or `refused hash not known` |
 /// | `consistent OLD NEW` | `roots ROOT ROOT`, the old one first, or `refused` and why not |
+/// | `verify ROOT VALUE BUNDLE` | `true` or `false`, or `refused` and why not |
 ///
 /// A line that isn't one of these is answered by `bad line N`, N from 1, and nothing after it is read as
 /// a command. Empty lines are counted and not answered. BYTES is `-` for no bytes, or hexadecimal digits; numbers
-/// are decimal, and LENGTH, OLD and NEW at most 2^63.
+/// are decimal, and LENGTH, OLD and NEW at most 2^63. ROOT has 64 hexadecimal digits, and `verify` judges the
+/// first inclusion proof in the bundle.
 ///
 /// On `Read`, `Memory` and `Full` nothing was written; on `Write` some of the text may be.
 pub fn run<A: Allocator + Copy, R: Read, W: Write>(

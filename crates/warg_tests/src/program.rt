@@ -125,6 +125,34 @@ fn consistency(rt: HostRuntime) -> Result<(), Fail> {
     Ok(())
 }
 
+#[test]
+fn verdicts(rt: HostRuntime) -> Result<(), Fail> {
+    let rows = [
+        ("- 08011a0100", "true\n"),
+        ("00 08011a0100", "false\n"),
+        ("- 0b", "refused not decoded\n"),
+        ("- 2200", "refused not decoded\n"),
+        ("- 0801", "refused no such proof\n"),
+        ("- -", "refused no such proof\n"),
+        ("-", "bad line 1\n"),
+        ("- 0", "bad line 1\n"),
+        ("g 0801", "bad line 1\n"),
+    ];
+    for (words, want) in rows {
+        let line = format!(in rt.alloc(); "verify {L0} {words}")?;
+        let (text, good) = written(&rt, line.as_bytes())?;
+        assert_eq!(rt; text.as_slice(), want.as_bytes(), "at {words}");
+        assert_eq!(rt; good, !want.contains("bad line"));
+    }
+    for root in ["-", "00", "0b"] {
+        let line = format!(in rt.alloc(); "verify {root} - 0801")?;
+        let (text, good) = written(&rt, line.as_bytes())?;
+        assert_eq!(rt; text.as_slice(), b"bad line 1\n".as_slice());
+        assert!(rt; !good);
+    }
+    Ok(())
+}
+
 // Gives one byte at a read, and an error at the read of this number, from 1.
 #[derive(Drop)]
 struct Bytewise<'a> {

@@ -2,11 +2,12 @@
 
 ghost use Rattle.std.specs.Prelude.{◌≡◌, IfOk, [], ◌∷◌, Option};
 ghost use Rattle.std.specs.Option.{option_map};
-ghost use Rattle.warg_check.specs.Words.{words_of};
-ghost use Rattle.warg_check.specs.Orders.{order_of};
+ghost use Rattle.warg_check.specs.Words.{words_of, number_of, length_of, bytes_of, root_in};
+ghost use Rattle.warg_check.specs.Orders.{order_of, include_of, verify_of};
 
-use crate::program::word::{LogLength, bytes, log_length, number, split_first};
+use crate::program::word::{LogLength, bytes, log_length, number, root, split_first};
 use std::alloc::{AllocError, Allocator};
+use warg_crypto::{Hash, Sha256};
 use warg_log::Node;
 
 /// What a good line orders.
@@ -22,6 +23,11 @@ pub(super) enum Command<A: Allocator> {
     Consistent {
         old: LogLength,
         new: LogLength,
+    },
+    Verify {
+        root: Hash<Sha256>,
+        value: Vec<u8, A>,
+        bundle: Vec<u8, A>,
     },
 }
 
@@ -61,7 +67,7 @@ impl<'a> Words<'a> {
     }
 }
 
-impl<A: Allocator> Command<A> {
+impl<A: Allocator + Copy> Command<A> {
     ghost use Rattle.warg_check.specs.Commands.{order_seen};
 
     #[tactic(auto, unfolding(crate::specs::Orders::order_of))]
@@ -123,19 +129,54 @@ impl<A: Allocator> Command<A> {
     ) -> Result<Option<Command<A>>, AllocError>
         ensures { IfOk result (λ command. option_map order_seen command ≡ order_of (name.now ∷ first.now ∷ second.now ∷ third.now ∷ [])) }
     {
-        if name != b"include".as_slice() {
-            return Ok(None);
+        if name == b"include".as_slice() {
+            return Command::include(alloc, first, second, third);
         }
-        let (Some(node), Some(length)) = (number(first), log_length(second)) else {
+        if name == b"verify".as_slice() {
+            return Command::verify(alloc, first, second, third);
+        }
+        Ok(None)
+    }
+
+    fn include(
+        alloc: A,
+        node: &[u8],
+        length: &[u8],
+        value: &[u8],
+    ) -> Result<Option<Command<A>>, AllocError>
+        ensures { IfOk result (λ command. option_map order_seen command ≡ include_of (number_of node.now) (length_of length.now) (bytes_of value.now)) }
+    {
+        let (Some(node), Some(length)) = (number(node), log_length(length)) else {
             return Ok(None);
         };
-        let Some(value) = bytes(alloc, third)? else {
+        let Some(value) = bytes(alloc, value)? else {
             return Ok(None);
         };
         Ok(Some(Command::Include {
             node: Node(node),
             length,
             value,
+        }))
+    }
+
+    fn verify(
+        alloc: A,
+        root_word: &[u8],
+        value: &[u8],
+        bundle: &[u8],
+    ) -> Result<Option<Command<A>>, AllocError>
+        ensures { IfOk result (λ command. option_map order_seen command ≡ verify_of (root_in root_word.now) (bytes_of value.now) (bytes_of bundle.now)) }
+    {
+        let Some(root) = root(root_word) else {
+            return Ok(None);
+        };
+        let (Some(value), Some(bundle)) = (bytes(alloc, value)?, bytes(alloc, bundle)?) else {
+            return Ok(None);
+        };
+        Ok(Some(Command::Verify {
+            root,
+            value,
+            bundle,
         }))
     }
 }

@@ -4,16 +4,17 @@ ghost use Rattle.std.specs.Prelude.{◌≡◌, ◌≢◌, ℕ, ◌≤◌, ◌^�
 ghost use Rattle.hex.specs.Hex.{encode_lower};
 ghost use Rattle.warg_crypto.specs.Digests.{sha256};
 ghost use Rattle.warg_check.specs.Words.{lines_of};
-ghost use Rattle.warg_check.specs.Orders.{line_of, push, log, include, consistent};
+ghost use Rattle.warg_check.specs.Orders.{line_of, push, log, include, consistent, verify};
 ghost use Rattle.warg_check.specs.Errors.{IsAnswersError};
 ghost use Rattle.warg_check.specs.Text.{leaves, answer, said, pushed, entries_after, is_not_bad, refusal, text_of, all_good, Answers};
 
 use crate::program::RunError;
 use crate::program::command::Command;
 use crate::program::word::{LogLength, next_line};
+use crate::verdict::{CheckError, check_inclusion};
 use std::alloc::{AllocError, Allocator};
 use std::fmt::Write;
-use warg_crypto::Sha256;
+use warg_crypto::{Hash, Sha256};
 use warg_log::{ConsistencyProofError, InclusionProofError, LogBuilder, LogData, Node, VecLog};
 
 // What a run keeps from line to line.
@@ -75,6 +76,11 @@ impl<A: Allocator + Copy> Session<A> {
                 value,
             } => self.include(node, &length, &value),
             Command::Consistent { old, new } => self.consistent(&old, &new),
+            Command::Verify {
+                root,
+                value,
+                bundle,
+            } => self.verify(&root, &value, &bundle),
         }
     }
 
@@ -142,6 +148,25 @@ impl<A: Allocator + Copy> Session<A> {
                 writeln!(self.text, "roots {old_root} {new_root}")?;
             }
             Err(fault) => self.refuse(fault)?,
+        }
+        Ok(())
+    }
+
+    #[tactic(auto, unfolding(crate::specs::Text::answer))]
+    fn verify(
+        &mut self,
+        root: &Hash<Sha256>,
+        value: &Vec<u8, A>,
+        bundle: &Vec<u8, A>,
+    ) -> Result<(), RunError>
+        ensures ok { OnOk result ((entries : List (List ℕ)) → self.old.log ≡ leaves entries → Answers self.old.log self.new.log (string_bytes self.old.text) (string_bytes self.new.text) entries (verify root.now value.now.items bundle.now.items)) }
+        ensures errors { IfErr result (IsSessionError (length self.old.log) (verify root.now value.now.items bundle.now.items)) }
+    {
+        match check_inclusion(self.alloc, bundle.as_slice(), 0, value, root) {
+            Ok(verdict) => writeln!(self.text, "{verdict}")?,
+            Err(CheckError::Decode(_)) => writeln!(self.text, "refused not decoded")?,
+            Err(CheckError::NoSuchProof) => writeln!(self.text, "refused no such proof")?,
+            Err(CheckError::Memory) => return Err(RunError::Memory),
         }
         Ok(())
     }

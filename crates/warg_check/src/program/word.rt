@@ -2,9 +2,10 @@
 
 ghost use Rattle.std.specs.Prelude.{◌≡◌, ℕ, ◌^◌, ◌<◌, ◌≤◌, ◌∷◌, List, length, IfOk, Option};
 ghost use Rattle.std.specs.Option.{option_map};
-ghost use Rattle.warg_check.specs.Words.{IsFirstPart, lines_of, number_of, length_of, bytes_of};
+ghost use Rattle.warg_check.specs.Words.{IsFirstPart, lines_of, number_of, length_of, bytes_of, root_in};
 
 use std::alloc::{AllocError, Allocator};
+use warg_crypto::{Hash, Sha256};
 
 /// What stands before the first `separator`, and what stands behind it, if there is one.
 #[tactic(auto, using(crate::proofs::WordLemmas::lacks_more))]
@@ -69,6 +70,17 @@ pub(super) fn log_length(word: &[u8]) -> Option<LogLength>
         return None;
     }
     Some(LogLength { value })
+}
+
+/// The root that a word says: 64 hexadecimal digits of either case.
+pub(super) fn root(word: &[u8]) -> Option<Hash<Sha256>>
+    ensures { result ≡ root_in word.now }
+{
+    let mut bytes = [0; 32];
+    match hex::decode_to_slice(word, &mut bytes) {
+        Ok(()) => Some(Hash::from_array(bytes)),
+        Err(_) => None,
+    }
 }
 
 /// The bytes that a word says: none for `-`, else those of an even, positive number of hexadecimal
