@@ -1,4 +1,4 @@
-use Rattle.std.proofs.Common.{◌≡◌, ◌∷◌, ◌++◌, [], ◌∙◌, sym, ap, Err, string_bytes}
+use Rattle.std.proofs.Common.{◌∷◌, ◌++◌, [], ◌∙◌, sym, ap, string_bytes}
 use Rattle.warg_check.proofs.TextLemmas.{refused_answer}
 use Rattle.warg_check.proofs.program.session.Session.consistent.Goals as goal
 

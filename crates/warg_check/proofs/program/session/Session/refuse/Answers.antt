@@ -1,4 +1,4 @@
-use Rattle.std.proofs.Common.{◌≡◌, ◌∷◌, ◌++◌, [], ◌∙◌, sym, codes, append_assoc}
+use Rattle.std.proofs.Common.{◌∷◌, [], ◌∙◌, sym, codes, append_assoc}
 use Rattle.warg_check.proofs.program.session.Session.refuse.Goals as goal
 
 pub returns-in_ok-writeln-in-PointsOutOfOrder-clause-ok : goal.returns-in_ok-writeln-in-PointsOutOfOrder-clause-ok

@@ -1,4 +1,4 @@
-use Rattle.std.proofs.Common.{◌≡◌, ◌∷◌, [], ◌∙◌, sym, codes, append_assoc}
+use Rattle.std.proofs.Common.{◌∷◌, [], ◌∙◌, sym, codes, append_assoc}
 use Rattle.warg_check.specs.Text.{answer}
 use Rattle.warg_check.proofs.TextLemmas.{not_decoded}
 use Rattle.warg_check.proofs.program.session.Session.verify.Goals as goal
