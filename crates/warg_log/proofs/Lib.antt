@@ -14,3 +14,4 @@ pub mod MetLemmas
 pub mod SparseLemmas
 pub mod StackLemmas
 pub mod BundleLemmas
+pub mod NeededLemmas
