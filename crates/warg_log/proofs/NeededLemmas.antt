@@ -1,17 +1,24 @@
 -- The one length of proofs, and the nodes that they need.
-use Rattle.std.proofs.Common.{◌≡◌, ℕ, zero, suc, ◌+◌, ◌<◌, ◌≤◌, ◌==◌, ◌||◌, Bool, true, false, not, nat_eq, nat_lt, nat_le, List, [], ◌∷◌, ◌++◌, length, map, take, drop, get_or, add-one, Option, Some, None, Result, Ok, Err, refl, sym, ap, ◌∙◌, arith, ⊎_elim}
-use Rattle.std.specs.List.{AllByRecursion, flat_map, list_any}
+use Rattle.std.proofs.Common.{◌≡◌, ℕ, zero, suc, ◌+◌, ◌<◌, ◌≤◌, ◌==◌, ◌||◌, Bool, true, false, not, nat_eq, nat_lt, nat_le, List, [], ◌∷◌, ◌++◌, length, map, take, drop, get_or, add-one, Option, Some, None, Result, Ok, Err, refl, sym, ap, ◌∙◌, arith, ⊎_elim, ◌⊎◌, inl, inr, subst}
+use Rattle.std.specs.List.{AllByRecursion, IsDistinct, flat_map, list_any}
+use Rattle.std.specs.List.Sorted.{IsSorted}
+use Rattle.std.specs.Ordering.{nat_cmp, is_lt}
+use Rattle.std.specs.Cmp.{nat_cmp_is}
+use Rattle.std.specs.declared.cmp.Ordering.TheVariants.{Less}
+use Rattle.std.proofs.lemmas.Map.Keys.{IsDistinct-head, IsDistinct-tail}
+use Rattle.warg_log.specs.Sparse.{Pairs, IsAscending}
 use Rattle.std.proofs.lemmas.List.Folds.{list_any-append}
 use Rattle.std.proofs.lemmas.List.{append-nil, append_assoc}
 use Rattle.std.proofs.lemmas.Grind.{take_at_read}
 use Rattle.std.proofs.Math.Seq.{drop-cons}
-use Rattle.std.proofs.lemmas.Bool.{eqb-true, eq-eqb, le-leb, le-ltb, cases_Bool, cases_eq, ne_eqb}
+use Rattle.std.proofs.lemmas.Bool.{eqb-true, eq-eqb, le-leb, le-ltb, cases_Bool, cases_eq, cases_lt, ne_eqb}
 use Rattle.indexmap.specs.IndexSet.{insert_key}
 use Rattle.warg_log.specs.declared.node.Node.{Node}
 use Rattle.warg_log.specs.declared.error.BundleError.{BundleError}
+use Rattle.warg_log.specs.declared.error.BundleError.TheVariants.{Memory, HashNotFound}
 use Rattle.warg_log.specs.Nodes.{ExistsAt, end_of, balanced_roots}
 use Rattle.warg_log.specs.Walks.{needed}
-use Rattle.warg_log.specs.Bundling.{needed_between, differs, consistency_length, inclusion_length, Adds}
+use Rattle.warg_log.specs.Bundling.{needed_between, needed_by, differs, consistency_length, inclusion_length, bundle_length, LacksNeeded, Adds}
 use Rattle.warg_log.proofs.BalancedLemmas.{all_push}
 use Rattle.warg_log.proofs.StackLemmas.{roots_exist}
 
@@ -133,3 +140,88 @@ needed_all leaf len n (x ∷ xs) (t ∷ ts) e all =
     let head : (leaf x).0 ≡ t = cc e in
     let tail : map (λ p. (leaf p).0) xs ≡ ts = cc e in
     rw (all.0, head, needed_all leaf len n xs ts tail all.1) refl
+
+-- ---- ascending numbers
+
+steps_of : (xs : List ℕ) → IsSorted nat_cmp xs → (k d : ℕ) → suc k < length xs → get_or xs k d ≤ get_or xs (suc k) d
+steps_of xs sorted k d lt = ⊎_elim
+    (λ (less : get_or xs (suc k) d < get_or xs k d).
+    let is : is_lt (nat_cmp (get_or xs (suc k) d) (get_or xs k d)) ≡ true = ap is_lt (sym (nat_cmp_is (get_or xs (suc k) d) (get_or xs k d) Less less)) in
+    let next : k + 1 ≡ suc k = rw add-one refl in
+    let no_less : is_lt (nat_cmp (get_or xs (suc k) d) (get_or xs k d)) ≡ false = rw next at (sorted k d (omega arith) (let l : k + 1 < length xs = omega arith in l)) in
+    absurd (cc (is, no_less)))
+    (λ (le : get_or xs k d ≤ get_or xs (suc k) d). le)
+    (cases_lt (get_or xs (suc k) d) (get_or xs k d))
+
+above_all : (a b : ℕ) (ps : Pairs) → a < b → AllByRecursion (λ (q : Node × List ℕ). b < q.0.0) ps → AllByRecursion (λ (q : Node × List ℕ). a < q.0.0) ps
+above_all a b [] lt all = tt
+above_all a b (p ∷ ps) lt all = (let l : b < p.0.0 = all.0 in omega arith, above_all a b ps lt all.1)
+
+ascends_by : (ps : Pairs) → ((k d : ℕ) → suc k < length (map (λ (p : Node × List ℕ). p.0.0) ps) → get_or (map (λ (p : Node × List ℕ). p.0.0) ps) k d ≤ get_or (map (λ (p : Node × List ℕ). p.0.0) ps) (suc k) d)
+    → IsDistinct nat_eq (map (λ (p : Node × List ℕ). p.0.0) ps) → IsAscending ps
+ascends_by [] steps once = tt
+ascends_by (p ∷ []) steps once = (tt, tt)
+ascends_by (p ∷ q ∷ ps) steps once =
+    let rest : IsAscending (q ∷ ps) = ascends_by (q ∷ ps) (λ k d lt. steps (suc k) d (omega arith)) (IsDistinct-tail nat_eq p.0.0 _ once) in
+    let le : p.0.0 ≤ q.0.0 = steps 0 0 (omega arith) in
+    let other : nat_eq p.0.0 q.0.0 ≡ false = (IsDistinct-head nat_eq p.0.0 _ once).0 in
+    let lt : p.0.0 < q.0.0 = ⊎_elim
+    (λ (e : p.0.0 ≡ q.0.0). absurd (cc (eq-eqb p.0.0 q.0.0 e, other)))
+    (λ (no_e : p.0.0 ≡ q.0.0 → ⊥). let l : p.0.0 < q.0.0 = omega arith in l)
+    (cases_eq p.0.0 q.0.0) in
+    ((lt, above_all p.0.0 q.0.0 ps lt rest.0), rest)
+
+pub ascending_pairs : (ps : Pairs) (ns : List ℕ) → map (λ (p : Node × List ℕ). p.0.0) ps ≡ ns → IsSorted nat_cmp ns → IsDistinct nat_eq ns → IsAscending ps
+ascending_pairs ps ns e sorted once =
+    let s : IsSorted nat_cmp (map (λ (p : Node × List ℕ). p.0.0) ps) = rw e sorted in
+    let o : IsDistinct nat_eq (map (λ (p : Node × List ℕ). p.0.0) ps) = rw e once in
+    ascends_by ps (steps_of (map (λ (p : Node × List ℕ). p.0.0) ps) s) o
+
+-- ---- the nodes that all the proofs need
+
+pub all_first : {X : Type 0} (P Q : X → Type 0) (xs : List X) → AllByRecursion (λ p. P p × Q p) xs → AllByRecursion P xs
+all_first P Q [] all = tt
+all_first P Q (x ∷ xs) all = (all.0.0, all_first P Q xs all.1)
+
+pub between_all : {X : Type 0} (P : X → Type 0) (old new : X → ℕ) (n : ℕ) (xs : List X) → AllByRecursion (λ p. P p × (new p ≡ n)) xs
+    → flat_map (λ p. needed_between (old p) (new p)) xs ≡ flat_map (λ m. needed_between m n) (map old xs)
+between_all P old new n [] all = refl
+between_all P old new n (x ∷ xs) all = rw (all.0.1, between_all P old new n xs all.1) refl
+
+pub needed_of_all : {X : Type 0} (P : X → Type 0) (leaf : X → Node) (len : X → ℕ) (n : ℕ) (xs : List X) → AllByRecursion (λ p. P p × (len p ≡ n)) xs
+    → flat_map (λ p. needed (leaf p).0 (len p)) xs ≡ flat_map (λ (node : Node). needed node.0 n) (map leaf xs)
+needed_of_all P leaf len n [] all = refl
+needed_of_all P leaf len n (x ∷ xs) all = rw (all.0.1, needed_of_all P leaf len n xs all.1) refl
+
+pub old_fit : {X : Type 0} (old new : X → ℕ) (n most : ℕ) (xs : List X) → n < most → AllByRecursion (λ p. (old p ≤ new p) × (new p ≡ n)) xs → AllByRecursion (λ p. old p < most) xs
+old_fit old new n most [] lt all = tt
+old_fit old new n most (x ∷ xs) lt all = (let le : old x ≤ new x = all.0.0 in let e : new x ≡ n = all.0.1 in omega arith, old_fit old new n most xs lt all.1)
+
+pub any_at : (xs : List ℕ) (i d : ℕ) → i < length xs → list_any (nat_eq (get_or xs i d)) xs ≡ true
+any_at [] i d lt = absurd (omega arith)
+any_at (x ∷ xs) zero d lt = rw (eq-eqb x x refl) refl
+any_at (x ∷ xs) (suc i) d lt = ⊎_elim
+    (λ (t : nat_eq (get_or xs i d) x ≡ true). rw t refl)
+    (λ (t : nat_eq (get_or xs i d) x ≡ false). rw t (any_at xs i d (omega arith)))
+    (cases_Bool (nat_eq (get_or xs i d) x))
+
+pub needed_exactly_by : {X Y : Type 0} (P : X → Type 0) (Q : Y → Type 0) (old new : X → ℕ) (leaf : Y → Node) (len : Y → ℕ) (n : ℕ) (xs : List X) (ys : List Y) (keys : List ℕ)
+    → Adds [] keys (flat_map (λ p. needed_between (old p) (new p)) xs ++ flat_map (λ p. needed (leaf p).0 (len p)) ys)
+    → AllByRecursion (λ p. P p × (new p ≡ n)) xs → AllByRecursion (λ p. Q p × (len p ≡ n)) ys
+    → (x : ℕ) → list_any (nat_eq x) keys ≡ list_any (nat_eq x) (needed_by (map old xs) (map leaf ys) n)
+needed_exactly_by P Q old new leaf len n xs ys keys adds all_x all_y x =
+    adds x ∙ ap (list_any (nat_eq x)) (rw (between_all P old new n xs all_x, needed_of_all Q leaf len n ys all_y) refl)
+
+pub lacking : (F : ℕ → Option (List ℕ)) (fault : BundleError) (old_lengths : List ℕ) (nodes : List Node) (cs : List (ℕ × ℕ)) (is : List (Node × ℕ)) (n : ℕ) (numbers : List ℕ)
+    → bundle_length cs is ≡ Ok n
+    → ((x : ℕ) → list_any (nat_eq x) numbers ≡ list_any (nat_eq x) (needed_by old_lengths nodes n))
+    → (fault ≡ Memory) ⊎ ((fault ≡ HashNotFound) × ((i : ℕ) × (i < length numbers) × ((d : ℕ) → F (get_or numbers i d) ≡ None)))
+    → (fault ≡ Memory) ⊎ ((bundle_length cs is ≡ Err fault) ⊎ ((fault ≡ HashNotFound) × LacksNeeded F old_lengths nodes (bundle_length cs is)))
+lacking F fault old_lengths nodes cs is n numbers length_is exactly why = ⊎_elim
+    (λ (m : fault ≡ Memory). inl m)
+    (λ (h : (fault ≡ HashNotFound) × ((i : ℕ) × (i < length numbers) × ((d : ℕ) → F (get_or numbers i d) ≡ None))).
+    let at = h.1 in
+    let lacks : LacksNeeded F old_lengths nodes (Ok n) = (get_or numbers at.0 0, sym (exactly (get_or numbers at.0 0)) ∙ any_at numbers at.0 0 at.1, at.2 0) in
+    let P : Result ℕ BundleError → Type 0 = LacksNeeded F old_lengths nodes in
+    inr (inr (h.0, subst P (sym length_is) lacks)))
+    why

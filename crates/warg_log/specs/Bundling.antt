@@ -1,5 +1,5 @@
 -- Which proofs go into one bundle, and which nodes' digests they need.
-use Rattle.std.specs.Prelude.{◌≡◌, ℕ, ◌^◌, ◌||◌, Bool, false, not, ◌==◌, nat_eq, nat_lt, nat_le, if◌then◌else◌, List, [], ◌∷◌, ◌++◌, Option, Some, None, Result, Ok, Err}
+use Rattle.std.specs.Prelude.{◌≡◌, ℕ, ◌^◌, ◌||◌, Bool, true, false, not, ◌==◌, nat_eq, nat_lt, nat_le, if◌then◌else◌, List, [], ◌∷◌, ◌++◌, Option, Some, None, Result, Ok, Err}
 use Rattle.std.specs.List.{flat_map, list_any}
 use Rattle.warg_log.specs.declared.node.Node.{Node}
 use Rattle.warg_log.specs.declared.proof.InclusionProofError.TheVariants as inclusion
@@ -63,3 +63,8 @@ bundle_length cs ps = go_on (go_on (consistency_length None cs) (λ met. inclusi
 -- The elements of `new` are those of `old` and of `more`.
 abbrev pub Adds : List ℕ → List ℕ → List ℕ → Type 0
 Adds old new more = (x : ℕ) → list_any (nat_eq x) new ≡ (list_any (nat_eq x) old || list_any (nat_eq x) more)
+
+-- A digest that is needed at the length isn't held.
+abbrev pub LacksNeeded : (ℕ → Option (List ℕ)) → List ℕ → List Node → Result ℕ BundleError → Type 0
+LacksNeeded F old_lengths nodes (Ok n) = (x : ℕ) × (list_any (nat_eq x) (needed_by old_lengths nodes n) ≡ true) × (F x ≡ None)
+LacksNeeded F old_lengths nodes (Err e) = ⊥

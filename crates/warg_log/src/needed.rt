@@ -42,9 +42,7 @@ pub(crate) fn length_of_consistencies<D, V>(
     'proofs: for proof in proofs {
         let length = proof.new_length();
         if proof.old_length() > length {
-            return Err(BundleError::Consistency(
-                ConsistencyProofError::PointsOutOfOrder,
-            ));
+            return Err(BundleError::Consistency(ConsistencyProofError::PointsOutOfOrder));
         }
         if is_other(met, length) {
             return Err(BundleError::DifferentRoots);
@@ -143,6 +141,7 @@ pub(crate) fn one_length<D, V>(
     inclusions: &[InclusionProof<D, V>],
 ) -> Result<u32, BundleError>
     ensures value { result ≡ bundle_length (map (λ p. (p.old_length, p.new_length)) consistencies.now) (map (λ p. (p.leaf, p.log_length)) inclusions.now) }
+    ensures fits { IfOk result (λ n. n < 2 ^ 32) }
     ensures consistencies { IfOk result (λ n. AllByRecursion (λ p. (p.old_length ≤ p.new_length) × (p.new_length ≡ n)) consistencies.now) }
     ensures inclusions { IfOk result (λ n. AllByRecursion (λ p. ExistsAt p.leaf.0 p.log_length × (p.log_length ≡ n)) inclusions.now) }
 {
