@@ -15,3 +15,4 @@ pub mod SparseLemmas
 pub mod StackLemmas
 pub mod BundleLemmas
 pub mod NeededLemmas
+pub mod SameLemmas

@@ -1,4 +1,4 @@
-use Rattle.std.proofs.Common.{◌≡◌, ◌∙◌, ap, ◌∷◌, ◌<◌, length, sym, refl}
+use Rattle.std.proofs.Common.{◌∙◌, ap, ◌∷◌}
 use Rattle.std.specs.List.{flat_map}
 use Rattle.warg_log.specs.Nodes.{balanced_roots}
 use Rattle.warg_log.specs.Walks.{needed}

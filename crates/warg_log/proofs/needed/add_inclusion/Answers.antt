@@ -1,4 +1,4 @@
-use Rattle.std.proofs.Common.{◌≡◌, ◌∙◌, ap, map, ◌∷◌, []}
+use Rattle.std.proofs.Common.{◌∙◌, ap, ◌∷◌, []}
 use Rattle.std.specs.List.{flat_map}
 use Rattle.warg_log.specs.declared.node.Node.{Node}
 use Rattle.warg_log.proofs.NeededLemmas.{singles, take_all, adds_is}

@@ -1,4 +1,4 @@
-use Rattle.std.proofs.Common.{◌≡◌, ◌≤◌, ◌∙◌, sym, arith}
+use Rattle.std.proofs.Common.{◌≤◌, ◌∙◌, sym, arith}
 use Rattle.warg_log.proofs.NeededLemmas.{checked_next, consistency_next}
 use Rattle.warg_log.proofs.needed.length_of_consistencies.Goals as goal
 

@@ -1,4 +1,4 @@
-use Rattle.std.proofs.Common.{◌≡◌, ◌∙◌, sym}
+use Rattle.std.proofs.Common.{◌∙◌, sym}
 use Rattle.warg_log.specs.Nodes.{ExistsAt}
 use Rattle.warg_log.proofs.NeededLemmas.{checked_next, inclusion_next, kept_next}
 use Rattle.warg_log.proofs.needed.length_of_inclusions.Goals as goal
