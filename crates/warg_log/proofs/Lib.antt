@@ -14,3 +14,5 @@ pub mod MetLemmas
 pub mod SparseLemmas
 pub mod StackLemmas
 pub mod BundleLemmas
+pub mod NeededLemmas
+pub mod SameLemmas

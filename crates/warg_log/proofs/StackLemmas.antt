@@ -233,7 +233,7 @@ balanced_are_within (suc h) a n lt = ⊎_elim
 blocks_held : (b : Blocks) → length b.digests ≡ length (balanced_roots b.len) → map (block_at b) (balanced_roots b.len) ≡ map Some b.digests
 blocks_held b len = beside_all (balanced_roots b.len) b.digests len (balanced_are_within b.len 0 b.len (below_pow b.len)).distinct
 
-roots_exist : (n : ℕ) → AllByRecursion (λ t. end_of t ≤ n) (balanced_roots n)
+pub roots_exist : (n : ℕ) → AllByRecursion (λ t. end_of t ≤ n) (balanced_roots n)
 roots_exist n = let zero_start : 0 * 2 ^ n ≡ 0 = omega arith in rw zero_start at (balanced_exist n 0 n n (below_pow n) (omega arith))
 
 all_weaken : (P Q : ℕ → Type 0) → ((x : ℕ) → P x → Q x) → (xs : List ℕ) → AllByRecursion P xs → AllByRecursion Q xs

@@ -7,3 +7,4 @@ pub mod Sparse
 pub mod Blocks
 pub mod Decoding
 pub mod Bundles
+pub mod Bundling

@@ -11,6 +11,7 @@ mod interval;
 mod join;
 pub mod laws;
 mod log;
+mod needed;
 mod node;
 mod proof;
 mod proof_bundle;
@@ -19,7 +20,7 @@ mod stack_log;
 mod vec_log;
 
 pub use consistency::{ConsistencyProof, ConsistencyProofError};
-pub use error::{DecodeError, EncodeError};
+pub use error::{BundleError, DecodeError, EncodeError};
 pub use interval::Interval;
 pub use log::{Checkpoint, LogBuilder, LogData, hash_branch, hash_empty, hash_leaf, push_all};
 pub use node::{Node, Side};

@@ -1,16 +1,20 @@
 //! Proofs of a log together with the digests that they need.
 
-ghost use Rattle.std.specs.Prelude.{◌≡◌, ◌≢◌, ℕ, ◌^◌, ◌<◌, ◌≤◌, ◌↔◌, ◌⊎◌, None, Some, Ok, Err, IfOk, IfErr, OnSome, IfSome, IsTrue, IsNone, length, map, slice_get};
-ghost use Rattle.std.specs.List.{AllByRecursion};
+ghost use Rattle.std.specs.Prelude.{◌≡◌, ◌≢◌, ℕ, ◌^◌, ◌<◌, ◌≤◌, ◌↔◌, ◌⊎◌, List, None, Some, Ok, Err, IfOk, IfErr, OnSome, IfSome, IsTrue, IsNone, length, map, slice_get, nat_eq};
+ghost use Rattle.std.specs.List.{AllByRecursion, list_any};
 ghost use Rattle.warg_protobuf.specs.declared.error.WireError.TheVariants as wire;
 ghost use Rattle.warg_protobuf.specs.HashEntry.{entry_view};
 ghost use Rattle.warg_protobuf.specs.LogProofBundle.{log_view, log_bytes};
-ghost use Rattle.warg_log.specs.Sparse.{IsAscending};
+ghost use Rattle.warg_log.specs.Sparse.{IsAscending, held_digest};
+ghost use Rattle.warg_log.specs.Cut.{cut_root};
 ghost use Rattle.warg_log.specs.Decoding.{Reads};
+ghost use Rattle.warg_log.specs.Bundling.{bundle_length, needed_by, LacksNeeded};
 ghost use Rattle.warg_log.specs.Bundles.{bundle_message, bundle_in, bundle_of, NodesFit, entry_of, pair_of, entries_fault};
 
 use crate::consistency::ConsistencyProof;
-use crate::error::{DecodeError, EncodeError};
+use crate::error::{BundleError, DecodeError, EncodeError};
+use crate::log::LogData;
+use crate::needed::{digests_of, needed_nodes, one_length};
 use crate::node::Node;
 use crate::proof::InclusionProof;
 use crate::sparse_data::SparseLogData;
@@ -77,6 +81,45 @@ impl<D: SupportedDigest, V: VisitBytes, A: Allocator> ProofBundle<D, V, A> {
 }
 
 impl<D: SupportedDigest, V: VisitBytes, A: Allocator + Copy> ProofBundle<D, V, A> {
+    /// The bundle of these proofs, in their order, with exactly the digests that their evaluation reads.
+    ///
+    /// The errors, each before any growth: for the consistency proofs in turn `Consistency` with
+    /// `PointsOutOfOrder`, and then `DifferentRoots` where the new length isn't the first proof's; for the
+    /// inclusion proofs in turn `DifferentRoots`, and then `Inclusion` with `LeafTooNew`; `NoProofs`; and
+    /// `TooLarge` where the length is above `u32::MAX`. Then `HashNotFound` where the data lacks a needed
+    /// digest. A consistency proof from length 0 needs none.
+    pub fn bundle<L: LogData<D, V>>(
+        alloc: A,
+        consistency_proofs: Vec<ConsistencyProof<D, V>, A>,
+        inclusion_proofs: Vec<InclusionProof<D, V>, A>,
+        hashes: &L,
+    ) -> Result<Self, BundleError>
+        ensures refused { (e : _) → bundle_length (map (λ p. (p.old_length, p.new_length)) consistency_proofs.items) (map (λ p. (p.leaf, p.log_length)) inclusion_proofs.items) ≡ Err e → result ≡ Err e }
+        ensures length { IfOk result (λ bundle. bundle_length (map (λ p. (p.old_length, p.new_length)) consistency_proofs.items) (map (λ p. (p.leaf, p.log_length)) inclusion_proofs.items) ≡ Ok bundle.log_length) }
+        ensures old_lengths { IfOk result (λ bundle. bundle.consistent_lengths ≡ map (λ p. p.old_length) consistency_proofs.items) }
+        ensures nodes { IfOk result (λ bundle. bundle.included_nodes ≡ map (λ p. p.leaf) inclusion_proofs.items) }
+        ensures ascending { IfOk result (λ bundle. IsAscending bundle.hashes) }
+        ensures exactly { IfOk result (λ bundle. (x : ℕ) → list_any (nat_eq x) (map (λ p. p.0.0) bundle.hashes) ≡ list_any (nat_eq x) (needed_by bundle.consistent_lengths bundle.included_nodes bundle.log_length)) }
+        ensures source { IfOk result (λ bundle. AllByRecursion (λ p. L.digest_at hashes.now p.0.0 ≡ Some p.1) bundle.hashes) }
+        ensures as_source { IfOk result (λ bundle. (x : List ℕ) → AllByRecursion (λ node. cut_root D.digest (held_digest bundle.hashes) node.0 x bundle.log_length ≡ cut_root D.digest (L.digest_at hashes.now) node.0 x bundle.log_length) bundle.included_nodes) }
+        ensures fault { IfErr result (λ e. (e ≡ BundleError.Memory) ⊎ (bundle_length (map (λ p. (p.old_length, p.new_length)) consistency_proofs.items) (map (λ p. (p.leaf, p.log_length)) inclusion_proofs.items) ≡ Err e) ⊎ ((e ≡ BundleError.HashNotFound) × LacksNeeded (L.digest_at hashes.now) (map (λ p. p.old_length) consistency_proofs.items) (map (λ p. p.leaf) inclusion_proofs.items) (bundle_length (map (λ p. (p.old_length, p.new_length)) consistency_proofs.items) (map (λ p. (p.leaf, p.log_length)) inclusion_proofs.items)))) }
+    {
+        let log_length = one_length(&consistency_proofs, &inclusion_proofs)?;
+        let nodes = needed_nodes(alloc, &consistency_proofs, &inclusion_proofs)?;
+        let pairs = match digests_of(alloc, nodes.as_slice(), hashes) {
+            Ok(pairs) => pairs,
+            Err(fault) => return Err(fault),
+        };
+        let consistent_lengths = old_lengths(alloc, &consistency_proofs)?;
+        let included_nodes = leaves(alloc, &inclusion_proofs)?;
+        Ok(ProofBundle {
+            log_length,
+            consistent_lengths,
+            included_nodes,
+            hashes: SparseLogData::from(pairs),
+        })
+    }
+
     /// The bundle's parts: its digests, its consistency proofs and its inclusion proofs, all in order.
     pub fn unbundle(
         &self,
@@ -166,6 +209,35 @@ impl<D: SupportedDigest, V: VisitBytes, A: Allocator + Copy> ProofBundle<D, V, A
         let message = self.to_message(alloc)?;
         Ok(message.encode(alloc)?)
     }
+}
+
+// The old lengths of these proofs.
+fn old_lengths<D, V, A: Allocator>(
+    alloc: A,
+    proofs: &[ConsistencyProof<D, V>],
+) -> Result<Vec<u32, A>, AllocError>
+    requires { AllByRecursion (λ p. p.old_length < 2 ^ 32) proofs.now }
+    ensures { IfOk result (λ lengths. lengths.items ≡ map (λ p. p.old_length) proofs.now) }
+{
+    let mut lengths = Vec::new(alloc);
+    'proofs: for proof in proofs {
+        lengths.push(proof.old_length() as u32)?;
+    }
+    Ok(lengths)
+}
+
+// The nodes of these proofs.
+fn leaves<D, V, A: Allocator>(
+    alloc: A,
+    proofs: &[InclusionProof<D, V>],
+) -> Result<Vec<Node, A>, AllocError>
+    ensures { IfOk result (λ nodes. nodes.items ≡ map (λ p. p.leaf) proofs.now) }
+{
+    let mut nodes = Vec::new(alloc);
+    'proofs: for proof in proofs {
+        nodes.push(proof.leaf())?;
+    }
+    Ok(nodes)
 }
 
 // The consistency proofs from these old lengths.

@@ -1,0 +1,35 @@
+use Rattle.std.proofs.Common.{◌∙◌, ◌≤◌, ◌^◌, map, sym}
+use Rattle.warg_log.specs.Nodes.{ExistsAt}
+use Rattle.warg_log.proofs.NeededLemmas.{ascending_pairs, old_fit, needed_exactly_by, lacking}
+use Rattle.warg_log.proofs.SameLemmas.{included_same}
+use Rattle.warg_log.proofs.proof_bundle.ProofBundle.bundle.Goals as goal
+
+pub from-requires : goal.from-requires
+from-requires g c = ascending_pairs c.in-Ok.pairs.items c.in_ok-nodes.nodes.keys (c.in-Ok.ensures.numbers ∙ c.as_slice.ensures.keys) c.in_ok-nodes.ensures.sorted c.in_ok-nodes.ensures.once
+
+pub old_lengths-requires : goal.old_lengths-requires
+old_lengths-requires g c = rw c.deref-5.ensures.value
+    (old_fit (λ p. p.old_length) (λ p. p.new_length) c.in_ok-log_length.log_length (2 ^ 32) c.args.consistency_proofs.items c.in_ok-log_length.ensures.fits (rw c.deref.ensures.value at c.in_ok-log_length.ensures.consistencies))
+
+pub returns-clause-source : goal.returns-clause-source
+returns-clause-source g c = rw c.from.ensures c.in-Ok.ensures.digests
+
+pub returns-clause-exactly : goal.returns-clause-exactly
+returns-clause-exactly g c = rw (c.from.ensures, c.in-Ok.ensures.numbers, c.as_slice.ensures.keys, c.in_ok-consistent_lengths.ensures, c.in_ok-included_nodes.ensures, c.deref-5.ensures.value, c.deref-6.ensures.value)
+    (needed_exactly_by (λ p. p.old_length ≤ p.new_length) (λ p. ExistsAt p.leaf.0 p.log_length) (λ p. p.old_length) (λ p. p.new_length) (λ p. p.leaf) (λ p. p.log_length) c.in_ok-log_length.log_length c.args.consistency_proofs.items c.args.inclusion_proofs.items c.in_ok-nodes.nodes.keys
+    (rw (c.deref-3.ensures.value, c.deref-4.ensures.value) at c.in_ok-nodes.ensures.needed)
+    (rw c.deref.ensures.value at c.in_ok-log_length.ensures.consistencies)
+    (rw c.deref-2.ensures.value at c.in_ok-log_length.ensures.inclusions))
+
+pub returns-in-Err-clause-fault : goal.returns-in-Err-clause-fault
+returns-in-Err-clause-fault g c = lacking (g.L.LogData.digest_at c.args.hashes.now) c.in-Err.fault (map (λ p. p.old_length) c.args.consistency_proofs.items) (map (λ p. p.leaf) c.args.inclusion_proofs.items) (map (λ p. (p.old_length, p.new_length)) c.args.consistency_proofs.items) (map (λ p. (p.leaf, p.log_length)) c.args.inclusion_proofs.items) c.in_ok-log_length.log_length c.as_slice.result.now
+    (rw (c.deref.ensures.value, c.deref-2.ensures.value) at (sym c.in_ok-log_length.ensures.value))
+    (rw c.as_slice.ensures.keys
+    (needed_exactly_by (λ p. p.old_length ≤ p.new_length) (λ p. ExistsAt p.leaf.0 p.log_length) (λ p. p.old_length) (λ p. p.new_length) (λ p. p.leaf) (λ p. p.log_length) c.in_ok-log_length.log_length c.args.consistency_proofs.items c.args.inclusion_proofs.items c.in_ok-nodes.nodes.keys
+    (rw (c.deref-3.ensures.value, c.deref-4.ensures.value) at c.in_ok-nodes.ensures.needed)
+    (rw c.deref.ensures.value at c.in_ok-log_length.ensures.consistencies)
+    (rw c.deref-2.ensures.value at c.in_ok-log_length.ensures.inclusions)))
+    c.in-Err.ensures.fault
+
+pub returns-clause-as_source : goal.returns-clause-as_source
+returns-clause-as_source g c = included_same g.D.SupportedDigest.digest (g.L.LogData.digest_at c.args.hashes.now) c.from.result c.in_ok-log_length.log_length c.in_ok-consistent_lengths.consistent_lengths.items c.in_ok-included_nodes.included_nodes.items (returns-clause-source g c) (returns-clause-exactly g c)
