@@ -1,12 +1,17 @@
 //! Log bundles read from bytes, verdicts on their proofs, and each refused growth.
 
+ghost use Rattle.std.specs.Prelude.{◌≤◌, ◌^◌};
+
 use crate::protobuf::bytes_of;
 use refusing::Refusing;
 use std::alloc::Allocator;
 use std::test::Fail;
 use warg_check::{CheckError, check_consistency, check_inclusion};
 use warg_crypto::{Hash, Sha256};
-use warg_log::{DecodeError, EncodeError, LogData, LogProofBundle, Node};
+use warg_log::{
+    BundleError, ConsistencyProofError, DecodeError, EncodeError, InclusionProofError, LogBuilder,
+    LogData, LogProofBundle, Node, SparseLogData, VecLog,
+};
 use warg_protobuf::WireError;
 
 type Bundle<A> = LogProofBundle<Sha256, Vec<u8, A>, A>;
@@ -51,6 +56,69 @@ fn bundles_read_and_written(rt: HostRuntime) -> Result<(), Fail> {
             "at {bytes}"
         );
     }
+    Ok(())
+}
+
+#[test]
+fn bundles_of_a_log_s_proofs(rt: HostRuntime) -> Result<(), Fail> {
+    let alloc = rt.alloc();
+    let mut log: VecLog<Sha256, Vec<u8>> = VecLog::default(alloc);
+    log.push(&vec![in alloc;]?)?;
+    log.push(&vec![in alloc; 0]?)?;
+    let inclusions = vec![in alloc; log.prove_inclusion(Node(0), 2)]?;
+    let bundle = LogProofBundle::bundle(alloc, Vec::new(alloc), inclusions, &log)?;
+    assert_eq!(rt; bundle.encode(alloc)?, bytes_of(alloc, INCLUSION)?);
+    log.push(&vec![in alloc; 0x10]?)?;
+    let consistencies = vec![in alloc; log.prove_consistency(2, 3)]?;
+    let bundle = LogProofBundle::bundle(alloc, consistencies, Vec::new(alloc), &log)?;
+    assert_eq!(rt; bundle.encode(alloc)?, bytes_of(alloc, CONSISTENCY)?);
+    let consistencies = vec![in alloc; log.prove_consistency(2, 3)]?;
+    let inclusions = vec![in alloc;
+        log.prove_inclusion(Node(0), 3),
+        log.prove_inclusion(Node(4), 3),
+    ]?;
+    let bundle = LogProofBundle::bundle(alloc, consistencies, inclusions, &log)?;
+    assert_eq!(rt; bundle.encode(alloc)?, bytes_of(alloc, BOTH)?);
+    Ok(())
+}
+
+// What bundling one inclusion proof over some data is refused for.
+fn refusal(
+    rt: &HostRuntime,
+    data: &SparseLogData<Sha256, Vec<u8>>,
+    node: usize,
+    length: usize,
+) -> Result<Option<BundleError>, Fail>
+    requires { length ≤ 2 ^ 63 }
+{
+    let inclusions = vec![in rt.alloc(); data.prove_inclusion(Node(node), length)]?;
+    match LogProofBundle::bundle(rt.alloc(), Vec::new(rt.alloc()), inclusions, data) {
+        Ok(_) => Ok(None),
+        Err(fault) => Ok(Some(fault)),
+    }
+}
+
+#[test]
+fn refusals_of_bundles(rt: HostRuntime) -> Result<(), Fail> {
+    let alloc = rt.alloc();
+    let none: SparseLogData<Sha256, Vec<u8>> = SparseLogData::from(Vec::new(alloc));
+    let nothing = LogProofBundle::bundle(alloc, Vec::new(alloc), Vec::new(alloc), &none);
+    assert!(rt; matches!(nothing, Err(BundleError::NoProofs)));
+    let too_new = BundleError::Inclusion(InclusionProofError::LeafTooNew);
+    assert!(rt; refusal(&rt, &none, 2, 1)? == Some(too_new));
+    assert!(rt; refusal(&rt, &none, 0, 2)? == Some(BundleError::HashNotFound));
+    assert!(rt; refusal(&rt, &none, 0, 1 << 32)? == Some(BundleError::TooLarge));
+    assert!(rt; refusal(&rt, &none, 0, 1)?.is_none());
+    let two = vec![in alloc; none.prove_consistency(0, 5), none.prove_consistency(1, 4)]?;
+    let different = LogProofBundle::bundle(alloc, two, Vec::new(alloc), &none);
+    assert!(rt; matches!(different, Err(BundleError::DifferentRoots)));
+    let one = vec![in alloc; none.prove_consistency(0, 5)]?;
+    let bundle = LogProofBundle::bundle(alloc, one, Vec::new(alloc), &none)?;
+    assert_eq!(rt; bundle.encode(alloc)?, bytes_of(alloc, "0805120100")?);
+    let one = vec![in alloc; none.prove_consistency(3, 2)]?;
+    let order = LogProofBundle::bundle(alloc, one, Vec::new(alloc), &none);
+    let fault = BundleError::Consistency(ConsistencyProofError::PointsOutOfOrder);
+    assert!(rt; matches!(order, Err(found) if found == fault));
     Ok(())
 }
 
