@@ -8,7 +8,7 @@ use std::time::Instant;
 use warg_crypto::{Hash, Sha256};
 use warg_log::{LogBuilder, LogData, Node, StackLog, VecLog, push_all};
 use warg_map::Map;
-use warg_protobuf::{HashEntry, LogProofBundle};
+use warg_protobuf::{HashEntry, LogProofBundle, MapInclusionProof, MapProofBundle, OptionalHash};
 use warg_witness::witness_value;
 
 type Entry = [u8; 32];
@@ -24,7 +24,8 @@ fn main(rt: HostRuntime) -> Result<()> {
     logs(&rt)?;
     maps(&rt, 1_000)?;
     maps(&rt, 10_000)?;
-    bundles(&rt)?;
+    log_bundles(&rt)?;
+    map_bundles(&rt)?;
     witnesses(&rt)?;
     Ok(())
 }
@@ -144,7 +145,7 @@ fn maps(rt: &HostRuntime, count: usize) -> Result<()> {
     Ok(())
 }
 
-fn bundles(rt: &HostRuntime) -> Result<()> {
+fn log_bundles(rt: &HostRuntime) -> Result<()> {
     let mut hashes = Vec::new(rt.alloc());
     for index in 0..64u32 {
         let hash = vec![in rt.alloc(); 7u8; 32]?;
@@ -172,6 +173,37 @@ fn bundles(rt: &HostRuntime) -> Result<()> {
     }
     println!(rt;
         "log bundle of 64 hashes: decode {} ns",
+        each(rt, start, 1_000)?
+    )?;
+    Ok(())
+}
+
+fn map_bundles(rt: &HostRuntime) -> Result<()> {
+    let mut hashes = Vec::new(rt.alloc());
+    for _ in 0..256u32 {
+        let hash = Some(vec![in rt.alloc(); 7u8; 32]?);
+        hashes.push(OptionalHash { hash })?;
+    }
+    let bundle = MapProofBundle {
+        proofs: vec![in rt.alloc(); MapInclusionProof { hashes }]?,
+        absences: Vec::new(rt.alloc()),
+    };
+    let bytes = bundle.encode(rt.alloc())?;
+    let start = Instant::now(rt)?;
+    for _ in 0..1_000u32 {
+        let _ = bundle.encode(rt.alloc())?;
+    }
+    println!(rt;
+        "map bundle of 256 peers, {} bytes: encode {} ns",
+        bytes.len(),
+        each(rt, start, 1_000)?
+    )?;
+    let start = Instant::now(rt)?;
+    for _ in 0..1_000u32 {
+        let _ = MapProofBundle::decode(rt.alloc(), bytes.as_slice())?;
+    }
+    println!(rt;
+        "map bundle of 256 peers: decode {} ns",
         each(rt, start, 1_000)?
     )?;
     Ok(())
