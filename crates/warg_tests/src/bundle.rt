@@ -2,7 +2,7 @@
 
 ghost use Rattle.std.specs.Prelude.{◌≤◌, ◌^◌};
 
-use crate::protobuf::bytes_of;
+use crate::digests::{bytes_of, hash_of};
 use refusing::Refusing;
 use std::alloc::Allocator;
 use std::test::Fail;
@@ -16,8 +16,6 @@ use warg_protobuf::WireError;
 
 type Bundle<A> = LogProofBundle<Sha256, Vec<u8, A>, A>;
 
-const U3: &str = "aeb6bcfe274b70a14fb067a5e5578264db0fa9b51af5e0ba159158f329e06e77";
-
 // Inclusion of the first of the texts "" and "00" at length 2.
 const INCLUSION: &str = "0802 1a0100 2224 0802 1220 L1";
 
@@ -26,11 +24,6 @@ const CONSISTENCY: &str = "0803 120102 2224 0801 1220 U2 2224 0804 1220 L2";
 
 // Consistency from 2 to 3 and inclusion of the first and the last text in the same log.
 const BOTH: &str = "0803 120102 1a020004 2224 0801 1220 U2 2224 0802 1220 L1 2224 0804 1220 L2";
-
-fn root<A: Allocator + Copy>(alloc: A, digits: &str) -> Result<Hash<Sha256>, Fail> {
-    let bytes = bytes_of(alloc, digits)?;
-    Ok(Hash::try_from(bytes)?)
-}
 
 #[test]
 fn bundles_read_and_written(rt: HostRuntime) -> Result<(), Fail> {
@@ -155,14 +148,14 @@ fn parts_of_a_bundle(rt: HostRuntime) -> Result<(), Fail> {
     assert!(rt; consistency[0] == proof && bundle.consistency_proof(0) == Some(proof));
     assert!(rt; bundle.inclusion_proof(2).is_none() && bundle.consistency_proof(1).is_none());
     let (old, new) = proof.evaluate(&hashes)?;
-    assert!(rt; old == root(alloc, "U2")? && new == root(alloc, U3)?);
+    assert!(rt; old == hash_of(alloc, "U2")? && new == hash_of(alloc, "U3")?);
     Ok(())
 }
 
 #[test]
 fn verdicts_from_bytes(rt: HostRuntime) -> Result<(), Fail> {
     let alloc = rt.alloc();
-    let (u2, u3) = (root(alloc, "U2")?, root(alloc, U3)?);
+    let (u2, u3) = (hash_of(alloc, "U2")?, hash_of(alloc, "U3")?);
     let [none, last]: [&[u8]; 2] = [&[], &[0x10]];
     let bytes = bytes_of(alloc, INCLUSION)?;
     assert!(rt; check_inclusion(alloc, &bytes, 0, &none, &u2) == Ok(true));
@@ -186,7 +179,7 @@ fn verdicts_from_bytes(rt: HostRuntime) -> Result<(), Fail> {
 fn bundles_with_each_growth_refused(rt: HostRuntime) -> Result<(), Fail> {
     let ample = rt.alloc();
     let bytes = bytes_of(ample, BOTH)?;
-    let (u2, u3) = (root(ample, "U2")?, root(ample, U3)?);
+    let (u2, u3) = (hash_of(ample, "U2")?, hash_of(ample, "U3")?);
     let mut refused = 0u32;
     for growths in 0..16u64 {
         let alloc = Refusing::after(ample, growths);

@@ -4,6 +4,7 @@ ghost use Rattle.std.specs.Prelude.{◌≡◌, ◌↔◌, IsTrue};
 ghost use Rattle.std.specs.Ordering.{nat_cmp};
 ghost use Rattle.std.specs.Cmp.Lexicographic.{slice_cmp};
 
+use crate::digests::{L0, L1, L2, U2, U3, Z, hash_ending_in};
 use refusing::Refusing;
 use std::alloc::AllocError;
 use std::cmp::Ordering;
@@ -20,12 +21,6 @@ fn compared<D>(a: &Hash<D>, b: &Hash<D>) -> (bool, Ordering)
     (a == b, a.cmp(b))
 }
 
-fn hash_ending_in<D>(byte: u8) -> Hash<D> {
-    let mut bytes = [0; 32];
-    bytes[31] = byte;
-    Hash::from_array(bytes)
-}
-
 fn hashed<D>(hash: &Hash<D>) -> u64 {
     let mut hasher = DefaultHasher::new();
     std::hash::Hash::hash(hash, &mut hasher);
@@ -34,23 +29,13 @@ fn hashed<D>(hash: &Hash<D>) -> u64 {
 
 #[test]
 fn sha256_of_bytes(rt: HostRuntime) -> Result<(), Fail> {
-    let l0 = "6e340b9cffb37a989ca544e6bb780a2c78901d3fb33738768511a30617afa01d";
-    let l1 = "96a296d224f285c67bee93c30f8a309157f0daa35dc5b87e410b78630a09cfc7";
-    let u2 = "fac54203e7cc696cf0dfcb42c92a1d9dbaf70ad9e621f4bd8d98662f00e3c125";
-    let l2 = "0298d122906dcfc10892cb53a73992fc5b9f493ea4c9badb27b791b4127a7fe7";
-    let u3 = "aeb6bcfe274b70a14fb067a5e5578264db0fa9b51af5e0ba159158f329e06e77";
     let rows = [
-        (
-            "",
-            "",
-            "",
-            "e3b0c44298fc1c149afbf4c8996fb92427ae41e4649b934ca495991b7852b855",
-        ),
-        ("00", "", "", l0),
-        ("00", "00", "", l1),
-        ("00", "10", "", l2),
-        ("01", l0, l1, u2),
-        ("01", u2, l2, u3),
+        ("", "", "", Z),
+        ("00", "", "", L0),
+        ("00", "00", "", L1),
+        ("00", "10", "", L2),
+        ("01", L0, L1, U2),
+        ("01", U2, L2, U3),
     ];
     for (first, second, third, want) in rows {
         let first = hex::decode(rt.alloc(), first)?;
@@ -112,10 +97,7 @@ fn a_hash_and_its_bytes(rt: HostRuntime) -> Result<(), Fail> {
 #[test]
 fn empty_trees(rt: HostRuntime) -> Result<(), Fail> {
     let rows = [
-        (
-            0,
-            "6e340b9cffb37a989ca544e6bb780a2c78901d3fb33738768511a30617afa01d",
-        ),
+        (0, L0),
         (
             1,
             "fe43d66afa4a9a5c4f9c9da89f4ffb52635c8f342e7ffb731d68e36c5982072a",

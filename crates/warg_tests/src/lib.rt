@@ -6,6 +6,8 @@ mod bundle;
 #[cfg(test)]
 mod crypto;
 #[cfg(test)]
+mod digests;
+#[cfg(test)]
 mod log;
 #[cfg(test)]
 mod map;

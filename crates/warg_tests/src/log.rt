@@ -1,5 +1,6 @@
 //! The log: numbering, roots, proofs and refused growths. Roots are computed by Python's hashlib.
 
+use crate::digests::{L0, U2, U3, Z, hash_ending_in};
 use refusing::Refusing;
 use std::alloc::AllocError;
 use std::process::Abort;
@@ -115,20 +116,6 @@ const TEXTS: [(&str, &str); 25] = [
     ),
 ];
 
-const NO_BYTES: &str = "e3b0c44298fc1c149afbf4c8996fb92427ae41e4649b934ca495991b7852b855";
-
-const L0: &str = "6e340b9cffb37a989ca544e6bb780a2c78901d3fb33738768511a30617afa01d";
-
-const U2: &str = "fac54203e7cc696cf0dfcb42c92a1d9dbaf70ad9e621f4bd8d98662f00e3c125";
-
-const U3: &str = "aeb6bcfe274b70a14fb067a5e5578264db0fa9b51af5e0ba159158f329e06e77";
-
-fn digest<D>(byte: u8) -> Hash<D> {
-    let mut bytes = [0; 32];
-    bytes[31] = byte;
-    Hash::from_array(bytes)
-}
-
 fn has_numbers(nodes: &[Node], numbers: &[usize]) -> bool {
     nodes.len() == numbers.len()
         && nodes
@@ -144,7 +131,7 @@ fn checkpoints_of_few_entries(rt: HostRuntime) -> Result<(), Fail> {
     assert!(rt; stack.is_empty());
     assert_eq!(rt;
         hex::encode(rt.alloc(), log.checkpoint().root().bytes())?.as_str(),
-        NO_BYTES
+        Z
     );
     assert_eq!(rt; log.checkpoint().length(), 0);
     assert!(rt; log.checkpoint() == stack.checkpoint());
@@ -296,8 +283,8 @@ fn walks_at_the_greatest_lengths(rt: HostRuntime) -> Result<(), Fail> {
         [62, 62, 0]
     );
     let whole = log.prove_inclusion(Node((1 << 63) - 1), 1 << 63);
-    let hash = digest(7);
-    assert!(rt; whole.evaluate_hash(&log, hash)? == digest(7));
+    let hash = hash_ending_in(7);
+    assert!(rt; whole.evaluate_hash(&log, hash)? == hash_ending_in(7));
     Ok(())
 }
 
@@ -519,54 +506,58 @@ fn refusals_of_consistency(rt: HostRuntime) -> Result<(), Fail> {
 fn consistency_over_given_digests(rt: HostRuntime) -> Result<(), Fail> {
     let alloc = rt.alloc();
     let data = vec![in alloc;
-        (Node(1), digest(5)),
-        (Node(4), digest(7)),
-        (Node(5), digest(10)),
-        (Node(6), digest(2)),
+        (Node(1), hash_ending_in(5)),
+        (Node(4), hash_ending_in(7)),
+        (Node(5), hash_ending_in(10)),
+        (Node(6), hash_ending_in(2)),
     ]?;
     let data: SparseLogData<Sum, u8> = SparseLogData::from(data);
     assert!(rt; data.has_hash(Node(1)) && data.has_hash(Node(6)) && !data.has_hash(Node(3)));
     assert!(rt;
-        data.hash_for(Node(1)) == Some(digest(5)) && data.hash_for(Node(6)) == Some(digest(2))
+        data.hash_for(Node(1)) == Some(hash_ending_in(5))
+            && data.hash_for(Node(6)) == Some(hash_ending_in(2))
     );
     assert!(rt; data.hash_for(Node(0)).is_none() && data.hash_for(Node(7)).is_none());
-    assert!(rt; data.prove_consistency(3, 4).evaluate(&data) == Ok((digest(13), digest(16))));
+    assert!(rt;
+        data.prove_consistency(3, 4).evaluate(&data) == Ok((hash_ending_in(13), hash_ending_in(16)))
+    );
     let data = vec![in alloc;
-        (Node(1), digest(5)),
-        (Node(4), digest(7)),
-        (Node(5), digest(9)),
-        (Node(6), digest(2)),
+        (Node(1), hash_ending_in(5)),
+        (Node(4), hash_ending_in(7)),
+        (Node(5), hash_ending_in(9)),
+        (Node(6), hash_ending_in(2)),
     ]?;
     let data: SparseLogData<Sum, u8> = SparseLogData::from(data);
     assert!(rt;
         data.prove_consistency(3, 4).evaluate(&data) == Err(ConsistencyProofError::DivergingRoots)
     );
     let data = vec![in alloc;
-        (Node(1), digest(5)),
-        (Node(5), digest(10)),
-        (Node(6), digest(2)),
+        (Node(1), hash_ending_in(5)),
+        (Node(5), hash_ending_in(10)),
+        (Node(6), hash_ending_in(2)),
     ]?;
     let data: SparseLogData<Sum, u8> = SparseLogData::from(data);
     assert!(rt;
         data.prove_consistency(3, 4).evaluate(&data) == Err(ConsistencyProofError::HashNotKnown)
     );
     let data = vec![in alloc;
-        (Node(1), digest(5)),
-        (Node(4), digest(7)),
-        (Node(5), digest(10)),
+        (Node(1), hash_ending_in(5)),
+        (Node(4), hash_ending_in(7)),
+        (Node(5), hash_ending_in(10)),
     ]?;
     let data: SparseLogData<Sum, u8> = SparseLogData::from(data);
     let fault = ConsistencyProofError::InclusionError(InclusionProofError::HashNotKnown);
     assert!(rt; data.prove_consistency(3, 4).evaluate(&data) == Err(fault));
-    let data = vec![in alloc; (Node(5), digest(10)), (Node(6), digest(2))]?;
+    let data = vec![in alloc; (Node(5), hash_ending_in(10)), (Node(6), hash_ending_in(2))]?;
     let data: SparseLogData<Sum, u8> = SparseLogData::from(data);
     assert!(rt;
         data.prove_consistency(3, 4).evaluate(&data) == Err(ConsistencyProofError::HashNotKnown)
     );
-    let data = vec![in alloc; (Node((1 << 63) - 1), digest(5))]?;
+    let data = vec![in alloc; (Node((1 << 63) - 1), hash_ending_in(5))]?;
     let data: SparseLogData<Sum, u8> = SparseLogData::from(data);
     assert!(rt;
-        data.prove_consistency(1 << 63, 1 << 63).evaluate(&data) == Ok((digest(5), digest(5)))
+        data.prove_consistency(1 << 63, 1 << 63).evaluate(&data)
+            == Ok((hash_ending_in(5), hash_ending_in(5)))
     );
     Ok(())
 }

@@ -1,17 +1,10 @@
 //! The program over readers and writers: its lines, its errors, and growths refused.
 
+use crate::digests::{L0, U2, U3, Z};
 use refusing::Refusing;
 use std::io::{Error, ErrorKind, Read, Result as IoResult, Write};
 use std::test::Fail;
 use warg_check::program::{RunError, run};
-
-const Z: &str = "e3b0c44298fc1c149afbf4c8996fb92427ae41e4649b934ca495991b7852b855";
-
-const L0: &str = "6e340b9cffb37a989ca544e6bb780a2c78901d3fb33738768511a30617afa01d";
-
-const U2: &str = "fac54203e7cc696cf0dfcb42c92a1d9dbaf70ad9e621f4bd8d98662f00e3c125";
-
-const U3: &str = "aeb6bcfe274b70a14fb067a5e5578264db0fa9b51af5e0ba159158f329e06e77";
 
 // The text that a run writes for an input, and whether every line was good.
 fn written(rt: &HostRuntime, input: &[u8]) -> Result<(Vec<u8>, bool), RunError> {

@@ -4,6 +4,7 @@ ghost use Rattle.std.specs.Prelude.{Ok};
 ghost use Rattle.warg_protobuf.specs.Reading.{Gives};
 ghost use Rattle.warg_protobuf.specs.LogProofBundle.{log_view};
 
+use crate::digests::{L0, L1, L2, U2, Z, bytes_of};
 use refusing::Refusing;
 use std::alloc::{AllocError, Allocator};
 use std::process::Abort;
@@ -11,34 +12,6 @@ use std::test::Fail;
 use warg_protobuf::{
     HashEntry, LogProofBundle, MapInclusionProof, MapProofBundle, StackLog, VecLog, WireError,
 };
-
-// Digests of no bytes, and of trees over them, computed by Python's hashlib.
-const Z: &str = "e3b0c44298fc1c149afbf4c8996fb92427ae41e4649b934ca495991b7852b855";
-
-const L0: &str = "6e340b9cffb37a989ca544e6bb780a2c78901d3fb33738768511a30617afa01d";
-
-const L1: &str = "96a296d224f285c67bee93c30f8a309157f0daa35dc5b87e410b78630a09cfc7";
-
-const L2: &str = "0298d122906dcfc10892cb53a73992fc5b9f493ea4c9badb27b791b4127a7fe7";
-
-const U2: &str = "fac54203e7cc696cf0dfcb42c92a1d9dbaf70ad9e621f4bd8d98662f00e3c125";
-
-// The bytes of hexadecimal words, one after the other; a digest goes by its name.
-pub(crate) fn bytes_of<A: Allocator + Copy>(alloc: A, words: &str) -> Result<Vec<u8, A>, Fail> {
-    let mut bytes = Vec::new(alloc);
-    for word in words.split(' ') {
-        let digits = match word {
-            "Z" => Z,
-            "L0" => L0,
-            "L1" => L1,
-            "L2" => L2,
-            "U2" => U2,
-            _ => word,
-        };
-        bytes.extend_from_slice(&hex::decode(alloc, digits)?)?;
-    }
-    Ok(bytes)
-}
 
 fn assert_entries<A: Allocator + Copy>(
     rt: &impl Abort,

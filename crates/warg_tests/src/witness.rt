@@ -1,5 +1,6 @@
 //! Witnesses of the log's proofs, by weak digests, and each refused growth.
 
+use crate::digests::hash_ending_in;
 use refusing::Refusing;
 use std::alloc::{AllocError, Allocator};
 use std::test::Fail;
@@ -11,12 +12,6 @@ use warg_witness::{Finding, agree_value, witness_hash, witness_value};
 type Data = SparseLogData<Sum, &'static [u8]>;
 
 const ENTRIES: [&[u8]; 3] = [&[1], &[2], &[7]];
-
-fn digest<D>(byte: u8) -> Hash<D> {
-    let mut bytes = [0; 32];
-    bytes[31] = byte;
-    Hash::from_array(bytes)
-}
 
 // A digest of the same sum as digest 2.
 fn lying_digest() -> Hash<Sum> {
@@ -81,7 +76,7 @@ fn values_at_given_digests(rt: HostRuntime) -> Result<(), Fail> {
             Finding::NotMet
         )
     );
-    let data = vec![in alloc; (Node(4), digest(7))]?;
+    let data = vec![in alloc; (Node(4), hash_ending_in(7))]?;
     let data: Data = SparseLogData::from(data);
     let inner = data.prove_inclusion(Node(1), 2);
     let finding = witness_value(alloc, &inner, &data, &[4].as_slice(), &ENTRIES[..2])?;
@@ -92,24 +87,24 @@ fn values_at_given_digests(rt: HostRuntime) -> Result<(), Fail> {
 #[test]
 fn hashes_under_the_root_of_entries(rt: HostRuntime) -> Result<(), Fail> {
     let alloc = rt.alloc();
-    let data = vec![in alloc; (Node(4), digest(7))]?;
+    let data = vec![in alloc; (Node(4), hash_ending_in(7))]?;
     let data: Data = SparseLogData::from(data);
     let proof = data.prove_inclusion(Node(1), 3);
     assert!(rt;
         matches!(
-            witness_hash(alloc, &proof, &data, digest(4), &ENTRIES)?,
+            witness_hash(alloc, &proof, &data, hash_ending_in(4), &ENTRIES)?,
             Finding::Holds
         )
     );
     assert!(rt;
         matches!(
-            witness_hash(alloc, &proof, &data, digest(5), &ENTRIES)?,
+            witness_hash(alloc, &proof, &data, hash_ending_in(5), &ENTRIES)?,
             Finding::NotMet
         )
     );
-    let data = vec![in alloc; (Node(4), digest(6))]?;
+    let data = vec![in alloc; (Node(4), hash_ending_in(6))]?;
     let data: Data = SparseLogData::from(data);
-    let finding = witness_hash(alloc, &proof, &data, digest(5), &ENTRIES)?;
+    let finding = witness_hash(alloc, &proof, &data, hash_ending_in(5), &ENTRIES)?;
     assert!(rt; shows(&finding, &branch(5, 6), &branch(4, 7)));
     Ok(())
 }
@@ -117,9 +112,9 @@ fn hashes_under_the_root_of_entries(rt: HostRuntime) -> Result<(), Fail> {
 #[test]
 fn values_under_one_root(rt: HostRuntime) -> Result<(), Fail> {
     let alloc = rt.alloc();
-    let first = vec![in alloc; (Node(2), digest(4))]?;
+    let first = vec![in alloc; (Node(2), hash_ending_in(4))]?;
     let first: Data = SparseLogData::from(first);
-    let second = vec![in alloc; (Node(2), digest(3))]?;
+    let second = vec![in alloc; (Node(2), hash_ending_in(3))]?;
     let second: Data = SparseLogData::from(second);
     let proof = first.prove_inclusion(Node(0), 2);
     let [one, two, three]: [&[u8]; 3] = [&[1], &[2], &[3]];
@@ -129,7 +124,7 @@ fn values_under_one_root(rt: HostRuntime) -> Result<(), Fail> {
     assert!(rt; matches!(finding, Finding::NotMet));
     let lying = vec![in alloc; (Node(2), lying_digest())]?;
     let lying: Data = SparseLogData::from(lying);
-    let honest = vec![in alloc; (Node(2), digest(2))]?;
+    let honest = vec![in alloc; (Node(2), hash_ending_in(2))]?;
     let honest: Data = SparseLogData::from(honest);
     let finding = agree_value(alloc, &proof, &lying, &one, &honest, &one)?;
     assert!(rt; matches!(finding, Finding::Holds));
@@ -168,9 +163,9 @@ fn a_log_s_own_proofs_hold(rt: HostRuntime) -> Result<(), Fail> {
 // Whether each growth refused leads to an error or to the answer with ample memory, which comes at last.
 #[test]
 fn witnesses_with_each_growth_refused(rt: HostRuntime) -> Result<(), Fail> {
-    let first = vec![in rt.alloc(); (Node(2), digest(4)), (Node(4), digest(6))]?;
+    let first = vec![in rt.alloc(); (Node(2), hash_ending_in(4)), (Node(4), hash_ending_in(6))]?;
     let first: Data = SparseLogData::from(first);
-    let second = vec![in rt.alloc(); (Node(2), digest(3))]?;
+    let second = vec![in rt.alloc(); (Node(2), hash_ending_in(3))]?;
     let second: Data = SparseLogData::from(second);
     let values = first.prove_inclusion(Node(0), 2);
     let hashes = first.prove_inclusion(Node(1), 3);
@@ -183,7 +178,7 @@ fn witnesses_with_each_growth_refused(rt: HostRuntime) -> Result<(), Fail> {
             Err(AllocError) => refused = refused.saturating_add(1),
         }
         let alloc = Refusing::after(rt.alloc(), growths);
-        match witness_hash(&alloc, &hashes, &first, digest(5), &ENTRIES) {
+        match witness_hash(&alloc, &hashes, &first, hash_ending_in(5), &ENTRIES) {
             Ok(finding) => assert!(rt; shows(&finding, &branch(5, 6), &branch(4, 7))),
             Err(AllocError) => refused = refused.saturating_add(1),
         }

@@ -1,0 +1,53 @@
+//! Digests that several subjects speak of. Those of SHA-256 are computed by Python's hashlib.
+
+use std::alloc::Allocator;
+use std::test::Fail;
+use warg_crypto::{Hash, Sha256};
+
+/// The digest of no bytes: the root of no entries.
+pub(crate) const Z: &str = "e3b0c44298fc1c149afbf4c8996fb92427ae41e4649b934ca495991b7852b855";
+
+/// The leaf digest of an entry of no bytes.
+pub(crate) const L0: &str = "6e340b9cffb37a989ca544e6bb780a2c78901d3fb33738768511a30617afa01d";
+
+/// The leaf digest of the entry `00`.
+pub(crate) const L1: &str = "96a296d224f285c67bee93c30f8a309157f0daa35dc5b87e410b78630a09cfc7";
+
+/// The leaf digest of the entry `10`.
+pub(crate) const L2: &str = "0298d122906dcfc10892cb53a73992fc5b9f493ea4c9badb27b791b4127a7fe7";
+
+/// The root of the entries of no bytes and `00`.
+pub(crate) const U2: &str = "fac54203e7cc696cf0dfcb42c92a1d9dbaf70ad9e621f4bd8d98662f00e3c125";
+
+/// The root of the entries of no bytes, `00` and `10`.
+pub(crate) const U3: &str = "aeb6bcfe274b70a14fb067a5e5578264db0fa9b51af5e0ba159158f329e06e77";
+
+/// The bytes of hexadecimal words, one after the other; a digest goes by its name.
+pub(crate) fn bytes_of<A: Allocator + Copy>(alloc: A, words: &str) -> Result<Vec<u8, A>, Fail> {
+    let mut bytes = Vec::new(alloc);
+    for word in words.split(' ') {
+        let digits = match word {
+            "Z" => Z,
+            "L0" => L0,
+            "L1" => L1,
+            "L2" => L2,
+            "U2" => U2,
+            "U3" => U3,
+            _ => word,
+        };
+        bytes.extend_from_slice(&hex::decode(alloc, digits)?)?;
+    }
+    Ok(bytes)
+}
+
+/// The hash of these hexadecimal digits, or of this name.
+pub(crate) fn hash_of<A: Allocator + Copy>(alloc: A, digits: &str) -> Result<Hash<Sha256>, Fail> {
+    Ok(Hash::try_from(bytes_of(alloc, digits)?)?)
+}
+
+/// The hash of 31 zero bytes and this one.
+pub(crate) fn hash_ending_in<D>(byte: u8) -> Hash<D> {
+    let mut bytes = [0; 32];
+    bytes[31] = byte;
+    Hash::from_array(bytes)
+}
