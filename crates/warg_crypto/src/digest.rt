@@ -1,6 +1,6 @@
 //! Digest functions, and SHA-256.
 
-ghost use Rattle.std.specs.Prelude.{◌≡◌, ℕ, ◌+◌, ◌<◌, List, [], length};
+ghost use Rattle.std.specs.Prelude.{◌≡◌, ℕ, ◌+◌, ◌<◌, ◌≤◌, List, [], length};
 ghost use Rattle.sha2.specs.Hashers.{Holds256};
 ghost use Rattle.sha2.specs.Sha256.{sha256};
 ghost use Rattle.sha2.proofs.Facts256.{length-sha256};
@@ -42,6 +42,23 @@ pub trait SupportedDigest: ByteVisitor {
         Hash::from_array(digest.finish())
     }
 
+    /// The digest of the empty tree of `height` levels: `H(00)` at height 0, and at each height above that
+    /// of a branch over two trees of the height below.
+    ///
+    /// As provided, it goes up from height 0. A digest that knows these values answers without hashing.
+    fn empty_tree(height: usize) -> Hash<Self>
+        requires { height ≤ 256 }
+        ensures { result ≡ empty_root digest height }
+    {
+        let mut leaf = Self::start();
+        leaf.visit_bytes(&[0]);
+        let mut empty = Hash::from_array(leaf.finish());
+        for below in 0..height {
+            empty = Self::empty_above(below, &empty);
+        }
+        empty
+    }
+
     // Every digest has 32 bytes.
     ghost digest_length: { (m : List ℕ) → length (digest m) ≡ 32 };
 }
@@ -76,6 +93,11 @@ impl SupportedDigest for Sha256 {
     }
 
     /// Looked up in a table of the 257 digests.
+    fn empty_tree(height: usize) -> Hash<Sha256> {
+        Hash::from_array(EMPTY_TREES[height])
+    }
+
+    /// Looked up in the same table.
     fn empty_above(height: usize, _empty: &Hash<Sha256>) -> Hash<Sha256> {
         Hash::from_array(EMPTY_TREES[height + 1])
     }

@@ -9,17 +9,12 @@ use crate::hash::Hash;
 /// The digest of the empty tree of `height` levels: `H(00)` at height 0, and at each height above
 /// `H(01 ++ e ++ e)`, with the digest `e` of the height below.
 ///
-/// It hashes once for each height, under SHA-256 but once.
-#[tactic(auto, unfolding(crate::specs::EmptyTrees::empty_root))]
+/// It hashes once for each height, and under SHA-256 not at all.
 pub fn empty_tree_hash<D: SupportedDigest>(height: usize) -> Hash<D>
     requires { height ≤ 256 }
     ensures { result ≡ empty_root D.digest height }
 {
-    let mut empty = Hash::of(&0u8);
-    for below in 0..height {
-        empty = D::empty_above(below, &empty);
-    }
-    empty
+    D::empty_tree(height)
 }
 
 // Those of 0 to 256 levels by SHA-256, each of them proved.
