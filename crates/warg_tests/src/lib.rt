@@ -16,4 +16,6 @@ mod program;
 #[cfg(test)]
 mod protobuf;
 #[cfg(test)]
+mod readme;
+#[cfg(test)]
 mod witness;
