@@ -17,3 +17,4 @@ pub mod BundleLemmas
 pub mod NeededLemmas
 pub mod SameLemmas
 pub mod ImageLemmas
+pub mod TreeLemmas
