@@ -16,3 +16,5 @@ pub mod StackLemmas
 pub mod BundleLemmas
 pub mod NeededLemmas
 pub mod SameLemmas
+pub mod ImageLemmas
+pub mod TreeLemmas

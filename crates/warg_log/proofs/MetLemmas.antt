@@ -90,7 +90,7 @@ new_all H F n m t r ts roots is all =
     ap (new_root_of H F n) is ∙ rw (leads_to H F n t r all'.0) (agreed_all H F n r ts all'.1)
 
 -- a length above 0 has a balanced root
-exponent_under : (f n : ℕ) → 0 < n → n < 2 ^ f → (h : ℕ) × (2 ^ h ≤ n) × (n < 2 ^ suc h)
+pub exponent_under : (f n : ℕ) → 0 < n → n < 2 ^ f → (h : ℕ) × (2 ^ h ≤ n) × (n < 2 ^ suc h)
 exponent_under zero n some lt = absurd (omega arith)
 exponent_under (suc f) n some lt = ⊎_elim
     (λ (low : n < 2 ^ f). exponent_under f n some low)

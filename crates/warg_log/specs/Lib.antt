@@ -8,3 +8,4 @@ pub mod Blocks
 pub mod Decoding
 pub mod Bundles
 pub mod Bundling
+pub mod Images

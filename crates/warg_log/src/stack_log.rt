@@ -6,6 +6,8 @@ ghost use Rattle.warg_log.specs.Tree.{branch, root_of};
 ghost use Rattle.warg_log.specs.Cut.{old_root};
 ghost use Rattle.warg_log.specs.Blocks.{Blocks, StandsFor, Grows, block_at, joined_blocks, pushed};
 
+mod image;
+
 use crate::log::{Checkpoint, LogBuilder, hash_branch, hash_empty, hash_leaf};
 use crate::node::Node;
 use std::alloc::{AllocError, Allocator, Global};

@@ -5,6 +5,8 @@ ghost use Rattle.std.proofs.Common.{ap, sym};
 ghost use Rattle.warg_log.specs.Nodes.{height_of, end_of};
 ghost use Rattle.warg_log.specs.Tree.{IsSlice, IsSliceUpTo, root_of, leaves_below, leaves_in, own_digest};
 
+mod image;
+
 use crate::interval::Interval;
 use crate::log::{Checkpoint, LogBuilder, LogData, hash_branch, hash_empty, hash_leaf};
 use crate::node::{Node, Side};

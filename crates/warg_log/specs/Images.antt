@@ -1,0 +1,86 @@
+-- Images of the two logs: their messages, and what messages and bytes are read as.
+use Rattle.std.specs.Prelude.{◌≡◌, ℕ, ◌+◌, ◌-◌, ◌*◌, ◌^◌, ◌<◌, ◌≤◌, ◌&&◌, Bool, ◌==◌, nat_eq, if◌then◌else◌, List, length, map, Result, Ok, Err, slice_index_or, []}
+use Rattle.std.specs.List.{AllByRecursion, list_all, zip, range_with_len}
+use Rattle.std.specs.Cmp.Lexicographic.{pointwise}
+use Rattle.warg_protobuf.specs.declared.error.WireError.{WireError}
+use Rattle.warg_protobuf.specs.HashEntry.{Entry}
+use Rattle.warg_protobuf.specs.StackLog.{StackImage, stack_schema}
+use Rattle.warg_protobuf.specs.VecLog.{VecImage, vec_schema}
+use Rattle.warg_protobuf.specs.Schema.{message_of}
+use Rattle.warg_log.specs.declared.error.DecodeError.{DecodeError}
+use Rattle.warg_log.specs.declared.error.DecodeError.TheVariants.{Wire, HashLength, NotALog, NotAStack}
+use Rattle.warg_log.specs.Nodes.{height_of, place_of, end_of, number_of, balanced_roots}
+use Rattle.warg_log.specs.Tree.{branch, digest_or_spacer, leaves_in}
+use Rattle.warg_log.specs.Blocks.{Blocks}
+
+-- What a message holds, in what bytes were read as.
+abbrev pub held_in : {M X : Type 0} → (M → Result X DecodeError) → Result M WireError → Result X DecodeError
+held_in read (Ok m) = read m
+held_in read (Err e) = Err (Wire e)
+
+-- All digests have 32 bytes.
+abbrev pub are_digests : List (List ℕ) → Bool
+are_digests ds = list_all (λ d. length d == 32) ds
+
+-- ---- a log that keeps its balanced roots
+
+-- A node's number with its digest, as an entry of a message.
+abbrev pub root_entry : ℕ × List ℕ → Entry
+root_entry p = record { index = p.0; hash = p.1 }
+
+-- The message of such a log: its length, and each balanced root with its digest, from left to right.
+abbrev pub stack_message : Blocks → StackImage
+stack_message b = record { length = b.len; stack = map root_entry (zip (balanced_roots b.len) b.digests) }
+
+-- The length and the balanced roots' numbers fit in the 32 bits of a message.
+abbrev pub RootsFit : Blocks → Type 0
+RootsFit b = (b.len < 2 ^ 32) × AllByRecursion (λ t. t < 2 ^ 32) (balanced_roots b.len)
+
+-- The log that a message holds, or the first fault of its contents: a digest that isn't 32 bytes, and then
+-- numbers that aren't the balanced roots of the length, in order.
+abbrev pub stack_in : StackImage → Result Blocks DecodeError
+stack_in m =
+    if are_digests (map (λ (e : Entry). e.hash) m.stack)
+    then (if pointwise nat_eq (map (λ (e : Entry). e.index) m.stack) (balanced_roots m.length)
+    then Ok (record { len = m.length; digests = map (λ (e : Entry). e.hash) m.stack })
+    else Err NotAStack)
+    else Err HashLength
+
+-- The log that bytes spell, or their first fault: that of the message (proto3 encoding), and then that of
+-- its contents.
+abbrev pub stack_of : List ℕ → Result Blocks DecodeError
+stack_of bytes = held_in stack_in (message_of stack_schema bytes)
+
+-- ---- a log that keeps the digest of every node
+
+-- The slice of a log of these leaf digests: at each place below 2 * n - 1 the digest of its node, or that of
+-- no bytes where the node doesn't exist yet.
+abbrev pub slice_of : (List ℕ → List ℕ) → List (List ℕ) → List (List ℕ)
+slice_of H ds = map (digest_or_spacer H ds) (range_with_len 0 (2 * length ds - 1))
+
+-- The message of such a log: its length, and its slice.
+abbrev pub vec_message : (List ℕ → List ℕ) → List (List ℕ) → VecImage
+vec_message H ds = record { length = length ds; tree = slice_of H ds }
+
+-- The tree is the slice of a log of this length.
+abbrev pub is_slice_of_length : (List ℕ → List ℕ) → ℕ → List (List ℕ) → Bool
+is_slice_of_length H n tree = length (leaves_in tree) == n && pointwise (pointwise nat_eq) tree (slice_of H (leaves_in tree))
+
+-- The log that a message holds, by its leaf digests, or the first fault of its contents: a digest that isn't
+-- 32 bytes, and then a tree that isn't the slice of a log of the length.
+abbrev pub vec_in : (List ℕ → List ℕ) → VecImage → Result (List (List ℕ)) DecodeError
+vec_in H m =
+    if are_digests m.tree
+    then (if is_slice_of_length H m.length m.tree then Ok (leaves_in m.tree) else Err NotALog)
+    else Err HashLength
+
+-- The log that bytes spell, or their first fault: that of the message (proto3 encoding), and then that of
+-- its contents.
+abbrev pub vec_of : (List ℕ → List ℕ) → List ℕ → Result (List (List ℕ)) DecodeError
+vec_of H bytes = held_in (vec_in H) (message_of vec_schema bytes)
+
+-- What a branch's place holds in a tree of n leaves: the digest of its two children's, or that of no bytes
+-- where the branch doesn't exist yet.
+pub record IsHeld (H : List ℕ → List ℕ) (n : ℕ) (tree : List (List ℕ)) (x : ℕ) : Type 0 where
+  pub exists : end_of x ≤ n → slice_index_or tree x [] ≡ branch H (slice_index_or tree (number_of (height_of x - 1) (2 * place_of x)) []) (slice_index_or tree (number_of (height_of x - 1) (2 * place_of x + 1)) [])
+  pub lacks : n < end_of x → slice_index_or tree x [] ≡ H []

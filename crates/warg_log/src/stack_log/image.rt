@@ -1,0 +1,147 @@
+//! Stack logs as messages and bytes.
+
+ghost use Rattle.std.specs.Prelude.{◌≡◌, ◌≢◌, ℕ, ◌^◌, ◌≤◌, ◌↔◌, ◌⊎◌, true, false, nat_eq, length, map, Ok, Err, IfOk, IfErr};
+ghost use Rattle.std.specs.List.{AllByRecursion, zip};
+ghost use Rattle.std.specs.Cmp.Lexicographic.{pointwise};
+ghost use Rattle.warg_protobuf.specs.declared.error.WireError.TheVariants as wire;
+ghost use Rattle.warg_protobuf.specs.HashEntry.{entry_view};
+ghost use Rattle.warg_protobuf.specs.StackLog.{stack_view, stack_bytes};
+ghost use Rattle.warg_log.specs.Nodes.{balanced_roots};
+ghost use Rattle.warg_log.specs.Decoding.{Reads};
+ghost use Rattle.warg_log.specs.Images.{are_digests, root_entry, RootsFit, stack_message, stack_in, stack_of};
+
+use crate::error::{DecodeError, EncodeError};
+use crate::interval::Interval;
+use crate::proof_bundle::{entry, read_hash};
+use crate::stack_log::StackLog;
+use std::alloc::{AllocError, Allocator};
+use std::marker::PhantomData;
+use warg_crypto::{Hash, SupportedDigest, VisitBytes};
+use warg_protobuf::{HashEntry, StackLog as Message};
+
+// The greatest length of which each balanced root's number fits in 32 bits.
+const GREATEST_LENGTH: usize = 1 << 31;
+
+impl<D: SupportedDigest, V: VisitBytes, A: Allocator + Copy> StackLog<D, V, A> {
+    /// The log that a message holds.
+    ///
+    /// The errors: `HashLength` where a digest of the stack doesn't have 32 bytes; then `NotAStack` where the
+    /// entries' numbers aren't the balanced roots of the length, in order. Memory grows with the entries that
+    /// are there, and never by the length.
+    pub fn from_message(alloc: A, message: Message<A>) -> Result<Self, DecodeError>
+        ensures exact { Reads result (stack_in (stack_view message)) }
+        ensures message { IfOk result (λ log. stack_message log ≡ stack_view message) }
+        ensures wire { (e : _) → result ≢ Err (DecodeError.Wire e) }
+    {
+        let digests = read_blocks(alloc, message.stack.as_slice())?;
+        let count = message.length as usize;
+        if !are_roots(message.stack.as_slice(), count) {
+            return Err(DecodeError::NotAStack);
+        }
+        Ok(StackLog {
+            count,
+            blocks: digests,
+            of: PhantomData,
+        })
+    }
+
+    /// Reads a log from the bytes of its message: the first fault of the message, and then that of
+    /// [`StackLog::from_message`], is the error.
+    pub fn from_protobuf(alloc: A, bytes: &[u8]) -> Result<Self, DecodeError>
+        ensures exact { Reads result (stack_of bytes.now) }
+        ensures wire { result ≢ Err (DecodeError.Wire wire.Memory) }
+    {
+        let message = match Message::decode(alloc, bytes) {
+            Ok(message) => message,
+            Err(fault) => return Err(DecodeError::from(fault)),
+        };
+        StackLog::from_message(alloc, message)
+    }
+
+    /// The log's message, which holds the same log. `TooLarge` exactly where the length or a balanced root's
+    /// number is above `u32::MAX`, which is above 2^31 entries, before any growth.
+    pub fn to_message(&self) -> Result<Message<A>, EncodeError>
+        ensures ok { IfOk result (λ message. stack_view message ≡ stack_message self.now) }
+        ensures again { IfOk result (λ message. stack_in (stack_view message) ≡ Ok self.now) }
+        ensures too_large { (result ≡ Err EncodeError.TooLarge) ↔ ¬ RootsFit self.now }
+    {
+        if self.count > GREATEST_LENGTH {
+            return Err(EncodeError::TooLarge);
+        }
+        let alloc = *self.blocks.allocator();
+        let stack = entries(alloc, self.count, self.blocks.as_slice())?;
+        Ok(Message {
+            length: self.count as u32,
+            stack,
+        })
+    }
+
+    /// Writes the bytes of the log's message, which are read as the same log. `TooLarge` exactly where the
+    /// length or a balanced root's number is above `u32::MAX`, which is above 2^31 entries, before any growth.
+    pub fn to_protobuf(&self) -> Result<Vec<u8, A>, EncodeError>
+        ensures written { IfOk result (λ bytes. bytes.items ≡ stack_bytes (stack_message self.now)) }
+        ensures again { IfOk result (λ bytes. stack_of bytes.items ≡ Ok self.now) }
+        ensures too_large { (result ≡ Err EncodeError.TooLarge) ↔ ¬ RootsFit self.now }
+    {
+        let message = self.to_message()?;
+        Ok(message.encode(*self.blocks.allocator())?)
+    }
+}
+
+// The digests of these entries.
+fn read_blocks<D, A: Allocator>(
+    alloc: A,
+    entries: &[HashEntry<A>],
+) -> Result<Vec<Hash<D>, A>, DecodeError>
+    ensures ok { IfOk result (λ hashes. hashes.items ≡ map (λ e. e.hash.items) entries.now) }
+    ensures good { IfOk result (λ hashes. are_digests (map (λ e. e.hash.items) entries.now) ≡ true) }
+    ensures fault { IfErr result (λ e. (e ≡ DecodeError.Memory) ⊎ ((e ≡ DecodeError.HashLength) × (are_digests (map (λ e. e.hash.items) entries.now) ≡ false))) }
+{
+    let mut hashes = Vec::new(alloc);
+    'entries: for entry in entries {
+        let hash = read_hash(entry.hash.as_slice())?;
+        hashes.push(hash)?;
+    }
+    Ok(hashes)
+}
+
+// Whether the numbers of these entries are the balanced roots of a length, in order.
+fn are_roots<A: Allocator>(entries: &[HashEntry<A>], count: usize) -> bool
+    requires { count ≤ 2 ^ 63 }
+    ensures { result ≡ pointwise nat_eq (map (λ e. e.index) entries.now) (balanced_roots count) }
+{
+    let mut start = 0;
+    'entries: for entry in entries {
+        if start == count {
+            return false;
+        }
+        let root = Interval::first_root(start, count);
+        if entry.index as usize != root.node().0 {
+            return false;
+        }
+        start = root.end();
+    }
+    start == count
+}
+
+// The entries of the balanced roots of a length, with these digests.
+fn entries<D, A: Allocator + Copy>(
+    alloc: A,
+    count: usize,
+    blocks: &[Hash<D>],
+) -> Result<Vec<HashEntry<A>, A>, AllocError>
+    requires fits { count ≤ 2 ^ 31 }
+    requires count { length blocks.now ≡ length (balanced_roots count) }
+    ensures entries { IfOk result (λ entries. map entry_view entries.items ≡ map root_entry (zip (balanced_roots count) blocks.now)) }
+    ensures lengths { IfOk result (λ entries. AllByRecursion (λ d. length d ≡ 32) blocks.now) }
+{
+    let mut entries = Vec::new(alloc);
+    let mut start = 0;
+    'roots: for block in blocks {
+        let root = Interval::first_root(start, count);
+        let written = entry(alloc, root.node().0 as u32, block)?;
+        entries.push(written)?;
+        start = root.end();
+    }
+    Ok(entries)
+}

@@ -1,0 +1,155 @@
+//! Vec logs as messages and bytes.
+
+ghost use Rattle.std.specs.Prelude.{◌≡◌, ◌≢◌, ℕ, ◌-◌, ◌*◌, ◌%◌, ◌^◌, ◌<◌, ◌≤◌, ◌↔◌, ◌⊎◌, [], true, false, List, length, map, Ok, Err, IfOk, IfErr, IsTrue};
+ghost use Rattle.std.specs.List.{AllByRecursion};
+ghost use Rattle.warg_protobuf.specs.declared.error.WireError.TheVariants as wire;
+ghost use Rattle.warg_protobuf.specs.VecLog.{vec_view, vec_bytes};
+ghost use Rattle.warg_log.specs.Tree.{IsSlice};
+ghost use Rattle.warg_log.specs.Decoding.{Reads};
+ghost use Rattle.warg_log.specs.Images.{are_digests, is_slice_of_length, IsHeld, vec_message, vec_in, vec_of};
+
+use crate::error::{DecodeError, EncodeError};
+use crate::join::same;
+use crate::log::{hash_branch, hash_empty};
+use crate::node::Node;
+use crate::proof_bundle::read_hash;
+use crate::vec_log::VecLog;
+use std::alloc::{AllocError, Allocator};
+use std::marker::PhantomData;
+use warg_crypto::{Hash, SupportedDigest, VisitBytes};
+use warg_protobuf::VecLog as Message;
+
+impl<D: SupportedDigest, V: VisitBytes, A: Allocator + Copy> VecLog<D, V, A> {
+    /// The log that a message holds.
+    ///
+    /// The errors: `HashLength` where a digest of the tree doesn't have 32 bytes; then `NotALog` where the tree
+    /// isn't the slice of a log of the length, whatever its leaf digests: it has `2 * n - 1` digests for a
+    /// length `n` above 0, and none for 0; each branch that exists has the digest of its children's, and each
+    /// other one that of no bytes. Memory grows with the digests that are there, and never by the length. Each
+    /// branch is hashed once.
+    pub fn from_message(alloc: A, message: Message<A>) -> Result<Self, DecodeError>
+        ensures exact { Reads result (vec_in D.digest (vec_view message)) }
+        ensures message { IfOk result (λ log. vec_message D.digest log ≡ vec_view message) }
+        ensures none { result ≡ Err DecodeError.NotALog → (ds : List (List ℕ)) → vec_message D.digest ds ≢ vec_view message }
+        ensures wire { (e : _) → result ≢ Err (DecodeError.Wire e) }
+    {
+        let tree = read_tree(alloc, message.tree.as_slice())?;
+        let count = message.length as usize;
+        let spacer = hash_empty();
+        if !is_slice(tree.as_slice(), count, &spacer) {
+            return Err(DecodeError::NotALog);
+        }
+        Ok(VecLog {
+            count,
+            tree,
+            spacer,
+            of: PhantomData,
+        })
+    }
+
+    /// Reads a log from the bytes of its message: the first fault of the message, and then that of
+    /// [`VecLog::from_message`], is the error.
+    pub fn from_protobuf(alloc: A, bytes: &[u8]) -> Result<Self, DecodeError>
+        ensures exact { Reads result (vec_of D.digest bytes.now) }
+        ensures wire { result ≢ Err (DecodeError.Wire wire.Memory) }
+    {
+        let message = match Message::decode(alloc, bytes) {
+            Ok(message) => message,
+            Err(fault) => return Err(DecodeError::from(fault)),
+        };
+        VecLog::from_message(alloc, message)
+    }
+
+    /// The log's message, which holds the same log. `TooLarge` exactly where the length is above `u32::MAX`,
+    /// before any growth.
+    pub fn to_message(&self) -> Result<Message<A>, EncodeError>
+        ensures ok { IfOk result (λ message. vec_view message ≡ vec_message D.digest self.now) }
+        ensures again { IfOk result (λ message. vec_in D.digest (vec_view message) ≡ Ok self.now) }
+        ensures too_large { (result ≡ Err EncodeError.TooLarge) ↔ (2 ^ 32 ≤ length self.now) }
+    {
+        if self.count > u32::MAX as usize {
+            return Err(EncodeError::TooLarge);
+        }
+        let tree = digests(*self.tree.allocator(), self.tree.as_slice())?;
+        Ok(Message {
+            length: self.count as u32,
+            tree,
+        })
+    }
+
+    /// Writes the bytes of the log's message, which are read as the same log. `TooLarge` exactly where the
+    /// length is above `u32::MAX`, before any growth.
+    pub fn to_protobuf(&self) -> Result<Vec<u8, A>, EncodeError>
+        ensures written { IfOk result (λ bytes. bytes.items ≡ vec_bytes (vec_message D.digest self.now)) }
+        ensures again { IfOk result (λ bytes. vec_of D.digest bytes.items ≡ Ok self.now) }
+        ensures too_large { (result ≡ Err EncodeError.TooLarge) ↔ (2 ^ 32 ≤ length self.now) }
+    {
+        let message = self.to_message()?;
+        Ok(message.encode(*self.tree.allocator())?)
+    }
+}
+
+// The digests of these bytes.
+fn read_tree<D, A: Allocator>(alloc: A, tree: &[Vec<u8, A>]) -> Result<Vec<Hash<D>, A>, DecodeError>
+    ensures ok { IfOk result (λ hashes. hashes.items ≡ map (λ v. v.items) tree.now) }
+    ensures good { IfOk result (λ hashes. are_digests (map (λ v. v.items) tree.now) ≡ true) }
+    ensures fault { IfErr result (λ e. (e ≡ DecodeError.Memory) ⊎ ((e ≡ DecodeError.HashLength) × (are_digests (map (λ v. v.items) tree.now) ≡ false))) }
+{
+    let mut hashes = Vec::new(alloc);
+    'places: for digest in tree {
+        let hash = read_hash(digest.as_slice())?;
+        hashes.push(hash)?;
+    }
+    Ok(hashes)
+}
+
+// Whether the tree is the slice of a log of this length.
+fn is_slice<D: SupportedDigest>(tree: &[Hash<D>], count: usize, spacer: &Hash<D>) -> bool
+    requires fits { count < 2 ^ 32 }
+    requires spacer { spacer.now ≡ D.digest [] }
+    ensures { result ≡ is_slice_of_length D.digest count tree.now }
+{
+    if tree.len() != (2 * count).saturating_sub(1) {
+        return false;
+    }
+    'branches: for place in 1..count {
+        if !is_held(tree, count, Node(2 * place - 1), spacer) {
+            return false;
+        }
+    }
+    true
+}
+
+// Whether a branch's place holds the digest of its children's, or the spacer where the branch doesn't exist.
+fn is_held<D: SupportedDigest>(tree: &[Hash<D>], count: usize, node: Node, spacer: &Hash<D>) -> bool
+    requires fits { count < 2 ^ 32 }
+    requires length { length tree.now ≡ 2 * count - 1 }
+    requires inside { node.0 < length tree.now }
+    requires branch { node.0 % 2 ≡ 1 }
+    requires spacer { spacer.now ≡ D.digest [] }
+    ensures { IsTrue result ↔ IsHeld D.digest count tree.now node.0 }
+{
+    let held = &tree[node.0];
+    if !node.exists_at_length(count) {
+        return same(held, spacer);
+    }
+    let (left, right) = node.children();
+    same(held, &hash_branch(&tree[left.0], &tree[right.0]))
+}
+
+// The bytes of these digests.
+fn digests<D, A: Allocator + Copy>(
+    alloc: A,
+    tree: &[Hash<D>],
+) -> Result<Vec<Vec<u8, A>, A>, AllocError>
+    ensures digests { IfOk result (λ digests. map (λ v. v.items) digests.items ≡ tree.now) }
+    ensures lengths { IfOk result (λ digests. AllByRecursion (λ d. length d ≡ 32) tree.now) }
+{
+    let mut digests = Vec::new(alloc);
+    'places: for hash in tree {
+        prove_eq!(hash.len(), 32);
+        let digest = Vec::from_slice(alloc, hash.bytes())?;
+        digests.push(digest)?;
+    }
+    Ok(digests)
+}
