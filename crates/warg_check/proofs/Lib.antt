@@ -1,3 +1,4 @@
 pub mod WordLemmas
 pub mod TextLemmas
 pub mod VerdictLemmas
+pub mod BundledLemmas

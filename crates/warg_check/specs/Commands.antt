@@ -1,8 +1,8 @@
 -- What the program's commands mean, by the orders.
 use Rattle.std.specs.Prelude.{◌≡◌, ℕ, List, [], ◌∷◌}
-use Rattle.warg_check.specs.Orders.{Order, push, log, include, consistent, verify}
+use Rattle.warg_check.specs.Orders.{Order, push, log, include, consistent, bundle, verify}
 use Rattle.warg_check.specs.declared.program.command.Command.{Command}
-use Rattle.warg_check.specs.declared.program.command.Command.TheVariants.{Push, Log, Include, Consistent, Verify}
+use Rattle.warg_check.specs.declared.program.command.Command.TheVariants.{Push, Log, Include, Consistent, Bundle, Verify}
 use Rattle.warg_check.specs.declared.program.command.Words.{Words}
 use Rattle.warg_check.specs.declared.program.command.Words.TheVariants.{One, Two, Three, Four, More}
 
@@ -12,7 +12,8 @@ order_seen (Push bytes) = push bytes.items
 order_seen Log = log
 order_seen (Include node length value) = include node.0 length.value value.items
 order_seen (Consistent old new) = consistent old.value new.value
-order_seen (Verify root value bundle) = verify root value.items bundle.items
+order_seen (Bundle node length) = bundle node.0 length.value
+order_seen (Verify root value bytes) = verify root value.items bytes.items
 
 -- These are the words; of more than four, that there are as many.
 abbrev pub AreWords : List (List ℕ) → Words → Type 0

@@ -9,6 +9,7 @@ pub data Order : Type 0 where
   log : Order
   include : ℕ → ℕ → List ℕ → Order
   consistent : ℕ → ℕ → Order
+  bundle : ℕ → ℕ → Order
   verify : List ℕ → List ℕ → List ℕ → Order
 
 -- An order to evaluate, where each of its words is good.
@@ -21,9 +22,14 @@ abbrev pub consistent_of : Option ℕ → Option ℕ → Option Order
 consistent_of (Some old) (Some new) = Some (consistent old new)
 consistent_of _ _ = None
 
+-- An order to make the bundle of a proof, where both its words are good.
+abbrev pub bundle_of : Option ℕ → Option ℕ → Option Order
+bundle_of (Some node) (Some length) = Some (bundle node length)
+bundle_of _ _ = None
+
 -- An order to judge the bytes of a bundle, where each of its words is good.
 abbrev pub verify_of : Option (List ℕ) → Option (List ℕ) → Option (List ℕ) → Option Order
-verify_of (Some root) (Some value) (Some bundle) = Some (verify root value bundle)
+verify_of (Some root) (Some value) (Some bytes) = Some (verify root value bytes)
 verify_of _ _ _ = None
 
 -- The order of a line's words:
@@ -31,13 +37,18 @@ verify_of _ _ _ = None
 --     log
 --     include NODE LENGTH BYTES
 --     consistent OLD NEW
+--     bundle NODE LENGTH
 --     verify ROOT VALUE BUNDLE
 unfoldable pub order_of : List (List ℕ) → Option Order
 order_of [] = None
 order_of (name ∷ []) = if is_word name (codes "log") then Some log else None
 order_of (name ∷ first ∷ []) = if is_word name (codes "push") then option_map push (bytes_of first) else None
 order_of (name ∷ first ∷ second ∷ []) =
-    if is_word name (codes "consistent") then consistent_of (length_of first) (length_of second) else None
+    if is_word name (codes "consistent")
+    then consistent_of (length_of first) (length_of second)
+    else if is_word name (codes "bundle")
+    then bundle_of (number_of first) (length_of second)
+    else None
 order_of (name ∷ first ∷ second ∷ third ∷ []) =
     if is_word name (codes "include")
     then include_of (number_of first) (length_of second) (bytes_of third)

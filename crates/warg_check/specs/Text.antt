@@ -1,8 +1,10 @@
 -- What the program writes, as a fold over its lines whose state is the list of the entries pushed.
-use Rattle.std.specs.Prelude.{◌≡◌, ℕ, suc, ◌*◌, ◌^◌, nat_le, Bool, true, false, ◌&&◌, if◌then◌else◌, List, [], ◌∷◌, ◌++◌, length, codes, Option, Some, None, Result, Ok, Err}
+use Rattle.std.specs.Prelude.{◌≡◌, ℕ, suc, ◌*◌, ◌^◌, nat_le, nat_lt, Bool, true, false, ◌&&◌, if◌then◌else◌, List, [], ◌∷◌, ◌++◌, length, codes, Option, Some, None, Result, Ok, Err}
 use Rattle.std.specs.Fmt.{decimal}
 use Rattle.hex.specs.Hex.{encode_lower}
 use Rattle.warg_crypto.specs.Digests.{sha256}
+use Rattle.warg_protobuf.specs.HashEntry.{Entry}
+use Rattle.warg_protobuf.specs.LogProofBundle.{LogBundle, log_bytes}
 use Rattle.warg_log.specs.Nodes.{end_of}
 use Rattle.warg_log.specs.Tree.{leaves_of, root_of, own_digest}
 use Rattle.warg_log.specs.Cut.{cut_root}
@@ -13,7 +15,8 @@ use Rattle.warg_check.specs.Words.{lines_of}
 use Rattle.warg_check.specs.Verdicts.{inclusion_verdict}
 use Rattle.warg_check.specs.declared.verdict.CheckError.{CheckError}
 use Rattle.warg_check.specs.declared.verdict.CheckError.TheVariants as check
-use Rattle.warg_check.specs.Orders.{Order, push, log, include, consistent, verify, Line, empty, bad, good, line_of}
+use Rattle.warg_check.specs.Orders.{Order, push, log, include, consistent, bundle, verify, Line, empty, bad, good, line_of}
+use Rattle.warg_check.specs.Bundled.{needed_ascending, entries_for, proof_message, numbers_fit}
 
 -- The log's leaf digests.
 abbrev pub leaves : List (List ℕ) → List (List ℕ)
@@ -37,6 +40,15 @@ abbrev pub roots_or_refusal : Result (List ℕ × List ℕ) ConsistencyProofErro
 roots_or_refusal (Ok roots) = codes "roots " ++ encode_lower roots.0 ++ 32 ∷ encode_lower roots.1
 roots_or_refusal (Err fault) = refusal fault
 
+-- The written form of a message, or that a node's number doesn't fit in it.
+abbrev pub bytes_or_refusal : LogBundle → List ℕ
+bytes_or_refusal m = if numbers_fit m then codes "bundle " ++ encode_lower (log_bytes m) else codes "refused too large"
+
+-- The bundle of the proof of a node at a length with these entries, or why there is none.
+abbrev pub bundle_or_refusal : ℕ → ℕ → Option (List Entry) → List ℕ
+bundle_or_refusal node length (Some entries) = bytes_or_refusal (proof_message node length entries)
+bundle_or_refusal node length None = codes "refused hash not known"
+
 -- A verdict, or why there is none.
 abbrev pub verdict_or_refusal : Result Bool CheckError → List ℕ
 verdict_or_refusal (Ok true) = codes "true"
@@ -48,7 +60,8 @@ verdict_or_refusal (Err check.Memory) = []
 -- The answer to an order: the number of the new leaf's node, twice the count of entries before it; the
 -- count and the root of the tree over the entries; the root that the entries' own digests give with the
 -- value at the node, or why there is none; the roots of two lengths by the entries' own digests, or why there
--- are none; the verdict on the first inclusion proof of a bundle's bytes, which no entry bears on.
+-- are none; the bundle of an inclusion proof with the entries' own digests, or why there is none; the verdict
+-- on the first inclusion proof of a bundle's bytes, which no entry bears on.
 unfoldable pub answer : List (List ℕ) → Order → List ℕ
 answer entries (push bytes) = codes "node " ++ decimal (2 * length entries)
 answer entries log = codes "log " ++ decimal (length entries) ++ 32 ∷ encode_lower (root_of sha256 (leaves entries))
@@ -57,7 +70,13 @@ answer entries (include node length value) =
     then root_or_refusal (cut_root sha256 (own_digest sha256 (leaves entries)) node (sha256 (0 ∷ value)) length)
     else codes "refused leaf too new"
 answer entries (consistent old new) = roots_or_refusal (consistency sha256 (own_digest sha256 (leaves entries)) old new)
-answer entries (verify root value bundle) = verdict_or_refusal (inclusion_verdict sha256 bundle 0 value root)
+answer entries (bundle node length) =
+    if nat_lt length (end_of node)
+    then codes "refused leaf too new"
+    else if nat_le (2 ^ 32) length
+    then codes "refused too large"
+    else bundle_or_refusal node length (entries_for (own_digest sha256 (leaves entries)) (needed_ascending node length))
+answer entries (verify root value bytes) = verdict_or_refusal (inclusion_verdict sha256 bytes 0 value root)
 
 -- The entries after an order.
 abbrev pub pushed : List (List ℕ) → Order → List (List ℕ)
@@ -65,7 +84,8 @@ pushed entries (push bytes) = entries ++ bytes ∷ []
 pushed entries log = entries
 pushed entries (include node length value) = entries
 pushed entries (consistent old new) = entries
-pushed entries (verify root value bundle) = entries
+pushed entries (bundle node length) = entries
+pushed entries (verify root value bytes) = entries
 
 -- The entries after a line.
 abbrev pub entries_after : List (List ℕ) → Line → List (List ℕ)

@@ -52,12 +52,14 @@ const READS: u64 = 1 << 48;
 /// | `log` | `log LENGTH ROOT` |
 /// | `include NODE LENGTH BYTES` | `root ROOT`, or `refused leaf too new` or `refused hash not known` |
 /// | `consistent OLD NEW` | `roots ROOT ROOT`, the old one first, or `refused` and why not |
+/// | `bundle NODE LENGTH` | `bundle BYTES`, the bundle of that inclusion proof alone, or `refused` and why not |
 /// | `verify ROOT VALUE BUNDLE` | `true` or `false`, or `refused` and why not |
 ///
 /// A line that isn't one of these is answered by `bad line N`, N from 1, and nothing after it is read as
 /// a command. Empty lines are counted and not answered. BYTES is `-` for no bytes, or hexadecimal digits; numbers
 /// are decimal, and LENGTH, OLD and NEW at most 2^63. ROOT has 64 hexadecimal digits, and `verify` judges the
-/// first inclusion proof in the bundle.
+/// first inclusion proof in the bundle. `bundle` is refused as `leaf too new`, then as `too large` where LENGTH
+/// is above `u32::MAX`, then as `hash not known`, and then as `too large` where a node's number is above it.
 ///
 /// On `Read`, `Memory` and `Full` nothing was written; on `Write` some of the text may be.
 pub fn run<A: Allocator + Copy, R: Read, W: Write>(

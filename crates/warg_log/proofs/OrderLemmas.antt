@@ -413,3 +413,6 @@ needed_are_within s w (suc h) a n some = ⊎_elim
 
 pub needed_distinct : (s w a n : ℕ) → 0 < n → IsDistinct nat_eq (needed_over s w a n)
 needed_distinct s w a n some = (needed_are_within s w n a n some).distinct
+
+pub needed_below : (s w n : ℕ) → 0 < n → AllByRecursion (λ x. x < 2 * n) (needed_over s w 0 n)
+needed_below s w n some = all_weaken (Lies 0 (0 + n)) (λ x. x < 2 * n) (λ x p. let last = p.1 in omega (arith, last)) (needed_over s w 0 n) (needed_are_within s w n 0 n some).lie

@@ -1,13 +1,20 @@
 -- Evaluations over data that agree where they are read.
-use Rattle.std.proofs.Common.{◌≡◌, ℕ, zero, suc, ◌+◌, ◌-◌, ◌^◌, ◌==◌, ◌&&◌, ◌||◌, Bool, nat_eq, nat_le, true, false, List, [], ◌∷◌, ◌++◌, map, Option, Some, refl, sym, ◌∙◌, ⊎_elim}
+use Rattle.std.proofs.Common.{◌≡◌, ℕ, zero, suc, ◌+◌, ◌-◌, ◌^◌, ◌<◌, ◌≤◌, ◌==◌, ◌&&◌, ◌||◌, Bool, nat_eq, nat_le, true, false, List, [], ◌∷◌, ◌++◌, map, Option, Some, None, Result, Ok, Err, refl, sym, ap, ◌∙◌, arith, ⊎_elim}
 use Rattle.std.specs.List.{AllByRecursion, flat_map, list_any}
 use Rattle.std.proofs.lemmas.List.Folds.{list_any-append}
-use Rattle.std.proofs.lemmas.Bool.{eqb-true, eq-eqb, cases_Bool, cases_eq, ne_eqb}
+use Rattle.std.proofs.lemmas.Bool.{eqb-true, eq-eqb, le-leb, lt-leb, cases_Bool, cases_eq, cases_lt, ne_eqb}
+use Rattle.std.proofs.lemmas.Nat.{pow_pos}
 use Rattle.warg_log.specs.declared.node.Node.{Node}
+use Rattle.warg_log.specs.declared.consistency.ConsistencyProofError.{ConsistencyProofError}
+use Rattle.warg_log.specs.Nodes.{node_over, balanced_over, balanced_roots}
 use Rattle.warg_log.specs.Sparse.{Pairs, held_digest}
-use Rattle.warg_log.specs.Cut.{joined, is_target, is_beside, cut_within, cut_root}
+use Rattle.warg_log.specs.Cut.{joined, is_target, is_beside, cut_within, cut_root, old_within, old_root}
 use Rattle.warg_log.specs.Walks.{needed_within, needed}
+use Rattle.warg_log.specs.Consistency.{root_or_fault, root_given, root_to, agreed_root, agreed_after, new_root_of, consistency}
 use Rattle.warg_log.specs.Bundling.{needed_by, needed_between}
+use Rattle.warg_log.proofs.RootLemmas.{below_pow}
+use Rattle.warg_log.proofs.BalancedLemmas.{balanced_first}
+use Rattle.warg_log.proofs.OrderLemmas.{balanced_full}
 
 all_parts : (P : ℕ → Type 0) (xs ys : List ℕ) → AllByRecursion P (xs ++ ys) → AllByRecursion P xs × AllByRecursion P ys
 all_parts P [] ys all = (tt, all)
@@ -88,3 +95,76 @@ pub included_same : (H : List ℕ → List ℕ) (F : ℕ → Option (List ℕ)) 
     → ((x : ℕ) → list_any (nat_eq x) (map (λ (p : Node × List ℕ). p.0.0) ps) ≡ list_any (nat_eq x) (needed_by old_lengths nodes n))
     → (x : List ℕ) → AllByRecursion (λ (node : Node). cut_root H (held_digest ps) node.0 x n ≡ cut_root H F node.0 x n) nodes
 included_same H F ps n old_lengths nodes all exactly = inclusions_same H F ps n nodes all (λ y h. exactly y ∙ list_any-append (nat_eq y) (flat_map (λ m. needed_between m n) old_lengths) (flat_map (λ (node : Node). needed node.0 n) nodes) ∙ or_right_true _ _ h)
+
+-- ---- consistency proofs
+
+-- an old root reads the balanced roots
+same_old : (H : List ℕ → List ℕ) (F G : ℕ → Option (List ℕ)) (h a n : ℕ) → 0 < n → n ≤ 2 ^ h → AllByRecursion (λ y. F y ≡ G y) (balanced_over a n) → old_within H F h a n ≡ old_within H G h a n
+unfolding old_within
+same_old H F G zero a n some fits all =
+    let one : n ≡ 2 ^ zero = omega arith in
+    let whole : AllByRecursion (λ y. F y ≡ G y) (node_over a (2 ^ zero) ∷ []) = rw (one, balanced_full zero a) at all in
+    rw one whole.0
+same_old H F G (suc h) a n some fits all = ⊎_elim
+    (λ (more : 2 ^ h < n). rw (lt-leb n (2 ^ h) more) (⊎_elim
+    (λ (full : n ≡ 2 ^ suc h).
+    let whole : AllByRecursion (λ y. F y ≡ G y) (node_over a (2 ^ suc h) ∷ []) = rw (full, balanced_full (suc h) a) at all in
+    rw (eq-eqb n (2 ^ suc h) full) (rw full whole.0))
+    (λ (part : n ≡ 2 ^ suc h → ⊥).
+    let first : balanced_over a n ≡ node_over a (2 ^ h) ∷ balanced_over (a + 2 ^ h) (n - 2 ^ h) = balanced_first h a n (omega arith) (omega arith) in
+    let both : AllByRecursion (λ y. F y ≡ G y) (node_over a (2 ^ h) ∷ balanced_over (a + 2 ^ h) (n - 2 ^ h)) = rw first at all in
+    let left : old_within H F h a (2 ^ h) ≡ old_within H G h a (2 ^ h) = same_old H F G h a (2 ^ h) (pow_pos h) (omega arith) (rw (balanced_full h a) (both.0, tt)) in
+    let right : old_within H F h (a + 2 ^ h) (n - 2 ^ h) ≡ old_within H G h (a + 2 ^ h) (n - 2 ^ h) = same_old H F G h (a + 2 ^ h) (n - 2 ^ h) (omega arith) (omega arith) both.1 in
+    rw (ne_eqb n (2 ^ suc h) part) (same_joined H _ _ _ _ left right))
+    (cases_eq n (2 ^ suc h))))
+    (λ (low : n ≤ 2 ^ h). rw (le-leb n (2 ^ h) low) (same_old H F G h a n some low all))
+    (cases_lt (2 ^ h) n)
+
+same_given : (H : List ℕ → List ℕ) (F G : ℕ → Option (List ℕ)) (n t : ℕ) (held : Option (List ℕ)) → AllByRecursion (λ y. F y ≡ G y) (needed t n) → root_given H F n t held ≡ root_given H G n t held
+same_given H F G n t None all = refl
+same_given H F G n t (Some x) all = ap root_or_fault (same_within H F G x _ _ n 0 n all)
+
+same_to : (H : List ℕ → List ℕ) (F G : ℕ → Option (List ℕ)) (n t : ℕ) → AllByRecursion (λ y. F y ≡ G y) (t ∷ needed t n) → root_to H F n t ≡ root_to H G n t
+same_to H F G n t all = ap (root_given H F n t) all.0 ∙ same_given H F G n t (G t) all.1
+
+same_agreed : (H : List ℕ → List ℕ) (F G : ℕ → Option (List ℕ)) (n : ℕ) (agreed : List ℕ) (ts : List ℕ) → AllByRecursion (λ y. F y ≡ G y) (flat_map (λ t. t ∷ needed t n) ts) → agreed_root H F n agreed ts ≡ agreed_root H G n agreed ts
+same_agreed H F G n agreed [] all = refl
+same_agreed H F G n agreed (t ∷ ts) all =
+    let parts = all_parts (λ y. F y ≡ G y) (t ∷ needed t n) (flat_map (λ u. u ∷ needed u n) ts) all in
+    rw (same_to H F G n t parts.0, same_agreed H F G n agreed ts parts.1) refl
+
+same_after : (H : List ℕ → List ℕ) (F G : ℕ → Option (List ℕ)) (n : ℕ) (first : Result (List ℕ) ConsistencyProofError) (ts : List ℕ) → AllByRecursion (λ y. F y ≡ G y) (flat_map (λ t. t ∷ needed t n) ts) → agreed_after H F n first ts ≡ agreed_after H G n first ts
+same_after H F G n (Ok r) ts all = same_agreed H F G n r ts all
+same_after H F G n (Err fault) ts all = refl
+
+same_new : (H : List ℕ → List ℕ) (F G : ℕ → Option (List ℕ)) (n : ℕ) (ts : List ℕ) → AllByRecursion (λ y. F y ≡ G y) (flat_map (λ t. t ∷ needed t n) ts) → new_root_of H F n ts ≡ new_root_of H G n ts
+same_new H F G n [] all = refl
+same_new H F G n (t ∷ ts) all =
+    let parts = all_parts (λ y. F y ≡ G y) (t ∷ needed t n) (flat_map (λ u. u ∷ needed u n) ts) all in
+    ap (λ first. agreed_after H F n first ts) (same_to H F G n t parts.0) ∙ same_after H F G n (root_to H G n t) ts parts.1
+
+all_roots : (P : ℕ → Type 0) (n : ℕ) (ts : List ℕ) → AllByRecursion P (flat_map (λ t. t ∷ needed t n) ts) → AllByRecursion P ts
+all_roots P n [] all = tt
+all_roots P n (t ∷ ts) all = let parts = all_parts P (t ∷ needed t n) (flat_map (λ u. u ∷ needed u n) ts) all in (parts.0.0, all_roots P n ts parts.1)
+
+same_consistency : (H : List ℕ → List ℕ) (F G : ℕ → Option (List ℕ)) (m n : ℕ) → AllByRecursion (λ y. F y ≡ G y) (needed_between m n) → consistency H F m n ≡ consistency H G m n
+same_consistency H F G m n all = ⊎_elim
+    (λ (none : m ≡ 0). rw (eq-eqb m 0 none) refl)
+    (λ (some : m ≡ 0 → ⊥).
+    let old : old_root H F m ≡ old_root H G m = same_old H F G m 0 m (omega arith) (let le : m < 2 ^ m = below_pow m in omega arith) (all_roots (λ y. F y ≡ G y) n (balanced_roots m) all) in
+    rw (old, same_new H F G n (balanced_roots m) all) refl)
+    (cases_eq m 0)
+
+consistencies_same : (H : List ℕ → List ℕ) (F : ℕ → Option (List ℕ)) (ps : Pairs) (n : ℕ) (lengths : List ℕ) → AllByRecursion (λ (p : Node × List ℕ). F p.0.0 ≡ Some p.1) ps
+    → ((x : ℕ) → list_any (nat_eq x) (flat_map (λ m. needed_between m n) lengths) ≡ true → list_any (nat_eq x) (map (λ (p : Node × List ℕ). p.0.0) ps) ≡ true)
+    → AllByRecursion (λ m. consistency H (held_digest ps) m n ≡ consistency H F m n) lengths
+consistencies_same H F ps n [] all there = tt
+consistencies_same H F ps n (m ∷ ms) all there = (
+  same_consistency H (held_digest ps) F m n (all_held F ps (needed_between m n) all (λ y h. there y (list_any-append (nat_eq y) (needed_between m n) (flat_map (λ k. needed_between k n) ms) ∙ or_left_true _ _ h))),
+  consistencies_same H F ps n ms all (λ y h. there y (list_any-append (nat_eq y) (needed_between m n) (flat_map (λ k. needed_between k n) ms) ∙ or_right_true _ _ h)),
+)
+
+pub consistent_same : (H : List ℕ → List ℕ) (F : ℕ → Option (List ℕ)) (ps : Pairs) (n : ℕ) (old_lengths : List ℕ) (nodes : List Node) → AllByRecursion (λ (p : Node × List ℕ). F p.0.0 ≡ Some p.1) ps
+    → ((x : ℕ) → list_any (nat_eq x) (map (λ (p : Node × List ℕ). p.0.0) ps) ≡ list_any (nat_eq x) (needed_by old_lengths nodes n))
+    → AllByRecursion (λ m. consistency H (held_digest ps) m n ≡ consistency H F m n) old_lengths
+consistent_same H F ps n old_lengths nodes all exactly = consistencies_same H F ps n old_lengths all (λ y h. exactly y ∙ list_any-append (nat_eq y) (flat_map (λ m. needed_between m n) old_lengths) (flat_map (λ (node : Node). needed node.0 n) nodes) ∙ or_left_true _ _ h)

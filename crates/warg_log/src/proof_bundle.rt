@@ -7,6 +7,7 @@ ghost use Rattle.warg_protobuf.specs.HashEntry.{entry_view};
 ghost use Rattle.warg_protobuf.specs.LogProofBundle.{log_view, log_bytes};
 ghost use Rattle.warg_log.specs.Sparse.{IsAscending, held_digest};
 ghost use Rattle.warg_log.specs.Cut.{cut_root};
+ghost use Rattle.warg_log.specs.Consistency.{consistency};
 ghost use Rattle.warg_log.specs.Decoding.{Reads};
 ghost use Rattle.warg_log.specs.Bundling.{bundle_length, needed_by, LacksNeeded};
 ghost use Rattle.warg_log.specs.Bundles.{bundle_message, bundle_in, bundle_of, NodesFit, entry_of, pair_of, entries_fault};
@@ -37,17 +38,21 @@ pub struct ProofBundle<D: SupportedDigest, V: VisitBytes, A: Allocator = Global>
 
 // Contracts see the bundle as its lengths, nodes and digests.
 impl<D: SupportedDigest, V: VisitBytes, A: Allocator> Model for ProofBundle<D, V, A> {
+    ghost use Rattle.warg_log.specs.Sparse.{IsAscending};
     ghost use Rattle.warg_log.specs.Bundles.{Bundle};
 
     ghost Value = { Bundle };
 
     ghost view = { λ b. record { log_length = b.log_length; consistent_lengths = b.consistent_lengths.items; included_nodes = b.included_nodes.items; hashes = b.hashes } };
+
+    ghost invariant = { λ b. IsAscending b.hashes };
 }
 
 impl<D: SupportedDigest, V: VisitBytes, A: Allocator> ProofBundle<D, V, A> {
     /// The digests, by node.
     pub fn hashes(&self) -> &SparseLogData<D, V, A>
-        ensures { result.now ≡ self.now.hashes }
+        ensures value { result.now ≡ self.now.hashes }
+        ensures ascending { IsAscending self.now.hashes }
     {
         &self.hashes
     }
@@ -101,7 +106,8 @@ impl<D: SupportedDigest, V: VisitBytes, A: Allocator + Copy> ProofBundle<D, V, A
         ensures ascending { IfOk result (λ bundle. IsAscending bundle.hashes) }
         ensures exactly { IfOk result (λ bundle. (x : ℕ) → list_any (nat_eq x) (map (λ p. p.0.0) bundle.hashes) ≡ list_any (nat_eq x) (needed_by bundle.consistent_lengths bundle.included_nodes bundle.log_length)) }
         ensures source { IfOk result (λ bundle. AllByRecursion (λ p. L.digest_at hashes.now p.0.0 ≡ Some p.1) bundle.hashes) }
-        ensures as_source { IfOk result (λ bundle. (x : List ℕ) → AllByRecursion (λ node. cut_root D.digest (held_digest bundle.hashes) node.0 x bundle.log_length ≡ cut_root D.digest (L.digest_at hashes.now) node.0 x bundle.log_length) bundle.included_nodes) }
+        ensures inclusions_as_source { IfOk result (λ bundle. (x : List ℕ) → AllByRecursion (λ node. cut_root D.digest (held_digest bundle.hashes) node.0 x bundle.log_length ≡ cut_root D.digest (L.digest_at hashes.now) node.0 x bundle.log_length) bundle.included_nodes) }
+        ensures consistencies_as_source { IfOk result (λ bundle. AllByRecursion (λ m. consistency D.digest (held_digest bundle.hashes) m bundle.log_length ≡ consistency D.digest (L.digest_at hashes.now) m bundle.log_length) bundle.consistent_lengths) }
         ensures fault { IfErr result (λ e. (e ≡ BundleError.Memory) ⊎ (bundle_length (map (λ p. (p.old_length, p.new_length)) consistency_proofs.items) (map (λ p. (p.leaf, p.log_length)) inclusion_proofs.items) ≡ Err e) ⊎ ((e ≡ BundleError.HashNotFound) × LacksNeeded (L.digest_at hashes.now) (map (λ p. p.old_length) consistency_proofs.items) (map (λ p. p.leaf) inclusion_proofs.items) (bundle_length (map (λ p. (p.old_length, p.new_length)) consistency_proofs.items) (map (λ p. (p.leaf, p.log_length)) inclusion_proofs.items)))) }
     {
         let log_length = one_length(&consistency_proofs, &inclusion_proofs)?;

@@ -3,7 +3,7 @@
 ghost use Rattle.std.specs.Prelude.{◌≡◌, IfOk, [], ◌∷◌, Option};
 ghost use Rattle.std.specs.Option.{option_map};
 ghost use Rattle.warg_check.specs.Words.{words_of, number_of, length_of, bytes_of, root_in};
-ghost use Rattle.warg_check.specs.Orders.{order_of, include_of, verify_of};
+ghost use Rattle.warg_check.specs.Orders.{order_of, include_of, consistent_of, bundle_of, verify_of};
 
 use crate::program::word::{LogLength, bytes, log_length, number, root, split_first};
 use std::alloc::{AllocError, Allocator};
@@ -23,6 +23,10 @@ pub(super) enum Command<A: Allocator> {
     Consistent {
         old: LogLength,
         new: LogLength,
+    },
+    Bundle {
+        node: Node,
+        length: LogLength,
     },
     Verify {
         root: Hash<Sha256>,
@@ -110,13 +114,13 @@ impl<A: Allocator + Copy> Command<A> {
     fn of_three(name: &[u8], first: &[u8], second: &[u8]) -> Option<Command<A>>
         ensures { option_map order_seen result ≡ order_of (name.now ∷ first.now ∷ second.now ∷ []) }
     {
-        if name != b"consistent".as_slice() {
-            return None;
+        if name == b"consistent".as_slice() {
+            return Command::consistent(first, second);
         }
-        let (Some(old), Some(new)) = (log_length(first), log_length(second)) else {
-            return None;
-        };
-        Some(Command::Consistent { old, new })
+        if name == b"bundle".as_slice() {
+            return Command::bundle(first, second);
+        }
+        None
     }
 
     #[tactic(auto, unfolding(crate::specs::Orders::order_of))]
@@ -157,6 +161,27 @@ impl<A: Allocator + Copy> Command<A> {
             length,
             value,
         }))
+    }
+
+    fn consistent(old: &[u8], new: &[u8]) -> Option<Command<A>>
+        ensures { option_map order_seen result ≡ consistent_of (length_of old.now) (length_of new.now) }
+    {
+        let (Some(old), Some(new)) = (log_length(old), log_length(new)) else {
+            return None;
+        };
+        Some(Command::Consistent { old, new })
+    }
+
+    fn bundle(node: &[u8], length: &[u8]) -> Option<Command<A>>
+        ensures { option_map order_seen result ≡ bundle_of (number_of node.now) (length_of length.now) }
+    {
+        let (Some(node), Some(length)) = (number(node), log_length(length)) else {
+            return None;
+        };
+        Some(Command::Bundle {
+            node: Node(node),
+            length,
+        })
     }
 
     fn verify(

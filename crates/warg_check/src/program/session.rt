@@ -3,10 +3,11 @@
 ghost use Rattle.std.specs.Prelude.{◌≡◌, ◌≢◌, ℕ, ◌≤◌, ◌^◌, List, [], ◌∷◌, ◌++◌, ◌↔◌, length, IfOk, IfErr, OnOk, codes, string_bytes};
 ghost use Rattle.hex.specs.Hex.{encode_lower};
 ghost use Rattle.warg_crypto.specs.Digests.{sha256};
+ghost use Rattle.warg_log.specs.Bundles.{bundle_message};
 ghost use Rattle.warg_check.specs.Words.{lines_of};
-ghost use Rattle.warg_check.specs.Orders.{line_of, push, log, include, consistent, verify};
+ghost use Rattle.warg_check.specs.Orders.{line_of, push, log, include, consistent, bundle, verify};
 ghost use Rattle.warg_check.specs.Errors.{IsAnswersError};
-ghost use Rattle.warg_check.specs.Text.{leaves, answer, said, pushed, entries_after, is_not_bad, refusal, text_of, all_good, Answers};
+ghost use Rattle.warg_check.specs.Text.{leaves, answer, said, pushed, entries_after, is_not_bad, refusal, bytes_or_refusal, text_of, all_good, Answers};
 
 use crate::program::RunError;
 use crate::program::command::Command;
@@ -15,7 +16,10 @@ use crate::verdict::{CheckError, check_inclusion};
 use std::alloc::{AllocError, Allocator};
 use std::fmt::Write;
 use warg_crypto::{Hash, Sha256};
-use warg_log::{ConsistencyProofError, InclusionProofError, LogBuilder, LogData, Node, VecLog};
+use warg_log::{
+    BundleError, ConsistencyProofError, EncodeError, InclusionProofError, LogBuilder, LogData,
+    Node, ProofBundle, VecLog,
+};
 
 // What a run keeps from line to line.
 #[derive(Drop)]
@@ -76,6 +80,7 @@ impl<A: Allocator + Copy> Session<A> {
                 value,
             } => self.include(node, &length, &value),
             Command::Consistent { old, new } => self.consistent(&old, &new),
+            Command::Bundle { node, length } => self.bundle(node, &length),
             Command::Verify {
                 root,
                 value,
@@ -148,6 +153,45 @@ impl<A: Allocator + Copy> Session<A> {
                 writeln!(self.text, "roots {old_root} {new_root}")?;
             }
             Err(fault) => self.refuse(fault)?,
+        }
+        Ok(())
+    }
+
+    #[tactic(auto, unfolding(crate::specs::Text::answer))]
+    fn bundle(&mut self, node: Node, log_length: &LogLength) -> Result<(), RunError>
+        ensures ok { OnOk result ((entries : List (List ℕ)) → self.old.log ≡ leaves entries → Answers self.old.log self.new.log (string_bytes self.old.text) (string_bytes self.new.text) entries (bundle node.0 log_length.now.value)) }
+        ensures errors { IfErr result (IsSessionError (length self.old.log) (bundle node.0 log_length.now.value)) }
+    {
+        let proofs = Vec::from_slice(
+            self.alloc,
+            &[self.log.prove_inclusion(node, log_length.value)],
+        )?;
+        match ProofBundle::bundle(self.alloc, Vec::new(self.alloc), proofs, &self.log) {
+            Ok(bundle) => self.encode(&bundle)?,
+            Err(BundleError::Inclusion(_)) => writeln!(self.text, "refused leaf too new")?,
+            Err(BundleError::TooLarge) => writeln!(self.text, "refused too large")?,
+            Err(BundleError::HashNotFound) => writeln!(self.text, "refused hash not known")?,
+            Err(BundleError::Memory) => return Err(RunError::Memory),
+            Err(
+                BundleError::Consistency(_) | BundleError::DifferentRoots | BundleError::NoProofs,
+            ) => unreachable!(),
+        }
+        Ok(())
+    }
+
+    // Answers a bundle by its bytes.
+    fn encode(&mut self, bundle: &ProofBundle<Sha256, Vec<u8, A>, A>) -> Result<(), RunError>
+        ensures ok { OnOk result (string_bytes self.new.text ≡ string_bytes self.old.text ++ bytes_or_refusal (bundle_message bundle.now) ++ 10 ∷ []) }
+        ensures log { self.new.log ≡ self.old.log }
+        ensures errors { result ≢ Err RunError.Full × (result ≢ Err RunError.Read) × (result ≢ Err RunError.Write) }
+    {
+        match bundle.encode(self.alloc) {
+            Ok(bytes) => {
+                let digits = hex::encode(self.alloc, bytes.as_slice())?;
+                writeln!(self.text, "bundle {digits}")?;
+            }
+            Err(EncodeError::TooLarge) => writeln!(self.text, "refused too large")?,
+            Err(EncodeError::Memory) => return Err(RunError::Memory),
         }
         Ok(())
     }

@@ -1,7 +1,7 @@
 use Rattle.std.proofs.Common.{◌∙◌, ◌≤◌, ◌^◌, map, sym}
 use Rattle.warg_log.specs.Nodes.{ExistsAt}
 use Rattle.warg_log.proofs.NeededLemmas.{ascending_pairs, old_fit, needed_exactly_by, lacking}
-use Rattle.warg_log.proofs.SameLemmas.{included_same}
+use Rattle.warg_log.proofs.SameLemmas.{included_same, consistent_same}
 use Rattle.warg_log.proofs.proof_bundle.ProofBundle.bundle.Goals as goal
 
 pub from-requires : goal.from-requires
@@ -31,5 +31,8 @@ returns-in-Err-clause-fault g c = lacking (g.L.LogData.digest_at c.args.hashes.n
     (rw c.deref-2.ensures.value at c.in_ok-log_length.ensures.inclusions)))
     c.in-Err.ensures.fault
 
-pub returns-clause-as_source : goal.returns-clause-as_source
-returns-clause-as_source g c = included_same g.D.SupportedDigest.digest (g.L.LogData.digest_at c.args.hashes.now) c.from.result c.in_ok-log_length.log_length c.in_ok-consistent_lengths.consistent_lengths.items c.in_ok-included_nodes.included_nodes.items (returns-clause-source g c) (returns-clause-exactly g c)
+pub returns-clause-inclusions_as_source : goal.returns-clause-inclusions_as_source
+returns-clause-inclusions_as_source g c = included_same g.D.SupportedDigest.digest (g.L.LogData.digest_at c.args.hashes.now) c.from.result c.in_ok-log_length.log_length c.in_ok-consistent_lengths.consistent_lengths.items c.in_ok-included_nodes.included_nodes.items (returns-clause-source g c) (returns-clause-exactly g c)
+
+pub returns-clause-consistencies_as_source : goal.returns-clause-consistencies_as_source
+returns-clause-consistencies_as_source g c = consistent_same g.D.SupportedDigest.digest (g.L.LogData.digest_at c.args.hashes.now) c.from.result c.in_ok-log_length.log_length c.in_ok-consistent_lengths.consistent_lengths.items c.in_ok-included_nodes.included_nodes.items (returns-clause-source g c) (returns-clause-exactly g c)
