@@ -3,3 +3,6 @@ pub mod DescentLemmas
 pub mod PlainLemmas
 pub mod ValueLemmas
 pub mod AgreementLemmas
+pub mod BalancedRootLemmas
+pub mod EntryLemmas
+pub mod ConsistencyLemmas

@@ -1,5 +1,6 @@
 -- Values compared by their bytes.
-use Rattle.std.specs.Prelude.{◌≡◌, ℕ, List, [], ◌∷◌, Option, Some, None, slice_index_or}
+use Rattle.std.specs.Prelude.{◌≡◌, ℕ, ◌<◌, List, [], ◌∷◌, length, take, Option, Some, None, slice_index_or}
+use Rattle.warg_witness.specs.Claims.{Begins}
 use Rattle.warg_witness.specs.Inputs.{plain_input}
 use Rattle.warg_witness.specs.declared.compare.LeafInputs.{LeafInputs}
 
@@ -18,3 +19,14 @@ abbrev pub AreClaimedInputs : {A : Type 0} → (List ℕ → List ℕ) → List 
 AreClaimedInputs H value entries start count None = IsAt value entries start count
 AreClaimedInputs H value entries start count (Some inputs) =
     (inputs.first.items ≡ 0 ∷ value) × (inputs.second.items ≡ plain_input H entries start count) × (IsAt value entries start count → ⊥)
+
+-- The first place at which the new entries have another entry than the old ones.
+pub record DiffersFirst (old new : List (List ℕ)) (place : ℕ) : Type 0 where
+  pub within : place < length old
+  pub before : take place old ≡ take place new
+  pub differ : slice_index_or old place [] ≡ slice_index_or new place [] → ⊥
+
+-- Nothing where the new entries begin with the old ones, else the first place at which they don't.
+abbrev pub IsFirstDifference : List (List ℕ) → List (List ℕ) → Option ℕ → Type 0
+IsFirstDifference old new None = Begins old new
+IsFirstDifference old new (Some place) = DiffersFirst old new place

@@ -2,7 +2,7 @@
 -- range is given by its first leaf a and its count n of leaves.
 use Rattle.std.specs.Prelude.{ℕ, ◌+◌, ◌-◌, nat_le, if◌then◌else◌, List, [], ◌∷◌, ◌++◌, Option, Some, None, slice_index_or}
 use Rattle.warg_log.specs.Tree.{front_of, leaves_of, root_over}
-use Rattle.warg_log.specs.Cut.{is_target, cut_over}
+use Rattle.warg_log.specs.Cut.{is_target, cut_over, old_over}
 
 -- The input of a branch over two digests: the byte 01 and both.
 abbrev pub branch_input : List ℕ → List ℕ → List ℕ
@@ -28,3 +28,7 @@ cut_input H F x s w a n = both_input (cut_over H F x s w a (front_of n)) (cut_ov
 -- The evaluation's input at a range around a target with the value v: at the target the byte 00 and v.
 abbrev pub value_input : (List ℕ → List ℕ) → (ℕ → Option (List ℕ)) → List ℕ → ℕ → ℕ → ℕ → ℕ → Option (List ℕ)
 value_input H F v s w a n = if is_target s w a n then Some (0 ∷ v) else cut_input H F (H (0 ∷ v)) s w a n
+
+-- The old root's input at a range, and not one of a power of two of leaves.
+abbrev pub old_input : (List ℕ → List ℕ) → (ℕ → Option (List ℕ)) → ℕ → ℕ → Option (List ℕ)
+old_input H F a n = both_input (old_over H F a (front_of n)) (old_over H F (a + front_of n) (n - front_of n))

@@ -2,7 +2,7 @@
 use Rattle.std.specs.Prelude.{◌≡◌, ℕ, ◌^◌, List, Option}
 use Rattle.warg_log.specs.Nodes.{height_of, start_of}
 use Rattle.warg_log.specs.Tree.{leaves_of, root_over, own_digest}
-use Rattle.warg_witness.specs.Claims.{IsMet}
+use Rattle.warg_witness.specs.Claims.{IsMet, IsConsistencyMet}
 use Rattle.warg_witness.specs.Parting.{IsParting}
 use Rattle.warg_witness.specs.declared.descent.Parting.{Parting}
 
@@ -15,3 +15,9 @@ pub record IsMeeting {D : _} (H : List ℕ → List ℕ) (F : ℕ → Option (Li
   pub count_is : count ≡ 2 ^ height_of node
   pub plain_is : plain ≡ root_over H (leaves_of H entries) start count
   pub parts : IsParting H F digest (own_digest H tree) plain start count 0 n parting
+
+-- The claim of consistency is met, and the trees are those over the old and the new entries.
+pub record IsConsistencyMeeting (H : List ℕ → List ℕ) (F : ℕ → Option (List ℕ)) (m n : ℕ) (old new old_tree new_tree : List (List ℕ)) : Type 0 where
+  pub met : IsConsistencyMet H F m n old new
+  pub old_is : old_tree ≡ leaves_of H old
+  pub new_is : new_tree ≡ leaves_of H new

@@ -1,8 +1,9 @@
 -- Where the two byte lists of a collision stand.
-use Rattle.std.specs.Prelude.{◌≡◌, ℕ, ◌^◌, List, length, Option, Some}
-use Rattle.warg_log.specs.Nodes.{height_of, start_of}
+use Rattle.std.specs.Prelude.{◌≡◌, ℕ, ◌^◌, ◌⊎◌, List, length, Option, Some, Contains}
+use Rattle.warg_log.specs.Nodes.{height_of, start_of, balanced_roots}
+use Rattle.warg_log.specs.Cut.{IsFull}
 use Rattle.warg_witness.specs.Ranges.{IsPart, IsAround}
-use Rattle.warg_witness.specs.Inputs.{plain_input, cut_input, value_input}
+use Rattle.warg_witness.specs.Inputs.{plain_input, cut_input, value_input, old_input}
 
 -- For a value at a node: the evaluation's input (first) and the plain input (second) at one range of the
 -- recursion over the entries, around the node.
@@ -32,3 +33,42 @@ pub record IsAgreementPlaced (H : List ℕ → List ℕ) (F : ℕ → Option (Li
   pub around : IsAround (start_of node) (2 ^ height_of node) from count
   pub first_evaluation : value_input H F value (start_of node) (2 ^ height_of node) from count ≡ Some first
   pub second_evaluation : value_input H G other_value (start_of node) (2 ^ height_of node) from count ≡ Some second
+
+-- For consistency, on the old side: the old root's input (first) and the old plain input (second) at one
+-- range, which isn't of a power of two of leaves.
+pub record IsPlacedInOld (H : List ℕ → List ℕ) (F : ℕ → Option (List ℕ)) (old : List (List ℕ)) (first second : List ℕ) : Type 0 where
+  pub from : ℕ
+  pub count : ℕ
+  pub part : IsPart 0 (length old) from count
+  pub split : IsFull count → ⊥
+  pub evaluation : old_input H F from count ≡ Some first
+  pub plain : second ≡ plain_input H old from count
+
+-- On the new side: the evaluation's input (first), with a balanced root of the old length m and the digest
+-- that is held for it, and the new plain input (second), at one range around that root and not its own.
+pub record IsPlacedInNew (H : List ℕ → List ℕ) (F : ℕ → Option (List ℕ)) (m : ℕ) (new : List (List ℕ)) (first second : List ℕ) : Type 0 where
+  pub root : ℕ
+  pub digest : List ℕ
+  pub is_root : Contains (balanced_roots m) root
+  pub held : F root ≡ Some digest
+  pub from : ℕ
+  pub count : ℕ
+  pub part : IsPart 0 (length new) from count
+  pub around : IsAround (start_of root) (2 ^ height_of root) from count
+  pub other : from ≡ start_of root → count ≡ 2 ^ height_of root → ⊥
+  pub evaluation : cut_input H F digest (start_of root) (2 ^ height_of root) from count ≡ Some first
+  pub plain : second ≡ plain_input H new from count
+
+-- In both trees: the old plain input (first) and the new one (second) at one range of both.
+pub record IsPlacedInBoth (H : List ℕ → List ℕ) (old new : List (List ℕ)) (first second : List ℕ) : Type 0 where
+  pub from : ℕ
+  pub count : ℕ
+  pub old_part : IsPart 0 (length old) from count
+  pub new_part : IsPart 0 (length new) from count
+  pub old_plain : first ≡ plain_input H old from count
+  pub new_plain : second ≡ plain_input H new from count
+
+-- For consistency from the old entries to the new ones: one of the three.
+abbrev pub IsConsistencyPlaced : (List ℕ → List ℕ) → (ℕ → Option (List ℕ)) → List (List ℕ) → List (List ℕ) → List ℕ → List ℕ → Type 0
+IsConsistencyPlaced H F old new first second =
+    IsPlacedInOld H F old first second ⊎ (IsPlacedInNew H F (length old) new first second ⊎ IsPlacedInBoth H old new first second)

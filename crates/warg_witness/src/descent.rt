@@ -23,6 +23,15 @@ pub(crate) enum Parting<D> {
     },
 }
 
+impl<D> Parting<D> {
+    /// Whether the trees part nowhere.
+    pub(crate) fn is_target(&self) -> bool
+        ensures { IsTrue result ↔ (self.now ≡ Parting.Target) }
+    {
+        matches!(self, Parting::Target)
+    }
+}
+
 /// Whether two hashes are the same.
 pub(crate) fn is_equal<D>(hash: &Hash<D>, other: &Hash<D>) -> bool
     ensures { IsTrue result ↔ (hash.now ≡ other.now) }

@@ -14,4 +14,4 @@ mod log;
 mod plain;
 
 pub use collision::{Collision, Finding};
-pub use log::{agree_value, witness_hash, witness_value};
+pub use log::{agree_value, witness_consistency, witness_hash, witness_value};

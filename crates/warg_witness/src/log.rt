@@ -9,10 +9,13 @@ ghost use Rattle.warg_witness.specs.Placed.{IsValuePlaced, IsHashPlaced, IsAgree
 ghost use Rattle.warg_witness.specs.Parting.{Collides, PartsAtBranch, pair_of};
 ghost use Rattle.warg_witness.specs.Meeting.{IsMeeting};
 
+mod consistency;
+
 use crate::collision::{Collision, Finding, branch_bytes, leaf_bytes};
 use crate::compare::{LeafInputs, leaf_inputs};
 use crate::descent::{Parting, descend, is_equal};
 use crate::plain::{plain_bytes, plain_digest, plain_root, plain_tree};
+pub use consistency::witness_consistency;
 use std::alloc::{AllocError, Allocator};
 use warg_crypto::{Hash, SupportedDigest, VisitBytes};
 use warg_log::{InclusionProof, Interval, LogData, VecLog, hash_leaf};

@@ -1,0 +1,251 @@
+//! The witness for consistency proofs.
+
+ghost use Rattle.std.specs.Prelude.{◌≡◌, ℕ, ◌+◌, ◌^◌, ◌<◌, ◌≤◌, ◌↔◌, List, [], ◌∷◌, length, map, None, Some, Ok, IfOk, IsTrue, MatchOption, slice_index_or};
+ghost use Rattle.warg_log.specs.Tree.{leaves_of, root_of, root_over, own_digest};
+ghost use Rattle.warg_log.specs.Cut.{cut_over};
+ghost use Rattle.warg_witness.specs.Ranges.{IsAround, IsNodeRange, IsBalancedRoot};
+ghost use Rattle.warg_witness.specs.Claims.{Begins, IsConsistencyMet};
+ghost use Rattle.warg_witness.specs.Placed.{IsConsistencyPlaced};
+ghost use Rattle.warg_witness.specs.Compared.{DiffersFirst, IsFirstDifference};
+ghost use Rattle.warg_witness.specs.Parting.{IsParting};
+ghost use Rattle.warg_witness.specs.Meeting.{IsConsistencyMeeting};
+
+use crate::collision::{Collision, Finding, leaf_bytes};
+use crate::compare::leaf_inputs;
+use crate::descent::{Parting, descend, is_equal};
+use crate::log::part;
+use crate::plain::{plain_digest, plain_root, plain_tree};
+use std::alloc::{AllocError, Allocator};
+use warg_crypto::{Hash, SupportedDigest, VisitBytes};
+use warg_log::{ConsistencyProof, Interval, LogData, VecLog};
+
+/// The trees over the old and the new entries.
+#[derive(Drop)]
+pub(crate) struct Trees<D: SupportedDigest, V: VisitBytes, A: Allocator> {
+    old: VecLog<D, V, A>,
+    new: VecLog<D, V, A>,
+}
+
+// Whether the entries are as many as the proof's lengths say.
+fn have_lengths<D, V>(proof: &ConsistencyProof<D, V>, old: &[V], new: &[V]) -> bool
+    ensures { IsTrue result ↔ ((length old.now ≡ proof.now.old_length) × (length new.now ≡ proof.now.new_length)) }
+{
+    old.len() == proof.old_length() && new.len() == proof.new_length()
+}
+
+// The trees over the entries, or None where the proof doesn't lead to their roots.
+fn meet<D: SupportedDigest, V: VisitBytes, L: LogData<D, V>, A: Allocator + Copy>(
+    alloc: A,
+    proof: &ConsistencyProof<D, V>,
+    hashes: &L,
+    old: &[V],
+    new: &[V],
+) -> Result<Option<Trees<D, V, A>>, AllocError>
+    ensures count { ((length old.now ≡ proof.now.old_length) × (length new.now ≡ proof.now.new_length) → ⊥) → result ≡ Ok None }
+    ensures met { IfOk result (λ met. MatchOption met
+        (IsConsistencyMet D.digest (L.digest_at hashes.now) proof.now.old_length proof.now.new_length (map (λ e. V.bytes e) old.now) (map (λ e. V.bytes e) new.now) → ⊥)
+        (λ trees. IsConsistencyMeeting D.digest (L.digest_at hashes.now) proof.now.old_length proof.now.new_length (map (λ e. V.bytes e) old.now) (map (λ e. V.bytes e) new.now) trees.old trees.new)) }
+{
+    if !have_lengths(proof, old, new) {
+        return Ok(None);
+    }
+    let Ok((old_root, new_root)) = proof.evaluate(hashes) else {
+        return Ok(None);
+    };
+    let old_tree = plain_tree(alloc, old)?;
+    if !is_equal(&old_root, &plain_root(&old_tree)) {
+        return Ok(None);
+    }
+    let new_tree = plain_tree(alloc, new)?;
+    if !is_equal(&new_root, &plain_root(&new_tree)) {
+        return Ok(None);
+    }
+    Ok(Some(Trees {
+        old: old_tree,
+        new: new_tree,
+    }))
+}
+
+// Whether an old and a new entry at one place have the same bytes. They don't where their leaf digests
+// differ; else their bytes are compared.
+fn is_same_entry<D: SupportedDigest, V: VisitBytes, A: Allocator + Copy>(
+    alloc: A,
+    trees: &Trees<D, V, A>,
+    place: usize,
+    old: &V,
+    new: &V,
+) -> Result<bool, AllocError>
+    requires fits { place < 2 ^ 63 }
+    requires in_old { place < length trees.now.old }
+    requires in_new { place < length trees.now.new }
+    requires old_leaf { slice_index_or trees.now.old place [] ≡ D.digest (0 ∷ V.bytes old.now) }
+    requires new_leaf { slice_index_or trees.now.new place [] ≡ D.digest (0 ∷ V.bytes new.now) }
+    ensures { IfOk result (λ same. IsTrue same ↔ (V.bytes old.now ≡ V.bytes new.now)) }
+{
+    let leaf = Interval::new(place, 1);
+    if !is_equal(
+        &plain_digest(&trees.old, &leaf),
+        &plain_digest(&trees.new, &leaf),
+    ) {
+        return Ok(false);
+    }
+    Ok(leaf_inputs(alloc, old, new)?.is_none())
+}
+
+// The first place at which the new entries have other bytes than the old ones, if there is one.
+fn first_difference<D: SupportedDigest, V: VisitBytes, A: Allocator + Copy>(
+    alloc: A,
+    trees: &Trees<D, V, A>,
+    old: &[V],
+    new: &[V],
+) -> Result<Option<usize>, AllocError>
+    requires order { length old.now ≤ length new.now }
+    requires fits { length old.now ≤ 2 ^ 63 }
+    requires old_tree { trees.now.old ≡ leaves_of D.digest (map (λ e. V.bytes e) old.now) }
+    requires new_tree { trees.now.new ≡ leaves_of D.digest (map (λ e. V.bytes e) new.now) }
+    ensures { IfOk result (IsFirstDifference (map (λ e. V.bytes e) old.now) (map (λ e. V.bytes e) new.now)) }
+{
+    for (place, entry) in old.iter().enumerate() {
+        if !is_same_entry(alloc, trees, place, entry, &new[place])? {
+            return Ok(Some(place));
+        }
+    }
+    Ok(None)
+}
+
+// The balanced root of a range that has the leaf at `place`.
+fn root_around(place: usize, range: &Interval) -> Interval
+    requires starts { range.now.start ≤ place }
+    requires ends { place < range.now.start + range.now.count }
+    ensures root { IsBalancedRoot result.start result.count range.now.start range.now.count }
+    ensures around { IsAround place 1 result.start result.count }
+{
+    if range.is_full() {
+        return *range;
+    }
+    let (front, rest) = range.split();
+    if place < rest.start {
+        return front;
+    }
+    root_around(place, &rest)
+}
+
+// Where the evaluation, with a digest at a node, parts from the tree to whose root it leads.
+fn part_from<D: SupportedDigest, V: VisitBytes, L: LogData<D, V>, A: Allocator>(
+    hashes: &L,
+    hash: &Hash<D>,
+    node: &Interval,
+    tree: &VecLog<D, V, A>,
+) -> Parting<D>
+    requires node { IsNodeRange node.now.start node.now.count }
+    requires within { node.now.start + node.now.count ≤ length tree.now }
+    requires fits { length tree.now ≤ 2 ^ 63 }
+    requires met { cut_over D.digest (L.digest_at hashes.now) hash.now node.now.start node.now.count 0 (length tree.now) ≡ Some (root_of D.digest tree.now) }
+    ensures { IsParting D.digest (L.digest_at hashes.now) hash.now (own_digest D.digest tree.now) (root_over D.digest tree.now node.now.start node.now.count)
+        node.now.start node.now.count 0 (length tree.now) result }
+{
+    let plain = plain_digest(tree, node);
+    let whole = Interval::new(0, tree.length());
+    descend(hashes, hash, tree, &plain, node, &whole)
+}
+
+// Where two trees that have one digest at a node part on the way to the leaf at `place`.
+fn part_below<D: SupportedDigest, V: VisitBytes, A: Allocator>(
+    trees: &Trees<D, V, A>,
+    node: &Interval,
+    place: usize,
+) -> Parting<D>
+    requires node { IsNodeRange node.now.start node.now.count }
+    requires around { IsAround place 1 node.now.start node.now.count }
+    requires in_old { node.now.start + node.now.count ≤ length trees.now.old }
+    requires in_new { node.now.start + node.now.count ≤ length trees.now.new }
+    requires same { root_over D.digest trees.now.old node.now.start node.now.count ≡ root_over D.digest trees.now.new node.now.start node.now.count }
+    ensures { IsParting D.digest (own_digest D.digest trees.now.old) (root_over D.digest trees.now.old place 1) (own_digest D.digest trees.now.new) (root_over D.digest trees.now.new place 1)
+        place 1 node.now.start node.now.count result }
+{
+    let leaf = Interval::new(place, 1);
+    let old = plain_digest(&trees.old, &leaf);
+    let new = plain_digest(&trees.new, &leaf);
+    descend(&trees.old, &old, &trees.new, &new, &leaf, node)
+}
+
+// The collision that a difference at `place` shows: where the evaluation parts from the old tree or from the
+// new one on the way to the balanced root of the old length that has the place, else where both trees part
+// below it, or at the entries themselves.
+fn collide_at<D: SupportedDigest, V: VisitBytes, L: LogData<D, V>, A: Allocator + Copy>(
+    alloc: A,
+    hashes: &L,
+    trees: &Trees<D, V, A>,
+    place: usize,
+    old: &[V],
+    new: &[V],
+) -> Result<Collision<D, A>, AllocError>
+    requires fits { length new.now ≤ 2 ^ 63 }
+    requires met { IsConsistencyMeeting D.digest (L.digest_at hashes.now) (length old.now) (length new.now) (map (λ e. V.bytes e) old.now) (map (λ e. V.bytes e) new.now) trees.now.old trees.now.new }
+    requires differ { DiffersFirst (map (λ e. V.bytes e) old.now) (map (λ e. V.bytes e) new.now) place }
+    ensures { IfOk result (λ c. IsConsistencyPlaced D.digest (L.digest_at hashes.now) (map (λ e. V.bytes e) old.now) (map (λ e. V.bytes e) new.now) c.0 c.1) }
+{
+    let root = root_around(place, &Interval::new(0, old.len()));
+    let Some(hash) = hashes.hash_for(root.node()) else {
+        unreachable!()
+    };
+    let from_old = part_from(hashes, &hash, &root, &trees.old);
+    if !from_old.is_target() {
+        return part(alloc, &from_old);
+    }
+    let from_new = part_from(hashes, &hash, &root, &trees.new);
+    if !from_new.is_target() {
+        return part(alloc, &from_new);
+    }
+    let below = part_below(trees, &root, place);
+    if !below.is_target() {
+        return part(alloc, &below);
+    }
+    let first = leaf_bytes(alloc, &old[place])?;
+    let second = leaf_bytes(alloc, &new[place])?;
+    Ok(Collision::new(first, second))
+}
+
+/// Whether a consistency proof's claim is true of the entries: the new entries begin with the old ones, byte
+/// by byte.
+///
+/// `NotMet` exactly where the entries aren't as many as the proof's lengths say, which is decided before any
+/// growth, or the evaluation over the data isn't Ok with the roots of the trees over the entries: so for the
+/// old length 0, and for an old length above the new one. `Holds` exactly where it is, and the claim is true.
+/// Else a collision, one of: what the digest function takes for the old root (first) and in the tree over the
+/// old entries (second) at one range; what it takes in the evaluation (first) and in the tree over the new
+/// entries (second) at one range around a balanced root of the old length; what it takes in the old tree
+/// (first) and in the new one (second) at one range of both.
+///
+/// It hashes each leaf and branch of both trees once, and few digests on three paths beside them. Want of
+/// memory is the only error.
+pub fn witness_consistency<
+    D: SupportedDigest,
+    V: VisitBytes,
+    L: LogData<D, V>,
+    A: Allocator + Copy,
+>(
+    alloc: A,
+    proof: &ConsistencyProof<D, V>,
+    hashes: &L,
+    old: &[V],
+    new: &[V],
+) -> Result<Finding<D, A>, AllocError>
+    ensures count { ((length old.now ≡ proof.now.old_length) × (length new.now ≡ proof.now.new_length) → ⊥) → result ≡ Ok Finding.NotMet }
+    ensures not_met { IfOk result (λ f. (f ≡ Finding.NotMet)
+        ↔ (IsConsistencyMet D.digest (L.digest_at hashes.now) proof.now.old_length proof.now.new_length (map (λ e. V.bytes e) old.now) (map (λ e. V.bytes e) new.now) → ⊥)) }
+    ensures holds { IfOk result (λ f. (f ≡ Finding.Holds)
+        ↔ (IsConsistencyMet D.digest (L.digest_at hashes.now) proof.now.old_length proof.now.new_length (map (λ e. V.bytes e) old.now) (map (λ e. V.bytes e) new.now)
+        × Begins (map (λ e. V.bytes e) old.now) (map (λ e. V.bytes e) new.now))) }
+    ensures collision { IfOk result (λ f. (c : _) → f ≡ Finding.Collision c
+        → IsConsistencyPlaced D.digest (L.digest_at hashes.now) (map (λ e. V.bytes e) old.now) (map (λ e. V.bytes e) new.now) c.0 c.1) }
+{
+    let Some(trees) = meet(alloc, proof, hashes, old, new)? else {
+        return Ok(Finding::NotMet);
+    };
+    let Some(place) = first_difference(alloc, &trees, old, new)? else {
+        return Ok(Finding::Holds);
+    };
+    let collision = collide_at(alloc, hashes, &trees, place, old, new)?;
+    Ok(Finding::Collision(collision))
+}
