@@ -6,3 +6,5 @@ pub mod AgreementLemmas
 pub mod BalancedRootLemmas
 pub mod EntryLemmas
 pub mod ConsistencyLemmas
+pub mod PureLemmas
+pub mod CollisionLemmas

@@ -5,3 +5,4 @@ pub mod Placed
 pub mod Parting
 pub mod Compared
 pub mod Meeting
+pub mod Laws

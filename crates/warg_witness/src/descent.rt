@@ -44,7 +44,8 @@ fn is_same<D>(left: &Hash<D>, other_left: &Hash<D>, right: &Hash<D>, other_right
     ensures same { IsTrue result ↔ ((left.now ≡ other_left.now) × (right.now ≡ other_right.now)) }
     ensures sizes { length left.now ≡ length other_left.now }
 {
-    left.len() == other_left.len() && left == other_left && right == other_right
+    prove_eq!(left.len(), other_left.len());
+    left == other_left && right == other_right
 }
 
 // The digests of the two parts of a range around the target.

@@ -10,6 +10,7 @@
 mod collision;
 mod compare;
 mod descent;
+pub mod laws;
 mod log;
 mod plain;
 

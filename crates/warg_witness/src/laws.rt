@@ -1,0 +1,34 @@
+//! Laws of the definitions in `specs/`: the contract of each function is the law, and it has no effect.
+//!
+//! They are what the witnesses rest on, with no program in it: whenever the claim of a proof is met and isn't
+//! true, two byte strings that differ and have one digest stand in the evaluation and the trees over the
+//! entries. They hold for every function from byte lists to 32 bytes, and for all data of such digests.
+
+ghost use Rattle.std.specs.Prelude.{◌≡◌, ℕ, List, ◌∷◌, length, Option};
+ghost use Rattle.warg_witness.specs.Claims.{IsMet, IsEntry, IsRootBelow, IsAgreement, IsConsistencyMet, Begins};
+ghost use Rattle.warg_witness.specs.Placed.{IsValuePlaced, IsHashPlaced, IsAgreementPlaced, IsConsistencyPlaced};
+ghost use Rattle.warg_witness.specs.Laws.{GivesHashes, HoldsHashes, SomeCollision};
+
+/// A value's claim that is met and isn't true gives a collision.
+pub fn value_or_collision()
+    ensures { (H : List ℕ → List ℕ) (F : ℕ → Option (List ℕ)) (value : List ℕ) (node n : ℕ) (entries : List (List ℕ)) → GivesHashes H → HoldsHashes F
+        → IsMet H F (H (0 ∷ value)) node n entries → (IsEntry value node entries → ⊥) → SomeCollision H (IsValuePlaced H F value node entries) }
+{}
+
+/// A hash's claim that is met and isn't true gives a collision.
+pub fn hash_or_collision()
+    ensures { (H : List ℕ → List ℕ) (F : ℕ → Option (List ℕ)) (hash : List ℕ) (node n : ℕ) (entries : List (List ℕ)) → GivesHashes H → HoldsHashes F → length hash ≡ 32
+        → IsMet H F hash node n entries → (IsRootBelow H hash node entries → ⊥) → SomeCollision H (IsHashPlaced H F hash node entries) }
+{}
+
+/// Two different values that lead to one root over two data give a collision.
+pub fn agreement_or_collision()
+    ensures { (H : List ℕ → List ℕ) (F : ℕ → Option (List ℕ)) (value : List ℕ) (G : ℕ → Option (List ℕ)) (other : List ℕ) (node n : ℕ) → GivesHashes H → HoldsHashes F → HoldsHashes G
+        → IsAgreement H F (H (0 ∷ value)) G (H (0 ∷ other)) node n → (value ≡ other → ⊥) → SomeCollision H (IsAgreementPlaced H F value G other node n) }
+{}
+
+/// A claim of consistency that is met and isn't true gives a collision.
+pub fn consistency_or_collision()
+    ensures { (H : List ℕ → List ℕ) (F : ℕ → Option (List ℕ)) (m n : ℕ) (old new : List (List ℕ)) → GivesHashes H → HoldsHashes F
+        → IsConsistencyMet H F m n old new → (Begins old new → ⊥) → SomeCollision H (IsConsistencyPlaced H F old new) }
+{}
