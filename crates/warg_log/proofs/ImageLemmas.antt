@@ -164,6 +164,16 @@ stack_read f n xs ds read good same =
     let all : are_digests (map (λ (e : Entry). e.hash) (map f xs)) ≡ true = rw (map_map (λ (e : Entry). e.hash) f xs) good in
     (rw (all, numbers, digests) refl, rw (← digests) (stack_same (record { length = n; stack = map f xs }) numbers))
 
+pub no_stack : {X : Type 0} (f : X → Entry) (n : ℕ) (xs : List X) (b : Blocks) → pointwise nat_eq (map (λ x. (f x).index) xs) (balanced_roots n) ≡ false → length b.digests ≡ length (balanced_roots b.len)
+    → stack_message b ≡ record { length = n; stack = map f xs } → ⊥
+no_stack f n xs b other count is =
+    let len : b.len ≡ n = ap (λ (m : StackImage). m.length) is in
+    let stack : map root_entry (zip (balanced_roots b.len) b.digests) ≡ map f xs = ap (λ (m : StackImage). m.stack) is in
+    let numbers : balanced_roots b.len ≡ map (λ x. (f x).index) xs =
+    sym (numbers_zip (balanced_roots b.len) b.digests count) ∙ ap (λ es. map (λ (e : Entry). e.index) es) stack ∙ map_map (λ (e : Entry). e.index) f xs in
+    let same : pointwise nat_eq (map (λ x. (f x).index) xs) (balanced_roots n) ≡ true = same_true _ _ (sym numbers ∙ ap balanced_roots len) in
+    absurd (cc)
+
 -- the lengths whose balanced roots fit in 32 bits
 all_weaken : (P Q : ℕ → Type 0) → ((x : ℕ) → P x → Q x) → (xs : List ℕ) → AllByRecursion P xs → AllByRecursion Q xs
 all_weaken P Q w [] h = tt

@@ -7,6 +7,7 @@ ghost use Rattle.warg_protobuf.specs.declared.error.WireError.TheVariants as wir
 ghost use Rattle.warg_protobuf.specs.HashEntry.{entry_view};
 ghost use Rattle.warg_protobuf.specs.StackLog.{stack_view, stack_bytes};
 ghost use Rattle.warg_log.specs.Nodes.{balanced_roots};
+ghost use Rattle.warg_log.specs.Blocks.{Blocks};
 ghost use Rattle.warg_log.specs.Decoding.{Reads};
 ghost use Rattle.warg_log.specs.Images.{are_digests, root_entry, RootsFit, stack_message, stack_in, stack_of};
 
@@ -31,6 +32,7 @@ impl<D: SupportedDigest, V: VisitBytes, A: Allocator + Copy> StackLog<D, V, A> {
     pub fn from_message(alloc: A, message: Message<A>) -> Result<Self, DecodeError>
         ensures exact { Reads result (stack_in (stack_view message)) }
         ensures message { IfOk result (λ log. stack_message log ≡ stack_view message) }
+        ensures none { result ≡ Err DecodeError.NotAStack → (b : Blocks) → length b.digests ≡ length (balanced_roots b.len) → stack_message b ≢ stack_view message }
         ensures wire { (e : _) → result ≢ Err (DecodeError.Wire e) }
     {
         let digests = read_blocks(alloc, message.stack.as_slice())?;
@@ -116,7 +118,8 @@ fn are_roots<A: Allocator>(entries: &[HashEntry<A>], count: usize) -> bool
             return false;
         }
         let root = Interval::first_root(start, count);
-        if entry.index as usize != root.node().0 {
+        let number = entry.index as usize;
+        if number != root.node().0 {
             return false;
         }
         start = root.end();

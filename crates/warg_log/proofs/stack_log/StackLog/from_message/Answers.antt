@@ -1,7 +1,7 @@
 use Rattle.std.proofs.Common.{sym, ◌∙◌, inr}
 use Rattle.std.proofs.lemmas.Result.{err_from_is_err_and}
 use Rattle.warg_protobuf.specs.HashEntry.{entry_view}
-use Rattle.warg_log.proofs.ImageLemmas.{stack_fault, stack_other, stack_read}
+use Rattle.warg_log.proofs.ImageLemmas.{stack_fault, stack_other, stack_read, no_stack}
 use Rattle.warg_log.proofs.stack_log.StackLog.from_message.Goals as goal
 
 pub returns-in_err-digests-clause-exact : goal.returns-in_err-digests-clause-exact
@@ -25,3 +25,7 @@ returns-clause-message g c = (stack_read entry_view c.args.message.length c.args
     (rw c.as_slice.ensures.value at c.in_ok-digests.ensures.ok)
     (rw c.as_slice.ensures.value at c.in_ok-digests.ensures.good)
     (rw c.as_slice-2.ensures.value at (sym c.are_roots.ensures ∙ c.if-not-are_roots.false))).1
+
+pub returns-then-not-are_roots-clause-none : goal.returns-then-not-are_roots-clause-none
+returns-then-not-are_roots-clause-none g c = λ e b count is.
+    no_stack entry_view c.args.message.length c.args.message.stack.items b (rw c.as_slice-2.ensures.value at (sym c.are_roots.ensures ∙ c.if-not-are_roots.true)) count is
