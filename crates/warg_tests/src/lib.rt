@@ -8,6 +8,8 @@ mod crypto;
 #[cfg(test)]
 mod digests;
 #[cfg(test)]
+mod image;
+#[cfg(test)]
 mod log;
 #[cfg(test)]
 mod map;
