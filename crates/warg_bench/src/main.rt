@@ -5,8 +5,9 @@
 use anyhow::Result;
 use std::env;
 use std::time::Instant;
+use warg_check::{check_consistency, check_inclusion};
 use warg_crypto::{Hash, Sha256};
-use warg_log::{LogBuilder, LogData, Node, StackLog, VecLog, push_all};
+use warg_log::{LogBuilder, LogData, Node, ProofBundle, StackLog, VecLog, push_all};
 use warg_map::Map;
 use warg_protobuf::{HashEntry, LogProofBundle, MapInclusionProof, MapProofBundle, OptionalHash};
 use warg_witness::witness_value;
@@ -26,6 +27,7 @@ fn main(rt: HostRuntime) -> Result<()> {
     maps(&rt, 10_000)?;
     log_bundles(&rt)?;
     map_bundles(&rt)?;
+    verdicts(&rt)?;
     witnesses(&rt)?;
     Ok(())
 }
@@ -204,6 +206,51 @@ fn map_bundles(rt: &HostRuntime) -> Result<()> {
     }
     println!(rt;
         "map bundle of 256 peers: decode {} ns",
+        each(rt, start, 1_000)?
+    )?;
+    Ok(())
+}
+
+fn verdicts(rt: &HostRuntime) -> Result<()> {
+    let list = entries(rt, ENTRIES)?;
+    let mut log: VecLog<Sha256, Entry> = VecLog::default(rt.alloc());
+    let root = push_all(&mut log, list.as_slice())?.root();
+    let value = list.first().copied().unwrap_or([7; 32]);
+
+    let proofs = vec![in rt.alloc(); log.prove_inclusion(Node(0), ENTRIES)]?;
+    let bundle = ProofBundle::bundle(rt.alloc(), Vec::new(rt.alloc()), proofs, &log)?;
+    let bytes = bundle.encode(rt.alloc())?;
+    let mut good = 0u32;
+    let start = Instant::now(rt)?;
+    for _ in 0..1_000u32 {
+        if check_inclusion(rt.alloc(), bytes.as_slice(), 0, &value, &root)? {
+            good = good.saturating_add(1);
+        }
+    }
+    println!(rt;
+        "check_inclusion of {} bytes at 100,000: {} ns ({good} of 1000)",
+        bytes.len(),
+        each(rt, start, 1_000)?
+    )?;
+    consistency_verdicts(rt, &log)
+}
+
+fn consistency_verdicts(rt: &HostRuntime, log: &VecLog<Sha256, Entry>) -> Result<()> {
+    let proof = log.prove_consistency(66_666, ENTRIES);
+    let (old, new) = proof.evaluate(log)?;
+    let proofs = vec![in rt.alloc(); proof]?;
+    let bundle = ProofBundle::bundle(rt.alloc(), proofs, Vec::new(rt.alloc()), log)?;
+    let bytes = bundle.encode(rt.alloc())?;
+    let mut good = 0u32;
+    let start = Instant::now(rt)?;
+    for _ in 0..1_000u32 {
+        if check_consistency(rt.alloc(), bytes.as_slice(), 0, &old, &new)? {
+            good = good.saturating_add(1);
+        }
+    }
+    println!(rt;
+        "check_consistency of {} bytes at 100,000: {} ns ({good} of 1000)",
+        bytes.len(),
         each(rt, start, 1_000)?
     )?;
     Ok(())
