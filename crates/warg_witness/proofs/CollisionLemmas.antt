@@ -11,12 +11,13 @@ use Rattle.warg_witness.specs.Inputs.{plain_input}
 use Rattle.warg_witness.specs.Placed.{IsValuePlaced, IsHashPlaced, IsAgreementPlaced, IsConsistencyPlaced}
 use Rattle.warg_witness.specs.Laws.{GivesHashes, HoldsHashes, SomeCollision}
 use Rattle.warg_witness.specs.Parting.{IsParting, Collides, PartsAtBranch, pair_of}
-use Rattle.warg_witness.specs.Meeting.{IsMeeting, IsConsistencyMeeting}
+use Rattle.warg_witness.specs.Meeting.{IsMeeting, IsConsistencyMeeting, LeadsToBoth}
 use Rattle.warg_witness.specs.declared.descent.Parting.TheVariants.{Target, Branch}
 use Rattle.warg_witness.proofs.PlainLemmas.{whole_aligned}
 use Rattle.warg_witness.proofs.ValueLemmas.{have_root, length-leaves, some_leaves, entry_from, value_shown, hash_shown}
 use Rattle.warg_witness.proofs.AgreementLemmas.{have_both, agreement_shown}
-use Rattle.warg_witness.proofs.ConsistencyLemmas.{leaf_node, node_aligned, have_tree_root, have_node, IsAtRoot, root_leads, ShowsConsistency, old_shown, new_shown, below_shown, leaves_shown, target_meets}
+use Rattle.warg_witness.proofs.ConsistencyLemmas.{leaf_node, node_aligned, have_tree_root, have_node, trees_consistent, root_leads, ShowsConsistency, old_shown, new_shown, below_shown, leaves_shown, target_meets}
+use Rattle.warg_witness.proofs.BalancedRootLemmas.{root_bounds}
 use Rattle.warg_witness.proofs.PureLemmas.{Part, parted, root_over-len, own_holds, difference, root_found}
 
 -- a node's leaves are a node's range
@@ -117,32 +118,33 @@ between_trees H old new s w place gives node some around in_old in_new same =
     (root_over-len H old place 1 gives (lit< tt) (omega (arith, around.ends, in_old, old_len))) (root_over-len H new place 1 gives (lit< tt) (omega (arith, around.ends, in_new, new_len)))
     (leaf_node place 1 refl) (lit< tt) w s w (let le : w ≤ w = omega arith in le) (node_aligned s w node) around one
 
--- what is known at the balanced root around a difference shows a collision
-at_root_collides : (H : List ℕ → List ℕ) (F : ℕ → Option (List ℕ)) (old new : List (List ℕ)) (s w place : ℕ) (x : List ℕ) → GivesHashes H → HoldsHashes F
-    → IsAtRoot H F old new (leaves_of H old) (leaves_of H new) s w x → IsAround place 1 s w → DiffersFirst old new place → SomeCollision H (IsConsistencyPlaced H F old new)
-at_root_collides H F old new s w place x gives holds at around differs =
+-- a balanced root around a difference shows a collision
+root_collides : (H : List ℕ → List ℕ) (F : ℕ → Option (List ℕ)) (m n : ℕ) (old new : List (List ℕ)) (s w place : ℕ) (x : List ℕ) → GivesHashes H → HoldsHashes F
+    → IsConsistencyMeeting H F m n old new (leaves_of H old) (leaves_of H new) → LeadsToBoth H F (leaves_of H old) (leaves_of H new) s w x → 0 < w → IsAround place 1 s w
+    → DiffersFirst old new place → SomeCollision H (IsConsistencyPlaced H F old new)
+root_collides H F m n old new s w place x gives holds is at some around differs =
     let size = holds (node_over s w) x at.held in
-    let from_old = from_tree H F x old s w gives holds size at.node at.some at.in_old at.to_old in
-    let from_new = from_tree H F x new s w gives holds size at.node at.some at.in_new at.to_new in
+    let from_old = from_tree H F x old s w gives holds size at.node some at.in_old at.to_old in
+    let from_new = from_tree H F x new s w gives holds size at.node some at.in_new at.to_new in
     ⊎_elim
     (λ (old_meets : from_old.0 ≡ Target). ⊎_elim
     (λ (new_meets : from_new.0 ≡ Target).
     let in_old = target_meets H F x _ _ s w 0 _ from_old.0 old_meets from_old.1 in
     let in_new = target_meets H F x _ _ s w 0 _ from_new.0 new_meets from_new.1 in
-    let below = between_trees H old new s w place gives at.node at.some around at.in_old at.in_new (sym in_old.0 ∙ in_new.0) in
+    let below = between_trees H old new s w place gives at.node some around at.in_old at.in_new (sym in_old.0 ∙ in_new.0) in
     ⊎_elim
     (λ (target : below.0 ≡ Target).
-    let shown = leaves_shown H F old new (leaves_of H old) (leaves_of H new) s w x place below.0 (0 ∷ get_or old place []) (0 ∷ get_or new place []) at in_new.1 target below.1 differs refl refl in
+    let shown = leaves_shown H F m n old new (leaves_of H old) (leaves_of H new) s w x place below.0 (0 ∷ get_or old place []) (0 ∷ get_or new place []) is at in_new.1 target below.1 differs refl refl in
     let found : SomeCollision H (IsConsistencyPlaced H F old new) =
     record { first = 0 ∷ get_or old place []; second = 0 ∷ get_or new place []; differ = shown.differ; same = shown.same; placed = shown.placed } in found)
     (λ (other : below.0 ≡ Target → ⊥).
-    shown_collides H F old new below.0 (below_shown H F old new (leaves_of H old) (leaves_of H new) s w x place below.0 at in_new.1 other below.1))
+    shown_collides H F old new below.0 (below_shown H F m n old new (leaves_of H old) (leaves_of H new) s w x place below.0 is at in_new.1 other below.1))
     (target_or_not below.0))
     (λ (other : from_new.0 ≡ Target → ⊥).
-    shown_collides H F old new from_new.0 (new_shown H F old new (leaves_of H old) (leaves_of H new) s w x from_new.0 at other from_new.1))
+    shown_collides H F old new from_new.0 (new_shown H F m n old new (leaves_of H old) (leaves_of H new) s w x from_new.0 is at other from_new.1))
     (target_or_not from_new.0))
     (λ (other : from_old.0 ≡ Target → ⊥).
-    shown_collides H F old new from_old.0 (old_shown H F old new (leaves_of H old) (leaves_of H new) s w x from_old.0 at other from_old.1))
+    shown_collides H F old new from_old.0 (old_shown H F m n old new (leaves_of H old) (leaves_of H new) s w x from_old.0 is at other from_old.1))
     (target_or_not from_old.0)
 
 pub consistency_collides : (H : List ℕ → List ℕ) (F : ℕ → Option (List ℕ)) (m n : ℕ) (old new : List (List ℕ)) → GivesHashes H → HoldsHashes F
@@ -152,5 +154,6 @@ consistency_collides H F m n old new gives holds met false_claim =
     let found = difference old new (omega (arith, met.old_count, met.new_count, order)) false_claim in
     let root = root_found found.0 m 0 m (let le : m ≤ m = omega arith in le) (let le : 0 ≤ found.0 = omega arith in le) (let within = found.1.within in omega (arith, within, met.old_count)) in
     let is : IsConsistencyMeeting H F m n old new (leaves_of H old) (leaves_of H new) = record { met = met; old_is = refl; new_is = refl } in
-    let leads = root_leads H F m n old new (leaves_of H old) (leaves_of H new) root.0 root.1 0 m is root.2 refl refl in
-    at_root_collides H F old new root.0 root.1 found.0 leads.0 gives holds leads.1 root.3 found.1
+    let count : m ≡ length (leaves_of H old) = sym (length-leaves H old (leaves_of H old) refl ∙ met.old_count) in
+    let leads = root_leads H F (leaves_of H old) (leaves_of H new) root.0 root.1 0 m (trees_consistent H F m n old new (leaves_of H old) (leaves_of H new) is) root.2 refl count in
+    root_collides H F m n old new root.0 root.1 found.0 leads.0 gives holds is leads.1 (root_bounds root.0 root.1 0 m root.2).0 root.3 found.1

@@ -5,7 +5,7 @@ use Rattle.warg_log.specs.declared.consistency.ConsistencyProofError.{Consistenc
 use Rattle.warg_log.specs.Nodes.{node_over}
 use Rattle.warg_log.specs.Tree.{leaves_of, root_of, root_over, own_digest}
 use Rattle.warg_log.specs.Cut.{cut_over}
-use Rattle.warg_log.specs.Consistency.{consistency, LeadsTo}
+use Rattle.warg_log.specs.Consistency.{consistency, LeadsTo, IsConsistent}
 use Rattle.warg_log.proofs.MetLemmas.{consistency-only, consistency-then}
 use Rattle.warg_witness.specs.Ranges.{IsPart, IsAligned, IsNodeRange, IsBalancedRoot}
 use Rattle.warg_witness.specs.Claims.{IsConsistencyMet}
@@ -13,7 +13,7 @@ use Rattle.warg_witness.specs.Compared.{DiffersFirst}
 use Rattle.warg_witness.specs.Inputs.{branch_input}
 use Rattle.warg_witness.specs.Placed.{IsConsistencyPlaced}
 use Rattle.warg_witness.specs.Parting.{HaveOneDigest, IsParting, PartsAtBranch, pair_of}
-use Rattle.warg_witness.specs.Meeting.{IsConsistencyMeeting}
+use Rattle.warg_witness.specs.Meeting.{IsConsistencyMeeting, LeadsToBoth}
 use Rattle.warg_witness.specs.declared.descent.Parting.{Parting}
 use Rattle.warg_witness.specs.declared.descent.Parting.TheVariants.{Target, Branch}
 use Rattle.warg_witness.proofs.RangeLemmas.{IsPart-trans, wider}
@@ -42,10 +42,9 @@ leaf_at H bytes tree entries i e is within at =
     ∙ ap (λ v. H (0 ∷ v)) (entry_at bytes entries i e within at)
 
 -- what is made of an entry that was read
-pub leaf_input : {V : Type 0} (bytes : V → List ℕ) (entries : List V) (i : ℕ) (e : V) (made : List ℕ) → i < length (map bytes entries) → e ≡ get_or entries i e → made ≡ 0 ∷ bytes e
+pub leaf_input : {V : Type 0} (bytes : V → List ℕ) (entries : List V) (i : ℕ) (e : V) (made : List ℕ) → i < length entries → e ≡ get_or entries i e → made ≡ 0 ∷ bytes e
     → made ≡ 0 ∷ get_or (map bytes entries) i []
-leaf_input bytes entries i e made within at is =
-    is ∙ ap (λ v. 0 ∷ v) (sym (entry_at bytes entries i e (let len = length-map entries bytes in omega (arith, len)) at))
+leaf_input bytes entries i e made within at is = is ∙ ap (λ v. 0 ∷ v) (sym (entry_at bytes entries i e within at))
 
 -- an evaluation that leads to a tree's root, with a digest at a node, and the tree have the root in common
 pub have_tree_root : (H : List ℕ → List ℕ) (F : ℕ → Option (List ℕ)) (x y : List ℕ) (ds : List (List ℕ)) (s w a n : ℕ) → cut_over H F x s w 0 (length ds) ≡ Some (root_of H ds)
@@ -101,65 +100,51 @@ consistency_meets H F m n old new old_tree new_tree roots old_root new_root old_
   new_is = new_is;
 }
 
--- What is known at a balanced root, as a range, of the old length, where the claim is met: the digest x is
--- held for it, and leads to both roots.
-pub record IsAtRoot (H : List ℕ → List ℕ) (F : ℕ → Option (List ℕ)) (old new old_tree new_tree : List (List ℕ)) (s w : ℕ) (x : List ℕ) : Type 0 where
-  pub old_is : old_tree ≡ leaves_of H old
-  pub new_is : new_tree ≡ leaves_of H new
-  pub old_len : length old_tree ≡ length old
-  pub new_len : length new_tree ≡ length new
-  pub order : length old ≤ length new
-  pub root : IsBalancedRoot s w 0 (length old_tree)
-  pub node : IsNodeRange s w
-  pub some : 0 < w
-  pub in_old : s + w ≤ length old_tree
-  pub in_new : s + w ≤ length new_tree
-  pub held : F (node_over s w) ≡ Some x
-  pub to_old : cut_over H F x s w 0 (length old_tree) ≡ Some (root_of H old_tree)
-  pub to_new : cut_over H F x s w 0 (length new_tree) ≡ Some (root_of H new_tree)
-
-pub root_leads : (H : List ℕ → List ℕ) (F : ℕ → Option (List ℕ)) (m n : ℕ) (old new old_tree new_tree : List (List ℕ)) (s w a k : ℕ) → IsConsistencyMeeting H F m n old new old_tree new_tree
-    → IsBalancedRoot s w a k → a ≡ 0 → k ≡ m → (x : List ℕ) × IsAtRoot H F old new old_tree new_tree s w x
-root_leads H F m n old new old_tree new_tree s w a k is found start count =
-    let met = is.met in
+-- the roots of the trees meet the proof
+pub trees_consistent : (H : List ℕ → List ℕ) (F : ℕ → Option (List ℕ)) (m n : ℕ) (old new old_tree new_tree : List (List ℕ)) → IsConsistencyMeeting H F m n old new old_tree new_tree
+    → IsConsistent H F (length old_tree) (length new_tree) (root_of H old_tree) (root_of H new_tree)
+trees_consistent H F m n old new old_tree new_tree is =
     let old_len = length-leaves H old old_tree is.old_is in
     let new_len = length-leaves H new new_tree is.new_is in
+    rw (old_len, is.met.old_count, new_len, is.met.new_count, is.old_is, is.new_is) is.met.roots
+
+-- a balanced root leads to both
+pub root_leads : (H : List ℕ → List ℕ) (F : ℕ → Option (List ℕ)) (old_tree new_tree : List (List ℕ)) (s w a k : ℕ)
+    → IsConsistent H F (length old_tree) (length new_tree) (root_of H old_tree) (root_of H new_tree) → IsBalancedRoot s w a k → a ≡ 0 → k ≡ length old_tree
+    → (x : List ℕ) × LeadsToBoth H F old_tree new_tree s w x
+root_leads H F old_tree new_tree s w a k is found start count =
+    let m = length old_tree in
     let root : IsBalancedRoot s w 0 m = rw (start, count) at found in
     let bounds = root_bounds s w 0 m root in
     let node = root_is_node s w 0 m (whole_aligned 0 m m refl refl) root in
-    let leads = at_root (LeadsTo H F n (root_of H (leaves_of H new))) s w 0 m root met.roots.new_root_is in
-    let numbers = node_bounds s w node in
-    let order = met.roots.order in (
+    let leads = at_root (LeadsTo H F (length new_tree) (root_of H new_tree)) s w 0 m root is.new_root_is in
+    let numbers = node_bounds s w node in (
       leads.0,
       record {
-        old_is = is.old_is;
-        new_is = is.new_is;
-        old_len = old_len;
-        new_len = new_len;
-        order = omega (arith, met.old_count, met.new_count, order);
-        root = rw (old_len, met.old_count) root;
+        root = root;
         node = node;
-        some = bounds.0;
-        in_old = omega (arith, bounds.2, old_len, met.old_count);
-        in_new = omega (arith, bounds.2, new_len, met.new_count, order);
+        in_old = omega (arith, bounds.2);
+        in_new = omega (arith, bounds.2, is.order);
         held = leads.1;
-        to_old = rw (old_len, met.old_count, is.old_is) (sym (old_is_cut_around H F leads.0 s w 0 m leads.1 root) ∙ met.roots.old_root_is);
-        to_new = rw (new_len, met.new_count, is.new_is) (rw (numbers.0, numbers.1) at leads.2);
+        to_old = sym (old_is_cut_around H F leads.0 s w 0 m leads.1 root) ∙ is.old_root_is;
+        to_new = rw (numbers.0, numbers.1) at leads.2;
       },
     )
 
-pub root_is_held : (H : List ℕ → List ℕ) (F : ℕ → Option (List ℕ)) (m n : ℕ) (old new old_tree new_tree : List (List ℕ)) (s w a k t : ℕ) (found : Option (List ℕ)) → IsConsistencyMeeting H F m n old new old_tree new_tree
-    → IsBalancedRoot s w a k → a ≡ 0 → k ≡ m → t ≡ node_over s w → found ≡ F t → found ≡ None → ⊥
-root_is_held H F m n old new old_tree new_tree s w a k t found is root start count node at none =
-    let leads = root_leads H F m n old new old_tree new_tree s w a k is root start count in
+pub root_is_held : (H : List ℕ → List ℕ) (F : ℕ → Option (List ℕ)) (old_tree new_tree : List (List ℕ)) (s w a k t : ℕ) (found : Option (List ℕ))
+    → IsConsistent H F (length old_tree) (length new_tree) (root_of H old_tree) (root_of H new_tree) → IsBalancedRoot s w a k → a ≡ 0 → k ≡ length old_tree
+    → t ≡ node_over s w → found ≡ F t → found ≡ None → ⊥
+root_is_held H F old_tree new_tree s w a k t found is root start count node at none =
+    let leads = root_leads H F old_tree new_tree s w a k is root start count in
     let e : None ≡ Some leads.0 = sym none ∙ at ∙ ap F node ∙ leads.1.held in absurd (cc)
 
-pub at_old_root : (H : List ℕ → List ℕ) (F : ℕ → Option (List ℕ)) (m n : ℕ) (old new old_tree new_tree : List (List ℕ)) (s w a k t : ℕ) (found : Option (List ℕ)) (x : List ℕ) → IsConsistencyMeeting H F m n old new old_tree new_tree
-    → IsBalancedRoot s w a k → a ≡ 0 → k ≡ m → t ≡ node_over s w → found ≡ F t → found ≡ Some x → IsAtRoot H F old new old_tree new_tree s w x
-at_old_root H F m n old new old_tree new_tree s w a k t found x is root start count node at some =
-    let leads = root_leads H F m n old new old_tree new_tree s w a k is root start count in
+pub held_leads : (H : List ℕ → List ℕ) (F : ℕ → Option (List ℕ)) (old_tree new_tree : List (List ℕ)) (s w a k t : ℕ) (found : Option (List ℕ)) (x : List ℕ)
+    → IsConsistent H F (length old_tree) (length new_tree) (root_of H old_tree) (root_of H new_tree) → IsBalancedRoot s w a k → a ≡ 0 → k ≡ length old_tree
+    → t ≡ node_over s w → found ≡ F t → found ≡ Some x → LeadsToBoth H F old_tree new_tree s w x
+held_leads H F old_tree new_tree s w a k t found x is root start count node at some =
+    let leads = root_leads H F old_tree new_tree s w a k is root start count in
     let same : leads.0 ≡ x = some_eq leads.0 x (sym leads.1.held ∙ ap F (sym node) ∙ sym at ∙ some) in
-    let P : List ℕ → Type 0 = λ y. IsAtRoot H F old new old_tree new_tree s w y in
+    let P : List ℕ → Type 0 = λ y. LeadsToBoth H F old_tree new_tree s w y in
     subst P same leads.1
 
 -- What a parting shows of false consistency: its inputs collide, at their place.
@@ -168,11 +153,12 @@ pub record ShowsConsistency {D : Type 0} (H : List ℕ → List ℕ) (F : ℕ �
   pub placed : IsConsistencyPlaced H F old new (pair_of p [] []).0 (pair_of p [] []).1
 
 -- the evaluation parts from the old tree
-pub old_shown : {D : Type 0} (H : List ℕ → List ℕ) (F : ℕ → Option (List ℕ)) (old new old_tree new_tree : List (List ℕ)) (s w : ℕ) (x : List ℕ) (p : Parting D) → IsAtRoot H F old new old_tree new_tree s w x
+pub old_shown : {D : Type 0} (H : List ℕ → List ℕ) (F : ℕ → Option (List ℕ)) (m n : ℕ) (old new old_tree new_tree : List (List ℕ)) (s w : ℕ) (x : List ℕ) (p : Parting D) → IsConsistencyMeeting H F m n old new old_tree new_tree → LeadsToBoth H F old_tree new_tree s w x
     → (p ≡ Target → ⊥) → IsParting H F x (own_digest H old_tree) (root_over H old_tree s w) s w 0 (length old_tree) p → ShowsConsistency H F old new p
-old_shown H F old new old_tree new_tree s w x Target at other parts = absurd (other refl)
-old_shown H F old new old_tree new_tree s w x (Branch l r l' r') at other parts =
-    let some : 0 < length old_tree = omega (arith, at.some, at.in_old) in
+old_shown H F m n old new old_tree new_tree s w x Target is at other parts = absurd (other refl)
+old_shown H F m n old new old_tree new_tree s w x (Branch l r l' r') is at other parts =
+    let old_len = length-leaves H old old_tree is.old_is in
+    let some : 0 < length old_tree = let bounds = root_bounds s w 0 (length old_tree) at.root in omega (arith, bounds.0, at.in_old) in
     let within = part_within (length old_tree) parts.from parts.count parts.part some in
     let here = root_at_part s w 0 (length old_tree) parts.from parts.count at.root parts.part parts.around in
     let splits = root_splits s w parts.from parts.count here parts.other in
@@ -181,54 +167,61 @@ old_shown H F old new old_tree new_tree s w x (Branch l r l' r') at other parts 
       placed = inl (record {
         from = parts.from;
         count = parts.count;
-        part = rw at.old_len at parts.part;
+        part = rw old_len at parts.part;
         split = splits.1;
         evaluation = old_input_is_cut H F x s w parts.from parts.count at.held here parts.other ∙ parts.first_input;
         plain = own_input H old (root_over H (leaves_of H old) s w) s w parts.from parts.count (branch_input l' r') refl
-            (part_aligned (length old_tree) parts.from parts.count parts.part some) splits.0 (omega (arith, within.1, at.old_len)) (rw at.old_is at parts.second_input);
+            (part_aligned (length old_tree) parts.from parts.count parts.part some) splits.0 (omega (arith, within.1, old_len)) (rw is.old_is at parts.second_input);
       });
     }
 
 -- the evaluation parts from the new tree
-pub new_shown : {D : Type 0} (H : List ℕ → List ℕ) (F : ℕ → Option (List ℕ)) (old new old_tree new_tree : List (List ℕ)) (s w : ℕ) (x : List ℕ) (p : Parting D) → IsAtRoot H F old new old_tree new_tree s w x
+pub new_shown : {D : Type 0} (H : List ℕ → List ℕ) (F : ℕ → Option (List ℕ)) (m n : ℕ) (old new old_tree new_tree : List (List ℕ)) (s w : ℕ) (x : List ℕ) (p : Parting D) → IsConsistencyMeeting H F m n old new old_tree new_tree → LeadsToBoth H F old_tree new_tree s w x
     → (p ≡ Target → ⊥) → IsParting H F x (own_digest H new_tree) (root_over H new_tree s w) s w 0 (length new_tree) p → ShowsConsistency H F old new p
-new_shown H F old new old_tree new_tree s w x Target at other parts = absurd (other refl)
-new_shown H F old new old_tree new_tree s w x (Branch l r l' r') at other parts =
-    let some : 0 < length new_tree = omega (arith, at.some, at.in_new) in
+new_shown H F m n old new old_tree new_tree s w x Target is at other parts = absurd (other refl)
+new_shown H F m n old new old_tree new_tree s w x (Branch l r l' r') is at other parts =
+    let new_len = length-leaves H new new_tree is.new_is in
+    let old_len = length-leaves H old old_tree is.old_is in
+    let bounds = root_bounds s w 0 (length old_tree) at.root in
+    let some : 0 < length new_tree = omega (arith, bounds.0, at.in_new) in
     let within = part_within (length new_tree) parts.from parts.count parts.part some in
     let numbers = node_bounds s w at.node in
-    let more : 1 < parts.count = let wide = wider s w parts.from parts.count parts.around parts.other in omega (arith, at.some) in
+    let more : 1 < parts.count = let wide = wider s w parts.from parts.count parts.around parts.other in omega (arith, bounds.0) in
     record {
       at_branch = record { differ = parts.differ; same = parts.same };
       placed = inr (inl (record {
         root = node_over s w;
         digest = x;
-        is_root = rw at.old_len at (root_contained s w 0 (length old_tree) at.root);
+        is_root = rw old_len at (root_contained s w 0 (length old_tree) at.root);
         held = at.held;
         from = parts.from;
         count = parts.count;
-        part = rw at.new_len at parts.part;
+        part = rw new_len at parts.part;
         around = rw (numbers.0, numbers.1) parts.around;
         other = rw (numbers.0, numbers.1) parts.other;
         evaluation = rw (numbers.0, numbers.1) parts.first_input;
         plain = own_input H new (root_over H (leaves_of H new) s w) s w parts.from parts.count (branch_input l' r') refl
-            (part_aligned (length new_tree) parts.from parts.count parts.part some) more (omega (arith, within.1, at.new_len)) (rw at.new_is at parts.second_input);
+            (part_aligned (length new_tree) parts.from parts.count parts.part some) more (omega (arith, within.1, new_len)) (rw is.new_is at parts.second_input);
       }));
     }
 
 -- both trees part below the root, which is a range of both
-pub below_shown : {D : Type 0} (H : List ℕ → List ℕ) (F : ℕ → Option (List ℕ)) (old new old_tree new_tree : List (List ℕ)) (s w : ℕ) (x : List ℕ) (place : ℕ) (p : Parting D) → IsAtRoot H F old new old_tree new_tree s w x
+pub below_shown : {D : Type 0} (H : List ℕ → List ℕ) (F : ℕ → Option (List ℕ)) (m n : ℕ) (old new old_tree new_tree : List (List ℕ)) (s w : ℕ) (x : List ℕ) (place : ℕ) (p : Parting D) → IsConsistencyMeeting H F m n old new old_tree new_tree → LeadsToBoth H F old_tree new_tree s w x
     → IsPart 0 (length new_tree) s w → (p ≡ Target → ⊥)
     → IsParting H (own_digest H old_tree) (root_over H old_tree place 1) (own_digest H new_tree) (root_over H new_tree place 1) place 1 s w p
     → ShowsConsistency H F old new p
-below_shown H F old new old_tree new_tree s w x place Target at new_part other parts = absurd (other refl)
-below_shown H F old new old_tree new_tree s w x place (Branch l r l' r') at new_part other parts =
-    let some : 0 < length old = omega (arith, at.some, at.in_old, at.old_len) in
-    let old_part : IsPart 0 (length old) s w = rw at.old_len at (root_is_part s w 0 (length old_tree) at.root) in
+below_shown H F m n old new old_tree new_tree s w x place Target is at new_part other parts = absurd (other refl)
+below_shown H F m n old new old_tree new_tree s w x place (Branch l r l' r') is at new_part other parts =
+    let old_len = length-leaves H old old_tree is.old_is in
+    let new_len = length-leaves H new new_tree is.new_is in
+    let bounds = root_bounds s w 0 (length old_tree) at.root in
+    let some : 0 < length old = omega (arith, bounds.0, at.in_old, old_len) in
+    let new_some : 0 < length new = omega (arith, bounds.0, at.in_new, new_len) in
+    let old_part : IsPart 0 (length old) s w = rw old_len at (root_is_part s w 0 (length old_tree) at.root) in
     let in_old = IsPart-trans 0 (length old) s w parts.from parts.count old_part parts.part in
-    let in_new = IsPart-trans 0 (length new) s w parts.from parts.count (rw at.new_len at new_part) parts.part in
+    let in_new = IsPart-trans 0 (length new) s w parts.from parts.count (rw new_len at new_part) parts.part in
     let old_within = part_within (length old) parts.from parts.count in_old some in
-    let new_within = part_within (length new) parts.from parts.count in_new (omega (arith, at.order)) in
+    let new_within = part_within (length new) parts.from parts.count in_new new_some in
     let more : 1 < parts.count = wider place 1 parts.from parts.count parts.around parts.other in
     record {
       at_branch = record { differ = parts.differ; same = parts.same };
@@ -238,9 +231,9 @@ below_shown H F old new old_tree new_tree s w x place (Branch l r l' r') at new_
         old_part = in_old;
         new_part = in_new;
         old_plain = own_input H old (root_over H (leaves_of H old) place 1) place 1 parts.from parts.count (branch_input l r) refl
-            (part_aligned (length old) parts.from parts.count in_old some) more old_within.1 (rw at.old_is at parts.first_input);
+            (part_aligned (length old) parts.from parts.count in_old some) more old_within.1 (rw is.old_is at parts.first_input);
         new_plain = own_input H new (root_over H (leaves_of H new) place 1) place 1 parts.from parts.count (branch_input l' r') refl
-            (part_aligned (length new) parts.from parts.count in_new (omega (arith, at.order))) more new_within.1 (rw at.new_is at parts.second_input);
+            (part_aligned (length new) parts.from parts.count in_new new_some) more new_within.1 (rw is.new_is at parts.second_input);
       }));
     }
 
@@ -250,17 +243,20 @@ pub record ShowsLeaves (H : List ℕ → List ℕ) (F : ℕ → Option (List ℕ
   pub same : H first ≡ H second
   pub placed : IsConsistencyPlaced H F old new first second
 
-pub leaves_shown : {D : Type 0} (H : List ℕ → List ℕ) (F : ℕ → Option (List ℕ)) (old new old_tree new_tree : List (List ℕ)) (s w : ℕ) (x : List ℕ) (place : ℕ) (p : Parting D) (first second : List ℕ)
-    → IsAtRoot H F old new old_tree new_tree s w x → IsPart 0 (length new_tree) s w → p ≡ Target
+pub leaves_shown : {D : Type 0} (H : List ℕ → List ℕ) (F : ℕ → Option (List ℕ)) (m n : ℕ) (old new old_tree new_tree : List (List ℕ)) (s w : ℕ) (x : List ℕ) (place : ℕ) (p : Parting D) (first second : List ℕ)
+    → IsConsistencyMeeting H F m n old new old_tree new_tree → LeadsToBoth H F old_tree new_tree s w x → IsPart 0 (length new_tree) s w → p ≡ Target
     → IsParting H (own_digest H old_tree) (root_over H old_tree place 1) (own_digest H new_tree) (root_over H new_tree place 1) place 1 s w p
     → DiffersFirst old new place → first ≡ 0 ∷ get_or old place [] → second ≡ 0 ∷ get_or new place [] → ShowsLeaves H F old new first second
-leaves_shown {D} H F old new old_tree new_tree s w x place p first second at new_part target parts difference first_is second_is =
-    let old_part : IsPart 0 (length old) s w = rw at.old_len at (root_is_part s w 0 (length old_tree) at.root) in
+leaves_shown {D} H F m n old new old_tree new_tree s w x place p first second is at new_part target parts difference first_is second_is =
+    let old_len = length-leaves H old old_tree is.old_is in
+    let new_len = length-leaves H new new_tree is.new_is in
+    let order = (trees_consistent H F m n old new old_tree new_tree is).order in
+    let old_part : IsPart 0 (length old) s w = rw old_len at (root_is_part s w 0 (length old_tree) at.root) in
     let P : Parting D → Type 0 = λ q. IsParting H (own_digest H old_tree) (root_over H old_tree place 1) (own_digest H new_tree) (root_over H new_tree place 1) place 1 s w q in
     let met = subst P target parts in
-    let same : root_over H (leaves_of H old) place 1 ≡ root_over H (leaves_of H new) place 1 = rw (at.old_is, at.new_is) at met.same in
+    let same : root_over H (leaves_of H old) place 1 ≡ root_over H (leaves_of H new) place 1 = rw (is.old_is, is.new_is) at met.same in
     let old_leaf : root_over H (leaves_of H old) place 1 ≡ H (0 ∷ get_or old place []) = plain_digest_is H old place 1 (lit< tt) (omega (arith, difference.within)) in
-    let new_leaf : root_over H (leaves_of H new) place 1 ≡ H (0 ∷ get_or new place []) = plain_digest_is H new place 1 (lit< tt) (omega (arith, difference.within, at.order)) in
+    let new_leaf : root_over H (leaves_of H new) place 1 ≡ H (0 ∷ get_or new place []) = plain_digest_is H new place 1 (lit< tt) (omega (arith, difference.within, order, old_len, new_len)) in
     record {
       differ = λ e. difference.differ (tail_eq (get_or old place []) (get_or new place []) (sym first_is ∙ e ∙ second_is));
       same = rw (first_is, second_is) (sym old_leaf ∙ same ∙ new_leaf);
@@ -268,7 +264,7 @@ leaves_shown {D} H F old new old_tree new_tree s w x place p first second at new
         from = place;
         count = 1;
         old_part = IsPart-trans 0 (length old) s w place 1 old_part met.part;
-        new_part = IsPart-trans 0 (length new) s w place 1 (rw at.new_len at new_part) met.part;
+        new_part = IsPart-trans 0 (length new) s w place 1 (rw new_len at new_part) met.part;
         old_plain = first_is;
         new_plain = second_is;
       }));

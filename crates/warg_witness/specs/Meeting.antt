@@ -1,7 +1,9 @@
 -- A proof that leads to the root of given entries, and what a witness knows of it.
-use Rattle.std.specs.Prelude.{◌≡◌, ℕ, ◌^◌, List, Option}
-use Rattle.warg_log.specs.Nodes.{height_of, start_of}
-use Rattle.warg_log.specs.Tree.{leaves_of, root_over, own_digest}
+use Rattle.std.specs.Prelude.{◌≡◌, ℕ, ◌+◌, ◌^◌, ◌≤◌, List, length, Option, Some}
+use Rattle.warg_log.specs.Nodes.{height_of, start_of, node_over}
+use Rattle.warg_log.specs.Tree.{leaves_of, root_of, root_over, own_digest}
+use Rattle.warg_log.specs.Cut.{cut_over}
+use Rattle.warg_witness.specs.Ranges.{IsNodeRange, IsBalancedRoot}
 use Rattle.warg_witness.specs.Claims.{IsMet, IsConsistencyMet}
 use Rattle.warg_witness.specs.Parting.{IsParting}
 use Rattle.warg_witness.specs.declared.descent.Parting.{Parting}
@@ -21,3 +23,14 @@ pub record IsConsistencyMeeting (H : List ℕ → List ℕ) (F : ℕ → Option 
   pub met : IsConsistencyMet H F m n old new
   pub old_is : old_tree ≡ leaves_of H old
   pub new_is : new_tree ≡ leaves_of H new
+
+-- The w leaves from s on are a balanced root of the old tree, and the digest x is held for it, and leads to
+-- the roots of both trees.
+pub record LeadsToBoth (H : List ℕ → List ℕ) (F : ℕ → Option (List ℕ)) (old_tree new_tree : List (List ℕ)) (s w : ℕ) (x : List ℕ) : Type 0 where
+  pub root : IsBalancedRoot s w 0 (length old_tree)
+  pub node : IsNodeRange s w
+  pub in_old : s + w ≤ length old_tree
+  pub in_new : s + w ≤ length new_tree
+  pub held : F (node_over s w) ≡ Some x
+  pub to_old : cut_over H F x s w 0 (length old_tree) ≡ Some (root_of H old_tree)
+  pub to_new : cut_over H F x s w 0 (length new_tree) ≡ Some (root_of H new_tree)

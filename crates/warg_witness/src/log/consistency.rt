@@ -3,12 +3,13 @@
 ghost use Rattle.std.specs.Prelude.{◌≡◌, ℕ, ◌+◌, ◌^◌, ◌<◌, ◌≤◌, ◌↔◌, List, [], ◌∷◌, length, map, None, Some, Ok, IfOk, IsTrue, MatchOption, slice_index_or};
 ghost use Rattle.warg_log.specs.Tree.{leaves_of, root_of, root_over, own_digest};
 ghost use Rattle.warg_log.specs.Cut.{cut_over};
+ghost use Rattle.warg_log.specs.Consistency.{IsConsistent};
 ghost use Rattle.warg_witness.specs.Ranges.{IsAround, IsNodeRange, IsBalancedRoot};
 ghost use Rattle.warg_witness.specs.Claims.{Begins, IsConsistencyMet};
 ghost use Rattle.warg_witness.specs.Placed.{IsConsistencyPlaced};
 ghost use Rattle.warg_witness.specs.Compared.{DiffersFirst, IsFirstDifference};
 ghost use Rattle.warg_witness.specs.Parting.{IsParting};
-ghost use Rattle.warg_witness.specs.Meeting.{IsConsistencyMeeting};
+ghost use Rattle.warg_witness.specs.Meeting.{IsConsistencyMeeting, LeadsToBoth};
 
 use crate::collision::{Collision, Finding, leaf_bytes};
 use crate::compare::leaf_inputs;
@@ -130,6 +131,25 @@ fn root_around(place: usize, range: &Interval) -> Interval
     root_around(place, &rest)
 }
 
+// The balanced root of the old length that has the leaf at `place`, and the digest that is held for it.
+fn held_root<D: SupportedDigest, V: VisitBytes, L: LogData<D, V>, A: Allocator>(
+    hashes: &L,
+    trees: &Trees<D, V, A>,
+    place: usize,
+) -> (Interval, Hash<D>)
+    requires place { place < length trees.now.old }
+    requires fits { length trees.now.old ≤ 2 ^ 63 }
+    requires met { IsConsistent D.digest (L.digest_at hashes.now) (length trees.now.old) (length trees.now.new) (root_of D.digest trees.now.old) (root_of D.digest trees.now.new) }
+    ensures around { IsAround place 1 result.0.start result.0.count }
+    ensures leads { LeadsToBoth D.digest (L.digest_at hashes.now) trees.now.old trees.now.new result.0.start result.0.count result.1 }
+{
+    let root = root_around(place, &Interval::new(0, trees.old.length()));
+    match hashes.hash_for(root.node()) {
+        Some(hash) => (root, hash),
+        None => unreachable!(),
+    }
+}
+
 // Where the evaluation, with a digest at a node, parts from the tree to whose root it leads.
 fn part_from<D: SupportedDigest, V: VisitBytes, L: LogData<D, V>, A: Allocator>(
     hashes: &L,
@@ -185,10 +205,7 @@ fn collide_at<D: SupportedDigest, V: VisitBytes, L: LogData<D, V>, A: Allocator 
     requires differ { DiffersFirst (map (λ e. V.bytes e) old.now) (map (λ e. V.bytes e) new.now) place }
     ensures { IfOk result (λ c. IsConsistencyPlaced D.digest (L.digest_at hashes.now) (map (λ e. V.bytes e) old.now) (map (λ e. V.bytes e) new.now) c.0 c.1) }
 {
-    let root = root_around(place, &Interval::new(0, old.len()));
-    let Some(hash) = hashes.hash_for(root.node()) else {
-        unreachable!()
-    };
+    let (root, hash) = held_root(hashes, trees, place);
     let from_old = part_from(hashes, &hash, &root, &trees.old);
     if !from_old.is_target() {
         return part(alloc, &from_old);
