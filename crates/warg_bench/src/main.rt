@@ -23,6 +23,7 @@ fn main(rt: HostRuntime) -> Result<()> {
     let branch = branch_time(&rt)?;
     println!(rt; "one hash of a branch: {branch} ns")?;
     logs(&rt)?;
+    log_images(&rt, branch)?;
     maps(&rt, 1_000)?;
     maps(&rt, 10_000)?;
     log_bundles(&rt)?;
@@ -101,6 +102,28 @@ fn logs(rt: &HostRuntime) -> Result<()> {
     println!(rt;
         "consistency evaluation at 100,000: {} ns ({good} of 1000)",
         each(rt, start, 1_000)?
+    )?;
+    Ok(())
+}
+
+fn log_images(rt: &HostRuntime, branch: u128) -> Result<()> {
+    let list = entries(rt, 10_000)?;
+    let mut log: VecLog<Sha256, Entry> = VecLog::default(rt.alloc());
+    push_all(&mut log, list.as_slice())?;
+    let start = Instant::now(rt)?;
+    let bytes = log.to_protobuf()?;
+    println!(rt;
+        "VecLog of 10,000 entries, {} bytes: to_protobuf {} ns",
+        bytes.len(),
+        each(rt, start, 1)?
+    )?;
+    let start = Instant::now(rt)?;
+    let read: VecLog<Sha256, Entry> = VecLog::from_protobuf(rt.alloc(), bytes.as_slice())?;
+    println!(rt;
+        "VecLog of {} entries: from_protobuf {} ns, of which its 9,999 branches take {} ns",
+        read.length(),
+        each(rt, start, 1)?,
+        branch.saturating_mul(9_999)
     )?;
     Ok(())
 }
