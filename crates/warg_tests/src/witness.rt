@@ -2,12 +2,12 @@
 
 use crate::digests::hash_ending_in;
 use refusing::Refusing;
-use std::alloc::{AllocError, Allocator};
+use std::alloc::{AllocError, Allocator, Global};
 use std::test::Fail;
 use warg_crypto::weak::{Flat, Sum};
-use warg_crypto::{Hash, SupportedDigest};
+use warg_crypto::{Hash, Sha256, SupportedDigest};
 use warg_log::{LogBuilder, LogData, Node, SparseLogData, VecLog, push_all};
-use warg_witness::{Finding, agree_value, witness_hash, witness_value};
+use warg_witness::{Finding, agree_value, witness_consistency, witness_hash, witness_value};
 
 type Data = SparseLogData<Sum, &'static [u8]>;
 
@@ -143,20 +143,210 @@ fn a_digest_that_is_always_the_same(rt: HostRuntime) -> Result<(), Fail> {
     Ok(())
 }
 
-// A log's own proofs hold of its entries, at each leaf and length.
+// The entries of an honest log, in which some are the same.
+const TEXTS: [&str; 25] = [
+    "93", "67", "30", "37", "23", "75", "57", "89", "76", "42", "9", "14", "40", "59", "26", "66",
+    "77", "38", "47", "34", "8", "67", "", "93", "103",
+];
+
+// A log's own inclusion proofs hold of its entries, at each leaf and length.
 #[test]
-fn a_log_s_own_proofs_hold(rt: HostRuntime) -> Result<(), Fail> {
+fn a_log_s_own_inclusion_proofs_hold(rt: HostRuntime) -> Result<(), Fail> {
     let alloc = rt.alloc();
-    let mut log: VecLog<Sum, u8> = VecLog::default(alloc);
-    let entries: [u8; 9] = [3, 1, 4, 1, 5, 9, 2, 6, 5];
-    push_all(&mut log, &entries)?;
-    for length in 1..10 {
-        for (place, entry) in entries[..length].iter().enumerate() {
+    let mut log: VecLog<Sha256, &str> = VecLog::default(alloc);
+    push_all(&mut log, &TEXTS)?;
+    for length in 1..26 {
+        let entries = &TEXTS[..length];
+        for (place, entry) in entries.iter().enumerate() {
             let proof = log.prove_inclusion(Node(2 * place), length);
-            let finding = witness_value(alloc, &proof, &log, entry, &entries[..length])?;
+            let finding = witness_value(alloc, &proof, &log, entry, entries)?;
             assert!(rt; matches!(finding, Finding::Holds));
         }
     }
+    Ok(())
+}
+
+// A log's own consistency proofs hold of its entries, at all lengths.
+#[test]
+fn a_log_s_own_consistency_proofs_hold(rt: HostRuntime) -> Result<(), Fail> {
+    let alloc = rt.alloc();
+    let mut log: VecLog<Sha256, &str> = VecLog::default(alloc);
+    push_all(&mut log, &TEXTS)?;
+    for new_length in 1..26 {
+        for old_length in 1..new_length + 1 {
+            let proof = log.prove_consistency(old_length, new_length);
+            let (old, new) = (&TEXTS[..old_length], &TEXTS[..new_length]);
+            let finding = witness_consistency(alloc, &proof, &log, old, new)?;
+            assert!(rt; matches!(finding, Finding::Holds));
+        }
+    }
+    Ok(())
+}
+
+// Digests of the node over the first two leaves and of the third leaf.
+fn old_roots(alloc: Global, first_two: u8, third: u8) -> Result<Data, Fail> {
+    let pairs = vec![in alloc;
+        (Node(1), hash_ending_in(first_two)),
+        (Node(4), hash_ending_in(third)),
+    ]?;
+    Ok(SparseLogData::from(pairs))
+}
+
+#[test]
+fn consistency_that_holds(rt: HostRuntime) -> Result<(), Fail> {
+    let alloc = rt.alloc();
+    let entries: [&[u8]; 3] = [&[1], &[3], &[7]];
+    let data = old_roots(rt.alloc(), 5, 7)?;
+    let proof = data.prove_consistency(2, 3);
+    let finding = witness_consistency(alloc, &proof, &data, &entries[..2], &entries)?;
+    assert!(rt; matches!(finding, Finding::Holds));
+    // The data lies, and so do the roots' inputs, but the claim is true.
+    let entries: [&[u8]; 3] = [&[1], &[2], &[3]];
+    let data = old_roots(rt.alloc(), 5, 2)?;
+    let proof = data.prove_consistency(3, 3);
+    let finding = witness_consistency(alloc, &proof, &data, &entries, &entries)?;
+    assert!(rt; matches!(finding, Finding::Holds));
+    Ok(())
+}
+
+#[test]
+fn consistency_with_other_counts_of_entries(rt: HostRuntime) -> Result<(), Fail> {
+    let alloc = Refusing::after(rt.alloc(), 0);
+    let entries: [&[u8]; 3] = [&[1], &[3], &[7]];
+    let data = old_roots(rt.alloc(), 5, 7)?;
+    let proof = data.prove_consistency(2, 3);
+    let fewer_old = witness_consistency(&alloc, &proof, &data, &entries[..1], &entries);
+    assert!(rt; matches!(fewer_old, Ok(Finding::NotMet)));
+    let fewer_new = witness_consistency(&alloc, &proof, &data, &entries[..2], &entries[..2]);
+    assert!(rt; matches!(fewer_new, Ok(Finding::NotMet)));
+    let enough = witness_consistency(&alloc, &proof, &data, &entries[..2], &entries);
+    assert!(rt; matches!(enough, Err(AllocError)));
+    // At the greatest length there are never enough.
+    let whole = vec![in rt.alloc(); (Node(usize::MAX / 2), hash_ending_in(5))]?;
+    let whole: Data = SparseLogData::from(whole);
+    let proof = whole.prove_consistency(1 << 63, 1 << 63);
+    let finding = witness_consistency(&alloc, &proof, &whole, &entries[..1], &entries[..1]);
+    assert!(rt; matches!(finding, Ok(Finding::NotMet)));
+    Ok(())
+}
+
+#[test]
+fn consistency_that_leads_elsewhere(rt: HostRuntime) -> Result<(), Fail> {
+    let alloc = rt.alloc();
+    let old: [&[u8]; 2] = [&[1], &[3]];
+    let new: [&[u8]; 3] = [&[1], &[3], &[7]];
+    let other: [&[u8]; 3] = [&[1], &[4], &[7]];
+    let data = old_roots(rt.alloc(), 5, 7)?;
+    let proof = data.prove_consistency(2, 3);
+    let finding = witness_consistency(alloc, &proof, &data, &other[..2], &new)?;
+    assert!(rt; matches!(finding, Finding::NotMet));
+    let finding = witness_consistency(alloc, &proof, &data, &old, &other)?;
+    assert!(rt; matches!(finding, Finding::NotMet));
+    // No digest, lengths out of order, and no old entries.
+    let nothing: Data = SparseLogData::from(Vec::new(alloc));
+    let finding = witness_consistency(alloc, &proof, &nothing, &old, &new)?;
+    assert!(rt; matches!(finding, Finding::NotMet));
+    let backwards = data.prove_consistency(3, 2);
+    let finding = witness_consistency(alloc, &backwards, &data, &new, &old)?;
+    assert!(rt; matches!(finding, Finding::NotMet));
+    let from_none = data.prove_consistency(0, 1);
+    let finding = witness_consistency(alloc, &from_none, &data, &[], &new[..1])?;
+    assert!(rt; matches!(finding, Finding::NotMet));
+    Ok(())
+}
+
+// Both trees have one digest over the first two leaves, by other leaves; and the first two are exchanged.
+#[test]
+fn consistency_where_the_trees_part(rt: HostRuntime) -> Result<(), Fail> {
+    let alloc = rt.alloc();
+    let old: [&[u8]; 2] = [&[1], &[3]];
+    let new: [&[u8]; 3] = [&[2], &[2], &[7]];
+    let data = old_roots(rt.alloc(), 5, 7)?;
+    let proof = data.prove_consistency(2, 3);
+    let finding = witness_consistency(alloc, &proof, &data, &old, &new)?;
+    assert!(rt; shows(&finding, &branch(1, 3), &branch(2, 2)));
+    let old: [&[u8]; 3] = [&[1], &[2], &[3]];
+    let new: [&[u8]; 3] = [&[2], &[1], &[3]];
+    let data = old_roots(rt.alloc(), 4, 3)?;
+    let proof = data.prove_consistency(3, 3);
+    let finding = witness_consistency(alloc, &proof, &data, &old, &new)?;
+    assert!(rt; shows(&finding, &branch(1, 2), &branch(2, 1)));
+    Ok(())
+}
+
+// Two entries have one leaf digest: the first ones, and the last one below the second balanced root.
+#[test]
+fn consistency_where_the_leaves_part(rt: HostRuntime) -> Result<(), Fail> {
+    let alloc = rt.alloc();
+    let zeros = vec![in alloc; (Node(0), hash_ending_in(0)), (Node(2), hash_ending_in(0))]?;
+    let zeros: SparseLogData<Flat, &[u8]> = SparseLogData::from(zeros);
+    let proof = zeros.prove_consistency(1, 2);
+    let old: [&[u8]; 1] = [&[1]];
+    let new: [&[u8]; 2] = [&[2], &[3]];
+    let finding = witness_consistency(alloc, &proof, &zeros, &old, &new)?;
+    assert!(rt; shows(&finding, &[0, 1], &[0, 2]));
+    let old: [&[u8]; 3] = [&[1], &[2], &[3]];
+    let new: [&[u8]; 3] = [&[1], &[2], &[1, 2]];
+    let data = old_roots(rt.alloc(), 4, 3)?;
+    let proof = data.prove_consistency(3, 3);
+    let finding = witness_consistency(alloc, &proof, &data, &old, &new)?;
+    assert!(rt; shows(&finding, &[0, 3], &[0, 1, 2]));
+    Ok(())
+}
+
+// The evaluation parts from the old tree, and from the new one around the first balanced root and around the
+// second one.
+#[test]
+fn consistency_where_the_evaluation_parts(rt: HostRuntime) -> Result<(), Fail> {
+    let alloc = rt.alloc();
+    let old: [&[u8]; 3] = [&[1], &[2], &[3]];
+    let new: [&[u8]; 3] = [&[1], &[4], &[1]];
+    let data = old_roots(rt.alloc(), 5, 2)?;
+    let proof = data.prove_consistency(3, 3);
+    let finding = witness_consistency(alloc, &proof, &data, &old, &new)?;
+    assert!(rt; shows(&finding, &branch(5, 2), &branch(4, 3)));
+    let old: [&[u8]; 2] = [&[1], &[3]];
+    let new: [&[u8]; 3] = [&[1], &[2], &[7]];
+    let data = old_roots(rt.alloc(), 5, 6)?;
+    let proof = data.prove_consistency(2, 3);
+    let finding = witness_consistency(alloc, &proof, &data, &old, &new)?;
+    assert!(rt; shows(&finding, &branch(5, 6), &branch(4, 7)));
+    let data = vec![in alloc;
+        (Node(1), hash_ending_in(4)),
+        (Node(4), hash_ending_in(2)),
+        (Node(5), hash_ending_in(8)),
+        (Node(6), hash_ending_in(5)),
+    ]?;
+    let data: Data = SparseLogData::from(data);
+    let old: [&[u8]; 3] = [&[1], &[2], &[2]];
+    let new: [&[u8]; 4] = [&[1], &[2], &[3], &[4]];
+    let proof = data.prove_consistency(3, 4);
+    let finding = witness_consistency(alloc, &proof, &data, &old, &new)?;
+    assert!(rt; shows(&finding, &branch(2, 5), &branch(3, 4)));
+    Ok(())
+}
+
+// Each growth of a finding refused in turn: an error, until the finding comes at last.
+#[test]
+fn consistency_with_each_growth_refused(rt: HostRuntime) -> Result<(), Fail> {
+    let old: [&[u8]; 3] = [&[1], &[2], &[3]];
+    let new: [&[u8]; 3] = [&[1], &[2], &[1, 2]];
+    let data = old_roots(rt.alloc(), 4, 3)?;
+    let proof = data.prove_consistency(3, 3);
+    let mut refused = 0u32;
+    for growths in 0..32u64 {
+        let alloc = Refusing::after(rt.alloc(), growths);
+        match witness_consistency(&alloc, &proof, &data, &old, &new) {
+            Ok(finding) => assert!(rt; shows(&finding, &[0, 3], &[0, 1, 2])),
+            Err(AllocError) => refused = refused.saturating_add(1),
+        }
+        let alloc = Refusing::after(rt.alloc(), growths);
+        match witness_consistency(&alloc, &proof, &data, &old, &old) {
+            Ok(finding) => assert!(rt; matches!(finding, Finding::Holds)),
+            Err(AllocError) => refused = refused.saturating_add(1),
+        }
+    }
+    assert!(rt; refused > 0 && refused < 60);
     Ok(())
 }
 
