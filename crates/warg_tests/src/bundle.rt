@@ -9,8 +9,8 @@ use std::test::Fail;
 use warg_check::{CheckError, check_consistency, check_inclusion};
 use warg_crypto::{Hash, Sha256};
 use warg_log::{
-    BundleError, ConsistencyProofError, DecodeError, EncodeError, InclusionProofError, LogBuilder,
-    LogData, LogProofBundle, Node, SparseLogData, VecLog,
+    BundleError, ConsistencyProof, ConsistencyProofError, DecodeError, EncodeError, InclusionProof,
+    InclusionProofError, LogBuilder, LogData, LogProofBundle, Node, SparseLogData, VecLog,
 };
 use warg_protobuf::WireError;
 
@@ -116,6 +116,31 @@ fn refusals_of_bundles(rt: HostRuntime) -> Result<(), Fail> {
 }
 
 #[test]
+fn a_bundle_of_a_node_above_32_bits(rt: HostRuntime) -> Result<(), Fail> {
+    let alloc = rt.alloc();
+    let held = vec![in alloc; (Node((1 << 31) - 1), hash_of(alloc, "Z")?)]?;
+    let data: SparseLogData<Sha256, Vec<u8>> = SparseLogData::from(held);
+    let proof = data.prove_inclusion(Node(1 << 32), (1 << 31) + 1);
+    let bundle = LogProofBundle::bundle(alloc, Vec::new(alloc), vec![in alloc; proof]?, &data)?;
+    assert!(rt; bundle.encode(alloc) == Err(EncodeError::TooLarge));
+    assert!(rt; matches!(bundle.to_message(alloc), Err(EncodeError::TooLarge)));
+    assert!(rt; bundle.inclusion_proof(0) == Some(proof));
+    Ok(())
+}
+
+#[test]
+fn verdicts_on_consistency_that_can_t_be_evaluated(rt: HostRuntime) -> Result<(), Fail> {
+    let alloc = rt.alloc();
+    let (u2, u3) = (hash_of(alloc, "U2")?, hash_of(alloc, "U3")?);
+    let bytes = bytes_of(alloc, "08021203030101")?;
+    for at in [0, 1, 2] {
+        assert!(rt; check_consistency(alloc, &bytes, at, &u2, &u3) == Ok(false));
+    }
+    assert!(rt; check_consistency(alloc, &bytes, 3, &u2, &u3) == Err(CheckError::NoSuchProof));
+    Ok(())
+}
+
+#[test]
 fn faults_of_bundles(rt: HostRuntime) -> Result<(), Fail> {
     let alloc = rt.alloc();
     for (bytes, fault) in [
@@ -208,6 +233,133 @@ fn bundles_with_each_growth_refused(rt: HostRuntime) -> Result<(), Fail> {
         }
     }
     assert!(rt; refused > 0 && refused < 16);
+    Ok(())
+}
+
+#[test]
+fn bundling_with_each_growth_refused(rt: HostRuntime) -> Result<(), Fail> {
+    let alloc = rt.alloc();
+    let mut log: VecLog<Sha256, Vec<u8>> = VecLog::default(alloc);
+    log.push(&vec![in alloc;]?)?;
+    log.push(&vec![in alloc; 0]?)?;
+    log.push(&vec![in alloc; 0x10]?)?;
+    let want = bytes_of(alloc, BOTH)?;
+    let mut refused = 0u32;
+    for growths in 0..24u64 {
+        let ample = Refusing::after(alloc, 64);
+        let scarce = Refusing::after(alloc, growths);
+        let consistencies = vec![in &ample; log.prove_consistency(2, 3)]?;
+        let inclusions = vec![in &ample;
+            log.prove_inclusion(Node(0), 3),
+            log.prove_inclusion(Node(4), 3),
+        ]?;
+        match LogProofBundle::bundle(&scarce, consistencies, inclusions, &log) {
+            Ok(bundle) => {
+                assert!(rt; bundle.encode(&ample)?.as_slice() == want.as_slice());
+            }
+            Err(fault) => {
+                assert!(rt; fault == BundleError::Memory);
+                assert_eq!(rt; scarce.left(), 0);
+                refused = refused.saturating_add(1);
+            }
+        }
+        let checkpoint = log.checkpoint();
+        assert_eq!(rt; [checkpoint.length(), log.as_ref().len()], [3, 5]);
+        assert!(rt; checkpoint.root() == hash_of(alloc, "U3")?);
+        assert!(rt; log.hash_for(Node(1)) == Some(hash_of(alloc, "U2")?));
+    }
+    assert!(rt; refused > 0 && refused < 24, "{refused}");
+    Ok(())
+}
+
+// What bundling these proofs over no data is refused for, where every growth is.
+fn refusal_without_memory(
+    rt: &HostRuntime,
+    consistencies: &[ConsistencyProof<Sha256, Vec<u8>>],
+    inclusions: &[InclusionProof<Sha256, Vec<u8>>],
+) -> Result<Option<BundleError>, Fail> {
+    let ample = Refusing::after(rt.alloc(), 2);
+    let none = Refusing::after(rt.alloc(), 0);
+    let data: SparseLogData<Sha256, Vec<u8>> = SparseLogData::from(Vec::new(rt.alloc()));
+    let consistencies = Vec::from_slice(&ample, consistencies)?;
+    let inclusions = Vec::from_slice(&ample, inclusions)?;
+    match LogProofBundle::bundle(&none, consistencies, inclusions, &data) {
+        Ok(_) => Ok(None),
+        Err(fault) => Ok(Some(fault)),
+    }
+}
+
+#[test]
+fn early_refusals_without_memory(rt: HostRuntime) -> Result<(), Fail> {
+    let data: SparseLogData<Sha256, Vec<u8>> = SparseLogData::from(Vec::new(rt.alloc()));
+    let consistency = |old, new| data.prove_consistency(old, new);
+    let inclusion = |node, length| data.prove_inclusion(Node(node), length);
+    let order = BundleError::Consistency(ConsistencyProofError::PointsOutOfOrder);
+    let too_new = BundleError::Inclusion(InclusionProofError::LeafTooNew);
+    let different = [consistency(0, 5), consistency(1, 4)];
+    let rows: [(
+        &[ConsistencyProof<Sha256, Vec<u8>>],
+        &[InclusionProof<Sha256, Vec<u8>>],
+        BundleError,
+    ); 7] = [
+        (&[], &[], BundleError::NoProofs),
+        (&[], &[inclusion(2, 1)], too_new),
+        (&[], &[inclusion(0, 1 << 32)], BundleError::TooLarge),
+        (&different, &[], BundleError::DifferentRoots),
+        (
+            &[consistency(0, 5)],
+            &[inclusion(8, 4)],
+            BundleError::DifferentRoots,
+        ),
+        (&[consistency(3, 2)], &[], order),
+        (&[], &[inclusion(0, 2)], BundleError::Memory),
+    ];
+    for (consistencies, inclusions, want) in rows {
+        assert!(rt; refusal_without_memory(&rt, consistencies, inclusions)? == Some(want));
+    }
+    Ok(())
+}
+
+#[test]
+fn a_bundle_too_large_to_write_without_memory(rt: HostRuntime) -> Result<(), Fail> {
+    let ample = Refusing::after(rt.alloc(), 24);
+    let none = Refusing::after(rt.alloc(), 0);
+    let held = vec![in rt.alloc(); (Node((1 << 31) - 1), hash_of(rt.alloc(), "Z")?)]?;
+    let data: SparseLogData<Sha256, Vec<u8>> = SparseLogData::from(held);
+    let proof = data.prove_inclusion(Node(1 << 32), (1 << 31) + 1);
+    let bundle = LogProofBundle::bundle(&ample, Vec::new(&ample), vec![in &ample; proof]?, &data)?;
+    assert!(rt; bundle.encode(&none) == Err(EncodeError::TooLarge));
+    assert!(rt; matches!(bundle.to_message(&none), Err(EncodeError::TooLarge)));
+    assert!(rt; bundle.inclusion_proof(0) == Some(proof));
+    Ok(())
+}
+
+#[test]
+fn texts_of_bundling_faults(rt: HostRuntime) -> Result<(), Fail> {
+    let rows = [
+        (
+            BundleError::Consistency(ConsistencyProofError::PointsOutOfOrder),
+            "tries to prove later value comes before earlier",
+        ),
+        (
+            BundleError::Inclusion(InclusionProofError::LeafTooNew),
+            "leaf newer than when it should be included",
+        ),
+        (
+            BundleError::DifferentRoots,
+            "Bundle must contain proofs for the same root",
+        ),
+        (
+            BundleError::NoProofs,
+            "A bundle can not be made from no proofs",
+        ),
+        (BundleError::TooLarge, "number does not fit in 32 bits"),
+        (BundleError::HashNotFound, "Necessary hash not found"),
+        (BundleError::Memory, "out of memory"),
+    ];
+    for (fault, want) in rows {
+        assert_eq!(rt; fault.to_string(rt.alloc())?.as_str(), want);
+    }
     Ok(())
 }
 

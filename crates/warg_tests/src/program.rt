@@ -1,6 +1,6 @@
 //! The program over readers and writers: its lines, its errors, and growths refused.
 
-use crate::digests::{L0, U2, U3, Z};
+use crate::digests::{L0, U2, U3, Z, bytes_of};
 use refusing::Refusing;
 use std::io::{Error, ErrorKind, Read, Result as IoResult, Write};
 use std::test::Fail;
@@ -146,6 +146,87 @@ fn verdicts(rt: HostRuntime) -> Result<(), Fail> {
     Ok(())
 }
 
+// The expected bytes are those that a Python program writes after the same definitions, with hashlib.
+#[test]
+fn bundles_of_one_proof(rt: HostRuntime) -> Result<(), Fail> {
+    let rows = [
+        ("0 1", "08011a0100"),
+        ("00000000000000000000 1", "08011a0100"),
+        ("0 2", "0802 1a0100 2224 0802 1220 L1"),
+        ("0 3", "0803 1a0100 2224 0802 1220 L1 2224 0804 1220 L2"),
+        ("1 3", "0803 1a0101 2224 0804 1220 L2"),
+        ("2 3", "0803 1a0102 2222 1220 L0 2224 0804 1220 L2"),
+        ("4 3", "0803 1a0104 2224 0801 1220 U2"),
+        ("3 4", "0804 1a0103"),
+    ];
+    for (words, bytes) in rows {
+        let digits = hex::encode(rt.alloc(), &bytes_of(rt.alloc(), bytes)?)?;
+        let line = format!(in rt.alloc(); "push -\npush 00\npush 10\nbundle {words}")?;
+        let want = format!(in rt.alloc(); "node 0\nnode 2\nnode 4\nbundle {digits}\n")?;
+        let (text, good) = written(&rt, line.as_bytes())?;
+        assert_eq!(rt; text.as_slice(), want.as_bytes(), "at {words}");
+        assert!(rt; good);
+    }
+    let (text, good) = written(&rt, b"bundle 0 1")?;
+    assert_eq!(rt; text.as_slice(), b"bundle 08011a0100\n".as_slice());
+    assert!(rt; good);
+    Ok(())
+}
+
+#[test]
+fn bundles_refused_and_bad_lines(rt: HostRuntime) -> Result<(), Fail> {
+    let rows = [
+        ("bundle 0 0", "refused leaf too new\n"),
+        ("bundle 4 2", "refused leaf too new\n"),
+        ("bundle 8589934592 4294967296", "refused leaf too new\n"),
+        (
+            "bundle 18446744073709551615 9223372036854775808",
+            "refused leaf too new\n",
+        ),
+        ("bundle 0 4294967295", "refused hash not known\n"),
+        ("bundle 0 4294967296", "refused too large\n"),
+        ("bundle 4294967296 2147483649", "refused hash not known\n"),
+        (
+            "bundle 9223372036854775807 9223372036854775808",
+            "refused too large\n",
+        ),
+        ("bundle 0 2", "refused hash not known\n"),
+        ("bundle", "bad line 1\n"),
+        ("bundle 0", "bad line 1\n"),
+        ("bundle 0 1 1", "bad line 1\n"),
+        ("bundle  0 1", "bad line 1\n"),
+        ("bundle 0 1 ", "bad line 1\n"),
+        ("Bundle 0 1", "bad line 1\n"),
+        ("bundles 0 1", "bad line 1\n"),
+        ("bundle - 1", "bad line 1\n"),
+        ("bundle 0 -", "bad line 1\n"),
+        ("bundle 0x0 1", "bad line 1\n"),
+        ("bundle 000000000000000000000 1", "bad line 1\n"),
+        ("bundle 18446744073709551616 1", "bad line 1\n"),
+        ("bundle 0 9223372036854775809", "bad line 1\n"),
+    ];
+    for (line, want) in rows {
+        let (text, good) = written(&rt, line.as_bytes())?;
+        assert_eq!(rt; text.as_slice(), want.as_bytes(), "at {line}");
+        assert_eq!(rt; good, !want.contains("bad line"));
+    }
+    Ok(())
+}
+
+#[test]
+fn bundles_and_verdicts_on_them(rt: HostRuntime) -> Result<(), Fail> {
+    let input = format!(in rt.alloc();
+        "push -\npush 00\npush 10\nconsistent 2 3\nconsistent 0 3\nconsistent 3 2\nconsistent 1 4\nbundle 0 1\nverify {L0} - 08011a0100\nverify {L0} 00 08011a0100\nverify {L0} - 0b\nverify {L0} - 0801\n"
+    )?;
+    let want = format!(in rt.alloc();
+        "node 0\nnode 2\nnode 4\nroots {U2} {U3}\nrefused old length zero\nrefused points out of order\nrefused hash not known\nbundle 08011a0100\ntrue\nfalse\nrefused not decoded\nrefused no such proof\n"
+    )?;
+    let (text, good) = written(&rt, input.as_bytes())?;
+    assert_eq!(rt; text.as_slice(), want.as_bytes());
+    assert!(rt; good);
+    Ok(())
+}
+
 // Gives one byte at a read, and an error at the read of this number, from 1.
 #[derive(Drop)]
 struct Bytewise<'a> {
@@ -263,10 +344,10 @@ fn an_empty_text_is_only_flushed(rt: HostRuntime) -> Result<(), Fail> {
 #[test]
 fn each_growth_refused_in_turn(rt: HostRuntime) -> Result<(), Fail> {
     let input: &[u8] =
-        b"push -\npush 0011\nlog\ninclude 0 2 -\ninclude 0 9 -\nconsistent 1 2\nconsistent 2 1\nbogus\n";
+        b"push -\npush 0011\nlog\ninclude 0 2 -\ninclude 0 9 -\nconsistent 1 2\nconsistent 2 1\nbundle 0 2\nbundle 0 9\nbundle 0 0\nbogus\n";
     let (want, _) = written(&rt, input)?;
     let mut refused = 0u64;
-    for growths in 0..60u64 {
+    for growths in 0..100u64 {
         let alloc = Refusing::after(rt.alloc(), growths);
         let mut reader = input;
         let mut writer = Vec::new(rt.alloc());
@@ -283,7 +364,7 @@ fn each_growth_refused_in_turn(rt: HostRuntime) -> Result<(), Fail> {
             }
         }
     }
-    assert!(rt; refused >= 5 && refused < 60, "{refused}");
+    assert!(rt; refused >= 5 && refused < 100, "{refused}");
     Ok(())
 }
 
