@@ -6,6 +6,7 @@ use Rattle.warg_log.specs.Nodes.{node_over}
 use Rattle.warg_log.specs.Tree.{leaves_of, root_of, root_over, own_digest}
 use Rattle.warg_log.specs.Cut.{cut_over}
 use Rattle.warg_log.specs.Consistency.{consistency, LeadsTo, IsConsistent}
+use Rattle.warg_log.proofs.LawLemmas.{root_over-one}
 use Rattle.warg_log.proofs.MetLemmas.{consistency-only, consistency-then}
 use Rattle.warg_witness.specs.Ranges.{IsPart, IsAligned, IsNodeRange, IsBalancedRoot}
 use Rattle.warg_witness.specs.Claims.{IsConsistencyMet}
@@ -45,6 +46,11 @@ leaf_at H bytes tree entries i e is within at =
 pub leaf_input : {V : Type 0} (bytes : V → List ℕ) (entries : List V) (i : ℕ) (e : V) (made : List ℕ) → i < length entries → e ≡ get_or entries i e → made ≡ 0 ∷ bytes e
     → made ≡ 0 ∷ get_or (map bytes entries) i []
 leaf_input bytes entries i e made within at is = is ∙ ap (λ v. 0 ∷ v) (sym (entry_at bytes entries i e within at))
+
+-- the digest that a tree holds for a leaf
+pub leaf_is : (H : List ℕ → List ℕ) (ds : List (List ℕ)) (d v : List ℕ) (a n place : ℕ) → a ≡ place → n ≡ 1 → place < length ds → d ≡ root_over H ds a n
+    → get_or ds place [] ≡ H (0 ∷ v) → d ≡ H (0 ∷ v)
+leaf_is H ds d v a n place start one within is leaf = is ∙ rw (start, one) (root_over-one H ds place within) ∙ leaf
 
 -- an evaluation that leads to a tree's root, with a digest at a node, and the tree have the root in common
 pub have_tree_root : (H : List ℕ → List ℕ) (F : ℕ → Option (List ℕ)) (x y : List ℕ) (ds : List (List ℕ)) (s w a n : ℕ) → cut_over H F x s w 0 (length ds) ≡ Some (root_of H ds)

@@ -1,5 +1,6 @@
 pub mod RangeLemmas
 pub mod DescentLemmas
+pub mod HashLemmas
 pub mod PlainLemmas
 pub mod ValueLemmas
 pub mod AgreementLemmas

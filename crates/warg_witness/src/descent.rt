@@ -32,13 +32,6 @@ impl<D> Parting<D> {
     }
 }
 
-/// Whether two hashes are the same.
-pub(crate) fn is_equal<D>(hash: &Hash<D>, other: &Hash<D>) -> bool
-    ensures { IsTrue result ↔ (hash.now ≡ other.now) }
-{
-    hash == other
-}
-
 // Whether two branches have the same digests below them.
 fn is_same<D>(left: &Hash<D>, other_left: &Hash<D>, right: &Hash<D>, other_right: &Hash<D>) -> bool
     ensures same { IsTrue result ↔ ((left.now ≡ other_left.now) × (right.now ≡ other_right.now)) }

@@ -13,7 +13,7 @@ mod consistency;
 
 use crate::collision::{Collision, Finding, branch_bytes, leaf_bytes};
 use crate::compare::{LeafInputs, leaf_inputs};
-use crate::descent::{Parting, descend, is_equal};
+use crate::descent::{Parting, descend};
 use crate::plain::{plain_bytes, plain_digest, plain_root, plain_tree};
 pub use consistency::witness_consistency;
 use std::alloc::{AllocError, Allocator};
@@ -53,7 +53,7 @@ fn meet<D: SupportedDigest, V: VisitBytes, L: LogData<D, V>, A: Allocator + Copy
         return Ok(None);
     };
     let tree = plain_tree(alloc, entries)?;
-    if !is_equal(&root, &plain_root(&tree)) {
+    if root != plain_root(&tree) {
         return Ok(None);
     }
     let target = proof.leaf().interval();
@@ -192,7 +192,7 @@ pub fn witness_hash<D: SupportedDigest, V: VisitBytes, L: LogData<D, V>, A: Allo
     let Some(met) = meet(alloc, proof, hashes, &hash, entries)? else {
         return Ok(Finding::NotMet);
     };
-    if is_equal(&hash, &met.plain) {
+    if hash == met.plain {
         return Ok(Finding::Holds);
     }
     Ok(Finding::Collision(part(alloc, &met.parting)?))
@@ -234,7 +234,7 @@ pub fn agree_value<
     let Ok(second_root) = proof.evaluate_hash(second_hashes, second_hash.copied()) else {
         return Ok(Finding::NotMet);
     };
-    if !is_equal(&first_root, &second_root) {
+    if first_root != second_root {
         return Ok(Finding::NotMet);
     }
     let Some(inputs) = leaf_inputs(alloc, first_value, second_value)? else {

@@ -13,7 +13,7 @@ ghost use Rattle.warg_witness.specs.Meeting.{IsConsistencyMeeting, LeadsToBoth};
 
 use crate::collision::{Collision, Finding, leaf_bytes};
 use crate::compare::leaf_inputs;
-use crate::descent::{Parting, descend, is_equal};
+use crate::descent::{Parting, descend};
 use crate::log::part;
 use crate::plain::{plain_digest, plain_root, plain_tree};
 use std::alloc::{AllocError, Allocator};
@@ -54,11 +54,11 @@ fn meet<D: SupportedDigest, V: VisitBytes, L: LogData<D, V>, A: Allocator + Copy
         return Ok(None);
     };
     let old_tree = plain_tree(alloc, old)?;
-    if !is_equal(&old_root, &plain_root(&old_tree)) {
+    if old_root != plain_root(&old_tree) {
         return Ok(None);
     }
     let new_tree = plain_tree(alloc, new)?;
-    if !is_equal(&new_root, &plain_root(&new_tree)) {
+    if new_root != plain_root(&new_tree) {
         return Ok(None);
     }
     Ok(Some(Trees {
@@ -84,10 +84,7 @@ fn is_same_entry<D: SupportedDigest, V: VisitBytes, A: Allocator + Copy>(
     ensures { IfOk result (λ same. IsTrue same ↔ (V.bytes old.now ≡ V.bytes new.now)) }
 {
     let leaf = Interval::new(place, 1);
-    if !is_equal(
-        &plain_digest(&trees.old, &leaf),
-        &plain_digest(&trees.new, &leaf),
-    ) {
+    if plain_digest(&trees.old, &leaf) != plain_digest(&trees.new, &leaf) {
         return Ok(false);
     }
     Ok(leaf_inputs(alloc, old, new)?.is_none())

@@ -1,6 +1,7 @@
-use Rattle.std.proofs.Common.{◌≡◌, ◌^◌, List, ℕ, refl, ◌∙◌, ap}
+use Rattle.std.proofs.Common.{Some, sym, ◌≡◌, ◌^◌, List, ℕ, ◌∙◌, ap}
 use Rattle.warg_log.specs.Nodes.{height_of, start_of}
 use Rattle.warg_log.specs.declared.node.Node.{Node}
+use Rattle.warg_witness.proofs.HashLemmas.{ne_false}
 use Rattle.warg_witness.proofs.PlainLemmas.{whole_aligned}
 use Rattle.warg_witness.proofs.AgreementLemmas.{have_both, agreement_shown, agreement_placed_as}
 use Rattle.warg_witness.proofs.log.agree_value.Goals as goal
@@ -13,7 +14,7 @@ descend-parting-requires-clause-one g c =
     let leaf = c.leaf.ensures in
     let first = rw c.copied.ensures at c.in-Ok.ensures.ok.1 in
     let second = rw c.copied-2.ensures at c.in-Ok-evaluate_hash.ensures.ok.1 in
-    have_both _ _ _ _ _ _ _ _ _ _ _ _ _ first second (c.if-not-is_equal.ensures.0 refl)
+    have_both _ _ _ _ _ _ _ _ _ _ _ _ _ first second (ne_false _ _ c.if-ne.ensures)
     (c.interval-target.ensures.start ∙ ap (λ (x : Node). start_of x.0) leaf) (c.interval-target.ensures.count ∙ ap (λ (x : Node). 2 ^ height_of x.0) leaf)
     c.new-whole.ensures.start (c.new-whole.ensures.count ∙ c.log_length.ensures.value)
 
@@ -34,3 +35,10 @@ returns-clause-collision g c k is =
     (c.interval-target.ensures.start ∙ ap (λ (x : Node). start_of x.0) leaf) (c.interval-target.ensures.count ∙ ap (λ (x : Node). 2 ^ height_of x.0) leaf) parting inputs).placed in
     let same : ◌≡◌ {A = List ℕ × List ℕ} k c.in_ok-collide.field-0 = cc in
     agreement_placed_as _ _ _ _ _ _ _ _ k (same ∙ c.in_ok-collide.ensures) shown
+
+pub returns-clause-not_met : goal.returns-clause-not_met
+returns-clause-not_met g c =
+    let first = rw (c.copied.ensures, c.hash_leaf-first_hash.ensures) at c.in-Ok.ensures.ok.1 in
+    let second = rw (c.copied-2.ensures, c.hash_leaf-second_hash.ensures) at c.in-Ok-evaluate_hash.ensures.ok.1 in
+    let same = ne_false _ _ c.if-ne.ensures in
+    (λ e. absurd (cc), λ none. absurd (none (record { root = c.in-Ok.first_root; exists = c.in-Ok.ensures.ok.0; first_is = first; second_is = second ∙ ap Some (sym same) })))

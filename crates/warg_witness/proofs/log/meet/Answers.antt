@@ -1,8 +1,9 @@
-use Rattle.std.proofs.Common.{◌≡◌, ℕ, ◌^◌, List, Some, length, map, refl, sym, ◌∙◌, ap}
+use Rattle.std.proofs.Common.{◌≡◌, ℕ, ◌^◌, List, Some, length, map, sym, ◌∙◌, ap}
 use Rattle.std.proofs.lemmas.List.{length-map}
 use Rattle.warg_log.specs.Nodes.{height_of, start_of}
 use Rattle.warg_log.specs.Tree.{root_of}
 use Rattle.warg_log.specs.declared.node.Node.{Node}
+use Rattle.warg_witness.proofs.HashLemmas.{ne_false}
 use Rattle.warg_witness.proofs.PlainLemmas.{whole_aligned}
 use Rattle.warg_witness.proofs.ValueLemmas.{have_root, length-leaves}
 use Rattle.warg_witness.proofs.log.meet.Goals as goal
@@ -17,7 +18,7 @@ count_is bytes entries n m count is = length-map entries bytes ∙ count ∙ is
 pub descend-parting-requires-clause-one : goal.descend-parting-requires-clause-one
 descend-parting-requires-clause-one g c =
     let leaf = c.leaf.ensures in
-    let root = c.if-not-is_equal.ensures.0 refl in
+    let root = ne_false _ _ c.if-ne.ensures in
     let ok = c.in-Ok.ensures.ok in
     let evaluation = rw c.copied.ensures at ok.1 in
     let count = count_is (λ e. g.V.VisitBytes.bytes e) _ _ _ c.if-entries-log_length.false c.log_length.ensures.value in
@@ -28,7 +29,7 @@ descend-parting-requires-clause-one g c =
 
 pub returns-clause-met : goal.returns-clause-met
 returns-clause-met g c =
-    let root = c.if-not-is_equal.ensures.0 refl in
+    let root = ne_false _ _ c.if-ne.ensures in
     let ok = c.in-Ok.ensures.ok in
     let evaluation = rw c.copied.ensures at ok.1 in
     record {
