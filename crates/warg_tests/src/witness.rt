@@ -143,6 +143,31 @@ fn a_digest_that_is_always_the_same(rt: HostRuntime) -> Result<(), Fail> {
     Ok(())
 }
 
+// Values are compared by their bytes, in whichever pieces these come: under a digest that is always the same
+// every claim is met, and only the same bytes make it true.
+#[test]
+fn values_in_other_pieces(rt: HostRuntime) -> Result<(), Fail> {
+    let alloc = rt.alloc();
+    let mut log: VecLog<Flat, (&str, &str)> = VecLog::default(alloc);
+    let entries = [("ab", "cd")];
+    push_all(&mut log, &entries)?;
+    let proof = log.prove_inclusion(Node(0), 1);
+    for same in [("ab", "cd"), ("", "abcd"), ("abcd", ""), ("abc", "d")] {
+        let finding = witness_value(alloc, &proof, &log, &same, &entries)?;
+        assert!(rt; matches!(finding, Finding::Holds));
+    }
+    for (value, bytes) in [
+        (("ab", "c"), b"\0abc".as_slice()),
+        (("abc", "de"), b"\0abcde".as_slice()),
+        (("a", "bce"), b"\0abce".as_slice()),
+        (("", ""), b"\0".as_slice()),
+    ] {
+        let finding = witness_value(alloc, &proof, &log, &value, &entries)?;
+        assert!(rt; shows(&finding, bytes, b"\0abcd"));
+    }
+    Ok(())
+}
+
 // The entries of an honest log, in which some are the same.
 const TEXTS: [&str; 25] = [
     "93", "67", "30", "37", "23", "75", "57", "89", "76", "42", "9", "14", "40", "59", "26", "66",

@@ -9,3 +9,4 @@ pub mod EntryLemmas
 pub mod ConsistencyLemmas
 pub mod PureLemmas
 pub mod CollisionLemmas
+pub mod CompareLemmas

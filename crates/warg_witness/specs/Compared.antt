@@ -1,24 +1,24 @@
 -- Values compared by their bytes.
-use Rattle.std.specs.Prelude.{◌≡◌, ℕ, ◌<◌, List, [], ◌∷◌, length, take, Option, Some, None, slice_index_or}
+use Rattle.std.specs.Prelude.{◌≡◌, ℕ, ◌<◌, List, [], ◌∷◌, length, take, drop, Option, Some, None, slice_index_or}
 use Rattle.warg_witness.specs.Claims.{Begins}
-use Rattle.warg_witness.specs.Inputs.{plain_input}
-use Rattle.warg_witness.specs.declared.compare.LeafInputs.{LeafInputs}
 
--- Nothing for the same bytes, else what the digest function takes at their leaves.
-abbrev pub AreLeafInputs : {A : Type 0} → List ℕ → List ℕ → Option (LeafInputs A) → Type 0
-AreLeafInputs first second None = first ≡ second
-AreLeafInputs first second (Some inputs) = (inputs.first.items ≡ 0 ∷ first) × (inputs.second.items ≡ 0 ∷ second) × (first ≡ second → ⊥)
+-- A piece stands at a place of some bytes.
+abbrev pub StandsAt : ℕ → List ℕ → List ℕ → Type 0
+StandsAt place piece bytes = take (length piece) (drop place bytes) ≡ piece
+
+-- A search written as one list, a place, the length of a piece, the piece and bytes: the piece stands there.
+abbrev pub IsFound : List ℕ → Type 0
+IsFound (place ∷ count ∷ xs) = StandsAt place (take count xs) (drop count xs)
+IsFound _ = ⊥
+
+-- Bytes and their front written as one list, the bytes' length, the bytes and the front: it stands there.
+abbrev pub IsFront : List ℕ → Type 0
+IsFront (count ∷ xs) = StandsAt 0 (drop count xs) (take count xs)
+IsFront [] = ⊥
 
 -- The value is the entry of a lone leaf.
 abbrev pub IsAt : List ℕ → List (List ℕ) → ℕ → ℕ → Type 0
 IsAt value entries start count = (count ≡ 1) × (slice_index_or entries start [] ≡ value)
-
--- Nothing where the value is the entry of the range's lone leaf, else what the digest function takes there
--- for the value, and in the tree over the entries.
-abbrev pub AreClaimedInputs : {A : Type 0} → (List ℕ → List ℕ) → List ℕ → List (List ℕ) → ℕ → ℕ → Option (LeafInputs A) → Type 0
-AreClaimedInputs H value entries start count None = IsAt value entries start count
-AreClaimedInputs H value entries start count (Some inputs) =
-    (inputs.first.items ≡ 0 ∷ value) × (inputs.second.items ≡ plain_input H entries start count) × (IsAt value entries start count → ⊥)
 
 -- The first place at which the new entries have another entry than the old ones.
 pub record DiffersFirst (old new : List (List ℕ)) (place : ℕ) : Type 0 where

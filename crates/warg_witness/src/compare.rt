@@ -1,32 +1,98 @@
-//! Values compared by their bytes.
+//! Values compared by their bytes, without a copy of them.
 
-ghost use Rattle.std.specs.Prelude.{IfOk};
-ghost use Rattle.warg_witness.specs.Compared.{AreLeafInputs};
+ghost use Rattle.std.specs.Prelude.{◌≡◌, ℕ, ◌↔◌, length, IfOk, IsTrue};
+ghost use Rattle.warg_witness.specs.Compared.{StandsAt};
 
-use crate::collision::leaf_bytes;
-use std::alloc::{AllocError, Allocator};
-use warg_crypto::VisitBytes;
+use std::alloc::AllocError;
+use warg_crypto::{ByteVisitor, VisitBytes};
 
-/// What the digest function takes at two leaves.
+// Looks for a piece at one place of the bytes that it takes.
 #[derive(Drop)]
-pub(crate) struct LeafInputs<A: Allocator> {
-    pub first: Vec<u8, A>,
-    pub second: Vec<u8, A>,
+struct Window<'a> {
+    // How many bytes are still to pass.
+    skip: usize,
+    // What is left of the piece.
+    rest: &'a [u8],
+    // Whether the bytes so far are the piece's.
+    same: bool,
 }
 
-/// What the digest function takes at the leaves of two values, or None where the values have the same
-/// bytes.
-pub(crate) fn leaf_inputs<V: VisitBytes, A: Allocator + Copy>(
-    alloc: A,
-    first: &V,
-    second: &V,
-) -> Result<Option<LeafInputs<A>>, AllocError>
-    ensures { IfOk result (AreLeafInputs (V.bytes first.now) (V.bytes second.now)) }
-{
-    let first = leaf_bytes(alloc, first)?;
-    let second = leaf_bytes(alloc, second)?;
-    if first.as_slice() == second.as_slice() {
-        return Ok(None);
+impl ByteVisitor for Window<'_> {
+    ghost use Rattle.std.specs.Prelude.{◌↔◌, ◌++◌, List, ℕ, IsTrue};
+    ghost use Rattle.warg_witness.specs.Compared.{StandsAt, IsFound};
+
+    // Whatever comes next, the piece is found exactly where the bytes so far are the piece's and its rest follows.
+    ghost stands_for = { λ w m. (more : List ℕ) → (IsTrue w.same × StandsAt w.skip w.rest.now more) ↔ IsFound (m ++ more) };
+
+    fn visit_bytes(&mut self, bytes: &[u8]) {
+        let passed = self.skip.min(bytes.len());
+        let fresh = &bytes[passed..];
+        let count = fresh.len().min(self.rest.len());
+        self.same = self.same && self.rest[..count] == fresh[..count];
+        self.rest = &self.rest[count..];
+        self.skip -= passed;
     }
-    Ok(Some(LeafInputs { first, second }))
+}
+
+// Whether a piece stands at a place of a value's bytes.
+fn stands_at<V: VisitBytes>(value: &V, place: usize, piece: &[u8]) -> bool
+    ensures { IsTrue result ↔ StandsAt place piece.now (V.bytes value.now) }
+{
+    let mut window = Window {
+        skip: place,
+        rest: piece,
+        same: true,
+    };
+    value.visit(&mut window);
+    window.same && window.rest.is_empty()
+}
+
+// Looks for the bytes that it takes at the front of another value's.
+#[derive(Drop)]
+struct Front<'a, V> {
+    of: &'a V,
+    // How many bytes came, unless they are more than can be counted.
+    count: Option<usize>,
+    // Whether they stand at the front.
+    same: bool,
+}
+
+impl<V: VisitBytes> ByteVisitor for Front<'_, V> {
+    ghost use Rattle.std.specs.Prelude.{◌↔◌, ◌++◌, List, ℕ, IsTrue, IfSome};
+    ghost use Rattle.warg_witness.specs.Compared.{StandsAt, IsFront};
+
+    // Whatever comes next, all is a front exactly where the bytes so far are one and the rest stands behind them.
+    ghost stands_for = { λ f m. IfSome f.count (λ count. (more : List ℕ) → (IsTrue f.same × StandsAt count more (V.bytes f.of.now)) ↔ IsFront (m ++ more)) };
+
+    fn visit_bytes(&mut self, bytes: &[u8]) {
+        let Some(count) = self.count else {
+            return;
+        };
+        self.same = self.same && stands_at(self.of, count, bytes);
+        self.count = count.checked_add(bytes.len());
+    }
+}
+
+// Whether the bytes of `value` begin with those of `front`. Refused only where these can't be counted.
+fn begins_with<V: VisitBytes>(value: &V, front: &V) -> Result<bool, AllocError>
+    ensures { IfOk result (λ begins. IsTrue begins ↔ StandsAt 0 (V.bytes front.now) (V.bytes value.now)) }
+{
+    let mut visitor = Front {
+        of: value,
+        count: Some(0),
+        same: true,
+    };
+    front.visit(&mut visitor);
+    match visitor.count {
+        Some(_) => Ok(visitor.same),
+        None => Err(AllocError),
+    }
+}
+
+/// Whether two values have the same bytes, for a look at each piece of the one beside each of the other. It
+/// takes no memory, and refuses only values of more than `usize::MAX` bytes, of which no copy could be had.
+pub(crate) fn have_same_bytes<V: VisitBytes>(first: &V, second: &V) -> Result<bool, AllocError>
+    ensures { IfOk result (λ same. IsTrue same ↔ (V.bytes first.now ≡ V.bytes second.now)) }
+{
+    Ok(begins_with(first, second)? && begins_with(second, first)?)
 }

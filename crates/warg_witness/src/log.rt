@@ -1,9 +1,10 @@
 //! Witnesses for the log's proofs.
 
-ghost use Rattle.std.specs.Prelude.{◌≡◌, ℕ, ◌+◌, ◌^◌, ◌≤◌, ◌↔◌, List, [], ◌∷◌, length, map, None, Ok, IfOk, MatchOption};
+ghost use Rattle.std.specs.Prelude.{◌≡◌, ℕ, ◌+◌, ◌^◌, ◌≤◌, ◌↔◌, List, [], ◌∷◌, length, map, None, Ok, IfOk, IsTrue, MatchOption};
 ghost use Rattle.warg_log.specs.Tree.{leaves_of};
 ghost use Rattle.warg_witness.specs.Ranges.{IsNodeRange};
-ghost use Rattle.warg_witness.specs.Compared.{AreClaimedInputs};
+ghost use Rattle.warg_witness.specs.Compared.{IsAt};
+ghost use Rattle.warg_witness.specs.Inputs.{plain_input};
 ghost use Rattle.warg_witness.specs.Claims.{IsMet, IsEntry, IsRootBelow, IsAgreement};
 ghost use Rattle.warg_witness.specs.Placed.{IsValuePlaced, IsHashPlaced, IsAgreementPlaced};
 ghost use Rattle.warg_witness.specs.Parting.{Collides, PartsAtBranch, pair_of};
@@ -12,7 +13,7 @@ ghost use Rattle.warg_witness.specs.Meeting.{IsMeeting};
 mod consistency;
 
 use crate::collision::{Collision, Finding, branch_bytes, leaf_bytes};
-use crate::compare::{LeafInputs, leaf_inputs};
+use crate::compare::have_same_bytes;
 use crate::descent::{Parting, descend};
 use crate::plain::{plain_bytes, plain_digest, plain_root, plain_tree};
 pub use consistency::witness_consistency;
@@ -68,40 +69,58 @@ fn meet<D: SupportedDigest, V: VisitBytes, L: LogData<D, V>, A: Allocator + Copy
     }))
 }
 
-// What the digest function takes at the node for the claimed value and in the tree over the entries, or None
-// where the claim is true.
-fn claimed_inputs<D: SupportedDigest, V: VisitBytes, A: Allocator + Copy>(
+// Whether the claim of a value is true: the node is a leaf, and its entry has the value's bytes.
+fn is_entry<D: SupportedDigest, V: VisitBytes, A: Allocator>(
+    met: &Meeting<D, V, A>,
+    value: &V,
+    entries: &[V],
+) -> Result<bool, AllocError>
+    requires { met.now.target.start + met.now.target.count ≤ length entries.now }
+    ensures { IfOk result (λ is. IsTrue is ↔ IsAt (V.bytes value.now) (map (λ e. V.bytes e) entries.now) met.now.target.start met.now.target.count) }
+{
+    if met.target.count != 1 {
+        return Ok(false);
+    }
+    have_same_bytes(value, &entries[met.target.start])
+}
+
+// The collision that a false claim of a value shows: where the evaluation parts from the tree, or at the node.
+fn collide<D: SupportedDigest, V: VisitBytes, A: Allocator + Copy>(
     alloc: A,
     met: &Meeting<D, V, A>,
     value: &V,
     entries: &[V],
-) -> Result<Option<LeafInputs<A>>, AllocError>
+) -> Result<Collision<D, A>, AllocError>
     requires tree { met.now.tree ≡ leaves_of D.digest (map (λ e. V.bytes e) entries.now) }
     requires node { IsNodeRange met.now.target.start met.now.target.count }
     requires within { met.now.target.start + met.now.target.count ≤ length entries.now }
-    ensures { IfOk result (AreClaimedInputs D.digest (V.bytes value.now) (map (λ e. V.bytes e) entries.now) met.now.target.start met.now.target.count) }
+    requires collides { Collides D.digest (pair_of met.now.parting (0 ∷ V.bytes value.now) (plain_input D.digest (map (λ e. V.bytes e) entries.now) met.now.target.start met.now.target.count)) }
+    ensures { IfOk result (λ c. c ≡ pair_of met.now.parting (0 ∷ V.bytes value.now) (plain_input D.digest (map (λ e. V.bytes e) entries.now) met.now.target.start met.now.target.count)) }
 {
-    if met.target.count == 1 {
-        return leaf_inputs(alloc, value, &entries[met.target.start]);
+    if !met.parting.is_target() {
+        return part(alloc, &met.parting);
     }
     let first = leaf_bytes(alloc, value)?;
     let second = plain_bytes(alloc, &met.tree, entries, &met.target)?;
-    Ok(Some(LeafInputs { first, second }))
+    Ok(Collision::new(first, second))
 }
 
-// The pair that a parting shows: the branch's inputs, or those at the target.
-fn collide<D: SupportedDigest, A: Allocator + Copy>(
+// The collision of two agreeing evaluations of different values: where they part, or at the values.
+fn collide_values<D: SupportedDigest, V: VisitBytes, A: Allocator + Copy>(
     alloc: A,
     parting: &Parting<D>,
-    at_target: LeafInputs<A>,
+    first: &V,
+    second: &V,
 ) -> Result<Collision<D, A>, AllocError>
-    requires { Collides D.digest (pair_of parting.now at_target.first.items at_target.second.items) }
-    ensures { IfOk result (λ c. c ≡ pair_of parting.now at_target.first.items at_target.second.items) }
+    requires { Collides D.digest (pair_of parting.now (0 ∷ V.bytes first.now) (0 ∷ V.bytes second.now)) }
+    ensures { IfOk result (λ c. c ≡ pair_of parting.now (0 ∷ V.bytes first.now) (0 ∷ V.bytes second.now)) }
 {
-    match parting {
-        Parting::Target => Ok(Collision::new(at_target.first, at_target.second)),
-        Parting::Branch { .. } => part(alloc, parting),
+    if !parting.is_target() {
+        return part(alloc, parting);
     }
+    let first = leaf_bytes(alloc, first)?;
+    let second = leaf_bytes(alloc, second)?;
+    Ok(Collision::new(first, second))
 }
 
 // The pair of the branch at which two evaluations part.
@@ -157,10 +176,10 @@ pub fn witness_value<D: SupportedDigest, V: VisitBytes, L: LogData<D, V>, A: All
     let Some(met) = meet(alloc, proof, hashes, &hash, entries)? else {
         return Ok(Finding::NotMet);
     };
-    let Some(inputs) = claimed_inputs(alloc, &met, value, entries)? else {
+    if is_entry(&met, value, entries)? {
         return Ok(Finding::Holds);
-    };
-    Ok(Finding::Collision(collide(alloc, &met.parting, inputs)?))
+    }
+    Ok(Finding::Collision(collide(alloc, &met, value, entries)?))
 }
 
 /// Whether a proof's claim about a hash is true of the entries: the hash is the root of the entries below
@@ -237,9 +256,9 @@ pub fn agree_value<
     if first_root != second_root {
         return Ok(Finding::NotMet);
     }
-    let Some(inputs) = leaf_inputs(alloc, first_value, second_value)? else {
+    if have_same_bytes(first_value, second_value)? {
         return Ok(Finding::Holds);
-    };
+    }
     let target = proof.leaf().interval();
     let whole = Interval::new(0, proof.log_length());
     let parting = descend(
@@ -250,5 +269,6 @@ pub fn agree_value<
         &target,
         &whole,
     );
-    Ok(Finding::Collision(collide(alloc, &parting, inputs)?))
+    let pair = collide_values(alloc, &parting, first_value, second_value)?;
+    Ok(Finding::Collision(pair))
 }

@@ -12,7 +12,7 @@ ghost use Rattle.warg_witness.specs.Parting.{IsParting};
 ghost use Rattle.warg_witness.specs.Meeting.{IsConsistencyMeeting, LeadsToBoth};
 
 use crate::collision::{Collision, Finding, leaf_bytes};
-use crate::compare::leaf_inputs;
+use crate::compare::have_same_bytes;
 use crate::descent::{Parting, descend};
 use crate::log::part;
 use crate::plain::{plain_digest, plain_root, plain_tree};
@@ -69,8 +69,7 @@ fn meet<D: SupportedDigest, V: VisitBytes, L: LogData<D, V>, A: Allocator + Copy
 
 // Whether an old and a new entry at one place have the same bytes. They don't where their leaf digests
 // differ; else their bytes are compared.
-fn is_same_entry<D: SupportedDigest, V: VisitBytes, A: Allocator + Copy>(
-    alloc: A,
+fn is_same_entry<D: SupportedDigest, V: VisitBytes, A: Allocator>(
     trees: &Trees<D, V, A>,
     place: usize,
     old: &V,
@@ -87,12 +86,11 @@ fn is_same_entry<D: SupportedDigest, V: VisitBytes, A: Allocator + Copy>(
     if plain_digest(&trees.old, &leaf) != plain_digest(&trees.new, &leaf) {
         return Ok(false);
     }
-    Ok(leaf_inputs(alloc, old, new)?.is_none())
+    have_same_bytes(old, new)
 }
 
 // The first place at which the new entries have other bytes than the old ones, if there is one.
-fn first_difference<D: SupportedDigest, V: VisitBytes, A: Allocator + Copy>(
-    alloc: A,
+fn first_difference<D: SupportedDigest, V: VisitBytes, A: Allocator>(
     trees: &Trees<D, V, A>,
     old: &[V],
     new: &[V],
@@ -104,7 +102,7 @@ fn first_difference<D: SupportedDigest, V: VisitBytes, A: Allocator + Copy>(
     ensures { IfOk result (IsFirstDifference (map (λ e. V.bytes e) old.now) (map (λ e. V.bytes e) new.now)) }
 {
     for (place, entry) in old.iter().enumerate() {
-        if !is_same_entry(alloc, trees, place, entry, &new[place])? {
+        if !is_same_entry(trees, place, entry, &new[place])? {
             return Ok(Some(place));
         }
     }
@@ -257,7 +255,7 @@ pub fn witness_consistency<
     let Some(trees) = meet(alloc, proof, hashes, old, new)? else {
         return Ok(Finding::NotMet);
     };
-    let Some(place) = first_difference(alloc, &trees, old, new)? else {
+    let Some(place) = first_difference(&trees, old, new)? else {
         return Ok(Finding::Holds);
     };
     let collision = collide_at(alloc, hashes, &trees, place, old, new)?;

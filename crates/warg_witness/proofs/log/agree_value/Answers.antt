@@ -1,10 +1,13 @@
-use Rattle.std.proofs.Common.{Some, sym, ◌≡◌, ◌^◌, List, ℕ, ◌∙◌, ap}
+use Rattle.std.proofs.Common.{Some, sym, ◌≡◌, ◌^◌, List, ℕ, ◌∙◌, ap, refl, true, false}
 use Rattle.warg_log.specs.Nodes.{height_of, start_of}
 use Rattle.warg_log.specs.declared.node.Node.{Node}
 use Rattle.warg_witness.proofs.HashLemmas.{ne_false}
 use Rattle.warg_witness.proofs.PlainLemmas.{whole_aligned}
 use Rattle.warg_witness.proofs.AgreementLemmas.{have_both, agreement_shown, agreement_placed_as}
 use Rattle.warg_witness.proofs.log.agree_value.Goals as goal
+
+not_false : false ≡ true → ⊥
+not_false e = cc
 
 pub descend-parting-requires-clause-aligned : goal.descend-parting-requires-clause-aligned
 descend-parting-requires-clause-aligned g c = whole_aligned _ _ _ c.new-whole.ensures.start c.new-whole.ensures.count
@@ -18,23 +21,23 @@ descend-parting-requires-clause-one g c =
     (c.interval-target.ensures.start ∙ ap (λ (x : Node). start_of x.0) leaf) (c.interval-target.ensures.count ∙ ap (λ (x : Node). 2 ^ height_of x.0) leaf)
     c.new-whole.ensures.start (c.new-whole.ensures.count ∙ c.log_length.ensures.value)
 
-pub collide-requires : goal.collide-requires
-collide-requires g c =
-    let inputs = rw c.in-Some.is at c.in_ok-inputs.ensures in
+pub collide_values-requires : goal.collide_values-requires
+collide_values-requires g c =
     let leaf = c.leaf.ensures in
     let parting = rw (c.new-whole.ensures.start, c.new-whole.ensures.count, c.log_length.ensures.value, c.hash_leaf-first_hash.ensures, c.hash_leaf-second_hash.ensures) at c.descend-parting.ensures in
     (agreement_shown _ _ _ _ _ _ _ _ _ _ _ _
-    (c.interval-target.ensures.start ∙ ap (λ (x : Node). start_of x.0) leaf) (c.interval-target.ensures.count ∙ ap (λ (x : Node). 2 ^ height_of x.0) leaf) parting inputs).collides
+    (c.interval-target.ensures.start ∙ ap (λ (x : Node). start_of x.0) leaf) (c.interval-target.ensures.count ∙ ap (λ (x : Node). 2 ^ height_of x.0) leaf) parting
+    (refl, refl, λ same. not_false (sym c.if-branch.false ∙ c.in_ok-have_same_bytes.ensures.1 same))).collides
 
 pub returns-clause-collision : goal.returns-clause-collision
 returns-clause-collision g c k is =
-    let inputs = rw c.in-Some.is at c.in_ok-inputs.ensures in
     let leaf = c.leaf.ensures in
     let parting = rw (c.new-whole.ensures.start, c.new-whole.ensures.count, c.log_length.ensures.value, c.hash_leaf-first_hash.ensures, c.hash_leaf-second_hash.ensures) at c.descend-parting.ensures in
     let shown = (agreement_shown _ _ _ _ _ _ _ _ _ _ _ _
-    (c.interval-target.ensures.start ∙ ap (λ (x : Node). start_of x.0) leaf) (c.interval-target.ensures.count ∙ ap (λ (x : Node). 2 ^ height_of x.0) leaf) parting inputs).placed in
-    let same : ◌≡◌ {A = List ℕ × List ℕ} k c.in_ok-collide.field-0 = cc in
-    agreement_placed_as _ _ _ _ _ _ _ _ k (same ∙ c.in_ok-collide.ensures) shown
+    (c.interval-target.ensures.start ∙ ap (λ (x : Node). start_of x.0) leaf) (c.interval-target.ensures.count ∙ ap (λ (x : Node). 2 ^ height_of x.0) leaf) parting
+    (refl, refl, λ same. not_false (sym c.if-branch.false ∙ c.in_ok-have_same_bytes.ensures.1 same))).placed in
+    let same : ◌≡◌ {A = List ℕ × List ℕ} k c.in_ok-pair.pair = cc in
+    agreement_placed_as _ _ _ _ _ _ _ _ k (same ∙ c.in_ok-pair.ensures) shown
 
 pub returns-clause-not_met : goal.returns-clause-not_met
 returns-clause-not_met g c =
