@@ -2,6 +2,9 @@
 //! measures nothing and prints nothing.
 #![tactic(auto)]
 
+mod slow;
+
+use crate::slow::Slow;
 use anyhow::Result;
 use std::env;
 use std::time::Instant;
@@ -22,6 +25,7 @@ fn main(rt: HostRuntime) -> Result<()> {
     }
     let branch = branch_time(&rt)?;
     println!(rt; "one hash of a branch: {branch} ns")?;
+    counts(&rt)?;
     logs(&rt)?;
     log_images(&rt, branch)?;
     maps(&rt, 1_000)?;
@@ -61,6 +65,115 @@ fn entries(rt: &HostRuntime, count: usize) -> Result<Vec<Entry>> {
         list.push(entry)?;
     }
     Ok(list)
+}
+
+// The digests that calls take, by their times under a digest that takes long.
+fn counts(rt: &HostRuntime) -> Result<()> {
+    let hash = Hash::<Slow>::of(&());
+    let digest = least_time(
+        rt,
+        || Hash::<Slow>::of(&(1u8, hash.copied(), hash.copied())) != hash,
+    )?;
+    log_counts(rt, digest)?;
+    map_counts(rt, digest)
+}
+
+// The least of several times of a call, in nanoseconds, or 0 where it fails.
+fn least_time<F: Fn() -> bool>(rt: &HostRuntime, call: F) -> Result<u128>
+    requires { F.IsAlwaysCallable call }
+{
+    let mut least = u128::MAX;
+    for _ in 0..9u32 {
+        let start = Instant::now(rt)?;
+        if !call() {
+            return Ok(0);
+        }
+        least = least.min(start.elapsed(rt)?.as_nanos());
+    }
+    Ok(least)
+}
+
+// Prints how many digests one of some calls takes, where they took `time` and a digest `digest`.
+fn print_digests(
+    rt: &HostRuntime,
+    what: &str,
+    time: u128,
+    calls: u128,
+    digest: u128,
+) -> Result<()> {
+    let tenths = time
+        .saturating_mul(10)
+        .checked_div(digest.saturating_mul(calls))
+        .unwrap_or(0);
+    println!(rt; "digests taken by {what}: {}.{}", tenths / 10, tenths % 10)?;
+    Ok(())
+}
+
+fn log_counts(rt: &HostRuntime, digest: u128) -> Result<()> {
+    let list = entries(rt, ENTRIES)?;
+    let mut log: VecLog<Slow, Entry> = VecLog::default(rt.alloc());
+    push_all(&mut log, list.as_slice())?;
+
+    let mut inclusions = 0u128;
+    let mut consistencies = 0u128;
+    for (i, entry) in list.iter().enumerate().step_by(1_000) {
+        let proof = log.prove_inclusion(Node(i.saturating_mul(2)), ENTRIES);
+        let time = least_time(rt, || proof.evaluate_value(&log, entry).is_ok())?;
+        inclusions = inclusions.saturating_add(time);
+        let proof = log.prove_consistency(i.saturating_add(1).min(ENTRIES), ENTRIES);
+        let time = least_time(rt, || proof.evaluate(&log).is_ok())?;
+        consistencies = consistencies.saturating_add(time);
+    }
+    print_digests(
+        rt,
+        "an inclusion evaluation at 100,000",
+        inclusions,
+        100,
+        digest,
+    )?;
+    print_digests(
+        rt,
+        "a consistency evaluation at 100,000",
+        consistencies,
+        100,
+        digest,
+    )?;
+    let proof = log.prove_consistency(65_535, ENTRIES);
+    let time = least_time(rt, || proof.evaluate(&log).is_ok())?;
+    print_digests(rt, "that from 65,535 to 100,000", time, 1, digest)
+}
+
+fn map_counts(rt: &HostRuntime, digest: u128) -> Result<()> {
+    let list = entries(rt, 1_100)?;
+    let mut map: Map<Slow, Entry, Entry> = Map::default(rt.alloc())?;
+    for key in list.iter().take(1_000) {
+        map = map.insert(*key, *key)?;
+    }
+    let mut insertions = 0u128;
+    for key in list.iter().skip(1_000) {
+        let time = least_time(rt, || map.insert(*key, *key).is_ok())?;
+        insertions = insertions.saturating_add(time);
+    }
+    print_digests(
+        rt,
+        "an insertion of a new key at 1,000",
+        insertions,
+        100,
+        digest,
+    )?;
+
+    let Some(key) = list.first() else {
+        return Ok(());
+    };
+    let time = least_time(rt, || map.insert(*key, *key).is_ok())?;
+    print_digests(rt, "an insertion of a known key", time, 1, digest)?;
+    let time = least_time(rt, || map.prove(*key).is_ok())?;
+    print_digests(rt, "a map's proof", time, 1, digest)?;
+    let Some(proof) = map.prove(*key)? else {
+        return Ok(());
+    };
+    let time = least_time(rt, || proof.evaluate(key, key) == *map.root())?;
+    print_digests(rt, "a map's evaluation", time, 1, digest)
 }
 
 fn logs(rt: &HostRuntime) -> Result<()> {
