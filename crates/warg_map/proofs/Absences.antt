@@ -4,6 +4,7 @@ use Rattle.std.proofs.lemmas.List.{reverse-append, replicate_more, length-replic
 use Rattle.std.proofs.lemmas.Bool.{eqb-true, eq-eqb}
 use Rattle.std.specs.Prelude.{reverse}
 use Rattle.std.specs.FinMap.{insert, empty, contains_key, get, get-empty}
+use Rattle.std.specs.declared.rc.Rc.{Rc}
 use Rattle.warg_map.specs.declared.node.Node.{Node}
 use Rattle.warg_map.specs.declared.node.Node.TheVariants.{Fork, Singleton, Stem, Empty}
 use Rattle.warg_map.specs.declared.fork.Fork.{Fork as Fork'}
@@ -131,67 +132,67 @@ absent_parted H m held bits one key d from j len k was e lt same apart o de =
 pub absent_nothing : {D A : _} (H : List ℕ → List ℕ) (old : Node D A) (n : ℕ) (bits : List Bool) (ps : List (Option (List ℕ))) → old ≡ Empty n → ps ≡ [] → ProvesAbsent H (held_by old) bits ps
 absent_nothing H old n bits ps is e = rw (is, e) (nothing_absent H bits)
 
-in_fork : {D A : _} (H : List ℕ → List ℕ) (f : Fork' D A) (b : Bool) (p : List Bool) (ps : List (Option (List ℕ))) (d : List ℕ) (child x : ℕ × SparseMap) → IsWellFormed (Fork f) → length p ≡ f.left.0 → child ≡ cond b f.right f.left → x ≡ cond (not b) f.right f.left → d ≡ sparse_root H x.0 x.1 → ProvesAbsent H child.1 p ps → ProvesAbsent H (held_by (Fork f)) (b ∷ p) (ps ++ Some d ∷ [])
+in_fork : {D A : _} (H : List ℕ → List ℕ) (f : Rc (Fork' D A) A) (b : Bool) (p : List Bool) (ps : List (Option (List ℕ))) (d : List ℕ) (child x : ℕ × SparseMap) → IsWellFormed (Fork f) → length p ≡ f.value.left.0 → child ≡ cond b f.value.right f.value.left → x ≡ cond (not b) f.value.right f.value.left → d ≡ sparse_root H x.0 x.1 → ProvesAbsent H child.1 p ps → ProvesAbsent H (held_by (Fork f)) (b ∷ p) (ps ++ Some d ∷ [])
 in_fork H f true p ps d child x w len ce xe e h =
-    fork_proves_absent H true f.right.1 f.left.1 p ps d w.formed.0
-    (e ∙ ap (λ c. sparse_root H c.0 c.1) xe ∙ ap (λ n. sparse_root H n f.left.1) (sym len)) (subst (λ (c : ℕ × SparseMap). ProvesAbsent H c.1 p ps) ce h)
+    fork_proves_absent H true f.value.right.1 f.value.left.1 p ps d w.formed.0
+    (e ∙ ap (λ c. sparse_root H c.0 c.1) xe ∙ ap (λ n. sparse_root H n f.value.left.1) (sym len)) (subst (λ (c : ℕ × SparseMap). ProvesAbsent H c.1 p ps) ce h)
 in_fork H f false p ps d child x w len ce xe e h =
-    fork_proves_absent H false f.left.1 f.right.1 p ps d w.formed.1
-    (e ∙ ap (λ c. sparse_root H c.0 c.1) xe ∙ ap (λ n. sparse_root H n f.right.1) (sym (len ∙ w.level.0))) (subst (λ (c : ℕ × SparseMap). ProvesAbsent H c.1 p ps) ce h)
+    fork_proves_absent H false f.value.left.1 f.value.right.1 p ps d w.formed.1
+    (e ∙ ap (λ c. sparse_root H c.0 c.1) xe ∙ ap (λ n. sparse_root H n f.value.right.1) (sym (len ∙ w.level.0))) (subst (λ (c : ℕ × SparseMap). ProvesAbsent H c.1 p ps) ce h)
 
-pub absent_in_fork : {D A : _} (H : List ℕ → List ℕ) (old child : Node D A) (f : Fork' D A) (bits : List Bool) (b : Bool) (p : List Bool) (ps new : List (Option (List ℕ))) (d : List ℕ) (x : ℕ × SparseMap) → old ≡ Fork f → IsWellFormed old → bits ≡ b ∷ p → length p + 1 ≡ height_of old → seen child ≡ cond b f.right f.left → x ≡ cond (not b) f.right f.left → d ≡ sparse_root H x.0 x.1 → ProvesAbsent H (held_by child) p ps → new ≡ ps ++ Some d ∷ [] → ProvesAbsent H (held_by old) bits new
+pub absent_in_fork : {D A : _} (H : List ℕ → List ℕ) (old child : Node D A) (f : Rc (Fork' D A) A) (bits : List Bool) (b : Bool) (p : List Bool) (ps new : List (Option (List ℕ))) (d : List ℕ) (x : ℕ × SparseMap) → old ≡ Fork f → IsWellFormed old → bits ≡ b ∷ p → length p + 1 ≡ height_of old → seen child ≡ cond b f.value.right f.value.left → x ≡ cond (not b) f.value.right f.value.left → d ≡ sparse_root H x.0 x.1 → ProvesAbsent H (held_by child) p ps → new ≡ ps ++ Some d ∷ [] → ProvesAbsent H (held_by old) bits new
 absent_in_fork H old child f bits b p ps new d x is w e len ce xe de h n =
     let wf : IsWellFormed (Fork f) = subst IsWellFormed is w in
-    let k : length p + 1 ≡ f.left.0 + 1 = len ∙ ap height_of is in
+    let k : length p + 1 ≡ f.value.left.0 + 1 = len ∙ ap height_of is in
     rw (is, e, n) (in_fork H f b p ps d (seen child) x wf (omega (arith, k)) ce xe de h)
 
-pub absent_beside_lone : {D A : _} (H : List ℕ → List ℕ) (old : Node D A) (s : Lone) (bits : List Bool) (key d : List ℕ) (from j : ℕ) (new : List (Option (List ℕ))) → old ≡ Singleton s → bits ≡ last_bits key (256 - from) → height_of old + from ≡ 256 → j < s.height → bits_from s.key from j ≡ bits_from key from j → ¬ (bit_at s.key (from + j) ≡ bit_at key (from + j)) → d ≡ sparse_root H (s.height - j - 1) (insert empty (last_bits s.key (s.height - j - 1)) s.value) → new ≡ Some d ∷ replicate j None → ProvesAbsent H (held_by old) bits new
+pub absent_beside_lone : {D A : _} (H : List ℕ → List ℕ) (old : Node D A) (s : Rc Lone A) (bits : List Bool) (key d : List ℕ) (from j : ℕ) (new : List (Option (List ℕ))) → old ≡ Singleton s → bits ≡ last_bits key (256 - from) → height_of old + from ≡ 256 → j < s.value.height → bits_from s.value.key from j ≡ bits_from key from j → ¬ (bit_at s.value.key (from + j) ≡ bit_at key (from + j)) → d ≡ sparse_root H (s.value.height - j - 1) (insert empty (last_bits s.value.key (s.value.height - j - 1)) s.value.value) → new ≡ Some d ∷ replicate j None → ProvesAbsent H (held_by old) bits new
 absent_beside_lone H old s bits key d from j new is e height lt same apart de n =
-    let hs : s.height + from ≡ 256 = sym (ap (λ d. height_of d + from) is) ∙ height in
-    let whole : from + s.height ≡ 256 = omega (arith, hs) in
-    let all : 256 - from ≡ s.height + 0 = omega (arith, hs) in
-    let whole' : from + (s.height + 0) ≡ 256 = omega (arith, hs) in
-    let r : s.height - j - 1 ≡ s.height + 0 - (j + 1) = omega arith in
-    let r' : s.height - j - 1 ≡ s.height - (j + 1) = omega arith in
-    let place : from + (j + 1) + (s.height - (j + 1)) ≡ 256 = omega (arith, lt, whole) in
+    let hs : s.value.height + from ≡ 256 = sym (ap (λ d. height_of d + from) is) ∙ height in
+    let whole : from + s.value.height ≡ 256 = omega (arith, hs) in
+    let all : 256 - from ≡ s.value.height + 0 = omega (arith, hs) in
+    let whole' : from + (s.value.height + 0) ≡ 256 = omega (arith, hs) in
+    let r : s.value.height - j - 1 ≡ s.value.height + 0 - (j + 1) = omega arith in
+    let r' : s.value.height - j - 1 ≡ s.value.height - (j + 1) = omega arith in
+    let place : from + (j + 1) + (s.value.height - (j + 1)) ≡ 256 = omega (arith, lt, whole) in
     rw n
-    (absent_parted H (insert empty [] s.value) (held_by old) bits s.key key d from j s.height 0
-    (ap held_by is ∙ ap (λ q. insert empty q s.value) (last_bits-at s.key from s.height whole) ∙ lone-under (bits_from s.key from s.height) s.value)
-    (e ∙ ap (last_bits key) all ∙ last_bits-at key from (s.height + 0) whole') lt same apart ([], contains_key-insert_same empty [] s.value)
-    (de ∙ ap (λ h. sparse_root H h (insert empty (last_bits s.key (s.height - j - 1)) s.value)) r ∙ ap (λ h. sparse_root H (s.height + 0 - (j + 1)) (insert empty (last_bits s.key h) s.value)) r'
-    ∙ ap (λ q. sparse_root H (s.height + 0 - (j + 1)) (insert empty q s.value)) (last_bits-at s.key (from + (j + 1)) (s.height - (j + 1)) place) ∙ ap (sparse_root H (s.height + 0 - (j + 1))) (lone-under _ s.value)))
+    (absent_parted H (insert empty [] s.value.value) (held_by old) bits s.value.key key d from j s.value.height 0
+    (ap held_by is ∙ ap (λ q. insert empty q s.value.value) (last_bits-at s.value.key from s.value.height whole) ∙ lone-under (bits_from s.value.key from s.value.height) s.value.value)
+    (e ∙ ap (last_bits key) all ∙ last_bits-at key from (s.value.height + 0) whole') lt same apart ([], contains_key-insert_same empty [] s.value.value)
+    (de ∙ ap (λ h. sparse_root H h (insert empty (last_bits s.value.key (s.value.height - j - 1)) s.value.value)) r ∙ ap (λ h. sparse_root H (s.value.height + 0 - (j + 1)) (insert empty (last_bits s.value.key h) s.value.value)) r'
+    ∙ ap (λ q. sparse_root H (s.value.height + 0 - (j + 1)) (insert empty q s.value.value)) (last_bits-at s.value.key (from + (j + 1)) (s.value.height - (j + 1)) place) ∙ ap (sparse_root H (s.value.height + 0 - (j + 1))) (lone-under _ s.value.value)))
 
-pub absent_beside_stem : {D A : _} (H : List ℕ → List ℕ) (old : Node D A) (s : Stem' D A) (bits : List Bool) (key d : List ℕ) (from j : ℕ) (new : List (Option (List ℕ))) → old ≡ Stem s → IsWellFormed old → bits ≡ last_bits key (256 - from) → height_of old + from ≡ 256 → j < s.len → bits_from s.key from j ≡ bits_from key from j → ¬ (bit_at s.key (from + j) ≡ bit_at key (from + j)) → d ≡ sparse_root H (s.below.0 + (s.len - (j + 1))) (under (bits_from s.key (s.from + (j + 1)) (s.len - (j + 1))) s.below.1) → new ≡ Some d ∷ replicate j None → ProvesAbsent H (held_by old) bits new
+pub absent_beside_stem : {D A : _} (H : List ℕ → List ℕ) (old : Node D A) (s : Rc (Stem' D A) A) (bits : List Bool) (key d : List ℕ) (from j : ℕ) (new : List (Option (List ℕ))) → old ≡ Stem s → IsWellFormed old → bits ≡ last_bits key (256 - from) → height_of old + from ≡ 256 → j < s.value.len → bits_from s.value.key from j ≡ bits_from key from j → ¬ (bit_at s.value.key (from + j) ≡ bit_at key (from + j)) → d ≡ sparse_root H (s.value.below.0 + (s.value.len - (j + 1))) (under (bits_from s.value.key (s.value.from + (j + 1)) (s.value.len - (j + 1))) s.value.below.1) → new ≡ Some d ∷ replicate j None → ProvesAbsent H (held_by old) bits new
 absent_beside_stem H old s bits key d from j new is w e height lt same apart de n =
     let ws : IsWellFormed (Stem s) = subst IsWellFormed is w in
-    let hs : s.below.0 + s.len + from ≡ 256 = sym (ap (λ d. height_of d + from) is) ∙ height in
-    let fr : s.from ≡ from = omega (arith, ws.level, hs) in
-    let all : 256 - from ≡ s.len + s.below.0 = omega (arith, hs) in
-    let whole : from + (s.len + s.below.0) ≡ 256 = omega (arith, hs) in
-    let r : s.below.0 + (s.len - (j + 1)) ≡ s.len + s.below.0 - (j + 1) = omega (arith, lt) in
+    let hs : s.value.below.0 + s.value.len + from ≡ 256 = sym (ap (λ d. height_of d + from) is) ∙ height in
+    let fr : s.value.from ≡ from = omega (arith, ws.level, hs) in
+    let all : 256 - from ≡ s.value.len + s.value.below.0 = omega (arith, hs) in
+    let whole : from + (s.value.len + s.value.below.0) ≡ 256 = omega (arith, hs) in
+    let r : s.value.below.0 + (s.value.len - (j + 1)) ≡ s.value.len + s.value.below.0 - (j + 1) = omega (arith, lt) in
     rw n
-    (absent_parted H s.below.1 (held_by old) bits s.key key d from j s.len s.below.0
-    (ap held_by is ∙ ap (λ i. under (bits_from s.key i s.len) s.below.1) fr)
-    (e ∙ ap (last_bits key) all ∙ last_bits-at key from (s.len + s.below.0) whole) lt same apart (stem_holds s.len s.below.0 s.below.1 ws.formed.1)
-    (de ∙ ap (λ h. sparse_root H h (under (bits_from s.key (s.from + (j + 1)) (s.len - (j + 1))) s.below.1)) r ∙ ap (λ i. sparse_root H (s.len + s.below.0 - (j + 1)) (under (bits_from s.key (i + (j + 1)) (s.len - (j + 1))) s.below.1)) fr))
+    (absent_parted H s.value.below.1 (held_by old) bits s.value.key key d from j s.value.len s.value.below.0
+    (ap held_by is ∙ ap (λ i. under (bits_from s.value.key i s.value.len) s.value.below.1) fr)
+    (e ∙ ap (last_bits key) all ∙ last_bits-at key from (s.value.len + s.value.below.0) whole) lt same apart (stem_holds s.value.len s.value.below.0 s.value.below.1 ws.formed.1)
+    (de ∙ ap (λ h. sparse_root H h (under (bits_from s.value.key (s.value.from + (j + 1)) (s.value.len - (j + 1))) s.value.below.1)) r ∙ ap (λ i. sparse_root H (s.value.len + s.value.below.0 - (j + 1)) (under (bits_from s.value.key (i + (j + 1)) (s.value.len - (j + 1))) s.value.below.1)) fr))
 
-pub absent_below : {D A : _} (H : List ℕ → List ℕ) (old below : Node D A) (s : Stem' D A) (bits low : List Bool) (key : List ℕ) (from len index : ℕ) (ps new : List (Option (List ℕ))) → old ≡ Stem s → IsWellFormed old → bits ≡ last_bits key (256 - from) → height_of old + from ≡ 256 → len ≡ s.len → bits_from s.key from len ≡ bits_from key from len → seen below ≡ s.below → low ≡ last_bits key (256 - index) → index ≡ from + len → ProvesAbsent H (held_by below) low ps → new ≡ ps ++ replicate len None → ProvesAbsent H (held_by old) bits new
+pub absent_below : {D A : _} (H : List ℕ → List ℕ) (old below : Node D A) (s : Rc (Stem' D A) A) (bits low : List Bool) (key : List ℕ) (from len index : ℕ) (ps new : List (Option (List ℕ))) → old ≡ Stem s → IsWellFormed old → bits ≡ last_bits key (256 - from) → height_of old + from ≡ 256 → len ≡ s.value.len → bits_from s.value.key from len ≡ bits_from key from len → seen below ≡ s.value.below → low ≡ last_bits key (256 - index) → index ≡ from + len → ProvesAbsent H (held_by below) low ps → new ≡ ps ++ replicate len None → ProvesAbsent H (held_by old) bits new
 absent_below H old below s bits low key from len index ps new is w e height el same b lo ix pr n =
     let ws : IsWellFormed (Stem s) = subst IsWellFormed is w in
     let a = bits_from key from len in
     let la : length a ≡ len = length-bits_from key from len in
-    let m = s.below.1 in
-    let run : ProvesAbsent H (under a m) (a ++ low) (ps ++ replicate (length a) None) = stem_proves_absent H a low m ps (stem_holds s.len s.below.0 m ws.formed.1) (subst (λ (d : ℕ × SparseMap). ProvesAbsent H d.1 low ps) b pr) in
+    let m = s.value.below.1 in
+    let run : ProvesAbsent H (under a m) (a ++ low) (ps ++ replicate (length a) None) = stem_proves_absent H a low m ps (stem_holds s.value.len s.value.below.0 m ws.formed.1) (subst (λ (d : ℕ × SparseMap). ProvesAbsent H d.1 low ps) b pr) in
     rw (stem_bits old s bits low key from len index is w e height el lo ix, n)
     (subst (λ (d : ℕ × SparseMap). ProvesAbsent H d.1 (a ++ low) (ps ++ replicate len None)) (sym (stem_held old s key from len is w height el same))
     (subst (λ (j : ℕ). ProvesAbsent H (under a m) (a ++ low) (ps ++ replicate j None)) la run))
 
 -- a lone key that isn't the path's parts from it
-pub lone_parts : {D A : _} (old : Node D A) (s : Lone) (hash : List ℕ) (from j : ℕ) → old ≡ Singleton s → height_of old + from ≡ 256 → j ≤ s.height → bits_from s.key from j ≡ bits_from hash from j → contains_key (held_by old) (last_bits hash (256 - from)) ≡ false → j < s.height
+pub lone_parts : {D A : _} (old : Node D A) (s : Rc Lone A) (hash : List ℕ) (from j : ℕ) → old ≡ Singleton s → height_of old + from ≡ 256 → j ≤ s.value.height → bits_from s.value.key from j ≡ bits_from hash from j → contains_key (held_by old) (last_bits hash (256 - from)) ≡ false → j < s.value.height
 lone_parts old s hash from j is height most same absent =
-    elim (nat_eq j s.height) as (λ b. nat_eq j s.height ≡ b → j < s.height) [
-      | true ↦ λ e. absurd (held_not (held_by old) (last_bits hash (256 - from)) absent (sym (ap is_some (finds_lone old s (last_bits hash (256 - from)) s.value is (lone_same old s hash from j is height (eqb-true j s.height e) same) refl))))
-      | false ↦ λ e. (let ne = not_same j s.height e in omega (arith, most, ne))
+    elim (nat_eq j s.value.height) as (λ b. nat_eq j s.value.height ≡ b → j < s.value.height) [
+      | true ↦ λ e. absurd (held_not (held_by old) (last_bits hash (256 - from)) absent (sym (ap is_some (finds_lone old s (last_bits hash (256 - from)) s.value.value is (lone_same old s hash from j is height (eqb-true j s.value.height e) same) refl))))
+      | false ↦ λ e. (let ne = not_same j s.value.height e in omega (arith, most, ne))
     ] refl
   where
     not_same : (a b : ℕ) → nat_eq a b ≡ false → ¬ (a ≡ b)

@@ -3,6 +3,7 @@ use Rattle.std.proofs.Common.{◌≡◌, ℕ, zero, suc, length, ◌+◌, ◌<�
 use Rattle.std.proofs.lemmas.Bool.{eqb-true, eq-eqb}
 use Rattle.std.specs.FinMap.{from_entries, entries, find, get, insert, empty, len, contains_key, get-entries, get-from_entries, len-insert, len-empty, len-entries, empty_of_len}
 use Rattle.std.specs.Ordering.{eq_by_cmp}
+use Rattle.std.specs.declared.rc.Rc.{Rc}
 use Rattle.warg_map.specs.declared.node.Node.{Node}
 use Rattle.warg_map.specs.declared.node.Node.TheVariants.{Fork, Stem}
 use Rattle.warg_map.specs.declared.fork.Fork.{Fork as Fork'}
@@ -203,61 +204,61 @@ pub record IsChild (child : ℕ × SparseMap) (bound : ℕ) : Type 0 where
   pub low : child.0 < 256
   pub fits : len child.1 < bound
 
-pub left_child : {D A : _} (old : Node D A) (f : Fork' D A) (child : ℕ × SparseMap) → old ≡ Fork f → IsWellFormed old → child ≡ f.left → len (held_by old) < 18446744073709551616 → IsChild child 18446744073709551616
+pub left_child : {D A : _} (old : Node D A) (f : Rc (Fork' D A) A) (child : ℕ × SparseMap) → old ≡ Fork f → IsWellFormed old → child ≡ f.value.left → len (held_by old) < 18446744073709551616 → IsChild child 18446744073709551616
 left_child old f child is w e b =
     let ws : IsWellFormed (Fork f) = subst IsWellFormed is w in
-    let n = ap (λ d. len (held_by d)) is ∙ len-join f.left.1 f.right.1 in
-    let x = some_held f.left.1 ws.formed.0 in
+    let n = ap (λ d. len (held_by d)) is ∙ len-join f.value.left.1 f.value.right.1 in
+    let x = some_held f.value.left.1 ws.formed.0 in
     subst (λ (d : ℕ × SparseMap). IsChild d 18446744073709551616) (sym e) (record { some = x; low = ws.level.1; fits = omega (arith, n, b) })
 
-pub right_child : {D A : _} (old : Node D A) (f : Fork' D A) (child : ℕ × SparseMap) → old ≡ Fork f → IsWellFormed old → child ≡ f.right → len (held_by old) < 18446744073709551616 → IsChild child 18446744073709551616
+pub right_child : {D A : _} (old : Node D A) (f : Rc (Fork' D A) A) (child : ℕ × SparseMap) → old ≡ Fork f → IsWellFormed old → child ≡ f.value.right → len (held_by old) < 18446744073709551616 → IsChild child 18446744073709551616
 right_child old f child is w e b =
     let ws : IsWellFormed (Fork f) = subst IsWellFormed is w in
-    let n = ap (λ d. len (held_by d)) is ∙ len-join f.left.1 f.right.1 in
-    let x = some_held f.right.1 ws.formed.1 in
+    let n = ap (λ d. len (held_by d)) is ∙ len-join f.value.left.1 f.value.right.1 in
+    let x = some_held f.value.right.1 ws.formed.1 in
     subst (λ (d : ℕ × SparseMap). IsChild d 18446744073709551616) (sym e) (record { some = x; low = omega (arith, ws.level.0, ws.level.1); fits = omega (arith, n, b) })
 
-len_stem : {D A : _} (old : Node D A) (s : Stem' D A) → old ≡ Stem s → len (held_by old) ≡ len s.below.1
-len_stem old s is = ap (λ d. len (held_by d)) is ∙ len-under (bits_from s.key s.from s.len) s.below.1
+len_stem : {D A : _} (old : Node D A) (s : Rc (Stem' D A) A) → old ≡ Stem s → len (held_by old) ≡ len s.value.below.1
+len_stem old s is = ap (λ d. len (held_by d)) is ∙ len-under (bits_from s.value.key s.value.from s.value.len) s.value.below.1
 
 must_split : (h len_ k n : ℕ) (m : SparseMap) → len_ + k ≡ h → n ≡ len m → (h < 256) ⊎ (1 < n) → Splits m ⊎ ((len_ ≡ 1) × (k ≡ 255) × IsLone m) → Splits m
 must_split h l k n m e c more (inl s) = s
 must_split h l k n m e c (inl x) (inr o) = absurd (omega (arith, e, x, o.0, o.1))
 must_split h l k n m e c (inr x) (inr o) = absurd (let y = ap len o.2.2 ∙ len-lone o.2.0 o.2.1 in omega (arith, c, x, y))
 
-pub below_splits : {D A : _} (old : Node D A) (s : Stem' D A) → old ≡ Stem s → IsWellFormed old → (height_of old < 256) ⊎ (1 < len (held_by old)) → Splits s.below.1
+pub below_splits : {D A : _} (old : Node D A) (s : Rc (Stem' D A) A) → old ≡ Stem s → IsWellFormed old → (height_of old < 256) ⊎ (1 < len (held_by old)) → Splits s.value.below.1
 below_splits old s is w more =
     let ws : IsWellFormed (Stem s) = subst IsWellFormed is w in
-    let h : s.below.0 + s.len ≡ height_of old = sym (ap height_of is) in
-    let h' : s.len + s.below.0 ≡ height_of old = omega (arith, h) in
-    must_split (height_of old) s.len s.below.0 (len (held_by old)) s.below.1 h' (len_stem old s is) more ws.formed.1
+    let h : s.value.below.0 + s.value.len ≡ height_of old = sym (ap height_of is) in
+    let h' : s.value.len + s.value.below.0 ≡ height_of old = omega (arith, h) in
+    must_split (height_of old) s.value.len s.value.below.0 (len (held_by old)) s.value.below.1 h' (len_stem old s is) more ws.formed.1
 
-pub below_child : {D A : _} (old : Node D A) (s : Stem' D A) (child : ℕ × SparseMap) → old ≡ Stem s → IsWellFormed old → child ≡ s.below → (height_of old < 256) ⊎ (1 < len (held_by old)) → len (held_by old) < 18446744073709551616 → IsChild child 18446744073709551616
+pub below_child : {D A : _} (old : Node D A) (s : Rc (Stem' D A) A) (child : ℕ × SparseMap) → old ≡ Stem s → IsWellFormed old → child ≡ s.value.below → (height_of old < 256) ⊎ (1 < len (held_by old)) → len (held_by old) < 18446744073709551616 → IsChild child 18446744073709551616
 below_child old s child is w e more b =
     let ws : IsWellFormed (Stem s) = subst IsWellFormed is w in
     let n = len_stem old s is in
-    let x = splits_more s.below.1 (below_splits old s is w more) in
+    let x = splits_more s.value.below.1 (below_splits old s is w more) in
     subst (λ (d : ℕ × SparseMap). IsChild d 18446744073709551616) (sym e) (record { some = omega (arith, x); low = omega (arith, ws.level, ws.formed.0); fits = omega (arith, n, b) })
 
 -- the count of a node
-pub count_fork : {D A : _} (old : Node D A) (f : Fork' D A) (l r : ℕ × SparseMap) (x y : ℕ) → old ≡ Fork f → IsWellFormed old → l ≡ f.left → r ≡ f.right → x ≡ nodes l.0 l.1 false → y ≡ nodes r.0 r.1 false → 1 + x + y ≡ nodes (height_of old) (held_by old) false
+pub count_fork : {D A : _} (old : Node D A) (f : Rc (Fork' D A) A) (l r : ℕ × SparseMap) (x y : ℕ) → old ≡ Fork f → IsWellFormed old → l ≡ f.value.left → r ≡ f.value.right → x ≡ nodes l.0 l.1 false → y ≡ nodes r.0 r.1 false → 1 + x + y ≡ nodes (height_of old) (held_by old) false
 count_fork old f l r x y is w le re xe ye =
     let ws : IsWellFormed (Fork f) = subst IsWellFormed is w in
-    let a : x ≡ nodes f.left.0 f.left.1 false = xe ∙ ap (λ d. nodes d.0 d.1 false) le in
-    let b : y ≡ nodes f.left.0 f.right.1 false = ye ∙ ap (λ d. nodes d.0 d.1 false) re ∙ ap (λ k. nodes k f.right.1 false) (sym ws.level.0) in
+    let a : x ≡ nodes f.value.left.0 f.value.left.1 false = xe ∙ ap (λ d. nodes d.0 d.1 false) le in
+    let b : y ≡ nodes f.value.left.0 f.value.right.1 false = ye ∙ ap (λ d. nodes d.0 d.1 false) re ∙ ap (λ k. nodes k f.value.right.1 false) (sym ws.level.0) in
     let sum : 1 + x + y ≡ 1 + (x + y) = omega arith in
-    sum ∙ ap (λ j. 1 + (j + y)) a ∙ ap (λ j. 1 + (nodes f.left.0 f.left.1 false + j)) b
-    ∙ sym (nodes-join f.left.0 f.left.1 f.right.1 false (some_held _ ws.formed.0) (some_held _ ws.formed.1))
+    sum ∙ ap (λ j. 1 + (j + y)) a ∙ ap (λ j. 1 + (nodes f.value.left.0 f.value.left.1 false + j)) b
+    ∙ sym (nodes-join f.value.left.0 f.value.left.1 f.value.right.1 false (some_held _ ws.formed.0) (some_held _ ws.formed.1))
     ∙ sym (ap (λ d. nodes (height_of d) (held_by d) false) is)
 
-pub count_stem : {D A : _} (old : Node D A) (s : Stem' D A) (b : ℕ × SparseMap) (x : ℕ) → old ≡ Stem s → IsWellFormed old → (height_of old < 256) ⊎ (1 < len (held_by old)) → b ≡ s.below → x ≡ nodes b.0 b.1 false → 1 + x ≡ nodes (height_of old) (held_by old) false
+pub count_stem : {D A : _} (old : Node D A) (s : Rc (Stem' D A) A) (b : ℕ × SparseMap) (x : ℕ) → old ≡ Stem s → IsWellFormed old → (height_of old < 256) ⊎ (1 < len (held_by old)) → b ≡ s.value.below → x ≡ nodes b.0 b.1 false → 1 + x ≡ nodes (height_of old) (held_by old) false
 count_stem old s b x is w more be xe =
     let ws : IsWellFormed (Stem s) = subst IsWellFormed is w in
     let sp = below_splits old s is w more in
-    let k = s.below.0 in
-    let m = s.below.1 in
-    let a = bits_from s.key s.from s.len in
-    let la : length a ≡ s.len = length-bits_from s.key s.from s.len in
+    let k = s.value.below.0 in
+    let m = s.value.below.1 in
+    let a = bits_from s.value.key s.value.from s.value.len in
+    let la : length a ≡ s.value.len = length-bits_from s.value.key s.value.from s.value.len in
     let turn : 1 + x ≡ x + 1 = omega arith in
     turn ∙ ap (λ j. j + 1) (xe ∙ ap (λ d. nodes d.0 d.1 false) be ∙ sym (nodes-split k m sp))
     ∙ sym (nodes-under k a m (splits_more m sp) (omega (arith, la, ws.formed.0)))
@@ -269,8 +270,8 @@ stem_no_split [] m h s = omega (arith, h)
 stem_no_split (true ∷ bs) m h s = no_some _ (get-under_head false true bs s.0.0 m (λ e. cc)) s.0.1
 stem_no_split (false ∷ bs) m h s = no_some _ (get-under_head true false bs s.1.0 m (λ e. cc)) s.1.1
 
-pub stem_is_no_split : {D A : _} (old : Node D A) (s : Stem' D A) → old ≡ Stem s → IsWellFormed old → ¬ Splits (held_by old)
+pub stem_is_no_split : {D A : _} (old : Node D A) (s : Rc (Stem' D A) A) → old ≡ Stem s → IsWellFormed old → ¬ Splits (held_by old)
 stem_is_no_split old s is w sp =
     let ws : IsWellFormed (Stem s) = subst IsWellFormed is w in
-    let la : length (bits_from s.key s.from s.len) ≡ s.len = length-bits_from s.key s.from s.len in
-    stem_no_split (bits_from s.key s.from s.len) s.below.1 (omega (arith, la, ws.formed.0)) (subst (λ (m : SparseMap). Splits m) (ap held_by is) sp)
+    let la : length (bits_from s.value.key s.value.from s.value.len) ≡ s.value.len = length-bits_from s.value.key s.value.from s.value.len in
+    stem_no_split (bits_from s.value.key s.value.from s.value.len) s.value.below.1 (omega (arith, la, ws.formed.0)) (subst (λ (m : SparseMap). Splits m) (ap held_by is) sp)

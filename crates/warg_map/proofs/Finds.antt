@@ -2,6 +2,7 @@
 use Rattle.std.proofs.Common.{◌≡◌, ℕ, ◌+◌, ◌-◌, ◌<◌, Bool, true, false, cond, List, [], ◌∷◌, ◌++◌, Option, Some, None, refl, sym, ap, ◌∙◌, subst, arith}
 use Rattle.std.specs.FinMap.{insert, empty, get, get-insert}
 use Rattle.std.specs.Ordering.{eq_by_cmp}
+use Rattle.std.specs.declared.rc.Rc.{Rc}
 use Rattle.warg_map.specs.declared.node.Node.{Node}
 use Rattle.warg_map.specs.declared.node.Node.TheVariants.{Leaf, Fork, Singleton, Stem}
 use Rattle.warg_map.specs.declared.fork.Fork.{Fork as Fork'}
@@ -30,26 +31,26 @@ some_first false v o e = cc
 pub get-lone : (q : List Bool) (v : List ℕ) → get (insert (empty {K = List Bool} {X = List ℕ} {R = bits_cmp}) q v) q ≡ Some v
 get-lone q v = get-insert bits_total empty q v q ∙ some_first (eq_by_cmp bits_cmp q q) v _ (tied_itself_bits q)
 
-fork_finds : {D A : _} (f : Fork' D A) (b : Bool) (p : List Bool) (d : ℕ × SparseMap) → d ≡ (cond b f.right f.left) → get d.1 p ≡ get (held_by (Fork f)) (b ∷ p)
-fork_finds f true p d e = ap (λ x. get x.1 p) e ∙ sym (get-join_true f.left.1 f.right.1 p)
-fork_finds f false p d e = ap (λ x. get x.1 p) e ∙ sym (get-join_false f.left.1 f.right.1 p)
+fork_finds : {D A : _} (f : Rc (Fork' D A) A) (b : Bool) (p : List Bool) (d : ℕ × SparseMap) → d ≡ (cond b f.value.right f.value.left) → get d.1 p ≡ get (held_by (Fork f)) (b ∷ p)
+fork_finds f true p d e = ap (λ x. get x.1 p) e ∙ sym (get-join_true f.value.left.1 f.value.right.1 p)
+fork_finds f false p d e = ap (λ x. get x.1 p) e ∙ sym (get-join_false f.value.left.1 f.value.right.1 p)
 
-pub finds_in_fork : {D A : _} (old child : Node D A) (f : Fork' D A) (bits : List Bool) (b : Bool) (p : List Bool) (r : Option (List ℕ)) → old ≡ Fork f → bits ≡ b ∷ p → seen child ≡ (cond b f.right f.left) → r ≡ get (held_by child) p → r ≡ get (held_by old) bits
+pub finds_in_fork : {D A : _} (old child : Node D A) (f : Rc (Fork' D A) A) (bits : List Bool) (b : Bool) (p : List Bool) (r : Option (List ℕ)) → old ≡ Fork f → bits ≡ b ∷ p → seen child ≡ (cond b f.value.right f.value.left) → r ≡ get (held_by child) p → r ≡ get (held_by old) bits
 finds_in_fork old child f bits b p r is e s h = rw (is, e) (h ∙ fork_finds f b p (seen child) s)
 
-pub finds_lone : {D A : _} (old : Node D A) (s : Lone) (bits : List Bool) (r : List ℕ) → old ≡ Singleton s → bits ≡ last_bits s.key s.height → r ≡ s.value → Some r ≡ get (held_by old) bits
-finds_lone old s bits r is e h = ap Some h ∙ sym (ap (λ n. get (held_by n) bits) is ∙ ap (get (insert empty (last_bits s.key s.height) s.value)) e ∙ get-lone (last_bits s.key s.height) s.value)
+pub finds_lone : {D A : _} (old : Node D A) (s : Rc Lone A) (bits : List Bool) (r : List ℕ) → old ≡ Singleton s → bits ≡ last_bits s.value.key s.value.height → r ≡ s.value.value → Some r ≡ get (held_by old) bits
+finds_lone old s bits r is e h = ap Some h ∙ sym (ap (λ n. get (held_by n) bits) is ∙ ap (get (insert empty (last_bits s.value.key s.value.height) s.value.value)) e ∙ get-lone (last_bits s.value.key s.value.height) s.value.value)
 
-pub finds_leaf : {D A : _} (old : Node D A) (x : List ℕ) (bits : List Bool) (r : List ℕ) → old ≡ Leaf x → bits ≡ [] → r ≡ x → Some r ≡ get (held_by old) bits
-finds_leaf old x bits r is e h = ap Some h ∙ sym (ap (λ n. get (held_by n) bits) is ∙ ap (get (insert empty [] x)) e ∙ get-lone [] x)
+pub finds_leaf : {D A : _} (old : Node D A) (x : Rc (List ℕ) A) (bits : List Bool) (r : List ℕ) → old ≡ Leaf x → bits ≡ [] → r ≡ x.value → Some r ≡ get (held_by old) bits
+finds_leaf old x bits r is e h = ap Some h ∙ sym (ap (λ n. get (held_by n) bits) is ∙ ap (get (insert empty [] x.value)) e ∙ get-lone [] x.value)
 
 -- a path that shares all the bits of a lone key
-pub lone_same : {D A : _} (old : Node D A) (s : Lone) (hash : List ℕ) (from j : ℕ) → old ≡ Singleton s → height_of old + from ≡ 256 → j ≡ s.height → bits_from s.key from j ≡ bits_from hash from j → last_bits hash (256 - from) ≡ last_bits s.key s.height
+pub lone_same : {D A : _} (old : Node D A) (s : Rc Lone A) (hash : List ℕ) (from j : ℕ) → old ≡ Singleton s → height_of old + from ≡ 256 → j ≡ s.value.height → bits_from s.value.key from j ≡ bits_from hash from j → last_bits hash (256 - from) ≡ last_bits s.value.key s.value.height
 lone_same old s hash from j is height all same =
-    let hs : s.height + from ≡ 256 = sym (ap (λ d. height_of d + from) is) ∙ height in
-    let n : 256 - from ≡ s.height = omega (arith, hs) in
-    let whole : from + s.height ≡ 256 = omega (arith, hs) in
-    ap (last_bits hash) n ∙ last_bits-at hash from s.height whole ∙ ap (bits_from hash from) (sym all) ∙ sym same ∙ ap (bits_from s.key from) all ∙ sym (last_bits-at s.key from s.height whole)
+    let hs : s.value.height + from ≡ 256 = sym (ap (λ d. height_of d + from) is) ∙ height in
+    let n : 256 - from ≡ s.value.height = omega (arith, hs) in
+    let whole : from + s.value.height ≡ 256 = omega (arith, hs) in
+    ap (last_bits hash) n ∙ last_bits-at hash from s.value.height whole ∙ ap (bits_from hash from) (sym all) ∙ sym same ∙ ap (bits_from s.value.key from) all ∙ sym (last_bits-at s.value.key from s.value.height whole)
 
 finds_parted : (m held : SparseMap) (bits : List Bool) (one key : List ℕ) (from j len k : ℕ) → held ≡ under (bits_from one from len) m → bits ≡ bits_from key from (len + k) → j < len → bits_from one from j ≡ bits_from key from j → ¬ (bit_at one (from + j) ≡ bit_at key (from + j)) → None ≡ get held bits
 finds_parted m held bits one key from j len k was e lt same apart =
@@ -59,46 +60,46 @@ finds_parted m held bits one key from j len k was e lt same apart =
     let mine : bits ≡ a ++ bit_at key (from + j) ∷ bits_from key (from + (j + 1)) (len + k - (j + 1)) = e ∙ bits_from-part key from j (len + k) (omega (arith, lt)) in
     sym (ap (λ t. get t bits) (was ∙ ap (λ t. under t m) split) ∙ ap (get (under (a ++ bit_at one (from + j) ∷ cs) m)) mine ∙ get-under_apart a (bit_at key (from + j)) (bit_at one (from + j)) cs _ m apart)
 
-pub finds_none_lone : {D A : _} (old : Node D A) (s : Lone) (bits : List Bool) (key : List ℕ) (from j : ℕ) → old ≡ Singleton s → bits ≡ last_bits key (256 - from) → height_of old + from ≡ 256 → j < s.height → bits_from s.key from j ≡ bits_from key from j → ¬ (bit_at s.key (from + j) ≡ bit_at key (from + j)) → None ≡ get (held_by old) bits
+pub finds_none_lone : {D A : _} (old : Node D A) (s : Rc Lone A) (bits : List Bool) (key : List ℕ) (from j : ℕ) → old ≡ Singleton s → bits ≡ last_bits key (256 - from) → height_of old + from ≡ 256 → j < s.value.height → bits_from s.value.key from j ≡ bits_from key from j → ¬ (bit_at s.value.key (from + j) ≡ bit_at key (from + j)) → None ≡ get (held_by old) bits
 finds_none_lone old s bits key from j is e height lt same apart =
-    let hs : s.height + from ≡ 256 = sym (ap (λ d. height_of d + from) is) ∙ height in
-    let whole : from + s.height ≡ 256 = omega (arith, hs) in
-    let n : 256 - from ≡ s.height + 0 = omega (arith, hs) in
-    let whole' : from + (s.height + 0) ≡ 256 = omega (arith, hs) in
-    finds_parted (insert empty [] s.value) (held_by old) bits s.key key from j s.height 0
-    (ap held_by is ∙ ap (λ q. insert empty q s.value) (last_bits-at s.key from s.height whole) ∙ lone-under (bits_from s.key from s.height) s.value)
-    (e ∙ ap (last_bits key) n ∙ last_bits-at key from (s.height + 0) whole') lt same apart
+    let hs : s.value.height + from ≡ 256 = sym (ap (λ d. height_of d + from) is) ∙ height in
+    let whole : from + s.value.height ≡ 256 = omega (arith, hs) in
+    let n : 256 - from ≡ s.value.height + 0 = omega (arith, hs) in
+    let whole' : from + (s.value.height + 0) ≡ 256 = omega (arith, hs) in
+    finds_parted (insert empty [] s.value.value) (held_by old) bits s.value.key key from j s.value.height 0
+    (ap held_by is ∙ ap (λ q. insert empty q s.value.value) (last_bits-at s.value.key from s.value.height whole) ∙ lone-under (bits_from s.value.key from s.value.height) s.value.value)
+    (e ∙ ap (last_bits key) n ∙ last_bits-at key from (s.value.height + 0) whole') lt same apart
 
-pub finds_none_stem : {D A : _} (old : Node D A) (s : Stem' D A) (bits : List Bool) (key : List ℕ) (from j : ℕ) → old ≡ Stem s → IsWellFormed old → bits ≡ last_bits key (256 - from) → height_of old + from ≡ 256 → j < s.len → bits_from s.key from j ≡ bits_from key from j → ¬ (bit_at s.key (from + j) ≡ bit_at key (from + j)) → None ≡ get (held_by old) bits
+pub finds_none_stem : {D A : _} (old : Node D A) (s : Rc (Stem' D A) A) (bits : List Bool) (key : List ℕ) (from j : ℕ) → old ≡ Stem s → IsWellFormed old → bits ≡ last_bits key (256 - from) → height_of old + from ≡ 256 → j < s.value.len → bits_from s.value.key from j ≡ bits_from key from j → ¬ (bit_at s.value.key (from + j) ≡ bit_at key (from + j)) → None ≡ get (held_by old) bits
 finds_none_stem old s bits key from j is w e height lt same apart =
     let ws : IsWellFormed (Stem s) = subst IsWellFormed is w in
-    let hs : s.below.0 + s.len + from ≡ 256 = sym (ap (λ d. height_of d + from) is) ∙ height in
-    let fr : s.from ≡ from = omega (arith, ws.level, hs) in
-    let n : 256 - from ≡ s.len + s.below.0 = omega (arith, hs) in
-    let whole : from + (s.len + s.below.0) ≡ 256 = omega (arith, hs) in
-    finds_parted s.below.1 (held_by old) bits s.key key from j s.len s.below.0
-    (ap held_by is ∙ ap (λ i. under (bits_from s.key i s.len) s.below.1) fr)
-    (e ∙ ap (last_bits key) n ∙ last_bits-at key from (s.len + s.below.0) whole) lt same apart
+    let hs : s.value.below.0 + s.value.len + from ≡ 256 = sym (ap (λ d. height_of d + from) is) ∙ height in
+    let fr : s.value.from ≡ from = omega (arith, ws.level, hs) in
+    let n : 256 - from ≡ s.value.len + s.value.below.0 = omega (arith, hs) in
+    let whole : from + (s.value.len + s.value.below.0) ≡ 256 = omega (arith, hs) in
+    finds_parted s.value.below.1 (held_by old) bits s.value.key key from j s.value.len s.value.below.0
+    (ap held_by is ∙ ap (λ i. under (bits_from s.value.key i s.value.len) s.value.below.1) fr)
+    (e ∙ ap (last_bits key) n ∙ last_bits-at key from (s.value.len + s.value.below.0) whole) lt same apart
 
 -- the bits below a stem
-pub stem_bits : {D A : _} (old : Node D A) (s : Stem' D A) (bits low : List Bool) (key : List ℕ) (from len index : ℕ) → old ≡ Stem s → IsWellFormed old → bits ≡ last_bits key (256 - from) → height_of old + from ≡ 256 → len ≡ s.len → low ≡ last_bits key (256 - index) → index ≡ from + len → bits ≡ bits_from key from len ++ low
+pub stem_bits : {D A : _} (old : Node D A) (s : Rc (Stem' D A) A) (bits low : List Bool) (key : List ℕ) (from len index : ℕ) → old ≡ Stem s → IsWellFormed old → bits ≡ last_bits key (256 - from) → height_of old + from ≡ 256 → len ≡ s.value.len → low ≡ last_bits key (256 - index) → index ≡ from + len → bits ≡ bits_from key from len ++ low
 stem_bits old s bits low key from len index is w e height el lo ix =
-    let hs : s.below.0 + s.len + from ≡ 256 = sym (ap (λ d. height_of d + from) is) ∙ height in
-    let k = s.below.0 in
+    let hs : s.value.below.0 + s.value.len + from ≡ 256 = sym (ap (λ d. height_of d + from) is) ∙ height in
+    let k = s.value.below.0 in
     let n : 256 - from ≡ len + k = omega (arith, hs, el) in
     let k256 : k ≡ 256 - index = omega (arith, hs, el, ix) in
     let whole : from + (len + k) ≡ 256 = omega (arith, hs, el) in
     let whole' : from + len + k ≡ 256 = omega (arith, hs, el) in
     e ∙ ap (last_bits key) n ∙ last_bits-at key from (len + k) whole ∙ bits_from-append key from len k ∙ ap (λ t. bits_from key from len ++ t) (sym (last_bits-at key (from + len) k whole') ∙ ap (last_bits key) k256 ∙ sym lo)
 
-pub stem_held : {D A : _} (old : Node D A) (s : Stem' D A) (key : List ℕ) (from len : ℕ) → old ≡ Stem s → IsWellFormed old → height_of old + from ≡ 256 → len ≡ s.len → bits_from s.key from len ≡ bits_from key from len → seen old ≡ (s.below.0 + len, under (bits_from key from len) s.below.1)
+pub stem_held : {D A : _} (old : Node D A) (s : Rc (Stem' D A) A) (key : List ℕ) (from len : ℕ) → old ≡ Stem s → IsWellFormed old → height_of old + from ≡ 256 → len ≡ s.value.len → bits_from s.value.key from len ≡ bits_from key from len → seen old ≡ (s.value.below.0 + len, under (bits_from key from len) s.value.below.1)
 stem_held old s key from len is w height el same =
     let ws : IsWellFormed (Stem s) = subst IsWellFormed is w in
-    let hs : s.below.0 + s.len + from ≡ 256 = sym (ap (λ d. height_of d + from) is) ∙ height in
-    let fr : s.from ≡ from = omega (arith, ws.level, hs) in
-    ap seen is ∙ ap (λ j. (s.below.0 + s.len, under (bits_from s.key j s.len) s.below.1)) fr ∙ ap (λ j. (s.below.0 + j, under (bits_from s.key from j) s.below.1)) (sym el) ∙ ap (λ t. (s.below.0 + len, under t s.below.1)) same
+    let hs : s.value.below.0 + s.value.len + from ≡ 256 = sym (ap (λ d. height_of d + from) is) ∙ height in
+    let fr : s.value.from ≡ from = omega (arith, ws.level, hs) in
+    ap seen is ∙ ap (λ j. (s.value.below.0 + s.value.len, under (bits_from s.value.key j s.value.len) s.value.below.1)) fr ∙ ap (λ j. (s.value.below.0 + j, under (bits_from s.value.key from j) s.value.below.1)) (sym el) ∙ ap (λ t. (s.value.below.0 + len, under t s.value.below.1)) same
 
-pub finds_below : {D A : _} (old below : Node D A) (s : Stem' D A) (bits low : List Bool) (key : List ℕ) (from len index : ℕ) (r : Option (List ℕ)) → old ≡ Stem s → IsWellFormed old → bits ≡ last_bits key (256 - from) → height_of old + from ≡ 256 → len ≡ s.len → bits_from s.key from len ≡ bits_from key from len → seen below ≡ s.below → low ≡ last_bits key (256 - index) → index ≡ from + len → r ≡ get (held_by below) low → r ≡ get (held_by old) bits
+pub finds_below : {D A : _} (old below : Node D A) (s : Rc (Stem' D A) A) (bits low : List Bool) (key : List ℕ) (from len index : ℕ) (r : Option (List ℕ)) → old ≡ Stem s → IsWellFormed old → bits ≡ last_bits key (256 - from) → height_of old + from ≡ 256 → len ≡ s.value.len → bits_from s.value.key from len ≡ bits_from key from len → seen below ≡ s.value.below → low ≡ last_bits key (256 - index) → index ≡ from + len → r ≡ get (held_by below) low → r ≡ get (held_by old) bits
 finds_below old below s bits low key from len index r is w e height el same b lo ix h =
-    h ∙ ap (λ d. get d.1 low) b ∙ sym (get-under (bits_from key from len) low s.below.1)
-    ∙ sym (ap (λ d. get d.1 bits) (stem_held old s key from len is w height el same) ∙ ap (get (under (bits_from key from len) s.below.1)) (stem_bits old s bits low key from len index is w e height el lo ix))
+    h ∙ ap (λ d. get d.1 low) b ∙ sym (get-under (bits_from key from len) low s.value.below.1)
+    ∙ sym (ap (λ d. get d.1 bits) (stem_held old s key from len is w height el same) ∙ ap (get (under (bits_from key from len) s.value.below.1)) (stem_bits old s bits low key from len index is w e height el lo ix))

@@ -2,6 +2,7 @@
 use Rattle.std.proofs.Common.{◌≡◌, ℕ, ◌+◌, ◌-◌, ◌<◌, Bool, true, false, cond, List, [], ◌∷◌, ◌++◌, Some, None, is_some, refl, sym, ap, ◌∙◌, subst, arith, ◌⊎◌, inl, inr}
 use Rattle.std.specs.FinMap.{get, insert, empty, contains_key, get-insert, get-empty}
 use Rattle.std.specs.Ordering.{eq_by_cmp}
+use Rattle.std.specs.declared.rc.Rc.{Rc}
 use Rattle.warg_map.specs.declared.node.Node.{Node}
 use Rattle.warg_map.specs.declared.node.Node.TheVariants.{Leaf, Fork, Singleton, Stem, Empty}
 use Rattle.warg_map.specs.declared.fork.Fork.{Fork as Fork'}
@@ -14,11 +15,21 @@ use Rattle.warg_map.specs.Seen.{seen, height_of, held_by, IsWellFormed, IsForkOf
 use Rattle.warg_map.proofs.Sparse.{bits_total, get-join_true, get-join_false, contains_key-join_at, contains_key-insert_same, last_bits-step, length-bits_from}
 use Rattle.warg_map.proofs.Under.{under-append, under-none, bits_from-none, bits_from-append, last_bits-at, under_same, holds-under}
 
-pub fork_held : {D A : _} (b : Bool) (near far : ℕ × SparseMap) (f : Fork' D A) → IsForkOf b near far f → near.0 ≡ far.0 → seen (Fork f) ≡ (near.0 + 1, join_at b near.1 far.1)
+-- a node by what was read out of its variant
+pub is_fork : {D A : _} {n : Node D A} {rc : Rc (Fork' D A) A} {f : Fork' D A} → n ≡ Fork rc → f ≡ rc.value → n ≡ Fork (record rc { value = f })
+is_fork {rc = rc} is e = is ∙ ap (λ v. Fork (record rc { value = v })) (sym e)
+
+pub is_lone : {D A : _} {n : Node D A} {rc : Rc Lone A} {s : Lone} → n ≡ Singleton rc → s ≡ rc.value → n ≡ Singleton (record rc { value = s })
+is_lone {rc = rc} is e = is ∙ ap (λ v. Singleton (record rc { value = v })) (sym e)
+
+pub is_stem : {D A : _} {n : Node D A} {rc : Rc (Stem' D A) A} {s : Stem' D A} → n ≡ Stem rc → s ≡ rc.value → n ≡ Stem (record rc { value = s })
+is_stem {rc = rc} is e = is ∙ ap (λ v. Stem (record rc { value = v })) (sym e)
+
+pub fork_held : {D A : _} (b : Bool) (near far : ℕ × SparseMap) (f : Rc (Fork' D A) A) → IsForkOf b near far f.value → near.0 ≡ far.0 → seen (Fork f) ≡ (near.0 + 1, join_at b near.1 far.1)
 fork_held true near far f h e = cc
 fork_held false near far f h e = cc
 
-pub fork_formed : {D A : _} (b : Bool) (near far : ℕ × SparseMap) (f : Fork' D A) → IsForkOf b near far f → near.0 ≡ far.0 → near.0 < 256 → HoldsKey near.1 → HoldsKey far.1 → IsWellFormed (Fork f)
+pub fork_formed : {D A : _} (b : Bool) (near far : ℕ × SparseMap) (f : Rc (Fork' D A) A) → IsForkOf b near far f.value → near.0 ≡ far.0 → near.0 < 256 → HoldsKey near.1 → HoldsKey far.1 → IsWellFormed (Fork f)
 fork_formed true near far f h e lt n o =
     record {
       level = (cc, rw (ap (λ d. d.0) h.left, ← e) lt);
@@ -30,7 +41,7 @@ fork_formed false near far f h e lt n o =
       formed = (subst (λ (d : ℕ × SparseMap). HoldsKey d.1) (sym h.left) n, subst (λ (d : ℕ × SparseMap). HoldsKey d.1) (sym h.right) o);
     }
 
-pub fork_has : {D A : _} (b : Bool) (near far : ℕ × SparseMap) (f : Fork' D A) (key : List ℕ) → IsForkOf b near far f → near.0 ≡ far.0 → near.0 < 256 → bit_at key (255 - near.0) ≡ b → contains_key near.1 (last_bits key near.0) ≡ true → contains_key (held_by (Fork f)) (last_bits key (height_of (Fork f))) ≡ true
+pub fork_has : {D A : _} (b : Bool) (near far : ℕ × SparseMap) (f : Rc (Fork' D A) A) (key : List ℕ) → IsForkOf b near far f.value → near.0 ≡ far.0 → near.0 < 256 → bit_at key (255 - near.0) ≡ b → contains_key near.1 (last_bits key near.0) ≡ true → contains_key (held_by (Fork f)) (last_bits key (height_of (Fork f))) ≡ true
 fork_has b near far f key h e lt at has =
     subst (λ (d : ℕ × SparseMap). contains_key d.1 (last_bits key d.0) ≡ true) (sym (fork_held b near far f h e))
     (ap (contains_key (join_at b near.1 far.1)) (last_bits-step key near.0 lt ∙ ap (λ x. x ∷ last_bits key near.0) at) ∙ contains_key-join_at b near.1 far.1 (last_bits key near.0) ∙ has)
@@ -74,10 +85,10 @@ pub lone_no_split : (p : List Bool) (v : List ℕ) → ¬ Splits (insert empty p
 lone_no_split p v s = no_lone p s.0.0 s.1.0 (lone_tied p _ v s.0.1) (lone_tied p _ v s.1.1)
 
 -- what stands below bits
-formed_below : {D A : _} (node : Node D A) (from len : ℕ) → IsWellFormed node → Carries node → ((s : Stem' D A) → node ≡ Stem s → ⊥) → ¬ (len ≡ 0) → from + len + height_of node ≡ 256 → Splits (held_by node) ⊎ ((len ≡ 1) × (height_of node ≡ 255) × IsLone (held_by node))
+formed_below : {D A : _} (node : Node D A) (from len : ℕ) → IsWellFormed node → Carries node → ((s : Rc (Stem' D A) A) → node ≡ Stem s → ⊥) → ¬ (len ≡ 0) → from + len + height_of node ≡ 256 → Splits (held_by node) ⊎ ((len ≡ 1) × (height_of node ≡ 255) × IsLone (held_by node))
 formed_below (Leaf d) from len w c n z h = absurd c
-formed_below (Fork f) from len w c n z h = inl (splits_join f.left.1 f.right.1 w.formed.0 w.formed.1)
-formed_below (Singleton s) from len w c n z h = inr (omega (arith, c, h, z), c, (last_bits s.key s.height, s.value, refl))
+formed_below (Fork f) from len w c n z h = inl (splits_join f.value.left.1 f.value.right.1 w.formed.0 w.formed.1)
+formed_below (Singleton s) from len w c n z h = inr (omega (arith, c, h, z), c, (last_bits s.value.key s.value.height, s.value.value, refl))
 formed_below (Stem s) from len w c n z h = absurd (n s refl)
 formed_below (Empty k) from len w c n z h = absurd c
 
@@ -89,13 +100,13 @@ raised_none n key from len h w =
       well_formed = w;
     }
 
-pub raised_other : {D A : _} (node : Node D A) (s : Stem' D A) (key : List ℕ) (from len : ℕ) → IsWellFormed node → Carries node → ((x : Stem' D A) → node ≡ Stem x → ⊥) → ¬ (len ≡ 0) → from + len + height_of node ≡ 256 → s.key ≡ key → s.from ≡ from → s.len ≡ len → s.below ≡ seen node → IsSeen (Stem s) (height_of node + len) (under (bits_from key from len) (held_by node))
+pub raised_other : {D A : _} (node : Node D A) (s : Rc (Stem' D A) A) (key : List ℕ) (from len : ℕ) → IsWellFormed node → Carries node → ((x : Rc (Stem' D A) A) → node ≡ Stem x → ⊥) → ¬ (len ≡ 0) → from + len + height_of node ≡ 256 → s.value.key ≡ key → s.value.from ≡ from → s.value.len ≡ len → s.value.below ≡ seen node → IsSeen (Stem s) (height_of node + len) (under (bits_from key from len) (held_by node))
 raised_other node s key from len w c n z h ek ef el eb =
     record {
-      seen_as = ap (λ d. (d.0 + s.len, under (bits_from s.key s.from s.len) d.1)) eb ∙ ap (λ j. (height_of node + j, under (bits_from s.key s.from j) (held_by node))) el ∙ ap (λ j. (height_of node + len, under (bits_from s.key j len) (held_by node))) ef ∙ ap (λ j. (height_of node + len, under (bits_from j from len) (held_by node))) ek;
+      seen_as = ap (λ d. (d.0 + s.value.len, under (bits_from s.value.key s.value.from s.value.len) d.1)) eb ∙ ap (λ j. (height_of node + j, under (bits_from s.value.key s.value.from j) (held_by node))) el ∙ ap (λ j. (height_of node + len, under (bits_from s.value.key j len) (held_by node))) ef ∙ ap (λ j. (height_of node + len, under (bits_from j from len) (held_by node))) ek;
       well_formed = record {
-        level = ap (λ j. j + s.len + s.below.0) ef ∙ ap (λ j. from + j + s.below.0) el ∙ ap (λ d. from + len + d.0) eb ∙ h;
-        formed = (omega (arith, el, z), subst (λ (d : ℕ × SparseMap). Splits d.1 ⊎ ((s.len ≡ 1) × (d.0 ≡ 255) × IsLone d.1)) (sym eb) (subst (λ (j : ℕ). Splits (held_by node) ⊎ ((j ≡ 1) × (height_of node ≡ 255) × IsLone (held_by node))) (sym el) (formed_below node from len w c n z h)));
+        level = ap (λ j. j + s.value.len + s.value.below.0) ef ∙ ap (λ j. from + j + s.value.below.0) el ∙ ap (λ d. from + len + d.0) eb ∙ h;
+        formed = (omega (arith, el, z), subst (λ (d : ℕ × SparseMap). Splits d.1 ⊎ ((s.value.len ≡ 1) × (d.0 ≡ 255) × IsLone d.1)) (sym eb) (subst (λ (j : ℕ). Splits (held_by node) ⊎ ((j ≡ 1) × (height_of node ≡ 255) × IsLone (held_by node))) (sym el) (formed_below node from len w c n z h)));
       };
     }
 
@@ -103,34 +114,34 @@ lower_splits : (lower_len k from len : ℕ) (m : SparseMap) → ¬ (len ≡ 0) �
 lower_splits l k from len m z h (inl s) = s
 lower_splits l k from len m z h (inr o) = absurd (omega (arith, o.0, o.1, z, h))
 
-stem_more : {D A : _} (lower s : Stem' D A) (key : List ℕ) (from len : ℕ) → IsWellFormed (Stem lower) → ¬ (len ≡ 0) → from + len + (lower.below.0 + lower.len) ≡ 256 → contains_key (held_by (Stem lower)) (last_bits key (lower.below.0 + lower.len)) ≡ true → s.key ≡ key → s.from ≡ from → s.len ≡ len + lower.len → s.below ≡ lower.below → IsSeen (Stem s) (lower.below.0 + lower.len + len) (under (bits_from key from len) (held_by (Stem lower)))
+stem_more : {D A : _} (lower s : Rc (Stem' D A) A) (key : List ℕ) (from len : ℕ) → IsWellFormed (Stem lower) → ¬ (len ≡ 0) → from + len + (lower.value.below.0 + lower.value.len) ≡ 256 → contains_key (held_by (Stem lower)) (last_bits key (lower.value.below.0 + lower.value.len)) ≡ true → s.value.key ≡ key → s.value.from ≡ from → s.value.len ≡ len + lower.value.len → s.value.below ≡ lower.value.below → IsSeen (Stem s) (lower.value.below.0 + lower.value.len + len) (under (bits_from key from len) (held_by (Stem lower)))
 stem_more lower s key from len w z h has ek ef el eb =
-    let k = lower.below.0 in
-    let m = lower.below.1 in
-    let l = lower.len in
+    let k = lower.value.below.0 in
+    let m = lower.value.below.1 in
+    let l = lower.value.len in
     let swap : k + l ≡ l + k = omega arith in
     let whole : last_bits key (k + l) ≡ bits_from key (from + len) l ++ bits_from key (from + len + l) k = last_bits-at key (from + len) (k + l) h ∙ ap (bits_from key (from + len)) swap ∙ bits_from-append key (from + len) l k in
-    let same : bits_from key (from + len) l ≡ bits_from lower.key lower.from l = under_same _ _ (bits_from key (from + len + l) k) m (length-bits_from key (from + len) l ∙ sym (length-bits_from lower.key lower.from l)) (ap (contains_key (held_by (Stem lower))) (sym whole) ∙ has) in
+    let same : bits_from key (from + len) l ≡ bits_from lower.value.key lower.value.from l = under_same _ _ (bits_from key (from + len + l) k) m (length-bits_from key (from + len) l ∙ sym (length-bits_from lower.value.key lower.value.from l)) (ap (contains_key (held_by (Stem lower))) (sym whole) ∙ has) in
     let held : under (bits_from key from (len + l)) m ≡ under (bits_from key from len) (held_by (Stem lower)) = ap (λ t. under t m) (bits_from-append key from len l) ∙ under-append (bits_from key from len) (bits_from key (from + len) l) m ∙ ap (λ t. under (bits_from key from len) (under t m)) same in
     let sum : k + (len + l) ≡ k + l + len = omega arith in
     let lev : from + (len + l) + k ≡ 256 = omega (arith, h) in
     record {
-      seen_as = ap (λ d. (d.0 + s.len, under (bits_from s.key s.from s.len) d.1)) eb ∙ ap (λ j. (k + j, under (bits_from s.key s.from j) m)) el ∙ ap (λ j. (k + (len + l), under (bits_from s.key j (len + l)) m)) ef ∙ ap (λ j. (k + (len + l), under (bits_from j from (len + l)) m)) ek ∙ ap (λ t. (k + (len + l), t)) held ∙ ap (λ j. (j, under (bits_from key from len) (held_by (Stem lower)))) sum;
+      seen_as = ap (λ d. (d.0 + s.value.len, under (bits_from s.value.key s.value.from s.value.len) d.1)) eb ∙ ap (λ j. (k + j, under (bits_from s.value.key s.value.from j) m)) el ∙ ap (λ j. (k + (len + l), under (bits_from s.value.key j (len + l)) m)) ef ∙ ap (λ j. (k + (len + l), under (bits_from j from (len + l)) m)) ek ∙ ap (λ t. (k + (len + l), t)) held ∙ ap (λ j. (j, under (bits_from key from len) (held_by (Stem lower)))) sum;
       well_formed = record {
-        level = ap (λ j. j + s.len + s.below.0) ef ∙ ap (λ j. from + j + s.below.0) el ∙ ap (λ d. from + (len + l) + d.0) eb ∙ lev;
+        level = ap (λ j. j + s.value.len + s.value.below.0) ef ∙ ap (λ j. from + j + s.value.below.0) el ∙ ap (λ d. from + (len + l) + d.0) eb ∙ lev;
         formed = (omega (arith, el, z), inl (subst (λ (d : ℕ × SparseMap). Splits d.1) (sym eb) (lower_splits l k from len m z h w.formed.1)));
       };
     }
 
-pub raised_stem : {D A : _} (node : Node D A) (lower s : Stem' D A) (key : List ℕ) (from len : ℕ) → node ≡ Stem lower → IsWellFormed node → ¬ (len ≡ 0) → from + len + height_of node ≡ 256 → contains_key (held_by node) (last_bits key (height_of node)) ≡ true → s.key ≡ key → s.from ≡ from → s.len ≡ len + lower.len → s.below ≡ lower.below → IsSeen (Stem s) (height_of node + len) (under (bits_from key from len) (held_by node))
+pub raised_stem : {D A : _} (node : Node D A) (lower s : Rc (Stem' D A) A) (key : List ℕ) (from len : ℕ) → node ≡ Stem lower → IsWellFormed node → ¬ (len ≡ 0) → from + len + height_of node ≡ 256 → contains_key (held_by node) (last_bits key (height_of node)) ≡ true → s.value.key ≡ key → s.value.from ≡ from → s.value.len ≡ len + lower.value.len → s.value.below ≡ lower.value.below → IsSeen (Stem s) (height_of node + len) (under (bits_from key from len) (held_by node))
 raised_stem node lower s key from len is w z h has ek ef el eb =
     rw is (stem_more lower s key from len (subst IsWellFormed is w) z (rw is at h) (rw is at has) ek ef el eb)
 
 -- what stands below a stem after an insertion
 splits_carries : {D A : _} (node : Node D A) → IsWellFormed node → height_of node < 256 → Splits (held_by node) → Carries node
-splits_carries (Leaf d) w h s = lone_no_split [] d s
+splits_carries (Leaf d) w h s = lone_no_split [] d.value s
 splits_carries (Fork f) w h s = tt
-splits_carries (Singleton l) w h s = absurd (lone_no_split (last_bits l.key l.height) l.value s)
+splits_carries (Singleton l) w h s = absurd (lone_no_split (last_bits l.value.key l.value.height) l.value.value s)
 splits_carries (Stem t) w h s = tt
 splits_carries (Empty n) w h s = omega (arith, w.formed, h)
 
@@ -147,16 +158,16 @@ after_by len from k m p v node lev some (inl s) w e =
     splits_carries node w (omega (arith, h, lev, some)) (subst (λ (d : ℕ × SparseMap). Splits d.1) (sym e) (splits_after m p v s))
 after_by len from k m p v node lev some (inr o) w e = high_carries node w (ap (λ d. d.0) e ∙ o.1)
 
-pub after_carries : {D A : _} (old : Node D A) (s : Stem' D A) (below node : Node D A) (p : List Bool) (v : List ℕ) → old ≡ Stem s → IsWellFormed old → seen below ≡ s.below → IsWellFormed node → seen node ≡ (height_of below, insert (held_by below) p v) → Carries node
+pub after_carries : {D A : _} (old : Node D A) (s : Rc (Stem' D A) A) (below node : Node D A) (p : List Bool) (v : List ℕ) → old ≡ Stem s → IsWellFormed old → seen below ≡ s.value.below → IsWellFormed node → seen node ≡ (height_of below, insert (held_by below) p v) → Carries node
 after_carries old s below node p v is w b wn e =
     let ws : IsWellFormed (Stem s) = subst IsWellFormed is w in
-    after_by s.len s.from s.below.0 s.below.1 p v node ws.level ws.formed.0 ws.formed.1 wn (e ∙ ap (λ d. (d.0, insert d.1 p v)) b)
+    after_by s.value.len s.value.from s.value.below.0 s.value.below.1 p v node ws.level ws.formed.0 ws.formed.1 wn (e ∙ ap (λ d. (d.0, insert d.1 p v)) b)
 
 pub stem_holds : (len k : ℕ) (m : SparseMap) → Splits m ⊎ ((len ≡ 1) × (k ≡ 255) × IsLone m) → HoldsKey m
 stem_holds len k m (inl s) = (false ∷ s.0.0, s.0.1)
 stem_holds len k m (inr o) = (o.2.0, ap (λ t. contains_key t o.2.0) o.2.2 ∙ contains_key-insert_same empty o.2.0 o.2.1)
 
-pub rest_holds : {D A : _} (old : Node D A) (s : Stem' D A) (far : ℕ × SparseMap) (k : ℕ) (bs : List Bool) → old ≡ Stem s → IsWellFormed old → far ≡ (k, under bs s.below.1) → HoldsKey far.1
+pub rest_holds : {D A : _} (old : Node D A) (s : Rc (Stem' D A) A) (far : ℕ × SparseMap) (k : ℕ) (bs : List Bool) → old ≡ Stem s → IsWellFormed old → far ≡ (k, under bs s.value.below.1) → HoldsKey far.1
 rest_holds old s far k bs is w e =
     let ws : IsWellFormed (Stem s) = subst IsWellFormed is w in
-    subst (λ (d : ℕ × SparseMap). HoldsKey d.1) (sym e) (holds-under bs s.below.1 (stem_holds s.len s.below.0 s.below.1 ws.formed.1))
+    subst (λ (d : ℕ × SparseMap). HoldsKey d.1) (sym e) (holds-under bs s.value.below.1 (stem_holds s.value.len s.value.below.0 s.value.below.1 ws.formed.1))

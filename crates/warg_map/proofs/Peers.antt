@@ -5,6 +5,7 @@ use Rattle.std.proofs.lemmas.Bool.{eqb-true}
 use Rattle.std.specs.Prelude.{reverse}
 use Rattle.std.specs.FinMap.{insert, empty, contains_key, get, get-insert, get-empty}
 use Rattle.std.specs.Ordering.{eq_by_cmp}
+use Rattle.std.specs.declared.rc.Rc.{Rc}
 use Rattle.warg_map.specs.declared.node.Node.{Node}
 use Rattle.warg_map.specs.declared.node.Node.TheVariants.{Leaf, Fork, Singleton, Stem}
 use Rattle.warg_map.specs.declared.fork.Fork.{Fork as Fork'}
@@ -184,34 +185,34 @@ fork_proves H h k b near far p ps d lt o e pr = record {
   count = subst (IsPeerCount (lone_peers h) (join_at b near far) (b ∷ p)) (sym (length_peers ps (Some d ∷ []))) (fork_count (lone_peers h) b near far p (length ps) o (subst (λ (j : ℕ). IsPeerCount j near p (length ps)) (not_high k lt) pr.count));
 }
 
-in_fork : {D A : _} (H : List ℕ → List ℕ) (f : Fork' D A) (b : Bool) (p : List Bool) (ps : List (Option (List ℕ))) (d : List ℕ) (child x : ℕ × SparseMap) → IsWellFormed (Fork f) → length p ≡ f.left.0 → child ≡ (cond b f.right f.left) → x ≡ (cond (not b) f.right f.left) → d ≡ sparse_root H x.0 x.1 → Proves H child.0 child.1 p ps → Proves H (height_of (Fork f)) (held_by (Fork f)) (b ∷ p) (ps ++ Some d ∷ [])
+in_fork : {D A : _} (H : List ℕ → List ℕ) (f : Rc (Fork' D A) A) (b : Bool) (p : List Bool) (ps : List (Option (List ℕ))) (d : List ℕ) (child x : ℕ × SparseMap) → IsWellFormed (Fork f) → length p ≡ f.value.left.0 → child ≡ (cond b f.value.right f.value.left) → x ≡ (cond (not b) f.value.right f.value.left) → d ≡ sparse_root H x.0 x.1 → Proves H child.0 child.1 p ps → Proves H (height_of (Fork f)) (held_by (Fork f)) (b ∷ p) (ps ++ Some d ∷ [])
 in_fork H f true p ps d child x w len ce xe e h =
-    fork_proves H _ f.right.0 true f.right.1 f.left.1 p ps d (omega (arith, w.level.0, w.level.1)) w.formed.0
-    (e ∙ ap (λ c. sparse_root H c.0 c.1) xe ∙ ap (λ n. sparse_root H n f.left.1) (sym len)) (subst (λ (c : ℕ × SparseMap). Proves H c.0 c.1 p ps) ce h)
+    fork_proves H _ f.value.right.0 true f.value.right.1 f.value.left.1 p ps d (omega (arith, w.level.0, w.level.1)) w.formed.0
+    (e ∙ ap (λ c. sparse_root H c.0 c.1) xe ∙ ap (λ n. sparse_root H n f.value.left.1) (sym len)) (subst (λ (c : ℕ × SparseMap). Proves H c.0 c.1 p ps) ce h)
 in_fork H f false p ps d child x w len ce xe e h =
-    fork_proves H _ f.left.0 false f.left.1 f.right.1 p ps d w.level.1 w.formed.1
-    (e ∙ ap (λ c. sparse_root H c.0 c.1) xe ∙ ap (λ n. sparse_root H n f.right.1) (sym (len ∙ w.level.0))) (subst (λ (c : ℕ × SparseMap). Proves H c.0 c.1 p ps) ce h)
+    fork_proves H _ f.value.left.0 false f.value.left.1 f.value.right.1 p ps d w.level.1 w.formed.1
+    (e ∙ ap (λ c. sparse_root H c.0 c.1) xe ∙ ap (λ n. sparse_root H n f.value.right.1) (sym (len ∙ w.level.0))) (subst (λ (c : ℕ × SparseMap). Proves H c.0 c.1 p ps) ce h)
 
-pub proves_in_fork : {D A : _} (H : List ℕ → List ℕ) (old child : Node D A) (f : Fork' D A) (bits : List Bool) (b : Bool) (p : List Bool) (ps new : List (Option (List ℕ))) (d : List ℕ) (x : ℕ × SparseMap) → old ≡ Fork f → IsWellFormed old → bits ≡ b ∷ p → length p + 1 ≡ height_of old → seen child ≡ (cond b f.right f.left) → x ≡ (cond (not b) f.right f.left) → d ≡ sparse_root H x.0 x.1 → Proves H (height_of child) (held_by child) p ps → new ≡ ps ++ Some d ∷ [] → Proves H (height_of old) (held_by old) bits new
+pub proves_in_fork : {D A : _} (H : List ℕ → List ℕ) (old child : Node D A) (f : Rc (Fork' D A) A) (bits : List Bool) (b : Bool) (p : List Bool) (ps new : List (Option (List ℕ))) (d : List ℕ) (x : ℕ × SparseMap) → old ≡ Fork f → IsWellFormed old → bits ≡ b ∷ p → length p + 1 ≡ height_of old → seen child ≡ (cond b f.value.right f.value.left) → x ≡ (cond (not b) f.value.right f.value.left) → d ≡ sparse_root H x.0 x.1 → Proves H (height_of child) (held_by child) p ps → new ≡ ps ++ Some d ∷ [] → Proves H (height_of old) (held_by old) bits new
 proves_in_fork H old child f bits b p ps new d x is w e len ce xe de h n =
     let wf : IsWellFormed (Fork f) = subst IsWellFormed is w in
-    let k : length p + 1 ≡ f.left.0 + 1 = len ∙ ap height_of is in
+    let k : length p + 1 ≡ f.value.left.0 + 1 = len ∙ ap height_of is in
     rw (is, e, n) (in_fork H f b p ps d (seen child) x wf (omega (arith, k)) ce xe de h)
 
-pub proves_single : {D A : _} (H : List ℕ → List ℕ) (old : Node D A) (s : Lone) (bits : List Bool) (ps : List (Option (List ℕ))) → old ≡ Singleton s → IsWellFormed old → bits ≡ last_bits s.key s.height → ps ≡ [] → Proves H (height_of old) (held_by old) bits ps
+pub proves_single : {D A : _} (H : List ℕ → List ℕ) (old : Node D A) (s : Rc Lone A) (bits : List Bool) (ps : List (Option (List ℕ))) → old ≡ Singleton s → IsWellFormed old → bits ≡ last_bits s.value.key s.value.height → ps ≡ [] → Proves H (height_of old) (held_by old) bits ps
 proves_single H old s bits ps is w e n =
     let ws : IsWellFormed (Singleton s) = subst IsWellFormed is w in
-    rw (is, e, n) (proves_lone H s.height (last_bits s.key s.height) s.value ws.formed)
+    rw (is, e, n) (proves_lone H s.value.height (last_bits s.value.key s.value.height) s.value.value ws.formed)
 
-pub proves_leaf : {D A : _} (H : List ℕ → List ℕ) (old : Node D A) (x : List ℕ) (bits : List Bool) (ps : List (Option (List ℕ))) → old ≡ Leaf x → bits ≡ [] → ps ≡ [] → Proves H (height_of old) (held_by old) bits ps
-proves_leaf H old x bits ps is e n = rw (is, e, n) (proves_lone H 0 [] x (omega arith))
+pub proves_leaf : {D A : _} (H : List ℕ → List ℕ) (old : Node D A) (x : Rc (List ℕ) A) (bits : List Bool) (ps : List (Option (List ℕ))) → old ≡ Leaf x → bits ≡ [] → ps ≡ [] → Proves H (height_of old) (held_by old) bits ps
+proves_leaf H old x bits ps is e n = rw (is, e, n) (proves_lone H 0 [] x.value (omega arith))
 
-pub proves_stem : {D A : _} (H : List ℕ → List ℕ) (old below : Node D A) (s : Stem' D A) (bits low : List Bool) (key : List ℕ) (from len index low_height : ℕ) (ps new : List (Option (List ℕ))) → old ≡ Stem s → IsWellFormed old → bits ≡ last_bits key (256 - from) → height_of old + from ≡ 256 → len ≡ s.len → bits_from s.key from len ≡ bits_from key from len → seen below ≡ s.below → low ≡ last_bits key (256 - index) → index ≡ from + len → low_height ≡ 256 - s.from - s.len → length low ≡ 256 - index → Proves H (height_of below) (held_by below) low ps → new ≡ ps ++ empty_peers H low_height len → Proves H (height_of old) (held_by old) bits new
+pub proves_stem : {D A : _} (H : List ℕ → List ℕ) (old below : Node D A) (s : Rc (Stem' D A) A) (bits low : List Bool) (key : List ℕ) (from len index low_height : ℕ) (ps new : List (Option (List ℕ))) → old ≡ Stem s → IsWellFormed old → bits ≡ last_bits key (256 - from) → height_of old + from ≡ 256 → len ≡ s.value.len → bits_from s.value.key from len ≡ bits_from key from len → seen below ≡ s.value.below → low ≡ last_bits key (256 - index) → index ≡ from + len → low_height ≡ 256 - s.value.from - s.value.len → length low ≡ 256 - index → Proves H (height_of below) (held_by below) low ps → new ≡ ps ++ empty_peers H low_height len → Proves H (height_of old) (held_by old) bits new
 proves_stem H old below s bits low key from len index low_height ps new is w e height el same b lo ix lh ll pr n =
     let ws : IsWellFormed (Stem s) = subst IsWellFormed is w in
-    let hs : s.below.0 + s.len + from ≡ 256 = sym (ap (λ d. height_of d + from) is) ∙ height in
-    let k = s.below.0 in
-    let m = s.below.1 in
+    let hs : s.value.below.0 + s.value.len + from ≡ 256 = sym (ap (λ d. height_of d + from) is) ∙ height in
+    let k = s.value.below.0 in
+    let m = s.value.below.1 in
     let a = bits_from key from len in
     let la : length a ≡ len = length-bits_from key from len in
     let below_pr : Proves H k m low ps = subst (λ (d : ℕ × SparseMap). Proves H d.0 d.1 low ps) b pr in

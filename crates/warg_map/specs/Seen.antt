@@ -4,24 +4,25 @@ use Rattle.std.specs.FinMap.{insert, empty, contains_key}
 use Rattle.warg_map.specs.declared.node.Node.{Node}
 use Rattle.warg_map.specs.declared.node.Node.TheVariants.{Leaf, Fork, Singleton, Stem, Empty}
 use Rattle.warg_map.specs.declared.fork.Fork.{Fork as Fork'}
-use Rattle.warg_map.specs.Bits.{last_bits, bits_from}
+use Rattle.warg_map.specs.Bits.{bits_from}
 use Rattle.warg_map.specs.Sparse.{SparseMap}
+use Rattle.warg_map.specs.Lone.{held_alone}
 use Rattle.warg_map.specs.Under.{join, under, HoldsKey, Splits, IsLone}
 
 -- The height of a node: the number of levels of its tree.
 abbrev pub height_of : {D A : _} → Node D A → ℕ
 height_of (Leaf h) = 0
-height_of (Fork f) = f.left.0 + 1
-height_of (Singleton s) = s.height
-height_of (Stem s) = s.below.0 + s.len
+height_of (Fork f) = f.value.left.0 + 1
+height_of (Singleton s) = s.value.height
+height_of (Stem s) = s.value.below.0 + s.value.len
 height_of (Empty n) = n
 
 -- The map that a node stands for.
 abbrev pub held_by : {D A : _} → Node D A → SparseMap
-held_by (Leaf h) = insert empty [] h
-held_by (Fork f) = join f.left.1 f.right.1
-held_by (Singleton s) = insert empty (last_bits s.key s.height) s.value
-held_by (Stem s) = under (bits_from s.key s.from s.len) s.below.1
+held_by (Leaf h) = insert empty [] h.value
+held_by (Fork f) = join f.value.left.1 f.value.right.1
+held_by (Singleton s) = held_alone s.value
+held_by (Stem s) = under (bits_from s.value.key s.value.from s.value.len) s.value.below.1
 held_by (Empty n) = empty
 
 -- What a link shows of its node: the height, and the map.
@@ -31,17 +32,21 @@ seen n = (height_of n, held_by n)
 -- The heights fit, and a stem's bits stand at their place in a key digest.
 abbrev pub IsLevel : {D A : _} → Node D A → Type 0
 IsLevel (Leaf h) = Unit {0}
-IsLevel (Fork f) = (f.left.0 ≡ f.right.0) × (f.left.0 < 256)
-IsLevel (Singleton s) = s.height ≤ 256
-IsLevel (Stem s) = s.from + s.len + s.below.0 ≡ 256
+IsLevel (Fork f) = (f.value.left.0 ≡ f.value.right.0) × (f.value.left.0 < 256)
+IsLevel (Singleton s) = s.value.height ≤ 256
+IsLevel (Stem s) = s.value.from + s.value.len + s.value.below.0 ≡ 256
 IsLevel (Empty n) = n ≤ 256
 
--- The form of the tree: a fork holds a key on each side; below a stem stands a fork, or, below a stem of one bit at the top, a lone key; and nothing stands for nothing but the whole map of nothing.
+-- What stands below a stem of this length: a fork, or, below a stem of one bit at the top, a lone key.
+abbrev pub IsBelow : ℕ → ℕ × SparseMap → Type 0
+IsBelow len below = Splits below.1 ⊎ ((len ≡ 1) × (below.0 ≡ 255) × IsLone below.1)
+
+-- The form of the tree: a fork holds a key on each side; a stem has bits, and below them what may stand there; and nothing stands for nothing but the whole map of nothing.
 abbrev pub IsFormed : {D A : _} → Node D A → Type 0
 IsFormed (Leaf h) = Unit {0}
-IsFormed (Fork f) = HoldsKey f.left.1 × HoldsKey f.right.1
-IsFormed (Singleton s) = s.height < 256
-IsFormed (Stem s) = (0 < s.len) × (Splits s.below.1 ⊎ ((s.len ≡ 1) × (s.below.0 ≡ 255) × IsLone s.below.1))
+IsFormed (Fork f) = HoldsKey f.value.left.1 × HoldsKey f.value.right.1
+IsFormed (Singleton s) = s.value.height < 256
+IsFormed (Stem s) = (0 < s.value.len) × IsBelow s.value.len s.value.below
 IsFormed (Empty n) = n ≡ 256
 
 -- A node that may stand in a map's tree.
@@ -49,11 +54,11 @@ pub record IsWellFormed {D A : _} (n : Node D A) : Type 0 where
   pub level : IsLevel n
   pub formed : IsFormed n
 
--- The new node is the old one with the bits set to the value, and `fresh` says whether these bits were not held.
-pub record Inserts {D A : _} (old : Node D A) (bits : List Bool) (value : List ℕ) (new : Node D A) (fresh : Bool) : Type 0 where
-  pub seen_as : seen new ≡ (height_of old, insert (held_by old) bits value)
+-- The new node is what was seen before with the bits set to the value, and `fresh` says whether these bits were not held.
+pub record Inserts {D A : _} (old : ℕ × SparseMap) (bits : List Bool) (value : List ℕ) (new : Node D A) (fresh : Bool) : Type 0 where
+  pub seen_as : seen new ≡ (old.0, insert old.1 bits value)
   pub well_formed : IsWellFormed new
-  pub is_fresh : fresh ≡ not (contains_key (held_by old) bits)
+  pub is_fresh : fresh ≡ not (contains_key old.1 bits)
 
 -- A fork that sees `near` on the side of the bit, and `far` on the other.
 pub record IsForkOf {D A : _} (bit : Bool) (near far : ℕ × SparseMap) (f : Fork' D A) : Type 0 where
@@ -64,7 +69,7 @@ pub record IsForkOf {D A : _} (bit : Bool) (near far : ℕ × SparseMap) (f : Fo
 abbrev pub Carries : {D A : _} → Node D A → Type 0
 Carries (Leaf h) = ⊥
 Carries (Fork f) = Unit {0}
-Carries (Singleton s) = s.height ≡ 255
+Carries (Singleton s) = s.value.height ≡ 255
 Carries (Stem s) = Unit {0}
 Carries (Empty n) = ⊥
 

@@ -14,7 +14,7 @@
 //! ```
 //!
 //! The modules stand on one another in this order: `path` (bits of a digest), `singleton`, `fork`, `stem`, `link` (a
-//! shared node with its digest), `node`, `proof`, `map`, and `laws` (what follows from the definitions alone).
+//! node with its digest), `node`, `proof`, `map`, and `laws` (what follows from the definitions alone).
 #![tactic(auto)]
 
 mod fork;

@@ -1,22 +1,21 @@
-//! Links: shared nodes with their digests.
+//! Links: nodes with their digests.
 
-ghost use Rattle.std.specs.Prelude.{◌≡◌, ℕ, IfOk};
+ghost use Rattle.std.specs.Prelude.{◌≡◌, ℕ};
 ghost use Rattle.warg_map.specs.Sparse.{sparse_root};
 
 use crate::node::Node;
 use std::alloc::{AllocError, Allocator, Global};
 use std::marker::Model;
-use std::rc::Rc;
 use warg_crypto::{Hash, SupportedDigest};
 
-/// A shared node, with its digest.
+/// A node, with its digest.
 ///
 /// Contracts see a link as the height of its node and the map that the node stands for.
 #[cycle(tree)]
 #[derive(Drop)]
 pub struct Link<D: SupportedDigest, A: Allocator = Global> {
     hash: Hash<D>,
-    node: Rc<Node<D, A>, A>,
+    node: Node<D, A>,
 }
 
 impl<D: SupportedDigest, A: Allocator> Model for Link<D, A> {
@@ -30,9 +29,9 @@ impl<D: SupportedDigest, A: Allocator> Model for Link<D, A> {
 
     ghost use Rattle.warg_map.specs.Seen.{seen, IsWellFormed};
 
-    ghost view = { λ a. seen a.node.value };
+    ghost view = { λ a. seen a.node };
 
-    ghost invariant = { λ a. IsWellFormed a.node.value × (a.hash ≡ sparse_root D.digest (seen a.node.value).0 (seen a.node.value).1) };
+    ghost invariant = { λ a. IsWellFormed a.node × (a.hash ≡ sparse_root D.digest (seen a.node).0 (seen a.node).1) };
 
     ghost size = { λ d. d.0 };
 
@@ -45,13 +44,12 @@ impl<D: SupportedDigest, A: Allocator> Link<D, A> {
     ghost use Rattle.warg_map.specs.Seen.{seen, IsWellFormed};
 
     /// A link to a node, whose digest it computes.
-    pub fn new(alloc: A, node: Node<D, A>) -> Result<Link<D, A>, AllocError>
+    pub fn new(node: Node<D, A>) -> Link<D, A>
         requires { IsWellFormed node }
-        ensures { IfOk result (λ link. link ≡ seen node) }
+        ensures { result ≡ seen node }
     {
         let hash = node.hash();
-        let node = Rc::new(alloc, node)?;
-        Ok(Link { hash, node })
+        Link { hash, node }
     }
 
     /// The digest of the node.

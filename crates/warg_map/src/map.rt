@@ -196,7 +196,7 @@ impl<D: SupportedDigest, K: VisitBytes + Drop, V: VisitBytes + Drop, A: Allocato
         ensures { IfOk result (λ m. m ≡ map.empty) }
     {
         Ok(Map {
-            link: Link::new(alloc, Node::Empty(256))?,
+            link: Link::new(Node::Empty(256)),
             count: 0,
             alloc,
             key: PhantomData,
@@ -281,7 +281,7 @@ impl<D: SupportedDigest, K: VisitBytes + Drop, V: VisitBytes + Drop, A: Allocato
         let (node, fresh) = node.insert(self.alloc, &mut Path::new(&key), hash_leaf(&val))?;
         let count = if fresh { len + 1 } else { len };
         Ok(Map {
-            link: Link::new(self.alloc, node)?,
+            link: Link::new(node),
             count,
             alloc: self.alloc,
             key: PhantomData,

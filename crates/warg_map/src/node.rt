@@ -13,23 +13,25 @@ use crate::proof::Proof;
 use crate::singleton::Singleton;
 use crate::stem::Stem;
 use std::alloc::{AllocError, Allocator, Global};
+use std::rc::Rc;
 use warg_crypto::{Hash, SupportedDigest, empty_tree_hash};
 
 /// A node of the tree, with what stands below it.
 ///
 /// The form follows from the map: a fork holds a key on each side, below a stem stands a fork, a lone key is a stem of
-/// one bit over a singleton, and `Empty` stands alone, as the map of nothing.
+/// one bit over a singleton, and `Empty` stands alone, as the map of nothing. What a variant has is shared, so that a
+/// node takes no more than its own kind.
 #[cycle(tree)]
 #[derive(Drop)]
 pub enum Node<D: SupportedDigest, A: Allocator = Global> {
     /// A leaf, with the digest of its value.
-    Leaf(Hash<D>),
+    Leaf(Rc<Hash<D>, A>),
     /// Two nodes of one height, each of which holds a key.
-    Fork(Fork<D, A>),
+    Fork(Rc<Fork<D, A>, A>),
     /// A lone key.
-    Singleton(Singleton<D>),
+    Singleton(Rc<Singleton<D>, A>),
     /// A run of bits over one node.
-    Stem(Stem<D, A>),
+    Stem(Rc<Stem<D, A>, A>),
     /// A tree of some height that holds nothing.
     Empty(usize),
 }
@@ -55,7 +57,7 @@ impl<D: SupportedDigest, A: Allocator> Node<D, A> {
 
 impl<D: SupportedDigest, A: Allocator + Copy> Node<D, A> {
     ghost use Rattle.warg_map.specs.Path.{bits_left};
-    ghost use Rattle.warg_map.specs.Seen.{height_of, held_by, IsWellFormed, Inserts, Carries, IsSeen};
+    ghost use Rattle.warg_map.specs.Seen.{seen, height_of, held_by, IsWellFormed, Inserts, Carries, IsSeen};
 
     /// The node below `len` bits of `key`, from bit `from` on. The node holds the key, so a stem becomes longer.
     fn raised(
@@ -75,30 +77,21 @@ impl<D: SupportedDigest, A: Allocator + Copy> Node<D, A> {
             return Ok(node);
         }
         let key = key.copied();
-        match node {
-            Node::Stem(lower) => {
-                let Stem {
-                    len: more,
-                    below,
-                    ..
-                } = lower;
-                Ok(Node::Stem(Stem {
-                    key,
-                    from,
-                    len: len + more,
-                    below,
-                }))
-            }
-            node => {
-                let below = Link::new(alloc, node)?;
-                Ok(Node::Stem(Stem {
-                    key,
-                    from,
-                    len,
-                    below,
-                }))
-            }
-        }
+        let stem = match node {
+            Node::Stem(lower) => Stem {
+                key,
+                from,
+                len: len + lower.len,
+                below: lower.below.clone()?,
+            },
+            node => Stem {
+                key,
+                from,
+                len,
+                below: Link::new(node),
+            },
+        };
+        Ok(Node::Stem(Rc::new(alloc, stem)?))
     }
 
     /// The node of what `far` holds and of `value` under one more key, which part after `shared` bits of it, from bit `from` on.
@@ -115,9 +108,9 @@ impl<D: SupportedDigest, A: Allocator + Copy> Node<D, A> {
         ensures { IfOk result (λ n. IsSeen n (256 - from) (under (bits_from key.now from shared) (join_at (bit_at key.now (from + shared)) (map.insert map.empty (last_bits key.now far.0) value) far.1))) }
     {
         let lone = Singleton::new(key.copied(), value, 255 - from - shared);
-        let near = Link::new(alloc, Node::Singleton(lone))?;
+        let near = Link::new(Node::Singleton(Rc::new(alloc, lone)?));
         let fork = Fork::beside(side_at(key, from + shared), near, far);
-        Node::raised(alloc, key, from, shared, Node::Fork(fork))
+        Node::raised(alloc, key, from, shared, Node::Fork(Rc::new(alloc, fork)?))
     }
 
     /// The node after an insertion of the leaf digest `value` under the bits that the path has left, and whether these
@@ -130,31 +123,33 @@ impl<D: SupportedDigest, A: Allocator + Copy> Node<D, A> {
     ) -> Result<(Node<D, A>, bool), AllocError>
         requires well_formed { IsWellFormed self.now }
         requires height { height_of self.now + path.old.index ≡ 256 }
-        ensures { IfOk result (λ p. Inserts self.now (bits_left path.old) value p.0 p.1) }
+        ensures { IfOk result (λ p. Inserts (seen self.now) (bits_left path.old) value p.0 p.1) }
     {
         match self {
-            Node::Leaf(_) => Ok((Node::Leaf(value), false)),
+            Node::Leaf(_) => Ok((Node::Leaf(Rc::new(alloc, value)?), false)),
             Node::Empty(_) => {
-                let lone = Singleton::new(path.hash().copied(), value, 255);
+                let lone = Rc::new(alloc, Singleton::new(path.hash().copied(), value, 255))?;
                 let node = Node::raised(alloc, path.hash(), 0, 1, Node::Singleton(lone))?;
                 Ok((node, true))
             }
             Node::Fork(fork) => {
+                let fork = fork.as_ref();
                 let Some(side) = path.next() else {
                     unreachable!()
                 };
                 let (node, fresh) = fork[side].node().insert(alloc, path, value)?;
-                let link = Link::new(alloc, node)?;
-                Ok((Node::Fork(fork.with_side(side, link)?), fresh))
+                let fork = fork.with_side(side, Link::new(node))?;
+                Ok((Node::Fork(Rc::new(alloc, fork)?), fresh))
             }
             Node::Singleton(singleton) => {
                 let key = path.hash().copied();
                 let Some(side) = path.next() else {
-                    return Ok((Node::Leaf(value), false));
+                    return Ok((Node::Leaf(Rc::new(alloc, value)?), false));
                 };
                 singleton.insert(alloc, path, key, value, side)
             }
             Node::Stem(stem) => {
+                let stem = stem.as_ref();
                 let key = path.hash().copied();
                 let from = path.index();
                 let shared = stem.shared_with(path);
@@ -185,18 +180,21 @@ impl<D: SupportedDigest, A: Allocator> Node<D, A> {
             Node::Leaf(hash) => Some(hash.copied()),
             Node::Empty(_) => None,
             Node::Fork(fork) => {
+                let fork = fork.as_ref();
                 let Some(side) = path.next() else {
                     unreachable!()
                 };
                 fork[side].node().find(path)
             }
             Node::Singleton(singleton) => {
+                let singleton = singleton.as_ref();
                 if singleton.shared_with(&path) < singleton.height() {
                     return None;
                 }
                 Some(singleton.value().copied())
             }
             Node::Stem(stem) => {
+                let stem = stem.as_ref();
                 if stem.shared_with(&path) < stem.len {
                     return None;
                 }
@@ -232,6 +230,7 @@ impl<D: SupportedDigest, A: Allocator + Copy> Node<D, A> {
             Node::Leaf(_) => Ok(Some(Proof::new(Vec::new(alloc)))),
             Node::Empty(_) => Ok(None),
             Node::Fork(fork) => {
+                let fork = fork.as_ref();
                 let Some(side) = path.next() else {
                     unreachable!()
                 };
@@ -242,12 +241,14 @@ impl<D: SupportedDigest, A: Allocator + Copy> Node<D, A> {
                 Ok(Some(proof))
             }
             Node::Singleton(singleton) => {
+                let singleton = singleton.as_ref();
                 if singleton.shared_with(&path) < singleton.height() {
                     return Ok(None);
                 }
                 Ok(Some(Proof::new(Vec::new(alloc))))
             }
             Node::Stem(stem) => {
+                let stem = stem.as_ref();
                 if stem.shared_with(&path) < stem.len {
                     return Ok(None);
                 }
@@ -285,6 +286,7 @@ impl<D: SupportedDigest, A: Allocator + Copy> Node<D, A> {
             Node::Leaf(_) => unreachable!(),
             Node::Empty(_) => Ok(Proof::new(Vec::new(alloc))),
             Node::Fork(fork) => {
+                let fork = fork.as_ref();
                 let Some(side) = path.next() else {
                     unreachable!()
                 };
@@ -294,11 +296,13 @@ impl<D: SupportedDigest, A: Allocator + Copy> Node<D, A> {
                 Ok(proof)
             }
             Node::Singleton(singleton) => {
+                let singleton = singleton.as_ref();
                 let shared = singleton.shared_with(&path);
                 let far = singleton.lowered(singleton.height() - shared - 1);
                 Ok(Proof::parted(alloc, far.hash(), shared)?)
             }
             Node::Stem(stem) => {
+                let stem = stem.as_ref();
                 let shared = stem.shared_with(&path);
                 if shared < stem.len {
                     return Ok(Proof::parted(alloc, stem.hash_below(shared + 1), shared)?);
@@ -333,6 +337,7 @@ impl<D: SupportedDigest, A: Allocator> Node<D, A> {
             Node::Singleton(_) => 1,
             Node::Empty(_) => 1,
             Node::Fork(fork) => {
+                let fork = fork.as_ref();
                 let left = fork[Side::Left].node().count();
                 let right = fork[Side::Right].node().count();
                 1 + left + right
@@ -342,15 +347,15 @@ impl<D: SupportedDigest, A: Allocator> Node<D, A> {
     }
 }
 
-/// What stands below is shared.
+/// The node is shared. It takes no memory, and refuses only where its owners can't be counted.
 impl<D: SupportedDigest, A: Allocator> Clone for Node<D, A> {
-    ghost use Rattle.std.specs.Prelude.{◌≡◌};
+    ghost use Rattle.warg_map.specs.Seen.{height_of, held_by, IsWellFormed, IsSeen};
 
-    ghost is_clone = { λ n copy. copy ≡ n };
+    ghost is_clone = { λ n copy. IsWellFormed n → IsSeen copy (height_of n) (held_by n) };
 
     fn clone(&self) -> Result<Node<D, A>, AllocError> {
         Ok(match self {
-            Node::Leaf(hash) => Node::Leaf(hash.copied()),
+            Node::Leaf(hash) => Node::Leaf(hash.clone()?),
             Node::Fork(fork) => Node::Fork(fork.clone()?),
             Node::Singleton(singleton) => Node::Singleton(singleton.clone()?),
             Node::Stem(stem) => Node::Stem(stem.clone()?),

@@ -11,6 +11,7 @@ use crate::path::{Path, Side, shared_bits};
 use crate::stem::lifted;
 use std::alloc::{AllocError, Allocator};
 use std::marker::Model;
+use std::rc::Rc;
 use warg_crypto::{Hash, SupportedDigest};
 
 /// The height at which a lone key keeps its digest. A split lowers most lone keys to little above it.
@@ -62,23 +63,10 @@ impl<D: SupportedDigest> Drop for Singleton<D> {
     }
 }
 
-/// Never refuses: a lone key takes no memory beside its own.
-impl<D: SupportedDigest> Clone for Singleton<D> {
-    ghost use Rattle.std.specs.Prelude.{◌≡◌, ⊤};
-
-    ghost is_clone = { λ s copy. copy ≡ s };
-
-    ghost is_infallible = { λ _. ⊤ };
-
-    fn clone(&self) -> Result<Singleton<D>, AllocError> {
-        Ok(self.lowered(self.height))
-    }
-}
-
 impl<D: SupportedDigest> Singleton<D> {
     ghost use Rattle.warg_map.specs.Side.{side_bit};
     ghost use Rattle.warg_map.specs.Path.{bits_left};
-    ghost use Rattle.warg_map.specs.Seen.{IsWellFormed, Inserts};
+    ghost use Rattle.warg_map.specs.Seen.{Inserts};
 
     /// The tree of `height` levels that holds `value` under the last bits of `key`.
     pub fn new(key: Hash<D>, value: Hash<D>, height: usize) -> Singleton<D>
@@ -168,16 +156,16 @@ impl<D: SupportedDigest> Singleton<D> {
         requires height { self.now.height + path.old.index ≡ 257 }
         requires key { key ≡ path.old.hash.now }
         requires side { side_bit _cur_side ≡ bit_at key (256 - self.now.height) }
-        ensures { IfOk result (λ p. Inserts (Node.Singleton self.now) (side_bit _cur_side ∷ bits_left path.old) value p.0 p.1) }
+        ensures { IfOk result (λ p. Inserts (self.now.height, held_alone self.now) (side_bit _cur_side ∷ bits_left path.old) value p.0 p.1) }
     {
         let from = path.index() - 1;
         let shared = shared_bits(&self.key, &key, from, self.height);
         if shared == self.height {
             let same = Singleton::new(key, value, self.height);
-            return Ok((Node::Singleton(same), false));
+            return Ok((Node::Singleton(Rc::new(alloc, same)?), false));
         }
         let far = self.lowered(self.height - shared - 1);
-        let far = Link::new(alloc, Node::Singleton(far))?;
+        let far = Link::new(Node::Singleton(Rc::new(alloc, far)?));
         let node = Node::parted(alloc, &key, value, from, shared, far)?;
         Ok((node, true))
     }

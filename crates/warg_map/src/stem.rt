@@ -9,6 +9,7 @@ use crate::link::Link;
 use crate::node::Node;
 use crate::path::{Path, shared_bits, side_at};
 use std::alloc::{AllocError, Allocator, Global};
+use std::rc::Rc;
 use warg_crypto::{Hash, SupportedDigest, empty_tree_hash};
 
 /// Bits beside which all is empty: `len` bits of a key digest, from bit `from` on, over a lower node.
@@ -74,11 +75,12 @@ impl<D: SupportedDigest, A: Allocator> Stem<D, A> {
 }
 
 impl<D: SupportedDigest, A: Allocator + Copy> Stem<D, A> {
-    ghost use Rattle.warg_map.specs.Seen.{IsWellFormed};
+    ghost use Rattle.warg_map.specs.Seen.{IsBelow};
 
     /// What stands below the stem's first `at` bits.
     pub(crate) fn rest(&self, alloc: A, at: usize) -> Result<Link<D, A>, AllocError>
-        requires well_formed { IsWellFormed (Node.Stem self.now) }
+        requires level { self.now.from + self.now.len + self.now.below.0 ≡ 256 }
+        requires below { IsBelow self.now.len self.now.below }
         requires some { 0 < at }
         requires place { at ≤ self.now.len }
         ensures { IfOk result (λ r. r ≡ (self.now.below.0 + (self.now.len - at), under (bits_from self.now.key (self.now.from + at) (self.now.len - at)) self.now.below.1)) }
@@ -87,29 +89,12 @@ impl<D: SupportedDigest, A: Allocator + Copy> Stem<D, A> {
         if at == self.len {
             return Ok(below);
         }
-        Link::new(
-            alloc,
-            Node::Stem(Stem {
-                key: self.key.copied(),
-                from: self.from + at,
-                len: self.len - at,
-                below,
-            }),
-        )
-    }
-}
-
-impl<D: SupportedDigest, A: Allocator> Clone for Stem<D, A> {
-    ghost use Rattle.std.specs.Prelude.{◌≡◌};
-
-    ghost is_clone = { λ s copy. copy ≡ s };
-
-    fn clone(&self) -> Result<Stem<D, A>, AllocError> {
-        Ok(Stem {
+        let stem = Stem {
             key: self.key.copied(),
-            from: self.from,
-            len: self.len,
-            below: self.below.clone()?,
-        })
+            from: self.from + at,
+            len: self.len - at,
+            below,
+        };
+        Ok(Link::new(Node::Stem(Rc::new(alloc, stem)?)))
     }
 }

@@ -4,4 +4,4 @@ use Rattle.warg_map.proofs.map.Map.default.Goals as goal
 
 pub invariant_of-result : goal.invariant_of-result
 invariant_of-result g c =
-    (ap (λ d. d.0) c.in_ok-new.ensures, sym (len-empty _ _) ∙ sym (ap (λ d. len d.1) c.in_ok-new.ensures))
+    (ap (λ d. d.0) c.new.ensures, sym (len-empty _ _) ∙ sym (ap (λ d. len d.1) c.new.ensures))

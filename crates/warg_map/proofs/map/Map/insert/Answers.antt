@@ -7,7 +7,7 @@ use Rattle.warg_map.proofs.map.Map.insert.Goals.{then-fresh, else-fresh}
 
 pub invariant_of-result : goal.invariant_of-result
 invariant_of-result g c =
-    let new = c.in_ok-new.ensures ∙ c.in_ok-node.ensures.seen_as in
+    let new = c.new-3.ensures ∙ c.in_ok-node.ensures.seen_as in
     let e = len-insert_fresh (held_by c.node-node.result.now) _ c.hash_leaf.result c.in_ok-node.fresh c.in_ok-node.ensures.is_fresh in
     let count : c.len-len.result ≡ len (held_by c.node-node.result.now) = c.len-len.ensures ∙ sym (ap len c.self.view_is) ∙ sym (ap (λ d. len d.1) c.node-node.ensures.seen) in (
       ap (λ d. d.0) new ∙ ap (λ d. d.0) c.node-node.ensures.seen ∙ c.self.invariant.0,

@@ -2,6 +2,7 @@ use Rattle.std.proofs.Common.{◌≡◌, ◌+◌, ◌-◌, ◌<◌, cond, length
 use Rattle.warg_map.specs.Side.{side_bit}
 use Rattle.warg_map.specs.Bits.{last_bits, bits_from}
 use Rattle.warg_map.specs.Seen.{height_of}
+use Rattle.warg_map.proofs.Form.{is_fork, is_lone, is_stem}
 use Rattle.warg_map.proofs.Sparse.{contains_key-empty, length-last_bits, last_bits-end}
 use Rattle.warg_map.proofs.Finds.{finds_in_fork, finds_none_lone, finds_none_stem, finds_below, lone_same}
 use Rattle.warg_map.proofs.Peers.{proves_in_fork, proves_single, proves_leaf, proves_stem, length_peers, length-empty_peers}
@@ -9,27 +10,27 @@ use Rattle.warg_map.proofs.node.Node.+prove.Goals as goal
 
 pub returns-in_default-2-clause-answer : goal.returns-in_default-2-clause-answer
 returns-in_default-2-clause-answer g t c =
-    sym (ap is_some (finds_in_fork _ c.node.result.now c.in-Fork.fork _ (side_bit c.in-Some.side) _ _ c.in-Fork.is c.in-Some.ensures.steps.bits (search rules) refl)) ∙ rw c.in_default-2.is at c.in_ok-proof-in-Fork.ensures.answer
+    sym (ap is_some (finds_in_fork _ c.node.result.now _ _ (side_bit c.in-Some.side) _ _ (is_fork c.in-Fork.is c.as_ref-fork.ensures) c.in-Some.ensures.steps.bits (search rules) refl)) ∙ rw c.in_default-2.is at c.in_ok-proof-in-Fork.ensures.answer
 
 pub returns-then-shared_with-height-clause-answer : goal.returns-then-shared_with-height-clause-answer
 returns-then-shared_with-height-clause-answer g t c =
-    let lt : c.shared_with.result < c.in-Singleton.singleton.height = omega (arith, c.if-shared_with-height.true, c.height.ensures.value) in
-    sym (ap is_some (finds_none_lone c.args.self.now c.in-Singleton.singleton _ c.args.path.hash.now c.args.path.index c.shared_with.result c.in-Singleton.is refl c.requires.height lt
+    let lt : c.shared_with.result < c.as_ref-singleton.result.now.height = omega (arith, c.if-shared_with-height.true, c.height.ensures.value) in
+    sym (ap is_some (finds_none_lone c.args.self.now _ _ c.args.path.hash.now c.args.path.index c.shared_with.result (is_lone c.in-Singleton.is c.as_ref-singleton.ensures) refl c.requires.height lt
     c.shared_with.ensures.same (c.shared_with.ensures.apart lt)))
 
 pub returns-then-shared_with-stem-clause-answer : goal.returns-then-shared_with-stem-clause-answer
 returns-then-shared_with-stem-clause-answer g t c =
-    sym (ap is_some (finds_none_stem c.args.self.now c.in-Stem.stem _ c.args.path.hash.now c.args.path.index c.shared_with-in-Stem.result c.in-Stem.is c.requires.well_formed refl c.requires.height c.if-shared_with-stem.true
+    sym (ap is_some (finds_none_stem c.args.self.now _ _ c.args.path.hash.now c.args.path.index c.shared_with-in-Stem.result (is_stem c.in-Stem.is c.as_ref-stem.ensures) c.requires.well_formed refl c.requires.height c.if-shared_with-stem.true
     c.shared_with-in-Stem.ensures.same (c.shared_with-in-Stem.ensures.apart c.if-shared_with-stem.true)))
 
 pub returns-in_default-3-clause-answer : goal.returns-in_default-3-clause-answer
 returns-in_default-3-clause-answer g t c =
-    let s = c.in-Stem.stem in
+    let s = c.as_ref-stem.result.now in
     let i = c.args.path.index in
     let hash = c.args.path.hash.now in
-    let all : c.shared_with-in-Stem.result ≡ c.in-Stem.stem.len = omega (arith, c.shared_with-in-Stem.ensures.at_most, c.if-shared_with-stem.false) in
+    let all : c.shared_with-in-Stem.result ≡ c.as_ref-stem.result.now.len = omega (arith, c.shared_with-in-Stem.ensures.at_most, c.if-shared_with-stem.false) in
     let same : bits_from s.key i s.len ≡ bits_from hash i s.len = ap (bits_from s.key i) (sym all) ∙ c.shared_with-in-Stem.ensures.same ∙ ap (bits_from hash i) all in
-    sym (ap is_some (finds_below c.args.self.now c.node-in-Stem.result.now s _ _ hash i s.len c.advance.new.self.index _ c.in-Stem.is c.requires.well_formed
+    sym (ap is_some (finds_below c.args.self.now c.node-in-Stem.result.now _ _ _ hash i s.len c.advance.new.self.index _ (is_stem c.in-Stem.is c.as_ref-stem.ensures) c.requires.well_formed
     refl c.requires.height refl same
     c.node-in-Stem.ensures.seen (ap (λ y. last_bits y (256 - c.advance.new.self.index)) c.advance.ensures.digest) c.advance.ensures.index refl))
     ∙ rw c.in_default-3.is at c.in_ok-proof-in-Stem.ensures.answer
@@ -45,26 +46,25 @@ returns-in-Empty-clause-answer g t c = rw c.in-Empty.is (contains_key-empty _)
 pub returns-in_ok-push-in-Fork-clause-answer : goal.returns-in_ok-push-in-Fork-clause-answer
 returns-in_ok-push-in-Fork-clause-answer g t c =
     let n = length-last_bits c.next.new.self.hash.now (256 - c.next.new.self.index) in
-    proves_in_fork g.D.SupportedDigest.digest c.args.self.now c.node.result.now c.in-Fork.fork _ (side_bit c.in-Some.side) _ c.in-Some-2.proof.peers.items _ _ c.index-in-Fork.result.now
-    c.in-Fork.is c.requires.well_formed c.in-Some.ensures.steps.bits (omega (arith, n, c.requires.height, c.in-Some.ensures.steps.index)) (search rules)
-    (c.index-in-Fork.ensures ∙ ap (λ b. cond b c.in-Fork.fork.right c.in-Fork.fork.left) c.opposite.ensures)
+    proves_in_fork g.D.SupportedDigest.digest c.args.self.now c.node.result.now _ _ (side_bit c.in-Some.side) _ c.in-Some-2.proof.peers.items _ _ c.index-in-Fork.result.now
+    (is_fork c.in-Fork.is c.as_ref-fork.ensures) c.requires.well_formed c.in-Some.ensures.steps.bits (omega (arith, n, c.requires.height, c.in-Some.ensures.steps.index)) (search rules)
+    (c.index-in-Fork.ensures ∙ ap (λ b. cond b c.as_ref-fork.result.now.right c.as_ref-fork.result.now.left) c.opposite.ensures)
     (c.copied.ensures ∙ c.hash.ensures) (rw c.in-Some-2.is at c.in_ok-proof-in-Fork.ensures.answer) c.in_ok-push-in-Fork.ensures
 
 pub returns-else-shared_with-height-clause-answer : goal.returns-else-shared_with-height-clause-answer
 returns-else-shared_with-height-clause-answer g t c =
-    let s = c.in-Singleton.singleton in
-    let all : c.shared_with.result ≡ c.in-Singleton.singleton.height = omega (arith, c.shared_with.ensures.at_most, c.if-shared_with-height.false, c.height.ensures.value) in
-    proves_single g.D.SupportedDigest.digest c.args.self.now s _ _ c.in-Singleton.is c.requires.well_formed
-    (lone_same c.args.self.now s c.args.path.hash.now c.args.path.index c.shared_with.result c.in-Singleton.is c.requires.height all c.shared_with.ensures.same) (c.new-in-Singleton-2.ensures ∙ c.new-in-Singleton.ensures.items)
+    let all : c.shared_with.result ≡ c.as_ref-singleton.result.now.height = omega (arith, c.shared_with.ensures.at_most, c.if-shared_with-height.false, c.height.ensures.value) in
+    proves_single g.D.SupportedDigest.digest c.args.self.now _ _ _ (is_lone c.in-Singleton.is c.as_ref-singleton.ensures) c.requires.well_formed
+    (lone_same c.args.self.now _ c.args.path.hash.now c.args.path.index c.shared_with.result (is_lone c.in-Singleton.is c.as_ref-singleton.ensures) c.requires.height all c.shared_with.ensures.same) (c.new-in-Singleton-2.ensures ∙ c.new-in-Singleton.ensures.items)
 
 pub returns-in_ok-push_empties-in-Stem-clause-answer : goal.returns-in_ok-push_empties-in-Stem-clause-answer
 returns-in_ok-push_empties-in-Stem-clause-answer g t c =
-    let s = c.in-Stem.stem in
+    let s = c.as_ref-stem.result.now in
     let i = c.args.path.index in
     let hash = c.args.path.hash.now in
-    let all : c.shared_with-in-Stem.result ≡ c.in-Stem.stem.len = omega (arith, c.shared_with-in-Stem.ensures.at_most, c.if-shared_with-stem.false) in
+    let all : c.shared_with-in-Stem.result ≡ c.as_ref-stem.result.now.len = omega (arith, c.shared_with-in-Stem.ensures.at_most, c.if-shared_with-stem.false) in
     let same : bits_from s.key i s.len ≡ bits_from hash i s.len = ap (bits_from s.key i) (sym all) ∙ c.shared_with-in-Stem.ensures.same ∙ ap (bits_from hash i) all in
-    proves_stem g.D.SupportedDigest.digest c.args.self.now c.node-in-Stem.result.now s _ _ hash i s.len c.advance.new.self.index _ c.in-Some-3.proof.peers.items _ c.in-Stem.is c.requires.well_formed
+    proves_stem g.D.SupportedDigest.digest c.args.self.now c.node-in-Stem.result.now _ _ _ hash i s.len c.advance.new.self.index _ c.in-Some-3.proof.peers.items _ (is_stem c.in-Stem.is c.as_ref-stem.ensures) c.requires.well_formed
     refl c.requires.height refl same
     c.node-in-Stem.ensures.seen (ap (λ y. last_bits y (256 - c.advance.new.self.index)) c.advance.ensures.digest) c.advance.ensures.index refl
     (length-last_bits c.advance.new.self.hash.now (256 - c.advance.new.self.index)) (rw c.in-Some-3.is at c.in_ok-proof-in-Stem.ensures.answer) c.in_ok-push_empties-in-Stem.ensures
@@ -72,8 +72,8 @@ returns-in_ok-push_empties-in-Stem-clause-answer g t c =
 pub returns-in_ok-push_empties-in-Stem-clause-few : goal.returns-in_ok-push_empties-in-Stem-clause-few
 returns-in_ok-push_empties-in-Stem-clause-few g t c =
     let H = g.D.SupportedDigest.digest in
-    let hs : height_of c.args.self.now ≡ c.in-Stem.stem.below.0 + c.in-Stem.stem.len = ap height_of c.in-Stem.is in
-    let hb : height_of c.node-in-Stem.result.now ≡ c.in-Stem.stem.below.0 = ap (λ d. d.0) c.node-in-Stem.ensures.seen in
+    let hs : height_of c.args.self.now ≡ c.as_ref-stem.result.now.below.0 + c.as_ref-stem.result.now.len = ap height_of (is_stem c.in-Stem.is c.as_ref-stem.ensures) in
+    let hb : height_of c.node-in-Stem.result.now ≡ c.as_ref-stem.result.now.below.0 = ap (λ d. d.0) c.node-in-Stem.ensures.seen in
     let few = rw c.in-Some-3.is at c.in_ok-proof-in-Stem.ensures.few in
-    let e = ap length c.in_ok-push_empties-in-Stem.ensures ∙ length_peers c.in-Some-3.proof.peers.items _ ∙ ap (λ j. length c.in-Some-3.proof.peers.items + j) (length-empty_peers H _ c.in-Stem.stem.len) in
+    let e = ap length c.in_ok-push_empties-in-Stem.ensures ∙ length_peers c.in-Some-3.proof.peers.items _ ∙ ap (λ j. length c.in-Some-3.proof.peers.items + j) (length-empty_peers H _ c.as_ref-stem.result.now.len) in
     omega (arith, hs, hb, few, e)

@@ -5,7 +5,7 @@ use Rattle.warg_map.specs.Bits.{last_bits, bits_from}
 use Rattle.warg_map.specs.Sparse.{sparse_root}
 use Rattle.warg_map.specs.Seen.{height_of}
 use Rattle.warg_map.proofs.Sparse.{length-last_bits, last_bits-end}
-use Rattle.warg_map.proofs.Form.{lone_seen}
+use Rattle.warg_map.proofs.Form.{lone_seen, is_fork, is_lone, is_stem}
 use Rattle.warg_map.proofs.Finds.{finds_in_fork, finds_below, finds_leaf}
 use Rattle.warg_map.proofs.Absences.{absent_nothing, absent_in_fork, absent_beside_lone, absent_beside_stem, absent_below, lone_parts}
 use Rattle.warg_map.proofs.node.Node.+prove_absent.Goals as goal
@@ -13,7 +13,7 @@ use Rattle.warg_map.proofs.node.Node.+prove_absent.Goals as goal
 pub unreachable-requires : goal.unreachable-requires
 unreachable-requires g t c =
     let z : height_of c.args.self.now ≡ 0 = ap height_of c.in-Leaf.is in
-    let e : true ≡ false = ap is_some (finds_leaf c.args.self.now c.in-Leaf.field-0 _ c.in-Leaf.field-0 c.in-Leaf.is (last_bits-end c.args.path.hash.now c.args.path.index (omega (arith, z, c.requires.height))) refl) ∙ c.requires.absent in
+    let e : true ≡ false = ap is_some (finds_leaf c.args.self.now c.in-Leaf.field-0 _ _ c.in-Leaf.is (last_bits-end c.args.path.hash.now c.args.path.index (omega (arith, z, c.requires.height))) refl) ∙ c.requires.absent in
     cc
 
 pub prove_absent-requires : goal.prove_absent-requires
@@ -31,7 +31,7 @@ prove_absent-requires g t c κs within = (
             c.node.ensures.well_formed,
             (
               search rules,
-              ap is_some (finds_in_fork c.args.self.now c.node.result.now c.in-Fork.fork _ (side_bit c.in-Some.side) _ _ c.in-Fork.is c.in-Some.ensures.steps.bits (search rules) refl) ∙ c.requires.absent,
+              ap is_some (finds_in_fork c.args.self.now c.node.result.now _ _ (side_bit c.in-Some.side) _ _ (is_fork c.in-Fork.is c.as_ref-fork.ensures) c.in-Some.ensures.steps.bits (search rules) refl) ∙ c.requires.absent,
             ),
           ),
         ),
@@ -42,20 +42,20 @@ prove_absent-requires g t c κs within = (
 
 pub overflow_sub-height-in-Singleton : goal.overflow_sub-height-in-Singleton
 overflow_sub-height-in-Singleton g t c =
-    let lt = lone_parts c.args.self.now c.in-Singleton.singleton c.args.path.hash.now c.args.path.index c.shared_with-shared.result c.in-Singleton.is c.requires.height c.shared_with-shared.ensures.at_most c.shared_with-shared.ensures.same c.requires.absent in
+    let lt = lone_parts c.args.self.now _ c.args.path.hash.now c.args.path.index c.shared_with-shared.result (is_lone c.in-Singleton.is c.as_ref-singleton.ensures) c.requires.height c.shared_with-shared.ensures.at_most c.shared_with-shared.ensures.same c.requires.absent in
     omega (arith, lt, c.height.ensures.value)
 
 pub returns-then-shared-stem-clause-answer : goal.returns-then-shared-stem-clause-answer
 returns-then-shared-stem-clause-answer g t c =
-    absent_beside_stem g.D.SupportedDigest.digest c.args.self.now c.in-Stem.stem _ c.args.path.hash.now c.hash_below.result c.args.path.index c.shared_with-shared-in-Stem.result _ c.in-Stem.is c.requires.well_formed refl c.requires.height c.if-shared-stem.true
+    absent_beside_stem g.D.SupportedDigest.digest c.args.self.now _ _ c.args.path.hash.now c.hash_below.result c.args.path.index c.shared_with-shared-in-Stem.result _ (is_stem c.in-Stem.is c.as_ref-stem.ensures) c.requires.well_formed refl c.requires.height c.if-shared-stem.true
     c.shared_with-shared-in-Stem.ensures.same (c.shared_with-shared-in-Stem.ensures.apart c.if-shared-stem.true) c.hash_below.ensures c.in_ok-parted-in-Stem.ensures
 
 pub prove_absent-requires-in-Stem : goal.prove_absent-requires-in-Stem
 prove_absent-requires-in-Stem g t c κs within =
-    let s = c.in-Stem.stem in
+    let s = c.as_ref-stem.result.now in
     let i = c.args.path.index in
     let hash = c.args.path.hash.now in
-    let all : c.shared_with-shared-in-Stem.result ≡ c.in-Stem.stem.len = omega (arith, c.shared_with-shared-in-Stem.ensures.at_most, c.if-shared-stem.false) in
+    let all : c.shared_with-shared-in-Stem.result ≡ c.as_ref-stem.result.now.len = omega (arith, c.shared_with-shared-in-Stem.ensures.at_most, c.if-shared-stem.false) in
     let same : bits_from s.key i s.len ≡ bits_from hash i s.len = ap (bits_from s.key i) (sym all) ∙ c.shared_with-shared-in-Stem.ensures.same ∙ ap (bits_from hash i) all in (
       search rules,
       (
@@ -70,7 +70,7 @@ prove_absent-requires-in-Stem g t c κs within =
                 c.node-in-Stem.ensures.well_formed,
                 (
                   search rules,
-                  ap is_some (finds_below c.args.self.now c.node-in-Stem.result.now s _ _ hash i s.len c.advance.new.self.index _ c.in-Stem.is c.requires.well_formed refl c.requires.height refl same
+                  ap is_some (finds_below c.args.self.now c.node-in-Stem.result.now _ _ _ hash i s.len c.advance.new.self.index _ (is_stem c.in-Stem.is c.as_ref-stem.ensures) c.requires.well_formed refl c.requires.height refl same
                       c.node-in-Stem.ensures.seen (ap (λ y. last_bits y (256 - c.advance.new.self.index)) c.advance.ensures.digest) c.advance.ensures.index refl) ∙ c.requires.absent,
                 ),
               ),
@@ -86,36 +86,36 @@ returns-in-Empty-clause-answer g t c = absent_nothing g.D.SupportedDigest.digest
 pub returns-in_ok-push-in-Fork-clause-answer : goal.returns-in_ok-push-in-Fork-clause-answer
 returns-in_ok-push-in-Fork-clause-answer g t c =
     let n = length-last_bits c.next.new.self.hash.now (256 - c.next.new.self.index) in
-    absent_in_fork g.D.SupportedDigest.digest c.args.self.now c.node.result.now c.in-Fork.fork _ (side_bit c.in-Some.side) _ c.in_ok-proof-in-Fork.proof.peers.items _ _ c.index-in-Fork.result.now
-    c.in-Fork.is c.requires.well_formed c.in-Some.ensures.steps.bits (omega (arith, n, c.requires.height, c.in-Some.ensures.steps.index)) (search rules)
-    (c.index-in-Fork.ensures ∙ ap (λ b. cond b c.in-Fork.fork.right c.in-Fork.fork.left) c.opposite.ensures)
+    absent_in_fork g.D.SupportedDigest.digest c.args.self.now c.node.result.now _ _ (side_bit c.in-Some.side) _ c.in_ok-proof-in-Fork.proof.peers.items _ _ c.index-in-Fork.result.now
+    (is_fork c.in-Fork.is c.as_ref-fork.ensures) c.requires.well_formed c.in-Some.ensures.steps.bits (omega (arith, n, c.requires.height, c.in-Some.ensures.steps.index)) (search rules)
+    (c.index-in-Fork.ensures ∙ ap (λ b. cond b c.as_ref-fork.result.now.right c.as_ref-fork.result.now.left) c.opposite.ensures)
     (c.copied.ensures ∙ c.hash-far.ensures) c.in_ok-proof-in-Fork.ensures.answer c.in_ok-push-in-Fork.ensures
 
 pub returns-in_ok-parted-in-Singleton-clause-answer : goal.returns-in_ok-parted-in-Singleton-clause-answer
 returns-in_ok-parted-in-Singleton-clause-answer g t c =
-    let s = c.in-Singleton.singleton in
+    let s = c.as_ref-singleton.result.now in
     let j = c.shared_with-shared.result in
-    let lt = lone_parts c.args.self.now s c.args.path.hash.now c.args.path.index j c.in-Singleton.is c.requires.height c.shared_with-shared.ensures.at_most c.shared_with-shared.ensures.same c.requires.absent in
-    let low : c.lowered-far.result.height ≡ c.in-Singleton.singleton.height - c.shared_with-shared.result - 1 = c.lowered-far.ensures.height ∙ ap (λ h. h - c.shared_with-shared.result - 1) c.height.ensures.value in
-    absent_beside_lone g.D.SupportedDigest.digest c.args.self.now s _ c.args.path.hash.now c.hash.result c.args.path.index j _ c.in-Singleton.is refl c.requires.height lt
+    let lt = lone_parts c.args.self.now _ c.args.path.hash.now c.args.path.index j (is_lone c.in-Singleton.is c.as_ref-singleton.ensures) c.requires.height c.shared_with-shared.ensures.at_most c.shared_with-shared.ensures.same c.requires.absent in
+    let low : c.lowered-far.result.height ≡ c.as_ref-singleton.result.now.height - c.shared_with-shared.result - 1 = c.lowered-far.ensures.height ∙ ap (λ h. h - c.shared_with-shared.result - 1) c.height.ensures.value in
+    absent_beside_lone g.D.SupportedDigest.digest c.args.self.now _ _ c.args.path.hash.now c.hash.result c.args.path.index j _ (is_lone c.in-Singleton.is c.as_ref-singleton.ensures) refl c.requires.height lt
     c.shared_with-shared.ensures.same (c.shared_with-shared.ensures.apart lt)
     (c.hash.ensures ∙ ap (λ d. sparse_root g.D.SupportedDigest.digest d.0 d.1) (lone_seen c.lowered-far.result (s.height - j - 1) s.key s.value low c.lowered-far.ensures.key c.lowered-far.ensures.value))
     c.in_ok-parted-in-Singleton.ensures
 
 pub returns-in_ok-parted-in-Singleton-clause-few : goal.returns-in_ok-parted-in-Singleton-clause-few
 returns-in_ok-parted-in-Singleton-clause-few g t c =
-    let lt = lone_parts c.args.self.now c.in-Singleton.singleton c.args.path.hash.now c.args.path.index c.shared_with-shared.result c.in-Singleton.is c.requires.height c.shared_with-shared.ensures.at_most c.shared_with-shared.ensures.same c.requires.absent in
-    let h : height_of c.args.self.now ≡ c.in-Singleton.singleton.height = ap height_of c.in-Singleton.is in
+    let lt = lone_parts c.args.self.now _ c.args.path.hash.now c.args.path.index c.shared_with-shared.result (is_lone c.in-Singleton.is c.as_ref-singleton.ensures) c.requires.height c.shared_with-shared.ensures.at_most c.shared_with-shared.ensures.same c.requires.absent in
+    let h : height_of c.args.self.now ≡ c.as_ref-singleton.result.now.height = ap height_of (is_lone c.in-Singleton.is c.as_ref-singleton.ensures) in
     let n = ap length c.in_ok-parted-in-Singleton.ensures in
     let r = length-replicate {A = Option (List ℕ)} c.shared_with-shared.result None in
     omega (arith, lt, h, n, r)
 
 pub returns-in_ok-push_missing-in-Stem-clause-answer : goal.returns-in_ok-push_missing-in-Stem-clause-answer
 returns-in_ok-push_missing-in-Stem-clause-answer g t c =
-    let s = c.in-Stem.stem in
+    let s = c.as_ref-stem.result.now in
     let i = c.args.path.index in
     let hash = c.args.path.hash.now in
-    let all : c.shared_with-shared-in-Stem.result ≡ c.in-Stem.stem.len = omega (arith, c.shared_with-shared-in-Stem.ensures.at_most, c.if-shared-stem.false) in
+    let all : c.shared_with-shared-in-Stem.result ≡ c.as_ref-stem.result.now.len = omega (arith, c.shared_with-shared-in-Stem.ensures.at_most, c.if-shared-stem.false) in
     let same : bits_from s.key i s.len ≡ bits_from hash i s.len = ap (bits_from s.key i) (sym all) ∙ c.shared_with-shared-in-Stem.ensures.same ∙ ap (bits_from hash i) all in
-    absent_below g.D.SupportedDigest.digest c.args.self.now c.node-in-Stem.result.now s _ _ hash i s.len c.advance.new.self.index c.in_ok-proof-in-Stem.proof.peers.items _ c.in-Stem.is c.requires.well_formed refl c.requires.height refl same
+    absent_below g.D.SupportedDigest.digest c.args.self.now c.node-in-Stem.result.now _ _ _ hash i s.len c.advance.new.self.index c.in_ok-proof-in-Stem.proof.peers.items _ (is_stem c.in-Stem.is c.as_ref-stem.ensures) c.requires.well_formed refl c.requires.height refl same
     c.node-in-Stem.ensures.seen (ap (λ y. last_bits y (256 - c.advance.new.self.index)) c.advance.ensures.digest) c.advance.ensures.index c.in_ok-proof-in-Stem.ensures.answer c.in_ok-push_missing-in-Stem.ensures
