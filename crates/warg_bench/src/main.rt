@@ -279,8 +279,21 @@ fn maps(rt: &HostRuntime, count: usize) -> Result<()> {
         "map prove and evaluate at {count} keys: {} ns ({good} good)",
         each(rt, start, 1_000)?
     )?;
-    println!(rt; "map nodes at {count} keys: {}", map.node_count())?;
+    let nodes = map.node_count();
+    println!(rt;
+        "map nodes at {count} keys: {nodes}, {} bytes a key",
+        node_bytes(nodes, rounds).checked_div(rounds).unwrap_or(0)
+    )?;
     Ok(())
+}
+
+// The bytes of a map's nodes, by the sizes of their fields and two counters each: 120 for a lone key, of
+// which there is one a key, and 112 for each of the others, forks and stems.
+fn node_bytes(nodes: u128, keys: u128) -> u128 {
+    nodes
+        .saturating_sub(keys)
+        .saturating_mul(112)
+        .saturating_add(keys.saturating_mul(120))
 }
 
 fn log_bundles(rt: &HostRuntime) -> Result<()> {

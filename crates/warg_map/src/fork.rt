@@ -73,3 +73,13 @@ impl<D: SupportedDigest, A: Allocator> Index<Side> for Fork<D, A> {
         }
     }
 }
+
+impl<D: SupportedDigest, A: Allocator> Clone for Fork<D, A> {
+    ghost use Rattle.std.specs.Prelude.{◌≡◌};
+
+    ghost is_clone = { λ f copy. copy ≡ f };
+
+    fn clone(&self) -> Result<Fork<D, A>, AllocError> {
+        Ok(Fork::new(self.left.clone()?, self.right.clone()?))
+    }
+}

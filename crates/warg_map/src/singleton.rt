@@ -63,6 +63,19 @@ impl<D: SupportedDigest> Drop for Singleton<D> {
     }
 }
 
+/// Never refuses: a lone key takes no memory beside its own.
+impl<D: SupportedDigest> Clone for Singleton<D> {
+    ghost use Rattle.std.specs.Prelude.{◌≡◌, ⊤};
+
+    ghost is_clone = { λ s copy. copy ≡ s };
+
+    ghost is_infallible = { λ _. ⊤ };
+
+    fn clone(&self) -> Result<Singleton<D>, AllocError> {
+        Ok(self.lowered(self.height))
+    }
+}
+
 impl<D: SupportedDigest> Singleton<D> {
     ghost use Rattle.warg_map.specs.Side.{side_bit};
     ghost use Rattle.warg_map.specs.Path.{bits_left};
