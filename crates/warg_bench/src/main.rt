@@ -69,47 +69,44 @@ fn entries(rt: &HostRuntime, count: usize) -> Result<Vec<Entry>> {
 
 // The digests that calls take, by their times under a digest that takes long.
 fn counts(rt: &HostRuntime) -> Result<()> {
-    let hash = Hash::<Slow>::of(&());
-    let digest = least_time(
-        rt,
-        || Hash::<Slow>::of(&(1u8, hash.copied(), hash.copied())) != hash,
-    )?;
-    log_counts(rt, digest)?;
-    map_counts(rt, digest)
+    log_counts(rt)?;
+    map_counts(rt)
 }
 
-// The least of several times of a call, in nanoseconds, or 0 where it fails.
-fn least_time<F: Fn() -> bool>(rt: &HostRuntime, call: F) -> Result<u128>
+// The digests that a call takes, in tenths, or 0 where it fails: the least of several times of the call, in
+// those of one digest, taken by turns.
+fn digests<F: Fn() -> bool>(rt: &HostRuntime, call: F) -> Result<u128>
     requires { F.IsAlwaysCallable call }
 {
-    let mut least = u128::MAX;
+    let hash = Hash::<Slow>::of(&());
+    let mut least_digest = u128::MAX;
+    let mut least_call = u128::MAX;
     for _ in 0..9u32 {
         let start = Instant::now(rt)?;
-        if !call() {
+        let branch = Hash::<Slow>::of(&(1u8, hash.copied(), hash.copied()));
+        least_digest = least_digest.min(start.elapsed(rt)?.as_nanos());
+        let start = Instant::now(rt)?;
+        if branch == hash || !call() {
             return Ok(0);
         }
-        least = least.min(start.elapsed(rt)?.as_nanos());
+        least_call = least_call.min(start.elapsed(rt)?.as_nanos());
     }
-    Ok(least)
+    Ok(
+        least_call
+            .saturating_mul(10)
+            .checked_div(least_digest)
+            .unwrap_or(0),
+    )
 }
 
-// Prints how many digests one of some calls takes, where they took `time` and a digest `digest`.
-fn print_digests(
-    rt: &HostRuntime,
-    what: &str,
-    time: u128,
-    calls: u128,
-    digest: u128,
-) -> Result<()> {
-    let tenths = time
-        .saturating_mul(10)
-        .checked_div(digest.saturating_mul(calls))
-        .unwrap_or(0);
-    println!(rt; "digests taken by {what}: {}.{}", tenths / 10, tenths % 10)?;
+// Prints how many digests one of some calls takes, where they took these tenths together.
+fn print_digests(rt: &HostRuntime, what: &str, tenths: u128, calls: u128) -> Result<()> {
+    let each = tenths.checked_div(calls).unwrap_or(0);
+    println!(rt; "digests taken by {what}: {}.{}", each / 10, each % 10)?;
     Ok(())
 }
 
-fn log_counts(rt: &HostRuntime, digest: u128) -> Result<()> {
+fn log_counts(rt: &HostRuntime) -> Result<()> {
     let list = entries(rt, ENTRIES)?;
     let mut log: VecLog<Slow, Entry> = VecLog::default(rt.alloc());
     push_all(&mut log, list.as_slice())?;
@@ -118,32 +115,25 @@ fn log_counts(rt: &HostRuntime, digest: u128) -> Result<()> {
     let mut consistencies = 0u128;
     for (i, entry) in list.iter().enumerate().step_by(1_000) {
         let proof = log.prove_inclusion(Node(i.saturating_mul(2)), ENTRIES);
-        let time = least_time(rt, || proof.evaluate_value(&log, entry).is_ok())?;
-        inclusions = inclusions.saturating_add(time);
+        let taken = digests(rt, || proof.evaluate_value(&log, entry).is_ok())?;
+        inclusions = inclusions.saturating_add(taken);
         let proof = log.prove_consistency(i.saturating_add(1).min(ENTRIES), ENTRIES);
-        let time = least_time(rt, || proof.evaluate(&log).is_ok())?;
-        consistencies = consistencies.saturating_add(time);
+        let taken = digests(rt, || proof.evaluate(&log).is_ok())?;
+        consistencies = consistencies.saturating_add(taken);
     }
-    print_digests(
-        rt,
-        "an inclusion evaluation at 100,000",
-        inclusions,
-        100,
-        digest,
-    )?;
+    print_digests(rt, "an inclusion evaluation at 100,000", inclusions, 100)?;
     print_digests(
         rt,
         "a consistency evaluation at 100,000",
         consistencies,
         100,
-        digest,
     )?;
     let proof = log.prove_consistency(65_535, ENTRIES);
-    let time = least_time(rt, || proof.evaluate(&log).is_ok())?;
-    print_digests(rt, "that from 65,535 to 100,000", time, 1, digest)
+    let taken = digests(rt, || proof.evaluate(&log).is_ok())?;
+    print_digests(rt, "that from 65,535 to 100,000", taken, 1)
 }
 
-fn map_counts(rt: &HostRuntime, digest: u128) -> Result<()> {
+fn map_counts(rt: &HostRuntime) -> Result<()> {
     let list = entries(rt, 1_100)?;
     let mut map: Map<Slow, Entry, Entry> = Map::default(rt.alloc())?;
     for key in list.iter().take(1_000) {
@@ -151,29 +141,23 @@ fn map_counts(rt: &HostRuntime, digest: u128) -> Result<()> {
     }
     let mut insertions = 0u128;
     for key in list.iter().skip(1_000) {
-        let time = least_time(rt, || map.insert(*key, *key).is_ok())?;
-        insertions = insertions.saturating_add(time);
+        let taken = digests(rt, || map.insert(*key, *key).is_ok())?;
+        insertions = insertions.saturating_add(taken);
     }
-    print_digests(
-        rt,
-        "an insertion of a new key at 1,000",
-        insertions,
-        100,
-        digest,
-    )?;
+    print_digests(rt, "an insertion of a new key at 1,000", insertions, 100)?;
 
     let Some(key) = list.first() else {
         return Ok(());
     };
-    let time = least_time(rt, || map.insert(*key, *key).is_ok())?;
-    print_digests(rt, "an insertion of a known key", time, 1, digest)?;
-    let time = least_time(rt, || map.prove(*key).is_ok())?;
-    print_digests(rt, "a map's proof", time, 1, digest)?;
+    let taken = digests(rt, || map.insert(*key, *key).is_ok())?;
+    print_digests(rt, "an insertion of a known key", taken, 1)?;
+    let taken = digests(rt, || map.prove(*key).is_ok())?;
+    print_digests(rt, "a map's proof", taken, 1)?;
     let Some(proof) = map.prove(*key)? else {
         return Ok(());
     };
-    let time = least_time(rt, || proof.evaluate(key, key) == *map.root())?;
-    print_digests(rt, "a map's evaluation", time, 1, digest)
+    let taken = digests(rt, || proof.evaluate(key, key) == *map.root())?;
+    print_digests(rt, "a map's evaluation", taken, 1)
 }
 
 fn logs(rt: &HostRuntime) -> Result<()> {
