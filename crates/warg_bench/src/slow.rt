@@ -3,7 +3,7 @@
 ghost use Rattle.std.specs.Prelude.{◌≡◌};
 ghost use Rattle.sha2.specs.Hashers.{Holds256};
 ghost use Rattle.sha2.specs.Sha256.{sha256};
-ghost use Rattle.sha2.proofs.Facts256.{length-sha256};
+ghost use Rattle.warg_crypto.specs.DigestFacts.{IsDigest-sha256};
 
 use sha2::Digest;
 use warg_crypto::{ByteVisitor, Hash, Sha256, SupportedDigest};
@@ -29,7 +29,7 @@ impl ByteVisitor for Slow {
 impl SupportedDigest for Slow {
     ghost digest = { sha256 };
 
-    ghost digest_length = { length-sha256 };
+    ghost is_digest = { IsDigest-sha256 };
 
     fn start() -> Slow {
         Slow {
@@ -46,7 +46,6 @@ impl SupportedDigest for Slow {
 
     fn empty_tree(height: usize) -> Hash<Slow> {
         let empty = Sha256::empty_tree(height);
-        prove_eq!(empty.len(), 32);
         let mut bytes = [0; 32];
         bytes.copy_from_slice(empty.bytes());
         Hash::from_array(bytes)

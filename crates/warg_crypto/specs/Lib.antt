@@ -1,3 +1,4 @@
+pub mod DigestFacts
 pub mod Digests
 pub mod EmptyTrees
 pub mod WeakDigests

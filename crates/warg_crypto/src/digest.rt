@@ -3,8 +3,9 @@
 ghost use Rattle.std.specs.Prelude.{◌≡◌, ℕ, ◌+◌, ◌<◌, ◌≤◌, List, [], length};
 ghost use Rattle.sha2.specs.Hashers.{Holds256};
 ghost use Rattle.sha2.specs.Sha256.{sha256};
-ghost use Rattle.sha2.proofs.Facts256.{length-sha256};
+ghost use Rattle.warg_crypto.specs.Digests.{IsDigest};
 ghost use Rattle.warg_crypto.specs.EmptyTrees.{empty_root};
+ghost use Rattle.warg_crypto.specs.DigestFacts.{IsDigest-sha256};
 
 use crate::empty::EMPTY_TREES;
 use crate::hash::Hash;
@@ -59,8 +60,8 @@ pub trait SupportedDigest: ByteVisitor {
         empty
     }
 
-    // Every digest has 32 bytes.
-    ghost digest_length: { (m : List ℕ) → length (digest m) ≡ 32 };
+    // Every digest is 32 bytes.
+    ghost is_digest: { (m : List ℕ) → IsDigest (digest m) };
 }
 
 /// SHA-256 (FIPS 180-4).
@@ -80,7 +81,7 @@ impl ByteVisitor for Sha256 {
 impl SupportedDigest for Sha256 {
     ghost digest = { sha256 };
 
-    ghost digest_length = { length-sha256 };
+    ghost is_digest = { IsDigest-sha256 };
 
     fn start() -> Sha256 {
         Sha256 {

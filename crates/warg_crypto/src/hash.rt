@@ -1,6 +1,7 @@
 //! Hashes: digests with the name of their digest function.
 
 ghost use Rattle.std.specs.Prelude.{◌≡◌, ⊤, ℕ, ◌↔◌, List, length, false, IfOk, IsOk, vec_len};
+ghost use Rattle.warg_crypto.specs.Digests.{IsDigest};
 
 use crate::digest::SupportedDigest;
 use crate::visit::{ByteVisitor, VisitBytes};
@@ -18,11 +19,14 @@ pub struct Hash<D> {
 
 // Contracts see a hash as the list of its bytes.
 impl<D> Model for Hash<D> {
+    ghost use Rattle.std.specs.Prelude.{ℕ, List};
+    ghost use Rattle.warg_crypto.specs.Digests.{IsDigest};
+
     ghost Value = { List ℕ };
 
     ghost view = { λ h. h.bytes };
 
-    ghost invariant = { λ h. length h.bytes ≡ 32 };
+    ghost invariant = { λ h. IsDigest h.bytes };
 
     ghost inverse = { λ l. record { bytes = l; of = record {} } };
 }
@@ -69,6 +73,7 @@ impl<D> Hash<D> {
     pub fn from_array(bytes: [u8; 32]) -> Hash<D>
         ensures { result ≡ bytes }
     {
+        is_digest(&bytes);
         Hash {
             bytes,
             of: PhantomData,
@@ -95,7 +100,8 @@ impl<D> Hash<D> {
 
     /// The hash's 32 bytes.
     pub fn bytes(&self) -> &[u8]
-        ensures { result.now ≡ self.now }
+        ensures value { result.now ≡ self.now }
+        ensures digest { IsDigest result.now }
     {
         self.bytes.as_slice()
     }
@@ -120,6 +126,13 @@ impl<D> Hash<D> {
 /// That a list of bytes isn't 32 bytes long, and so no hash.
 #[derive(Clone, Copy, Debug, PartialEq, Eq)]
 pub struct HashLength;
+
+// 32 bytes are a digest.
+pub(crate) fn is_digest(bytes: &[u8; 32])
+    ensures { IsDigest bytes.now }
+{
+    let _slice = bytes.as_slice();
+}
 
 // Keeps the bytes that it takes, until a growth is refused.
 #[derive(Drop)]

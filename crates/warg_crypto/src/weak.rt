@@ -1,10 +1,12 @@
 //! Weak digests, whose collisions are known: for tests of what a collision does.
 
-ghost use Rattle.std.specs.Prelude.{◌≡◌, ⊤, ℕ, ◌%◌, ◌++◌, ◌∷◌, [], List, sum, refl};
+ghost use Rattle.std.specs.Prelude.{◌≡◌, ⊤, ℕ, ◌%◌, ◌++◌, ◌∷◌, [], List, sum};
 ghost use Rattle.sha2.specs.Hashers.{Holds256};
-ghost use Rattle.warg_crypto.specs.WeakDigests.{byte_sum, same_or_sha256, zeros, Keeps, length-same_or_sha256};
+ghost use Rattle.warg_crypto.specs.WeakDigests.{byte_sum, same_or_sha256, zeros, Keeps};
+ghost use Rattle.warg_crypto.specs.DigestFacts.{IsDigest-byte_sum, IsDigest-same_or_sha256, IsDigest-zeros};
 
 use crate::digest::SupportedDigest;
+use crate::hash::is_digest;
 use crate::visit::ByteVisitor;
 use sha2::Digest;
 
@@ -29,7 +31,7 @@ impl ByteVisitor for Sum {
 impl SupportedDigest for Sum {
     ghost digest = { byte_sum };
 
-    ghost digest_length = { λ _. refl };
+    ghost is_digest = { IsDigest-byte_sum };
 
     fn start() -> Sum {
         Sum { total: 0 }
@@ -80,7 +82,7 @@ impl ByteVisitor for Own32 {
 impl SupportedDigest for Own32 {
     ghost digest = { same_or_sha256 };
 
-    ghost digest_length = { length-same_or_sha256 };
+    ghost is_digest = { IsDigest-same_or_sha256 };
 
     fn start() -> Own32 {
         Own32 {
@@ -92,6 +94,7 @@ impl SupportedDigest for Own32 {
 
     fn finish(self) -> [u8; 32] {
         if self.count == 32 {
+            is_digest(&self.first);
             self.first
         } else {
             self.hasher.finalize()
@@ -112,7 +115,7 @@ impl ByteVisitor for Flat {
 impl SupportedDigest for Flat {
     ghost digest = { zeros };
 
-    ghost digest_length = { λ _. refl };
+    ghost is_digest = { IsDigest-zeros };
 
     fn start() -> Flat {
         Flat
