@@ -57,6 +57,20 @@ impl<D: SupportedDigest, V: VisitBytes, A: Allocator> ProofBundle<D, V, A> {
         &self.hashes
     }
 
+    /// The number of consistency proofs.
+    pub fn consistency_proof_count(&self) -> usize
+        ensures { result ≡ length self.now.consistent_lengths }
+    {
+        self.consistent_lengths.len()
+    }
+
+    /// The number of inclusion proofs.
+    pub fn inclusion_proof_count(&self) -> usize
+        ensures { result ≡ length self.now.included_nodes }
+    {
+        self.included_nodes.len()
+    }
+
     /// The consistency proof at a place, counted from 0. None exactly where there are no more than `at`.
     pub fn consistency_proof(&self, at: usize) -> Option<ConsistencyProof<D, V>>
         ensures old_length { IfSome result (λ proof. slice_get self.now.consistent_lengths at ≡ Some proof.old_length) }
