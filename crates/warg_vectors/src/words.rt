@@ -5,7 +5,7 @@ use warg_crypto::{Hash, SupportedDigest, VisitBytes};
 use warg_log::Node;
 
 /// Why a line has no answer of its own.
-#[derive(Debug, Drop)]
+#[derive(Drop)]
 pub(crate) enum Fault {
     /// It isn't a call, or the call's condition isn't met.
     BadCall,

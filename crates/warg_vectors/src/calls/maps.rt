@@ -247,7 +247,7 @@ fn proved<'a, D: SupportedDigest, M: Memory>(
 fn honest_proof<'a, D: SupportedDigest, M: Memory>(
     map: &BytesMap<'a, D, M>,
     memory: M,
-    pairs: &[Insertion],
+    pairs: &'a [Insertion],
     key: &'a [u8],
 ) -> Result<Option<BytesProof<'a, D, M>>, Wrong> {
     let Some(proof) = proved(map, memory, key)? else {

@@ -6,7 +6,7 @@ use warg_log::{BundleError, DecodeError, EncodeError};
 use warg_map::MapError;
 
 /// Why a call has no answer of its own.
-#[derive(Debug, Drop)]
+#[derive(Drop)]
 pub(super) enum Wrong {
     /// Memory was refused, and again where it was granted.
     Memory,
