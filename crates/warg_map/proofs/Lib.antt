@@ -13,3 +13,4 @@ pub mod Absences
 pub mod Honest
 pub mod Insertions
 pub mod Unique
+pub mod BundleLemmas
