@@ -13,3 +13,6 @@ pub mod Absences
 pub mod Honest
 pub mod Insertions
 pub mod Unique
+pub mod Last
+pub mod Prefixes
+pub mod DigestBits
