@@ -16,3 +16,6 @@ returns-clause-again g c = rw (← c.self.view_is) (rw (c.in_ok-stack.ensures.en
 
 pub returns-clause-too_large : goal.returns-clause-too_large
 returns-clause-too_large g c = rw (← c.self.view_is) ((λ e. absurd (cc)), (λ no. absurd (no (roots_fit c.self.inside.count c.if-self-gt-GREATEST_LENGTH.false))))
+
+pub returns-clause-fits : goal.returns-clause-fits
+returns-clause-fits g c = rw (← c.self.view_is) (roots_fit c.self.inside.count c.if-self-gt-GREATEST_LENGTH.false)
