@@ -5,4 +5,5 @@
 pub mod program;
 mod verdict;
 
-pub use verdict::{CheckError, check_consistency, check_inclusion};
+pub use program::run;
+pub use verdict::{CheckError, check_absent, check_consistency, check_inclusion, check_key};
