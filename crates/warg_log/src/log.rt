@@ -52,7 +52,8 @@ pub struct Checkpoint<D> {
 }
 
 impl<D> Checkpoint<D> {
-    pub(crate) fn new(root: Hash<D>, length: usize) -> Checkpoint<D>
+    /// The checkpoint of this root and this length, as whoever keeps a log has said them.
+    pub fn new(root: Hash<D>, length: usize) -> Checkpoint<D>
         ensures root { result.root ≡ root }
         ensures length { result.length ≡ length }
     {

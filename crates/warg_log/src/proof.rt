@@ -124,7 +124,6 @@ impl<D: SupportedDigest, V: VisitBytes> InclusionProof<D, V> {
         value: &V,
     ) -> Result<Hash<D>, InclusionProofError>
         ensures too_new { (result ≡ Err InclusionProofError.LeafTooNew) ↔ ¬ ExistsAt self.now.leaf.0 self.now.log_length }
-        ensures exists { OnOk result (ExistsAt self.now.leaf.0 self.now.log_length) }
         ensures not_known { (result ≡ Err InclusionProofError.HashNotKnown) ↔ (ExistsAt self.now.leaf.0 self.now.log_length × (cut_root D.digest (L.digest_at hashes.now) self.now.leaf.0 (D.digest (0 ∷ V.bytes value.now)) self.now.log_length ≡ None)) }
         ensures ok { IfOk result (λ root. ExistsAt self.now.leaf.0 self.now.log_length × (cut_root D.digest (L.digest_at hashes.now) self.now.leaf.0 (D.digest (0 ∷ V.bytes value.now)) self.now.log_length ≡ Some root)) }
         ensures memory { result ≢ Err InclusionProofError.Memory }
@@ -143,7 +142,6 @@ impl<D: SupportedDigest, V: VisitBytes> InclusionProof<D, V> {
         hash: Hash<D>,
     ) -> Result<Hash<D>, InclusionProofError>
         ensures too_new { (result ≡ Err InclusionProofError.LeafTooNew) ↔ ¬ ExistsAt self.now.leaf.0 self.now.log_length }
-        ensures exists { OnOk result (ExistsAt self.now.leaf.0 self.now.log_length) }
         ensures not_known { (result ≡ Err InclusionProofError.HashNotKnown) ↔ (ExistsAt self.now.leaf.0 self.now.log_length × (cut_root D.digest (L.digest_at hashes.now) self.now.leaf.0 hash self.now.log_length ≡ None)) }
         ensures ok { IfOk result (λ root. ExistsAt self.now.leaf.0 self.now.log_length × (cut_root D.digest (L.digest_at hashes.now) self.now.leaf.0 hash self.now.log_length ≡ Some root)) }
         ensures memory { result ≢ Err InclusionProofError.Memory }
