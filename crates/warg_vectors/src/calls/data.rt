@@ -25,11 +25,7 @@ impl<D: SupportedDigest> Data<D> {
     }
 }
 
-fn holds<D: SupportedDigest>(
-    data: &SparseLogData<D, Vec<u8>>,
-    node: Node,
-    hash: &Hash<D>,
-) -> bool {
+fn holds<D: SupportedDigest>(data: &SparseLogData<D, Vec<u8>>, node: Node, hash: &Hash<D>) -> bool {
     data.has_hash(node) && data.hash_for(node).as_ref() == Some(hash)
 }
 
@@ -46,10 +42,7 @@ impl<D: SupportedDigest> Word for Data<D> {
 }
 
 // The same pairs, whose nodes have to ascend.
-fn ascending<D>(
-    alloc: Global,
-    pairs: &[(Node, Hash<D>)],
-) -> Result<Vec<(Node, Hash<D>)>, Fault>
+fn ascending<D>(alloc: Global, pairs: &[(Node, Hash<D>)]) -> Result<Vec<(Node, Hash<D>)>, Fault>
     ensures { IfOk result (λ pairs. IsAscending pairs.items) }
 {
     let mut copies = Vec::new(alloc);
