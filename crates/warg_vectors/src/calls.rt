@@ -30,18 +30,22 @@ pub(crate) fn answer(words: &mut Words<'_>, answer: &mut Answer) -> Result<(), F
 
 // Whether one of the modules knows the name, and so answered the call.
 fn is_answered(name: &str, words: &mut Words<'_>, to: &mut Answer) -> Result<bool, Fault> {
-    Ok(nodes::answer(name, words, to)?
-        || logs::answer(name, words, to)?
-        || proofs::answer(name, words, to)?
-        || maps::answer(name, words, to)?
-        || witnesses::answer(name, words, to)?
-        || others(name, words, to)?)
+    Ok(
+        nodes::answer(name, words, to)?
+            || logs::answer(name, words, to)?
+            || proofs::answer(name, words, to)?
+            || maps::answer(name, words, to)?
+            || witnesses::answer(name, words, to)?
+            || others(name, words, to)?,
+    )
 }
 
 fn others(name: &str, words: &mut Words<'_>, to: &mut Answer) -> Result<bool, Fault> {
-    Ok(bundles::answer(name, words, to)?
-        || checks::answer(name, words, to)?
-        || messages::answer(name, words, to)?
-        || values::answer(name, words, to)?
-        || runs::answer(name, words, to)?)
+    Ok(
+        bundles::answer(name, words, to)?
+            || checks::answer(name, words, to)?
+            || messages::answer(name, words, to)?
+            || values::answer(name, words, to)?
+            || runs::answer(name, words, to)?,
+    )
 }

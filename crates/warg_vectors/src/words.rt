@@ -148,7 +148,9 @@ impl Word for Vec<u8> {
 }
 
 fn has_lower_case_alone(word: &str) -> bool {
-    word.as_bytes().iter().all(|byte| !byte.is_ascii_uppercase())
+    word.as_bytes()
+        .iter()
+        .all(|byte| !byte.is_ascii_uppercase())
 }
 
 /// 64 lower-case hexadecimal digits.

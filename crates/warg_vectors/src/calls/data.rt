@@ -22,11 +22,7 @@ impl<D: SupportedDigest> Data<D> {
     }
 }
 
-fn holds<D: SupportedDigest>(
-    data: &SparseLogData<D, Vec<u8>>,
-    node: Node,
-    hash: &Hash<D>,
-) -> bool {
+fn holds<D: SupportedDigest>(data: &SparseLogData<D, Vec<u8>>, node: Node, hash: &Hash<D>) -> bool {
     data.has_hash(node) && data.hash_for(node).as_ref() == Some(hash)
 }
 

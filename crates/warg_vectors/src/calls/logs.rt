@@ -78,7 +78,7 @@ fn grown<D: SupportedDigest, M: Memory>(
     Ok(log)
 }
 
-// Pushes an entry. Where it is refused, the log is the one of before, and is pushed to again.
+// Pushes an entry.
 fn push<D: SupportedDigest, M: Memory>(
     log: &mut BytesLog<D, M>,
     memory: M,
@@ -90,16 +90,32 @@ fn push<D: SupportedDigest, M: Memory>(
     if before >= 1 << 63 {
         return Err(Wrong::Because("too many entries"));
     }
-    let node = match log.push(entry) {
-        Ok(node) => node,
+    match log.push(entry) {
+        Ok(node) => Wrong::unless(node == Node(2 * before), "another node"),
         Err(AllocError) => {
             let stands = log.length() == before && is_log_of(log, alloc, entries)?;
             Wrong::unless(stands, "a refused push changed the log")?;
             memory.grant();
-            log.push(entry)?
+            push_again(log, alloc, entries, entry)
         }
-    };
-    Wrong::unless(node == Node(2 * before), "another node")
+    }
+}
+
+// Pushes an entry that was refused. The run ends with the refusal.
+fn push_again<D: SupportedDigest, M: Memory>(
+    log: &mut BytesLog<D, M>,
+    alloc: Global,
+    entries: &[Vec<u8>],
+    entry: &Vec<u8>,
+) -> Result<(), Wrong> {
+    let before = log.length();
+    if before >= 1 << 63 {
+        return Err(Wrong::Because("too many entries"));
+    }
+    let node = log.push(entry)?;
+    let pushed = node == Node(2 * before) && is_log_of(log, alloc, entries)?;
+    Wrong::unless(pushed, "after a refused push, another log")?;
+    Err(Wrong::Memory)
 }
 
 // Whether a log is that of as many of the entries as it has, and proves the last one.

@@ -67,13 +67,18 @@ fn write<D: SupportedDigest, A: Allocator>(
     to.shown(&map.node_count())
 }
 
-// The map of these pairs. Extending the empty map by them gives the same.
+// The map of these pairs, inserted one by one. Extending the map of those before the last two gives the same.
 fn grown_both_ways<'a, D: SupportedDigest, M: Memory>(
     memory: M,
     pairs: &'a [Insertion],
 ) -> Result<BytesMap<'a, D, M>, Wrong> {
-    let map = grown(memory, pairs)?;
-    extend(&map, memory, pairs)?;
+    let (first, last) = pairs.split_at(pairs.len().saturating_sub(2));
+    let before = grown(memory, first)?;
+    let mut map = before.clone()?;
+    for pair in last {
+        map = inserted(&map, memory, pair)?;
+    }
+    extend(&before, &map, memory, last)?;
     Ok(map)
 }
 
@@ -89,7 +94,7 @@ fn grown<'a, D: SupportedDigest, M: Memory>(
     Ok(map)
 }
 
-// The map with one pair more. Where it is refused, the map is the one of before, and the pair is inserted again.
+// The map with one pair more.
 fn inserted<'a, D: SupportedDigest, M: Memory>(
     map: &BytesMap<'a, D, M>,
     memory: M,
@@ -106,7 +111,8 @@ fn inserted<'a, D: SupportedDigest, M: Memory>(
     }
 }
 
-// Inserts a pair, where a proof of the old map leads to the root of the new one.
+// Inserts a pair that was refused, where a proof of the old map leads to the root of the new one. The run ends with the
+// refusal.
 fn insert_again<'a, D: SupportedDigest, M: Memory>(
     map: &BytesMap<'a, D, M>,
     pair: &'a Insertion,
@@ -118,7 +124,7 @@ fn insert_again<'a, D: SupportedDigest, M: Memory>(
         proof.evaluate(&key, &value) == *next.root(),
         "after a refused insertion, another proof",
     )?;
-    Ok(next)
+    Err(Wrong::Memory)
 }
 
 // The proof of what is held under a key, or else of its absence, which leads to the map's root.
@@ -135,23 +141,23 @@ fn proof_at<'a, D: SupportedDigest, M: Memory>(
     }
 }
 
-// Extends the empty map by all pairs, which gives the same map. Where it is refused, the empty map is extended again.
-fn extend<D: SupportedDigest, M: Memory>(
-    wanted: &BytesMap<'_, D, M>,
+// Extends a map by some pairs, which gives the map that is wanted. Where it is refused, it is extended again.
+fn extend<'a, D: SupportedDigest, M: Memory>(
+    map: &BytesMap<'a, D, M>,
+    wanted: &BytesMap<'a, D, M>,
     memory: M,
-    pairs: &[Insertion],
+    pairs: &'a [Insertion],
 ) -> Result<(), Wrong> {
-    let empty = Map::default(memory)?;
-    let before = Seen::of(&empty);
-    let map = match empty.extend(slices_of(pairs)) {
+    let before = Seen::of(map);
+    let extended = match map.extend(slices_of(pairs)) {
         Err(MapError::Memory) => {
             memory.grant();
-            Wrong::unless(before.is(&empty), "a refused extension changed the map")?;
-            empty.extend(slices_of(pairs))?
+            Wrong::unless(before.is(map), "a refused extension changed the map")?;
+            map.extend(slices_of(pairs))?
         }
         ended => ended?,
     };
-    Wrong::unless(Seen::of(wanted).is(&map), "extended, another map")
+    Wrong::unless(Seen::of(wanted).is(&extended), "extended, another map")
 }
 
 // The pairs, as an iterator that is dropped with what is left of it.

@@ -9,9 +9,7 @@ use crate::each::{Call, Memory};
 use crate::words::{Fault, Word, Words};
 use std::alloc::{AllocError, Allocator, Global};
 use warg_crypto::{Hash, Sha256, SupportedDigest};
-use warg_log::{
-    ConsistencyProof, InclusionProof, InclusionProofWalk, LogData, Node, VecLog,
-};
+use warg_log::{ConsistencyProof, InclusionProof, InclusionProofWalk, LogData, Node, VecLog};
 
 /// Answers the call of this name, or false where the name is none of these.
 pub(super) fn answer(name: &str, words: &mut Words<'_>, to: &mut Answer) -> Result<bool, Fault> {

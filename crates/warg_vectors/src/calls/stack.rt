@@ -26,7 +26,7 @@ pub(super) fn grow<D: SupportedDigest, M: Memory>(
     clone(&stack, memory)
 }
 
-// Pushes an entry. Where it is refused, the log is the one of before, and is pushed to again.
+// Pushes an entry.
 fn push<D: SupportedDigest, M: Memory>(
     stack: &mut BytesStack<D, M>,
     memory: M,
@@ -38,16 +38,32 @@ fn push<D: SupportedDigest, M: Memory>(
     if before >= 1 << 63 {
         return Err(Wrong::Because("too many entries"));
     }
-    let node = match stack.push(entry) {
-        Ok(node) => node,
+    match stack.push(entry) {
+        Ok(node) => Wrong::unless(node == Node(2 * before), "on a stack, another node"),
         Err(AllocError) => {
             let stands = stack.length() == before && is_stack_of(stack, alloc, entries)?;
             Wrong::unless(stands, "a refused push changed the stack")?;
             memory.grant();
-            stack.push(entry)?
+            push_again(stack, alloc, entries, entry)
         }
-    };
-    Wrong::unless(node == Node(2 * before), "on a stack, another node")
+    }
+}
+
+// Pushes an entry that was refused. The run ends with the refusal.
+fn push_again<D: SupportedDigest, M: Memory>(
+    stack: &mut BytesStack<D, M>,
+    alloc: Global,
+    entries: &[Vec<u8>],
+    entry: &Vec<u8>,
+) -> Result<(), Wrong> {
+    let before = stack.length();
+    if before >= 1 << 63 {
+        return Err(Wrong::Because("too many entries"));
+    }
+    let node = stack.push(entry)?;
+    let pushed = node == Node(2 * before) && is_stack_of(stack, alloc, entries)?;
+    Wrong::unless(pushed, "after a refused push, another stack")?;
+    Err(Wrong::Memory)
 }
 
 // Whether a log is that of as many of the entries as it has.

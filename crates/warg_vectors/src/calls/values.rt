@@ -40,8 +40,10 @@ impl Call for LogBundle {
     }
 
     fn answer<M: Memory>(&self, memory: M, answer: &mut Answer) -> Result<(), AllocError> {
-        let read: Result<BytesBundle<Sha256, M>, _> =
-            ProofBundle::decode(memory, self.bytes.as_slice());
+        let read: Result<BytesBundle<Sha256, M>, _> = ProofBundle::decode(
+            memory,
+            self.bytes.as_slice(),
+        );
         match read {
             Ok(bundle) => bundles::write_read(&bundle, memory, answer),
             Err(fault) => answer.refusal(&fault),
@@ -65,8 +67,7 @@ impl Call for StackImage {
     }
 
     fn answer<M: Memory>(&self, memory: M, answer: &mut Answer) -> Result<(), AllocError> {
-        let read: Result<ReadStack<M>, _> =
-            StackLog::from_protobuf(memory, self.bytes.as_slice());
+        let read: Result<ReadStack<M>, _> = StackLog::from_protobuf(memory, self.bytes.as_slice());
         match read {
             Ok(log) => write_stack(&log, memory, answer),
             Err(fault) => answer.refusal(&fault),
@@ -111,10 +112,7 @@ fn stack_bytes<M: Memory>(log: &ReadStack<M>, memory: M) -> Result<Vec<u8, M>, E
     }
 }
 
-fn stack_through_message<M: Memory>(
-    log: &ReadStack<M>,
-    memory: M,
-) -> Result<ReadStack<M>, Wrong> {
+fn stack_through_message<M: Memory>(log: &ReadStack<M>, memory: M) -> Result<ReadStack<M>, Wrong> {
     let message = log.to_message()?;
     Ok(StackLog::from_message(memory, message)?)
 }

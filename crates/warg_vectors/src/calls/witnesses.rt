@@ -49,11 +49,7 @@ fn write_pair<D: SupportedDigest, A: Allocator>(
 ) -> Result<(), AllocError> {
     to.word("Collision")?;
     let (first, second) = (pair.first(), pair.second());
-    if pairs
-        .items
-        .iter()
-        .any(|given| given.0.as_slice() == first && given.1.as_slice() == second)
-    {
+    if pairs.items.iter().any(|given| given.0.as_slice() == first && given.1.as_slice() == second) {
         return Ok(());
     }
     to.bytes(first)?;
