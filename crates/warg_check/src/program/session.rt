@@ -252,10 +252,8 @@ impl<A: Allocator + Copy> Session<A> {
         ensures ok { OnOk result (Answers self.old self.new (prove key.now.items value.now.items)) }
         ensures errors { IfErr result (Refuses self.old (prove key.now.items value.now.items)) }
     {
-        match self
-            .map
-            .prove(Vec::from_slice(self.alloc, key.as_slice())?)?
-        {
+        let copy = Vec::from_slice(self.alloc, key.as_slice())?;
+        match self.map.prove(copy)? {
             Some(proof) => {
                 let root = hex::encode(self.alloc, proof.evaluate(key, value).bytes())?;
                 writeln!(self.text, "root {root}")?;
@@ -270,10 +268,8 @@ impl<A: Allocator + Copy> Session<A> {
         ensures ok { OnOk result (Answers self.old self.new (absent key.now.items)) }
         ensures errors { IfErr result (Refuses self.old (absent key.now.items)) }
     {
-        match self
-            .map
-            .prove_absence(Vec::from_slice(self.alloc, key.as_slice())?)?
-        {
+        let copy = Vec::from_slice(self.alloc, key.as_slice())?;
+        match self.map.prove_absence(copy)? {
             Some(absence) => {
                 let root = hex::encode(self.alloc, absence.evaluate_absent(key).bytes())?;
                 writeln!(self.text, "empty {root}")?;
