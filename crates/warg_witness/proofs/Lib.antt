@@ -10,3 +10,4 @@ pub mod ConsistencyLemmas
 pub mod PureLemmas
 pub mod CollisionLemmas
 pub mod CompareLemmas
+pub mod PathLemmas
