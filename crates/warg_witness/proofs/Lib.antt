@@ -11,3 +11,6 @@ pub mod PureLemmas
 pub mod CollisionLemmas
 pub mod CompareLemmas
 pub mod PathLemmas
+pub mod PathBits
+pub mod KeyAgreementLemmas
+pub mod PlainPathLemmas

@@ -2,12 +2,15 @@
 //!
 //! They are what the witnesses rest on, with no program in it: whenever the claim of a proof is met and isn't
 //! true, two byte strings that differ and have one digest stand in the evaluation and the trees over the
-//! entries. They hold for every function from byte lists to 32 bytes, and for all data of such digests.
+//! entries or the insertions. They hold for every function from byte lists to 32 bytes, and for all data and
+//! peers of such digests.
 
 ghost use Rattle.std.specs.Prelude.{◌≡◌, ℕ, List, ◌∷◌, length, Option};
 ghost use Rattle.warg_witness.specs.Claims.{IsMet, IsEntry, IsRootBelow, IsAgreement, IsConsistencyMet, Begins};
 ghost use Rattle.warg_witness.specs.Placed.{IsValuePlaced, IsHashPlaced, IsAgreementPlaced, IsConsistencyPlaced};
-ghost use Rattle.warg_witness.specs.Laws.{GivesHashes, HoldsHashes, SomeCollision};
+ghost use Rattle.warg_witness.specs.MapClaims.{IsKeyAgreement};
+ghost use Rattle.warg_witness.specs.MapPlaced.{IsKeyAgreementPlaced};
+ghost use Rattle.warg_witness.specs.Laws.{GivesHashes, HoldsHashes, HoldsPeers, SomeCollision};
 
 /// A value's claim that is met and isn't true gives a collision.
 pub fn value_or_collision()
@@ -31,4 +34,10 @@ pub fn agreement_or_collision()
 pub fn consistency_or_collision()
     ensures { (H : List ℕ → List ℕ) (F : ℕ → Option (List ℕ)) (m n : ℕ) (old new : List (List ℕ)) → GivesHashes H → HoldsHashes F
         → IsConsistencyMet H F m n old new → (Begins old new → ⊥) → SomeCollision H (IsConsistencyPlaced H F old new) }
+{}
+
+/// Two different values that two proofs of one key lead to one root give a collision.
+pub fn key_agreement_or_collision()
+    ensures { (H : List ℕ → List ℕ) (key : List ℕ) (peers : List (Option (List ℕ))) (value : List ℕ) (other_peers : List (Option (List ℕ))) (other : List ℕ) → GivesHashes H → HoldsPeers peers → HoldsPeers other_peers
+        → IsKeyAgreement H key peers value other_peers other → (value ≡ other → ⊥) → SomeCollision H (IsKeyAgreementPlaced H key peers value other_peers other) }
 {}
