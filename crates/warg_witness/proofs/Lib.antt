@@ -14,3 +14,6 @@ pub mod PathLemmas
 pub mod PathBits
 pub mod KeyAgreementLemmas
 pub mod PlainPathLemmas
+pub mod LastLemmas
+pub mod KeyLemmas
+pub mod KeyLawLemmas

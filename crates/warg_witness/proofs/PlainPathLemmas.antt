@@ -74,6 +74,20 @@ pub plain_leaf_is : (H : List ℕ → List ℕ) (insertions : List (List ℕ × 
     → leaf_digest H (value_in (last_under H bits insertions)) ≡ unwrap_or (get (map_of H insertions) bits) (empty_root H 0)
 plain_leaf_is H insertions bits held = leaf_is H (last_under H bits insertions) ∙ ap (λ o. unwrap_or o (empty_root H 0)) (sym held)
 
+more_of : (H : List ℕ → List ℕ) (held : List Bool → Option (List ℕ)) (b : Bool) (bits : List Bool) (peers after : List (Option (List ℕ))) → peers ≡ plain_peers H held (b ∷ bits) ++ after
+    → peers ≡ plain_peers H (λ q. held (b ∷ q)) bits ++ Some (root_of H (length bits) (λ q. held (not b ∷ q))) ∷ after
+unfolding plain_peers
+more_of H held b bits peers after e = e ∙ append_assoc (plain_peers H (λ q. held (b ∷ q)) bits) (Some (root_of H (length bits) (λ q. held (not b ∷ q))) ∷ []) after
+
+below_prefix : (H : List ℕ → List ℕ) (held : List Bool → Option (List ℕ)) (b : Bool) (bits : List Bool) (peers after : List (Option (List ℕ))) (x : List ℕ) → peers ≡ plain_peers H held (b ∷ bits) ++ after
+    → length peers ≡ 256 → x ≡ unwrap_or (held (b ∷ bits)) (empty_root H 0)
+    → fork_input H peers x b bits ≡ branch_input (root_of H (length bits) (λ q. held (false ∷ q))) (root_of H (length bits) (λ q. held (true ∷ q)))
+below_prefix H held b bits peers after x e all is =
+    let more = more_of H held b bits peers after e in
+    both_halves H held b (length bits) (peer_of H peers (length bits)) (proof_value H peers x bits)
+    (peer_there H peers (plain_peers H (λ q. held (b ∷ q)) bits) after _ (length bits) more (length-plain_peers H (λ q. held (b ∷ q)) bits) all)
+    (plain_value H (λ q. held (b ∷ q)) bits peers (Some (root_of H (length bits) (λ q. held (not b ∷ q))) ∷ after) x more all is)
+
 -- the input of the plain peers' evaluation at a prefix is the plain input there
 pub plain_input_is : (H : List ℕ → List ℕ) (insertions : List (List ℕ × List ℕ)) (bits prefix rest : List Bool) → length bits ≡ 256
     → get (map_of H insertions) bits ≡ option_map (λ e. leaf_digest H e.1) (last_under H bits insertions) → bits ≡ prefix ++ rest
@@ -85,17 +99,3 @@ plain_input_is H insertions bits prefix (b ∷ below) long held e =
         (ap (plain_peers H (get (map_of H insertions))) e ∙ sym (append-nil (plain_peers H (get (map_of H insertions)) (prefix ++ b ∷ below)))) in
     below_prefix H (λ q. get (map_of H insertions) (prefix ++ q)) b below (plain_peers H (get (map_of H insertions)) bits) from.0 (leaf_digest H (value_in (last_under H bits insertions))) from.1 all
     (plain_leaf_is H insertions bits held ∙ ap (λ q. unwrap_or (get (map_of H insertions) q) (empty_root H 0)) e)
-  where
-    below_prefix : (H : List ℕ → List ℕ) (held : List Bool → Option (List ℕ)) (b : Bool) (bits : List Bool) (peers after : List (Option (List ℕ))) (x : List ℕ) → peers ≡ plain_peers H held (b ∷ bits) ++ after
-        → length peers ≡ 256 → x ≡ unwrap_or (held (b ∷ bits)) (empty_root H 0)
-        → fork_input H peers x b bits ≡ branch_input (root_of H (length bits) (λ q. held (false ∷ q))) (root_of H (length bits) (λ q. held (true ∷ q)))
-    below_prefix H held b bits peers after x e all is =
-        let more = more_of H held b bits peers after e in
-        both_halves H held b (length bits) (peer_of H peers (length bits)) (proof_value H peers x bits)
-            (peer_there H peers (plain_peers H (λ q. held (b ∷ q)) bits) after _ (length bits) more (length-plain_peers H (λ q. held (b ∷ q)) bits) all)
-            (plain_value H (λ q. held (b ∷ q)) bits peers (Some (root_of H (length bits) (λ q. held (not b ∷ q))) ∷ after) x more all is)
-      where
-        more_of : (H : List ℕ → List ℕ) (held : List Bool → Option (List ℕ)) (b : Bool) (bits : List Bool) (peers after : List (Option (List ℕ))) → peers ≡ plain_peers H held (b ∷ bits) ++ after
-            → peers ≡ plain_peers H (λ q. held (b ∷ q)) bits ++ Some (root_of H (length bits) (λ q. held (not b ∷ q))) ∷ after
-        unfolding plain_peers
-        more_of H held b bits peers after e = e ∙ append_assoc (plain_peers H (λ q. held (b ∷ q)) bits) (Some (root_of H (length bits) (λ q. held (not b ∷ q))) ∷ []) after
