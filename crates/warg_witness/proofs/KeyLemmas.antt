@@ -1,20 +1,23 @@
 -- What a false claim of a key shows.
-use Rattle.std.proofs.Common.{◌≡◌, ℕ, ◌<◌, Bool, true, List, [], ◌∷◌, ◌++◌, length, map, Option, Some, None, unwrap_or, get_or, ◌⊎◌, inl, inr, ⊎_elim, refl, sym, ap, ◌∙◌, arith}
+use Rattle.std.proofs.Common.{◌≡◌, ℕ, ◌<◌, Bool, true, List, [], ◌∷◌, ◌++◌, length, map, Option, Some, None, IfOk, unwrap_or, get_or, ◌⊎◌, inl, inr, ⊎_elim, refl, sym, ap, ◌∙◌, arith}
 use Rattle.std.proofs.lemmas.List.{append-nil, length-map, get_or-map}
 use Rattle.std.specs.List.{Contains}
 use Rattle.std.specs.Option.{option_map}
 use Rattle.std.specs.FinMap.{get}
+use Rattle.std.specs.declared.result.Result.{Result}
+use Rattle.std.specs.declared.result.Result.TheVariants.{Ok, Err}
 use Rattle.warg_map.specs.Bits.{key_bits}
-use Rattle.warg_map.specs.Sparse.{sparse_root, leaf_digest, map_of}
+use Rattle.warg_map.specs.Sparse.{sparse_root, leaf_digest, map_of, pair_bytes}
 use Rattle.warg_map.specs.Last.{last_with, same_bits, last_under}
 use Rattle.warg_map.specs.ProofValue.{proof_value}
 use Rattle.warg_witness.specs.MapClaims.{value_in, last_insertion, IsLastValue, IsKeyMet}
 use Rattle.warg_witness.specs.MapPlaced.{IsPlacedAtPrefix, IsPlacedAtKeys, IsKeyPlaced}
 use Rattle.warg_witness.specs.MapPaths.{IsPathParting, plain_peers}
+use Rattle.warg_witness.specs.MapMeeting.{IsKeyMeeting}
 use Rattle.warg_witness.specs.Parting.{Collides, PartsAtBranch, pair_of}
 use Rattle.warg_witness.specs.declared.descent.Parting.{Parting}
 use Rattle.warg_witness.specs.declared.descent.Parting.TheVariants.{Target, Branch}
-use Rattle.warg_witness.proofs.LastLemmas.{last_with-passes, last_with-contains, same_bits-true, last_of_digest, none_of_digest}
+use Rattle.warg_witness.proofs.LastLemmas.{last_with-passes, last_with-contains, same_bits-true, last_of_digest, none_of_digest, last_at, last_none}
 use Rattle.warg_witness.proofs.PlainPathLemmas.{plain_value, plain_leaf_is, plain_input_is, length-plain_peers}
 
 -- What the map's law says of the bits of one key.
@@ -95,3 +98,35 @@ keys_shown H peers key value insertions e digests last same untrue = record {
 pub placed_as : (H : List ℕ → List ℕ) (peers : List (Option (List ℕ))) (key value : List ℕ) (insertions : List (List ℕ × List ℕ)) (p q : List ℕ × List ℕ)
     → q ≡ p → IsKeyPlaced H peers value key insertions p.0 p.1 → IsKeyPlaced H peers value key insertions q.0 q.1
 placed_as H peers key value insertions p q e placed = rw e placed
+
+-- what a call that hands out a pair shows
+pub collided : {D E : Type 0} (H : List ℕ → List ℕ) (key value : List ℕ) (insertions : List (List ℕ × List ℕ)) (parting : Parting D) (last : Option ℕ) (pair : List ℕ × List ℕ) (r : Result (List ℕ × List ℕ) E)
+    → ((peers : List (Option (List ℕ))) → IsKeyMeeting {D = D} H peers key value insertions parting last → ShowsKey H peers key value insertions pair) → IfOk r (λ c. c ≡ pair)
+    → IfOk r (λ c. (peers : List (Option (List ℕ))) → IsKeyMeeting {D = D} H peers key value insertions parting last → IsKeyPlaced H peers value key insertions c.0 c.1)
+collided H key value insertions parting last pair (Ok c) shown same = λ peers met. placed_as H peers key value insertions pair c same (shown peers met).placed
+collided H key value insertions parting last pair (Err e) shown same = same
+
+-- the same by what a witness knows
+pub branch_met : {D : Type 0} (H : List ℕ → List ℕ) (peers : List (Option (List ℕ))) (key value : List ℕ) (insertions : List (List ℕ × List ℕ)) (parting : Parting D) (last : Option ℕ)
+    → IsKeyMeeting {D = D} H peers key value insertions parting last → length (key_bits H key) ≡ 256 → IsHeld H insertions (key_bits H key) → (parting ≡ Target → ⊥)
+    → ShowsKey H peers key value insertions (pair_of parting [] [])
+branch_met H peers key value insertions parting last met long held other = branch_shown H peers key value insertions parting long held met.parts other
+
+pub none_met : {D : Type 0} (H : List ℕ → List ℕ) (peers : List (Option (List ℕ))) (key value : List ℕ) (insertions : List (List ℕ × List ℕ)) (parting : Parting D) (last : Option ℕ)
+    → IsKeyMeeting {D = D} H peers key value insertions parting last → parting ≡ Target → last ≡ None → (IsLastValue key value insertions → ⊥)
+    → ShowsKey H peers key value insertions (pair_of parting (0 ∷ value) (0 ∷ []))
+none_met H peers key value insertions parting last met target is untrue =
+    let none = last_none H insertions (key_bits H key) last met.last_is is in
+    leaf_shown H peers key value insertions parting [] met.parts target (ap value_in none) (none_differs H key value insertions none untrue)
+
+pub leaf_met : {D K V : Type 0} (H : List ℕ → List ℕ) (kb : K → List ℕ) (vb : V → List ℕ) (peers : List (Option (List ℕ))) (key value : List ℕ) (es : List (K × V)) (parting : Parting D) (last : Option ℕ) (place : ℕ) (e : K × V)
+    → IsKeyMeeting {D = D} H peers key value (pair_bytes kb vb es) parting last → parting ≡ Target → last ≡ Some place → e ≡ get_or es place e → (value ≡ vb e.1 → ⊥)
+    → ShowsKey H peers key value (pair_bytes kb vb es) (pair_of parting (0 ∷ value) (0 ∷ vb e.1))
+leaf_met H kb vb peers key value es parting last place e met target is at other =
+    leaf_shown H peers key value (pair_bytes kb vb es) parting (vb e.1) met.parts target (ap value_in (last_at H kb vb es (key_bits H key) last place e met.last_is is at)) other
+
+pub keys_met : {D K V : Type 0} (H : List ℕ → List ℕ) (kb : K → List ℕ) (vb : V → List ℕ) (peers : List (Option (List ℕ))) (key value : List ℕ) (es : List (K × V)) (parting : Parting D) (last : Option ℕ) (place : ℕ) (e : K × V)
+    → IsKeyMeeting {D = D} H peers key value (pair_bytes kb vb es) parting last → ((other : List ℕ) → key_bits H key ≡ key_bits H other → H key ≡ H other) → last ≡ Some place → e ≡ get_or es place e
+    → value ≡ vb e.1 → (IsLastValue key value (pair_bytes kb vb es) → ⊥) → ShowsKey H peers key value (pair_bytes kb vb es) (key, kb e.0)
+keys_met H kb vb peers key value es parting last place e met digests is at same untrue =
+    keys_shown H peers key value (pair_bytes kb vb es) (kb e.0, vb e.1) digests (last_at H kb vb es (key_bits H key) last place e met.last_is is at) same untrue

@@ -1,16 +1,18 @@
 -- The last of the insertions that pass a test.
-use Rattle.std.proofs.Common.{◌≡◌, ℕ, zero, suc, ◌+◌, ◌<◌, ◌≤◌, Bool, true, false, cond, List, [], ◌∷◌, length, map, Option, Some, None, IfOk, get_or, refl, sym, ap, ◌∙◌, arith}
+use Rattle.std.proofs.Common.{◌≡◌, ℕ, zero, suc, ◌+◌, ◌-◌, ◌<◌, ◌≤◌, Bool, true, false, cond, List, [], ◌∷◌, length, map, Option, Some, None, IfOk, get_or, ⊎_elim, refl, sym, ap, ◌∙◌, arith}
 use Rattle.std.specs.Prelude.{nat_eq}
 use Rattle.std.specs.List.{Contains}
 use Rattle.std.specs.Option.{option_or}
 use Rattle.std.specs.declared.result.Result.{Result}
 use Rattle.std.specs.declared.result.Result.TheVariants.{Ok, Err}
 use Rattle.std.proofs.lemmas.List.{get_or-map, get_or_default, length-map}
+use Rattle.std.proofs.lemmas.Bool.{cases_eq, false_from_ne_true}
 use Rattle.std.proofs.lemmas.Slice.Eq.{bytes_eq-Decides}
 use Rattle.warg_map.specs.Bits.{key_bits}
 use Rattle.warg_map.specs.Sparse.{pair_bytes}
 use Rattle.warg_map.specs.Last.{last_with, same_bits, last_under}
 use Rattle.warg_witness.specs.MapClaims.{same_bytes, last_insertion}
+use Rattle.warg_witness.specs.MapPaths.{IsLastPlace}
 
 pub IfOk-then : {T E : Type 0} (r : Result T E) (P Q : T → Type 0) → ((x : T) → P x → Q x) → IfOk r P → IfOk r Q
 IfOk-then (Ok x) P Q f h = f x h
@@ -129,3 +131,36 @@ pair_at {K = K} {V = V} kb vb es i e lt is = get_or-map (λ (f : K × V). (kb f.
 
 pub length-pair_bytes : {K V : Type 0} (kb : K → List ℕ) (vb : V → List ℕ) (es : List (K × V)) → length (pair_bytes kb vb es) ≡ length es
 length-pair_bytes {K = K} {V = V} kb vb es = length-map es (λ (f : K × V). (kb f.0, vb f.1))
+
+-- the last insertion under bits, by its place
+pub last_at : {K V : Type 0} (H : List ℕ → List ℕ) (kb : K → List ℕ) (vb : V → List ℕ) (es : List (K × V)) (bits : List Bool) (found : Option ℕ) (place : ℕ) (e : K × V)
+    → IsLastPlace H (pair_bytes kb vb es) bits found → found ≡ Some place → e ≡ get_or es place e → last_under H bits (pair_bytes kb vb es) ≡ Some (kb e.0, vb e.1)
+last_at H kb vb es bits found place e last is at =
+    let there = rw is at last in
+    there.1 ∙ ap Some (pair_at kb vb es place e (omega (arith, there.0, length-pair_bytes kb vb es)) at)
+
+pub last_none : (H : List ℕ → List ℕ) (insertions : List (List ℕ × List ℕ)) (bits : List Bool) (found : Option ℕ) → IsLastPlace H insertions bits found → found ≡ None → last_under H bits insertions ≡ None
+last_none H insertions bits found last is = rw is at last
+
+-- the places from the end on at which the key doesn't stand
+abbrev pub OthersFrom : List ℕ → List (List ℕ × List ℕ) → ℕ → Type 0
+OthersFrom key insertions n = (i : ℕ) → n ≤ i → i < length insertions → same_bytes key (get_or insertions i ([], [])).0 ≡ false
+
+pub found_last : {K V : Type 0} (kb : K → List ℕ) (vb : V → List ℕ) (es : List (K × V)) (key : List ℕ) (n : ℕ) (e : K × V) → 0 < n → n ≤ length es → e ≡ get_or es (n - 1) e → key ≡ kb e.0
+    → OthersFrom key (pair_bytes kb vb es) n → last_insertion key (pair_bytes kb vb es) ≡ Some (get_or (pair_bytes kb vb es) (n - 1) ([], []))
+found_last kb vb es key n e some le at same others =
+    let len = length-pair_bytes kb vb es in
+    last_with-at (λ f. same_bytes key f.0) (pair_bytes kb vb es) (n - 1) ([], []) (omega (arith, len))
+    (same_bytes-from key _ (same ∙ ap (λ (f : List ℕ × List ℕ). f.0) (sym (pair_at kb vb es (n - 1) e (omega arith) at)))) (λ j more less. others j (omega (arith, more)) less)
+
+pub others_more : {K V : Type 0} (kb : K → List ℕ) (vb : V → List ℕ) (es : List (K × V)) (key : List ℕ) (n : ℕ) (e : K × V) → 0 < n → n ≤ length es → e ≡ get_or es (n - 1) e → (key ≡ kb e.0 → ⊥)
+    → OthersFrom key (pair_bytes kb vb es) n → OthersFrom key (pair_bytes kb vb es) (n - 1)
+others_more kb vb es key n e some le at other others i from less = ⊎_elim
+    (λ (here : i ≡ n - 1). ap (λ j. same_bytes key (get_or (pair_bytes kb vb es) j ([], [])).0) here
+    ∙ ap (λ (f : List ℕ × List ℕ). same_bytes key f.0) (pair_at kb vb es (n - 1) e (omega arith) at)
+    ∙ false_from_ne_true (same_bytes key (kb e.0)) (λ t. other (same_bytes-true key (kb e.0) t)))
+    (λ (above : i ≡ n - 1 → ⊥). others i (omega (arith, above, from)) less)
+    (cases_eq i (n - 1))
+
+pub none_last : (key : List ℕ) (insertions : List (List ℕ × List ℕ)) (n : ℕ) → n ≤ 0 → OthersFrom key insertions n → last_insertion key insertions ≡ None
+none_last key insertions n first others = last_with-none (λ f. same_bytes key f.0) insertions ([], []) (λ i less. others i (omega (arith, first)) less)

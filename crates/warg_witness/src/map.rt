@@ -117,8 +117,9 @@ fn collide<D: SupportedDigest, K: VisitBytes, V: VisitBytes, W: VisitBytes, A: A
     ensures { IfOk result (λ c. (peers : List (Option (List ℕ))) → IsKeyMeeting D.digest peers (K.bytes key.now) (W.bytes value.now) (pair_bytes K.bytes V.bytes insertions.now) met.now.parting met.now.last
         → IsKeyPlaced D.digest peers (W.bytes value.now) (K.bytes key.now) (pair_bytes K.bytes V.bytes insertions.now) c.0 c.1) }
 {
-    same_digest();
+    last_held();
     all_bits();
+    same_digest();
     if !met.parting.is_target() {
         return part(alloc, &met.parting);
     }

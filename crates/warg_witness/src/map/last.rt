@@ -19,7 +19,8 @@ fn last_place<K: VisitBytes, V: VisitBytes>(
         × (last_insertion (K.bytes key.now) (pair_bytes K.bytes V.bytes insertions.now) ≡ Some (slice_index_or (pair_bytes K.bytes V.bytes insertions.now) place ([], []))))) }
 {
     for place in (0..insertions.len()).rev() {
-        if have_same_bytes(key, &insertions[place].0)? {
+        let (inserted, _) = &insertions[place];
+        if have_same_bytes(key, inserted)? {
             return Ok(Some(place));
         }
     }
