@@ -17,3 +17,4 @@ pub mod PlainPathLemmas
 pub mod LastLemmas
 pub mod KeyLemmas
 pub mod KeyLawLemmas
+pub mod KeysLemmas

@@ -1,9 +1,8 @@
 -- Two evaluations along one key's bits, and the plain sparse tree as the second of them.
-use Rattle.std.specs.Prelude.{◌≡◌, ℕ, ◌+◌, ◌<◌, ◌≤◌, Bool, not, true, List, [], ◌∷◌, ◌++◌, length, Option, Some, None, MatchOption, slice_index_or, Contains}
-use Rattle.std.specs.List.{All}
+use Rattle.std.specs.Prelude.{◌≡◌, ℕ, ◌+◌, ◌<◌, ◌≤◌, Bool, not, false, List, [], ◌∷◌, ◌++◌, length, Option, Some, None, MatchOption, slice_index_or}
 use Rattle.std.specs.FinMap.{get}
-use Rattle.std.specs.Ordering.{nat_cmp, ordering_then}
-use Rattle.std.specs.List.Sorted.{IsSorted}
+use Rattle.std.specs.declared.cmp.Ordering.{Ordering}
+use Rattle.std.specs.Ordering.{is_lt, nat_cmp, ordering_then}
 use Rattle.std.specs.Cmp.Lexicographic.{slice_cmp}
 use Rattle.warg_crypto.specs.EmptyTrees.{empty_root}
 use Rattle.warg_map.specs.Bits.{key_bits}
@@ -59,18 +58,27 @@ plain_peers H held (bit ∷ bits) = plain_peers H (λ q. held (bit ∷ q)) bits 
 abbrev pub key_at : List (List ℕ × List ℕ) → ℕ → List ℕ
 key_at insertions place = (slice_index_or insertions place ([], [])).0
 
--- A key's digest and its place among the insertions.
-pub record IsKeyOf (H : List ℕ → List ℕ) (insertions : List (List ℕ × List ℕ)) (entry : List ℕ × ℕ) : Type 0 where
+-- The entry of a list of digests with their places.
+abbrev pub entry_at : List (List ℕ × ℕ) → ℕ → List ℕ × ℕ
+entry_at keys i = slice_index_or keys i ([], 0)
+
+-- The order of such entries: by the digest, and then by the place.
+abbrev pub entry_cmp : List ℕ × ℕ → List ℕ × ℕ → Ordering
+entry_cmp e f = ordering_then (slice_cmp nat_cmp e.0 f.0) (nat_cmp e.1 f.1)
+
+-- The entry is the digest of an inserted key with the key's place, and the digest's bits begin with the prefix.
+pub record IsKeyUnder (H : List ℕ → List ℕ) (insertions : List (List ℕ × List ℕ)) (prefix : List Bool) (entry : List ℕ × ℕ) : Type 0 where
   pub within : entry.1 < length insertions
   pub digest : entry.0 ≡ H (key_at insertions entry.1)
+  pub rest : List Bool
+  pub begins : key_bits H (key_at insertions entry.1) ≡ prefix ++ rest
 
--- The digests, with their places, of the inserted keys whose bits begin with the prefix, ascending by the digest
--- and then by the place.
+-- The digests, with their places, of all inserted keys whose bits begin with the prefix, in order.
 pub record AreKeysUnder (H : List ℕ → List ℕ) (insertions : List (List ℕ × List ℕ)) (prefix : List Bool) (keys : List (List ℕ × ℕ)) : Type 0 where
-  pub each : All (IsKeyOf H insertions) keys
-  pub begin : All (λ e. (rest : List Bool) × (key_bits H (key_at insertions e.1) ≡ prefix ++ rest)) keys
-  pub all : (place : ℕ) (rest : List Bool) → place < length insertions → key_bits H (key_at insertions place) ≡ prefix ++ rest → Contains keys (H (key_at insertions place), place)
-  pub ascending : IsSorted (λ e f. ordering_then (slice_cmp nat_cmp e.0 f.0) (nat_cmp e.1 f.1)) keys
+  pub each : (i : ℕ) → i < length keys → IsKeyUnder H insertions prefix (entry_at keys i)
+  pub all : (place : ℕ) (rest : List Bool) → place < length insertions → key_bits H (key_at insertions place) ≡ prefix ++ rest
+      → (i : ℕ) × (i < length keys) × (entry_at keys i ≡ (H (key_at insertions place), place))
+  pub ascending : (i j : ℕ) → i ≤ j → j < length keys → is_lt (entry_cmp (entry_at keys j) (entry_at keys i)) ≡ false
 
 -- The place of the last insertion whose key has these bits, or none where there is no such insertion.
 abbrev pub IsLastPlace : (List ℕ → List ℕ) → List (List ℕ × List ℕ) → List Bool → Option ℕ → Type 0

@@ -7,6 +7,7 @@ ghost use Rattle.warg_witness.specs.MapPaths.{AreKeysUnder};
 use crate::map::path::bit;
 use std::alloc::{AllocError, Allocator};
 use warg_crypto::{Hash, SupportedDigest, VisitBytes};
+use warg_map::laws::{all_bits, order_of_bits};
 
 /// The digest of each inserted key with its place among the insertions, ascending by the digest and then by the
 /// place. It hashes each key once.
@@ -18,7 +19,8 @@ pub(crate) fn sorted_keys<D: SupportedDigest, K: VisitBytes, V: VisitBytes, A: A
 {
     let mut keys = Vec::new(alloc);
     for place in 0..insertions.len() {
-        keys.push((Hash::of(&insertions[place].0), place))?;
+        let (key, _) = &insertions[place];
+        keys.push((Hash::of(key), place))?;
     }
     keys.sort_unstable();
     Ok(keys)
@@ -33,6 +35,8 @@ pub(crate) fn halves<D: SupportedDigest>(
     ensures { (insertions : List (List ℕ × List ℕ)) (prefix : List Bool) → length prefix ≡ depth → AreKeysUnder D.digest insertions prefix keys.now
         → AreKeysUnder D.digest insertions (prefix ++ false ∷ []) result.0.now × AreKeysUnder D.digest insertions (prefix ++ true ∷ []) result.1.now }
 {
+    order_of_bits();
+    all_bits();
     let zeros = keys.partition_point(|key| !bit(&key.0, depth));
     keys.split_at(zeros)
 }
