@@ -1,6 +1,7 @@
 -- The inserted keys in the order of their digests.
 use Rattle.std.proofs.Common.{◌≡◌, ℕ, zero, suc, ◌+◌, ◌-◌, ◌<◌, ◌≤◌, Bool, true, false, not, List, [], ◌∷◌, ◌++◌, length, take, drop, get_or, ⊎_elim, refl, sym, ap, subst, ◌∙◌, arith, append_assoc}
-use Rattle.std.proofs.lemmas.List.{get_or-take, get_or-drop, get_or_default, get_or-append_left, get_or-append_right, length-take, length-take-le, length-drop, length-append}
+use Rattle.std.proofs.lemmas.List.{get_or-take, get_or-drop, get_or_default, get_or_append_left, length-take, length-take-le, length-drop, length-append}
+use Rattle.std.proofs.Math.Seq.{get_or-append_seam}
 use Rattle.std.proofs.lemmas.Bool.{cases_lt, cases_Bool}
 use Rattle.std.specs.List.Sorted.{IsPermutation, IsSorted, IsPartitionedBy, IsPartitionPoint}
 use Rattle.std.proofs.lemmas.List.Sorted.{All-permutation, Contains-permutation, sorted_far, ranks_by}
@@ -199,10 +200,10 @@ listed_more H insertions keys n e are is =
     record {
       count = len ∙ (let m : length keys + 1 ≡ n + 1 = omega (arith, count) in m);
       each = λ i lt. ⊎_elim
-          (λ (before : i < length keys). get_or-append_left keys (e ∷ []) i ([], 0) before ∙ are.each i (omega (arith, before, count)))
+          (λ (before : i < length keys). get_or_append_left keys (e ∷ []) ([], 0) i before ∙ are.each i (omega (arith, before, count)))
           (λ (after : length keys ≤ i).
-          let here : i ≡ length keys + 0 = omega (arith, after, count, lt) in
-          ap (entry_at (keys ++ e ∷ [])) here ∙ get_or-append_right keys (e ∷ []) 0 ([], 0) ∙ is
+          let here : i ≡ length keys = omega (arith, after, count, lt) in
+          ap (entry_at (keys ++ e ∷ [])) here ∙ get_or-append_seam keys e [] ([], 0) ∙ is
           ∙ ap (λ j. (H (key_at insertions j), j)) (let m : n ≡ i = omega (arith, after, count, lt) in m))
           (cases_lt i (length keys));
     }
@@ -230,3 +231,13 @@ sorted_are H insertions keys sorted are moved up = record {
     listed k d less =
         let count = are.count in
         one k (get_or keys k d) (omega (arith, less, count)) (get_or_default keys k d ([], 0) less ∙ are.each k (omega (arith, less, count)))
+
+-- the order of hashes ends in that of their marker
+then_equal : (a : Ordering) → ordering_then a Equal ≡ a
+then_equal Less = refl
+then_equal Equal = refl
+then_equal Greater = refl
+
+pub sorted_as : (keys : List (List ℕ × ℕ)) → IsSorted (λ e f. ordering_then (ordering_then (slice_cmp nat_cmp e.0 f.0) Equal) (nat_cmp e.1 f.1)) keys → IsSorted entry_cmp keys
+sorted_as keys up k d low less =
+    ap (λ o. is_lt (ordering_then o (nat_cmp (get_or keys (k + 1) d).1 (get_or keys k d).1))) (sym (then_equal (slice_cmp nat_cmp (get_or keys (k + 1) d).0 (get_or keys k d).0))) ∙ up k d low less
