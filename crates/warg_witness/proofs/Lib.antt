@@ -18,3 +18,4 @@ pub mod LastLemmas
 pub mod KeyLemmas
 pub mod KeyLawLemmas
 pub mod KeysLemmas
+pub mod TreeLemmas

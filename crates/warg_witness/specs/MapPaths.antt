@@ -80,6 +80,12 @@ pub record AreKeysUnder (H : List ℕ → List ℕ) (insertions : List (List ℕ
       → (i : ℕ) × (i < length keys) × (entry_at keys i ≡ (H (key_at insertions place), place))
   pub ascending : (i j : ℕ) → i ≤ j → j < length keys → is_lt (entry_cmp (entry_at keys j) (entry_at keys i)) ≡ false
 
+-- The place of the last of such entries.
+pub record IsPlaceOfLast (keys : List (List ℕ × ℕ)) (place : ℕ) : Type 0 where
+  pub before : ℕ
+  pub count : length keys ≡ before + 1
+  pub is : place ≡ (entry_at keys before).1
+
 -- The place of the last insertion whose key has these bits, or none where there is no such insertion.
 abbrev pub IsLastPlace : (List ℕ → List ℕ) → List (List ℕ × List ℕ) → List Bool → Option ℕ → Type 0
 IsLastPlace H insertions bits found =

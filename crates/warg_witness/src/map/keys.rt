@@ -1,8 +1,8 @@
 //! The inserted keys in the order of their digests, and by halves.
 
-ghost use Rattle.std.specs.Prelude.{◌≡◌, ℕ, ◌+◌, ◌<◌, ◌≤◌, Bool, true, false, List, [], ◌∷◌, ◌++◌, length, IfOk, MatchOption};
+ghost use Rattle.std.specs.Prelude.{◌≡◌, ℕ, ◌+◌, ◌<◌, ◌≤◌, Bool, true, false, not, List, [], ◌∷◌, ◌++◌, length, IfOk, MatchOption};
 ghost use Rattle.warg_map.specs.Sparse.{pair_bytes};
-ghost use Rattle.warg_witness.specs.MapPaths.{AreKeysUnder};
+ghost use Rattle.warg_witness.specs.MapPaths.{AreKeysUnder, IsPlaceOfLast};
 
 use crate::map::path::bit;
 use std::alloc::{AllocError, Allocator};
@@ -39,4 +39,28 @@ pub(crate) fn halves<D: SupportedDigest>(
     all_bits();
     let zeros = keys.partition_point(|key| !bit(&key.0, depth));
     keys.split_at(zeros)
+}
+
+/// Of the keys under a prefix of `depth` bits those whose next bit is `side`, and the others.
+pub(crate) fn sides<D: SupportedDigest>(
+    keys: &[(Hash<D>, usize)],
+    depth: usize,
+    side: bool,
+) -> (&[(Hash<D>, usize)], &[(Hash<D>, usize)])
+    requires { depth < 256 }
+    ensures { (insertions : List (List ℕ × List ℕ)) (prefix : List Bool) → length prefix ≡ depth → AreKeysUnder D.digest insertions prefix keys.now
+        → AreKeysUnder D.digest insertions (prefix ++ side ∷ []) result.0.now × AreKeysUnder D.digest insertions (prefix ++ not side ∷ []) result.1.now }
+{
+    let (zeros, ones) = halves(keys, depth);
+    if side { (ones, zeros) } else { (zeros, ones) }
+}
+
+/// The place of the last of the keys.
+pub(crate) fn last_place<D>(keys: &[(Hash<D>, usize)]) -> Option<usize>
+    ensures { MatchOption result (length keys.now ≡ 0) (IsPlaceOfLast keys.now) }
+{
+    match keys.last() {
+        Some((_, place)) => Some(*place),
+        None => None,
+    }
 }

@@ -6,11 +6,12 @@ ghost use Rattle.warg_map.specs.Bits.{last_bits};
 ghost use Rattle.warg_map.specs.Sparse.{root_of, map_of, pair_bytes};
 ghost use Rattle.warg_witness.specs.MapPaths.{AreEmptyTrees, AreKeysUnder, IsLastPlace, plain_peers};
 
-use crate::map::keys::{halves, sorted_keys};
+use crate::map::keys::{halves, last_place, sides, sorted_keys};
 use crate::map::path::bit;
 use std::alloc::{AllocError, Allocator};
 use warg_crypto::{Hash, SupportedDigest, VisitBytes};
 use warg_log::{hash_branch, hash_leaf};
+use warg_map::laws::{all_bits, last_held, order_of_bits};
 
 /// The plain tree beside a key's path and at its foot.
 #[derive(Drop)]
@@ -34,11 +35,15 @@ fn plain_root<D: SupportedDigest, K: VisitBytes, V: VisitBytes>(
     ensures { (prefix : List Bool) → length prefix ≡ depth → AreKeysUnder D.digest (pair_bytes K.bytes V.bytes insertions.now) prefix keys.now
         → result ≡ root_of D.digest (256 - depth) (λ bits. get (map_of D.digest (pair_bytes K.bytes V.bytes insertions.now)) (prefix ++ bits)) }
 {
-    let Some(last) = keys.last() else {
+    last_held();
+    all_bits();
+    order_of_bits();
+    let Some(place) = last_place(keys) else {
         return empty[256 - depth].copied();
     };
     if depth == 256 {
-        return hash_leaf(&insertions[last.1].1);
+        let (_, value) = &insertions[place];
+        return hash_leaf(value);
     }
     let (zeros, ones) = halves(keys, depth);
     let left = plain_root(insertions, empty, zeros, depth + 1);
@@ -62,15 +67,13 @@ fn push_peers<D: SupportedDigest, K: VisitBytes, V: VisitBytes, A: Allocator>(
         → (peers.new.items ≡ peers.old.items ++ plain_peers D.digest (λ bits. get (map_of D.digest (pair_bytes K.bytes V.bytes insertions.now)) (prefix ++ bits)) (last_bits key.now (256 - depth)))
         × IsLastPlace D.digest (pair_bytes K.bytes V.bytes insertions.now) (prefix ++ last_bits key.now (256 - depth)) last) }
 {
+    last_held();
+    all_bits();
+    order_of_bits();
     if depth == 256 {
-        return Ok(keys.last().map(|last| last.1));
+        return Ok(last_place(keys));
     }
-    let (zeros, ones) = halves(keys, depth);
-    let (near, far) = if bit(key, depth) {
-        (ones, zeros)
-    } else {
-        (zeros, ones)
-    };
+    let (near, far) = sides(keys, depth, bit(key, depth));
     let last = push_peers(insertions, empty, near, key, peers, depth + 1)?;
     peers.push(Some(plain_root(insertions, empty, far, depth + 1)))?;
     Ok(last)
