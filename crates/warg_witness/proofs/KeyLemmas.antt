@@ -1,23 +1,25 @@
 -- What a false claim of a key shows.
-use Rattle.std.proofs.Common.{◌≡◌, ℕ, ◌<◌, Bool, true, List, [], ◌∷◌, ◌++◌, length, map, Option, Some, None, IfOk, unwrap_or, get_or, ◌⊎◌, inl, inr, ⊎_elim, refl, sym, ap, ◌∙◌, arith}
+use Rattle.std.proofs.Common.{◌≡◌, ℕ, ◌<◌, ◌≤◌, Bool, true, List, [], ◌∷◌, ◌++◌, length, map, Option, Some, None, IfOk, unwrap_or, get_or, ◌⊎◌, inl, inr, ⊎_elim, refl, sym, ap, ◌∙◌, arith}
 use Rattle.std.proofs.lemmas.List.{append-nil, length-map, get_or-map}
 use Rattle.std.specs.List.{Contains}
 use Rattle.std.specs.Option.{option_map}
 use Rattle.std.specs.FinMap.{get}
 use Rattle.std.specs.declared.result.Result.{Result}
 use Rattle.std.specs.declared.result.Result.TheVariants.{Ok, Err}
-use Rattle.warg_map.specs.Bits.{key_bits}
+use Rattle.warg_crypto.specs.EmptyTrees.{empty_root}
+use Rattle.warg_map.specs.Bits.{key_bits, last_bits}
 use Rattle.warg_map.specs.Sparse.{sparse_root, leaf_digest, map_of, pair_bytes}
 use Rattle.warg_map.specs.Last.{last_with, same_bits, last_under}
 use Rattle.warg_map.specs.ProofValue.{proof_value}
 use Rattle.warg_witness.specs.MapClaims.{value_in, last_insertion, IsLastValue, IsKeyMet}
 use Rattle.warg_witness.specs.MapPlaced.{IsPlacedAtPrefix, IsPlacedAtKeys, IsKeyPlaced}
-use Rattle.warg_witness.specs.MapPaths.{IsPathParting, plain_peers}
+use Rattle.warg_witness.specs.MapPaths.{IsPathParting, MeetsOnPath, IsLastPlace, plain_peers}
 use Rattle.warg_witness.specs.MapMeeting.{IsKeyMeeting}
 use Rattle.warg_witness.specs.Parting.{Collides, PartsAtBranch, pair_of}
 use Rattle.warg_witness.specs.declared.descent.Parting.{Parting}
 use Rattle.warg_witness.specs.declared.descent.Parting.TheVariants.{Target, Branch}
 use Rattle.warg_witness.proofs.LastLemmas.{last_with-passes, last_with-contains, same_bits-true, last_of_digest, none_of_digest, last_at, last_none}
+use Rattle.warg_witness.proofs.PathBits.{length-last_bits}
 use Rattle.warg_witness.proofs.PlainPathLemmas.{plain_value, plain_leaf_is, plain_input_is, length-plain_peers}
 
 -- What the map's law says of the bits of one key.
@@ -130,3 +132,38 @@ pub keys_met : {D K V : Type 0} (H : List ℕ → List ℕ) (kb : K → List ℕ
     → value ≡ vb e.1 → (IsLastValue key value (pair_bytes kb vb es) → ⊥) → ShowsKey H peers key value (pair_bytes kb vb es) (key, kb e.0)
 keys_met H kb vb peers key value es parting last place e met digests is at same untrue =
     keys_shown H peers key value (pair_bytes kb vb es) (kb e.0, vb e.1) digests (last_at H kb vb es (key_bits H key) last place e met.last_is is at) same untrue
+
+-- the tree's evaluation, as the code has it
+pub record IsTree (H : List ℕ → List ℕ) (insertions : List (List ℕ × List ℕ)) (digest key : List ℕ) (tree : List (Option (List ℕ))) (plain : List ℕ) : Type 0 where
+  pub digest_is : digest ≡ H key
+  pub tree_is : tree ≡ plain_peers H (get (map_of H insertions)) (last_bits digest 256)
+  pub plain_is : plain ≡ leaf_digest H (value_in (last_under H (last_bits digest 256) insertions))
+
+pub tree_few : (H : List ℕ → List ℕ) (held : List Bool → Option (List ℕ)) (digest : List ℕ) (peers tree : List (Option (List ℕ))) → peers ≡ tree → tree ≡ plain_peers H held (last_bits digest 256) → length peers ≤ 256
+tree_few H held digest peers tree same is =
+    let n : length peers ≡ 256 = ap length (same ∙ is) ∙ length-plain_peers H held (last_bits digest 256) ∙ length-last_bits digest 256 in omega (arith, n)
+
+tree_root : (H : List ℕ → List ℕ) (insertions : List (List ℕ × List ℕ)) (digest key : List ℕ) (tree : List (Option (List ℕ))) (plain : List ℕ) → IsTree H insertions digest key tree plain → length (key_bits H key) ≡ 256
+    → IsHeld H insertions (key_bits H key) → proof_value H tree plain (last_bits digest 256) ≡ sparse_root H 256 (map_of H insertions)
+tree_root H insertions digest key tree plain is long held = rw (is.tree_is, is.plain_is, is.digest_is) (plain_root_is H insertions (key_bits H key) long held)
+
+pub apart_not_met : (H : List ℕ → List ℕ) (peers : List (Option (List ℕ))) (key value : List ℕ) (insertions : List (List ℕ × List ℕ)) (digest : List ℕ) (tree : List (Option (List ℕ))) (leaf plain : List ℕ)
+    → IsTree H insertions digest key tree plain → leaf ≡ H (0 ∷ value) → length (key_bits H key) ≡ 256 → IsHeld H insertions (key_bits H key)
+    → (proof_value H peers leaf (last_bits digest 256) ≡ proof_value H tree plain (last_bits digest 256) → ⊥) → IsKeyMet H peers key value insertions → ⊥
+apart_not_met H peers key value insertions digest tree leaf plain is leaf_is long held apart met =
+    apart (ap (λ x. proof_value H peers x (last_bits digest 256)) leaf_is ∙ ap (λ d. proof_value H peers (H (0 ∷ value)) (last_bits d 256)) is.digest_is ∙ met
+    ∙ sym (tree_root H insertions digest key tree plain is long held))
+
+pub meeting_from : {D : Type 0} (H : List ℕ → List ℕ) (peers : List (Option (List ℕ))) (key value : List ℕ) (insertions : List (List ℕ × List ℕ)) (digest : List ℕ) (tree : List (Option (List ℕ))) (leaf plain : List ℕ)
+    (parting : Parting D) (last : Option ℕ) → IsTree H insertions digest key tree plain → leaf ≡ H (0 ∷ value) → length (key_bits H key) ≡ 256 → IsHeld H insertions (key_bits H key)
+    → MeetsOnPath H peers leaf tree plain (last_bits digest 256) parting → IsLastPlace H insertions (last_bits digest 256) last → IsKeyMeeting H peers key value insertions parting last
+meeting_from {D = D} H peers key value insertions digest tree leaf plain parting last is leaf_is long held meets place = record {
+  met = ap (λ d. proof_value H peers (H (0 ∷ value)) (last_bits d 256)) (sym is.digest_is) ∙ ap (λ x. proof_value H peers x (last_bits digest 256)) (sym leaf_is) ∙ meets.met
+      ∙ tree_root H insertions digest key tree plain is long held;
+  parts = rw (leaf_is, is.tree_is, is.plain_is, is.digest_is) at meets.parts;
+  last_is = rw is.digest_is at place;
+}
+
+pub absent_leaf : (H : List ℕ → List ℕ) → H (0 ∷ []) ≡ empty_root H 0
+unfolding empty_root
+absent_leaf H = refl
