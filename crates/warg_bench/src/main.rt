@@ -9,11 +9,11 @@ use anyhow::Result;
 use std::env;
 use std::time::Instant;
 use warg_check::{check_consistency, check_inclusion, check_key, run};
-use warg_crypto::{Hash, Sha256};
+use warg_crypto::{Hash, Sha256, SupportedDigest};
 use warg_log::{LogBuilder, LogData, Node, ProofBundle, StackLog, VecLog, push_all};
 use warg_map::{Map, Proof, ProofBundle as KeyBundle};
 use warg_protobuf::{HashEntry, LogProofBundle, MapInclusionProof, MapProofBundle, OptionalHash};
-use warg_witness::witness_value;
+use warg_witness::{witness_absent, witness_key, witness_value};
 
 type Entry = [u8; 32];
 
@@ -35,6 +35,8 @@ fn main(rt: HostRuntime) -> Result<()> {
     verdicts(&rt)?;
     map_lines(&rt)?;
     witnesses(&rt)?;
+    map_witnesses(&rt, 1_000, branch)?;
+    map_witnesses(&rt, 10_000, branch)?;
     Ok(())
 }
 
@@ -71,7 +73,8 @@ fn entries(rt: &HostRuntime, count: usize) -> Result<Vec<Entry>> {
 // The digests that calls take, by their times under a digest that takes long.
 fn counts(rt: &HostRuntime) -> Result<()> {
     log_counts(rt)?;
-    map_counts(rt)
+    map_counts(rt)?;
+    map_witness_counts(rt)
 }
 
 // The digests that a call takes, in tenths, or 0 where it fails: the least of several times of the call, in
@@ -491,4 +494,51 @@ fn witnesses(rt: &HostRuntime) -> Result<()> {
         each(rt, start, 1)?
     )?;
     Ok(())
+}
+
+// A map of equal keys and values, and the insertions that it was grown by.
+fn grown<D: SupportedDigest>(
+    rt: &HostRuntime,
+    count: usize,
+) -> Result<(Map<D, Entry, Entry>, Vec<(Entry, Entry)>)> {
+    let mut map: Map<D, Entry, Entry> = Map::default(rt.alloc())?;
+    let mut insertions = Vec::new(rt.alloc());
+    for key in entries(rt, count)? {
+        map = map.insert(key, key)?;
+        insertions.push((key, key))?;
+    }
+    Ok((map, insertions))
+}
+
+fn map_witnesses(rt: &HostRuntime, count: usize, branch: u128) -> Result<()> {
+    let (map, insertions) = grown::<Sha256>(rt, count)?;
+    let key = insertions.first().map_or([7; 32], |insertion| insertion.0);
+    let other = [8u8; 32];
+    if let Some(proof) = map.prove(key)? {
+        let start = Instant::now(rt)?;
+        let _ = witness_key(rt.alloc(), &proof, &key, &other, insertions.as_slice())?;
+        let time = each(rt, start, 1)?;
+        let hashes = time.checked_div(branch).unwrap_or(0);
+        println!(rt; "witness_key over {count} insertions: {time} ns, {hashes} hashes")?;
+    }
+    if let Some(proof) = map.prove_absence(other)? {
+        let start = Instant::now(rt)?;
+        let _ = witness_absent(rt.alloc(), &proof, &other, insertions.as_slice())?;
+        let time = each(rt, start, 1)?;
+        let hashes = time.checked_div(branch).unwrap_or(0);
+        println!(rt; "witness_absent over {count} insertions: {time} ns, {hashes} hashes")?;
+    }
+    Ok(())
+}
+
+fn map_witness_counts(rt: &HostRuntime) -> Result<()> {
+    let (map, insertions) = grown::<Slow>(rt, 100)?;
+    let key = insertions.first().map_or([7; 32], |insertion| insertion.0);
+    let Some(proof) = map.prove(key)? else {
+        return Ok(());
+    };
+    let taken = digests(rt, || {
+        witness_key(rt.alloc(), &proof, &key, &key, insertions.as_slice()).is_ok()
+    })?;
+    print_digests(rt, "witness_key over 100 insertions", taken, 1)
 }

@@ -168,9 +168,9 @@ fn find<D: SupportedDigest, K: VisitBytes, V: VisitBytes, W: VisitBytes, A: Allo
 /// (first) and in the plain tree over the insertions (second) at one prefix of the key's bits; or the key's bytes
 /// (first) and those of an inserted key with the same digest (second).
 ///
-/// It hashes each inserted key once, and each branch of the plain tree once, and beside them few hashes on the key's
-/// path. It keeps the keys' digests with their places, and copies no key and no value but into a collision. Want of
-/// memory is the only error.
+/// It hashes each inserted key, each last value under a key digest, and each branch of the plain tree over a key once,
+/// and beside them 256 branches of the proof. It keeps the keys' digests with their places, which it sorts once, and 513
+/// digests more, and copies no key and no value but into a collision. Want of memory is the only error.
 pub fn witness_key<
     D: SupportedDigest,
     K: VisitBytes,
