@@ -33,29 +33,37 @@ pub(crate) fn answer(words: &mut Words<'_>, answer: &mut Answer) -> Result<(), F
 
 // Whether one of the modules knows the name, and so answered the call.
 fn is_answered(name: &str, words: &mut Words<'_>, to: &mut Answer) -> Result<bool, Fault> {
-    Ok(nodes::answer(name, words, to)?
-        || of_logs(name, words, to)?
-        || of_maps(name, words, to)?
-        || of_bytes(name, words, to)?)
+    Ok(
+        nodes::answer(name, words, to)?
+            || of_logs(name, words, to)?
+            || of_maps(name, words, to)?
+            || of_bytes(name, words, to)?,
+    )
 }
 
 fn of_logs(name: &str, words: &mut Words<'_>, to: &mut Answer) -> Result<bool, Fault> {
-    Ok(logs::answer(name, words, to)?
-        || proofs::answer(name, words, to)?
-        || bundles::answer(name, words, to)?
-        || witnesses::answer(name, words, to)?)
+    Ok(
+        logs::answer(name, words, to)?
+            || proofs::answer(name, words, to)?
+            || bundles::answer(name, words, to)?
+            || witnesses::answer(name, words, to)?,
+    )
 }
 
 fn of_maps(name: &str, words: &mut Words<'_>, to: &mut Answer) -> Result<bool, Fault> {
-    Ok(maps::answer(name, words, to)?
-        || map_proofs::answer(name, words, to)?
-        || map_bundles::answer(name, words, to)?
-        || map_witnesses::answer(name, words, to)?)
+    Ok(
+        maps::answer(name, words, to)?
+            || map_proofs::answer(name, words, to)?
+            || map_bundles::answer(name, words, to)?
+            || map_witnesses::answer(name, words, to)?,
+    )
 }
 
 fn of_bytes(name: &str, words: &mut Words<'_>, to: &mut Answer) -> Result<bool, Fault> {
-    Ok(checks::answer(name, words, to)?
-        || messages::answer(name, words, to)?
-        || values::answer(name, words, to)?
-        || runs::answer(name, words, to)?)
+    Ok(
+        checks::answer(name, words, to)?
+            || messages::answer(name, words, to)?
+            || values::answer(name, words, to)?
+            || runs::answer(name, words, to)?,
+    )
 }

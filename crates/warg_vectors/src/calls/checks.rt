@@ -99,9 +99,7 @@ impl Call for CheckKey {
 
     fn answer<M: Memory>(&self, memory: M, answer: &mut Answer) -> Result<(), AllocError> {
         let bytes = self.bytes.as_slice();
-        let verdict = check_key(
-            memory, bytes, self.at, &self.key, &self.value, &self.root,
-        );
+        let verdict = check_key(memory, bytes, self.at, &self.key, &self.value, &self.root);
         write(verdict, answer)
     }
 }

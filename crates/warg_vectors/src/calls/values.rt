@@ -1,11 +1,10 @@
 //! Values that are read from the bytes of their messages.
 
 use crate::answer::Answer;
-use crate::calls::bundles;
 use crate::calls::bundles::BytesBundle;
-use crate::calls::map_bundles;
 use crate::calls::messages::Type;
 use crate::calls::wrong::Wrong;
+use crate::calls::{bundles, map_bundles};
 use crate::each;
 use crate::each::{Call, Memory};
 use crate::words::{Fault, Words};
@@ -67,8 +66,10 @@ impl Call for MapBundle {
     }
 
     fn answer<M: Memory>(&self, memory: M, answer: &mut Answer) -> Result<(), AllocError> {
-        let read: Result<MapProofBundle<Sha256, Vec<u8>, Vec<u8>, M>, _> =
-            MapProofBundle::decode(memory, self.bytes.as_slice());
+        let read: Result<MapProofBundle<Sha256, Vec<u8>, Vec<u8>, M>, _> = MapProofBundle::decode(
+            memory,
+            self.bytes.as_slice(),
+        );
         match read {
             Ok(bundle) => match map_bundles::reread(bundle, memory) {
                 Ok(bytes) => answer.bytes(bytes.as_slice()),
