@@ -5,8 +5,12 @@ use crate::each;
 use crate::each::{Call, Memory};
 use crate::words::{Fault, Words};
 use std::alloc::AllocError;
-use warg_check::{CheckError, check_absent, check_consistency, check_inclusion, check_key};
+use warg_check::{
+    CheckError, check_absent, check_consistency, check_entry, check_growth, check_inclusion,
+    check_key,
+};
 use warg_crypto::{Hash, Sha256};
+use warg_log::Checkpoint;
 
 /// Answers the call of this name, or false where the name is none of these.
 pub(super) fn answer(name: &str, words: &mut Words<'_>, to: &mut Answer) -> Result<bool, Fault> {
@@ -15,6 +19,8 @@ pub(super) fn answer(name: &str, words: &mut Words<'_>, to: &mut Answer) -> Resu
         "check_consistency" => each::answer::<CheckConsistency>(words, to)?,
         "check_key" => each::answer::<CheckKey>(words, to)?,
         "check_absent" => each::answer::<CheckAbsent>(words, to)?,
+        "check_entry" => each::answer::<CheckEntry>(words, to)?,
+        "check_growth" => each::answer::<CheckGrowth>(words, to)?,
         _ => return Ok(false),
     }
     Ok(true)
@@ -125,6 +131,72 @@ impl Call for CheckAbsent {
     fn answer<M: Memory>(&self, memory: M, answer: &mut Answer) -> Result<(), AllocError> {
         let bytes = self.bytes.as_slice();
         let verdict = check_absent(memory, bytes, self.at, &self.key, &self.root);
+        write(verdict, answer)
+    }
+}
+
+#[derive(Drop)]
+struct CheckEntry {
+    bytes: Vec<u8>,
+    at: usize,
+    index: usize,
+    value: Vec<u8>,
+    checkpoint: Checkpoint<Sha256>,
+}
+
+// Reads a checkpoint: its length, and its root.
+fn read_checkpoint(words: &mut Words<'_>) -> Result<Checkpoint<Sha256>, Fault> {
+    let length = words.read()?;
+    let root = words.read()?;
+    Ok(Checkpoint::new(root, length))
+}
+
+impl Call for CheckEntry {
+    fn read(words: &mut Words<'_>) -> Result<CheckEntry, Fault> {
+        Ok(CheckEntry {
+            bytes: words.read()?,
+            at: words.read()?,
+            index: words.read()?,
+            value: words.read()?,
+            checkpoint: read_checkpoint(words)?,
+        })
+    }
+
+    fn answer<M: Memory>(&self, memory: M, answer: &mut Answer) -> Result<(), AllocError> {
+        let bytes = self.bytes.as_slice();
+        let verdict = check_entry(
+            memory,
+            bytes,
+            self.at,
+            self.index,
+            &self.value,
+            &self.checkpoint,
+        );
+        write(verdict, answer)
+    }
+}
+
+#[derive(Drop)]
+struct CheckGrowth {
+    bytes: Vec<u8>,
+    at: usize,
+    old: Checkpoint<Sha256>,
+    new: Checkpoint<Sha256>,
+}
+
+impl Call for CheckGrowth {
+    fn read(words: &mut Words<'_>) -> Result<CheckGrowth, Fault> {
+        Ok(CheckGrowth {
+            bytes: words.read()?,
+            at: words.read()?,
+            old: read_checkpoint(words)?,
+            new: read_checkpoint(words)?,
+        })
+    }
+
+    fn answer<M: Memory>(&self, memory: M, answer: &mut Answer) -> Result<(), AllocError> {
+        let bytes = self.bytes.as_slice();
+        let verdict = check_growth(memory, bytes, self.at, &self.old, &self.new);
         write(verdict, answer)
     }
 }
