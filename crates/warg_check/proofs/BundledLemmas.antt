@@ -25,7 +25,8 @@ use Rattle.warg_log.proofs.NodeLemmas.{end_some}
 use Rattle.warg_log.proofs.OrderLemmas.{needed_below}
 use Rattle.warg_check.specs.Orders.{bundle}
 use Rattle.warg_check.specs.Bundled.{needed_ascending, entry_before, entries_for, proof_message, numbers_fit}
-use Rattle.warg_check.specs.Text.{leaves, answer, bytes_or_refusal}
+use Rattle.warg_check.specs.States.{State, log_at}
+use Rattle.warg_check.specs.Text.{answer, bytes_or_refusal}
 
 -- ---- the needed nodes, ascending
 
@@ -166,15 +167,15 @@ length_refused F node n e memory found told = ⊎_elim
     rest)
     told
 
-pub too_new_answer : (F : ℕ → Option (List ℕ)) (entries : List (List ℕ)) (node : Node) (n : ℕ) (why : InclusionProofError) → Told F node n (Inclusion why) → answer entries (bundle node.0 n) ≡ codes "refused leaf too new"
+pub too_new_answer : (F : ℕ → Option (List ℕ)) (s : State) (node : Node) (n : ℕ) (why : InclusionProofError) → Told F node n (Inclusion why) → answer s (bundle node.0 n) ≡ codes "refused leaf too new"
 unfolding answer
-too_new_answer F entries node n why told =
+too_new_answer F s node n why told =
     let is = length_refused F node n (Inclusion why) (λ e. cc) (λ e. cc) told in
     length_cases node n _ (λ late at. rw late refl) (λ exists great at. absurd (cc (is, at))) (λ exists small at. absurd (cc (is, at)))
 
-pub too_large_answer : (F : ℕ → Option (List ℕ)) (entries : List (List ℕ)) (node : Node) (n : ℕ) → Told F node n TooLarge → answer entries (bundle node.0 n) ≡ codes "refused too large"
+pub too_large_answer : (F : ℕ → Option (List ℕ)) (s : State) (node : Node) (n : ℕ) → Told F node n TooLarge → answer s (bundle node.0 n) ≡ codes "refused too large"
 unfolding answer
-too_large_answer F entries node n told =
+too_large_answer F s node n told =
     let is = length_refused F node n TooLarge (λ e. cc) (λ e. cc) told in
     length_cases node n _ (λ late at. absurd (cc (is, at))) (λ exists great at. rw (exists, great) refl) (λ exists small at. absurd (cc (is, at)))
 
@@ -190,9 +191,9 @@ only_these F node n e told memory found large new =
 some_length : (t n : ℕ) → nat_lt n (end_of t) ≡ false → 0 < n
 some_length t n exists = let le = ltb-false n (end_of t) exists in let pos : 0 < end_of t = end_some (height_of t) (place_of t) in omega arith
 
-pub not_known_answer : (log entries : List (List ℕ)) (node : Node) (n : ℕ) → log ≡ leaves entries → Told (own_digest sha256 log) node n HashNotFound → answer entries (bundle node.0 n) ≡ codes "refused hash not known"
+pub not_known_answer : (log : List (List ℕ)) (s : State) (node : Node) (n : ℕ) → log ≡ log_at s → Told (own_digest sha256 log) node n HashNotFound → answer s (bundle node.0 n) ≡ codes "refused hash not known"
 unfolding answer
-not_known_answer log entries node n is told = ⊎_elim
+not_known_answer log s node n is told = ⊎_elim
     (λ (m : HashNotFound ≡ Memory). absurd (cc (m)))
     (λ (rest : (bundle_length [] ((node, n) ∷ []) ≡ Err HashNotFound) ⊎ ((HashNotFound ≡ HashNotFound) × LacksNeeded (own_digest sha256 log) [] (node ∷ []) (bundle_length [] ((node, n) ∷ [])))). ⊎_elim
     (λ (other : bundle_length [] ((node, n) ∷ []) ≡ Err HashNotFound). length_cases node n _ (λ late at. absurd (cc (other, at))) (λ exists great at. absurd (cc (other, at))) (λ exists small at. absurd (cc (other, at))))
@@ -202,24 +203,24 @@ not_known_answer log entries node n is told = ⊎_elim
     (λ exists small at.
     let one : LacksNeeded (own_digest sha256 log) [] (node ∷ []) (Ok n) = rw at at lacks.1 in
     let there : list_any (nat_eq one.0) (needed node.0 n) ≡ true = rw append-nil at one.1 in
-    let none : own_digest sha256 (leaves entries) one.0 ≡ None = rw is at one.2 in
-    rw (exists, small, entries_lack (own_digest sha256 (leaves entries)) one.0 (needed_ascending node.0 n) (needed_stands node.0 n one.0 (some_length node.0 n exists) there) none) refl))
+    let none : own_digest sha256 (log_at s) one.0 ≡ None = rw is at one.2 in
+    rw (exists, small, entries_lack (own_digest sha256 (log_at s)) one.0 (needed_ascending node.0 n) (needed_stands node.0 n one.0 (some_length node.0 n exists) there) none) refl))
     rest)
     told
 
 -- the digests that are held stand in the message
-pub bundle_answer : (log entries : List (List ℕ)) (b : Bundle) (node : Node) (n : ℕ) → log ≡ leaves entries
+pub bundle_answer : (log : List (List ℕ)) (s : State) (b : Bundle) (node : Node) (n : ℕ) → log ≡ log_at s
     → bundle_length [] ((node, n) ∷ []) ≡ Ok b.log_length → b.consistent_lengths ≡ [] → b.included_nodes ≡ node ∷ [] → IsAscending b.hashes
     → ((x : ℕ) → list_any (nat_eq x) (map (λ (p : Node × List ℕ). p.0.0) b.hashes) ≡ list_any (nat_eq x) (needed_by b.consistent_lengths b.included_nodes b.log_length))
     → AllByRecursion (λ (p : Node × List ℕ). own_digest sha256 log p.0.0 ≡ Some p.1) b.hashes
-    → answer entries (bundle node.0 n) ≡ bytes_or_refusal (bundle_message b)
+    → answer s (bundle node.0 n) ≡ bytes_or_refusal (bundle_message b)
 unfolding answer
-bundle_answer log entries b node n is length_is no_lengths one_node up exactly source = length_cases node n _
+bundle_answer log s b node n is length_is no_lengths one_node up exactly source = length_cases node n _
     (λ late at. absurd (cc (length_is, at)))
     (λ exists great at. absurd (cc (length_is, at)))
     (λ exists small at.
     let count : n ≡ b.log_length = cc (length_is, at) in
     let each : (x : ℕ) → list_any (nat_eq x) (map (λ (p : Node × List ℕ). p.0.0) b.hashes) ≡ list_any (nat_eq x) (needed node.0 n) = λ x. exactly x ∙ rw (no_lengths, one_node, ← count, append-nil) refl in
-    let own : AllByRecursion (λ (p : Node × List ℕ). own_digest sha256 (leaves entries) p.0.0 ≡ Some p.1) b.hashes = rw is at source in
+    let own : AllByRecursion (λ (p : Node × List ℕ). own_digest sha256 (log_at s) p.0.0 ≡ Some p.1) b.hashes = rw is at source in
     let same : proof_message node.0 n (map entry_of b.hashes) ≡ bundle_message b = rw (no_lengths, one_node, ← count) refl in
-    rw (exists, small, numbers_are b.hashes node.0 n up (some_length node.0 n exists) each, entries_are (own_digest sha256 (leaves entries)) b.hashes own) (ap bytes_or_refusal same))
+    rw (exists, small, numbers_are b.hashes node.0 n up (some_length node.0 n exists) each, entries_are (own_digest sha256 (log_at s)) b.hashes own) (ap bytes_or_refusal same))

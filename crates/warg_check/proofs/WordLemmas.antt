@@ -1,9 +1,9 @@
 -- Lemmas on lines, words and numbers.
-use Rattle.std.proofs.Common.{◌≡◌, ◌≢◌, ℕ, suc, ◌+◌, ◌-◌, ◌*◌, ◌^◌, ◌<◌, ◌≤◌, ◌&&◌, Bool, true, false, List, [], ◌∷◌, ◌++◌, length, take, drop, get_or, Option, Some, None, refl, sym, ◌∙◌, ap, arith, add-one, le-leb, lt-ltb, le-ltb, ne_eqb, option_map, is_some, Bor, cond, nat_eq}
+use Rattle.std.proofs.Common.{◌≡◌, ◌≢◌, ℕ, suc, ◌+◌, ◌-◌, ◌*◌, ◌^◌, ◌<◌, ◌≤◌, ◌&&◌, Bool, true, false, List, [], ◌∷◌, ◌++◌, length, take, drop, get_or, Option, Some, None, refl, sym, ◌∙◌, ap, arith, add-one, le-leb, lt-ltb, le-ltb, ne_eqb, option_map, Bor}
 use Rattle.std.proofs.Math.Seq.{take-suc, drop-cons}
 use Rattle.std.specs.List.{list_all}
 use Rattle.std.specs.Char.{is_ascii_digit}
-use Rattle.warg_check.specs.Words.{Lacks, IsFirstPart, onto_first, lines_of, words_of, is_number, number_of, value_from}
+use Rattle.warg_check.specs.Words.{Lacks, IsFirstPart, lines_of, words_of, words_left, is_number, number_of, value_from}
 
 Lacks-append : (b : ℕ) (xs ys : List ℕ) → Lacks b xs → Lacks b ys → Lacks b (xs ++ ys)
 Lacks-append b [] ys p q = q
@@ -56,18 +56,9 @@ words_whole [] lacks = refl
 words_whole (b ∷ line) lacks = rw (ne_eqb b 32 lacks.0, words_whole line lacks.1) refl
 
 -- the first word, and those of what stands behind its space
-pub words_more : (line front : List ℕ) (rest : Option (Bor (List ℕ))) (x : Bor (List ℕ)) → rest ≡ Some x
-    → IsFirstPart 32 line front (option_map (λ r. r.now) rest) → words_of line ≡ front ∷ words_of x.now
-words_more line front None x is parts = absurd (cc)
-words_more line front (Some r) x is parts =
-    let same : r ≡ x = cc in
-    rw parts.0 (words_front front r.now parts.1) ∙ ap (λ (y : Bor (List ℕ)). front ∷ words_of y.now) same
-
--- a line without a space is one word
-pub words_end : (line front : List ℕ) (rest : Option (Bor (List ℕ))) → is_some rest ≡ false
-    → IsFirstPart 32 line front (option_map (λ r. r.now) rest) → words_of line ≡ front ∷ []
-words_end line front None none parts = rw parts.0 (words_whole front parts.1)
-words_end line front (Some r) none parts = absurd (cc)
+pub words_next : (line front : List ℕ) (rest : Option (List ℕ)) → IsFirstPart 32 line front rest → words_of line ≡ front ∷ words_left rest
+words_next line front None parts = rw parts.0 (words_whole front parts.1)
+words_next line front (Some rest) parts = rw parts.0 (words_front front rest parts.1)
 
 lines_front : (front rest : List ℕ) → Lacks 10 front → lines_of (front ++ 10 ∷ rest) ≡ front ∷ lines_of rest
 unfolding lines_of
@@ -99,14 +90,3 @@ lines_end bytes front None n some none parts =
     let no_more : n - n ≡ 0 = omega arith in
     last_line bytes front some parts ∙ ap (λ m. front ∷ lines_of (take m (drop n bytes))) (sym no_more)
 lines_end bytes front (Some r) n some none parts = absurd (cc)
-
--- there is at least one word
-pub a_word : (line : List ℕ) → (word : List ℕ) × (words : List (List ℕ)) × (words_of line ≡ word ∷ words)
-unfolding words_of
-a_word [] = ([], [], refl)
-a_word (b ∷ line) = by_test (nat_eq b 32) (a_word line)
-  where
-    by_test : (t : Bool) → (word : List ℕ) × (words : List (List ℕ)) × (words_of line ≡ word ∷ words)
-        → (word : List ℕ) × (words : List (List ℕ)) × (cond t ([] ∷ words_of line) (onto_first b (words_of line)) ≡ word ∷ words)
-    by_test true r = ([], words_of line, refl)
-    by_test false r = (b ∷ r.0, r.1, ap (onto_first b) r.2)

@@ -1,7 +1,11 @@
 pub mod Words
 pub mod Orders
+pub mod Says
+pub mod Commands
+pub mod States
 pub mod Bundled
 pub mod Text
-pub mod Commands
 pub mod Errors
+pub mod Sessions
 pub mod Verdicts
+pub mod CheckpointVerdicts

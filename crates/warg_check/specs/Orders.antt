@@ -1,5 +1,5 @@
 -- The program's commands: which lines are which, and no other line is good.
-use Rattle.std.specs.Prelude.{ℕ, if◌then◌else◌, List, [], ◌∷◌, codes, Option, Some, None}
+use Rattle.std.specs.Prelude.{ℕ, if◌then◌else◌, List, [], ◌∷◌, codes, Option, Some, None, option_and_then}
 use Rattle.std.specs.Option.{option_map}
 use Rattle.warg_check.specs.Words.{is_word, number_of, length_of, bytes_of, root_in, words_of}
 
@@ -11,51 +11,100 @@ pub data Order : Type 0 where
   consistent : ℕ → ℕ → Order
   bundle : ℕ → ℕ → Order
   verify : List ℕ → List ℕ → List ℕ → Order
+  insert : List ℕ → List ℕ → Order
+  map : Order
+  prove : List ℕ → List ℕ → Order
+  absent : List ℕ → Order
 
--- An order to evaluate, where each of its words is good.
-abbrev pub include_of : Option ℕ → Option ℕ → Option (List ℕ) → Option Order
-include_of (Some node) (Some length) (Some value) = Some (include node length value)
-include_of _ _ _ = None
+-- ---- words one after the other
 
--- An order to evaluate consistency, where both its words are good.
-abbrev pub consistent_of : Option ℕ → Option ℕ → Option Order
-consistent_of (Some old) (Some new) = Some (consistent old new)
-consistent_of _ _ = None
+-- What the first word says, and the words behind it. None where there is no word, or it says nothing of the kind.
+unfoldable pub first_says : {X : Type 0} → (List ℕ → Option X) → List (List ℕ) → Option (X × List (List ℕ))
+first_says say [] = None
+first_says say (word ∷ words) = option_map (λ x. (x, words)) (say word)
 
--- An order to make the bundle of a proof, where both its words are good.
-abbrev pub bundle_of : Option ℕ → Option ℕ → Option Order
-bundle_of (Some node) (Some length) = Some (bundle node length)
-bundle_of _ _ = None
+-- That there are no words.
+unfoldable pub none_left : List (List ℕ) → Option (Unit {0})
+none_left [] = Some tt
+none_left (word ∷ words) = None
 
--- An order to judge the bytes of a bundle, where each of its words is good.
-abbrev pub verify_of : Option (List ℕ) → Option (List ℕ) → Option (List ℕ) → Option Order
-verify_of (Some root) (Some value) (Some bytes) = Some (verify root value bytes)
-verify_of _ _ _ = None
+-- The order that words spell of which the first one says something, and those behind it the rest.
+abbrev pub next : {X : Type 0} → (List ℕ → Option X) → (X → List (List ℕ) → Option Order) → List (List ℕ) → Option Order
+next say rest words = option_and_then (λ p. rest p.0 p.1) (first_says say words)
 
--- The order of a line's words:
---     push BYTES
---     log
---     include NODE LENGTH BYTES
---     consistent OLD NEW
---     bundle NODE LENGTH
---     verify ROOT VALUE BUNDLE
+-- The order that no further words spell.
+abbrev pub done : Order → List (List ℕ) → Option Order
+done order words = option_map (λ _. order) (none_left words)
+
+-- ---- the words of each command, behind its name
+
+-- push BYTES
+abbrev pub push_in : List (List ℕ) → Option Order
+push_in words = next bytes_of (λ entry. done (push entry)) words
+
+-- log
+abbrev pub log_in : List (List ℕ) → Option Order
+log_in words = done log words
+
+-- include NODE LENGTH BYTES
+abbrev pub include_in : List (List ℕ) → Option Order
+include_in words = next number_of (λ node. next length_of (λ length. next bytes_of (λ value. done (include node length value)))) words
+
+-- consistent OLD NEW
+abbrev pub consistent_in : List (List ℕ) → Option Order
+consistent_in words = next length_of (λ old. next length_of (λ new. done (consistent old new))) words
+
+-- bundle NODE LENGTH
+abbrev pub bundle_in : List (List ℕ) → Option Order
+bundle_in words = next number_of (λ node. next length_of (λ length. done (bundle node length))) words
+
+-- verify ROOT VALUE BUNDLE
+abbrev pub verify_in : List (List ℕ) → Option Order
+verify_in words = next root_in (λ root. next bytes_of (λ value. next bytes_of (λ bytes. done (verify root value bytes)))) words
+
+-- insert KEY VALUE
+abbrev pub insert_in : List (List ℕ) → Option Order
+insert_in words = next bytes_of (λ key. next bytes_of (λ value. done (insert key value))) words
+
+-- map
+abbrev pub map_in : List (List ℕ) → Option Order
+map_in words = done map words
+
+-- prove KEY VALUE
+abbrev pub prove_in : List (List ℕ) → Option Order
+prove_in words = next bytes_of (λ key. next bytes_of (λ value. done (prove key value))) words
+
+-- absent KEY
+abbrev pub absent_in : List (List ℕ) → Option Order
+absent_in words = next bytes_of (λ key. done (absent key)) words
+
+-- ---- lines
+
+-- The order of a line's words: the first one is the name of a command, which reads the others.
 unfoldable pub order_of : List (List ℕ) → Option Order
 order_of [] = None
-order_of (name ∷ []) = if is_word name (codes "log") then Some log else None
-order_of (name ∷ first ∷ []) = if is_word name (codes "push") then option_map push (bytes_of first) else None
-order_of (name ∷ first ∷ second ∷ []) =
-    if is_word name (codes "consistent")
-    then consistent_of (length_of first) (length_of second)
+order_of (name ∷ words) =
+    if is_word name (codes "push")
+    then push_in words
+    else if is_word name (codes "log")
+    then log_in words
+    else if is_word name (codes "include")
+    then include_in words
+    else if is_word name (codes "consistent")
+    then consistent_in words
     else if is_word name (codes "bundle")
-    then bundle_of (number_of first) (length_of second)
-    else None
-order_of (name ∷ first ∷ second ∷ third ∷ []) =
-    if is_word name (codes "include")
-    then include_of (number_of first) (length_of second) (bytes_of third)
+    then bundle_in words
     else if is_word name (codes "verify")
-    then verify_of (root_in first) (bytes_of second) (bytes_of third)
+    then verify_in words
+    else if is_word name (codes "insert")
+    then insert_in words
+    else if is_word name (codes "map")
+    then map_in words
+    else if is_word name (codes "prove")
+    then prove_in words
+    else if is_word name (codes "absent")
+    then absent_in words
     else None
-order_of (name ∷ first ∷ second ∷ third ∷ fourth ∷ more) = None
 
 -- What a line is: no byte at all, no good line, or an order.
 pub data Line : Type 0 where

@@ -1,26 +1,28 @@
--- What the program writes, as a fold over its lines whose state is the list of the entries pushed.
-use Rattle.std.specs.Prelude.{◌≡◌, ℕ, suc, ◌*◌, ◌^◌, nat_le, nat_lt, Bool, true, false, ◌&&◌, if◌then◌else◌, List, [], ◌∷◌, ◌++◌, length, codes, Option, Some, None, Result, Ok, Err}
+-- What the program writes, as a fold over its lines whose state has the entries pushed and the insertions made.
+use Rattle.std.specs.Prelude.{◌≡◌, ℕ, suc, ◌*◌, ◌^◌, nat_eq, nat_le, nat_lt, Bool, true, false, ◌&&◌, if◌then◌else◌, List, [], ◌∷◌, ◌++◌, length, codes, Option, Some, None, Result, Ok, Err}
 use Rattle.std.specs.Fmt.{decimal}
+use Rattle.std.specs.FinMap as finite
+use Rattle.std.specs.Cmp.Lexicographic.{pointwise}
 use Rattle.hex.specs.Hex.{encode_lower}
 use Rattle.warg_crypto.specs.Digests.{sha256}
+use Rattle.warg_crypto.specs.EmptyTrees.{empty_root}
 use Rattle.warg_protobuf.specs.HashEntry.{Entry}
 use Rattle.warg_protobuf.specs.LogProofBundle.{LogBundle, log_bytes}
 use Rattle.warg_log.specs.Nodes.{end_of}
-use Rattle.warg_log.specs.Tree.{leaves_of, root_of, own_digest}
+use Rattle.warg_log.specs.Tree.{root_of, own_digest}
 use Rattle.warg_log.specs.Cut.{cut_root}
 use Rattle.warg_log.specs.Consistency.{consistency}
 use Rattle.warg_log.specs.declared.consistency.ConsistencyProofError.{ConsistencyProofError}
 use Rattle.warg_log.specs.declared.consistency.ConsistencyProofError.TheVariants.{PointsOutOfOrder, HashNotKnown, InclusionError, DivergingRoots, OldLengthZero, Memory}
+use Rattle.warg_map.specs.Bits.{key_bits}
+use Rattle.warg_map.specs.Sparse.{leaf_digest, leaf_at, sparse_root}
 use Rattle.warg_check.specs.Words.{lines_of}
 use Rattle.warg_check.specs.Verdicts.{inclusion_verdict}
 use Rattle.warg_check.specs.declared.verdict.CheckError.{CheckError}
 use Rattle.warg_check.specs.declared.verdict.CheckError.TheVariants as check
-use Rattle.warg_check.specs.Orders.{Order, push, log, include, consistent, bundle, verify, Line, empty, bad, good, line_of}
+use Rattle.warg_check.specs.Orders.{Order, push, log, include, consistent, bundle, verify, insert, map, prove, absent, Line, empty, bad, good, line_of}
+use Rattle.warg_check.specs.States.{State, start, log_at, map_at, after, after_line, FindsFull}
 use Rattle.warg_check.specs.Bundled.{needed_ascending, entries_for, proof_message, numbers_fit}
-
--- The log's leaf digests.
-abbrev pub leaves : List (List ℕ) → List (List ℕ)
-leaves entries = leaves_of sha256 entries
 
 abbrev pub root_or_refusal : Option (List ℕ) → List ℕ
 root_or_refusal (Some root) = codes "root " ++ encode_lower root
@@ -57,47 +59,44 @@ verdict_or_refusal (Err (check.Decode _)) = codes "refused not decoded"
 verdict_or_refusal (Err check.NoSuchProof) = codes "refused no such proof"
 verdict_or_refusal (Err check.Memory) = []
 
--- The answer to an order: the number of the new leaf's node, twice the count of entries before it; the
--- count and the root of the tree over the entries; the root that the entries' own digests give with the
--- value at the node, or why there is none; the roots of two lengths by the entries' own digests, or why there
--- are none; the bundle of an inclusion proof with the entries' own digests, or why there is none; the verdict
--- on the first inclusion proof of a bundle's bytes, which no entry bears on.
-unfoldable pub answer : List (List ℕ) → Order → List ℕ
-answer entries (push bytes) = codes "node " ++ decimal (2 * length entries)
-answer entries log = codes "log " ++ decimal (length entries) ++ 32 ∷ encode_lower (root_of sha256 (leaves entries))
-answer entries (include node length value) =
+-- The answer to an order, by the log and the map of the state before it: the number of the new leaf's node,
+-- twice the log's length; the length and the root of the log; the root that the log's own digests give with
+-- the value at the node, or why there is none; the roots of two lengths by the log's own digests, or why there
+-- are none; the bundle of an inclusion proof with the log's own digests, or why there is none; the verdict on
+-- the first inclusion proof of a bundle's bytes, on which no state bears; the count of keys after an insertion;
+-- the count of keys and the root of the map; the root of the map with the value in the place of what is held
+-- under the key, or that nothing is; the root of the map where the key's leaf is an empty one, or that it isn't.
+unfoldable pub answer : State → Order → List ℕ
+answer s (push entry) = codes "node " ++ decimal (2 * length s.entries)
+answer s log = codes "log " ++ decimal (length s.entries) ++ 32 ∷ encode_lower (root_of sha256 (log_at s))
+answer s (include node length value) =
     if nat_le (end_of node) length
-    then root_or_refusal (cut_root sha256 (own_digest sha256 (leaves entries)) node (sha256 (0 ∷ value)) length)
+    then root_or_refusal (cut_root sha256 (own_digest sha256 (log_at s)) node (sha256 (0 ∷ value)) length)
     else codes "refused leaf too new"
-answer entries (consistent old new) = roots_or_refusal (consistency sha256 (own_digest sha256 (leaves entries)) old new)
-answer entries (bundle node length) =
+answer s (consistent old new) = roots_or_refusal (consistency sha256 (own_digest sha256 (log_at s)) old new)
+answer s (bundle node length) =
     if nat_lt length (end_of node)
     then codes "refused leaf too new"
     else if nat_le (2 ^ 32) length
     then codes "refused too large"
-    else bundle_or_refusal node length (entries_for (own_digest sha256 (leaves entries)) (needed_ascending node length))
-answer entries (verify root value bytes) = verdict_or_refusal (inclusion_verdict sha256 bytes 0 value root)
-
--- The entries after an order.
-abbrev pub pushed : List (List ℕ) → Order → List (List ℕ)
-pushed entries (push bytes) = entries ++ bytes ∷ []
-pushed entries log = entries
-pushed entries (include node length value) = entries
-pushed entries (consistent old new) = entries
-pushed entries (bundle node length) = entries
-pushed entries (verify root value bytes) = entries
-
--- The entries after a line.
-abbrev pub entries_after : List (List ℕ) → Line → List (List ℕ)
-entries_after entries empty = entries
-entries_after entries bad = entries
-entries_after entries (good order) = pushed entries order
+    else bundle_or_refusal node length (entries_for (own_digest sha256 (log_at s)) (needed_ascending node length))
+answer s (verify root value bytes) = verdict_or_refusal (inclusion_verdict sha256 bytes 0 value root)
+answer s (insert key value) = codes "len " ++ decimal (finite.len (map_at (after s (insert key value))))
+answer s map = codes "map " ++ decimal (finite.len (map_at s)) ++ 32 ∷ encode_lower (sparse_root sha256 256 (map_at s))
+answer s (prove key value) =
+    if finite.contains_key (map_at s) (key_bits sha256 key)
+    then codes "root " ++ encode_lower (sparse_root sha256 256 (finite.insert (map_at s) (key_bits sha256 key) (leaf_digest sha256 value)))
+    else codes "absent"
+answer s (absent key) =
+    if pointwise nat_eq (leaf_at sha256 (map_at s) (key_bits sha256 key)) (empty_root sha256 0)
+    then codes "empty " ++ encode_lower (sparse_root sha256 256 (map_at s))
+    else codes "refused present"
 
 -- What is written for a line of this number, an LF (10) at its end.
-abbrev pub said : ℕ → List (List ℕ) → Line → List ℕ
-said number entries empty = []
-said number entries bad = codes "bad line " ++ decimal number ++ 10 ∷ []
-said number entries (good order) = answer entries order ++ 10 ∷ []
+abbrev pub said : ℕ → State → Line → List ℕ
+said number s empty = []
+said number s bad = codes "bad line " ++ decimal number ++ 10 ∷ []
+said number s (good order) = answer s order ++ 10 ∷ []
 
 abbrev pub is_not_bad : Line → Bool
 is_not_bad empty = true
@@ -105,38 +104,33 @@ is_not_bad bad = false
 is_not_bad (good order) = true
 
 -- The text for the lines from this number on. Nothing follows a bad line.
-unfoldable pub text_from : ℕ → List (List ℕ) → List (List ℕ) → List ℕ
-text_from number entries [] = []
-text_from number entries (line ∷ lines) =
-    said number entries (line_of line)
-    ++ (if is_not_bad (line_of line) then text_from (suc number) (entries_after entries (line_of line)) lines else [])
+unfoldable pub text_from : ℕ → State → List (List ℕ) → List ℕ
+text_from number s [] = []
+text_from number s (line ∷ lines) =
+    said number s (line_of line)
+    ++ (if is_not_bad (line_of line) then text_from (suc number) (after_line s (line_of line)) lines else [])
 
 -- No line is bad.
 unfoldable pub all_good : List (List ℕ) → Bool
 all_good [] = true
 all_good (line ∷ lines) = is_not_bad (line_of line) && all_good lines
 
--- The entries after some lines.
-unfoldable pub entries_over : List (List ℕ) → List (List ℕ) → List (List ℕ)
-entries_over entries [] = entries
-entries_over entries (line ∷ lines) = entries_over (entries_after entries (line_of line)) lines
+-- The state after some lines.
+unfoldable pub after_lines : State → List (List ℕ) → State
+after_lines s [] = s
+after_lines s (line ∷ lines) = after_lines (after_line s (line_of line)) lines
 
 -- The text that the program writes for an input.
 abbrev pub text_of : List ℕ → List ℕ
-text_of input = text_from 1 [] (lines_of input)
+text_of input = text_from 1 start (lines_of input)
 
--- A push in the input finds a log of 2 ^ 63 entries.
-pub record FindsFullLog (input : List ℕ) : Type 0 where
+-- An order in the input finds no room for what it pushes or inserts.
+pub record MeetsFull (input : List ℕ) : Type 0 where
   pub before : List (List ℕ)
   pub line : List ℕ
   pub behind : List (List ℕ)
-  pub entry : List ℕ
+  pub order : Order
   pub parts : lines_of input ≡ before ++ line ∷ behind
   pub all_good : all_good before ≡ true
-  pub is_push : line_of line ≡ good (push entry)
-  pub full : length (entries_over [] before) ≡ 2 ^ 63
-
--- The log of these entries took the order, and its answer stands behind the text.
-pub record Answers (old_log new_log : List (List ℕ)) (old new : List ℕ) (entries : List (List ℕ)) (order : Order) : Type 0 where
-  pub log_is : new_log ≡ leaves (pushed entries order)
-  pub text_is : new ≡ old ++ answer entries order ++ 10 ∷ []
+  pub is_order : line_of line ≡ good order
+  pub full : FindsFull (after_lines start before) order

@@ -1,4 +1,4 @@
--- Verdicts on the proofs in the bytes of a log bundle.
+-- Verdicts on the proofs in the bytes of a log bundle or a map bundle.
 use Rattle.std.specs.Prelude.{◌≡◌, ◌⊎◌, ℕ, Bool, false, ◌&&◌, nat_eq, nat_le, List, ◌∷◌, Option, Some, None, Result, Ok, Err, slice_get}
 use Rattle.std.specs.Cmp.Lexicographic.{pointwise}
 use Rattle.warg_log.specs.declared.node.Node.{Node}
@@ -10,6 +10,13 @@ use Rattle.warg_log.specs.Cut.{cut_root}
 use Rattle.warg_log.specs.Consistency.{consistency}
 use Rattle.warg_log.specs.Sparse.{held_digest}
 use Rattle.warg_log.specs.Bundles.{Bundle, bundle_of}
+use Rattle.warg_crypto.specs.EmptyTrees.{empty_root}
+use Rattle.warg_protobuf.specs.MapProofBundle.{MapBundle}
+use Rattle.warg_map.specs.Bits.{key_bits}
+use Rattle.warg_map.specs.Sparse.{leaf_digest}
+use Rattle.warg_map.specs.ProofValue.{proof_value}
+use Rattle.warg_map.specs.Bundles.{Peers}
+use Rattle.warg_map.specs.Bundles as maps
 use Rattle.warg_check.specs.declared.verdict.CheckError.{CheckError}
 use Rattle.warg_check.specs.declared.verdict.CheckError.TheVariants as fault
 
@@ -23,6 +30,16 @@ abbrev pub check_fault : DecodeError → CheckError
 check_fault decoding.Memory = fault.Memory
 check_fault e = fault.Decode e
 
+-- The verdict on a proof, if there is one: whether it holds.
+abbrev pub judged : {P : Type 0} → (P → Bool) → Option P → Result Bool CheckError
+judged holds None = Err fault.NoSuchProof
+judged holds (Some proof) = Ok (holds proof)
+
+-- The verdict on the proof at a place of a bundle, in what bytes were read as.
+abbrev pub verdict : {B P : Type 0} → (B → List P) → (B → P → Bool) → ℕ → Result B DecodeError → Result Bool CheckError
+verdict proofs holds at (Ok bundle) = judged (holds bundle) (slice_get (proofs bundle) at)
+verdict proofs holds at (Err e) = Err (fault.Decode e)
+
 -- The root is there, and is this one.
 abbrev pub is_root : List ℕ → Option (List ℕ) → Bool
 is_root root None = false
@@ -30,39 +47,34 @@ is_root root (Some r) = pointwise nat_eq r root
 
 -- The node exists at the bundle's length, and with the value as its leaf the cut root over the bundle's
 -- digests is this root.
-abbrev pub includes : (List ℕ → List ℕ) → Bundle → List ℕ → List ℕ → Node → Bool
-includes H b value root node = nat_le (end_of node.0) b.log_length && is_root root (cut_root H (held_digest b.hashes) node.0 (H (0 ∷ value)) b.log_length)
+abbrev pub includes : (List ℕ → List ℕ) → List ℕ → List ℕ → Bundle → Node → Bool
+includes H value root b node = nat_le (end_of node.0) b.log_length && is_root root (cut_root H (held_digest b.hashes) node.0 (H (0 ∷ value)) b.log_length)
 
--- The verdict on the inclusion proof of a node, if there is one.
-abbrev pub on_node : (List ℕ → List ℕ) → Bundle → List ℕ → List ℕ → Option Node → Result Bool CheckError
-on_node H b value root None = Err fault.NoSuchProof
-on_node H b value root (Some node) = Ok (includes H b value root node)
-
--- The verdict on an inclusion proof in what bytes were read as.
-abbrev pub on_inclusion : (List ℕ → List ℕ) → ℕ → List ℕ → List ℕ → Result Bundle DecodeError → Result Bool CheckError
-on_inclusion H at value root (Ok b) = on_node H b value root (slice_get b.included_nodes at)
-on_inclusion H at value root (Err e) = Err (fault.Decode e)
-
--- The verdict on the inclusion proof at a place of a bundle's bytes.
+-- The verdict on the inclusion proof at a place of a log bundle's bytes.
 abbrev pub inclusion_verdict : (List ℕ → List ℕ) → List ℕ → ℕ → List ℕ → List ℕ → Result Bool CheckError
-inclusion_verdict H bytes at value root = on_inclusion H at value root (bundle_of bytes)
+inclusion_verdict H bytes at value root = verdict (λ (b : Bundle). b.included_nodes) (includes H value root) at (bundle_of bytes)
 
 -- The two roots are there, and are these.
 abbrev pub are_roots : List ℕ → List ℕ → Result (List ℕ × List ℕ) ConsistencyProofError → Bool
 are_roots old new (Ok roots) = pointwise nat_eq roots.0 old && pointwise nat_eq roots.1 new
 are_roots old new (Err e) = false
 
--- The verdict on the consistency proof from an old length, if there is one: that it evaluates, over the
--- bundle's digests, to these two roots.
-abbrev pub on_old_length : (List ℕ → List ℕ) → Bundle → List ℕ → List ℕ → Option ℕ → Result Bool CheckError
-on_old_length H b old new None = Err fault.NoSuchProof
-on_old_length H b old new (Some m) = Ok (are_roots old new (consistency H (held_digest b.hashes) m b.log_length))
+-- The consistency proof from an old length evaluates, over the bundle's digests, to these two roots.
+abbrev pub extends : (List ℕ → List ℕ) → List ℕ → List ℕ → Bundle → ℕ → Bool
+extends H old new b m = are_roots old new (consistency H (held_digest b.hashes) m b.log_length)
 
--- The verdict on a consistency proof in what bytes were read as.
-abbrev pub on_consistency : (List ℕ → List ℕ) → ℕ → List ℕ → List ℕ → Result Bundle DecodeError → Result Bool CheckError
-on_consistency H at old new (Ok b) = on_old_length H b old new (slice_get b.consistent_lengths at)
-on_consistency H at old new (Err e) = Err (fault.Decode e)
-
--- The verdict on the consistency proof at a place of a bundle's bytes.
+-- The verdict on the consistency proof at a place of a log bundle's bytes.
 abbrev pub consistency_verdict : (List ℕ → List ℕ) → List ℕ → ℕ → List ℕ → List ℕ → Result Bool CheckError
-consistency_verdict H bytes at old new = on_consistency H at old new (bundle_of bytes)
+consistency_verdict H bytes at old new = verdict (λ (b : Bundle). b.consistent_lengths) (extends H old new) at (bundle_of bytes)
+
+-- The peers lead from this leaf digest under the key to this root.
+abbrev pub leads : (List ℕ → List ℕ) → List ℕ → List ℕ → List ℕ → Peers → Bool
+leads H leaf key root peers = pointwise nat_eq (proof_value H peers leaf (key_bits H key)) root
+
+-- The verdict on the proof at a place of a map bundle's bytes: from the value's leaf digest.
+abbrev pub key_verdict : (List ℕ → List ℕ) → List ℕ → ℕ → List ℕ → List ℕ → List ℕ → Result Bool CheckError
+key_verdict H bytes at key value root = verdict (λ (b : MapBundle). b.proofs) (λ b. leads H (leaf_digest H value) key root) at (maps.bundle_of bytes)
+
+-- The verdict on the absence at a place of a map bundle's bytes: from an empty leaf.
+abbrev pub absent_verdict : (List ℕ → List ℕ) → List ℕ → ℕ → List ℕ → List ℕ → Result Bool CheckError
+absent_verdict H bytes at key root = verdict (λ (b : MapBundle). b.absences) (λ b. leads H (empty_root H 0) key root) at (maps.bundle_of bytes)

@@ -23,6 +23,11 @@ unfoldable pub words_of : List ℕ → List (List ℕ)
 words_of [] = [] ∷ []
 words_of (b ∷ bytes) = if b == 32 then [] ∷ words_of bytes else onto_first b (words_of bytes)
 
+-- The words of the rest of a line: none where the line ended.
+abbrev pub words_left : Option (List ℕ) → List (List ℕ)
+words_left None = []
+words_left (Some rest) = words_of rest
+
 -- The word is this text.
 abbrev pub is_word : List ℕ → List ℕ → Bool
 is_word word text = pointwise nat_eq word text

@@ -3,12 +3,13 @@
 ghost use Rattle.std.specs.Prelude.{◌≡◌, ◌≢◌, ◌↔◌, ⊤, [], true, IsTrue, IfSome, IfOk, IfErr, OnOk};
 ghost use Rattle.std.specs.Io.KnownBytes.{Appends};
 ghost use Rattle.warg_check.specs.Words.{lines_of};
-ghost use Rattle.warg_check.specs.Text.{text_of, all_good, FindsFullLog};
+ghost use Rattle.warg_check.specs.Text.{text_of, all_good, MeetsFull};
 ghost use Rattle.warg_check.specs.declared.program.RunError.TheVariants.{Memory};
 
 mod command;
 mod session;
 mod word;
+mod words;
 
 use session::answers;
 use std::alloc::{AllocError, AllocFailed, Allocator};
@@ -27,7 +28,7 @@ pub enum RunError {
     /// Memory was refused.
     #[error("out of memory")]
     Memory,
-    /// A push found a log of 2^63 entries.
+    /// A push found a log of 2^63 entries, or an insertion of a new key digest a map of 2^64 - 1.
     #[error("log or map is full")]
     Full,
 }
@@ -54,11 +55,15 @@ const READS: u64 = 1 << 48;
 /// | `consistent OLD NEW` | `roots ROOT ROOT`, the old one first, or `refused` and why not |
 /// | `bundle NODE LENGTH` | `bundle BYTES`, the bundle of that inclusion proof alone, or `refused` and why not |
 /// | `verify ROOT VALUE BUNDLE` | `true` or `false`, or `refused` and why not |
+/// | `insert KEY VALUE` | `len N`, the count of keys |
+/// | `map` | `map LEN ROOT` |
+/// | `prove KEY VALUE` | `root ROOT`, to which the key's proof leads from the value, or `absent` |
+/// | `absent KEY` | `empty ROOT`, to which the key's absence leads, or `refused present` |
 ///
 /// A line that isn't one of these is answered by `bad line N`, N from 1, and nothing after it is read as
 /// a command. Empty lines are counted and not answered. BYTES is `-` for no bytes, or hexadecimal digits; numbers
-/// are decimal, and LENGTH, OLD and NEW at most 2^63. ROOT has 64 hexadecimal digits, and `verify` judges the
-/// first inclusion proof in the bundle. `bundle` is refused as `leaf too new`, then as `too large` where LENGTH
+/// are decimal, and LENGTH, OLD and NEW at most 2^63. VALUE, BUNDLE and KEY are BYTES. ROOT has 64 hexadecimal
+/// digits, and `verify` judges the first inclusion proof in the bundle. `bundle` is refused as `leaf too new`, then as `too large` where LENGTH
 /// is above `u32::MAX`, then as `hash not known`, and then as `too large` where a node's number is above it.
 ///
 /// On `Read`, `Memory` and `Full` nothing was written; on `Write` some of the text may be.
@@ -70,7 +75,7 @@ pub fn run<A: Allocator + Copy, R: Read, W: Write>(
     ensures text { OnOk result (IfSome (R.remaining reader.old) (λ input. Appends (W.contents writer.old) (W.contents writer.new) (text_of input))) }
     ensures good { IfOk result (λ good. IfSome (R.remaining reader.old) (λ input. good ≡ all_good (lines_of input))) }
     ensures unwritten { IfErr result (λ error. error ≢ RunError.Write → writer.new ≡ writer.old) }
-    ensures full { result ≡ Err RunError.Full → IfSome (R.remaining reader.old) FindsFullLog }
+    ensures full { result ≡ Err RunError.Full → IfSome (R.remaining reader.old) MeetsFull }
 {
     let input = read_all(alloc, reader)?;
     let (text, good) = answers(alloc, input.as_slice())?;

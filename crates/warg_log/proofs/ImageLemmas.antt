@@ -1,5 +1,5 @@
 -- Messages of logs: their digests, and stacks of balanced roots.
-use Rattle.std.proofs.Common.{◌≡◌, ℕ, suc, ◌+◌, ◌-◌, ◌*◌, ◌^◌, ◌<◌, ◌≤◌, true, false, nat_eq, List, [], ◌∷◌, ◌++◌, length, map, take, drop, get_or, add-one, append_assoc, Ok, Err, refl, sym, ap, ◌∙◌, arith, ◌⊎◌, ⊎_elim, inl, inr}
+use Rattle.std.proofs.Common.{◌≡◌, ℕ, suc, ◌+◌, ◌-◌, ◌*◌, ◌^◌, ◌<◌, ◌≤◌, true, false, nat_eq, List, [], ◌∷◌, ◌++◌, length, map, take, drop, get_or, add-one, append_assoc, Ok, Err, refl, sym, ap, ◌∙◌, arith, ◌⊎◌, ⊎_elim, inl, inr, Some, None}
 use Rattle.std.specs.List.{AllByRecursion, zip}
 use Rattle.std.specs.Cmp.Lexicographic.{pointwise}
 use Rattle.std.proofs.Math.Seq.{drop-cons}
@@ -13,7 +13,8 @@ use Rattle.warg_log.specs.declared.error.DecodeError.{DecodeError}
 use Rattle.warg_log.specs.declared.error.DecodeError.TheVariants.{HashLength, NotAStack, Memory}
 use Rattle.warg_log.specs.Nodes.{height_of, place_of, end_of, node_over, balanced_over, balanced_roots}
 use Rattle.warg_log.specs.Blocks.{Blocks}
-use Rattle.warg_log.specs.Images.{are_digests, root_entry, stack_message, stack_in}
+use Rattle.warg_log.specs.Decoding.{first_fault, digest_fault}
+use Rattle.warg_log.specs.Images.{root_entry, stack_message, stack_in}
 use Rattle.warg_log.proofs.AgreeLemmas.{same_equal, same_true}
 use Rattle.warg_log.proofs.NodeLemmas.{node_is, last_leaf}
 use Rattle.warg_log.proofs.RootLemmas.{below_pow}
@@ -28,14 +29,14 @@ next_left xs i x lt is = drop-cons xs i x lt ∙ ap (λ y. y ∷ drop (suc i) xs
 
 -- one digest more is good, or isn't
 pub good_next : {X : Type 0} (f : X → List ℕ) (xs : List X) (i : ℕ) (x : X) → i < length xs → x ≡ get_or xs i x → length (f x) ≡ 32
-    → are_digests (map f (drop i xs)) ≡ are_digests (map f (drop (i + 1) xs))
-good_next f xs i x lt is len = ap (λ l. are_digests (map f l)) (next_left xs i x lt is) ∙ rw (eq-eqb (length (f x)) 32 len) refl
+    → first_fault digest_fault (map f (drop i xs)) ≡ first_fault digest_fault (map f (drop (i + 1) xs))
+good_next f xs i x lt is len = ap (λ l. first_fault digest_fault (map f l)) (next_left xs i x lt is) ∙ rw (eq-eqb (length (f x)) 32 len) refl
 
 pub bad_next : {X : Type 0} (f : X → List ℕ) (xs : List X) (i : ℕ) (x : X) → i < length xs → x ≡ get_or xs i x → (length (f x) ≡ 32 → ⊥)
-    → are_digests (map f (drop i xs)) ≡ false
-bad_next f xs i x lt is len = ap (λ l. are_digests (map f l)) (next_left xs i x lt is) ∙ rw (ne_eqb (length (f x)) 32 len) refl
+    → first_fault digest_fault (map f (drop i xs)) ≡ Some HashLength
+bad_next f xs i x lt is len = ap (λ l. first_fault digest_fault (map f l)) (next_left xs i x lt is) ∙ rw (ne_eqb (length (f x)) 32 len) refl
 
-pub all_good : (ds : List (List ℕ)) → AllByRecursion (λ d. length d ≡ 32) ds → are_digests ds ≡ true
+pub all_good : (ds : List (List ℕ)) → AllByRecursion (λ d. length d ≡ 32) ds → first_fault digest_fault ds ≡ None
 all_good [] lens = refl
 all_good (d ∷ ds) lens = rw (eq-eqb (length d) 32 lens.0, all_good ds lens.1) refl
 
@@ -144,24 +145,24 @@ map_map : {X Y Z : Type 0} (f : Y → Z) (g : X → Y) (xs : List X) → map f (
 map_map f g [] = refl
 map_map f g (x ∷ xs) = ap (λ l. f (g x) ∷ l) (map_map f g xs)
 
-stack_bad : {X : Type 0} (f : X → Entry) (n : ℕ) (xs : List X) → are_digests (map (λ x. (f x).hash) xs) ≡ false → stack_in (record { length = n; stack = map f xs }) ≡ Err HashLength
-stack_bad f n xs bad = rw (map_map (λ (e : Entry). e.hash) f xs, bad) refl
+stack_bad : {X : Type 0} (f : X → Entry) (n : ℕ) (xs : List X) (e : DecodeError) → first_fault digest_fault (map (λ x. (f x).hash) xs) ≡ Some e → stack_in (record { length = n; stack = map f xs }) ≡ Err e
+stack_bad f n xs e bad = rw (map_map (λ (e : Entry). e.hash) f xs, bad) refl
 
-pub stack_fault : {X : Type 0} (f : X → Entry) (n : ℕ) (xs : List X) (e : DecodeError) → (e ≡ Memory) ⊎ ((e ≡ HashLength) × (are_digests (map (λ x. (f x).hash) xs) ≡ false))
+pub stack_fault : {X : Type 0} (f : X → Entry) (n : ℕ) (xs : List X) (e : DecodeError) → (e ≡ Memory) ⊎ ((e ≡ HashLength) × (first_fault digest_fault (map (λ x. (f x).hash) xs) ≡ Some e))
     → (e ≡ Memory) ⊎ (stack_in (record { length = n; stack = map f xs }) ≡ Err e)
-stack_fault f n xs e fault = ⊎_elim (λ memory. inl memory) (λ bad. inr (rw bad.0 (stack_bad f n xs bad.1))) fault
+stack_fault f n xs e fault = ⊎_elim (λ memory. inl memory) (λ bad. inr (stack_bad f n xs e bad.1)) fault
 
-pub stack_other : {X : Type 0} (f : X → Entry) (n : ℕ) (xs : List X) → are_digests (map (λ x. (f x).hash) xs) ≡ true
+pub stack_other : {X : Type 0} (f : X → Entry) (n : ℕ) (xs : List X) → first_fault digest_fault (map (λ x. (f x).hash) xs) ≡ None
     → pointwise nat_eq (map (λ x. (f x).index) xs) (balanced_roots n) ≡ false → stack_in (record { length = n; stack = map f xs }) ≡ Err NotAStack
 stack_other f n xs good other = rw (map_map (λ (e : Entry). e.hash) f xs, good, map_map (λ (e : Entry). e.index) f xs, other) refl
 
-pub stack_read : {X : Type 0} (f : X → Entry) (n : ℕ) (xs : List X) (ds : List (List ℕ)) → ds ≡ map (λ x. (f x).hash) xs → are_digests (map (λ x. (f x).hash) xs) ≡ true
+pub stack_read : {X : Type 0} (f : X → Entry) (n : ℕ) (xs : List X) (ds : List (List ℕ)) → ds ≡ map (λ x. (f x).hash) xs → first_fault digest_fault (map (λ x. (f x).hash) xs) ≡ None
     → pointwise nat_eq (map (λ x. (f x).index) xs) (balanced_roots n) ≡ true
     → (stack_in (record { length = n; stack = map f xs }) ≡ Ok (record { len = n; digests = ds })) × (stack_message (record { len = n; digests = ds }) ≡ record { length = n; stack = map f xs })
 stack_read f n xs ds read good same =
     let digests : map (λ (e : Entry). e.hash) (map f xs) ≡ ds = map_map (λ (e : Entry). e.hash) f xs ∙ sym read in
     let numbers : pointwise nat_eq (map (λ (e : Entry). e.index) (map f xs)) (balanced_roots n) ≡ true = rw (map_map (λ (e : Entry). e.index) f xs) same in
-    let all : are_digests (map (λ (e : Entry). e.hash) (map f xs)) ≡ true = rw (map_map (λ (e : Entry). e.hash) f xs) good in
+    let all : first_fault digest_fault (map (λ (e : Entry). e.hash) (map f xs)) ≡ None = rw (map_map (λ (e : Entry). e.hash) f xs) good in
     (rw (all, numbers, digests) refl, rw (← digests) (stack_same (record { length = n; stack = map f xs }) numbers))
 
 pub no_stack : {X : Type 0} (f : X → Entry) (n : ℕ) (xs : List X) (b : Blocks) → pointwise nat_eq (map (λ x. (f x).index) xs) (balanced_roots n) ≡ false → length b.digests ≡ length (balanced_roots b.len)

@@ -1,5 +1,5 @@
 -- Messages of logs that keep the digest of every node.
-use Rattle.std.proofs.Common.{◌≡◌, ℕ, zero, suc, ◌+◌, ◌-◌, ◌*◌, ◌/◌, ◌%◌, ◌^◌, ◌<◌, ◌≤◌, true, false, nat_eq, List, [], ◌∷◌, length, take, drop, get_or, Ok, Err, refl, sym, ap, subst, ◌∙◌, arith, ◌⊎◌, ⊎_elim, inl, inr}
+use Rattle.std.proofs.Common.{◌≡◌, ℕ, zero, suc, ◌+◌, ◌-◌, ◌*◌, ◌/◌, ◌%◌, ◌^◌, ◌<◌, ◌≤◌, true, false, nat_eq, List, [], ◌∷◌, length, take, drop, get_or, Ok, Err, refl, sym, ap, subst, ◌∙◌, arith, ◌⊎◌, ⊎_elim, inl, inr, None, Some}
 use Rattle.std.specs.List.{AllByRecursion}
 use Rattle.std.specs.Cmp.Lexicographic.{pointwise, pointwise_decides, bytes_decides}
 use Rattle.std.proofs.Math.Nat.{pow-suc}
@@ -12,7 +12,8 @@ use Rattle.warg_log.specs.declared.error.DecodeError.{DecodeError}
 use Rattle.warg_log.specs.declared.error.DecodeError.TheVariants.{HashLength, NotALog, Memory}
 use Rattle.warg_log.specs.Nodes.{IsNode, height_of, place_of, end_of, number_of}
 use Rattle.warg_log.specs.Tree.{branch, root_of, leaves_in, IsSlice, digest_or_spacer}
-use Rattle.warg_log.specs.Images.{IsHeld, are_digests, slice_of, vec_message, is_slice_of_length, vec_in}
+use Rattle.warg_log.specs.Decoding.{first_fault, digest_fault}
+use Rattle.warg_log.specs.Images.{IsHeld, slice_of, vec_message, is_slice_of_length, vec_in}
 use Rattle.warg_log.proofs.ImageLemmas.{all_good}
 use Rattle.warg_log.proofs.NodeLemmas.{node_is, node_at}
 use Rattle.warg_log.proofs.SliceLemmas.{root_below_parent}
@@ -236,10 +237,10 @@ slice_leaves H ds tree slice =
     leaves_in-at tree i ∙ here ∙ ap (digest_or_spacer H ds) (sym even) ∙ own_leaf H ds i (omega arith))
 
 -- what reading a message answers
-pub vec_fault : (H : List ℕ → List ℕ) (m : VecImage) (e : DecodeError) → (e ≡ Memory) ⊎ ((e ≡ HashLength) × (are_digests m.tree ≡ false)) → (e ≡ Memory) ⊎ (vec_in H m ≡ Err e)
-vec_fault H m e fault = ⊎_elim (λ memory. inl memory) (λ bad. inr (rw (bad.0, bad.1) refl)) fault
+pub vec_fault : (H : List ℕ → List ℕ) (m : VecImage) (e : DecodeError) → (e ≡ Memory) ⊎ ((e ≡ HashLength) × (first_fault digest_fault m.tree ≡ Some e)) → (e ≡ Memory) ⊎ (vec_in H m ≡ Err e)
+vec_fault H m e fault = ⊎_elim (λ memory. inl memory) (λ bad. inr (rw bad.1 refl)) fault
 
-pub vec_other : (H : List ℕ → List ℕ) (m : VecImage) → are_digests m.tree ≡ true → is_slice_of_length H m.length m.tree ≡ false → vec_in H m ≡ Err NotALog
+pub vec_other : (H : List ℕ → List ℕ) (m : VecImage) → first_fault digest_fault m.tree ≡ None → is_slice_of_length H m.length m.tree ≡ false → vec_in H m ≡ Err NotALog
 vec_other H m good other = rw (good, other) refl
 
 pub no_log : (H : List ℕ → List ℕ) (m : VecImage) (ds : List (List ℕ)) → is_slice_of_length H m.length m.tree ≡ false → vec_message H ds ≡ m → ⊥
@@ -250,7 +251,7 @@ no_log H m ds other is =
     let yes : is_slice_of_length H m.length m.tree ≡ true = is_slice-true H m.length m.tree count (rw leaves slice) in
     absurd (cc)
 
-pub vec_read : (H : List ℕ → List ℕ) (n : ℕ) (tree : List (List ℕ)) → are_digests tree ≡ true → is_slice_of_length H n tree ≡ true
+pub vec_read : (H : List ℕ → List ℕ) (n : ℕ) (tree : List (List ℕ)) → first_fault digest_fault tree ≡ None → is_slice_of_length H n tree ≡ true
     → (vec_in H (record { length = n; tree = tree }) ≡ Ok (leaves_in tree)) × (vec_message H (leaves_in tree) ≡ record { length = n; tree = tree })
     × (n ≡ length (leaves_in tree)) × IsSlice H (leaves_in tree) tree
 vec_read H n tree good same =

@@ -1,14 +1,14 @@
 -- Log bundles: their messages, and what messages and bytes are read as.
-use Rattle.std.specs.Prelude.{ℕ, suc, ◌^◌, ◌<◌, ◌==◌, nat_le, if◌then◌else◌, List, [], ◌∷◌, length, map, Option, Some, None, Result, Ok, Err}
+use Rattle.std.specs.Prelude.{ℕ, suc, ◌^◌, ◌<◌, nat_le, if◌then◌else◌, List, [], ◌∷◌, map, Option, Some, None, Result}
 use Rattle.std.specs.List.{AllByRecursion}
-use Rattle.warg_protobuf.specs.declared.error.WireError.{WireError}
 use Rattle.warg_protobuf.specs.HashEntry.{Entry}
 use Rattle.warg_protobuf.specs.LogProofBundle.{LogBundle, log_schema}
 use Rattle.warg_protobuf.specs.Schema.{message_of}
 use Rattle.warg_log.specs.declared.node.Node.{Node}
 use Rattle.warg_log.specs.declared.error.DecodeError.{DecodeError}
-use Rattle.warg_log.specs.declared.error.DecodeError.TheVariants.{Wire, HashLength, NotAscending}
+use Rattle.warg_log.specs.declared.error.DecodeError.TheVariants.{NotAscending}
 use Rattle.warg_log.specs.Sparse.{Pairs}
+use Rattle.warg_log.specs.Decoding.{held_in, unless, earlier, digest_fault}
 
 -- Proofs that all have one length: the old length of each consistency proof, the node of each inclusion
 -- proof, and digests by node.
@@ -39,19 +39,15 @@ bundle_message b = record {
 abbrev pub NodesFit : Bundle → Type 0
 NodesFit b = AllByRecursion (λ (node : Node). node.0 < 2 ^ 32) b.included_nodes × AllByRecursion (λ (p : Node × List ℕ). p.0.0 < 2 ^ 32) b.hashes
 
--- The first fault of entries in order, of which each number has to be at least `least`: at each entry a
--- digest that isn't 32 bytes, and then a number that isn't above the one before.
+-- The fault of an entry whose number has to be at least `least`: a digest that isn't 32 bytes, and then a
+-- number below it.
+abbrev pub entry_fault : ℕ → Entry → Option DecodeError
+entry_fault least e = earlier (digest_fault e.hash) (if nat_le least e.index then None else Some NotAscending)
+
+-- The first fault of entries in order, of which each number has to be above the one before.
 abbrev pub entries_fault : ℕ → List Entry → Option DecodeError
 entries_fault least [] = None
-entries_fault least (e ∷ es) =
-    if length e.hash == 32
-    then (if nat_le least e.index then entries_fault (suc e.index) es else Some NotAscending)
-    else Some HashLength
-
--- The value, unless there is a fault.
-abbrev pub unless : {X : Type 0} → Option DecodeError → X → Result X DecodeError
-unless None x = Ok x
-unless (Some e) x = Err e
+entries_fault least (e ∷ es) = earlier (entry_fault least e) (entries_fault (suc e.index) es)
 
 -- The bundle that a message holds, or the first fault of its contents.
 abbrev pub bundle_in : LogBundle → Result Bundle DecodeError
@@ -62,12 +58,7 @@ bundle_in m = unless (entries_fault 0 m.hashes) (record {
   hashes = map pair_of m.hashes;
 })
 
--- The bundle in what bytes were read as.
-abbrev pub bundle_given : Result LogBundle WireError → Result Bundle DecodeError
-bundle_given (Ok m) = bundle_in m
-bundle_given (Err e) = Err (Wire e)
-
 -- The bundle that bytes spell, or their first fault: that of the message (proto3 encoding), and then that
 -- of its contents.
 abbrev pub bundle_of : List ℕ → Result Bundle DecodeError
-bundle_of bytes = bundle_given (message_of log_schema bytes)
+bundle_of bytes = held_in bundle_in (message_of log_schema bytes)

@@ -1,5 +1,5 @@
--- What reading a message or bytes gives.
-use Rattle.std.specs.Prelude.{◌≡◌, ◌⊎◌, Result, Ok, Err}
+-- What reading a message or bytes gives: the value that they hold, or their first fault.
+use Rattle.std.specs.Prelude.{◌≡◌, ◌⊎◌, ℕ, ◌==◌, if◌then◌else◌, List, [], ◌∷◌, length, Option, Some, None, Result, Ok, Err}
 use Rattle.warg_protobuf.specs.declared.error.WireError.{WireError}
 use Rattle.warg_protobuf.specs.declared.error.WireError.TheVariants as wire
 use Rattle.warg_log.specs.declared.error.DecodeError.{DecodeError}
@@ -14,3 +14,28 @@ wire_fault e = fault.Wire e
 abbrev pub Reads : {X : Type 0} → Result X DecodeError → Result X DecodeError → Type 0
 Reads (Ok x) read = read ≡ Ok x
 Reads (Err e) read = (e ≡ fault.Memory) ⊎ (read ≡ Err e)
+
+-- What a message holds, in what bytes were read as: the first fault of the bytes goes before those of the
+-- message's contents.
+abbrev pub held_in : {M X : Type 0} → (M → Result X DecodeError) → Result M WireError → Result X DecodeError
+held_in read (Ok m) = read m
+held_in read (Err e) = Err (fault.Wire e)
+
+-- The value, unless there is a fault.
+abbrev pub unless : {X : Type 0} → Option DecodeError → X → Result X DecodeError
+unless None x = Ok x
+unless (Some e) x = Err e
+
+-- The first of two faults, or the second where there is no first.
+abbrev pub earlier : Option DecodeError → Option DecodeError → Option DecodeError
+earlier None second = second
+earlier (Some e) second = Some e
+
+-- The first fault in a list, by the fault of each element.
+abbrev pub first_fault : {X : Type 0} → (X → Option DecodeError) → List X → Option DecodeError
+first_fault fault_of [] = None
+first_fault fault_of (x ∷ xs) = earlier (fault_of x) (first_fault fault_of xs)
+
+-- The fault of a digest that isn't 32 bytes.
+abbrev pub digest_fault : List ℕ → Option DecodeError
+digest_fault digest = if length digest == 32 then None else Some fault.HashLength

@@ -1,26 +1,17 @@
 -- Images of the two logs: their messages, and what messages and bytes are read as.
-use Rattle.std.specs.Prelude.{◌≡◌, ℕ, ◌+◌, ◌-◌, ◌*◌, ◌^◌, ◌<◌, ◌≤◌, ◌&&◌, Bool, ◌==◌, nat_eq, if◌then◌else◌, List, length, map, Result, Ok, Err, slice_index_or, []}
-use Rattle.std.specs.List.{AllByRecursion, list_all, zip, range_with_len}
+use Rattle.std.specs.Prelude.{◌≡◌, ℕ, ◌+◌, ◌-◌, ◌*◌, ◌^◌, ◌<◌, ◌≤◌, ◌&&◌, Bool, ◌==◌, nat_eq, if◌then◌else◌, List, length, map, Option, Some, None, Result, slice_index_or, []}
+use Rattle.std.specs.List.{AllByRecursion, zip, range_with_len}
 use Rattle.std.specs.Cmp.Lexicographic.{pointwise}
-use Rattle.warg_protobuf.specs.declared.error.WireError.{WireError}
 use Rattle.warg_protobuf.specs.HashEntry.{Entry}
 use Rattle.warg_protobuf.specs.StackLog.{StackImage, stack_schema}
 use Rattle.warg_protobuf.specs.VecLog.{VecImage, vec_schema}
 use Rattle.warg_protobuf.specs.Schema.{message_of}
 use Rattle.warg_log.specs.declared.error.DecodeError.{DecodeError}
-use Rattle.warg_log.specs.declared.error.DecodeError.TheVariants.{Wire, HashLength, NotALog, NotAStack}
+use Rattle.warg_log.specs.declared.error.DecodeError.TheVariants.{NotALog, NotAStack}
 use Rattle.warg_log.specs.Nodes.{height_of, place_of, end_of, number_of, balanced_roots}
 use Rattle.warg_log.specs.Tree.{branch, digest_or_spacer, leaves_in}
 use Rattle.warg_log.specs.Blocks.{Blocks}
-
--- What a message holds, in what bytes were read as.
-abbrev pub held_in : {M X : Type 0} → (M → Result X DecodeError) → Result M WireError → Result X DecodeError
-held_in read (Ok m) = read m
-held_in read (Err e) = Err (Wire e)
-
--- All digests have 32 bytes.
-abbrev pub are_digests : List (List ℕ) → Bool
-are_digests ds = list_all (λ d. length d == 32) ds
+use Rattle.warg_log.specs.Decoding.{held_in, unless, earlier, first_fault, digest_fault}
 
 -- ---- a log that keeps its balanced roots
 
@@ -36,15 +27,17 @@ stack_message b = record { length = b.len; stack = map root_entry (zip (balanced
 abbrev pub RootsFit : Blocks → Type 0
 RootsFit b = (b.len < 2 ^ 32) × AllByRecursion (λ t. t < 2 ^ 32) (balanced_roots b.len)
 
+-- The fault of numbers that aren't the balanced roots of the length, in order.
+abbrev pub numbers_fault : StackImage → Option DecodeError
+numbers_fault m = if pointwise nat_eq (map (λ (e : Entry). e.index) m.stack) (balanced_roots m.length) then None else Some NotAStack
+
 -- The log that a message holds, or the first fault of its contents: a digest that isn't 32 bytes, and then
--- numbers that aren't the balanced roots of the length, in order.
+-- numbers that aren't the balanced roots.
 abbrev pub stack_in : StackImage → Result Blocks DecodeError
-stack_in m =
-    if are_digests (map (λ (e : Entry). e.hash) m.stack)
-    then (if pointwise nat_eq (map (λ (e : Entry). e.index) m.stack) (balanced_roots m.length)
-    then Ok (record { len = m.length; digests = map (λ (e : Entry). e.hash) m.stack })
-    else Err NotAStack)
-    else Err HashLength
+stack_in m = unless (earlier (first_fault digest_fault (map (λ (e : Entry). e.hash) m.stack)) (numbers_fault m)) (record {
+  len = m.length;
+  digests = map (λ (e : Entry). e.hash) m.stack;
+})
 
 -- The log that bytes spell, or their first fault: that of the message (proto3 encoding), and then that of
 -- its contents.
@@ -66,13 +59,14 @@ vec_message H ds = record { length = length ds; tree = slice_of H ds }
 abbrev pub is_slice_of_length : (List ℕ → List ℕ) → ℕ → List (List ℕ) → Bool
 is_slice_of_length H n tree = length (leaves_in tree) == n && pointwise (pointwise nat_eq) tree (slice_of H (leaves_in tree))
 
+-- The fault of a tree that isn't the slice of a log of the length.
+abbrev pub tree_fault : (List ℕ → List ℕ) → VecImage → Option DecodeError
+tree_fault H m = if is_slice_of_length H m.length m.tree then None else Some NotALog
+
 -- The log that a message holds, by its leaf digests, or the first fault of its contents: a digest that isn't
 -- 32 bytes, and then a tree that isn't the slice of a log of the length.
 abbrev pub vec_in : (List ℕ → List ℕ) → VecImage → Result (List (List ℕ)) DecodeError
-vec_in H m =
-    if are_digests m.tree
-    then (if is_slice_of_length H m.length m.tree then Ok (leaves_in m.tree) else Err NotALog)
-    else Err HashLength
+vec_in H m = unless (earlier (first_fault digest_fault m.tree) (tree_fault H m)) (leaves_in m.tree)
 
 -- The log that bytes spell, or their first fault: that of the message (proto3 encoding), and then that of
 -- its contents.

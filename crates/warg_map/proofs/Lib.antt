@@ -13,6 +13,7 @@ pub mod Absences
 pub mod Honest
 pub mod Insertions
 pub mod Unique
+pub mod BundleLemmas
 pub mod Last
 pub mod Prefixes
 pub mod DigestBits

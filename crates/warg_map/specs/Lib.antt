@@ -9,4 +9,4 @@ pub mod Side
 pub mod Path
 pub mod Lone
 pub mod Seen
-pub mod Shown
+pub mod Bundles

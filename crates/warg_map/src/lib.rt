@@ -14,7 +14,7 @@
 //! ```
 //!
 //! The modules stand on one another in this order: `path` (bits of a digest), `singleton`, `fork`, `stem`, `link` (a
-//! node with its digest), `node`, `proof`, `map`, and `laws` (what follows from the definitions alone).
+//! node with its digest), `node`, `proof`, `map`, `proof_bundle`, and `laws` (what follows from the definitions alone).
 #![tactic(auto)]
 
 mod fork;
@@ -24,8 +24,10 @@ mod map;
 mod node;
 mod path;
 mod proof;
+mod proof_bundle;
 mod singleton;
 mod stem;
 
 pub use map::{Map, MapError};
 pub use proof::Proof;
+pub use proof_bundle::{ProofBundle, ProofBundle as MapProofBundle};

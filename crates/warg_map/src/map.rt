@@ -9,7 +9,6 @@ ghost use Rattle.warg_map.specs.Sparse.{sparse_root, leaf_at, leaf_digest, inser
 ghost use Rattle.warg_map.specs.ProofValue.{proof_value};
 ghost use Rattle.warg_map.specs.Peers.{Proves, ProvesAbsent};
 ghost use Rattle.warg_map.specs.Count.{node_count};
-ghost use Rattle.warg_map.specs.Shown.{peers_of};
 
 use crate::link::Link;
 use crate::node::Node;
@@ -212,16 +211,16 @@ impl<D: SupportedDigest, K: VisitBytes + Drop, V: VisitBytes + Drop, A: Allocato
         ensures answer { IfOk result (λ o.
             MatchOption o
             (map.contains_key self.now (key_bits D.digest (K.bytes key)) ≡ false)
-            (λ p. Proves D.digest 256 self.now (key_bits D.digest (K.bytes key)) (peers_of p))) }
+            (λ p. Proves D.digest 256 self.now (key_bits D.digest (K.bytes key)) p)) }
 
         // From the leaf digest that is held the proof leads to the root.
         ensures honest { IfOk result (λ o. IfSome o (λ p.
             (x : List ℕ) → map.get self.now (key_bits D.digest (K.bytes key)) ≡ Some x
-            → proof_value D.digest (peers_of p) x (key_bits D.digest (K.bytes key)) ≡ sparse_root D.digest 256 self.now)) }
+            → proof_value D.digest p x (key_bits D.digest (K.bytes key)) ≡ sparse_root D.digest 256 self.now)) }
 
         // From any leaf digest it leads to the root of the map that holds this one in its place.
         ensures replaced { IfOk result (λ o. IfSome o (λ p.
-            (x : List ℕ) → proof_value D.digest (peers_of p) x (key_bits D.digest (K.bytes key))
+            (x : List ℕ) → proof_value D.digest p x (key_bits D.digest (K.bytes key))
             ≡ sparse_root D.digest 256 (map.insert self.now (key_bits D.digest (K.bytes key)) x))) }
     {
         let key = Hash::of(&key);
@@ -241,12 +240,12 @@ impl<D: SupportedDigest, K: VisitBytes + Drop, V: VisitBytes + Drop, A: Allocato
             ↔ (leaf_at D.digest self.now (key_bits D.digest (K.bytes key)) ≡ empty_root D.digest 0)) }
         ensures peers { IfOk result (λ o. IfSome o (λ p.
             MatchOption (map.get self.now (key_bits D.digest (K.bytes key)))
-            (ProvesAbsent D.digest self.now (key_bits D.digest (K.bytes key)) (peers_of p))
-            (λ _. Proves D.digest 256 self.now (key_bits D.digest (K.bytes key)) (peers_of p)))) }
+            (ProvesAbsent D.digest self.now (key_bits D.digest (K.bytes key)) p)
+            (λ _. Proves D.digest 256 self.now (key_bits D.digest (K.bytes key)) p))) }
 
         // From an empty leaf the proof leads to the root.
         ensures honest { IfOk result (λ o. IfSome o (λ p.
-            proof_value D.digest (peers_of p) (empty_root D.digest 0) (key_bits D.digest (K.bytes key)) ≡ sparse_root D.digest 256 self.now)) }
+            proof_value D.digest p (empty_root D.digest 0) (key_bits D.digest (K.bytes key)) ≡ sparse_root D.digest 256 self.now)) }
     {
         let key = Hash::of(&key);
         let node = self.link.node();

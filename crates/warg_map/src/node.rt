@@ -209,7 +209,6 @@ impl<D: SupportedDigest, A: Allocator + Copy> Node<D, A> {
     ghost use Rattle.std.specs.Prelude.{MatchOption, false, length, IfSome};
     ghost use Rattle.warg_map.specs.Path.{bits_left};
     ghost use Rattle.warg_map.specs.Peers.{Proves};
-    ghost use Rattle.warg_map.specs.Shown.{peers_of};
     ghost use Rattle.warg_map.specs.Seen.{height_of, held_by, IsWellFormed};
 
     /// The proof that the bits that the path has left are held, or `None` exactly where they aren't.
@@ -223,8 +222,8 @@ impl<D: SupportedDigest, A: Allocator + Copy> Node<D, A> {
         ensures answer { IfOk result (λ o.
             MatchOption o
             (map.contains_key (held_by self.now) (bits_left path.entry) ≡ false)
-            (λ p. Proves D.digest (height_of self.now) (held_by self.now) (bits_left path.entry) (peers_of p))) }
-        ensures few { IfOk result (λ o. IfSome o (λ p. length (peers_of p) ≤ height_of self.now)) }
+            (λ p. Proves D.digest (height_of self.now) (held_by self.now) (bits_left path.entry) p)) }
+        ensures few { IfOk result (λ o. IfSome o (λ p. length p ≤ height_of self.now)) }
     {
         match self {
             Node::Leaf(_) => Ok(Some(Proof::new(Vec::new(alloc)))),
@@ -267,7 +266,6 @@ impl<D: SupportedDigest, A: Allocator + Copy> Node<D, A> {
     ghost use Rattle.std.specs.Prelude.{false, length};
     ghost use Rattle.warg_map.specs.Path.{bits_left};
     ghost use Rattle.warg_map.specs.Peers.{ProvesAbsent};
-    ghost use Rattle.warg_map.specs.Shown.{peers_of};
     ghost use Rattle.warg_map.specs.Seen.{height_of, held_by, IsWellFormed};
 
     /// The proof that the bits that the path has left aren't held.
@@ -279,8 +277,8 @@ impl<D: SupportedDigest, A: Allocator + Copy> Node<D, A> {
         requires well_formed { IsWellFormed self.now }
         requires height { height_of self.now + path.index ≡ 256 }
         requires absent { map.contains_key (held_by self.now) (bits_left path) ≡ false }
-        ensures answer { IfOk result (λ p. ProvesAbsent D.digest (held_by self.now) (bits_left path.entry) (peers_of p)) }
-        ensures few { IfOk result (λ p. length (peers_of p) ≤ height_of self.now) }
+        ensures answer { IfOk result (λ p. ProvesAbsent D.digest (held_by self.now) (bits_left path.entry) p) }
+        ensures few { IfOk result (λ p. length p ≤ height_of self.now) }
     {
         match self {
             Node::Leaf(_) => unreachable!(),

@@ -7,9 +7,11 @@ ghost use Rattle.warg_map.specs.Sparse.{leaf_digest};
 ghost use Rattle.warg_map.specs.ProofValue.{peer_of, proof_value};
 ghost use Rattle.warg_map.specs.Peers.{empty_peers};
 
+mod message;
+
 use crate::path::ReversePath;
 use std::alloc::{AllocError, Allocator, Global};
-use std::marker::PhantomData;
+use std::marker::{Model, PhantomData};
 use warg_crypto::{Hash, SupportedDigest, VisitBytes, empty_tree_hash};
 use warg_log::hash_leaf;
 
@@ -22,16 +24,24 @@ pub struct Proof<D, K, V, A: Allocator = Global> {
     peers: Vec<Option<Hash<D>>, A>,
     key: PhantomData<K>,
     value: PhantomData<V>,
-    pub ghost at_most_256: { length peers.items ≤ 256 },
+}
+
+// Contracts see a proof as the list of its peers.
+impl<D, K, V, A: Allocator> Model for Proof<D, K, V, A> {
+    ghost use Rattle.std.specs.Prelude.{ℕ, ◌≤◌, List, Option, length};
+
+    ghost Value = { List (Option (List ℕ)) };
+
+    ghost view = { λ p. p.peers.items };
+
+    ghost invariant = { λ p. length p.peers.items ≤ 256 };
 }
 
 impl<D, K, V, A: Allocator> Proof<D, K, V, A> {
-    ghost use Rattle.warg_map.specs.Shown.{peers_of};
-
     /// The proof of these peers.
     pub(crate) fn new(peers: Vec<Option<Hash<D>>, A>) -> Proof<D, K, V, A>
         requires { length peers.items ≤ 256 }
-        ensures { peers_of result ≡ peers.items }
+        ensures { result ≡ peers.items }
     {
         Proof {
             peers,
@@ -42,8 +52,8 @@ impl<D, K, V, A: Allocator> Proof<D, K, V, A> {
 
     /// Adds a peer at the top.
     pub(crate) fn push(&mut self, peer: Option<Hash<D>>) -> Result<(), AllocError>
-        requires { length (peers_of self.old) < 256 }
-        ensures { OnOk result (peers_of self.new ≡ peers_of self.old ++ peer ∷ []) }
+        requires { length self.old < 256 }
+        ensures { OnOk result (self.new ≡ self.old ++ peer ∷ []) }
     {
         self.peers.push(peer)?;
         Ok(())
@@ -51,8 +61,8 @@ impl<D, K, V, A: Allocator> Proof<D, K, V, A> {
 
     /// Adds `len` times `None` at the top.
     pub(crate) fn push_missing(&mut self, len: usize) -> Result<(), AllocError>
-        requires { length (peers_of self.old) + len ≤ 256 }
-        ensures { OnOk result (peers_of self.new ≡ peers_of self.old ++ replicate len None) }
+        requires { length self.old + len ≤ 256 }
+        ensures { OnOk result (self.new ≡ self.old ++ replicate len None) }
     {
         for _ in 0..len {
             self.push(None)?;
@@ -62,8 +72,8 @@ impl<D, K, V, A: Allocator> Proof<D, K, V, A> {
 
     /// The peers, from the bottom of the tree to the top: at most 256.
     pub fn peers(&self) -> &[Option<Hash<D>>]
-        ensures value { result.now ≡ peers_of self.now }
-        ensures few { length result.now ≤ 256 }
+        ensures value { result.now ≡ self.now }
+        ensures few { length self.now ≤ 256 }
     {
         &self.peers
     }
@@ -75,7 +85,7 @@ impl<D, K, V, A: Allocator> Proof<D, K, V, A> {
         missing: usize,
     ) -> Result<Proof<D, K, V, A>, AllocError>
         requires { missing < 256 }
-        ensures { IfOk result (λ p. peers_of p ≡ Some peer ∷ replicate missing None) }
+        ensures { IfOk result (λ p. p ≡ Some peer ∷ replicate missing None) }
     {
         let mut proof = Proof::new(Vec::new(alloc));
         proof.push(Some(peer))?;
@@ -86,9 +96,8 @@ impl<D, K, V, A: Allocator> Proof<D, K, V, A> {
 
 impl<D, K, V, A: Allocator> From<Proof<D, K, V, A>> for Vec<Option<Hash<D>>, A> {
     ghost use Rattle.std.specs.Prelude.{◌≡◌};
-    ghost use Rattle.warg_map.specs.Shown.{peers_of};
 
-    ghost from_gives = { λ proof peers. peers.items ≡ peers_of proof };
+    ghost from_gives = { λ proof peers. peers.items ≡ proof };
 
     fn from(proof: Proof<D, K, V, A>) -> Vec<Option<Hash<D>>, A> {
         proof.peers
@@ -96,13 +105,11 @@ impl<D, K, V, A: Allocator> From<Proof<D, K, V, A>> for Vec<Option<Hash<D>>, A> 
 }
 
 impl<D: SupportedDigest, K, V, A: Allocator> Proof<D, K, V, A> {
-    ghost use Rattle.warg_map.specs.Shown.{peers_of};
-
     /// Adds the digests of the empty trees of `len` heights at the top, the first of height `low`.
     pub(crate) fn push_empties(&mut self, low: usize, len: usize) -> Result<(), AllocError>
-        requires room { length (peers_of self.old) + len ≤ 256 }
+        requires room { length self.old + len ≤ 256 }
         requires heights { low + len ≤ 256 }
-        ensures { OnOk result (peers_of self.new ≡ peers_of self.old ++ empty_peers D.digest low len) }
+        ensures { OnOk result (self.new ≡ self.old ++ empty_peers D.digest low len) }
     {
         let mut empty = empty_tree_hash::<D>(low);
         for pushed in 0..len {
@@ -116,7 +123,7 @@ impl<D: SupportedDigest, K, V, A: Allocator> Proof<D, K, V, A> {
     fn peer<'a>(&'a self, height: usize, empty: &'a Hash<D>) -> &'a Hash<D>
         requires place { height < 256 }
         requires empty { empty.now ≡ empty_root D.digest height }
-        ensures { result.now ≡ peer_of D.digest (peers_of self.now) height }
+        ensures { result.now ≡ peer_of D.digest self.now height }
     {
         let peers = self.peers();
         let missing = 256 - peers.len();
@@ -131,7 +138,7 @@ impl<D: SupportedDigest, K, V, A: Allocator> Proof<D, K, V, A> {
 
     /// The root to which the peers lead from a leaf digest under a key digest.
     fn root_from(&self, key: &Hash<D>, leaf: Hash<D>) -> Hash<D>
-        ensures { result ≡ proof_value D.digest (peers_of self.now) leaf (last_bits key.now 256) }
+        ensures { result ≡ proof_value D.digest self.now leaf (last_bits key.now 256) }
     {
         let mut hash = leaf;
         let mut empty = empty_tree_hash(0);
@@ -147,13 +154,11 @@ impl<D: SupportedDigest, K, V, A: Allocator> Proof<D, K, V, A> {
 }
 
 impl<D: SupportedDigest, K: VisitBytes, V: VisitBytes, A: Allocator> Proof<D, K, V, A> {
-    ghost use Rattle.warg_map.specs.Shown.{peers_of};
-
     /// The root to which the proof leads from `value` under `key`.
     ///
     /// A proof of [`Map::prove`](crate::Map::prove) leads to the map's root from the value last kept under the key.
     pub fn evaluate(&self, key: &K, value: &V) -> Hash<D>
-        ensures { result ≡ proof_value D.digest (peers_of self.now) (leaf_digest D.digest (V.bytes value.now)) (key_bits D.digest (K.bytes key.now)) }
+        ensures { result ≡ proof_value D.digest self.now (leaf_digest D.digest (V.bytes value.now)) (key_bits D.digest (K.bytes key.now)) }
     {
         self.root_from(&Hash::of(key), hash_leaf(value))
     }
@@ -162,7 +167,7 @@ impl<D: SupportedDigest, K: VisitBytes, V: VisitBytes, A: Allocator> Proof<D, K,
     ///
     /// A proof of [`Map::prove_absence`](crate::Map::prove_absence) leads to the map's root.
     pub fn evaluate_absent(&self, key: &K) -> Hash<D>
-        ensures { result ≡ proof_value D.digest (peers_of self.now) (empty_root D.digest 0) (key_bits D.digest (K.bytes key.now)) }
+        ensures { result ≡ proof_value D.digest self.now (empty_root D.digest 0) (key_bits D.digest (K.bytes key.now)) }
     {
         self.root_from(&Hash::of(key), empty_tree_hash(0))
     }

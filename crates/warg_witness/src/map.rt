@@ -2,7 +2,6 @@
 
 ghost use Rattle.std.specs.Prelude.{◌≡◌, ℕ, ◌≤◌, ◌↔◌, Bool, List, [], length, Option, IfOk, MatchOption};
 ghost use Rattle.warg_map.specs.Last.{last_under};
-ghost use Rattle.warg_map.specs.Shown.{peers_of};
 ghost use Rattle.warg_map.specs.Sparse.{leaf_digest, pair_bytes};
 ghost use Rattle.warg_witness.specs.MapClaims.{value_in, IsKeyMet, IsAbsenceMet, IsKeyAgreement, IsLastValue};
 ghost use Rattle.warg_witness.specs.MapPlaced.{IsKeyPlaced, IsKeyAgreementPlaced};
@@ -186,12 +185,12 @@ pub fn witness_key<
     insertions: &[(K, V)],
 ) -> Result<Finding<D, A>, AllocError>
     ensures not_met { IfOk result (λ f. (f ≡ Finding.NotMet)
-        ↔ (IsKeyMet D.digest (peers_of proof.now) (K.bytes key.now) (V.bytes value.now) (pair_bytes K.bytes V.bytes insertions.now) → ⊥)) }
+        ↔ (IsKeyMet D.digest proof.now (K.bytes key.now) (V.bytes value.now) (pair_bytes K.bytes V.bytes insertions.now) → ⊥)) }
     ensures holds { IfOk result (λ f. (f ≡ Finding.Holds)
-        ↔ (IsKeyMet D.digest (peers_of proof.now) (K.bytes key.now) (V.bytes value.now) (pair_bytes K.bytes V.bytes insertions.now)
+        ↔ (IsKeyMet D.digest proof.now (K.bytes key.now) (V.bytes value.now) (pair_bytes K.bytes V.bytes insertions.now)
         × IsLastValue (K.bytes key.now) (V.bytes value.now) (pair_bytes K.bytes V.bytes insertions.now))) }
     ensures collision { IfOk result (λ f. (c : _) → f ≡ Finding.Collision c
-        → IsKeyPlaced D.digest (peers_of proof.now) (V.bytes value.now) (K.bytes key.now) (pair_bytes K.bytes V.bytes insertions.now) c.0 c.1) }
+        → IsKeyPlaced D.digest proof.now (V.bytes value.now) (K.bytes key.now) (pair_bytes K.bytes V.bytes insertions.now) c.0 c.1) }
 {
     find(alloc, proof.peers(), key, value, insertions)
 }
@@ -215,12 +214,12 @@ pub fn witness_absent<
     insertions: &[(K, V)],
 ) -> Result<Finding<D, A>, AllocError>
     ensures not_met { IfOk result (λ f. (f ≡ Finding.NotMet)
-        ↔ (IsAbsenceMet D.digest (peers_of proof.now) (K.bytes key.now) (pair_bytes K.bytes V.bytes insertions.now) → ⊥)) }
+        ↔ (IsAbsenceMet D.digest proof.now (K.bytes key.now) (pair_bytes K.bytes V.bytes insertions.now) → ⊥)) }
     ensures holds { IfOk result (λ f. (f ≡ Finding.Holds)
-        ↔ (IsAbsenceMet D.digest (peers_of proof.now) (K.bytes key.now) (pair_bytes K.bytes V.bytes insertions.now)
+        ↔ (IsAbsenceMet D.digest proof.now (K.bytes key.now) (pair_bytes K.bytes V.bytes insertions.now)
         × IsLastValue (K.bytes key.now) [] (pair_bytes K.bytes V.bytes insertions.now))) }
     ensures collision { IfOk result (λ f. (c : _) → f ≡ Finding.Collision c
-        → IsKeyPlaced D.digest (peers_of proof.now) [] (K.bytes key.now) (pair_bytes K.bytes V.bytes insertions.now) c.0 c.1) }
+        → IsKeyPlaced D.digest proof.now [] (K.bytes key.now) (pair_bytes K.bytes V.bytes insertions.now) c.0 c.1) }
 {
     find(alloc, proof.peers(), key, &(), insertions)
 }
@@ -246,12 +245,12 @@ pub fn agree_key<
     second_value: &V,
 ) -> Result<Finding<D, A>, AllocError>
     ensures not_met { IfOk result (λ f. (f ≡ Finding.NotMet)
-        ↔ (IsKeyAgreement D.digest (K.bytes key.now) (peers_of first_proof.now) (V.bytes first_value.now) (peers_of second_proof.now) (V.bytes second_value.now) → ⊥)) }
+        ↔ (IsKeyAgreement D.digest (K.bytes key.now) first_proof.now (V.bytes first_value.now) second_proof.now (V.bytes second_value.now) → ⊥)) }
     ensures holds { IfOk result (λ f. (f ≡ Finding.Holds)
-        ↔ (IsKeyAgreement D.digest (K.bytes key.now) (peers_of first_proof.now) (V.bytes first_value.now) (peers_of second_proof.now) (V.bytes second_value.now)
+        ↔ (IsKeyAgreement D.digest (K.bytes key.now) first_proof.now (V.bytes first_value.now) second_proof.now (V.bytes second_value.now)
         × (V.bytes first_value.now ≡ V.bytes second_value.now))) }
     ensures collision { IfOk result (λ f. (c : _) → f ≡ Finding.Collision c
-        → IsKeyAgreementPlaced D.digest (K.bytes key.now) (peers_of first_proof.now) (V.bytes first_value.now) (peers_of second_proof.now) (V.bytes second_value.now) c.0 c.1) }
+        → IsKeyAgreementPlaced D.digest (K.bytes key.now) first_proof.now (V.bytes first_value.now) second_proof.now (V.bytes second_value.now) c.0 c.1) }
 {
     let digest = Hash::of(key);
     let empty = empty_trees(alloc)?;

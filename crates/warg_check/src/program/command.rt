@@ -1,18 +1,25 @@
 //! The commands, and the lines that spell them.
 
-ghost use Rattle.std.specs.Prelude.{◌≡◌, IfOk, [], ◌∷◌, Option};
-ghost use Rattle.std.specs.Option.{option_map};
-ghost use Rattle.warg_check.specs.Words.{words_of, number_of, length_of, bytes_of, root_in};
-ghost use Rattle.warg_check.specs.Orders.{order_of, include_of, consistent_of, bundle_of, verify_of};
+ghost use Rattle.warg_check.specs.Words.{words_of};
+ghost use Rattle.warg_check.specs.Says.{Says};
+ghost use Rattle.warg_check.specs.Orders.{order_of, push_in, log_in, include_in, consistent_in, bundle_in, verify_in, insert_in, map_in, prove_in, absent_in};
 
-use crate::program::word::{LogLength, bytes, log_length, number, root, split_first};
-use std::alloc::{AllocError, Allocator};
+use crate::program::word::LogLength;
+use crate::program::words::{Unread, Words};
+use std::alloc::Allocator;
+use std::marker::Model;
 use warg_crypto::{Hash, Sha256};
 use warg_log::Node;
 
 /// What a good line orders.
 #[derive(Drop)]
-pub(super) enum Command<A: Allocator> {
+pub(super) struct Command<A: Allocator> {
+    pub kind: Kind<A>,
+}
+
+/// The kinds of commands, each with what its words say.
+#[derive(Drop)]
+pub(super) enum Kind<A: Allocator> {
     Push(Vec<u8, A>),
     Log,
     Include {
@@ -33,175 +40,177 @@ pub(super) enum Command<A: Allocator> {
         value: Vec<u8, A>,
         bundle: Vec<u8, A>,
     },
+    Insert {
+        key: Vec<u8, A>,
+        value: Vec<u8, A>,
+    },
+    Map,
+    Prove {
+        key: Vec<u8, A>,
+        value: Vec<u8, A>,
+    },
+    Absent(Vec<u8, A>),
 }
 
-// The words of a line, as far as any command has them.
-#[derive(Clone, Copy)]
-enum Words<'a> {
-    One(&'a [u8]),
-    Two(&'a [u8], &'a [u8]),
-    Three(&'a [u8], &'a [u8], &'a [u8]),
-    Four(&'a [u8], &'a [u8], &'a [u8], &'a [u8]),
-    More,
-}
+// Contracts see a command as its order.
+impl<A: Allocator> Model for Command<A> {
+    ghost use Rattle.warg_check.specs.Orders.{Order};
 
-impl<'a> Words<'a> {
-    ghost use Rattle.warg_check.specs.Commands.{AreWords};
+    ghost Value = { Order };
 
-    fn of(line: &'a [u8]) -> Words<'a>
-        ensures { AreWords (words_of line.now) result }
-    {
-        let (first, rest) = split_first(line, b' ');
-        let Some(rest) = rest else {
-            return Words::One(first);
-        };
-        let (second, rest) = split_first(rest, b' ');
-        let Some(rest) = rest else {
-            return Words::Two(first, second);
-        };
-        let (third, rest) = split_first(rest, b' ');
-        let Some(rest) = rest else {
-            return Words::Three(first, second, third);
-        };
-        let (fourth, rest) = split_first(rest, b' ');
-        match rest {
-            None => Words::Four(first, second, third, fourth),
-            Some(_) => Words::More,
-        }
-    }
+    ghost use Rattle.warg_check.specs.Commands.{order_seen};
+
+    ghost view = { λ c. order_seen c.kind };
 }
 
 impl<A: Allocator + Copy> Command<A> {
-    ghost use Rattle.warg_check.specs.Commands.{order_seen};
-
     #[tactic(auto, unfolding(crate::specs::Orders::order_of))]
-    /// The command that a line spells, None for a line that spells none.
-    pub(super) fn parse(alloc: A, line: &[u8]) -> Result<Option<Command<A>>, AllocError>
-        ensures { IfOk result (λ command. option_map order_seen command ≡ order_of (words_of line.now)) }
+    /// The command that a line spells: its name decides, and the command reads the words behind it.
+    pub(super) fn parse(alloc: A, line: &[u8]) -> Result<Command<A>, Unread>
+        ensures { Says result (order_of (words_of line.now)) }
     {
-        match Words::of(line) {
-            Words::One(name) => Ok(Command::of_one(name)),
-            Words::Two(name, first) => Command::of_two(alloc, name, first),
-            Words::Three(name, first, second) => Ok(Command::of_three(name, first, second)),
-            Words::Four(name, first, second, third) => {
-                Command::of_four(alloc, name, first, second, third)
-            }
-            Words::More => Ok(None),
+        let mut words = Words::of(line);
+        let name = words.word()?;
+        if name == b"push".as_slice() {
+            return Command::push(alloc, words);
         }
-    }
-
-    #[tactic(auto, unfolding(crate::specs::Orders::order_of))]
-    fn of_one(name: &[u8]) -> Option<Command<A>>
-        ensures { option_map order_seen result ≡ order_of (name.now ∷ []) }
-    {
         if name == b"log".as_slice() {
-            return Some(Command::Log);
+            return Command::log(words);
         }
-        None
-    }
-
-    #[tactic(auto, unfolding(crate::specs::Orders::order_of))]
-    fn of_two(alloc: A, name: &[u8], first: &[u8]) -> Result<Option<Command<A>>, AllocError>
-        ensures { IfOk result (λ command. option_map order_seen command ≡ order_of (name.now ∷ first.now ∷ [])) }
-    {
-        if name != b"push".as_slice() {
-            return Ok(None);
+        if name == b"include".as_slice() {
+            return Command::include(alloc, words);
         }
-        Ok(bytes(alloc, first)?.map(|entry| Command::Push(entry)))
-    }
-
-    #[tactic(auto, unfolding(crate::specs::Orders::order_of))]
-    fn of_three(name: &[u8], first: &[u8], second: &[u8]) -> Option<Command<A>>
-        ensures { option_map order_seen result ≡ order_of (name.now ∷ first.now ∷ second.now ∷ []) }
-    {
         if name == b"consistent".as_slice() {
-            return Command::consistent(first, second);
+            return Command::consistent(words);
         }
         if name == b"bundle".as_slice() {
-            return Command::bundle(first, second);
-        }
-        None
-    }
-
-    #[tactic(auto, unfolding(crate::specs::Orders::order_of))]
-    fn of_four(
-        alloc: A,
-        name: &[u8],
-        first: &[u8],
-        second: &[u8],
-        third: &[u8],
-    ) -> Result<Option<Command<A>>, AllocError>
-        ensures { IfOk result (λ command. option_map order_seen command ≡ order_of (name.now ∷ first.now ∷ second.now ∷ third.now ∷ [])) }
-    {
-        if name == b"include".as_slice() {
-            return Command::include(alloc, first, second, third);
+            return Command::bundle(words);
         }
         if name == b"verify".as_slice() {
-            return Command::verify(alloc, first, second, third);
+            return Command::verify(alloc, words);
         }
-        Ok(None)
+        if name == b"insert".as_slice() {
+            return Command::insert(alloc, words);
+        }
+        if name == b"map".as_slice() {
+            return Command::map(words);
+        }
+        if name == b"prove".as_slice() {
+            return Command::prove(alloc, words);
+        }
+        if name == b"absent".as_slice() {
+            return Command::absent(alloc, words);
+        }
+        Err(Unread::BadLine)
     }
 
-    fn include(
-        alloc: A,
-        node: &[u8],
-        length: &[u8],
-        value: &[u8],
-    ) -> Result<Option<Command<A>>, AllocError>
-        ensures { IfOk result (λ command. option_map order_seen command ≡ include_of (number_of node.now) (length_of length.now) (bytes_of value.now)) }
+    fn push(alloc: A, mut words: Words<'_>) -> Result<Command<A>, Unread>
+        ensures { Says result (push_in words.entry) }
     {
-        let (Some(node), Some(length)) = (number(node), log_length(length)) else {
-            return Ok(None);
-        };
-        let Some(value) = bytes(alloc, value)? else {
-            return Ok(None);
-        };
-        Ok(Some(Command::Include {
-            node: Node(node),
-            length,
-            value,
-        }))
-    }
-
-    fn consistent(old: &[u8], new: &[u8]) -> Option<Command<A>>
-        ensures { option_map order_seen result ≡ consistent_of (length_of old.now) (length_of new.now) }
-    {
-        let (Some(old), Some(new)) = (log_length(old), log_length(new)) else {
-            return None;
-        };
-        Some(Command::Consistent { old, new })
-    }
-
-    fn bundle(node: &[u8], length: &[u8]) -> Option<Command<A>>
-        ensures { option_map order_seen result ≡ bundle_of (number_of node.now) (length_of length.now) }
-    {
-        let (Some(node), Some(length)) = (number(node), log_length(length)) else {
-            return None;
-        };
-        Some(Command::Bundle {
-            node: Node(node),
-            length,
+        let entry = words.bytes(alloc)?;
+        words.end()?;
+        Ok(Command {
+            kind: Kind::Push(entry),
         })
     }
 
-    fn verify(
-        alloc: A,
-        root_word: &[u8],
-        value: &[u8],
-        bundle: &[u8],
-    ) -> Result<Option<Command<A>>, AllocError>
-        ensures { IfOk result (λ command. option_map order_seen command ≡ verify_of (root_in root_word.now) (bytes_of value.now) (bytes_of bundle.now)) }
+    fn log(words: Words<'_>) -> Result<Command<A>, Unread>
+        ensures { Says result (log_in words.entry) }
     {
-        let Some(root) = root(root_word) else {
-            return Ok(None);
-        };
-        let (Some(value), Some(bundle)) = (bytes(alloc, value)?, bytes(alloc, bundle)?) else {
-            return Ok(None);
-        };
-        Ok(Some(Command::Verify {
-            root,
-            value,
-            bundle,
-        }))
+        words.end()?;
+        Ok(Command { kind: Kind::Log })
+    }
+
+    fn include(alloc: A, mut words: Words<'_>) -> Result<Command<A>, Unread>
+        ensures { Says result (include_in words.entry) }
+    {
+        let node = Node(words.number()?);
+        let length = words.log_length()?;
+        let value = words.bytes(alloc)?;
+        words.end()?;
+        Ok(Command {
+            kind: Kind::Include {
+                node,
+                length,
+                value,
+            },
+        })
+    }
+
+    fn consistent(mut words: Words<'_>) -> Result<Command<A>, Unread>
+        ensures { Says result (consistent_in words.entry) }
+    {
+        let old = words.log_length()?;
+        let new = words.log_length()?;
+        words.end()?;
+        Ok(Command {
+            kind: Kind::Consistent { old, new },
+        })
+    }
+
+    fn bundle(mut words: Words<'_>) -> Result<Command<A>, Unread>
+        ensures { Says result (bundle_in words.entry) }
+    {
+        let node = Node(words.number()?);
+        let length = words.log_length()?;
+        words.end()?;
+        Ok(Command {
+            kind: Kind::Bundle { node, length },
+        })
+    }
+
+    fn verify(alloc: A, mut words: Words<'_>) -> Result<Command<A>, Unread>
+        ensures { Says result (verify_in words.entry) }
+    {
+        let root = words.root()?;
+        let value = words.bytes(alloc)?;
+        let bundle = words.bytes(alloc)?;
+        words.end()?;
+        Ok(Command {
+            kind: Kind::Verify {
+                root,
+                value,
+                bundle,
+            },
+        })
+    }
+
+    fn insert(alloc: A, mut words: Words<'_>) -> Result<Command<A>, Unread>
+        ensures { Says result (insert_in words.entry) }
+    {
+        let key = words.bytes(alloc)?;
+        let value = words.bytes(alloc)?;
+        words.end()?;
+        Ok(Command {
+            kind: Kind::Insert { key, value },
+        })
+    }
+
+    fn map(words: Words<'_>) -> Result<Command<A>, Unread>
+        ensures { Says result (map_in words.entry) }
+    {
+        words.end()?;
+        Ok(Command { kind: Kind::Map })
+    }
+
+    fn prove(alloc: A, mut words: Words<'_>) -> Result<Command<A>, Unread>
+        ensures { Says result (prove_in words.entry) }
+    {
+        let key = words.bytes(alloc)?;
+        let value = words.bytes(alloc)?;
+        words.end()?;
+        Ok(Command {
+            kind: Kind::Prove { key, value },
+        })
+    }
+
+    fn absent(alloc: A, mut words: Words<'_>) -> Result<Command<A>, Unread>
+        ensures { Says result (absent_in words.entry) }
+    {
+        let key = words.bytes(alloc)?;
+        words.end()?;
+        Ok(Command {
+            kind: Kind::Absent(key),
+        })
     }
 }

@@ -1,17 +1,17 @@
-//! A run of commands: the log that they push to, and the text that answers them.
+//! A run of commands: the log that they push to, the map that they insert into, and the text that answers them.
 
-ghost use Rattle.std.specs.Prelude.{◌≡◌, ◌≢◌, ℕ, ◌≤◌, ◌^◌, List, [], ◌∷◌, ◌++◌, ◌↔◌, length, IfOk, IfErr, OnOk, codes, string_bytes};
-ghost use Rattle.hex.specs.Hex.{encode_lower};
-ghost use Rattle.warg_crypto.specs.Digests.{sha256};
+ghost use Rattle.std.specs.Prelude.{◌≡◌, ℕ, ◌≤◌, ◌^◌, [], ◌∷◌, ◌++◌, length, IfOk, IfErr, OnOk, codes, string_bytes};
 ghost use Rattle.warg_log.specs.Bundles.{bundle_message};
 ghost use Rattle.warg_check.specs.Words.{lines_of};
-ghost use Rattle.warg_check.specs.Orders.{line_of, push, log, include, consistent, bundle, verify};
-ghost use Rattle.warg_check.specs.Errors.{IsAnswersError};
-ghost use Rattle.warg_check.specs.Text.{leaves, answer, said, pushed, entries_after, is_not_bad, refusal, bytes_or_refusal, text_of, all_good, Answers};
+ghost use Rattle.warg_check.specs.Orders.{line_of, push, log, include, consistent, bundle, verify, insert, map, prove, absent};
+ghost use Rattle.warg_check.specs.States.{start};
+ghost use Rattle.warg_check.specs.Errors.{IsRefusal};
+ghost use Rattle.warg_check.specs.Text.{is_not_bad, refusal, bytes_or_refusal, text_of, all_good, MeetsFull};
 
 use crate::program::RunError;
-use crate::program::command::Command;
+use crate::program::command::{Command, Kind};
 use crate::program::word::{LogLength, next_line};
+use crate::program::words::Unread;
 use crate::verdict::{CheckError, check_inclusion};
 use std::alloc::{AllocError, Allocator};
 use std::fmt::Write;
@@ -20,79 +20,86 @@ use warg_log::{
     BundleError, ConsistencyProofError, EncodeError, InclusionProofError, LogBuilder, LogData,
     Node, ProofBundle, VecLog,
 };
+use warg_map::{Map, MapError};
 
 // What a run keeps from line to line.
 #[derive(Drop)]
 struct Session<A: Allocator> {
     alloc: A,
     log: VecLog<Sha256, Vec<u8, A>, A>,
+    map: Map<Sha256, Vec<u8, A>, Vec<u8, A>, A>,
     text: String<A>,
     ghost few: { length log ≤ 2 ^ 63 },
 }
 
 impl<A: Allocator + Copy> Session<A> {
-    ghost use Rattle.warg_check.specs.Commands.{order_seen};
-    ghost use Rattle.warg_check.specs.Errors.{IsSessionError, IsLineError};
+    ghost use Rattle.warg_check.specs.Sessions.{StandsAt, Answers, Takes, Refuses, RefusesLine, Adds};
 
-    fn new(alloc: A) -> Session<A>
-        ensures log { result.log ≡ [] }
-        ensures text { string_bytes result.text ≡ [] }
+    fn new(alloc: A) -> Result<Session<A>, AllocError>
+        ensures state { IfOk result (λ session. StandsAt session start) }
+        ensures text { IfOk result (λ session. string_bytes session.text ≡ []) }
     {
-        Session {
+        Ok(Session {
             alloc,
             log: VecLog::default(alloc),
+            map: Map::default(alloc)?,
             text: String::new(alloc),
-        }
+        })
     }
 
     #[tactic(auto, unfolding(crate::specs::Orders::line_of))]
     // Answers the line of this number, and says whether it was good.
     fn line(&mut self, number: usize, line: &[u8]) -> Result<bool, RunError>
         ensures good { IfOk result (λ good. good ≡ is_not_bad (line_of line.now)) }
-        ensures ok { OnOk result ((entries : List (List ℕ)) → self.old.log ≡ leaves entries → (self.new.log ≡ leaves (entries_after entries (line_of line.now))) × (string_bytes self.new.text ≡ string_bytes self.old.text ++ said number entries (line_of line.now))) }
-        ensures errors { IfErr result (IsLineError (length self.old.log) (line_of line.now)) }
+        ensures ok { OnOk result (Takes self.old self.new number (line_of line.now)) }
+        ensures errors { IfErr result (RefusesLine self.old (line_of line.now)) }
     {
         if line.is_empty() {
             return Ok(true);
         }
-        match Command::parse(self.alloc, line)? {
-            Some(command) => {
+        match Command::parse(self.alloc, line) {
+            Ok(command) => {
                 self.answer(command)?;
                 Ok(true)
             }
-            None => {
+            Err(Unread::BadLine) => {
                 writeln!(self.text, "bad line {number}")?;
                 Ok(false)
             }
+            Err(Unread::Memory) => Err(RunError::Memory),
         }
     }
 
     fn answer(&mut self, command: Command<A>) -> Result<(), RunError>
-        ensures ok { OnOk result ((entries : List (List ℕ)) → self.old.log ≡ leaves entries → Answers self.old.log self.new.log (string_bytes self.old.text) (string_bytes self.new.text) entries (order_seen command)) }
-        ensures errors { IfErr result (IsSessionError (length self.old.log) (order_seen command)) }
+        ensures ok { OnOk result (Answers self.old self.new command) }
+        ensures errors { IfErr result (Refuses self.old command) }
     {
-        match command {
-            Command::Push(entry) => self.push(&entry),
-            Command::Log => self.checkpoint(),
-            Command::Include {
+        match command.kind {
+            Kind::Push(entry) => self.push(&entry),
+            Kind::Log => self.checkpoint(),
+            Kind::Include {
                 node,
                 length,
                 value,
             } => self.include(node, &length, &value),
-            Command::Consistent { old, new } => self.consistent(&old, &new),
-            Command::Bundle { node, length } => self.bundle(node, &length),
-            Command::Verify {
+            Kind::Consistent { old, new } => self.consistent(&old, &new),
+            Kind::Bundle { node, length } => self.bundle(node, &length),
+            Kind::Verify {
                 root,
                 value,
                 bundle,
             } => self.verify(&root, &value, &bundle),
+            Kind::Insert { key, value } => self.insert(key, value),
+            Kind::Map => self.map_root(),
+            Kind::Prove { key, value } => self.prove(&key, &value),
+            Kind::Absent(key) => self.absent(&key),
         }
     }
 
     #[tactic(auto, unfolding(crate::specs::Text::answer))]
     fn push(&mut self, entry: &Vec<u8, A>) -> Result<(), RunError>
-        ensures ok { OnOk result ((entries : List (List ℕ)) → self.old.log ≡ leaves entries → Answers self.old.log self.new.log (string_bytes self.old.text) (string_bytes self.new.text) entries (push entry.now.items)) }
-        ensures errors { IfErr result (IsSessionError (length self.old.log) (push entry.now.items)) }
+        ensures ok { OnOk result (Answers self.old self.new (push entry.now.items)) }
+        ensures errors { IfErr result (Refuses self.old (push entry.now.items)) }
     {
         if self.log.length() == 1 << 63 {
             return Err(RunError::Full);
@@ -105,8 +112,8 @@ impl<A: Allocator + Copy> Session<A> {
 
     #[tactic(auto, unfolding(crate::specs::Text::answer))]
     fn checkpoint(&mut self) -> Result<(), RunError>
-        ensures ok { OnOk result ((entries : List (List ℕ)) → self.old.log ≡ leaves entries → Answers self.old.log self.new.log (string_bytes self.old.text) (string_bytes self.new.text) entries log) }
-        ensures errors { IfErr result (IsSessionError (length self.old.log) log) }
+        ensures ok { OnOk result (Answers self.old self.new log) }
+        ensures errors { IfErr result (Refuses self.old log) }
     {
         let checkpoint = self.log.checkpoint();
         let length = checkpoint.length();
@@ -122,8 +129,8 @@ impl<A: Allocator + Copy> Session<A> {
         log_length: &LogLength,
         value: &Vec<u8, A>,
     ) -> Result<(), RunError>
-        ensures ok { OnOk result ((entries : List (List ℕ)) → self.old.log ≡ leaves entries → Answers self.old.log self.new.log (string_bytes self.old.text) (string_bytes self.new.text) entries (include node.0 log_length.now.value value.now.items)) }
-        ensures errors { IfErr result (IsSessionError (length self.old.log) (include node.0 log_length.now.value value.now.items)) }
+        ensures ok { OnOk result (Answers self.old self.new (include node.0 log_length.now.value value.now.items)) }
+        ensures errors { IfErr result (Refuses self.old (include node.0 log_length.now.value value.now.items)) }
     {
         let proof = self.log.prove_inclusion(node, log_length.value);
         match proof.evaluate_value(&self.log, value) {
@@ -142,8 +149,8 @@ impl<A: Allocator + Copy> Session<A> {
 
     #[tactic(auto, unfolding(crate::specs::Text::answer))]
     fn consistent(&mut self, old: &LogLength, new: &LogLength) -> Result<(), RunError>
-        ensures ok { OnOk result ((entries : List (List ℕ)) → self.old.log ≡ leaves entries → Answers self.old.log self.new.log (string_bytes self.old.text) (string_bytes self.new.text) entries (consistent old.now.value new.now.value)) }
-        ensures errors { IfErr result (IsSessionError (length self.old.log) (consistent old.now.value new.now.value)) }
+        ensures ok { OnOk result (Answers self.old self.new (consistent old.now.value new.now.value)) }
+        ensures errors { IfErr result (Refuses self.old (consistent old.now.value new.now.value)) }
     {
         let proof = self.log.prove_consistency(old.value, new.value);
         match proof.evaluate(&self.log) {
@@ -159,8 +166,8 @@ impl<A: Allocator + Copy> Session<A> {
 
     #[tactic(auto, unfolding(crate::specs::Text::answer))]
     fn bundle(&mut self, node: Node, log_length: &LogLength) -> Result<(), RunError>
-        ensures ok { OnOk result ((entries : List (List ℕ)) → self.old.log ≡ leaves entries → Answers self.old.log self.new.log (string_bytes self.old.text) (string_bytes self.new.text) entries (bundle node.0 log_length.now.value)) }
-        ensures errors { IfErr result (IsSessionError (length self.old.log) (bundle node.0 log_length.now.value)) }
+        ensures ok { OnOk result (Answers self.old self.new (bundle node.0 log_length.now.value)) }
+        ensures errors { IfErr result (Refuses self.old (bundle node.0 log_length.now.value)) }
     {
         let proofs = Vec::from_slice(
             self.alloc,
@@ -181,9 +188,8 @@ impl<A: Allocator + Copy> Session<A> {
 
     // Answers a bundle by its bytes.
     fn encode(&mut self, bundle: &ProofBundle<Sha256, Vec<u8, A>, A>) -> Result<(), RunError>
-        ensures ok { OnOk result (string_bytes self.new.text ≡ string_bytes self.old.text ++ bytes_or_refusal (bundle_message bundle.now) ++ 10 ∷ []) }
-        ensures log { self.new.log ≡ self.old.log }
-        ensures errors { result ≢ Err RunError.Full × (result ≢ Err RunError.Read) × (result ≢ Err RunError.Write) }
+        ensures ok { OnOk result (Adds self.old self.new (bytes_or_refusal (bundle_message bundle.now) ++ 10 ∷ [])) }
+        ensures errors { IfErr result (λ error. error ≡ RunError.Memory) }
     {
         match bundle.encode(self.alloc) {
             Ok(bytes) => {
@@ -203,8 +209,8 @@ impl<A: Allocator + Copy> Session<A> {
         value: &Vec<u8, A>,
         bundle: &Vec<u8, A>,
     ) -> Result<(), RunError>
-        ensures ok { OnOk result ((entries : List (List ℕ)) → self.old.log ≡ leaves entries → Answers self.old.log self.new.log (string_bytes self.old.text) (string_bytes self.new.text) entries (verify root.now value.now.items bundle.now.items)) }
-        ensures errors { IfErr result (IsSessionError (length self.old.log) (verify root.now value.now.items bundle.now.items)) }
+        ensures ok { OnOk result (Answers self.old self.new (verify root.now value.now.items bundle.now.items)) }
+        ensures errors { IfErr result (Refuses self.old (verify root.now value.now.items bundle.now.items)) }
     {
         match check_inclusion(self.alloc, bundle.as_slice(), 0, value, root) {
             Ok(verdict) => writeln!(self.text, "{verdict}")?,
@@ -215,10 +221,67 @@ impl<A: Allocator + Copy> Session<A> {
         Ok(())
     }
 
+    #[tactic(auto, unfolding(crate::specs::Text::answer), using(crate::proofs::MapLemmas::map_after_insert))]
+    fn insert(&mut self, key: Vec<u8, A>, value: Vec<u8, A>) -> Result<(), RunError>
+        ensures ok { OnOk result (Answers self.old self.new (insert key.items value.items)) }
+        ensures errors { IfErr result (Refuses self.old (insert key.items value.items)) }
+    {
+        self.map = match self.map.insert(key, value) {
+            Ok(map) => map,
+            Err(MapError::Full) => return Err(RunError::Full),
+            Err(MapError::Memory) => return Err(RunError::Memory),
+        };
+        let len = self.map.len();
+        writeln!(self.text, "len {len}")?;
+        Ok(())
+    }
+
+    #[tactic(auto, unfolding(crate::specs::Text::answer))]
+    fn map_root(&mut self) -> Result<(), RunError>
+        ensures ok { OnOk result (Answers self.old self.new map) }
+        ensures errors { IfErr result (Refuses self.old map) }
+    {
+        let len = self.map.len();
+        let root = hex::encode(self.alloc, self.map.root().bytes())?;
+        writeln!(self.text, "map {len} {root}")?;
+        Ok(())
+    }
+
+    #[tactic(auto, unfolding(crate::specs::Text::answer))]
+    fn prove(&mut self, key: &Vec<u8, A>, value: &Vec<u8, A>) -> Result<(), RunError>
+        ensures ok { OnOk result (Answers self.old self.new (prove key.now.items value.now.items)) }
+        ensures errors { IfErr result (Refuses self.old (prove key.now.items value.now.items)) }
+    {
+        let copy = Vec::from_slice(self.alloc, key.as_slice())?;
+        match self.map.prove(copy)? {
+            Some(proof) => {
+                let root = hex::encode(self.alloc, proof.evaluate(key, value).bytes())?;
+                writeln!(self.text, "root {root}")?;
+            }
+            None => writeln!(self.text, "absent")?,
+        }
+        Ok(())
+    }
+
+    #[tactic(auto, unfolding(crate::specs::Text::answer))]
+    fn absent(&mut self, key: &Vec<u8, A>) -> Result<(), RunError>
+        ensures ok { OnOk result (Answers self.old self.new (absent key.now.items)) }
+        ensures errors { IfErr result (Refuses self.old (absent key.now.items)) }
+    {
+        let copy = Vec::from_slice(self.alloc, key.as_slice())?;
+        match self.map.prove_absence(copy)? {
+            Some(absence) => {
+                let root = hex::encode(self.alloc, absence.evaluate_absent(key).bytes())?;
+                writeln!(self.text, "empty {root}")?;
+            }
+            None => writeln!(self.text, "refused present")?,
+        }
+        Ok(())
+    }
+
     fn refuse(&mut self, fault: ConsistencyProofError) -> Result<(), RunError>
-        ensures ok { OnOk result (string_bytes self.new.text ≡ string_bytes self.old.text ++ refusal fault ++ 10 ∷ []) }
-        ensures log { self.new.log ≡ self.old.log }
-        ensures errors { result ≢ Err RunError.Full × (result ≢ Err RunError.Read) × (result ≢ Err RunError.Write) }
+        ensures ok { OnOk result (Adds self.old self.new (refusal fault ++ 10 ∷ [])) }
+        ensures errors { IfErr result (λ error. error ≡ RunError.Memory) }
     {
         match fault {
             ConsistencyProofError::PointsOutOfOrder => {
@@ -246,9 +309,9 @@ pub(super) fn answers<A: Allocator + Copy>(
 ) -> Result<(String<A>, bool), RunError>
     ensures text { IfOk result (λ answers. string_bytes answers.0 ≡ text_of input.now) }
     ensures good { IfOk result (λ answers. answers.1 ≡ all_good (lines_of input.now)) }
-    ensures errors { IfErr result (IsAnswersError input.now) }
+    ensures errors { IfErr result (IsRefusal (MeetsFull input.now)) }
 {
-    let mut session = Session::new(alloc);
+    let mut session = Session::new(alloc)?;
     let mut rest = input;
     let mut number = 0usize;
     while !rest.is_empty() {

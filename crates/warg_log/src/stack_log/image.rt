@@ -1,6 +1,6 @@
 //! Stack logs as messages and bytes.
 
-ghost use Rattle.std.specs.Prelude.{◌≡◌, ◌≢◌, ℕ, ◌^◌, ◌≤◌, ◌↔◌, ◌⊎◌, true, false, nat_eq, length, map, Ok, Err, IfOk, IfErr};
+ghost use Rattle.std.specs.Prelude.{◌≡◌, ◌≢◌, ℕ, ◌^◌, ◌≤◌, ◌↔◌, ◌⊎◌, nat_eq, length, map, Some, None, Ok, Err, IfOk, IfErr, OnOk};
 ghost use Rattle.std.specs.List.{AllByRecursion, zip};
 ghost use Rattle.std.specs.Cmp.Lexicographic.{pointwise};
 ghost use Rattle.warg_protobuf.specs.declared.error.WireError.TheVariants as wire;
@@ -8,8 +8,8 @@ ghost use Rattle.warg_protobuf.specs.HashEntry.{entry_view};
 ghost use Rattle.warg_protobuf.specs.StackLog.{stack_view, stack_bytes};
 ghost use Rattle.warg_log.specs.Nodes.{balanced_roots};
 ghost use Rattle.warg_log.specs.Blocks.{Blocks};
-ghost use Rattle.warg_log.specs.Decoding.{Reads};
-ghost use Rattle.warg_log.specs.Images.{are_digests, root_entry, RootsFit, stack_message, stack_in, stack_of};
+ghost use Rattle.warg_log.specs.Decoding.{Reads, first_fault, digest_fault};
+ghost use Rattle.warg_log.specs.Images.{root_entry, RootsFit, stack_message, stack_in, stack_of};
 
 use crate::error::{DecodeError, EncodeError};
 use crate::interval::Interval;
@@ -66,6 +66,7 @@ impl<D: SupportedDigest, V: VisitBytes, A: Allocator + Copy> StackLog<D, V, A> {
         ensures ok { IfOk result (λ message. stack_view message ≡ stack_message self.now) }
         ensures again { IfOk result (λ message. stack_in (stack_view message) ≡ Ok self.now) }
         ensures too_large { (result ≡ Err EncodeError.TooLarge) ↔ ¬ RootsFit self.now }
+        ensures fits { OnOk result (RootsFit self.now) }
     {
         if self.count > GREATEST_LENGTH {
             return Err(EncodeError::TooLarge);
@@ -84,6 +85,7 @@ impl<D: SupportedDigest, V: VisitBytes, A: Allocator + Copy> StackLog<D, V, A> {
         ensures written { IfOk result (λ bytes. bytes.items ≡ stack_bytes (stack_message self.now)) }
         ensures again { IfOk result (λ bytes. stack_of bytes.items ≡ Ok self.now) }
         ensures too_large { (result ≡ Err EncodeError.TooLarge) ↔ ¬ RootsFit self.now }
+        ensures fits { OnOk result (RootsFit self.now) }
     {
         let message = self.to_message()?;
         Ok(message.encode(*self.blocks.allocator())?)
@@ -96,8 +98,8 @@ fn read_blocks<D, A: Allocator>(
     entries: &[HashEntry<A>],
 ) -> Result<Vec<Hash<D>, A>, DecodeError>
     ensures ok { IfOk result (λ hashes. hashes.items ≡ map (λ e. e.hash.items) entries.now) }
-    ensures good { IfOk result (λ hashes. are_digests (map (λ e. e.hash.items) entries.now) ≡ true) }
-    ensures fault { IfErr result (λ e. (e ≡ DecodeError.Memory) ⊎ ((e ≡ DecodeError.HashLength) × (are_digests (map (λ e. e.hash.items) entries.now) ≡ false))) }
+    ensures good { IfOk result (λ hashes. first_fault digest_fault (map (λ e. e.hash.items) entries.now) ≡ None) }
+    ensures fault { IfErr result (λ e. (e ≡ DecodeError.Memory) ⊎ ((e ≡ DecodeError.HashLength) × (first_fault digest_fault (map (λ e. e.hash.items) entries.now) ≡ Some e))) }
 {
     let mut hashes = Vec::new(alloc);
     'entries: for entry in entries {

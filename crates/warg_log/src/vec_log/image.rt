@@ -1,12 +1,12 @@
 //! Vec logs as messages and bytes.
 
-ghost use Rattle.std.specs.Prelude.{◌≡◌, ◌≢◌, ℕ, ◌-◌, ◌*◌, ◌%◌, ◌^◌, ◌<◌, ◌≤◌, ◌↔◌, ◌⊎◌, [], true, false, List, length, map, Ok, Err, IfOk, IfErr, IsTrue};
+ghost use Rattle.std.specs.Prelude.{◌≡◌, ◌≢◌, ℕ, ◌-◌, ◌*◌, ◌%◌, ◌^◌, ◌<◌, ◌≤◌, ◌↔◌, ◌⊎◌, [], List, length, map, Some, None, Ok, Err, IfOk, IfErr, IsTrue, OnOk};
 ghost use Rattle.std.specs.List.{AllByRecursion};
 ghost use Rattle.warg_protobuf.specs.declared.error.WireError.TheVariants as wire;
 ghost use Rattle.warg_protobuf.specs.VecLog.{vec_view, vec_bytes};
 ghost use Rattle.warg_log.specs.Tree.{IsSlice};
-ghost use Rattle.warg_log.specs.Decoding.{Reads};
-ghost use Rattle.warg_log.specs.Images.{are_digests, is_slice_of_length, IsHeld, vec_message, vec_in, vec_of};
+ghost use Rattle.warg_log.specs.Decoding.{Reads, first_fault, digest_fault};
+ghost use Rattle.warg_log.specs.Images.{is_slice_of_length, IsHeld, vec_message, vec_in, vec_of};
 
 use crate::error::{DecodeError, EncodeError};
 use crate::join::same;
@@ -66,6 +66,7 @@ impl<D: SupportedDigest, V: VisitBytes, A: Allocator + Copy> VecLog<D, V, A> {
         ensures ok { IfOk result (λ message. vec_view message ≡ vec_message D.digest self.now) }
         ensures again { IfOk result (λ message. vec_in D.digest (vec_view message) ≡ Ok self.now) }
         ensures too_large { (result ≡ Err EncodeError.TooLarge) ↔ (2 ^ 32 ≤ length self.now) }
+        ensures fits { OnOk result (length self.now < 2 ^ 32) }
     {
         if self.count > u32::MAX as usize {
             return Err(EncodeError::TooLarge);
@@ -83,6 +84,7 @@ impl<D: SupportedDigest, V: VisitBytes, A: Allocator + Copy> VecLog<D, V, A> {
         ensures written { IfOk result (λ bytes. bytes.items ≡ vec_bytes (vec_message D.digest self.now)) }
         ensures again { IfOk result (λ bytes. vec_of D.digest bytes.items ≡ Ok self.now) }
         ensures too_large { (result ≡ Err EncodeError.TooLarge) ↔ (2 ^ 32 ≤ length self.now) }
+        ensures fits { OnOk result (length self.now < 2 ^ 32) }
     {
         let message = self.to_message()?;
         Ok(message.encode(*self.tree.allocator())?)
@@ -92,8 +94,8 @@ impl<D: SupportedDigest, V: VisitBytes, A: Allocator + Copy> VecLog<D, V, A> {
 // The digests of these bytes.
 fn read_tree<D, A: Allocator>(alloc: A, tree: &[Vec<u8, A>]) -> Result<Vec<Hash<D>, A>, DecodeError>
     ensures ok { IfOk result (λ hashes. hashes.items ≡ map (λ v. v.items) tree.now) }
-    ensures good { IfOk result (λ hashes. are_digests (map (λ v. v.items) tree.now) ≡ true) }
-    ensures fault { IfErr result (λ e. (e ≡ DecodeError.Memory) ⊎ ((e ≡ DecodeError.HashLength) × (are_digests (map (λ v. v.items) tree.now) ≡ false))) }
+    ensures good { IfOk result (λ hashes. first_fault digest_fault (map (λ v. v.items) tree.now) ≡ None) }
+    ensures fault { IfErr result (λ e. (e ≡ DecodeError.Memory) ⊎ ((e ≡ DecodeError.HashLength) × (first_fault digest_fault (map (λ v. v.items) tree.now) ≡ Some e))) }
 {
     let mut hashes = Vec::new(alloc);
     'places: for digest in tree {

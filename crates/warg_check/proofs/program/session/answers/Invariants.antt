@@ -1,10 +1,10 @@
-use Rattle.std.proofs.Common.{◌≤◌, ◌+◌, length, string_bytes}
+use Rattle.std.proofs.Common.{◌≤◌, ◌+◌, length}
 use Rattle.warg_check.proofs.TextLemmas.{Stands}
 use Rattle.warg_check.proofs.program.session.answers.Given as goal
 
 abbrev pub invariant-loop-rest : goal.invariant-loop-rest
 invariant-loop-rest g l = record {
-  stands : Stands l.input l.rest l.session.log (string_bytes l.session.text) l.number;
+  stands : Stands l.input l.rest l.session l.number;
   few : l.number + length l.rest ≤ length l.input;
 }
 

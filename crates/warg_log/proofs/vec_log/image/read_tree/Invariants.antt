@@ -1,9 +1,9 @@
 use Rattle.std.proofs.Common.{◌≡◌, map, take, drop}
-use Rattle.warg_log.specs.Images.{are_digests}
+use Rattle.warg_log.specs.Decoding.{first_fault, digest_fault}
 use Rattle.warg_log.proofs.vec_log.image.read_tree.Given as goal
 
 abbrev pub invariant-places : goal.invariant-places
 invariant-places g l = record {
   read : l.hashes.items ≡ map (λ v. v.items) (take l.digest-index l.tree);
-  good : are_digests (map (λ v. v.items) l.tree) ≡ are_digests (map (λ v. v.items) (drop l.digest-index l.tree));
+  good : first_fault digest_fault (map (λ v. v.items) l.tree) ≡ first_fault digest_fault (map (λ v. v.items) (drop l.digest-index l.tree));
 }

@@ -46,7 +46,7 @@ returns-in-Empty-clause-answer g t c = rw c.in-Empty.is (contains_key-empty _)
 pub returns-in_ok-push-in-Fork-clause-answer : goal.returns-in_ok-push-in-Fork-clause-answer
 returns-in_ok-push-in-Fork-clause-answer g t c =
     let n = length-last_bits c.next.new.self.hash.now (256 - c.next.new.self.index) in
-    proves_in_fork g.D.SupportedDigest.digest c.args.self.now c.node.result.now _ _ (side_bit c.in-Some.side) _ c.in-Some-2.proof.peers.items _ _ c.index-in-Fork.result.now
+    proves_in_fork g.D.SupportedDigest.digest c.args.self.now c.node.result.now _ _ (side_bit c.in-Some.side) _ c.in-Some-2.proof _ _ c.index-in-Fork.result.now
     (is_fork c.in-Fork.is c.as_ref-fork.ensures) c.requires.well_formed c.in-Some.ensures.steps.bits (omega (arith, n, c.requires.height, c.in-Some.ensures.steps.index)) (search rules)
     (c.index-in-Fork.ensures ∙ ap (λ b. cond b c.as_ref-fork.result.now.right c.as_ref-fork.result.now.left) c.opposite.ensures)
     (c.copied.ensures ∙ c.hash.ensures) (rw c.in-Some-2.is at c.in_ok-proof-in-Fork.ensures.answer) c.in_ok-push-in-Fork.ensures
@@ -64,7 +64,7 @@ returns-in_ok-push_empties-in-Stem-clause-answer g t c =
     let hash = c.args.path.hash.now in
     let all : c.shared_with-in-Stem.result ≡ c.as_ref-stem.result.now.len = omega (arith, c.shared_with-in-Stem.ensures.at_most, c.if-shared_with-stem.false) in
     let same : bits_from s.key i s.len ≡ bits_from hash i s.len = ap (bits_from s.key i) (sym all) ∙ c.shared_with-in-Stem.ensures.same ∙ ap (bits_from hash i) all in
-    proves_stem g.D.SupportedDigest.digest c.args.self.now c.node-in-Stem.result.now _ _ _ hash i s.len c.advance.new.self.index _ c.in-Some-3.proof.peers.items _ (is_stem c.in-Stem.is c.as_ref-stem.ensures) c.requires.well_formed
+    proves_stem g.D.SupportedDigest.digest c.args.self.now c.node-in-Stem.result.now _ _ _ hash i s.len c.advance.new.self.index _ c.in-Some-3.proof _ (is_stem c.in-Stem.is c.as_ref-stem.ensures) c.requires.well_formed
     refl c.requires.height refl same
     c.node-in-Stem.ensures.seen (ap (λ y. last_bits y (256 - c.advance.new.self.index)) c.advance.ensures.digest) c.advance.ensures.index refl
     (length-last_bits c.advance.new.self.hash.now (256 - c.advance.new.self.index)) (rw c.in-Some-3.is at c.in_ok-proof-in-Stem.ensures.answer) c.in_ok-push_empties-in-Stem.ensures
@@ -75,5 +75,5 @@ returns-in_ok-push_empties-in-Stem-clause-few g t c =
     let hs : height_of c.args.self.now ≡ c.as_ref-stem.result.now.below.0 + c.as_ref-stem.result.now.len = ap height_of (is_stem c.in-Stem.is c.as_ref-stem.ensures) in
     let hb : height_of c.node-in-Stem.result.now ≡ c.as_ref-stem.result.now.below.0 = ap (λ d. d.0) c.node-in-Stem.ensures.seen in
     let few = rw c.in-Some-3.is at c.in_ok-proof-in-Stem.ensures.few in
-    let e = ap length c.in_ok-push_empties-in-Stem.ensures ∙ length_peers c.in-Some-3.proof.peers.items _ ∙ ap (λ j. length c.in-Some-3.proof.peers.items + j) (length-empty_peers H _ c.as_ref-stem.result.now.len) in
+    let e = ap length c.in_ok-push_empties-in-Stem.ensures ∙ length_peers c.in-Some-3.proof _ ∙ ap (λ j. length c.in-Some-3.proof + j) (length-empty_peers H _ c.as_ref-stem.result.now.len) in
     omega (arith, hs, hb, few, e)

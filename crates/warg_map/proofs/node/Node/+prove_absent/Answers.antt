@@ -86,7 +86,7 @@ returns-in-Empty-clause-answer g t c = absent_nothing g.D.SupportedDigest.digest
 pub returns-in_ok-push-in-Fork-clause-answer : goal.returns-in_ok-push-in-Fork-clause-answer
 returns-in_ok-push-in-Fork-clause-answer g t c =
     let n = length-last_bits c.next.new.self.hash.now (256 - c.next.new.self.index) in
-    absent_in_fork g.D.SupportedDigest.digest c.args.self.now c.node.result.now _ _ (side_bit c.in-Some.side) _ c.in_ok-proof-in-Fork.proof.peers.items _ _ c.index-in-Fork.result.now
+    absent_in_fork g.D.SupportedDigest.digest c.args.self.now c.node.result.now _ _ (side_bit c.in-Some.side) _ c.in_ok-proof-in-Fork.proof _ _ c.index-in-Fork.result.now
     (is_fork c.in-Fork.is c.as_ref-fork.ensures) c.requires.well_formed c.in-Some.ensures.steps.bits (omega (arith, n, c.requires.height, c.in-Some.ensures.steps.index)) (search rules)
     (c.index-in-Fork.ensures ∙ ap (λ b. cond b c.as_ref-fork.result.now.right c.as_ref-fork.result.now.left) c.opposite.ensures)
     (c.copied.ensures ∙ c.hash-far.ensures) c.in_ok-proof-in-Fork.ensures.answer c.in_ok-push-in-Fork.ensures
@@ -117,5 +117,5 @@ returns-in_ok-push_missing-in-Stem-clause-answer g t c =
     let hash = c.args.path.hash.now in
     let all : c.shared_with-shared-in-Stem.result ≡ c.as_ref-stem.result.now.len = omega (arith, c.shared_with-shared-in-Stem.ensures.at_most, c.if-shared-stem.false) in
     let same : bits_from s.key i s.len ≡ bits_from hash i s.len = ap (bits_from s.key i) (sym all) ∙ c.shared_with-shared-in-Stem.ensures.same ∙ ap (bits_from hash i) all in
-    absent_below g.D.SupportedDigest.digest c.args.self.now c.node-in-Stem.result.now _ _ _ hash i s.len c.advance.new.self.index c.in_ok-proof-in-Stem.proof.peers.items _ (is_stem c.in-Stem.is c.as_ref-stem.ensures) c.requires.well_formed refl c.requires.height refl same
+    absent_below g.D.SupportedDigest.digest c.args.self.now c.node-in-Stem.result.now _ _ _ hash i s.len c.advance.new.self.index c.in_ok-proof-in-Stem.proof _ (is_stem c.in-Stem.is c.as_ref-stem.ensures) c.requires.well_formed refl c.requires.height refl same
     c.node-in-Stem.ensures.seen (ap (λ y. last_bits y (256 - c.advance.new.self.index)) c.advance.ensures.digest) c.advance.ensures.index c.in_ok-proof-in-Stem.ensures.answer c.in_ok-push_missing-in-Stem.ensures

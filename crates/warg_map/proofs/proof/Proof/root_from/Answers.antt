@@ -9,7 +9,7 @@ loop-side-init g c =
     let H = g.D.SupportedDigest.digest in (
       omega (arith, c.new-path.ensures.index),
       c.new-path.ensures.digest ∙ c.copied.ensures,
-      sym (proof_value-none H c.args.self.now.peers.items c.args.leaf c.args.key.now),
+      sym (proof_value-none H c.args.self.now c.args.leaf c.args.key.now),
       c.empty_tree_hash-empty.ensures,
     )
 
@@ -18,7 +18,7 @@ loop-side-preserved g c =
     let H = g.D.SupportedDigest.digest in
     let i = c.loop-side.height in
     let key = c.args.key.now in
-    let ps = c.args.self.now.peers.items in
+    let ps = c.args.self.now in
     let inv = c.loop-side.invariant in
     let step = c.in-Some.ensures.steps in
     let lt : c.loop-side.height < 256 = omega (arith, c.loop-side.invariant.0, c.in-Some.ensures.steps.index) in
@@ -36,4 +36,4 @@ loop-side-preserved g c =
 pub returns : goal.returns
 returns g c =
     let top : c.loop-side.height ≡ 256 = omega (arith, c.loop-side.invariant.0, c.in_default.ensures.steps.index.0) in
-    c.loop-side.invariant.2 ∙ ap (λ n. proof_value g.D.SupportedDigest.digest c.args.self.now.peers.items c.args.leaf (last_bits c.args.key.now n)) top
+    c.loop-side.invariant.2 ∙ ap (λ n. proof_value g.D.SupportedDigest.digest c.args.self.now c.args.leaf (last_bits c.args.key.now n)) top

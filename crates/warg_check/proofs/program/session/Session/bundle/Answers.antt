@@ -1,9 +1,9 @@
-use Rattle.std.proofs.Common.{◌∷◌, ◌++◌, [], ◌∙◌, sym, ap, codes, append_assoc, string_bytes}
+use Rattle.std.proofs.Common.{◌∷◌, ◌++◌, [], ◌∙◌, sym, ap, string_bytes}
 use Rattle.warg_check.proofs.BundledLemmas.{bundle_answer, too_new_answer, too_large_answer, not_known_answer}
 use Rattle.warg_check.proofs.program.session.Session.bundle.Goals as goal
 
 pub returns-in_ok-encode-in-Ok-clause-ok : goal.returns-in_ok-encode-in-Ok-clause-ok
-returns-in_ok-encode-in-Ok-clause-ok g c entries is =
+returns-in_ok-encode-in-Ok-clause-ok g c s at =
     let proof = c.prove_inclusion.ensures in
     let made = c.in-Ok.ensures in
     let b = c.in-Ok.bundle in
@@ -13,44 +13,48 @@ returns-in_ok-encode-in-Ok-clause-ok g c entries is =
     let length_is = rw (none, proofs, proof.leaf, proof.log_length) at made.length in
     let no_lengths = rw none at made.old_lengths in
     let one_node = rw (proofs, proof.leaf) at made.nodes in
-    let answered = bundle_answer c.args.self.now.log entries b c.args.node c.args.log_length.now.value is length_is no_lengths one_node made.ascending made.exactly made.source in
+    let answered = bundle_answer c.args.self.now.log s b c.args.node c.args.log_length.now.value at.log_is length_is no_lengths one_node made.ascending made.exactly made.source in
     record {
-      log_is = shown.log ∙ is;
-      text_is = shown.ok ∙ ap (λ text. string_bytes c.args.self.now.text ++ text ++ 10 ∷ []) (sym answered);
+      log_is = shown.ok.0 ∙ at.log_is;
+      map_is = shown.ok.1 ∙ at.map_is;
+      text_is = shown.ok.2 ∙ ap (λ text. string_bytes c.args.self.now.text ++ (text ++ 10 ∷ [])) (sym answered);
     }
 
 pub returns-in_ok-writeln-in-Err-Inclusion-clause-ok : goal.returns-in_ok-writeln-in-Err-Inclusion-clause-ok
-returns-in_ok-writeln-in-Err-Inclusion-clause-ok g c entries is =
+returns-in_ok-writeln-in-Err-Inclusion-clause-ok g c s at =
     let proof = c.prove_inclusion.ensures in
     let proofs = c.in_ok-proofs.ensures.items in
     let none = c.new.ensures.items in
     let told = rw (none, proofs, proof.leaf, proof.log_length, c.in-Err-Inclusion.field-0-is) at c.in-Err-Inclusion.ensures.fault in
-    let answered = too_new_answer _ entries c.args.node c.args.log_length.now.value _ told in
+    let answered = too_new_answer _ s c.args.node c.args.log_length.now.value _ told in
     record {
-      log_is = is;
-      text_is = rw answered (c.in_ok-writeln-in-Err-Inclusion.ensures.bytes ∙ sym (append_assoc _ (codes "refused leaf too new") (10 ∷ [])));
+      log_is = at.log_is;
+      map_is = at.map_is;
+      text_is = rw answered c.in_ok-writeln-in-Err-Inclusion.ensures.bytes;
     }
 
 pub returns-in_ok-writeln-in-Err-TooLarge-clause-ok : goal.returns-in_ok-writeln-in-Err-TooLarge-clause-ok
-returns-in_ok-writeln-in-Err-TooLarge-clause-ok g c entries is =
+returns-in_ok-writeln-in-Err-TooLarge-clause-ok g c s at =
     let proof = c.prove_inclusion.ensures in
     let proofs = c.in_ok-proofs.ensures.items in
     let none = c.new.ensures.items in
     let told = rw (none, proofs, proof.leaf, proof.log_length, c.in-Err-TooLarge.field-0-is) at c.in-Err-TooLarge.ensures.fault in
-    let answered = too_large_answer _ entries c.args.node c.args.log_length.now.value told in
+    let answered = too_large_answer _ s c.args.node c.args.log_length.now.value told in
     record {
-      log_is = is;
-      text_is = rw answered (c.in_ok-writeln-in-Err-TooLarge.ensures.bytes ∙ sym (append_assoc _ (codes "refused too large") (10 ∷ [])));
+      log_is = at.log_is;
+      map_is = at.map_is;
+      text_is = rw answered c.in_ok-writeln-in-Err-TooLarge.ensures.bytes;
     }
 
 pub returns-in_ok-writeln-in-Err-HashNotFound-clause-ok : goal.returns-in_ok-writeln-in-Err-HashNotFound-clause-ok
-returns-in_ok-writeln-in-Err-HashNotFound-clause-ok g c entries is =
+returns-in_ok-writeln-in-Err-HashNotFound-clause-ok g c s at =
     let proof = c.prove_inclusion.ensures in
     let proofs = c.in_ok-proofs.ensures.items in
     let none = c.new.ensures.items in
     let told = rw (none, proofs, proof.leaf, proof.log_length, c.in-Err-HashNotFound.field-0-is) at c.in-Err-HashNotFound.ensures.fault in
-    let answered = not_known_answer c.args.self.now.log entries c.args.node c.args.log_length.now.value is told in
+    let answered = not_known_answer c.args.self.now.log s c.args.node c.args.log_length.now.value at.log_is told in
     record {
-      log_is = is;
-      text_is = rw answered (c.in_ok-writeln-in-Err-HashNotFound.ensures.bytes ∙ sym (append_assoc _ (codes "refused hash not known") (10 ∷ [])));
+      log_is = at.log_is;
+      map_is = at.map_is;
+      text_is = rw answered c.in_ok-writeln-in-Err-HashNotFound.ensures.bytes;
     }

@@ -1,4 +1,4 @@
-use Rattle.std.proofs.Common.{◌≡◌, ◌∷◌, ◌++◌, [], ◌∙◌, sym, ap, codes, append_assoc, string_bytes, Err}
+use Rattle.std.proofs.Common.{◌≡◌, ◌∙◌, sym, ap, string_bytes, refl, Err}
 use Rattle.hex.specs.Hex.{encode_lower}
 use Rattle.warg_log.specs.declared.error.EncodeError.TheVariants.{TooLarge}
 use Rattle.warg_check.proofs.BundledLemmas.{bytes_shown, too_large_shown}
@@ -12,9 +12,9 @@ returns-in_ok-writeln-in-Ok-clause-ok g c =
     let was = c.in-Ok.is in
     let shown = bytes_shown b (c.encode.result ≡ Err TooLarge) bytes c.encode.ensures.too_large (λ e. cc) c.in-Ok.ensures.written in
     let are : encode_lower bytes ≡ digits = sym (rw c.as_slice.ensures.value at c.in_ok-digits-in-Ok.ensures) in
-    rw (shown, are) (c.in_ok-writeln-in-Ok.ensures.bytes ∙ sym (append_assoc _ (codes "bundle " ++ digits) (10 ∷ [])))
+    rw (shown, are) (refl, refl, c.in_ok-writeln-in-Ok.ensures.bytes)
 
 pub returns-in_ok-writeln-in-Err-TooLarge-clause-ok : goal.returns-in_ok-writeln-in-Err-TooLarge-clause-ok
 returns-in_ok-writeln-in-Err-TooLarge-clause-ok g c =
     let shown = too_large_shown c.args.bundle.now (c.encode.result ≡ Err TooLarge) c.encode.ensures.too_large (c.in-Err-TooLarge.is ∙ ap Err c.in-Err-TooLarge.field-0-is) in
-    rw shown (c.in_ok-writeln-in-Err-TooLarge.ensures.bytes ∙ sym (append_assoc _ (codes "refused too large") (10 ∷ [])))
+    rw shown (refl, refl, c.in_ok-writeln-in-Err-TooLarge.ensures.bytes)

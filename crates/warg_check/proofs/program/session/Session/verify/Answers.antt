@@ -1,14 +1,14 @@
-use Rattle.std.proofs.Common.{◌∷◌, [], ◌∙◌, sym, codes, append_assoc}
 use Rattle.warg_check.specs.Text.{answer}
 use Rattle.warg_check.proofs.TextLemmas.{not_decoded}
 use Rattle.warg_check.proofs.program.session.Session.verify.Goals as goal
 
 pub returns-in_ok-writeln-in-Err-Decode-clause-ok : goal.returns-in_ok-writeln-in-Err-Decode-clause-ok
 unfolding answer
-returns-in_ok-writeln-in-Err-Decode-clause-ok g c entries is =
+returns-in_ok-writeln-in-Err-Decode-clause-ok g c s at =
     let told = rw (c.in-Err-Decode.is, c.in-Err-Decode.field-0-is, c.as_slice.ensures.value) at c.check_inclusion.ensures.verdict in
     let refused = not_decoded _ _ told in
     record {
-      log_is = is;
-      text_is = rw refused (c.in_ok-writeln-in-Err-Decode.ensures.bytes ∙ sym (append_assoc _ (codes "refused not decoded") (10 ∷ [])));
+      log_is = at.log_is;
+      map_is = at.map_is;
+      text_is = rw refused c.in_ok-writeln-in-Err-Decode.ensures.bytes;
     }

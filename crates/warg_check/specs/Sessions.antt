@@ -1,0 +1,39 @@
+-- What the methods of a session do, by the states that its log and its map stand for.
+use Rattle.std.specs.Prelude.{◌≡◌, ℕ, List, [], ◌∷◌, ◌++◌, string_bytes}
+use Rattle.warg_check.specs.Orders.{Order, Line}
+use Rattle.warg_check.specs.States.{State, log_at, map_at, after, after_line, FindsFull}
+use Rattle.warg_check.specs.Text.{answer, said}
+use Rattle.warg_check.specs.Errors.{IsRefusal, LineFindsFull}
+use Rattle.warg_check.specs.declared.program.RunError.{RunError}
+use Rattle.warg_check.specs.declared.program.session.Session.{Session}
+
+-- The session's log and map are those of a state.
+pub record StandsAt {A : Type 0} (session : Session A) (s : State) : Type 0 where
+  pub log_is : session.log ≡ log_at s
+  pub map_is : session.map ≡ map_at s
+
+-- From a state's log and map the session went on to those of another state, and added text.
+pub record GoesOn {A : Type 0} (old new : Session A) (s : State) (added : List ℕ) : Type 0 where
+  pub log_is : new.log ≡ log_at s
+  pub map_is : new.map ≡ map_at s
+  pub text_is : string_bytes new.text ≡ string_bytes old.text ++ added
+
+-- The session answered an order, at whatever state it stood.
+abbrev pub Answers : {A : Type 0} → Session A → Session A → Order → Type 0
+Answers old new order = (s : State) → StandsAt old s → GoesOn old new (after s order) (answer s order ++ 10 ∷ [])
+
+-- The session took the line of a number, at whatever state it stood.
+abbrev pub Takes : {A : Type 0} → Session A → Session A → ℕ → Line → Type 0
+Takes old new number line = (s : State) → StandsAt old s → GoesOn old new (after_line s line) (said number s line)
+
+-- The order was refused, at whatever state the session stood.
+abbrev pub Refuses : {A : Type 0} → Session A → Order → RunError → Type 0
+Refuses old order error = (s : State) → StandsAt old s → IsRefusal (FindsFull s order) error
+
+-- The line was refused, at whatever state the session stood.
+abbrev pub RefusesLine : {A : Type 0} → Session A → Line → RunError → Type 0
+RefusesLine old line error = (s : State) → StandsAt old s → IsRefusal (LineFindsFull s line) error
+
+-- The session only added text.
+abbrev pub Adds : {A : Type 0} → Session A → Session A → List ℕ → Type 0
+Adds old new added = (new.log ≡ old.log) × (new.map ≡ old.map) × (string_bytes new.text ≡ string_bytes old.text ++ added)

@@ -1,0 +1,147 @@
+//! Proofs of a map together.
+
+ghost use Rattle.std.specs.Prelude.{◌≡◌, ◌≢◌, ◌⊎◌, [], None, Some, Ok, Err, IfOk, IfErr, map};
+ghost use Rattle.warg_protobuf.specs.declared.error.WireError.TheVariants as wire;
+ghost use Rattle.warg_protobuf.specs.MapInclusionProof.{proof_view};
+ghost use Rattle.warg_protobuf.specs.MapProofBundle.{map_view, map_bytes};
+ghost use Rattle.warg_log.specs.Decoding.{Reads, first_fault};
+ghost use Rattle.warg_map.specs.Bundles.{proof_fault, bundle_in, bundle_of};
+
+use crate::proof::Proof;
+use std::alloc::{AllocError, Allocator, Global};
+use std::marker::Model;
+use warg_log::{DecodeError, EncodeError};
+use warg_protobuf::{MapInclusionProof, MapProofBundle as Message};
+
+/// Proofs of keys that a map holds, and of keys that it doesn't hold, which are called absences.
+#[derive(Drop)]
+pub struct ProofBundle<D, K, V, A: Allocator = Global> {
+    proofs: Vec<Proof<D, K, V, A>, A>,
+    absences: Vec<Proof<D, K, V, A>, A>,
+}
+
+// Contracts see the bundle as its proofs and its absences, each as the list of its peers.
+impl<D, K, V, A: Allocator> Model for ProofBundle<D, K, V, A> {
+    ghost use Rattle.warg_protobuf.specs.MapProofBundle.{MapBundle};
+
+    ghost Value = { MapBundle };
+
+    ghost view = { λ b. record { proofs = b.proofs.items; absences = b.absences.items } };
+}
+
+impl<D, K, V, A: Allocator + Copy> ProofBundle<D, K, V, A> {
+    /// The bundle of these proofs in their order, and of no absences. It takes no memory.
+    pub fn bundle(proofs: Vec<Proof<D, K, V, A>, A>) -> Self
+        ensures proofs { result.proofs ≡ proofs.items }
+        ensures absences { result.absences ≡ [] }
+    {
+        let absences = Vec::new(*proofs.allocator());
+        ProofBundle::bundle_with(proofs, absences)
+    }
+
+    /// The bundle of these proofs and these absences, each in their order. It takes no memory.
+    pub fn bundle_with(
+        proofs: Vec<Proof<D, K, V, A>, A>,
+        absences: Vec<Proof<D, K, V, A>, A>,
+    ) -> Self
+        ensures proofs { result.proofs ≡ proofs.items }
+        ensures absences { result.absences ≡ absences.items }
+    {
+        ProofBundle { proofs, absences }
+    }
+
+    /// The bundle's proofs in order. The absences are dropped. It takes no memory.
+    pub fn unbundle(self) -> Vec<Proof<D, K, V, A>, A>
+        ensures { result.items ≡ self.proofs }
+    {
+        self.unbundle_all().0
+    }
+
+    /// The bundle's proofs and its absences, each in order. It takes no memory.
+    pub fn unbundle_all(self) -> (Vec<Proof<D, K, V, A>, A>, Vec<Proof<D, K, V, A>, A>)
+        ensures proofs { result.0.items ≡ self.proofs }
+        ensures absences { result.1.items ≡ self.absences }
+    {
+        (self.proofs, self.absences)
+    }
+
+    /// The bundle that a message holds.
+    ///
+    /// The faults are looked for proof by proof, and then absence by absence: at each the errors of
+    /// [`Proof::from_message`].
+    pub fn from_message(alloc: A, message: Message<A>) -> Result<Self, DecodeError>
+        ensures exact { Reads result (bundle_in (map_view message)) }
+        ensures message { IfOk result (λ bundle. bundle ≡ map_view message) }
+        ensures wire { (e : _) → result ≢ Err (DecodeError.Wire e) }
+    {
+        let proofs = read_proofs(alloc, message.proofs)?;
+        let absences = read_proofs(alloc, message.absences)?;
+        Ok(ProofBundle::bundle_with(proofs, absences))
+    }
+
+    /// Reads a bundle from the bytes of its message: the first fault of the message, and then that of
+    /// [`ProofBundle::from_message`], is the error.
+    pub fn decode(alloc: A, bytes: &[u8]) -> Result<Self, DecodeError>
+        ensures exact { Reads result (bundle_of bytes.now) }
+        ensures wire { result ≢ Err (DecodeError.Wire wire.Memory) }
+    {
+        let message = match Message::decode(alloc, bytes) {
+            Ok(message) => message,
+            Err(fault) => return Err(DecodeError::from(fault)),
+        };
+        ProofBundle::from_message(alloc, message)
+    }
+
+    /// The bundle's message, which holds the same bundle. It is never `TooLarge`.
+    pub fn to_message(&self, alloc: A) -> Result<Message<A>, EncodeError>
+        ensures ok { IfOk result (λ message. map_view message ≡ self.now) }
+        ensures again { IfOk result (λ message. bundle_in (map_view message) ≡ Ok self.now) }
+        ensures too_large { result ≢ Err EncodeError.TooLarge }
+    {
+        let proofs = messages(alloc, self.proofs.as_slice())?;
+        let absences = messages(alloc, self.absences.as_slice())?;
+        Ok(Message { proofs, absences })
+    }
+
+    /// Writes the bytes of the bundle's message, which are read as the same bundle. It is never `TooLarge`.
+    pub fn encode(&self, alloc: A) -> Result<Vec<u8, A>, EncodeError>
+        ensures written { IfOk result (λ bytes. bytes.items ≡ map_bytes self.now) }
+        ensures again { IfOk result (λ bytes. bundle_of bytes.items ≡ Ok self.now) }
+        ensures too_large { result ≢ Err EncodeError.TooLarge }
+    {
+        let message = self.to_message(alloc)?;
+        Ok(message.encode(alloc)?)
+    }
+}
+
+// The proofs that these messages hold.
+fn read_proofs<D, K, V, A: Allocator + Copy>(
+    alloc: A,
+    messages: Vec<MapInclusionProof<A>, A>,
+) -> Result<Vec<Proof<D, K, V, A>, A>, DecodeError>
+    ensures ok { IfOk result (λ proofs. proofs.items ≡ map proof_view messages.items) }
+    ensures good { IfOk result (λ proofs. first_fault proof_fault (map proof_view messages.items) ≡ None) }
+    ensures fault { IfErr result (λ e. (e ≡ DecodeError.Memory) ⊎ (first_fault proof_fault (map proof_view messages.items) ≡ Some e)) }
+    ensures wire { (e : _) → result ≢ Err (DecodeError.Wire e) }
+{
+    let mut proofs = Vec::new(alloc);
+    'messages: for message in messages {
+        proofs.push(Proof::from_message(alloc, message)?)?;
+    }
+    Ok(proofs)
+}
+
+// The messages of these proofs.
+fn messages<D, K, V, A: Allocator + Copy>(
+    alloc: A,
+    proofs: &[Proof<D, K, V, A>],
+) -> Result<Vec<MapInclusionProof<A>, A>, AllocError>
+    ensures ok { IfOk result (λ messages. map proof_view messages.items ≡ proofs.now) }
+    ensures good { IfOk result (λ messages. first_fault proof_fault proofs.now ≡ None) }
+{
+    let mut messages = Vec::new(alloc);
+    'proofs: for proof in proofs {
+        messages.push(proof.to_message(alloc)?)?;
+    }
+    Ok(messages)
+}
