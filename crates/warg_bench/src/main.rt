@@ -8,10 +8,10 @@ use crate::slow::Slow;
 use anyhow::Result;
 use std::env;
 use std::time::Instant;
-use warg_check::{check_consistency, check_inclusion};
+use warg_check::{check_consistency, check_inclusion, check_key, run};
 use warg_crypto::{Hash, Sha256, SupportedDigest};
 use warg_log::{LogBuilder, LogData, Node, ProofBundle, StackLog, VecLog, push_all};
-use warg_map::Map;
+use warg_map::{Map, Proof, ProofBundle as KeyBundle};
 use warg_protobuf::{HashEntry, LogProofBundle, MapInclusionProof, MapProofBundle, OptionalHash};
 use warg_witness::{witness_absent, witness_key, witness_value};
 
@@ -33,6 +33,7 @@ fn main(rt: HostRuntime) -> Result<()> {
     log_bundles(&rt)?;
     map_bundles(&rt)?;
     verdicts(&rt)?;
+    map_lines(&rt)?;
     witnesses(&rt)?;
     map_witnesses(&rt, 1_000, branch)?;
     map_witnesses(&rt, 10_000, branch)?;
@@ -271,6 +272,57 @@ fn maps(rt: &HostRuntime, count: usize) -> Result<()> {
         "map nodes at {count} keys: {nodes}, {} bytes a key",
         node_bytes(nodes, rounds).checked_div(rounds).unwrap_or(0)
     )?;
+    match list.first() {
+        Some(key) => key_verdicts(rt, &map, key, count),
+        None => Ok(()),
+    }
+}
+
+// A verdict on a key beside its two parts, the bundle's reading and the proof's evaluation.
+fn key_verdicts(
+    rt: &HostRuntime,
+    map: &Map<Sha256, Entry, Entry>,
+    key: &Entry,
+    count: usize,
+) -> Result<()> {
+    let Some(proof) = map.prove(*key)? else {
+        return Ok(());
+    };
+    let mut good = 0u32;
+    let start = Instant::now(rt)?;
+    for _ in 0..1_000u32 {
+        if proof.evaluate(key, key) == *map.root() {
+            good = good.saturating_add(1);
+        }
+    }
+    println!(rt;
+        "map evaluate at {count} keys: {} ns ({good} of 1000)",
+        each(rt, start, 1_000)?
+    )?;
+
+    let proofs: Vec<Proof<Sha256, Entry, Entry>> = vec![in rt.alloc(); proof]?;
+    let bytes = KeyBundle::bundle(proofs).encode(rt.alloc())?;
+    let start = Instant::now(rt)?;
+    for _ in 0..1_000u32 {
+        let _: KeyBundle<Sha256, Entry, Entry> = KeyBundle::decode(rt.alloc(), bytes.as_slice())?;
+    }
+    println!(rt;
+        "map bundle of {} bytes at {count} keys: decode {} ns",
+        bytes.len(),
+        each(rt, start, 1_000)?
+    )?;
+
+    let mut good = 0u32;
+    let start = Instant::now(rt)?;
+    for _ in 0..1_000u32 {
+        if check_key(rt.alloc(), bytes.as_slice(), 0, key, key, map.root())? {
+            good = good.saturating_add(1);
+        }
+    }
+    println!(rt;
+        "check_key at {count} keys: {} ns ({good} of 1000)",
+        each(rt, start, 1_000)?
+    )?;
     Ok(())
 }
 
@@ -388,6 +440,41 @@ fn consistency_verdicts(rt: &HostRuntime, log: &VecLog<Sha256, Entry>) -> Result
         "check_consistency of {} bytes at 100,000: {} ns ({good} of 1000)",
         bytes.len(),
         each(rt, start, 1_000)?
+    )?;
+    Ok(())
+}
+
+// The program on lines that insert, beside the insertions alone.
+fn map_lines(rt: &HostRuntime) -> Result<()> {
+    let list = entries(rt, 10_000)?;
+    let mut lines = Vec::new(rt.alloc());
+    for key in &list {
+        let digits = hex::encode(rt.alloc(), key.as_slice())?;
+        lines.extend_from_slice(b"insert ")?;
+        lines.extend_from_slice(digits.as_bytes())?;
+        lines.extend_from_slice(b" ")?;
+        lines.extend_from_slice(digits.as_bytes())?;
+        lines.extend_from_slice(b"\n")?;
+    }
+    lines.extend_from_slice(b"map\n")?;
+    let mut text = Vec::new(rt.alloc());
+    let start = Instant::now(rt)?;
+    let good = run(rt.alloc(), &mut lines.as_slice(), &mut text).is_ok_and(|good| good);
+    println!(rt;
+        "10,000 insert lines and map, end to end: {} ns ({good}, {} bytes written)",
+        each(rt, start, 1)?,
+        text.len()
+    )?;
+
+    let mut map: Map<Sha256, Entry, Entry> = Map::default(rt.alloc())?;
+    let start = Instant::now(rt)?;
+    for key in &list {
+        map = map.insert(*key, *key)?;
+    }
+    println!(rt;
+        "10,000 insertions: {} ns ({} keys)",
+        each(rt, start, 1)?,
+        map.len()
     )?;
     Ok(())
 }

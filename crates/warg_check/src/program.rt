@@ -61,10 +61,11 @@ const READS: u64 = 1 << 48;
 /// | `absent KEY` | `empty ROOT`, to which the key's absence leads, or `refused present` |
 ///
 /// A line that isn't one of these is answered by `bad line N`, N from 1, and nothing after it is read as
-/// a command. Empty lines are counted and not answered. BYTES is `-` for no bytes, or hexadecimal digits; numbers
-/// are decimal, and LENGTH, OLD and NEW at most 2^63. VALUE, BUNDLE and KEY are BYTES. ROOT has 64 hexadecimal
-/// digits, and `verify` judges the first inclusion proof in the bundle. `bundle` is refused as `leaf too new`, then as `too large` where LENGTH
-/// is above `u32::MAX`, then as `hash not known`, and then as `too large` where a node's number is above it.
+/// a command. Empty lines are counted and not answered. BYTES is `-` for no bytes, or hexadecimal digits; KEY,
+/// VALUE and BUNDLE are BYTES. Numbers are decimal, and LENGTH, OLD and NEW at most 2^63. ROOT has 64 hexadecimal
+/// digits. `verify` judges the first inclusion proof in the bundle. `bundle` is refused as `leaf too new`, then as
+/// `too large` where LENGTH is above `u32::MAX`, then as `hash not known`, and then as `too large` where a node's
+/// number is above it. To `absent` a key with a value without bytes counts as one that isn't held.
 ///
 /// On `Read`, `Memory` and `Full` nothing was written; on `Write` some of the text may be.
 pub fn run<A: Allocator + Copy, R: Read, W: Write>(

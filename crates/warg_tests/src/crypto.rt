@@ -4,7 +4,7 @@ ghost use Rattle.std.specs.Prelude.{◌≡◌, ◌↔◌, IsTrue};
 ghost use Rattle.std.specs.Ordering.{nat_cmp};
 ghost use Rattle.std.specs.Cmp.Lexicographic.{slice_cmp};
 
-use crate::digests::{L0, L1, L2, U2, U3, Z, hash_ending_in};
+use crate::digests::{L0, L1, L2, U2, U3, Z, all, hash_ending_in};
 use refusing::Refusing;
 use std::alloc::{AllocError, Global};
 use std::cmp::Ordering;
@@ -89,7 +89,7 @@ fn hashes_of_32_bytes(rt: HostRuntime) -> Result<(), Fail> {
         assert!(rt; is_hash_of_32(rt.alloc(), length)?, "{length}");
     }
     let hash = hash_ending_in::<Sum>(5);
-    assert!(rt; hash.len() == 32 && hash.bit_len() == 256);
+    assert!(rt; all(&[hash.len() == 32, hash.bit_len() == 256]));
     Ok(())
 }
 
@@ -100,7 +100,7 @@ fn hashes_compared(rt: HostRuntime) -> Result<(), Fail> {
     assert!(rt; compared(&low, &high) == (false, Ordering::Less));
     assert!(rt; compared(&high, &low.copied()) == (false, Ordering::Greater));
     assert!(rt; compared(&low, &low.clone()?) == (true, Ordering::Equal));
-    assert!(rt; low < high && hashed(&low) == hashed(&low.copied()));
+    assert!(rt; all(&[low < high, hashed(&low) == hashed(&low.copied())]));
     Ok(())
 }
 
@@ -162,7 +162,7 @@ fn is_refused(alloc: Global, growths: u64) -> Result<bool, Fail> {
 
 #[test]
 fn bytes_with_each_growth_refused(rt: HostRuntime) -> Result<(), Fail> {
-    assert!(rt; is_refused(rt.alloc(), 0)? && is_refused(rt.alloc(), 1)?);
+    assert!(rt; all(&[is_refused(rt.alloc(), 0)?, is_refused(rt.alloc(), 1)?]));
     assert!(rt; !is_refused(rt.alloc(), 9)?);
     Ok(())
 }
@@ -172,7 +172,12 @@ fn hashes_without_memory(rt: HostRuntime) -> Result<(), Fail> {
     let memory = Refusing::after(rt.alloc(), 1);
     let list = vec![in &memory; 7u8; 32]?;
     let hash = Hash::<Sha256>::of(&list);
-    assert!(rt; Hash::<Sha256>::try_from(list).is_ok() && hash.clone()? == hash);
-    assert!(rt; memory.left() == 0 && !memory.has_refused());
+    assert!(rt;
+        all(&[
+            Hash::<Sha256>::try_from(list).is_ok(),
+            hash.clone()? == hash
+        ])
+    );
+    assert!(rt; all(&[memory.left() == 0, !memory.has_refused()]));
     Ok(())
 }

@@ -56,6 +56,11 @@ pub(crate) fn hash_ending_in<D>(byte: u8) -> Hash<D> {
     Hash::from_array(bytes)
 }
 
+/// Whether all of these are true. Each of them is looked at.
+pub(crate) fn all(kept: &[bool]) -> bool {
+    !kept.contains(&false)
+}
+
 /// Takes all growths that are left, so that each further one is refused.
 pub(crate) fn exhaust(memory: &Refusing<Global>) {
     for _ in 0..memory.left() {

@@ -1,6 +1,6 @@
 //! The log: its own proofs at all lengths, what it holds, clones, comparison, and calls without memory.
 
-use crate::digests::{exhaust, hash_ending_in, hash_of};
+use crate::digests::{all, exhaust, hash_ending_in, hash_of};
 use refusing::Refusing;
 use std::alloc::Global;
 use std::test::Fail;
@@ -73,7 +73,7 @@ fn is_included(log: &TextLog, place: usize, length: usize, root: &Hash<Sha256>) 
 #[test]
 fn own_inclusion_proofs(rt: HostRuntime) -> Result<(), Fail> {
     let (log, roots) = texts(rt.alloc())?;
-    assert!(rt; log.length() == 25 && log.checkpoint().length() == 25);
+    assert!(rt; all(&[log.length() == 25, log.checkpoint().length() == 25]));
     for place in 0..25 {
         let mut length = 0usize;
         for root in &roots {
@@ -119,9 +119,16 @@ fn holds_what_exists(log: &ByteLog, number: usize) -> bool {
     let node = Node(number);
     let exists = node.exists_at_length(log.length());
     let held = log.hash_for(node);
-    log.has_hash(node) == exists
-        && held.is_some() == exists
-        && (!exists || held.as_ref() == log.as_ref().get(number))
+    let wanted = if exists {
+        log.as_ref().get(number)
+    } else {
+        None
+    };
+    all(&[
+        log.has_hash(node) == exists,
+        held.is_some() == exists,
+        held.as_ref() == wanted,
+    ])
 }
 
 #[test]
@@ -131,7 +138,12 @@ fn digests_of_nodes_that_exist(rt: HostRuntime) -> Result<(), Fail> {
     for number in 0..20 {
         assert!(rt; holds_what_exists(&log, number), "at {number}");
     }
-    assert!(rt; !log.has_hash(Node(usize::MAX)) && log.hash_for(Node(usize::MAX)).is_none());
+    assert!(rt;
+        all(&[
+            !log.has_hash(Node(usize::MAX)),
+            log.hash_for(Node(usize::MAX)).is_none()
+        ])
+    );
     Ok(())
 }
 
@@ -145,8 +157,13 @@ fn clones_grow_apart(rt: HostRuntime) -> Result<(), Fail> {
     let mut others = stack.clone()?;
     assert!(rt; push_all(&mut other, &["\x10"])? == push_all(&mut others, &["\x10"])?);
     assert!(rt; other.checkpoint().root() == hash_of(rt.alloc(), "U3")?);
-    assert!(rt; log.checkpoint().root() == hash_of(rt.alloc(), "U2")? && log.length() == 2);
-    assert!(rt; stack.checkpoint() == log.checkpoint() && other.length() == 3);
+    assert!(rt;
+        all(&[
+            log.checkpoint().root() == hash_of(rt.alloc(), "U2")?,
+            log.length() == 2
+        ])
+    );
+    assert!(rt; all(&[stack.checkpoint() == log.checkpoint(), other.length() == 3]));
     Ok(())
 }
 
@@ -164,8 +181,8 @@ fn checkpoints_are_ordered_by_root_then_length(rt: HostRuntime) -> Result<(), Fa
     let low = sums(rt.alloc(), &[1])?.checkpoint();
     let high = sums(rt.alloc(), &[9])?.checkpoint();
     let longer = sums(rt.alloc(), &[4, 4])?.checkpoint();
-    assert!(rt; low < high && longer.root() == high.root());
-    assert!(rt; high < longer && high != longer);
+    assert!(rt; all(&[low < high, longer.root() == high.root()]));
+    assert!(rt; all(&[high < longer, high != longer]));
     assert!(rt; low.clone()? == low);
     Ok(())
 }
@@ -174,13 +191,32 @@ fn checkpoints_are_ordered_by_root_then_length(rt: HostRuntime) -> Result<(), Fa
 fn proofs_compared(rt: HostRuntime) -> Result<(), Fail> {
     let log = sums(rt.alloc(), &[1, 2, 3])?;
     let proof = log.prove_inclusion(Node(2), 3);
-    assert!(rt; proof == proof.clone()? && proof.leaf() == Node(2) && proof.log_length() == 3);
     assert!(rt;
-        proof != log.prove_inclusion(Node(2), 4) && proof != log.prove_inclusion(Node(0), 3)
+        all(&[
+            proof == proof.clone()?,
+            proof.leaf() == Node(2),
+            proof.log_length() == 3
+        ])
+    );
+    assert!(rt;
+        all(&[
+            proof != log.prove_inclusion(Node(2), 4),
+            proof != log.prove_inclusion(Node(0), 3)
+        ])
     );
     let proof = log.prove_consistency(2, 3);
-    assert!(rt; proof == proof.clone()? && [proof.old_length(), proof.new_length()] == [2, 3]);
-    assert!(rt; proof != log.prove_consistency(3, 3) && proof != log.prove_consistency(2, 2));
+    assert!(rt;
+        all(&[
+            proof == proof.clone()?,
+            [proof.old_length(), proof.new_length()] == [2, 3]
+        ])
+    );
+    assert!(rt;
+        all(&[
+            proof != log.prove_consistency(3, 3),
+            proof != log.prove_consistency(2, 2)
+        ])
+    );
     Ok(())
 }
 
@@ -199,12 +235,16 @@ type Scarce<'a> = &'a Refusing<Global>;
 fn answers_alone(log: &ByteLog<Scarce<'_>>) -> bool {
     let proof = log.prove_inclusion(Node(2), 3);
     let consistency = log.prove_consistency(2, 3);
-    log.has_hash(Node(1))
-        && log.hash_for(Node(1)) == Some(hash_ending_in(4))
-        && proof.evaluate_value(log, &2) == Ok(hash_ending_in(8))
-        && proof.evaluate_hash(log, hash_ending_in(2)) == Ok(hash_ending_in(8))
-        && consistency.evaluate(log) == Ok((hash_ending_in(4), hash_ending_in(8)))
-        && log.checkpoint().root() == hash_ending_in(8)
+    let root = hash_ending_in(8);
+    let roots = consistency.evaluate(log);
+    all(&[
+        log.has_hash(Node(1)),
+        log.hash_for(Node(1)) == Some(hash_ending_in(4)),
+        proof.evaluate_value(log, &2).as_ref() == Ok(&root),
+        proof.evaluate_hash(log, hash_ending_in(2)).as_ref() == Ok(&root),
+        roots == Ok((hash_ending_in(4), log.checkpoint().root())),
+        log.checkpoint().root() == root,
+    ])
 }
 
 #[test]
@@ -214,9 +254,14 @@ fn a_log_s_calls_without_memory(rt: HostRuntime) -> Result<(), Fail> {
     push_all(&mut log, &[1, 2, 3])?;
     let walk = log.prove_inclusion(Node(2), 3).walk(&memory)?;
     exhaust(&memory);
-    assert!(rt; memory.left() == 0 && answers_alone(&log));
+    assert!(rt; all(&[memory.left() == 0, answers_alone(&log)]));
     assert!(rt; [walk.initial_walk_len(), walk.lower_broots()] == [1, 1]);
-    assert!(rt; walk.upper_broots() == 0 && walk.nodes() == [Node(0), Node(4)].as_slice());
+    assert!(rt;
+        all(&[
+            walk.upper_broots() == 0,
+            walk.nodes() == [Node(0), Node(4)].as_slice()
+        ])
+    );
     assert!(rt; VecLog::<Sum, u8, _>::default(&memory).length() == 0);
     assert!(rt; StackLog::<Sum, u8, _>::default(&memory).is_empty() && !memory.has_refused());
     Ok(())
@@ -228,13 +273,30 @@ fn given_digests_without_memory(rt: HostRuntime) -> Result<(), Fail> {
     let pairs = vec![in &memory; (Node(1), hash_ending_in(5)), (Node(4), hash_ending_in(7))]?;
     exhaust(&memory);
     let data: SparseLogData<Sum, u8, Scarce<'_>> = SparseLogData::from(pairs);
-    assert!(rt; data.has_hash(Node(4)) && !data.has_hash(Node(3)) && !data.has_hash(Node(5)));
-    assert!(rt; data.hash_for(Node(1)) == Some(hash_ending_in(5)) && !data.has_hash(Node(0)));
+    assert!(rt;
+        all(&[
+            data.has_hash(Node(4)),
+            !data.has_hash(Node(3)),
+            !data.has_hash(Node(5))
+        ])
+    );
+    assert!(rt;
+        all(&[
+            data.hash_for(Node(1)) == Some(hash_ending_in(5)),
+            !data.has_hash(Node(0))
+        ])
+    );
     let roots = data.prove_consistency(2, 3).evaluate(&data);
     assert!(rt; roots == Ok((hash_ending_in(5), hash_ending_in(13))));
     let root = data
         .prove_inclusion(Node(1), 3)
         .evaluate_hash(&data, hash_ending_in(9));
-    assert!(rt; root == Ok(hash_ending_in(17)) && memory.left() == 0 && !memory.has_refused());
+    assert!(rt;
+        all(&[
+            root == Ok(hash_ending_in(17)),
+            memory.left() == 0,
+            !memory.has_refused()
+        ])
+    );
     Ok(())
 }

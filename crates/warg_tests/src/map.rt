@@ -1,6 +1,6 @@
 //! Maps compared and hashed, and what stands after a refusal.
 
-use crate::digests::exhaust;
+use crate::digests::{all, exhaust};
 use refusing::Refusing;
 use std::alloc::{Allocator, Global};
 use std::cell::Cell;
@@ -35,27 +35,27 @@ fn hashed<A: Allocator>(map: &TextMap<A>) -> u64 {
 fn equal_maps(rt: HostRuntime) -> Result<(), Fail> {
     let nothing = grown(rt.alloc(), &[])?;
     let empty_value = grown(rt.alloc(), &[("foo", "")])?;
-    assert!(rt; empty_value == nothing && empty_value.len() == 1 && nothing.is_empty());
+    assert!(rt;
+        all(&[
+            empty_value == nothing,
+            empty_value.len() == 1,
+            nothing.is_empty()
+        ])
+    );
     assert!(rt; hashed(&empty_value) == hashed(&nothing));
     let pairs = [("foo", "bar"), ("baz", "bat")];
     let up = grown(rt.alloc(), &pairs)?;
     let down = nothing.extend(pairs.into_iter().rev())?;
-    assert!(rt; up == down && hashed(&up) == hashed(&down) && down.len() == 2);
+    assert!(rt; all(&[up == down, hashed(&up) == hashed(&down), down.len() == 2]));
     Ok(())
 }
 
 #[test]
 fn other_maps(rt: HostRuntime) -> Result<(), Fail> {
-    let maps = [
-        grown(rt.alloc(), &[])?,
-        grown(rt.alloc(), &[("foo", "bar")])?,
-        grown(rt.alloc(), &[("foo", "baz")])?,
-        grown(rt.alloc(), &[("foo", "bar"), ("baz", "bat")])?,
-    ];
-    for (place, map) in maps.iter().enumerate() {
-        for (other_place, other) in maps.iter().enumerate() {
-            assert!(rt; (map == other) == (place == other_place));
-        }
+    let map = grown(rt.alloc(), &[("foo", "bar")])?;
+    let others: [&[(Text, Text)]; 3] = [&[], &[("foo", "baz")], &[("foo", "bar"), ("baz", "bat")]];
+    for pairs in others {
+        assert!(rt; grown(rt.alloc(), pairs)? != map);
     }
     Ok(())
 }
@@ -66,7 +66,7 @@ fn equal_roots_of_weak_digests(rt: HostRuntime) -> Result<(), Fail> {
     let nothing = SumMap::default(rt.alloc())?;
     let lone = nothing.insert(&[3], &[9])?;
     let two = nothing.insert(&[1, 2], &[8])?.insert(&[4], &[1])?;
-    assert!(rt; lone == two && lone.len() == 1 && two.len() == 2);
+    assert!(rt; all(&[lone == two, lone.len() == 1, two.len() == 2]));
     Ok(())
 }
 
@@ -82,7 +82,12 @@ fn values_of_a_proof(rt: HostRuntime) -> Result<(), Fail> {
     ] {
         assert!(rt; (proof.evaluate(&key, &value) == *map.root()) == leads);
     }
-    assert!(rt; proof.evaluate_absent(&"baz") != *map.root() && map.prove("qux")?.is_none());
+    assert!(rt;
+        all(&[
+            proof.evaluate_absent(&"baz") != *map.root(),
+            map.prove("qux")?.is_none()
+        ])
+    );
     Ok(())
 }
 
@@ -100,76 +105,87 @@ fn calls_without_memory(rt: HostRuntime) -> Result<(), Fail> {
     let absence = map.prove_absence("qux")?.ok_or("absent")?;
     exhaust(&memory);
     let same = map.clone()?;
-    assert!(rt; same == map && hashed(&same) == hashed(&map) && same.root() == map.root());
-    assert!(rt; same.len() == 1 && !same.is_empty() && same.node_count() == 2);
-    assert!(rt; proof.peers().len() == 1 && proof.evaluate(&"foo", &"bar") == *same.root());
+    assert!(rt;
+        all(&[
+            same == map,
+            hashed(&same) == hashed(&map),
+            same.root() == map.root()
+        ])
+    );
+    assert!(rt; all(&[same.len() == 1, !same.is_empty(), same.node_count() == 2]));
+    assert!(rt;
+        all(&[
+            proof.peers().len() == 1,
+            proof.evaluate(&"foo", &"bar") == *same.root()
+        ])
+    );
     assert!(rt; absence.evaluate_absent(&"qux") == *same.root());
-    assert!(rt; Vec::from(proof).len() == 1 && Scarce::default(&memory)?.is_empty());
-    assert!(rt; memory.left() == 0 && !memory.has_refused());
+    assert!(rt;
+        all(&[
+            Vec::from(proof).len() == 1,
+            Scarce::default(&memory)?.is_empty()
+        ])
+    );
+    assert!(rt; all(&[memory.left() == 0, !memory.has_refused()]));
     Ok(())
 }
 
-// Pairs that say when they are dropped, with how many of them taken.
+const MORE: [(Text, Text); 3] = [("baz", "bat"), ("bar", "x"), ("foo", "qux")];
+
+// The pairs from a place on. When they are dropped, they say at which place.
 struct Pairs<'a> {
-    rest: &'a [(Text, Text)],
-    left: &'a Cell<Option<usize>>,
+    place: usize,
+    dropped_at: &'a Cell<Option<usize>>,
 }
 
 impl Drop for Pairs<'_> {
     fn drop(self) {
-        self.left.set(Some(self.rest.len()));
-        let Pairs { rest: _, left: _ } = self;
+        self.dropped_at.set(Some(self.place));
+        let Pairs {
+            place: _,
+            dropped_at: _,
+        } = self;
     }
 }
 
 impl Iterator for Pairs<'_> {
     type Item = (Text, Text);
 
-    ghost use Rattle.std.specs.Prelude.{length};
+    ghost use Rattle.std.specs.Prelude.{◌-◌};
     ghost use Rattle.std.specs.Iterator.{at_most};
 
-    ghost remaining = { λ s. at_most (length s.rest.now) };
+    ghost remaining = { λ s. at_most (3 - s.place) };
 
     fn next(&mut self) -> Option<(Text, Text)> {
-        let (first, rest) = self.rest.split_first()?;
-        self.rest = rest;
-        Some(*first)
+        let pair = MORE.get(self.place)?;
+        self.place += 1;
+        Some(*pair)
     }
 }
 
 // Whether a map of "foo" proves what it holds.
 fn proves_foo(map: &Scarce<'_>) -> Result<bool, Fail> {
     let proof = map.prove("foo")?.ok_or("held")?;
-    Ok(proof.evaluate(&"foo", &"bar") == *map.root() && map.len() == 1 && map.node_count() == 2)
+    let leads = proof.evaluate(&"foo", &"bar") == *map.root();
+    Ok(all(&[leads, map.len() == 1, map.node_count() == 2]))
 }
-
-const MORE: [(Text, Text); 3] = [("baz", "bat"), ("bar", "x"), ("foo", "qux")];
 
 // Whether an extension was refused. Then the map is what it was, and what is left of the iterator is dropped.
 fn is_refused(map: &Scarce<'_>, memory: &Refusing<Global>) -> Result<bool, Fail> {
-    let left = Cell::new(None);
+    let dropped_at = Cell::new(None);
     let pairs = Pairs {
-        rest: &MORE,
-        left: &left,
+        place: 0,
+        dropped_at: &dropped_at,
     };
-    match map.extend(pairs) {
-        Ok(all) => {
-            let whole = all.len() == 3 && left.get() == Some(0);
-            if whole {
-                Ok(false)
-            } else {
-                Err("another map")?
-            }
-        }
-        Err(error) => {
+    let extended = map.extend(pairs);
+    let place = dropped_at.get().ok_or("the iterator is kept")?;
+    match extended {
+        Ok(all) if all.len() == 3 && place == 3 => Ok(false),
+        Err(MapError::Memory) if place > 0 && memory.has_refused() => {
             memory.grant(99);
-            let kept = error == MapError::Memory && left.get().is_some() && proves_foo(map)?;
-            if kept {
-                Ok(true)
-            } else {
-                Err("not as it was")?
-            }
+            Ok(proves_foo(map)?)
         }
+        _ => Err("another end")?,
     }
 }
 
@@ -186,7 +202,7 @@ fn an_extension_with_each_growth_refused(rt: HostRuntime) -> Result<(), Fail> {
         }
         refusals = refusals.saturating_add(1);
     }
-    assert!(rt; refusals > 3 && refusals < 60);
+    assert!(rt; all(&[refusals > 3, refusals < 60]));
     Ok(())
 }
 

@@ -4,7 +4,7 @@ ghost use Rattle.std.specs.Prelude.{Ok};
 ghost use Rattle.warg_protobuf.specs.Reading.{Gives};
 ghost use Rattle.warg_protobuf.specs.LogProofBundle.{log_view};
 
-use crate::digests::{L0, bytes_of};
+use crate::digests::{L0, all, bytes_of};
 use refusing::Refusing;
 use std::alloc::{AllocError, Allocator, Global};
 use std::test::Fail;
@@ -39,12 +39,20 @@ fn fields_of_a_log_bundle(rt: HostRuntime) -> Result<(), Fail> {
     let bytes = bytes_of(rt.alloc(), "08ac02 12020102 1a0305ac02 2225 08ac02 1220 L0")?;
     let bundle = LogProofBundle::decode(rt.alloc(), &bytes)?;
     assert!(rt;
-        bundle.log_length == 300 && bundle.consistent_lengths.as_slice() == [1, 2].as_slice()
+        all(&[
+            bundle.log_length == 300,
+            bundle.consistent_lengths.as_slice() == [1, 2].as_slice()
+        ])
     );
     assert!(rt; bundle.included_indices.as_slice() == [5, 300].as_slice());
-    assert!(rt; is_entry(rt.alloc(), bundle.hashes.first(), 300)? && bundle.hashes.len() == 1);
+    assert!(rt;
+        all(&[
+            is_entry(rt.alloc(), bundle.hashes.first(), 300)?,
+            bundle.hashes.len() == 1
+        ])
+    );
     assert!(rt; written_and_read(rt.alloc(), &bundle)? == bundle);
-    assert!(rt; bundle != LogProofBundle::decode(rt.alloc(), &bytes[..3])?);
+    assert!(rt; bundle != LogProofBundle::decode(rt.alloc(), &[8, 5])?);
     Ok(())
 }
 
@@ -59,12 +67,12 @@ fn counted(proof: Option<&MapInclusionProof>) -> Option<(usize, usize)> {
 fn fields_of_a_map_bundle(rt: HostRuntime) -> Result<(), Fail> {
     let bytes = bytes_of(rt.alloc(), "0a26 0a00 0a22 0a20 L0 0a00 1204 0a020a00")?;
     let bundle = MapProofBundle::decode(rt.alloc(), &bytes)?;
-    assert!(rt; bundle.proofs.len() == 2 && bundle.absences.len() == 1);
+    assert!(rt; all(&[bundle.proofs.len() == 2, bundle.absences.len() == 1]));
     assert!(rt; counted(bundle.proofs.first()) == Some((2, 1)));
     assert!(rt; counted(bundle.proofs.last()) == Some((0, 0)));
     assert!(rt; counted(bundle.absences.first()) == Some((1, 1)));
     assert!(rt; bundle == MapProofBundle::decode(rt.alloc(), &bytes)?);
-    assert!(rt; bundle != MapProofBundle::decode(rt.alloc(), &bytes[..40])?);
+    assert!(rt; bundle != MapProofBundle::decode(rt.alloc(), &[10, 0])?);
     Ok(())
 }
 
@@ -72,12 +80,12 @@ fn fields_of_a_map_bundle(rt: HostRuntime) -> Result<(), Fail> {
 fn fields_of_log_images(rt: HostRuntime) -> Result<(), Fail> {
     let bytes = bytes_of(rt.alloc(), "0805 1224 0807 1220 L0 1200")?;
     let stack = StackLog::decode(rt.alloc(), &bytes)?;
-    assert!(rt; stack.length == 5 && stack.stack.len() == 2);
+    assert!(rt; all(&[stack.length == 5, stack.stack.len() == 2]));
     assert!(rt; is_entry(rt.alloc(), stack.stack.first(), 7)?);
     assert!(rt; stack == StackLog::decode(rt.alloc(), &bytes)?);
     let bytes = bytes_of(rt.alloc(), "0803 12020102 1200")?;
     let log = VecLog::decode(rt.alloc(), &bytes)?;
-    assert!(rt; log.length == 3 && log.tree.len() == 2);
+    assert!(rt; all(&[log.length == 3, log.tree.len() == 2]));
     let first = log.tree.first().map(|digest| digest.as_slice());
     assert!(rt; first == Some([1, 2].as_slice()));
     assert!(rt; log == VecLog::decode(rt.alloc(), &bytes)?);
@@ -90,6 +98,6 @@ fn nothing_is_reserved_by_an_announced_length(rt: HostRuntime) -> Result<(), Fai
     let log = StackLog::decode(&alloc, &[0x08, 0xff, 0xff, 0xff, 0xff, 0x0f])?;
     assert_eq!(rt; log.length, u32::MAX);
     let cut = VecLog::decode(&alloc, &[0x12, 0xff, 0xff, 0xff, 0xff, 0x07, 0]);
-    assert!(rt; cut == Err(WireError::Truncated) && !alloc.has_refused());
+    assert!(rt; all(&[cut == Err(WireError::Truncated), !alloc.has_refused()]));
     Ok(())
 }

@@ -5,6 +5,9 @@ mod checks;
 mod data;
 mod digests;
 mod logs;
+mod map_bundles;
+mod map_proofs;
+mod map_witnesses;
 mod maps;
 mod messages;
 mod nodes;
@@ -32,18 +35,33 @@ pub(crate) fn answer(words: &mut Words<'_>, answer: &mut Answer) -> Result<(), F
 fn is_answered(name: &str, words: &mut Words<'_>, to: &mut Answer) -> Result<bool, Fault> {
     Ok(
         nodes::answer(name, words, to)?
-            || logs::answer(name, words, to)?
-            || proofs::answer(name, words, to)?
-            || maps::answer(name, words, to)?
-            || witnesses::answer(name, words, to)?
-            || others(name, words, to)?,
+            || of_logs(name, words, to)?
+            || of_maps(name, words, to)?
+            || of_bytes(name, words, to)?,
     )
 }
 
-fn others(name: &str, words: &mut Words<'_>, to: &mut Answer) -> Result<bool, Fault> {
+fn of_logs(name: &str, words: &mut Words<'_>, to: &mut Answer) -> Result<bool, Fault> {
     Ok(
-        bundles::answer(name, words, to)?
-            || checks::answer(name, words, to)?
+        logs::answer(name, words, to)?
+            || proofs::answer(name, words, to)?
+            || bundles::answer(name, words, to)?
+            || witnesses::answer(name, words, to)?,
+    )
+}
+
+fn of_maps(name: &str, words: &mut Words<'_>, to: &mut Answer) -> Result<bool, Fault> {
+    Ok(
+        maps::answer(name, words, to)?
+            || map_proofs::answer(name, words, to)?
+            || map_bundles::answer(name, words, to)?
+            || map_witnesses::answer(name, words, to)?,
+    )
+}
+
+fn of_bytes(name: &str, words: &mut Words<'_>, to: &mut Answer) -> Result<bool, Fault> {
+    Ok(
+        checks::answer(name, words, to)?
             || messages::answer(name, words, to)?
             || values::answer(name, words, to)?
             || runs::answer(name, words, to)?,

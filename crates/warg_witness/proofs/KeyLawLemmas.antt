@@ -67,8 +67,8 @@ key_collides held long digest H peers key value insertions digests holds met unt
     let plain = plain_peers H (get (map_of H insertions)) bits in
     let last = value_in (last_under H bits insertions) in
     let found = parted_on_path H peers (leaf_digest H value) plain (leaf_digest H last) gives holds
-        (holds_plain H gives (get (map_of H insertions)) (λ q d e. holds_leaf H gives (last_under H q insertions) d (sym (held H q insertions) ∙ e)) bits)
-        (gives (0 ∷ value)) (gives (0 ∷ last)) bits (met ∙ sym (plain_root_is H insertions bits (long H key) (held H bits insertions))) in
+    (holds_plain H gives (get (map_of H insertions)) (λ q d e. holds_leaf H gives (last_under H q insertions) d (sym (held H q insertions) ∙ e)) bits)
+    (gives (0 ∷ value)) (gives (0 ∷ last)) bits (met ∙ sym (plain_root_is H insertions bits (long H key) (held H bits insertions))) in
     ⊎_elim
     (λ (target : found.0 ≡ Target). at_leaf found.0 found.1 target (last_under H bits insertions) refl)
     (λ (other : found.0 ≡ Target → ⊥). some_collision _ (branch_shown H peers key value insertions found.0 (long H key) (held H bits insertions) found.1 other))

@@ -39,9 +39,11 @@ pub next_bit : AllBits → (H : List ℕ → List ℕ) (key : List ℕ) (prefix 
     → (below : List Bool) × (rest ≡ bit_at (H key) (length prefix) ∷ below)
 next_bit long H key prefix [] e lt =
     absurd (let n = long H key in let m = ap length e in let k = length-append prefix [] in omega (arith, lt, n, m, k))
-next_bit long H key prefix (b ∷ below) e lt =
-    (below, ap (λ c. c ∷ below) (sym (sym (bits_from-at (H key) 0 256 (length prefix) lt ∙ ap (bit_at (H key)) (let z : 0 + length prefix ≡ length prefix = omega arith in z))
-    ∙ ap (λ q. get_or q (length prefix) false) e ∙ ap (λ j. get_or (prefix ++ b ∷ below) j false) (let z : length prefix ≡ length prefix + 0 = omega arith in z) ∙ at_seam prefix (b ∷ below) 0)))
+next_bit long H key prefix (b ∷ below) e lt = (
+  below,
+  ap (λ c. c ∷ below) (sym (sym (bits_from-at (H key) 0 256 (length prefix) lt ∙ ap (bit_at (H key)) (let z : 0 + length prefix ≡ length prefix = omega arith in z))
+      ∙ ap (λ q. get_or q (length prefix) false) e ∙ ap (λ j. get_or (prefix ++ b ∷ below) j false) (let z : length prefix ≡ length prefix + 0 = omega arith in z) ∙ at_seam prefix (b ∷ below) 0)),
+)
 
 -- bits after a common prefix
 bits_cmp-prefix : (prefix p q : List Bool) → bits_cmp (prefix ++ p) (prefix ++ q) ≡ bits_cmp p q
@@ -219,7 +221,7 @@ sorted_are H insertions keys sorted are moved up = record {
       let at = are.each place less in
       let count = are.count in
       let there = Contains-permutation keys sorted (H (key_at insertions place), place) moved
-          (place, omega (arith, less, count), get_or_default keys place (H (key_at insertions place), place) ([], 0) (omega (arith, less, count)) ∙ at) in
+      (place, omega (arith, less, count), get_or_default keys place (H (key_at insertions place), place) ([], 0) (omega (arith, less, count)) ∙ at) in
       (there.0, there.1, get_or_default sorted there.0 ([], 0) (H (key_at insertions place), place) there.1 ∙ there.2);
   ascending = λ i j le less. sorted_far (λ x y. is_lt (entry_cmp x y)) (ranks_by entry_total (λ x. x)) sorted up i j ([], 0) le less;
 }

@@ -88,7 +88,7 @@ last_with-fewer {X = X} p q h (x ∷ xs) y e is = later (last_with p xs) refl (�
         or_later (last_with q xs) (q x) x y (next (f ∙ ap Some same))
     later None f next =
         or_cases (λ z. q z ≡ true → option_or (last_with q xs) (cond (q x) (Some x) None) ≡ Some z) (last_with p xs) (p x) x y e (λ g. absurd (let n : None ≡ Some y = sym f ∙ g in cc))
-            (λ _ same r. or_this (last_with q xs) (q x) x (last_with-fewer_none p q h xs f) (ap q same ∙ r) ∙ ap Some same) is
+        (λ _ same r. or_this (last_with q xs) (q x) x (last_with-fewer_none p q h xs f) (ap q same ∙ r) ∙ ap Some same) is
 
 -- the same bits
 pub same_bits-itself : (q : List Bool) → same_bits q q ≡ true

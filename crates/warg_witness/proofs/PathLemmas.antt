@@ -121,8 +121,7 @@ parted_on_path H P x Q y gives holds holds' size size' (b ∷ bits) e =
         → (p : Part) × IsPathParting H P x Q y (b ∷ bits) p
     here other =
         let first = fork_is H P x b bits _ _ _ _ refl refl refl refl in
-        let second = fork_is H Q y b bits _ _ _ _ refl refl refl refl in
-        (
+        let second = fork_is H Q y b bits _ _ _ _ refl refl refl refl in (
           Branch (cond b (peer_of H P (length bits)) (proof_value H P x bits)) (cond b (proof_value H P x bits) (peer_of H P (length bits)))
               (cond b (peer_of H Q (length bits)) (proof_value H Q y bits)) (cond b (proof_value H Q y bits) (peer_of H Q (length bits))),
           record {

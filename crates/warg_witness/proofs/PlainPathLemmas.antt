@@ -96,6 +96,6 @@ plain_input_is H insertions bits prefix [] long held e = ap (λ q. 0 ∷ value_i
 plain_input_is H insertions bits prefix (b ∷ below) long held e =
     let all = length-plain_peers H (get (map_of H insertions)) bits ∙ long in
     let from = plain_after H (get (map_of H insertions)) prefix (b ∷ below) (plain_peers H (get (map_of H insertions)) bits) []
-        (ap (plain_peers H (get (map_of H insertions))) e ∙ sym (append-nil (plain_peers H (get (map_of H insertions)) (prefix ++ b ∷ below)))) in
+    (ap (plain_peers H (get (map_of H insertions))) e ∙ sym (append-nil (plain_peers H (get (map_of H insertions)) (prefix ++ b ∷ below)))) in
     below_prefix H (λ q. get (map_of H insertions) (prefix ++ q)) b below (plain_peers H (get (map_of H insertions)) bits) from.0 (leaf_digest H (value_in (last_under H bits insertions))) from.1 all
     (plain_leaf_is H insertions bits held ∙ ap (λ q. unwrap_or (get (map_of H insertions) q) (empty_root H 0)) e)

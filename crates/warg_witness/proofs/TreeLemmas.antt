@@ -66,8 +66,7 @@ pub last_is : LastHeld → AllBits → OrderOfBits → (H : List ℕ → List �
 last_is held long order H digests insertions prefix keys n size are count =
     let less : n < length keys = omega (arith, count) in
     let under = are.each n less in
-    let bits = whole_prefix long H (key_at insertions (entry_at keys n).1) prefix under.rest size under.begins in
-    (
+    let bits = whole_prefix long H (key_at insertions (entry_at keys n).1) prefix under.rest size under.begins in (
       under.within,
       last_with-at (λ e. same_bits prefix (key_bits H e.0)) insertions (entry_at keys n).1 ([], []) under.within (ap (same_bits prefix) bits ∙ same_bits-itself prefix)
           (λ j more less'. false_from_not _ (λ same.
@@ -81,10 +80,10 @@ last_is held long order H digests insertions prefix keys n size are count =
         → e ≡ (H (key_at insertions j), j) → last.1 < j → is_lt (entry_cmp last e) ≡ false → ⊥
     not_before last e j bits bits' digest is more up =
         let same : slice_cmp nat_cmp last.0 (H (key_at insertions j)) ≡ Equal =
-            ap (λ d. slice_cmp nat_cmp d (H (key_at insertions j))) digest ∙ sym (order H (key_at insertions last.1) (key_at insertions j) (digests _) (digests _))
-            ∙ ap (bits_cmp (key_bits H (key_at insertions last.1))) bits' ∙ ap (λ q. bits_cmp q prefix) bits ∙ itself prefix in
+        ap (λ d. slice_cmp nat_cmp d (H (key_at insertions j))) digest ∙ sym (order H (key_at insertions last.1) (key_at insertions j) (digests _) (digests _))
+        ∙ ap (bits_cmp (key_bits H (key_at insertions last.1))) bits' ∙ ap (λ q. bits_cmp q prefix) bits ∙ itself prefix in
         let lt : is_lt (entry_cmp last e) ≡ true =
-            ap (λ (f : List ℕ × ℕ). is_lt (entry_cmp last f)) is ∙ ap (λ o. is_lt (ordering_then o (nat_cmp last.1 j))) same ∙ nat_less last.1 j more in
+        ap (λ (f : List ℕ × ℕ). is_lt (entry_cmp last f)) is ∙ ap (λ o. is_lt (ordering_then o (nat_cmp last.1 j))) same ∙ nat_less last.1 j more in
         true_not_false (sym lt ∙ up)
       where
         true_not_false : true ≡ false → ⊥
@@ -138,8 +137,8 @@ peers_more H m key prefix depth b old below new far lt bit is beside more =
     let rest = last_bits key (256 - (depth + 1)) in
     let near : (λ q. get m ((prefix ++ b ∷ []) ++ q)) ≡ (λ q. get m (prefix ++ b ∷ q)) = λ i q. after_bit m prefix b q i in
     let other : root_of H (256 - (depth + 1)) (λ q. get m ((prefix ++ not b ∷ []) ++ q)) ≡ root_of H (length rest) (λ q. get m (prefix ++ not b ∷ q)) =
-        root-same H (256 - (depth + 1)) _ (λ q. get m (prefix ++ not b ∷ q)) (after_bit m prefix (not b))
-        ∙ ap (λ k. root_of H k (λ q. get m (prefix ++ not b ∷ q))) (sym (length-last_bits key (256 - (depth + 1)))) in
+    root-same H (256 - (depth + 1)) _ (λ q. get m (prefix ++ not b ∷ q)) (after_bit m prefix (not b))
+    ∙ ap (λ k. root_of H k (λ q. get m (prefix ++ not b ∷ q))) (sym (length-last_bits key (256 - (depth + 1)))) in
     more ∙ ap (λ t. t ++ Some far ∷ []) (is ∙ ap (λ f. old ++ plain_peers H f rest) near)
     ∙ append_assoc old (plain_peers H (λ q. get m (prefix ++ b ∷ q)) rest) (Some far ∷ [])
     ∙ ap (λ d. old ++ (plain_peers H (λ q. get m (prefix ++ b ∷ q)) rest ++ Some d ∷ [])) (beside ∙ other)
@@ -187,7 +186,7 @@ pub place_more : (H : List ℕ → List ℕ) (insertions : List (List ℕ × Lis
     → IsLastPlace H insertions ((prefix ++ b ∷ []) ++ last_bits key (256 - (depth + 1))) found → IsLastPlace H insertions (prefix ++ last_bits key (256 - depth)) found
 place_more H insertions key prefix depth b found lt bit last =
     let bits : prefix ++ last_bits key (256 - depth) ≡ (prefix ++ b ∷ []) ++ last_bits key (256 - (depth + 1)) =
-        ap (λ q. prefix ++ q) (bits_left-more key depth lt ∙ ap (λ c. c ∷ last_bits key (256 - (depth + 1))) (sym bit)) ∙ sym (append_assoc prefix (b ∷ []) (last_bits key (256 - (depth + 1)))) in
+    ap (λ q. prefix ++ q) (bits_left-more key depth lt ∙ ap (λ c. c ∷ last_bits key (256 - (depth + 1))) (sym bit)) ∙ sym (append_assoc prefix (b ∷ []) (last_bits key (256 - (depth + 1)))) in
     rw bits last
 
 pub length-push_bit : (prefix : List Bool) (b : Bool) (depth : ℕ) → length prefix ≡ depth → length (prefix ++ b ∷ []) ≡ depth + 1

@@ -155,9 +155,7 @@ fn find<D: SupportedDigest, K: VisitBytes, V: VisitBytes, W: VisitBytes, A: Allo
     if is_last_value(key, value, insertions)? {
         return Ok(Finding::Holds);
     }
-    Ok(Finding::Collision(collide(
-        alloc, &met, key, value, insertions,
-    )?))
+    Ok(Finding::Collision(collide(alloc, &met, key, value, insertions)?))
 }
 
 /// Whether a proof's claim about a key's value is true of the insertions: the value inserted last under the key's

@@ -5,7 +5,7 @@ use crate::each;
 use crate::each::{Call, Memory};
 use crate::words::{Fault, Words};
 use std::alloc::AllocError;
-use warg_check::{CheckError, check_consistency, check_inclusion};
+use warg_check::{CheckError, check_absent, check_consistency, check_inclusion, check_key};
 use warg_crypto::{Hash, Sha256};
 
 /// Answers the call of this name, or false where the name is none of these.
@@ -13,6 +13,8 @@ pub(super) fn answer(name: &str, words: &mut Words<'_>, to: &mut Answer) -> Resu
     match name {
         "check_inclusion" => each::answer::<CheckInclusion>(words, to)?,
         "check_consistency" => each::answer::<CheckConsistency>(words, to)?,
+        "check_key" => each::answer::<CheckKey>(words, to)?,
+        "check_absent" => each::answer::<CheckAbsent>(words, to)?,
         _ => return Ok(false),
     }
     Ok(true)
@@ -71,6 +73,58 @@ impl Call for CheckConsistency {
     fn answer<M: Memory>(&self, memory: M, answer: &mut Answer) -> Result<(), AllocError> {
         let bytes = self.bytes.as_slice();
         let verdict = check_consistency(memory, bytes, self.at, &self.old, &self.new);
+        write(verdict, answer)
+    }
+}
+
+#[derive(Drop)]
+struct CheckKey {
+    bytes: Vec<u8>,
+    at: usize,
+    key: Vec<u8>,
+    value: Vec<u8>,
+    root: Hash<Sha256>,
+}
+
+impl Call for CheckKey {
+    fn read(words: &mut Words<'_>) -> Result<CheckKey, Fault> {
+        Ok(CheckKey {
+            bytes: words.read()?,
+            at: words.read()?,
+            key: words.read()?,
+            value: words.read()?,
+            root: words.read()?,
+        })
+    }
+
+    fn answer<M: Memory>(&self, memory: M, answer: &mut Answer) -> Result<(), AllocError> {
+        let bytes = self.bytes.as_slice();
+        let verdict = check_key(memory, bytes, self.at, &self.key, &self.value, &self.root);
+        write(verdict, answer)
+    }
+}
+
+#[derive(Drop)]
+struct CheckAbsent {
+    bytes: Vec<u8>,
+    at: usize,
+    key: Vec<u8>,
+    root: Hash<Sha256>,
+}
+
+impl Call for CheckAbsent {
+    fn read(words: &mut Words<'_>) -> Result<CheckAbsent, Fault> {
+        Ok(CheckAbsent {
+            bytes: words.read()?,
+            at: words.read()?,
+            key: words.read()?,
+            root: words.read()?,
+        })
+    }
+
+    fn answer<M: Memory>(&self, memory: M, answer: &mut Answer) -> Result<(), AllocError> {
+        let bytes = self.bytes.as_slice();
+        let verdict = check_absent(memory, bytes, self.at, &self.key, &self.root);
         write(verdict, answer)
     }
 }

@@ -25,19 +25,19 @@ pub(super) fn answer(name: &str, words: &mut Words<'_>, to: &mut Answer) -> Resu
     Ok(true)
 }
 
-// A map from bytes to bytes.
-type BytesMap<'a, D, A> = Map<D, &'a [u8], &'a [u8], A>;
+/// A map from bytes to bytes.
+pub(super) type BytesMap<'a, D, A> = Map<D, &'a [u8], &'a [u8], A>;
 
-// A proof of such a map.
-type BytesProof<'a, D, A> = Proof<D, &'a [u8], &'a [u8], A>;
+/// A proof of such a map.
+pub(super) type BytesProof<'a, D, A> = Proof<D, &'a [u8], &'a [u8], A>;
 
-// A key, and the value that is inserted under it.
-type Insertion = (Vec<u8>, Vec<u8>);
+/// A key, and the value that is inserted under it.
+pub(super) type Insertion = (Vec<u8>, Vec<u8>);
 
-// The pairs that a map is made of, by insertion in order.
+/// The pairs that a map is made of, by insertion in order.
 #[derive(Drop)]
-struct Insertions<D> {
-    pairs: words::List<Insertion>,
+pub(super) struct Insertions<D> {
+    pub(super) pairs: words::List<Insertion>,
     digest: PhantomData<D>,
 }
 
@@ -82,8 +82,8 @@ fn grown_both_ways<'a, D: SupportedDigest, M: Memory>(
     Ok(map)
 }
 
-// The map of these pairs, inserted one by one.
-fn grown<'a, D: SupportedDigest, M: Memory>(
+/// The map of these pairs, inserted one by one.
+pub(super) fn grown<'a, D: SupportedDigest, M: Memory>(
     memory: M,
     pairs: &'a [Insertion],
 ) -> Result<BytesMap<'a, D, M>, Wrong> {

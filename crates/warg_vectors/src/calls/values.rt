@@ -1,16 +1,17 @@
 //! Values that are read from the bytes of their messages.
 
 use crate::answer::Answer;
-use crate::calls::bundles;
 use crate::calls::bundles::BytesBundle;
 use crate::calls::messages::Type;
 use crate::calls::wrong::Wrong;
+use crate::calls::{bundles, map_bundles};
 use crate::each;
 use crate::each::{Call, Memory};
 use crate::words::{Fault, Words};
 use std::alloc::AllocError;
 use warg_crypto::Sha256;
 use warg_log::{EncodeError, ProofBundle, StackLog, VecLog};
+use warg_map::MapProofBundle;
 
 /// Answers the call of this name, or false where the name is none of these.
 pub(super) fn answer(name: &str, words: &mut Words<'_>, to: &mut Answer) -> Result<bool, Fault> {
@@ -21,7 +22,7 @@ pub(super) fn answer(name: &str, words: &mut Words<'_>, to: &mut Answer) -> Resu
         Type::LogProofBundle => each::answer::<LogBundle>(words, to)?,
         Type::StackLog => each::answer::<StackImage>(words, to)?,
         Type::VecLog => each::answer::<VecImage>(words, to)?,
-        Type::MapProofBundle => return Ok(false),
+        Type::MapProofBundle => each::answer::<MapBundle>(words, to)?,
     }
     Ok(true)
 }
@@ -46,6 +47,34 @@ impl Call for LogBundle {
         );
         match read {
             Ok(bundle) => bundles::write_read(&bundle, memory, answer),
+            Err(fault) => answer.refusal(&fault),
+        }
+    }
+}
+
+// The bytes of a bundle of a map's proofs.
+#[derive(Drop)]
+struct MapBundle {
+    bytes: Vec<u8>,
+}
+
+impl Call for MapBundle {
+    fn read(words: &mut Words<'_>) -> Result<MapBundle, Fault> {
+        Ok(MapBundle {
+            bytes: words.read()?,
+        })
+    }
+
+    fn answer<M: Memory>(&self, memory: M, answer: &mut Answer) -> Result<(), AllocError> {
+        let read: Result<MapProofBundle<Sha256, Vec<u8>, Vec<u8>, M>, _> = MapProofBundle::decode(
+            memory,
+            self.bytes.as_slice(),
+        );
+        match read {
+            Ok(bundle) => match map_bundles::reread(bundle, memory) {
+                Ok(bytes) => answer.bytes(bytes.as_slice()),
+                Err(wrong) => wrong.write(answer),
+            },
             Err(fault) => answer.refusal(&fault),
         }
     }

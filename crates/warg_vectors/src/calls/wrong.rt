@@ -1,7 +1,7 @@
 //! What goes wrong in a call that goes on after a refusal.
 
 use crate::answer::Answer;
-use std::alloc::AllocError;
+use std::alloc::{AllocError, AllocFailed};
 use warg_log::{BundleError, DecodeError, EncodeError};
 use warg_map::MapError;
 
@@ -16,6 +16,12 @@ pub(super) enum Wrong {
 
 impl From<AllocError> for Wrong {
     fn from(_error: AllocError) -> Wrong {
+        Wrong::Memory
+    }
+}
+
+impl<T: Drop> From<AllocFailed<T>> for Wrong {
+    fn from(_error: AllocFailed<T>) -> Wrong {
         Wrong::Memory
     }
 }

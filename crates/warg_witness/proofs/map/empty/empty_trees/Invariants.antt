@@ -6,5 +6,5 @@ abbrev pub invariant-loop-height : goal.invariant-loop-height
 invariant-loop-height g l = record {
   count : length l.digests.items ≡ l.height;
   each : (height : ℕ) → height < l.height → get_or l.digests.items height [] ≡ empty_root g.D.SupportedDigest.digest height;
-  next : l.empty ≡ empty_root g.D.SupportedDigest.digest l.height
+  next : l.empty ≡ empty_root g.D.SupportedDigest.digest l.height;
 }

@@ -21,14 +21,14 @@ pub plain_root-left-requires : goal.plain_root-left-requires
 plain_root-left-requires g t c κs within =
     let keys = c.requires.keys in
     let next : (prefix : List Bool) × (length prefix ≡ c.args.depth + 1) × AreKeysUnder g.D.SupportedDigest.digest (pair_bytes g.K.VisitBytes.bytes g.V.VisitBytes.bytes c.args.insertions.now) prefix c.halves.result.0.now =
-        (keys.0 ++ false ∷ [], length-push_bit keys.0 false c.args.depth keys.1, (c.halves.ensures _ keys.0 keys.1 keys.2).0) in
+    (keys.0 ++ false ∷ [], length-push_bit keys.0 false c.args.depth keys.1, (c.halves.ensures _ keys.0 keys.1 keys.2).0) in
     search rules
 
 pub plain_root-right-requires : goal.plain_root-right-requires
 plain_root-right-requires g t c κs within =
     let keys = c.requires.keys in
     let next : (prefix : List Bool) × (length prefix ≡ c.args.depth + 1) × AreKeysUnder g.D.SupportedDigest.digest (pair_bytes g.K.VisitBytes.bytes g.V.VisitBytes.bytes c.args.insertions.now) prefix c.halves.result.1.now =
-        (keys.0 ++ true ∷ [], length-push_bit keys.0 true c.args.depth keys.1, (c.halves.ensures _ keys.0 keys.1 keys.2).1) in
+    (keys.0 ++ true ∷ [], length-push_bit keys.0 true c.args.depth keys.1, (c.halves.ensures _ keys.0 keys.1 keys.2).1) in
     search rules
 
 pub returns : goal.returns
