@@ -11,15 +11,16 @@ use contract.Monad.{Fun}
 use types.Kit.{‵, ◌⊛◌, some, later, ◌$◌, ◌∵◌, !, qed, move, keep, show, use1, split, join, pick, fjoin, feq_i, feq_l, check, await, updating, now as at_once, done}
 use denote.RattleType.{RattleType}
 use denote.Memory.{hidden_shr}
-use denote.Builtin.{u64, bool}
+use denote.Builtin.{bool}
 use denote.Steps.{nothing, only}
 use denote.Triple.Statement.{Contract}
 use denote.Triple.Spec.{triple_of}
 use Rattle.std.specs.contracts.cell.Cell as CE
+use Rattle.refusing.specs.contracts.Growths as counted
 use Rattle.refusing.specs.contracts.is_refused as IS
 
 abbrev Left : RattleType
-Left = CE.the_row u64
+Left = CE.the_row counted.the_row
 
 module _ {M : Type 1} {𝓤 : Ura M} (𝓛 : Logic 𝓤) (at_mem : Memory → SProp 𝓤) (run : Routine → Fun 𝓤) where
   abbrev pub Refuses : Contract 𝓤

@@ -4,44 +4,85 @@
 use std::alloc::{AllocError, Allocator};
 use std::cell::Cell;
 
+// What an allocator counts.
+#[derive(Clone, Copy)]
+struct Growths {
+    // How many it still grants.
+    left: u64,
+    // How many it refused.
+    refused: u64,
+}
+
 /// Passes its first growths on to another allocator, and refuses every growth after them.
 ///
 /// A collection borrows it: `let alloc = Refusing::after(rt.alloc(), 3);`, and then
 /// `Vec::new(&alloc)`.
 pub struct Refusing<B: Allocator> {
     inner: B,
-    left: Cell<u64>,
+    growths: Cell<Growths>,
 }
 
 impl<B: Allocator> Refusing<B> {
     /// An allocator that grants `growths` growths out of `inner`.
     pub fn after(inner: B, growths: u64) -> Refusing<B> {
+        let growths = Growths {
+            left: growths,
+            refused: 0,
+        };
         Refusing {
             inner,
-            left: Cell::new(growths),
+            growths: Cell::new(growths),
         }
     }
 
     /// The growths that it still grants.
     pub fn left(&self) -> u64 {
-        self.left.get()
+        self.growths.get().left
+    }
+
+    /// Whether it refused any growth so far. One that `inner` refused doesn't count.
+    pub fn has_refused(&self) -> bool {
+        self.growths.get().refused > 0
+    }
+
+    /// Grants so many growths more, so that what was refused can be asked for again. More than
+    /// `u64::MAX` in all count as `u64::MAX`.
+    pub fn grant(&self, growths: u64) {
+        let counted = self.growths.get();
+        self.growths.set(Growths {
+            left: counted.left.saturating_add(growths),
+            refused: counted.refused,
+        });
     }
 }
 
 impl<B: Allocator> Drop for Refusing<B> {
     fn drop(self) {
-        let Self { inner: _, left: _ } = self;
+        let Self {
+            inner: _,
+            growths: _,
+        } = self;
     }
 }
 
 // Counts a growth, and says whether it is one to refuse.
-fn is_refused(left: &Cell<u64>) -> bool {
-    match left.get().checked_sub(1) {
-        Some(fewer) => {
-            left.set(fewer);
+fn is_refused(growths: &Cell<Growths>) -> bool {
+    let counted = growths.get();
+    match counted.left.checked_sub(1) {
+        Some(left) => {
+            growths.set(Growths {
+                left,
+                refused: counted.refused,
+            });
             false
         }
-        None => true,
+        None => {
+            growths.set(Growths {
+                left: 0,
+                refused: counted.refused.saturating_add(1),
+            });
+            true
+        }
     }
 }
 
@@ -49,7 +90,7 @@ unsafe impl<B: Allocator> Allocator for Refusing<B> {
     ghost dealloc_token = { λ heap ty ptr. B.dealloc_token heap.inner ty ptr };
 
     fn allocate(&self, size: usize, align: usize) -> Result<*mut u8, AllocError> {
-        if is_refused(&self.left) {
+        if is_refused(&self.growths) {
             return Err(AllocError);
         }
         self.inner.allocate(size, align)
@@ -63,6 +104,7 @@ unsafe impl<B: Allocator> Allocator for Refusing<B> {
 #[cfg(test)]
 mod tests {
     use super::*;
+    use std::test::Fail;
 
     fn nine<A: Allocator>(alloc: A) -> Result<Vec<u8, A>, AllocError> {
         let mut list = Vec::new(alloc);
@@ -86,5 +128,21 @@ mod tests {
             }
         }
         assert!(rt; refused >= 1 && refused < 9);
+    }
+
+    #[test]
+    fn grants_again_what_it_refused(rt: HostRuntime) -> Result<(), Fail> {
+        let alloc = Refusing::after(rt.alloc(), 0);
+        let mut list = Vec::new(&alloc);
+        assert!(rt; !alloc.has_refused());
+        assert!(rt; list.push(7u8).is_err() && alloc.has_refused());
+        alloc.grant(2);
+        assert_eq!(rt; alloc.left(), 2);
+        list.push(7)?;
+        assert_eq!(rt; alloc.left(), 1);
+        assert!(rt; list.as_slice() == [7].as_slice() && alloc.has_refused());
+        alloc.grant(u64::MAX);
+        assert_eq!(rt; alloc.left(), u64::MAX);
+        Ok(())
     }
 }

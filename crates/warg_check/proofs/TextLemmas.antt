@@ -7,16 +7,13 @@ use Rattle.warg_log.specs.Consistency.{consistency}
 use Rattle.warg_log.specs.declared.consistency.ConsistencyProofError.{ConsistencyProofError}
 use Rattle.warg_log.specs.declared.error.DecodeError.{DecodeError}
 use Rattle.warg_check.specs.Words.{lines_of}
-use Rattle.warg_check.specs.Orders.{Line, empty, bad, good, line_of, consistent}
+use Rattle.warg_check.specs.Orders.{line_of, consistent}
 use Rattle.warg_check.specs.States.{State, start, log_at, map_at, after_line}
-use Rattle.warg_check.specs.Text.{said, is_not_bad, text_from, text_of, all_good, after_lines, MeetsFull, answer, refusal, roots_or_refusal, verdict_or_refusal}
-use Rattle.warg_check.specs.Errors.{IsRefusal, LineFindsFull}
-use Rattle.warg_check.specs.Sessions.{StandsAt, Takes, RefusesLine}
+use Rattle.warg_check.specs.Text.{said, is_not_bad, text_from, text_of, all_good, after_lines, answer, refusal, roots_or_refusal, verdict_or_refusal}
+use Rattle.warg_check.specs.Sessions.{StandsAt, Takes}
 use Rattle.warg_check.specs.declared.program.session.Session.{Session}
 use Rattle.warg_check.specs.declared.verdict.CheckError.{CheckError}
 use Rattle.warg_check.specs.declared.verdict.CheckError.TheVariants as check
-use Rattle.warg_check.specs.declared.program.RunError.{RunError}
-use Rattle.warg_check.specs.declared.program.RunError.TheVariants.{Read, Write, Memory, Full}
 
 -- the lines so far were good, the session stands at the state after them, and its text is theirs
 pub record Stands {A : Type 0} (input rest : List ℕ) (session : Session A) (number : ℕ) : Type 0 where

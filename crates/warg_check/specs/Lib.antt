@@ -8,3 +8,4 @@ pub mod Text
 pub mod Errors
 pub mod Sessions
 pub mod Verdicts
+pub mod CheckpointVerdicts

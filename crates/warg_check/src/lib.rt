@@ -2,8 +2,11 @@
 //! out.
 #![tactic(auto)]
 
+mod checkpoint;
+pub mod laws;
 pub mod program;
 mod verdict;
 
+pub use checkpoint::{check_entry, check_growth};
 pub use program::run;
 pub use verdict::{CheckError, check_absent, check_consistency, check_inclusion, check_key};

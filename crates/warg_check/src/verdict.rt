@@ -3,12 +3,12 @@
 ghost use Rattle.std.specs.Prelude.{◌≡◌, ◌≢◌, Err};
 ghost use Rattle.warg_protobuf.specs.declared.error.WireError.TheVariants as wire;
 ghost use Rattle.warg_log.specs.declared.error.DecodeError.TheVariants as decoding;
-ghost use Rattle.warg_check.specs.Verdicts.{Answers, check_fault, inclusion_verdict, consistency_verdict, key_verdict, absent_verdict};
+ghost use Rattle.warg_check.specs.Verdicts.{Answers, check_fault, includes, inclusion_verdict, extends, consistency_verdict, key_verdict, absent_verdict};
 
 use std::alloc::Allocator;
 use thiserror::Error;
 use warg_crypto::{Hash, SupportedDigest, VisitBytes};
-use warg_log::{DecodeError, ProofBundle};
+use warg_log::{ConsistencyProof, DecodeError, InclusionProof, ProofBundle};
 use warg_map::MapProofBundle;
 
 /// Why there is no verdict.
@@ -57,11 +57,24 @@ pub fn check_inclusion<D: SupportedDigest, V: VisitBytes, A: Allocator + Copy>(
         Err(fault) => return Err(CheckError::from(fault)),
     };
     match bundle.inclusion_proof(at) {
-        Some(proof) => match proof.evaluate_value(bundle.hashes(), value) {
-            Ok(found) => Ok(found == *root),
-            Err(_) => Ok(false),
-        },
+        Some(proof) => Ok(is_included(&bundle, &proof, value, root)),
         None => Err(CheckError::NoSuchProof),
+    }
+}
+
+// Whether an inclusion proof of a bundle evaluates, over the bundle's digests, to the root with the value.
+pub(crate) fn is_included<D: SupportedDigest, V: VisitBytes, A: Allocator>(
+    bundle: &ProofBundle<D, V, A>,
+    proof: &InclusionProof<D, V>,
+    value: &V,
+    root: &Hash<D>,
+) -> bool
+    requires { proof.now.log_length ≡ bundle.now.log_length }
+    ensures { result ≡ includes D.digest (V.bytes value.now) root.now bundle.now proof.now.leaf }
+{
+    match proof.evaluate_value(bundle.hashes(), value) {
+        Ok(found) => found == *root,
+        Err(_) => false,
     }
 }
 
@@ -86,11 +99,24 @@ pub fn check_consistency<D: SupportedDigest, A: Allocator + Copy>(
         Err(fault) => return Err(CheckError::from(fault)),
     };
     match bundle.consistency_proof(at) {
-        Some(proof) => match proof.evaluate(bundle.hashes()) {
-            Ok((found_old, found_new)) => Ok(found_old == *old && found_new == *new),
-            Err(_) => Ok(false),
-        },
+        Some(proof) => Ok(is_extended(&bundle, &proof, old, new)),
         None => Err(CheckError::NoSuchProof),
+    }
+}
+
+// Whether a consistency proof of a bundle evaluates, over the bundle's digests, to the two roots.
+pub(crate) fn is_extended<D: SupportedDigest, A: Allocator>(
+    bundle: &ProofBundle<D, (), A>,
+    proof: &ConsistencyProof<D, ()>,
+    old: &Hash<D>,
+    new: &Hash<D>,
+) -> bool
+    requires { proof.now.new_length ≡ bundle.now.log_length }
+    ensures { result ≡ extends D.digest old.now new.now bundle.now proof.now.old_length }
+{
+    match proof.evaluate(bundle.hashes()) {
+        Ok((found_old, found_new)) => found_old == *old && found_new == *new,
+        Err(_) => false,
     }
 }
 

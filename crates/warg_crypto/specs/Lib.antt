@@ -1,4 +1,5 @@
 pub mod DigestFacts
 pub mod Digests
 pub mod EmptyTrees
+pub mod Text
 pub mod WeakDigests

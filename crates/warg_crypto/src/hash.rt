@@ -1,12 +1,14 @@
 //! Hashes: digests with the name of their digest function.
 
-ghost use Rattle.std.specs.Prelude.{◌≡◌, ⊤, ℕ, ◌↔◌, List, length, false, IfOk, IsOk, vec_len};
+ghost use Rattle.std.specs.Prelude.{◌≡◌, ⊤, ℕ, ◌↔◌, List, length, false, IfOk, IsOk};
 ghost use Rattle.warg_crypto.specs.Digests.{IsDigest};
 
 use crate::digest::SupportedDigest;
 use crate::visit::{ByteVisitor, VisitBytes};
 use std::alloc::{AllocError, Allocator};
+use std::convert::AsSlice;
 use std::marker::{Model, PhantomData};
+use thiserror::Error;
 
 /// A digest of 32 bytes, by the digest function `D`.
 ///
@@ -80,10 +82,10 @@ impl<D> Hash<D> {
         }
     }
 
-    /// The hash with the bytes of a list: `HashLength` exactly where they aren't 32.
-    pub fn try_from<A: Allocator>(bytes: Vec<u8, A>) -> Result<Hash<D>, HashLength>
-        ensures ok { IfOk result (λ h. h ≡ bytes.items) }
-        ensures exactly { IsOk result ↔ (vec_len bytes ≡ 32) }
+    /// The hash with the bytes of a list or a slice: `HashLength` exactly where they aren't 32.
+    pub fn try_from<T: AsSlice<u8> + Drop>(bytes: T) -> Result<Hash<D>, HashLength>
+        ensures ok { IfOk result (λ h. h ≡ T.items bytes) }
+        ensures exactly { IsOk result ↔ (length (T.items bytes) ≡ 32) }
     {
         match <[u8; 32]>::try_from(bytes.as_slice()) {
             Ok(array) => Ok(Hash::from_array(array)),
@@ -124,7 +126,8 @@ impl<D> Hash<D> {
 }
 
 /// That a list of bytes isn't 32 bytes long, and so no hash.
-#[derive(Clone, Copy, Debug, PartialEq, Eq)]
+#[derive(Clone, Copy, Debug, PartialEq, Eq, Error)]
+#[error("hash is not 32 bytes")]
 pub struct HashLength;
 
 // 32 bytes are a digest.

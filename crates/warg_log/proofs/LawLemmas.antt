@@ -5,8 +5,7 @@ use Rattle.std.proofs.Math.ListN.{get_or}
 use Rattle.std.proofs.lemmas.List.{length-map, get_or-map, take-map}
 use Rattle.std.proofs.lemmas.Nat.{pow_pos}
 use Rattle.std.proofs.lemmas.Bool.{eq-eqb, ne_eqb, cases_eq}
-use Rattle.warg_log.specs.declared.node.Node.{Node}
-use Rattle.warg_log.specs.Nodes.{IsNode, ExistsAt, height_of, place_of, sibling_place, start_of, node_over}
+use Rattle.warg_log.specs.Nodes.{IsNode, ExistsAt, height_of, sibling_place, start_of, node_over}
 use Rattle.warg_log.specs.Tree.{branch, front_of, root_of, root_over, leaves_of, leaves_below, own_digest}
 use Rattle.warg_log.specs.Cut.{cut_over, cut_root, old_over, IsFull, IsBeside}
 use Rattle.warg_log.specs.Walks.{needed, IsKnown}
@@ -90,12 +89,11 @@ cut_root-entry H entries i n lt fits =
 pub old_over-power : (H : List ℕ → List ℕ) (F : ℕ → Option (List ℕ)) (a n : ℕ) → IsFull n → old_over H F a n ≡ F (node_over a n)
 old_over-power H F a n full = let some : 0 < n = rw full.1 (pow_pos full.0) in old_over-full H F a n some full
 
--- a node by its number
-pub node_is_number : (a b : Node) → a.0 ≡ b.0 → a ≡ b
-node_is_number a b e = let P : ℕ → Node = λ n. record { 0 = n } in ap P e
-
-one_number : (x y k j : ℕ) → IsNode x k j → IsNode y k j → x ≡ y
-one_number x y k j is is' = let e : x + 1 ≡ y + 1 = is ∙ sym is' in omega arith
+-- a height and a place have one number
+one_number : (x y k j i : ℕ) → j ≡ i → IsNode x k j → IsNode y k i → x ≡ y
+one_number x y k j i same is is' =
+    let e : x + 1 ≡ y + 1 = is ∙ ap (λ n. 2 ^ k * (2 * n + 1)) same ∙ sym is' in
+    omega arith
 
 pub sibling_even : (j : ℕ) → j % 2 ≡ 0 → sibling_place j ≡ j + 1
 sibling_even j even = rw (eq-eqb (j % 2) 0 even) refl
@@ -109,35 +107,17 @@ sibling_half j = ⊎_elim
     (λ (other : j % 2 ≡ 0 → ⊥). let odd : j % 2 ≡ 1 = omega arith in rw (sibling_odd j odd) (let e : (j - 1) / 2 ≡ j / 2 = omega arith in e))
     (cases_eq (j % 2) 0)
 
-pub sibling_parent : (y q p k j : ℕ) → IsNode y k (sibling_place j) → IsNode q (height_of y + 1) (place_of y / 2) → IsNode p (k + 1) (j / 2) → q ≡ p
-sibling_parent y q p k j at_y at_q at_p =
-    let ys = node_at y k (sibling_place j) at_y in
-    let half : place_of y / 2 ≡ j / 2 = ap (λ i. i / 2) ys.1 ∙ sibling_half j in
-    one_number q p (k + 1) (j / 2) (rw (ys.0, half) at at_q) at_p
+pub one_parent : (x y k j : ℕ) → IsNode x (k + 1) (sibling_place j / 2) → IsNode y (k + 1) (j / 2) → x ≡ y
+one_parent x y k j = one_number x y (k + 1) (sibling_place j / 2) (j / 2) (sibling_half j)
 
-pub parent_height : (p k i : ℕ) → IsNode p (k + 1) i → height_of p ≡ k + 1
-parent_height p k i is = (node_at p (k + 1) i is).0
+pub halves_of_even : (l r x s k j : ℕ) → IsNode l k (2 * (j / 2)) → IsNode r k (2 * (j / 2) + 1) → IsNode x k j → IsNode s k (sibling_place j) → j % 2 ≡ 0 → (l ≡ x) × (r ≡ s)
+halves_of_even l r x s k j at_l at_r at_x at_s even = (
+  one_number l x k (2 * (j / 2)) j (omega arith) at_l at_x,
+  one_number r s k (2 * (j / 2) + 1) (sibling_place j) (let e : 2 * (j / 2) + 1 ≡ j + 1 = omega arith in e ∙ sym (sibling_even j even)) at_r at_s,
+)
 
-child_at : (p c k i j : ℕ) → IsNode p (k + 1) i → IsNode c (height_of p - 1) j → IsNode c k j
-child_at p c k i j at_p at_c =
-    let e : height_of p - 1 ≡ k = let h = parent_height p k i at_p in omega (arith, h) in
-    rw e at at_c
-
-pub left_of_parent : (x p c k j i : ℕ) → IsNode x k i → 2 * (j / 2) ≡ i → IsNode p (k + 1) (j / 2) → IsNode c (height_of p - 1) (2 * place_of p) → c ≡ x
-left_of_parent x p c k j i is even at_p at_c =
-    let place : 2 * place_of p ≡ i = ap (λ m. 2 * m) (node_at p (k + 1) (j / 2) at_p).1 ∙ even in
-    one_number c x k i (rw place at (child_at p c k (j / 2) (2 * place_of p) at_p at_c)) is
-
-pub right_of_parent : (x p c k j i : ℕ) → IsNode x k i → 2 * (j / 2) + 1 ≡ i → IsNode p (k + 1) (j / 2) → IsNode c (height_of p - 1) (2 * place_of p + 1) → c ≡ x
-right_of_parent x p c k j i is odd at_p at_c =
-    let place : 2 * place_of p + 1 ≡ i = ap (λ m. 2 * m + 1) (node_at p (k + 1) (j / 2) at_p).1 ∙ odd in
-    one_number c x k i (rw place at (child_at p c k (j / 2) (2 * place_of p + 1) at_p at_c)) is
-
-pub sibling_on_right : (y k j : ℕ) → j % 2 ≡ 0 → IsNode y k (sibling_place j) → IsNode y k (j + 1)
-sibling_on_right y k j even is = rw (sibling_even j even) at is
-
-pub sibling_on_left : (y k j : ℕ) → j % 2 ≡ 1 → IsNode y k (sibling_place j) → IsNode y k (j - 1)
-sibling_on_left y k j odd is = rw (sibling_odd j odd) at is
-
-pub sibling_height : (y k j : ℕ) → IsNode y k j → height_of y ≡ k
-sibling_height y k j is = (node_at y k j is).0
+pub halves_of_odd : (l r x s k j : ℕ) → IsNode l k (2 * (j / 2)) → IsNode r k (2 * (j / 2) + 1) → IsNode x k j → IsNode s k (sibling_place j) → j % 2 ≡ 1 → (l ≡ s) × (r ≡ x)
+halves_of_odd l r x s k j at_l at_r at_x at_s odd = (
+  one_number l s k (2 * (j / 2)) (sibling_place j) (let e : 2 * (j / 2) ≡ j - 1 = omega arith in e ∙ sym (sibling_odd j odd)) at_l at_s,
+  one_number r x k (2 * (j / 2) + 1) j (omega arith) at_r at_x,
+)

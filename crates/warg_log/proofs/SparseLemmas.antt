@@ -16,7 +16,7 @@ all_at P [] i d all lt = absurd (omega arith)
 all_at P (p ∷ ps) zero d all lt = all.0
 all_at P (p ∷ ps) (suc i) d all lt = all_at P ps i d all.1 (omega arith)
 
-ascends : (ps : Pairs) (i j : ℕ) (d : Node × List ℕ) → IsAscending ps → i < j → j < length ps → (get_or ps i d).0.0 < (get_or ps j d).0.0
+pub ascends : (ps : Pairs) (i j : ℕ) (d : Node × List ℕ) → IsAscending ps → i < j → j < length ps → (get_or ps i d).0.0 < (get_or ps j d).0.0
 ascends [] i j d up lt in_range = absurd (omega arith)
 ascends (p ∷ ps) zero zero d up lt in_range = absurd (omega arith)
 ascends (p ∷ ps) zero (suc j) d up lt in_range = all_at (λ (q : Node × List ℕ). p.0.0 < q.0.0) ps j d up.0 (omega arith)
@@ -74,3 +74,15 @@ searched_err ps x i up parted =
     (λ (before : k < i). let less : (get_or ps k d).0.0 < x = ranked (get_or ps k d).0.0 x Less (sym (parts.0 k d (omega arith) before)) in let no : ⊥ = omega arith in no)
     (λ (after : i ≤ k). let more : x < (get_or ps k d).0.0 = ranked (get_or ps k d).0.0 x Greater (sym (parts.1 k d after lt)) in let no : ⊥ = omega arith in no)
     (cases_lt k i))
+
+-- numbers of which each lies below the next one ascend
+all_above : (x : ℕ) (ps : Pairs) (d : Node × List ℕ) → (0 < length ps → x < (get_or ps 0 d).0.0)
+    → ((k : ℕ) → suc k < length ps → (get_or ps k d).0.0 < (get_or ps (suc k) d).0.0) → AllByRecursion (λ (q : Node × List ℕ). x < q.0.0) ps
+all_above x [] d first up = tt
+all_above x (p ∷ ps) d first up =
+    let above : x < p.0.0 = first (omega arith) in
+    (above, all_above x ps d (λ some. let next : p.0.0 < (get_or ps 0 d).0.0 = up 0 (omega arith) in omega arith) (λ k lt. up (suc k) (omega arith)))
+
+pub ascends_by_steps : (ps : Pairs) (d : Node × List ℕ) → ((k : ℕ) → suc k < length ps → (get_or ps k d).0.0 < (get_or ps (suc k) d).0.0) → IsAscending ps
+ascends_by_steps [] d up = tt
+ascends_by_steps (p ∷ ps) d up = (all_above p.0.0 ps d (λ some. up 0 (omega arith)) (λ k lt. up (suc k) (omega arith)), ascends_by_steps ps d (λ k lt. up (suc k) (omega arith)))

@@ -4,13 +4,16 @@
 //! a definition takes another road, and they are all that a proof about the definitions needs.
 
 ghost use Rattle.std.specs.Prelude.{◌≡◌, ℕ, ◌+◌, ◌-◌, ◌*◌, ◌/◌, ◌%◌, ◌^◌, ◌<◌, ◌≤◌, ◌⊎◌, ◌↔◌, List, [], ◌∷◌, length, take, drop, Option, Some, Ok, IsSome, slice_index_or};
-ghost use Rattle.warg_log.specs.Nodes.{IsNode, ExistsAt, height_of, place_of, start_of, end_of, node_over};
+ghost use Rattle.std.specs.Ordering.{nat_cmp, ordering_then};
+ghost use Rattle.std.specs.Cmp.Lexicographic.{slice_cmp};
+ghost use Rattle.warg_log.specs.Nodes.{IsNode, ExistsAt, sibling_place, height_of, place_of, start_of, end_of, node_over};
 ghost use Rattle.warg_log.specs.Tree.{branch, front_of, root_of, root_over, leaves_of, leaves_below, own_digest};
 ghost use Rattle.warg_log.specs.Cut.{joined, cut_over, cut_root, old_over, old_root, IsFull, IsBeside};
 ghost use Rattle.warg_log.specs.Walks.{needed, IsKnown};
 ghost use Rattle.warg_log.specs.Consistency.{consistency, IsConsistent};
 
-use crate::node::Node;
+use crate::log::Checkpoint;
+use std::cmp::Ordering;
 
 /// The root of no digests is the digest of no bytes (RFC 6962, section 2.1).
 pub fn root_of_none()
@@ -56,24 +59,16 @@ pub fn interval_has_number()
     ensures only { (x k j : ℕ) → IsNode x k j → x ≡ node_over (j * 2 ^ k) (2 ^ k) }
 {}
 
-/// The parent of a node's sibling is the node's parent: both are answered, and are the same.
-pub fn parent_of_sibling(node: Node) -> (Node, Node)
-    requires { height_of node.0 < 63 }
-    ensures same { result.0 ≡ result.1 }
-    ensures parent { IsNode result.1.0 (height_of node.0 + 1) (place_of node.0 / 2) }
-{
-    (node.sibling().parent(), node.parent())
-}
+/// A node and its sibling have one parent: the node of the height above over either is the same.
+pub fn parent_of_sibling()
+    ensures { (x y k j : ℕ) → IsNode x (k + 1) (sibling_place j / 2) → IsNode y (k + 1) (j / 2) → x ≡ y }
+{}
 
-/// The children of a node's parent are the node and its sibling, in the order of their sides: the
-/// children and the sibling are answered.
-pub fn children_of_parent(node: Node) -> ((Node, Node), Node)
-    requires { height_of node.0 < 63 }
-    ensures left { place_of node.0 % 2 ≡ 0 → (result.0.0 ≡ node) × (result.0.1 ≡ result.1) }
-    ensures right { place_of node.0 % 2 ≡ 1 → (result.0.0 ≡ result.1) × (result.0.1 ≡ node) }
-{
-    (node.parent().children(), node.sibling())
-}
+/// The halves of the parent are the node and its sibling, in the order of their places.
+pub fn children_of_parent()
+    ensures left { (l r x s k j : ℕ) → IsNode l k (2 * (j / 2)) → IsNode r k (2 * (j / 2) + 1) → IsNode x k j → IsNode s k (sibling_place j) → j % 2 ≡ 0 → (l ≡ x) × (r ≡ s) }
+    ensures right { (l r x s k j : ℕ) → IsNode l k (2 * (j / 2)) → IsNode r k (2 * (j / 2) + 1) → IsNode x k j → IsNode s k (sibling_place j) → j % 2 ≡ 1 → (l ≡ s) × (r ≡ x) }
+{}
 
 /// The cut root of the target's own range is the digest in its place.
 pub fn cut_target()
@@ -135,3 +130,10 @@ pub fn consistency_met()
 pub fn own_consistency()
     ensures { (H : List ℕ → List ℕ) (ds : List (List ℕ)) (m n : ℕ) → 0 < m → m ≤ n → n ≤ length ds → consistency H (own_digest H ds) m n ≡ Ok (root_of H (take m ds), root_of H (take n ds)) }
 {}
+
+/// Checkpoints are ordered by their roots' bytes, and where these are equal by their lengths.
+pub fn order_by_root_then_length<D>(first: &Checkpoint<D>, second: &Checkpoint<D>) -> Ordering
+    ensures { result ≡ ordering_then (slice_cmp nat_cmp first.now.root second.now.root) (nat_cmp first.now.length second.now.length) }
+{
+    first.cmp(second)
+}

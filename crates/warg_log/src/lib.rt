@@ -22,10 +22,12 @@ mod vec_log;
 pub use consistency::{ConsistencyProof, ConsistencyProofError};
 pub use error::{BundleError, DecodeError, EncodeError};
 pub use interval::Interval;
-pub use log::{Checkpoint, LogBuilder, LogData, hash_branch, hash_empty, hash_leaf, push_all};
+pub use log::{
+    Checkpoint, GREATEST_LENGTH, LogBuilder, LogData, hash_branch, hash_empty, hash_leaf, push_all,
+};
 pub use node::{Node, Side};
 pub use proof::{InclusionProof, InclusionProofError, InclusionProofWalk, range_root, stored_root};
 pub use proof_bundle::{ProofBundle, ProofBundle as LogProofBundle};
-pub use sparse_data::SparseLogData;
+pub use sparse_data::{NotAscending, SparseLogData};
 pub use stack_log::StackLog;
 pub use vec_log::VecLog;

@@ -9,6 +9,9 @@ use crate::proof::InclusionProof;
 use std::alloc::AllocError;
 use warg_crypto::{ByteVisitor, Hash, SupportedDigest, VisitBytes};
 
+/// The greatest length of a log: 2^63 entries.
+pub const GREATEST_LENGTH: usize = 1 << 63;
+
 /// The root of the tree of no entries: the digest of no bytes (RFC 6962, section 2.1).
 pub fn hash_empty<D: SupportedDigest>() -> Hash<D>
     ensures { result ≡ D.digest [] }
@@ -49,7 +52,8 @@ pub struct Checkpoint<D> {
 }
 
 impl<D> Checkpoint<D> {
-    pub(crate) fn new(root: Hash<D>, length: usize) -> Checkpoint<D>
+    /// The checkpoint of this root and this length, as whoever keeps a log has said them.
+    pub fn new(root: Hash<D>, length: usize) -> Checkpoint<D>
         ensures root { result.root ≡ root }
         ensures length { result.length ≡ length }
     {
@@ -80,10 +84,11 @@ pub trait LogBuilder<D: SupportedDigest, V: VisitBytes> {
     // lists.
     ghost stands_for: { Self → List (List ℕ) → Type 0 };
 
-    /// The log's root, that of the tree over its entries, and its length.
+    /// The log's root, that of the tree over its entries, and its length, at most [`GREATEST_LENGTH`].
     fn checkpoint(&self) -> Checkpoint<D>
         ensures root { (ds : List (List ℕ)) → stands_for self.now ds → result.root ≡ root_of D.digest ds }
-        ensures length { result.length ≡ len self.now };
+        ensures length { result.length ≡ len self.now }
+        ensures fits { len self.now ≤ 2 ^ 63 };
 
     /// Adds an entry at the end, and answers its leaf's node. A refused push leaves the log as it was.
     fn push(&mut self, entry: &V) -> Result<Node, AllocError>
@@ -144,6 +149,8 @@ pub fn push_all<D: SupportedDigest, V: VisitBytes, B: LogBuilder<D, V>>(
     ensures ok { OnOk result ((ds : List (List ℕ)) → B.stands_for log.old ds → B.stands_for log.new (ds ++ leaves_of D.digest (map (λ e. V.bytes e) entries.now))) }
     ensures root { IfOk result (λ checkpoint. (ds : List (List ℕ)) → B.stands_for log.old ds → checkpoint.root ≡ root_of D.digest (ds ++ leaves_of D.digest (map (λ e. V.bytes e) entries.now))) }
     ensures length { IfOk result (λ checkpoint. checkpoint.length ≡ B.len log.old + length entries.now) }
+    ensures grown { OnOk result (B.len log.new ≡ B.len log.old + length entries.now) }
+    ensures grown_by { OnErr result ((k : ℕ) × (k < length entries.now) × (B.len log.new ≡ B.len log.old + k)) }
     ensures err { OnErr result ((k : ℕ) × (k < length entries.now) × ((ds : List (List ℕ)) → B.stands_for log.old ds → B.stands_for log.new (ds ++ leaves_of D.digest (map (λ e. V.bytes e) (take k entries.now))))) }
 {
     'entries: for entry in entries {

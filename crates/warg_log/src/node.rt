@@ -1,6 +1,6 @@
 //! The nodes of a log's tree, by their numbers.
 
-ghost use Rattle.std.specs.Prelude.{◌≡◌, ℕ, ◌+◌, ◌-◌, ◌*◌, ◌/◌, ◌%◌, ◌^◌, ◌<◌, ◌≤◌, ◌↔◌, IsTrue, IfOk, map};
+ghost use Rattle.std.specs.Prelude.{◌≡◌, ℕ, ◌+◌, ◌-◌, ◌*◌, ◌/◌, ◌%◌, ◌^◌, ◌<◌, ◌≤◌, ◌↔◌, IsTrue, IsNone, IfSome, IfOk, map};
 ghost use Rattle.warg_log.specs.Nodes.{IsNode, ExistsAt, height_of, place_of, sibling_place, start_of, end_of, balanced_roots};
 
 use crate::interval::Interval;
@@ -32,6 +32,26 @@ pub enum Side {
 }
 
 impl Node {
+    /// The node of the leaf at an index, from 0.
+    pub fn leaf(index: usize) -> Node
+        requires { index < 2 ^ 63 }
+        ensures { IsNode result.0 0 index }
+    {
+        Node(2 * index)
+    }
+
+    /// The index of the leaf whose node this is, from 0. None exactly where the node is a branch.
+    pub fn leaf_index(&self) -> Option<usize>
+        ensures leaf { IfSome result (λ index. IsNode self.now.0 0 index) }
+        ensures branch { IsNone result ↔ (0 < height_of self.now.0) }
+    {
+        if self.height() == 0 {
+            Some(self.0 / 2)
+        } else {
+            None
+        }
+    }
+
     /// The node's number.
     pub fn index(&self) -> usize
         ensures { result ≡ self.now.0 }

@@ -93,6 +93,7 @@ impl<D: SupportedDigest, V: VisitBytes> InclusionProof<D, V> {
     /// length of `b` binary digits has at most `2 * (b - 1)` such nodes.
     pub fn walk<A: Allocator>(&self, alloc: A) -> Result<InclusionProofWalk<A>, InclusionProofError>
         ensures too_new { (result ≡ Err InclusionProofError.LeafTooNew) ↔ ¬ ExistsAt self.now.leaf.0 self.now.log_length }
+        ensures exists { OnOk result (ExistsAt self.now.leaf.0 self.now.log_length) }
         ensures not_known { result ≢ Err InclusionProofError.HashNotKnown }
         ensures needed { IfOk result (λ walk. map (λ x. x.0) walk.nodes.items ≡ needed self.now.leaf.0 self.now.log_length) }
         ensures order { IfOk result (λ walk. IsWalk self.now.leaf.0 self.now.log_length (map (λ x. x.0) walk.nodes.items) walk.initial_walk_len walk.lower_broots walk.upper_broots) }

@@ -1,6 +1,6 @@
 //! Proofs of a log together with the digests that they need.
 
-ghost use Rattle.std.specs.Prelude.{◌≡◌, ◌≢◌, ℕ, ◌^◌, ◌<◌, ◌≤◌, ◌↔◌, ◌⊎◌, List, None, Some, Ok, Err, IfOk, IfErr, OnSome, IfSome, IsTrue, IsNone, length, map, slice_get, nat_eq};
+ghost use Rattle.std.specs.Prelude.{◌≡◌, ◌≢◌, ℕ, ◌^◌, ◌<◌, ◌≤◌, ◌↔◌, ◌⊎◌, List, None, Some, Ok, Err, IfOk, IfErr, OnSome, IfSome, IsTrue, IsNone, length, map, slice_get, nat_eq, OnOk};
 ghost use Rattle.std.specs.List.{AllByRecursion, list_any};
 ghost use Rattle.warg_protobuf.specs.declared.error.WireError.TheVariants as wire;
 ghost use Rattle.warg_protobuf.specs.HashEntry.{entry_view};
@@ -55,6 +55,20 @@ impl<D: SupportedDigest, V: VisitBytes, A: Allocator> ProofBundle<D, V, A> {
         ensures ascending { IsAscending self.now.hashes }
     {
         &self.hashes
+    }
+
+    /// The number of consistency proofs.
+    pub fn consistency_proof_count(&self) -> usize
+        ensures { result ≡ length self.now.consistent_lengths }
+    {
+        self.consistent_lengths.len()
+    }
+
+    /// The number of inclusion proofs.
+    pub fn inclusion_proof_count(&self) -> usize
+        ensures { result ≡ length self.now.included_nodes }
+    {
+        self.included_nodes.len()
     }
 
     /// The consistency proof at a place, counted from 0. None exactly where there are no more than `at`.
@@ -189,6 +203,7 @@ impl<D: SupportedDigest, V: VisitBytes, A: Allocator + Copy> ProofBundle<D, V, A
         ensures ok { IfOk result (λ message. log_view message ≡ bundle_message self.now) }
         ensures again { IfOk result (λ message. bundle_in (log_view message) ≡ Ok self.now) }
         ensures too_large { (result ≡ Err EncodeError.TooLarge) ↔ ¬ NodesFit self.now }
+        ensures fits { OnOk result (NodesFit self.now) }
     {
         let pairs = self.hashes.pairs();
         if !nodes_fit(&self.included_nodes) || !pairs_fit(pairs) {
@@ -211,6 +226,7 @@ impl<D: SupportedDigest, V: VisitBytes, A: Allocator + Copy> ProofBundle<D, V, A
         ensures written { IfOk result (λ bytes. bytes.items ≡ log_bytes (bundle_message self.now)) }
         ensures again { IfOk result (λ bytes. bundle_of bytes.items ≡ Ok self.now) }
         ensures too_large { (result ≡ Err EncodeError.TooLarge) ↔ ¬ NodesFit self.now }
+        ensures fits { OnOk result (NodesFit self.now) }
     {
         let message = self.to_message(alloc)?;
         Ok(message.encode(alloc)?)

@@ -1,12 +1,13 @@
 //! Digests of some nodes, as they come with a proof.
 
-ghost use Rattle.std.specs.Prelude.{◌≡◌, ℕ, List, IfOk};
+ghost use Rattle.std.specs.Prelude.{◌≡◌, ℕ, List, IfOk, IsOk, IsTrue, ◌↔◌};
 ghost use Rattle.warg_log.specs.Sparse.{IsAscending, held_digest};
 
 use crate::log::LogData;
 use crate::node::Node;
 use std::alloc::{AllocError, Allocator, Global};
 use std::marker::{Model, PhantomData};
+use thiserror::Error;
 use warg_crypto::{Hash, SupportedDigest, VisitBytes};
 
 /// The digests of some nodes, in the order of the nodes' numbers.
@@ -39,6 +40,19 @@ impl<D: SupportedDigest, V: VisitBytes, A: Allocator> SparseLogData<D, V, A> {
         }
     }
 
+    /// The data that holds these digests: `NotAscending` exactly where the nodes' numbers don't ascend
+    /// strictly. It takes no memory.
+    pub fn try_from(pairs: Vec<(Node, Hash<D>), A>) -> Result<Self, NotAscending>
+        ensures ok { IfOk result (λ made. made ≡ pairs.items) }
+        ensures exactly { IsOk result ↔ IsAscending pairs.items }
+    {
+        if are_ascending(pairs.as_slice()) {
+            Ok(SparseLogData::from(pairs))
+        } else {
+            Err(NotAscending)
+        }
+    }
+
     // The digests with their nodes.
     pub(crate) fn pairs(&self) -> &[(Node, Hash<D>)]
         ensures value { result.now ≡ self.now }
@@ -60,6 +74,23 @@ impl<D: SupportedDigest, V: VisitBytes, A: Allocator> SparseLogData<D, V, A> {
             of: PhantomData,
         })
     }
+}
+
+/// That the numbers of nodes don't ascend strictly.
+#[derive(Clone, Copy, Debug, PartialEq, Eq, Error)]
+#[error("hash indices are not ascending")]
+pub struct NotAscending;
+
+// Whether the nodes' numbers ascend strictly.
+fn are_ascending<D>(pairs: &[(Node, Hash<D>)]) -> bool
+    ensures { IsTrue result ↔ IsAscending pairs.now }
+{
+    'places: for place in 1..pairs.len() {
+        if pairs[place].0.0 <= pairs[place - 1].0.0 {
+            return false;
+        }
+    }
+    true
 }
 
 impl<D: SupportedDigest, V: VisitBytes, A: Allocator> LogData<D, V> for SparseLogData<D, V, A> {

@@ -27,7 +27,7 @@ pub struct StackLog<D: SupportedDigest, V: VisitBytes, A: Allocator = Global> {
 
 // Contracts see the log as its length and its blocks.
 impl<D: SupportedDigest, V: VisitBytes, A: Allocator> Model for StackLog<D, V, A> {
-    ghost use Rattle.std.specs.Prelude.{◌≡◌, length};
+    ghost use Rattle.std.specs.Prelude.{◌≡◌, ◌^◌, ◌≤◌, length};
     ghost use Rattle.warg_log.specs.Nodes.{balanced_roots};
     ghost use Rattle.warg_log.specs.Blocks.{Blocks};
 
@@ -35,7 +35,7 @@ impl<D: SupportedDigest, V: VisitBytes, A: Allocator> Model for StackLog<D, V, A
 
     ghost view = { λ l. record { len = l.count; digests = l.blocks.items } };
 
-    ghost invariant = { λ l. length l.blocks.items ≡ length (balanced_roots l.count) };
+    ghost invariant = { λ l. (length l.blocks.items ≡ length (balanced_roots l.count)) × (l.count ≤ 2 ^ 63) };
 }
 
 impl<D: SupportedDigest, V: VisitBytes, A: Allocator> StackLog<D, V, A> {
@@ -51,9 +51,10 @@ impl<D: SupportedDigest, V: VisitBytes, A: Allocator> StackLog<D, V, A> {
         }
     }
 
-    /// The number of entries.
+    /// The number of entries, at most [`GREATEST_LENGTH`](crate::GREATEST_LENGTH).
     pub fn length(&self) -> usize
-        ensures { result ≡ self.now.len }
+        ensures value { result ≡ self.now.len }
+        ensures fits { self.now.len ≤ 2 ^ 63 }
     {
         self.count
     }
@@ -89,6 +90,7 @@ impl<D: SupportedDigest, V: VisitBytes, A: Allocator> LogBuilder<D, V> for Stack
         ensures none { self.now.len ≡ 0 → result.root ≡ D.digest [] }
         ensures blocks { 0 < self.now.len → old_root D.digest (block_at self.now) self.now.len ≡ Some result.root }
         ensures length { result.length ≡ self.now.len }
+        ensures fits { self.now.len ≤ 2 ^ 63 }
     {
         Checkpoint::new(root_of_blocks(self.blocks.as_slice()), self.count)
     }

@@ -1,6 +1,6 @@
 //! A log that keeps the digest of every node.
 
-ghost use Rattle.std.specs.Prelude.{◌≡◌, ℕ, ◌+◌, ◌*◌, ◌^◌, ◌<◌, List, [], ◌∷◌, ◌++◌, length, IfOk, OnOk, OnErr};
+ghost use Rattle.std.specs.Prelude.{◌≡◌, ℕ, ◌+◌, ◌*◌, ◌^◌, ◌<◌, ◌≤◌, List, [], ◌∷◌, ◌++◌, length, IfOk, OnOk, OnErr};
 ghost use Rattle.std.proofs.Common.{ap, sym};
 ghost use Rattle.warg_log.specs.Nodes.{height_of, end_of};
 ghost use Rattle.warg_log.specs.Tree.{IsSlice, IsSliceUpTo, root_of, leaves_below, leaves_in, own_digest};
@@ -53,10 +53,12 @@ impl<D: SupportedDigest, V: VisitBytes, A: Allocator> VecLog<D, V, A> {
         }
     }
 
-    /// The number of entries.
+    /// The number of entries, at most [`GREATEST_LENGTH`](crate::GREATEST_LENGTH).
     pub fn length(&self) -> usize
-        ensures { result ≡ length self.now }
+        ensures value { result ≡ length self.now }
+        ensures fits { length self.now ≤ 2 ^ 63 }
     {
+        let _digests = self.tree.len();
         self.count
     }
 
@@ -91,13 +93,15 @@ impl<D: SupportedDigest, V: VisitBytes, A: Allocator> LogBuilder<D, V> for VecLo
     fn checkpoint(&self) -> Checkpoint<D>
         ensures root { result.root ≡ root_of D.digest self.now }
         ensures length { result.length ≡ length self.now }
+        ensures fits { length self.now ≤ 2 ^ 63 }
     {
-        if self.count == 0 {
+        let length = self.length();
+        if length == 0 {
             return Checkpoint::new(self.spacer.copied(), 0);
         }
-        let whole = Interval::new(0, self.count);
+        let whole = Interval::new(0, length);
         match stored_root::<D, V, Self>(self, &whole) {
-            Some(root) => Checkpoint::new(root, self.count),
+            Some(root) => Checkpoint::new(root, length),
             None => unreachable!(),
         }
     }

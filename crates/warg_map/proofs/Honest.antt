@@ -61,11 +61,11 @@ head_differs : (b : Bool) (q p : List Bool) → ¬ (not b ∷ q ≡ b ∷ p)
 head_differs true q p e = cc
 head_differs false q p e = cc
 
-tail_is : (b : Bool) (q p : List Bool) → b ∷ q ≡ b ∷ p → q ≡ p
+pub tail_is : (b : Bool) (q p : List Bool) → b ∷ q ≡ b ∷ p → q ≡ p
 tail_is b q p e = cc
 
 -- below the last peer
-honest_low : (H : List ℕ → List ℕ) (bits : List Bool) (m : List Bool → Option (List ℕ)) (peers : List (Option (List ℕ))) (v : List ℕ) → length bits + length peers ≤ 256 → ((q : List Bool) → ¬ (q ≡ bits) → m q ≡ None) → unwrap_or (m bits) (empty_root H 0) ≡ v → proof_value H peers v bits ≡ root_of H (length bits) m
+pub honest_low : (H : List ℕ → List ℕ) (bits : List Bool) (m : List Bool → Option (List ℕ)) (peers : List (Option (List ℕ))) (v : List ℕ) → length bits + length peers ≤ 256 → ((q : List Bool) → ¬ (q ≡ bits) → m q ≡ None) → unwrap_or (m bits) (empty_root H 0) ≡ v → proof_value H peers v bits ≡ root_of H (length bits) m
 unfolding proof_value root_of empty_root
 honest_low H [] m peers v few h e = sym e
 honest_low H (b ∷ bits) m peers v few h e =
@@ -85,7 +85,7 @@ honest H (b ∷ bits) m peers before (o ∷ os) v e place few h u =
     (peer_there H peers before os o (length bits) e (omega (arith, place)) few ∙ h.0)
     (honest H bits (λ q. m (b ∷ q)) peers (before ++ o ∷ []) os v (e ∙ sym (append_assoc before (o ∷ []) os)) (omega (arith, one, place)) few h.1 u)
 
-explains_held : (H : List ℕ → List ℕ) (bits : List Bool) (m : List Bool → Option (List ℕ)) (os : List (Option (List ℕ))) → IsPeers H m bits os → Explains H m bits os
+pub explains_held : (H : List ℕ → List ℕ) (bits : List Bool) (m : List Bool → Option (List ℕ)) (os : List (Option (List ℕ))) → IsPeers H m bits os → Explains H m bits os
 unfolding IsPeers Explains
 explains_held H bits m [] h = h
 explains_held H [] m (o ∷ os) h = h
@@ -95,7 +95,7 @@ explains_other : (H : List ℕ → List ℕ) (k : ℕ) (m : List Bool → Option
 explains_other H k m o (inl h) = ap (λ x. unwrap_or x (empty_root H k)) h.0 ∙ sym (other_none H k m h.1)
 explains_other H k m o (inr h) = ap (λ x. unwrap_or x (empty_root H k)) h.0
 
-explains_absent : (H : List ℕ → List ℕ) (bits : List Bool) (m : List Bool → Option (List ℕ)) (os : List (Option (List ℕ))) → IsAbsentPeers H m bits os → Explains H m bits os
+pub explains_absent : (H : List ℕ → List ℕ) (bits : List Bool) (m : List Bool → Option (List ℕ)) (os : List (Option (List ℕ))) → IsAbsentPeers H m bits os → Explains H m bits os
 unfolding IsAbsentPeers Explains
 explains_absent H bits m [] h = λ q _. h q
 explains_absent H [] m (o ∷ os) h = h
@@ -145,7 +145,7 @@ honest_replaced H h bits m peers x n few p =
 pub honest_held : (H : List ℕ → List ℕ) (h : ℕ) (bits : List Bool) (m : SparseMap) (peers : List (Option (List ℕ))) (x : List ℕ) → length bits ≡ 256 → length peers ≤ 256 → Proves H h m bits peers → get m bits ≡ Some x → proof_value H peers x bits ≡ sparse_root H 256 m
 honest_held H h bits m peers x n few p e = honest_replaced H h bits m peers x n few p ∙ ap (sparse_root H 256) (insert_held m bits x e)
 
-none_of : (o : Option (List ℕ)) → is_some o ≡ false → o ≡ None
+pub none_of : (o : Option (List ℕ)) → is_some o ≡ false → o ≡ None
 none_of None e = refl
 none_of (Some x) e = cc
 

@@ -14,3 +14,6 @@ pub mod Honest
 pub mod Insertions
 pub mod Unique
 pub mod BundleLemmas
+pub mod Last
+pub mod Prefixes
+pub mod DigestBits

@@ -1,5 +1,6 @@
 pub mod Bits
 pub mod Sparse
+pub mod Last
 pub mod Under
 pub mod ProofValue
 pub mod Peers

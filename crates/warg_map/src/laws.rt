@@ -1,9 +1,17 @@
 //! Laws of the map, over its definitions alone.
 
-ghost use Rattle.std.specs.Prelude.{◌≡◌, ℕ, List, Bool, Option, length};
+ghost use Rattle.std.specs.Prelude.{◌≡◌, ℕ, List, Bool, Option, Some, length, ◌+◌, ◌≤◌, ◌++◌};
+ghost use Rattle.std.specs.Option.{option_map};
+ghost use Rattle.std.specs.FinMap.{get};
 ghost use Rattle.std.specs.List.Sorted.{IsPermutation};
+ghost use Rattle.std.specs.Ordering.{nat_cmp};
+ghost use Rattle.std.specs.Cmp.Lexicographic.{slice_cmp};
+ghost use Rattle.warg_crypto.specs.Digests.{IsDigest};
+ghost use Rattle.warg_crypto.specs.EmptyTrees.{empty_root};
 ghost use Rattle.warg_map.specs.Bits.{key_bits};
-ghost use Rattle.warg_map.specs.Sparse.{SparseMap, sparse_root, leaf_at, inserted, HasDistinctKeys};
+ghost use Rattle.warg_map.specs.Sparse.{SparseMap, bits_cmp, root_of, sparse_root, leaf_at, leaf_digest, inserted, map_of, HasDistinctKeys};
+ghost use Rattle.warg_map.specs.Last.{last_under};
+ghost use Rattle.warg_map.specs.ProofValue.{proof_value};
 ghost use Rattle.warg_map.specs.Peers.{Proves, ProvesAbsent};
 
 /// Insertions of keys of distinct digests give one map in any order, and so one root; and one map has one proof of each
@@ -31,4 +39,31 @@ pub fn one_root()
 /// A key has 256 bits.
 pub fn all_bits()
     ensures { (H : List ℕ → List ℕ) (key : List ℕ) → length (key_bits H key) ≡ 256 }
+{}
+
+/// Keys of the same bits have the same digest.
+pub fn same_digest()
+    ensures { (H : List ℕ → List ℕ) (key other : List ℕ) → IsDigest (H key) → IsDigest (H other) → key_bits H key ≡ key_bits H other → H key ≡ H other }
+{}
+
+/// Digests are in the order of their bits.
+pub fn order_of_bits()
+    ensures { (H : List ℕ → List ℕ) (key other : List ℕ) → IsDigest (H key) → IsDigest (H other) → bits_cmp (key_bits H key) (key_bits H other) ≡ slice_cmp nat_cmp (H key) (H other) }
+{}
+
+/// A map of insertions holds under some bits the leaf digest of the last insertion whose key has them, or nothing.
+pub fn last_held()
+    ensures { (H : List ℕ → List ℕ) (bits : List Bool) (insertions : List (List ℕ × List ℕ)) → get (map_of H insertions) bits ≡ option_map (λ e. leaf_digest H e.1) (last_under H bits insertions) }
+{}
+
+/// The proof of held bits leads from the leaf digest that is held to the plain root at each prefix of the bits.
+pub fn root_at_prefix()
+    ensures { (H : List ℕ → List ℕ) (m : SparseMap) (prefix rest : List Bool) (peers : List (Option (List ℕ))) (x : List ℕ) → length prefix + length rest ≡ 256 → length peers ≤ 256
+        → Proves H 256 m (prefix ++ rest) peers → get m (prefix ++ rest) ≡ Some x → proof_value H peers x rest ≡ root_of H (length rest) (λ bits. get m (prefix ++ bits)) }
+{}
+
+/// The proof that bits aren't held leads from an empty leaf to the plain root at each prefix of the bits.
+pub fn absent_root_at_prefix()
+    ensures { (H : List ℕ → List ℕ) (m : SparseMap) (prefix rest : List Bool) (peers : List (Option (List ℕ))) → length prefix + length rest ≡ 256 → length peers ≤ 256
+        → ProvesAbsent H m (prefix ++ rest) peers → proof_value H peers (empty_root H 0) rest ≡ root_of H (length rest) (λ bits. get m (prefix ++ bits)) }
 {}

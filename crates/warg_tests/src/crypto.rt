@@ -6,7 +6,7 @@ ghost use Rattle.std.specs.Cmp.Lexicographic.{slice_cmp};
 
 use crate::digests::{L0, L1, L2, U2, U3, Z, hash_ending_in};
 use refusing::Refusing;
-use std::alloc::AllocError;
+use std::alloc::{AllocError, Global};
 use std::cmp::Ordering;
 use std::hash::{DefaultHasher, Hasher};
 use std::test::Fail;
@@ -27,22 +27,28 @@ fn hashed<D>(hash: &Hash<D>) -> u64 {
     hasher.finish()
 }
 
+// Whether a hash is spelled by these digits.
+fn is_spelled<D>(alloc: Global, hash: &Hash<D>, digits: &str) -> Result<bool, AllocError> {
+    Ok(hex::encode(alloc, hash.bytes())?.as_str() == digits)
+}
+
 #[test]
-fn sha256_of_bytes(rt: HostRuntime) -> Result<(), Fail> {
-    let rows = [
+fn sha256_of_bytes_in_pieces(rt: HostRuntime) -> Result<(), Fail> {
+    for (mark, first, second, want) in [
         ("", "", "", Z),
         ("00", "", "", L0),
         ("00", "00", "", L1),
         ("00", "10", "", L2),
         ("01", L0, L1, U2),
         ("01", U2, L2, U3),
-    ];
-    for (first, second, third, want) in rows {
-        let first = hex::decode(rt.alloc(), first)?;
-        let second = hex::decode(rt.alloc(), second)?;
-        let third = hex::decode(rt.alloc(), third)?;
-        let hash = Hash::<Sha256>::of(&(first, second, third));
-        assert_eq!(rt; hex::encode(rt.alloc(), hash.bytes())?.as_str(), want);
+    ] {
+        let mark = hex::decode(rt.alloc(), mark)?;
+        let pair = (
+            hex::decode(rt.alloc(), first)?,
+            hex::decode(rt.alloc(), second)?,
+        );
+        let hash = Hash::<Sha256>::of(&(mark, pair));
+        assert!(rt; is_spelled(rt.alloc(), &hash, want)?);
     }
     Ok(())
 }
@@ -50,53 +56,57 @@ fn sha256_of_bytes(rt: HostRuntime) -> Result<(), Fail> {
 #[test]
 fn values_as_bytes(rt: HostRuntime) -> Result<(), Fail> {
     let abc = "ba7816bf8f01cfea414140de5dae2223b00361a396177a9cb410ff61f20015ad";
-    let list = b"abc".to_vec(rt.alloc())?;
-    let text = String::from_str(rt.alloc(), "abc")?;
-    let nested = ("a", (b'b', (), "c"));
     let hashes = [
         Hash::<Sha256>::of(b"abc"),
-        Hash::<Sha256>::of(&b"abc".as_slice()),
-        Hash::<Sha256>::of(&list),
-        Hash::<Sha256>::of(&"abc"),
-        Hash::<Sha256>::of(&text),
-        Hash::<Sha256>::of(&nested),
+        Hash::of(&b"abc".as_slice()),
+        Hash::of(&b"abc".to_vec(rt.alloc())?),
+        Hash::of(&"abc"),
+        Hash::of(&String::from_str(rt.alloc(), "abc")?),
+        Hash::of(&("a", (b'b', (), "c"))),
+        Hash::of(&("a", b'b', "c")),
     ];
     for hash in &hashes {
-        assert_eq!(rt; hex::encode(rt.alloc(), hash.bytes())?.as_str(), abc);
+        assert!(rt; is_spelled(rt.alloc(), hash, abc)?);
     }
     let twice = "4f8b42c22dd3729b519ba6f68d2da7cc5b2d606d05daed5ad5128cc03e6c6358";
     let hash = Hash::<Sha256>::of(&Hash::<Sha256>::of(b"abc"));
-    assert_eq!(rt; hex::encode(rt.alloc(), hash.bytes())?.as_str(), twice);
+    assert!(rt; is_spelled(rt.alloc(), &hash, twice)?);
+    Ok(())
+}
+
+// Whether so many bytes make a hash of them exactly where they are 32.
+fn is_hash_of_32(alloc: Global, length: usize) -> Result<bool, AllocError> {
+    let bytes = vec![in alloc; 7u8; length]?;
+    match Hash::<Sha256>::try_from(bytes) {
+        Ok(hash) => Ok(length == 32 && hash.bytes() == [7; 32].as_slice()),
+        Err(HashLength) => Ok(length != 32),
+    }
+}
+
+#[test]
+fn hashes_of_32_bytes(rt: HostRuntime) -> Result<(), Fail> {
+    for length in 0..40usize {
+        assert!(rt; is_hash_of_32(rt.alloc(), length)?, "{length}");
+    }
+    let hash = hash_ending_in::<Sum>(5);
+    assert!(rt; hash.len() == 32 && hash.bit_len() == 256);
     Ok(())
 }
 
 #[test]
-fn a_hash_and_its_bytes(rt: HostRuntime) -> Result<(), Fail> {
-    for length in 0..40usize {
-        let bytes = vec![in rt.alloc(); 7u8; length]?;
-        match Hash::<Sha256>::try_from(bytes) {
-            Ok(hash) => {
-                assert_eq!(rt; length, 32);
-                assert_eq!(rt; hash.bytes(), [7; 32].as_slice());
-            }
-            Err(HashLength) => assert_ne!(rt; length, 32),
-        }
-    }
+fn hashes_compared(rt: HostRuntime) -> Result<(), Fail> {
     let low = hash_ending_in::<Sum>(5);
     let high = hash_ending_in::<Sum>(7);
-    assert_eq!(rt; low.len(), 32);
-    assert_eq!(rt; low.bit_len(), 256);
-    assert_eq!(rt; compared(&low, &high), (false, Ordering::Less));
-    assert_eq!(rt; compared(&high, &low.copied()), (false, Ordering::Greater));
-    assert_eq!(rt; compared(&low, &low.clone()?), (true, Ordering::Equal));
-    assert_eq!(rt; hashed(&low), hashed(&low.copied()));
-    assert!(rt; low < high);
+    assert!(rt; compared(&low, &high) == (false, Ordering::Less));
+    assert!(rt; compared(&high, &low.copied()) == (false, Ordering::Greater));
+    assert!(rt; compared(&low, &low.clone()?) == (true, Ordering::Equal));
+    assert!(rt; low < high && hashed(&low) == hashed(&low.copied()));
     Ok(())
 }
 
 #[test]
 fn empty_trees(rt: HostRuntime) -> Result<(), Fail> {
-    let rows = [
+    for (height, want) in [
         (0, L0),
         (
             1,
@@ -110,70 +120,59 @@ fn empty_trees(rt: HostRuntime) -> Result<(), Fail> {
             256,
             "c6689f10812a0980976d9533d83875282166159567ec35155716c1413af53d6a",
         ),
-    ];
-    for (height, want) in rows {
-        let table = empty_tree_hash::<Sha256>(height);
-        assert_eq!(rt; hex::encode(rt.alloc(), table.bytes())?.as_str(), want);
-        // The same values by hashing: no input here has 32 bytes.
-        let hashed = empty_tree_hash::<Own32>(height);
-        assert_eq!(rt; hashed.bytes(), table.bytes());
+    ] {
+        // Out of a table, and by hashing: no input here has 32 bytes.
+        assert!(rt; is_spelled(rt.alloc(), &empty_tree_hash::<Sha256>(height), want)?);
+        assert!(rt; is_spelled(rt.alloc(), &empty_tree_hash::<Own32>(height), want)?);
     }
+    Ok(())
+}
+
+#[test]
+fn empty_trees_of_weak_digests(rt: HostRuntime) {
     let sums = [0, 1, 3, 7, 15, 31, 63, 127, 255, 255, 255];
     for (height, sum) in sums.iter().enumerate() {
-        let empty = empty_tree_hash::<Sum>(height);
-        assert_eq!(rt; empty, hash_ending_in(*sum), "at height {height}");
-    }
-    assert_eq!(rt; empty_tree_hash::<Sum>(256), hash_ending_in(255));
-    assert_eq!(rt; empty_tree_hash::<Flat>(9), hash_ending_in(0));
-    Ok(())
-}
-
-#[test]
-fn weak_digests(rt: HostRuntime) -> Result<(), Fail> {
-    assert_eq!(rt; Hash::<Sum>::of(&[1, 2, 250, 8]), hash_ending_in(5));
-    assert_eq!(rt; Hash::<Flat>::of(&[1, 2, 250, 8]), hash_ending_in(0));
-    let own = hash_ending_in::<Own32>(9);
-    assert_eq!(rt; Hash::of(&own), own);
-    for length in [0usize, 1, 31, 33, 64] {
-        let bytes = vec![in rt.alloc(); 3u8; length]?;
-        assert_eq!(rt;
-            Hash::<Own32>::of(&bytes).bytes(),
-            Hash::<Sha256>::of(&bytes).bytes()
+        assert!(rt;
+            empty_tree_hash::<Sum>(height) == hash_ending_in(*sum),
+            "{height}"
         );
     }
-    Ok(())
+    assert!(rt; empty_tree_hash::<Sum>(256) == hash_ending_in(255));
+    assert!(rt; empty_tree_hash::<Flat>(9) == hash_ending_in(0));
+}
+
+// Pieces for which a list has to grow twice.
+const PIECES: ([u8; 2], &str) = (*b"ab", "and a longer piece, for which the list grows again");
+
+// Whether the list of the bytes was refused, where so many growths are granted.
+fn is_refused(alloc: Global, growths: u64) -> Result<bool, Fail> {
+    let memory = Refusing::after(alloc, growths);
+    let refused = bytes_of(&memory, &PIECES).is_err();
+    if refused != memory.has_refused() {
+        Err("refused for another reason")?;
+    }
+    memory.grant(9);
+    let bytes = bytes_of(&memory, &PIECES)?;
+    let want = b"aband a longer piece, for which the list grows again";
+    if bytes.as_slice() != want.as_slice() {
+        Err("other bytes")?;
+    }
+    Ok(refused)
 }
 
 #[test]
-fn bytes_of_with_each_growth_refused(rt: HostRuntime) -> Result<(), Fail> {
-    let value = (
-        *b"ab",
-        "and a longer piece, for which the list has to grow again",
-    );
-    let want = b"aband a longer piece, for which the list has to grow again";
-    let mut refused = 0u64;
-    for growths in 0..8u64 {
-        let alloc = Refusing::after(rt.alloc(), growths);
-        match bytes_of(&alloc, &value) {
-            Ok(bytes) => assert_eq!(rt; bytes.as_slice(), want.as_slice()),
-            Err(AllocError) => {
-                assert_eq!(rt; alloc.left(), 0);
-                refused = refused.saturating_add(1);
-            }
-        }
-    }
-    assert!(rt; refused >= 2 && refused < 8, "{refused}");
+fn bytes_with_each_growth_refused(rt: HostRuntime) -> Result<(), Fail> {
+    assert!(rt; is_refused(rt.alloc(), 0)? && is_refused(rt.alloc(), 1)?);
+    assert!(rt; !is_refused(rt.alloc(), 9)?);
     Ok(())
 }
 
 #[test]
 fn hashes_without_memory(rt: HostRuntime) -> Result<(), Fail> {
-    let alloc = Refusing::after(rt.alloc(), 1);
-    let list = vec![in &alloc; 7u8; 32]?;
-    assert_eq!(rt; alloc.left(), 0);
+    let memory = Refusing::after(rt.alloc(), 1);
+    let list = vec![in &memory; 7u8; 32]?;
     let hash = Hash::<Sha256>::of(&list);
-    let same = Hash::<Sha256>::try_from(list);
-    assert!(rt; same.is_ok());
-    assert_eq!(rt; hash.clone()?, hash);
+    assert!(rt; Hash::<Sha256>::try_from(list).is_ok() && hash.clone()? == hash);
+    assert!(rt; memory.left() == 0 && !memory.has_refused());
     Ok(())
 }

@@ -1,6 +1,7 @@
-//! Digests that several subjects speak of. Those of SHA-256 are computed by Python's hashlib.
+//! Digests and bytes that several subjects speak of. Those of SHA-256 are computed by Python's hashlib.
 
-use std::alloc::Allocator;
+use refusing::Refusing;
+use std::alloc::Global;
 use std::test::Fail;
 use warg_crypto::{Hash, Sha256};
 
@@ -23,25 +24,28 @@ pub(crate) const U2: &str = "fac54203e7cc696cf0dfcb42c92a1d9dbaf70ad9e621f4bd8d9
 pub(crate) const U3: &str = "aeb6bcfe274b70a14fb067a5e5578264db0fa9b51af5e0ba159158f329e06e77";
 
 /// The bytes of hexadecimal words, one after the other; a digest goes by its name.
-pub(crate) fn bytes_of<A: Allocator + Copy>(alloc: A, words: &str) -> Result<Vec<u8, A>, Fail> {
+pub(crate) fn bytes_of(alloc: Global, words: &str) -> Result<Vec<u8>, Fail> {
     let mut bytes = Vec::new(alloc);
     for word in words.split(' ') {
-        let digits = match word {
-            "Z" => Z,
-            "L0" => L0,
-            "L1" => L1,
-            "L2" => L2,
-            "U2" => U2,
-            "U3" => U3,
-            _ => word,
-        };
-        bytes.extend_from_slice(&hex::decode(alloc, digits)?)?;
+        bytes.extend_from_slice(&hex::decode(alloc, digits_of(word))?)?;
     }
     Ok(bytes)
 }
 
+fn digits_of(word: &str) -> &str {
+    match word {
+        "Z" => Z,
+        "L0" => L0,
+        "L1" => L1,
+        "L2" => L2,
+        "U2" => U2,
+        "U3" => U3,
+        _ => word,
+    }
+}
+
 /// The hash of these hexadecimal digits, or of this name.
-pub(crate) fn hash_of<A: Allocator + Copy>(alloc: A, digits: &str) -> Result<Hash<Sha256>, Fail> {
+pub(crate) fn hash_of(alloc: Global, digits: &str) -> Result<Hash<Sha256>, Fail> {
     Ok(Hash::try_from(bytes_of(alloc, digits)?)?)
 }
 
@@ -50,4 +54,12 @@ pub(crate) fn hash_ending_in<D>(byte: u8) -> Hash<D> {
     let mut bytes = [0; 32];
     bytes[31] = byte;
     Hash::from_array(bytes)
+}
+
+/// Takes all growths that are left, so that each further one is refused.
+pub(crate) fn exhaust(memory: &Refusing<Global>) {
+    for _ in 0..memory.left() {
+        let taken: Result<Vec<u8, _>, _> = Vec::with_capacity(memory, 1);
+        let _ = taken.is_ok();
+    }
 }

@@ -1,22 +1,25 @@
-//! Rows and vectors over all crates, one module a subject.
+//! What the vectors can't say: types compared, ordered and hashed, clones, texts of faults, readers and writers that
+//! fail, calls that take no memory, and what stands after a refusal.
 #![tactic(auto)]
 
 #[cfg(test)]
-mod bundle;
+mod bundles;
 #[cfg(test)]
 mod crypto;
 #[cfg(test)]
 mod digests;
 #[cfg(test)]
-mod image;
+mod faults;
+#[cfg(test)]
+mod images;
 #[cfg(test)]
 mod log;
 #[cfg(test)]
 mod map;
 #[cfg(test)]
-mod program;
+mod messages;
 #[cfg(test)]
-mod protobuf;
+mod program;
 #[cfg(test)]
 mod readme;
 #[cfg(test)]

@@ -81,7 +81,7 @@ agreement_collides H F value G other node n gives holds holds' met false_claim =
     record { first = (pair_of found.0 (0 ∷ value) (0 ∷ other)).0; second = (pair_of found.0 (0 ∷ value) (0 ∷ other)).1; differ = shown.collides.differ; same = shown.collides.same; placed = shown.placed }
 
 -- two trees part somewhere or nowhere
-target_or_not : (p : Part) → (p ≡ Target) ⊎ (p ≡ Target → ⊥)
+pub target_or_not : (p : Part) → (p ≡ Target) ⊎ (p ≡ Target → ⊥)
 target_or_not Target = inl refl
 target_or_not (Branch l r l' r') = inr (λ e. cc)
 

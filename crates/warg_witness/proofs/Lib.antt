@@ -10,3 +10,12 @@ pub mod ConsistencyLemmas
 pub mod PureLemmas
 pub mod CollisionLemmas
 pub mod CompareLemmas
+pub mod PathLemmas
+pub mod PathBits
+pub mod KeyAgreementLemmas
+pub mod PlainPathLemmas
+pub mod LastLemmas
+pub mod KeyLemmas
+pub mod KeyLawLemmas
+pub mod KeysLemmas
+pub mod TreeLemmas

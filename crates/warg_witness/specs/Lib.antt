@@ -6,3 +6,8 @@ pub mod Parting
 pub mod Compared
 pub mod Meeting
 pub mod Laws
+pub mod MapClaims
+pub mod MapInputs
+pub mod MapPlaced
+pub mod MapPaths
+pub mod MapMeeting

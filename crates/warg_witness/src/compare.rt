@@ -74,8 +74,8 @@ impl<V: VisitBytes> ByteVisitor for Front<'_, V> {
 }
 
 // Whether the bytes of `value` begin with those of `front`. Refused only where these can't be counted.
-fn begins_with<V: VisitBytes>(value: &V, front: &V) -> Result<bool, AllocError>
-    ensures { IfOk result (λ begins. IsTrue begins ↔ StandsAt 0 (V.bytes front.now) (V.bytes value.now)) }
+fn begins_with<V: VisitBytes, W: VisitBytes>(value: &V, front: &W) -> Result<bool, AllocError>
+    ensures { IfOk result (λ begins. IsTrue begins ↔ StandsAt 0 (W.bytes front.now) (V.bytes value.now)) }
 {
     let mut visitor = Front {
         of: value,
@@ -91,8 +91,11 @@ fn begins_with<V: VisitBytes>(value: &V, front: &V) -> Result<bool, AllocError>
 
 /// Whether two values have the same bytes, for a look at each piece of the one beside each of the other. It
 /// takes no memory, and refuses only values of more than `usize::MAX` bytes, of which no copy could be had.
-pub(crate) fn have_same_bytes<V: VisitBytes>(first: &V, second: &V) -> Result<bool, AllocError>
-    ensures { IfOk result (λ same. IsTrue same ↔ (V.bytes first.now ≡ V.bytes second.now)) }
+pub(crate) fn have_same_bytes<V: VisitBytes, W: VisitBytes>(
+    first: &V,
+    second: &W,
+) -> Result<bool, AllocError>
+    ensures { IfOk result (λ same. IsTrue same ↔ (V.bytes first.now ≡ W.bytes second.now)) }
 {
     Ok(begins_with(first, second)? && begins_with(second, first)?)
 }

@@ -32,8 +32,8 @@ impl<D> Parting<D> {
     }
 }
 
-// Whether two branches have the same digests below them.
-fn is_same<D>(left: &Hash<D>, other_left: &Hash<D>, right: &Hash<D>, other_right: &Hash<D>) -> bool
+/// Whether two branches have the same digests below them.
+pub(crate) fn is_same<D>(left: &Hash<D>, other_left: &Hash<D>, right: &Hash<D>, other_right: &Hash<D>) -> bool
     ensures same { IsTrue result ↔ ((left.now ≡ other_left.now) × (right.now ≡ other_right.now)) }
     ensures sizes { length left.now ≡ length other_left.now }
 {

@@ -2,12 +2,21 @@
 //!
 //! They are what the witnesses rest on, with no program in it: whenever the claim of a proof is met and isn't
 //! true, two byte strings that differ and have one digest stand in the evaluation and the trees over the
-//! entries. They hold for every function from byte lists to 32 bytes, and for all data of such digests.
+//! entries or the insertions. They hold for every function from byte lists to 32 bytes, and for all data and
+//! peers of such digests.
 
-ghost use Rattle.std.specs.Prelude.{◌≡◌, ℕ, List, ◌∷◌, length, Option};
+ghost use Rattle.std.specs.Prelude.{◌≡◌, ℕ, ◌≤◌, List, [], ◌∷◌, length, Option, Some};
 ghost use Rattle.warg_witness.specs.Claims.{IsMet, IsEntry, IsRootBelow, IsAgreement, IsConsistencyMet, Begins};
 ghost use Rattle.warg_witness.specs.Placed.{IsValuePlaced, IsHashPlaced, IsAgreementPlaced, IsConsistencyPlaced};
-ghost use Rattle.warg_witness.specs.Laws.{GivesHashes, HoldsHashes, SomeCollision};
+ghost use Rattle.warg_map.specs.Bits.{key_bits};
+ghost use Rattle.warg_map.specs.Last.{last_under};
+ghost use Rattle.warg_map.specs.Peers.{Proves};
+ghost use Rattle.warg_map.specs.Sparse.{sparse_root, map_of};
+ghost use Rattle.warg_witness.specs.MapClaims.{IsKeyMet, IsAbsenceMet, IsKeyAgreement, IsLastValue};
+ghost use Rattle.warg_witness.specs.MapPlaced.{IsKeyPlaced, IsKeyAgreementPlaced};
+ghost use Rattle.warg_witness.specs.Laws.{GivesHashes, GivesDigests, HoldsHashes, HoldsPeers, SomeCollision};
+
+use warg_map::laws::{all_bits, last_held, root_at_prefix, same_digest};
 
 /// A value's claim that is met and isn't true gives a collision.
 pub fn value_or_collision()
@@ -32,3 +41,42 @@ pub fn consistency_or_collision()
     ensures { (H : List ℕ → List ℕ) (F : ℕ → Option (List ℕ)) (m n : ℕ) (old new : List (List ℕ)) → GivesHashes H → HoldsHashes F
         → IsConsistencyMet H F m n old new → (Begins old new → ⊥) → SomeCollision H (IsConsistencyPlaced H F old new) }
 {}
+
+/// Two different values that two proofs of one key lead to one root give a collision.
+pub fn key_agreement_or_collision()
+    ensures { (H : List ℕ → List ℕ) (key : List ℕ) (peers : List (Option (List ℕ))) (value : List ℕ) (other_peers : List (Option (List ℕ))) (other : List ℕ) → GivesHashes H → HoldsPeers peers → HoldsPeers other_peers
+        → IsKeyAgreement H key peers value other_peers other → (value ≡ other → ⊥) → SomeCollision H (IsKeyAgreementPlaced H key peers value other_peers other) }
+{}
+
+/// A key's claim that is met and isn't true gives a collision.
+pub fn key_or_collision()
+    ensures { (H : List ℕ → List ℕ) (peers : List (Option (List ℕ))) (key value : List ℕ) (insertions : List (List ℕ × List ℕ)) → GivesDigests H → HoldsPeers peers
+        → IsKeyMet H peers key value insertions → (IsLastValue key value insertions → ⊥) → SomeCollision H (IsKeyPlaced H peers value key insertions) }
+{
+    last_held();
+    all_bits();
+    same_digest();
+}
+
+/// An absence's claim that is met and isn't true gives a collision.
+pub fn absence_or_collision()
+    ensures { (H : List ℕ → List ℕ) (peers : List (Option (List ℕ))) (key : List ℕ) (insertions : List (List ℕ × List ℕ)) → GivesDigests H → HoldsPeers peers
+        → IsAbsenceMet H peers key insertions → (IsLastValue key [] insertions → ⊥) → SomeCollision H (IsKeyPlaced H peers [] key insertions) }
+{
+    last_held();
+    all_bits();
+    same_digest();
+}
+
+/// Where two maps of insertions have equal roots, each value of the one that its map holds, under the key that was
+/// inserted last of its digest, meets the claim over the other's insertions, by its own proof. So
+/// [`witness_key`](crate::witness_key) answers `Holds` or a collision there.
+pub fn equal_roots()
+    ensures { (H : List ℕ → List ℕ) (insertions others : List (List ℕ × List ℕ)) (key value : List ℕ) (peers : List (Option (List ℕ)))
+        → sparse_root H 256 (map_of H insertions) ≡ sparse_root H 256 (map_of H others) → last_under H (key_bits H key) insertions ≡ Some (key, value) → length peers ≤ 256
+        → Proves H 256 (map_of H insertions) (key_bits H key) peers → IsKeyMet H peers key value others }
+{
+    last_held();
+    all_bits();
+    root_at_prefix();
+}

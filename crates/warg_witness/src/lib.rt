@@ -1,10 +1,10 @@
-//! Witnesses: whoever holds the entries turns a proof that leads to their root, and lies, into two byte
-//! strings of one digest. By agreement whoever holds one root alone does so with two proofs that lead to
-//! it.
+//! Witnesses: whoever holds the entries of a log, or the insertions of a map, turns a proof that leads to
+//! their root, and lies, into two byte strings of one digest. By agreement whoever holds one root alone does
+//! so with two proofs that lead to it.
 //!
-//! Each call answers a [`Finding`]: the proof's evaluation doesn't lead to the roots of the given entries;
-//! or it does, and the proof's claim is true; or it does, the claim is false, and here are two different
-//! byte strings of equal digest.
+//! Each call answers a [`Finding`]: the proof's evaluation doesn't lead to the roots of what is given; or it
+//! does, and the proof's claim is true; or it does, the claim is false, and here are two different byte
+//! strings of equal digest.
 #![tactic(auto)]
 
 mod collision;
@@ -12,7 +12,10 @@ mod compare;
 mod descent;
 pub mod laws;
 mod log;
+mod map;
+mod pair;
 mod plain;
 
 pub use collision::{Collision, Finding};
 pub use log::{agree_value, witness_consistency, witness_hash, witness_value};
+pub use map::{agree_key, witness_absent, witness_key};

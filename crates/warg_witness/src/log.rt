@@ -12,9 +12,10 @@ ghost use Rattle.warg_witness.specs.Meeting.{IsMeeting};
 
 mod consistency;
 
-use crate::collision::{Collision, Finding, branch_bytes, leaf_bytes};
+use crate::collision::{Collision, Finding, leaf_bytes};
 use crate::compare::have_same_bytes;
 use crate::descent::{Parting, descend};
+use crate::pair::{collide_values, part};
 use crate::plain::{plain_bytes, plain_digest, plain_root, plain_tree};
 pub use consistency::witness_consistency;
 use std::alloc::{AllocError, Allocator};
@@ -103,47 +104,6 @@ fn collide<D: SupportedDigest, V: VisitBytes, A: Allocator + Copy>(
     let first = leaf_bytes(alloc, value)?;
     let second = plain_bytes(alloc, &met.tree, entries, &met.target)?;
     Ok(Collision::new(first, second))
-}
-
-// The collision of two agreeing evaluations of different values: where they part, or at the values.
-fn collide_values<D: SupportedDigest, V: VisitBytes, A: Allocator + Copy>(
-    alloc: A,
-    parting: &Parting<D>,
-    first: &V,
-    second: &V,
-) -> Result<Collision<D, A>, AllocError>
-    requires { Collides D.digest (pair_of parting.now (0 ∷ V.bytes first.now) (0 ∷ V.bytes second.now)) }
-    ensures { IfOk result (λ c. c ≡ pair_of parting.now (0 ∷ V.bytes first.now) (0 ∷ V.bytes second.now)) }
-{
-    if !parting.is_target() {
-        return part(alloc, parting);
-    }
-    let first = leaf_bytes(alloc, first)?;
-    let second = leaf_bytes(alloc, second)?;
-    Ok(Collision::new(first, second))
-}
-
-// The pair of the branch at which two evaluations part.
-fn part<D: SupportedDigest, A: Allocator + Copy>(
-    alloc: A,
-    parting: &Parting<D>,
-) -> Result<Collision<D, A>, AllocError>
-    requires { PartsAtBranch D.digest parting.now }
-    ensures { IfOk result (λ c. c ≡ pair_of parting.now [] []) }
-{
-    match parting {
-        Parting::Target => unreachable!(),
-        Parting::Branch {
-            first_left,
-            first_right,
-            second_left,
-            second_right,
-        } => {
-            let first = branch_bytes(alloc, first_left, first_right)?;
-            let second = branch_bytes(alloc, second_left, second_right)?;
-            Ok(Collision::new(first, second))
-        }
-    }
 }
 
 /// Whether a proof's claim about a value is true of the entries: the node is a leaf, and its entry has the

@@ -1,6 +1,6 @@
 //! Stack logs as messages and bytes.
 
-ghost use Rattle.std.specs.Prelude.{◌≡◌, ◌≢◌, ℕ, ◌^◌, ◌≤◌, ◌↔◌, ◌⊎◌, nat_eq, length, map, Some, None, Ok, Err, IfOk, IfErr};
+ghost use Rattle.std.specs.Prelude.{◌≡◌, ◌≢◌, ℕ, ◌^◌, ◌≤◌, ◌↔◌, ◌⊎◌, nat_eq, length, map, Some, None, Ok, Err, IfOk, IfErr, OnOk};
 ghost use Rattle.std.specs.List.{AllByRecursion, zip};
 ghost use Rattle.std.specs.Cmp.Lexicographic.{pointwise};
 ghost use Rattle.warg_protobuf.specs.declared.error.WireError.TheVariants as wire;
@@ -66,6 +66,7 @@ impl<D: SupportedDigest, V: VisitBytes, A: Allocator + Copy> StackLog<D, V, A> {
         ensures ok { IfOk result (λ message. stack_view message ≡ stack_message self.now) }
         ensures again { IfOk result (λ message. stack_in (stack_view message) ≡ Ok self.now) }
         ensures too_large { (result ≡ Err EncodeError.TooLarge) ↔ ¬ RootsFit self.now }
+        ensures fits { OnOk result (RootsFit self.now) }
     {
         if self.count > GREATEST_LENGTH {
             return Err(EncodeError::TooLarge);
@@ -84,6 +85,7 @@ impl<D: SupportedDigest, V: VisitBytes, A: Allocator + Copy> StackLog<D, V, A> {
         ensures written { IfOk result (λ bytes. bytes.items ≡ stack_bytes (stack_message self.now)) }
         ensures again { IfOk result (λ bytes. stack_of bytes.items ≡ Ok self.now) }
         ensures too_large { (result ≡ Err EncodeError.TooLarge) ↔ ¬ RootsFit self.now }
+        ensures fits { OnOk result (RootsFit self.now) }
     {
         let message = self.to_message()?;
         Ok(message.encode(*self.blocks.allocator())?)

@@ -1,6 +1,6 @@
 //! Vec logs as messages and bytes.
 
-ghost use Rattle.std.specs.Prelude.{◌≡◌, ◌≢◌, ℕ, ◌-◌, ◌*◌, ◌%◌, ◌^◌, ◌<◌, ◌≤◌, ◌↔◌, ◌⊎◌, [], List, length, map, Some, None, Ok, Err, IfOk, IfErr, IsTrue};
+ghost use Rattle.std.specs.Prelude.{◌≡◌, ◌≢◌, ℕ, ◌-◌, ◌*◌, ◌%◌, ◌^◌, ◌<◌, ◌≤◌, ◌↔◌, ◌⊎◌, [], List, length, map, Some, None, Ok, Err, IfOk, IfErr, IsTrue, OnOk};
 ghost use Rattle.std.specs.List.{AllByRecursion};
 ghost use Rattle.warg_protobuf.specs.declared.error.WireError.TheVariants as wire;
 ghost use Rattle.warg_protobuf.specs.VecLog.{vec_view, vec_bytes};
@@ -66,6 +66,7 @@ impl<D: SupportedDigest, V: VisitBytes, A: Allocator + Copy> VecLog<D, V, A> {
         ensures ok { IfOk result (λ message. vec_view message ≡ vec_message D.digest self.now) }
         ensures again { IfOk result (λ message. vec_in D.digest (vec_view message) ≡ Ok self.now) }
         ensures too_large { (result ≡ Err EncodeError.TooLarge) ↔ (2 ^ 32 ≤ length self.now) }
+        ensures fits { OnOk result (length self.now < 2 ^ 32) }
     {
         if self.count > u32::MAX as usize {
             return Err(EncodeError::TooLarge);
@@ -83,6 +84,7 @@ impl<D: SupportedDigest, V: VisitBytes, A: Allocator + Copy> VecLog<D, V, A> {
         ensures written { IfOk result (λ bytes. bytes.items ≡ vec_bytes (vec_message D.digest self.now)) }
         ensures again { IfOk result (λ bytes. vec_of D.digest bytes.items ≡ Ok self.now) }
         ensures too_large { (result ≡ Err EncodeError.TooLarge) ↔ (2 ^ 32 ≤ length self.now) }
+        ensures fits { OnOk result (length self.now < 2 ^ 32) }
     {
         let message = self.to_message()?;
         Ok(message.encode(*self.tree.allocator())?)

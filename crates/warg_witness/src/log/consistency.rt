@@ -14,7 +14,7 @@ ghost use Rattle.warg_witness.specs.Meeting.{IsConsistencyMeeting, LeadsToBoth};
 use crate::collision::{Collision, Finding, leaf_bytes};
 use crate::compare::have_same_bytes;
 use crate::descent::{Parting, descend};
-use crate::log::part;
+use crate::pair::part;
 use crate::plain::{plain_digest, plain_root, plain_tree};
 use std::alloc::{AllocError, Allocator};
 use warg_crypto::{Hash, SupportedDigest, VisitBytes};

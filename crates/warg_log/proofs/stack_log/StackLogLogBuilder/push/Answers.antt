@@ -12,7 +12,7 @@ returns-clause-ok g c =
     → c.join_blocks.new.blocks.items ≡ map (λ t. G (height_of t) (start_of t)) (balanced_roots (c.self.inside.count + 1)) =
     rw (c.hash_leaf-digest.ensures, c.in_ok-reserve.ensures.items) at c.join_blocks.ensures.blocks in
     let after : List (List ℕ) → Blocks = λ l. record { len = c.self.inside.count + 1; digests = l } in
-    rw (← c.self.view_is) (ap after (all (block_over g.D.SupportedDigest.digest (block_at before) c.self.inside.count d) (grows_over g.D.SupportedDigest.digest before d c.self.invariant)))
+    rw (← c.self.view_is) (ap after (all (block_over g.D.SupportedDigest.digest (block_at before) c.self.inside.count d) (grows_over g.D.SupportedDigest.digest before d c.self.invariant.0)))
 
 pub returns-clause-stands : goal.returns-clause-stands
 returns-clause-stands g c = λ ds stands.

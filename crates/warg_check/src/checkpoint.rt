@@ -1,0 +1,109 @@
+//! Verdicts for whoever holds checkpoints: they bind the lengths and the leaf's place, too.
+
+ghost use Rattle.std.specs.Prelude.{◌≡◌, ◌≢◌, Err};
+ghost use Rattle.warg_protobuf.specs.declared.error.WireError.TheVariants as wire;
+ghost use Rattle.warg_log.specs.declared.error.DecodeError.TheVariants as decoding;
+ghost use Rattle.warg_check.specs.Verdicts.{Answers};
+ghost use Rattle.warg_check.specs.CheckpointVerdicts.{is_leaf_at, shows_entry, entry_verdict, shows_growth, growth_verdict};
+
+use crate::verdict::{CheckError, is_extended, is_included};
+use std::alloc::Allocator;
+use warg_crypto::{Hash, SupportedDigest, VisitBytes};
+use warg_log::laws::number_is_node;
+use warg_log::{Checkpoint, ConsistencyProof, InclusionProof, Node, ProofBundle};
+
+/// Whether the inclusion proof at a place of a log bundle, counted from 0, shows that entry `index`, from 0,
+/// of the log with this checkpoint has the value's bytes: whether it is a proof of that leaf at the
+/// checkpoint's length, and evaluates to its root.
+///
+/// The errors are those of [`check_inclusion`](crate::check_inclusion).
+pub fn check_entry<D: SupportedDigest, V: VisitBytes, A: Allocator + Copy>(
+    alloc: A,
+    bytes: &[u8],
+    at: usize,
+    index: usize,
+    value: &V,
+    checkpoint: &Checkpoint<D>,
+) -> Result<bool, CheckError>
+    ensures verdict { Answers result (entry_verdict D.digest bytes.now at index (V.bytes value.now) checkpoint.now.length checkpoint.now.root) }
+    ensures memory { result ≢ Err (CheckError.Decode decoding.Memory) }
+    ensures wire { result ≢ Err (CheckError.Decode (decoding.Wire wire.Memory)) }
+{
+    let bundle = match ProofBundle::<D, V, A>::decode(alloc, bytes) {
+        Ok(bundle) => bundle,
+        Err(fault) => return Err(CheckError::from(fault)),
+    };
+    match bundle.inclusion_proof(at) {
+        Some(proof) => Ok(is_entry(&bundle, &proof, index, value, checkpoint)),
+        None => Err(CheckError::NoSuchProof),
+    }
+}
+
+// Whether an inclusion proof of a bundle is of this leaf at the checkpoint's length, and evaluates to its root.
+fn is_entry<D: SupportedDigest, V: VisitBytes, A: Allocator>(
+    bundle: &ProofBundle<D, V, A>,
+    proof: &InclusionProof<D, V>,
+    index: usize,
+    value: &V,
+    checkpoint: &Checkpoint<D>,
+) -> bool
+    requires { proof.now.log_length ≡ bundle.now.log_length }
+    ensures { result ≡ shows_entry D.digest index (V.bytes value.now) checkpoint.now.length checkpoint.now.root bundle.now proof.now.leaf }
+{
+    is_leaf(proof.leaf(), index)
+        && proof.log_length() == checkpoint.length()
+        && is_included(bundle, proof, value, &checkpoint.root())
+}
+
+// Whether the node is that of the leaf at an index.
+fn is_leaf(node: Node, index: usize) -> bool
+    ensures { result ≡ is_leaf_at index node }
+{
+    number_is_node();
+    match node.leaf_index() {
+        Some(found) => found == index,
+        None => false,
+    }
+}
+
+/// Whether the consistency proof at a place of a log bundle, counted from 0, shows that the log with the old
+/// checkpoint is a beginning of the log with the new one: whether it is a proof from the old checkpoint's
+/// length to the new one's, and evaluates to both roots.
+///
+/// From an empty log it is false: every log continues that one, and no proof is made of it. The errors are
+/// those of [`check_consistency`](crate::check_consistency).
+pub fn check_growth<D: SupportedDigest, A: Allocator + Copy>(
+    alloc: A,
+    bytes: &[u8],
+    at: usize,
+    old: &Checkpoint<D>,
+    new: &Checkpoint<D>,
+) -> Result<bool, CheckError>
+    ensures verdict { Answers result (growth_verdict D.digest bytes.now at old.now.length old.now.root new.now.length new.now.root) }
+    ensures memory { result ≢ Err (CheckError.Decode decoding.Memory) }
+    ensures wire { result ≢ Err (CheckError.Decode (decoding.Wire wire.Memory)) }
+{
+    let bundle = match ProofBundle::<D, (), A>::decode(alloc, bytes) {
+        Ok(bundle) => bundle,
+        Err(fault) => return Err(CheckError::from(fault)),
+    };
+    match bundle.consistency_proof(at) {
+        Some(proof) => Ok(is_growth(&bundle, &proof, old, new)),
+        None => Err(CheckError::NoSuchProof),
+    }
+}
+
+// Whether a consistency proof of a bundle is between these lengths, and evaluates to both roots.
+fn is_growth<D: SupportedDigest, A: Allocator>(
+    bundle: &ProofBundle<D, (), A>,
+    proof: &ConsistencyProof<D, ()>,
+    old: &Checkpoint<D>,
+    new: &Checkpoint<D>,
+) -> bool
+    requires { proof.now.new_length ≡ bundle.now.log_length }
+    ensures { result ≡ shows_growth D.digest old.now.length old.now.root new.now.length new.now.root bundle.now proof.now.old_length }
+{
+    proof.old_length() == old.length()
+        && proof.new_length() == new.length()
+        && is_extended(bundle, proof, &old.root(), &new.root())
+}

@@ -1,0 +1,22 @@
+//! What holds of all hashes, stated over their bytes alone.
+
+ghost use Rattle.std.specs.Prelude.{◌≡◌, ◌↔◌, IsTrue};
+ghost use Rattle.std.specs.Ordering.{nat_cmp};
+ghost use Rattle.std.specs.Cmp.Lexicographic.{slice_cmp};
+
+use crate::hash::Hash;
+use std::cmp::Ordering;
+
+/// Hashes are ordered by their bytes, the first that differ deciding.
+pub fn order_by_bytes<D>(first: &Hash<D>, second: &Hash<D>) -> Ordering
+    ensures { result ≡ slice_cmp nat_cmp first.now second.now }
+{
+    first.cmp(second)
+}
+
+/// Hashes are equal exactly where their bytes are.
+pub fn equal_by_bytes<D>(first: &Hash<D>, second: &Hash<D>) -> bool
+    ensures { IsTrue result ↔ (first.now ≡ second.now) }
+{
+    first == second
+}

@@ -1,0 +1,5 @@
+use Rattle.warg_map.proofs.Prefixes.{held_after}
+use Rattle.warg_map.proofs.laws.root_at_prefix.Goals as goal
+
+pub returns : goal.returns
+returns c = held_after

@@ -1,0 +1,129 @@
+//! Bundles of a log's proofs: their parts, and refusals that come before any growth.
+
+use crate::digests::{bytes_of, exhaust, hash_of};
+use refusing::Refusing;
+use std::alloc::Global;
+use std::test::Fail;
+use warg_crypto::Sha256;
+use warg_log::{
+    BundleError, ConsistencyProof, ConsistencyProofError, EncodeError, InclusionProof,
+    InclusionProofError, LogData, Node, ProofBundle, SparseLogData,
+};
+
+type Bundle<'a> = ProofBundle<Sha256, (), &'a Refusing<Global>>;
+
+type Data = SparseLogData<Sha256, ()>;
+
+// Consistency from 2 to 3 and inclusion of the first and the last entry in the log of no bytes, `00` and `10`.
+const BOTH: &str = "0803 120102 1a020004 2224 0801 1220 U2 2224 0802 1220 L1 2224 0804 1220 L2";
+
+// Whether the bundle answers these proofs and no others.
+fn has_proofs(bundle: &Bundle<'_>, data: &Data) -> bool {
+    bundle.inclusion_proof(0) == Some(data.prove_inclusion(Node(0), 3))
+        && bundle.inclusion_proof(1) == Some(data.prove_inclusion(Node(4), 3))
+        && bundle.inclusion_proof(2).is_none()
+        && bundle.consistency_proof(0) == Some(data.prove_consistency(2, 3))
+        && bundle.consistency_proof(1).is_none()
+}
+
+#[test]
+fn readers_without_memory(rt: HostRuntime) -> Result<(), Fail> {
+    let memory = Refusing::after(rt.alloc(), 99);
+    let bundle: Bundle<'_> = ProofBundle::decode(&memory, &bytes_of(rt.alloc(), BOTH)?)?;
+    exhaust(&memory);
+    let none: Data = SparseLogData::from(Vec::new(rt.alloc()));
+    assert!(rt; has_proofs(&bundle, &none));
+    let hashes = bundle.hashes();
+    assert!(rt; hashes.has_hash(Node(2)) && !hashes.has_hash(Node(0)));
+    assert!(rt; hashes.hash_for(Node(1)) == Some(hash_of(rt.alloc(), "U2")?));
+    let roots = none.prove_consistency(2, 3).evaluate(&none).is_err();
+    assert!(rt; roots && memory.left() == 0 && !memory.has_refused());
+    Ok(())
+}
+
+#[test]
+fn parts_in_order(rt: HostRuntime) -> Result<(), Fail> {
+    let memory = Refusing::after(rt.alloc(), 99);
+    let bundle: Bundle<'_> = ProofBundle::decode(&memory, &bytes_of(rt.alloc(), BOTH)?)?;
+    let (hashes, consistencies, inclusions) = bundle.unbundle(&memory)?;
+    let first = hashes.prove_inclusion(Node(0), 3);
+    let last = hashes.prove_inclusion(Node(4), 3);
+    assert!(rt; inclusions.as_slice() == [first, last].as_slice());
+    let proof = hashes.prove_consistency(2, 3);
+    assert!(rt; consistencies.as_slice() == [proof].as_slice());
+    let roots = (hash_of(rt.alloc(), "U2")?, hash_of(rt.alloc(), "U3")?);
+    assert!(rt; proof.evaluate(&hashes) == Ok(roots));
+    Ok(())
+}
+
+// What bundling these proofs over no data is refused for, where every growth is.
+fn refusal(
+    rt: &HostRuntime,
+    consistencies: &[ConsistencyProof<Sha256, ()>],
+    inclusions: &[InclusionProof<Sha256, ()>],
+) -> Result<Option<BundleError>, Fail> {
+    let memory = Refusing::after(rt.alloc(), 2);
+    let data: Data = SparseLogData::from(Vec::new(rt.alloc()));
+    let consistencies = Vec::from_slice(&memory, consistencies)?;
+    let inclusions = Vec::from_slice(&memory, inclusions)?;
+    exhaust(&memory);
+    match ProofBundle::bundle(&memory, consistencies, inclusions, &data) {
+        Ok(_) => Ok(None),
+        Err(fault) => Ok(Some(fault)),
+    }
+}
+
+#[test]
+fn early_refusals_of_consistency_proofs(rt: HostRuntime) -> Result<(), Fail> {
+    let data: Data = SparseLogData::from(Vec::new(rt.alloc()));
+    let backwards = BundleError::Consistency(ConsistencyProofError::PointsOutOfOrder);
+    for (old, new, length, want) in [
+        (3, 2, 2, backwards),
+        (0, 5, 4, BundleError::DifferentRoots),
+        (0, 1 << 32, 1 << 32, BundleError::TooLarge),
+    ] {
+        let proofs = [
+            data.prove_consistency(old, new),
+            data.prove_consistency(1, length),
+        ];
+        assert!(rt; refusal(&rt, &proofs, &[])? == Some(want));
+    }
+    Ok(())
+}
+
+#[test]
+fn early_refusals_of_inclusion_proofs(rt: HostRuntime) -> Result<(), Fail> {
+    let data: Data = SparseLogData::from(Vec::new(rt.alloc()));
+    assert!(rt; refusal(&rt, &[], &[])? == Some(BundleError::NoProofs));
+    let too_new = BundleError::Inclusion(InclusionProofError::LeafTooNew);
+    for (node, length, want) in [
+        (2, 1, too_new),
+        (0, 1 << 32, BundleError::TooLarge),
+        (0, 2, BundleError::Memory),
+    ] {
+        let proofs = [data.prove_inclusion(Node(node), length)];
+        assert!(rt; refusal(&rt, &[], &proofs)? == Some(want));
+    }
+    let (older, later) = (
+        [data.prove_consistency(0, 5)],
+        [data.prove_inclusion(Node(8), 4)],
+    );
+    assert!(rt; refusal(&rt, &older, &later)? == Some(BundleError::DifferentRoots));
+    Ok(())
+}
+
+// A node's number above 32 bits.
+#[test]
+fn too_large_to_write_without_memory(rt: HostRuntime) -> Result<(), Fail> {
+    let memory = Refusing::after(rt.alloc(), 99);
+    let held = vec![in rt.alloc(); (Node((1 << 31) - 1), hash_of(rt.alloc(), "Z")?)]?;
+    let data: Data = SparseLogData::from(held);
+    let proof = data.prove_inclusion(Node(1 << 32), (1 << 31) + 1);
+    let proofs = vec![in &memory; proof]?;
+    let bundle: Bundle<'_> = ProofBundle::bundle(&memory, Vec::new(&memory), proofs, &data)?;
+    exhaust(&memory);
+    assert!(rt; bundle.encode(&memory) == Err(EncodeError::TooLarge));
+    assert!(rt; matches!(bundle.to_message(&memory), Err(EncodeError::TooLarge)));
+    assert!(rt; bundle.inclusion_proof(0) == Some(proof) && !memory.has_refused());
+    Ok(())
+}

@@ -1,0 +1,95 @@
+//! Messages: what their fields hold, and how they are compared.
+
+ghost use Rattle.std.specs.Prelude.{Ok};
+ghost use Rattle.warg_protobuf.specs.Reading.{Gives};
+ghost use Rattle.warg_protobuf.specs.LogProofBundle.{log_view};
+
+use crate::digests::{L0, bytes_of};
+use refusing::Refusing;
+use std::alloc::{AllocError, Allocator, Global};
+use std::test::Fail;
+use warg_protobuf::{
+    HashEntry, LogProofBundle, MapInclusionProof, MapProofBundle, StackLog, VecLog, WireError,
+};
+
+// Decoding what was encoded gives the same message, by the contracts of the two alone.
+fn written_and_read<A: Allocator + Copy>(
+    alloc: A,
+    bundle: &LogProofBundle<A>,
+) -> Result<LogProofBundle<A>, WireError>
+    ensures { Gives log_view result (Ok (log_view bundle.now)) }
+{
+    let bytes = bundle.encode(alloc)?;
+    LogProofBundle::decode(alloc, &bytes)
+}
+
+// Whether an entry has this number and the digest of one byte.
+fn is_entry(alloc: Global, entry: Option<&HashEntry>, index: u32) -> Result<bool, AllocError> {
+    match entry {
+        Some(entry) => {
+            let digits = hex::encode(alloc, entry.hash.as_slice())?;
+            Ok(entry.index == index && digits.as_str() == L0)
+        }
+        None => Ok(false),
+    }
+}
+
+#[test]
+fn fields_of_a_log_bundle(rt: HostRuntime) -> Result<(), Fail> {
+    let bytes = bytes_of(rt.alloc(), "08ac02 12020102 1a0305ac02 2225 08ac02 1220 L0")?;
+    let bundle = LogProofBundle::decode(rt.alloc(), &bytes)?;
+    assert!(rt;
+        bundle.log_length == 300 && bundle.consistent_lengths.as_slice() == [1, 2].as_slice()
+    );
+    assert!(rt; bundle.included_indices.as_slice() == [5, 300].as_slice());
+    assert!(rt; is_entry(rt.alloc(), bundle.hashes.first(), 300)? && bundle.hashes.len() == 1);
+    assert!(rt; written_and_read(rt.alloc(), &bundle)? == bundle);
+    assert!(rt; bundle != LogProofBundle::decode(rt.alloc(), &bytes[..3])?);
+    Ok(())
+}
+
+// How many peers a proof has, and how many of them are there.
+fn counted(proof: Option<&MapInclusionProof>) -> Option<(usize, usize)> {
+    let proof = proof?;
+    let held = proof.hashes.iter().filter(|peer| peer.hash.is_some());
+    Some((proof.hashes.len(), held.count()))
+}
+
+#[test]
+fn fields_of_a_map_bundle(rt: HostRuntime) -> Result<(), Fail> {
+    let bytes = bytes_of(rt.alloc(), "0a26 0a00 0a22 0a20 L0 0a00 1204 0a020a00")?;
+    let bundle = MapProofBundle::decode(rt.alloc(), &bytes)?;
+    assert!(rt; bundle.proofs.len() == 2 && bundle.absences.len() == 1);
+    assert!(rt; counted(bundle.proofs.first()) == Some((2, 1)));
+    assert!(rt; counted(bundle.proofs.last()) == Some((0, 0)));
+    assert!(rt; counted(bundle.absences.first()) == Some((1, 1)));
+    assert!(rt; bundle == MapProofBundle::decode(rt.alloc(), &bytes)?);
+    assert!(rt; bundle != MapProofBundle::decode(rt.alloc(), &bytes[..40])?);
+    Ok(())
+}
+
+#[test]
+fn fields_of_log_images(rt: HostRuntime) -> Result<(), Fail> {
+    let bytes = bytes_of(rt.alloc(), "0805 1224 0807 1220 L0 1200")?;
+    let stack = StackLog::decode(rt.alloc(), &bytes)?;
+    assert!(rt; stack.length == 5 && stack.stack.len() == 2);
+    assert!(rt; is_entry(rt.alloc(), stack.stack.first(), 7)?);
+    assert!(rt; stack == StackLog::decode(rt.alloc(), &bytes)?);
+    let bytes = bytes_of(rt.alloc(), "0803 12020102 1200")?;
+    let log = VecLog::decode(rt.alloc(), &bytes)?;
+    assert!(rt; log.length == 3 && log.tree.len() == 2);
+    let first = log.tree.first().map(|digest| digest.as_slice());
+    assert!(rt; first == Some([1, 2].as_slice()));
+    assert!(rt; log == VecLog::decode(rt.alloc(), &bytes)?);
+    Ok(())
+}
+
+#[test]
+fn nothing_is_reserved_by_an_announced_length(rt: HostRuntime) -> Result<(), Fail> {
+    let alloc = Refusing::after(rt.alloc(), 0);
+    let log = StackLog::decode(&alloc, &[0x08, 0xff, 0xff, 0xff, 0xff, 0x0f])?;
+    assert_eq!(rt; log.length, u32::MAX);
+    let cut = VecLog::decode(&alloc, &[0x12, 0xff, 0xff, 0xff, 0xff, 0x07, 0]);
+    assert!(rt; cut == Err(WireError::Truncated) && !alloc.has_refused());
+    Ok(())
+}

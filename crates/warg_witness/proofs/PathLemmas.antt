@@ -1,0 +1,140 @@
+-- Two evaluations along one key's bits.
+use Rattle.std.proofs.Common.{◌≡◌, ℕ, zero, suc, ◌-◌, ◌<◌, Bool, true, false, cond, nat_lt, List, [], ◌∷◌, ◌++◌, length, Option, Some, None, unwrap_or, get_or, ⊎_elim, refl, sym, ap, ◌∙◌}
+use Rattle.std.proofs.lemmas.Bool.{cases_Bool}
+use Rattle.warg_crypto.specs.EmptyTrees.{empty_root}
+use Rattle.warg_map.specs.ProofValue.{peer_of, proof_value}
+use Rattle.warg_witness.specs.Inputs.{branch_input}
+use Rattle.warg_witness.specs.Laws.{GivesHashes, HoldsPeers}
+use Rattle.warg_witness.specs.MapInputs.{fork_input}
+use Rattle.warg_witness.specs.MapPaths.{PartsOnPath, IsPathParting, IsClimb}
+use Rattle.warg_witness.specs.declared.descent.Parting.{Parting}
+use Rattle.warg_witness.specs.declared.descent.Parting.TheVariants.{Target, Branch}
+use Rattle.warg_witness.proofs.DescentLemmas.{inputs_differ}
+use Rattle.warg_witness.proofs.PureLemmas.{Part, same_or_not}
+
+-- what parts below a bit parts above it
+pub widened_path : {D : Type 0} (H : List ℕ → List ℕ) (P : List (Option (List ℕ))) (x : List ℕ) (Q : List (Option (List ℕ))) (y : List ℕ) (b : Bool) (bits : List Bool) (p : Parting D)
+    → IsPathParting H P x Q y bits p → IsPathParting H P x Q y (b ∷ bits) p
+widened_path H P x Q y b bits Target is = is
+widened_path H P x Q y b bits (Branch l r l' r') is = record {
+  above = b ∷ is.above;
+  bit = is.bit;
+  below = is.below;
+  parts = ap (λ q. b ∷ q) is.parts;
+  first_input = is.first_input;
+  second_input = is.second_input;
+  differ = is.differ;
+  same = is.same;
+}
+
+-- the input of one bit more
+fork_is : (H : List ℕ → List ℕ) (P : List (Option (List ℕ))) (x : List ℕ) (b : Bool) (bits : List Bool) (value peer l r : List ℕ)
+    → value ≡ proof_value H P x bits → peer_of H P (length bits) ≡ peer → l ≡ cond b peer value → r ≡ cond b value peer → branch_input l r ≡ fork_input H P x b bits
+fork_is H P x true bits value peer l r v p el er = ap (λ t. 1 ∷ t ++ r) (el ∙ sym p) ∙ ap (λ t. 1 ∷ peer_of H P (length bits) ++ t) (er ∙ v)
+fork_is H P x false bits value peer l r v p el er = ap (λ t. 1 ∷ t ++ r) (el ∙ v) ∙ ap (λ t. 1 ∷ proof_value H P x bits ++ t) (er ∙ sym p)
+
+-- of equal parts the one on the path is equal
+near_same : (b : Bool) (near far near' far' l r l' r' : List ℕ) → r ≡ cond b near far → l ≡ cond b far near → r' ≡ cond b near' far' → l' ≡ cond b far' near' → (l ≡ l') × (r ≡ r') → near ≡ near'
+near_same true near far near' far' l r l' r' er el er' el' same = sym er ∙ same.1 ∙ er'
+near_same false near far near' far' l r l' r' er el er' el' same = sym el ∙ same.0 ∙ el'
+
+-- one bit up, where the inputs are the same
+pub climb_same : {D : Type 0} (H : List ℕ → List ℕ) (P : List (Option (List ℕ))) (x : List ℕ) (Q : List (Option (List ℕ))) (y : List ℕ) (b : Bool) (bits : List Bool)
+    (first second peer peer' l r l' r' up up' : List ℕ) (p : Parting D) → peer_of H P (length bits) ≡ peer → peer_of H Q (length bits) ≡ peer' → IsClimb H P x Q y bits first second p
+    → (l ≡ cond b peer first) × (r ≡ cond b first peer) → (l' ≡ cond b peer' second) × (r' ≡ cond b second peer') → up ≡ H (branch_input l r) → up' ≡ H (branch_input l' r')
+    → (l ≡ l') × (r ≡ r') → IsClimb H P x Q y (b ∷ bits) up up' p
+unfolding proof_value
+climb_same H P x Q y b bits first second peer peer' l r l' r' up up' p at at' climb parts parts' is is' same = record {
+  first_is = is ∙ ap H (fork_is H P x b bits first peer l r climb.first_is at parts.0 parts.1);
+  second_is = is' ∙ ap H (fork_is H Q y b bits second peer' l' r' climb.second_is at' parts'.0 parts'.1);
+  parts = λ _. widened_path H P x Q y b bits p (climb.parts (near_same b first peer second peer' l r l' r' parts.1 parts.0 parts'.1 parts'.0 same));
+}
+
+-- one bit up, where they differ
+pub climb_parts : {D : Type 0} (H : List ℕ → List ℕ) (P : List (Option (List ℕ))) (x : List ℕ) (Q : List (Option (List ℕ))) (y : List ℕ) (b : Bool) (bits : List Bool)
+    (first second peer peer' l r l' r' up up' : List ℕ) (p : Parting D) → peer_of H P (length bits) ≡ peer → peer_of H Q (length bits) ≡ peer' → IsClimb H P x Q y bits first second p
+    → (l ≡ cond b peer first) × (r ≡ cond b first peer) → (l' ≡ cond b peer' second) × (r' ≡ cond b second peer') → up ≡ H (branch_input l r) → up' ≡ H (branch_input l' r')
+    → length l ≡ length l' → ((l ≡ l') × (r ≡ r') → ⊥) → IsClimb {D = D} H P x Q y (b ∷ bits) up up' (Branch l r l' r')
+unfolding proof_value
+climb_parts H P x Q y b bits first second peer peer' l r l' r' up up' p at at' climb parts parts' is is' len other = record {
+  first_is = is ∙ ap H (fork_is H P x b bits first peer l r climb.first_is at parts.0 parts.1);
+  second_is = is' ∙ ap H (fork_is H Q y b bits second peer' l' r' climb.second_is at' parts'.0 parts'.1);
+  parts = λ e. record {
+    above = [];
+    bit = b;
+    below = bits;
+    parts = refl;
+    first_input = fork_is H P x b bits first peer l r climb.first_is at parts.0 parts.1;
+    second_input = fork_is H Q y b bits second peer' l' r' climb.second_is at' parts'.0 parts'.1;
+    differ = inputs_differ l r l' r' len other;
+    same = sym is ∙ e ∙ is';
+  };
+}
+
+-- the values and the peers have 32 bytes
+value_len : (H : List ℕ → List ℕ) (P : List (Option (List ℕ))) (x : List ℕ) → GivesHashes H → length x ≡ 32 → (bits : List Bool) → length (proof_value H P x bits) ≡ 32
+unfolding proof_value
+value_len H P x gives size [] = size
+value_len H P x gives size (b ∷ bits) = gives (fork_input H P x b bits)
+
+empty_len : (H : List ℕ → List ℕ) → GivesHashes H → (k : ℕ) → length (empty_root H k) ≡ 32
+unfolding empty_root
+empty_len H gives zero = gives (0 ∷ [])
+empty_len H gives (suc k) = gives (1 ∷ (empty_root H k ++ empty_root H k))
+
+peer_len : (H : List ℕ → List ℕ) (P : List (Option (List ℕ))) → GivesHashes H → HoldsPeers P → (i : ℕ) → length (peer_of H P i) ≡ 32
+peer_len H P gives holds i = ⊎_elim
+    (λ (t : nat_lt i (256 - length P) ≡ true). rw t (empty_len H gives i))
+    (λ (t : nat_lt i (256 - length P) ≡ false). rw t (there (get_or P (i - (256 - length P)) None) (holds (i - (256 - length P)))))
+    (cases_Bool (nat_lt i (256 - length P)))
+  where
+    there : (o : Option (List ℕ)) → ((digest : List ℕ) → o ≡ Some digest → length digest ≡ 32) → length (unwrap_or o (empty_root H i)) ≡ 32
+    there None h = empty_len H gives i
+    there (Some digest) h = h digest refl
+
+-- two evaluations of one root part at a branch, or have one leaf digest
+pub parted_on_path : (H : List ℕ → List ℕ) (P : List (Option (List ℕ))) (x : List ℕ) (Q : List (Option (List ℕ))) (y : List ℕ) → GivesHashes H → HoldsPeers P → HoldsPeers Q → length x ≡ 32 → length y ≡ 32
+    → (bits : List Bool) → proof_value H P x bits ≡ proof_value H Q y bits → (p : Part) × IsPathParting H P x Q y bits p
+unfolding proof_value
+parted_on_path H P x Q y gives holds holds' size size' [] e = (Target, e)
+parted_on_path H P x Q y gives holds holds' size size' (b ∷ bits) e =
+    let peer = peer_of H P (length bits) in
+    let peer' = peer_of H Q (length bits) in
+    let value = proof_value H P x bits in
+    let value' = proof_value H Q y bits in
+    ⊎_elim
+    (λ (same : cond b peer value ≡ cond b peer' value'). ⊎_elim
+    (λ (same' : cond b value peer ≡ cond b value' peer').
+    let deep = parted_on_path H P x Q y gives holds holds' size size' bits (near_same b value peer value' peer' _ _ _ _ refl refl refl refl (same, same')) in
+    (deep.0, widened_path H P x Q y b bits deep.0 deep.1))
+    (λ (other : cond b value peer ≡ cond b value' peer' → ⊥). here (λ both. other both.1))
+    (same_or_not (cond b value peer) (cond b value' peer')))
+    (λ (other : cond b peer value ≡ cond b peer' value' → ⊥). here (λ both. other both.0))
+    (same_or_not (cond b peer value) (cond b peer' value'))
+  where
+    side_len : (b : Bool) (p v : List ℕ) → length p ≡ 32 → length v ≡ 32 → length (cond b p v) ≡ 32
+    side_len true p v e f = e
+    side_len false p v e f = f
+
+    here : ((cond b (peer_of H P (length bits)) (proof_value H P x bits) ≡ cond b (peer_of H Q (length bits)) (proof_value H Q y bits))
+        × (cond b (proof_value H P x bits) (peer_of H P (length bits)) ≡ cond b (proof_value H Q y bits) (peer_of H Q (length bits))) → ⊥)
+        → (p : Part) × IsPathParting H P x Q y (b ∷ bits) p
+    here other =
+        let first = fork_is H P x b bits _ _ _ _ refl refl refl refl in
+        let second = fork_is H Q y b bits _ _ _ _ refl refl refl refl in
+        (
+          Branch (cond b (peer_of H P (length bits)) (proof_value H P x bits)) (cond b (proof_value H P x bits) (peer_of H P (length bits)))
+              (cond b (peer_of H Q (length bits)) (proof_value H Q y bits)) (cond b (proof_value H Q y bits) (peer_of H Q (length bits))),
+          record {
+            above = [];
+            bit = b;
+            below = bits;
+            parts = refl;
+            first_input = first;
+            second_input = second;
+            differ = inputs_differ _ _ _ _
+                (side_len b _ _ (peer_len H P gives holds (length bits)) (value_len H P x gives size bits)
+                ∙ sym (side_len b _ _ (peer_len H Q gives holds' (length bits)) (value_len H Q y gives size' bits))) other;
+            same = ap H first ∙ e ∙ sym (ap H second);
+          },
+        )

@@ -1,0 +1,101 @@
+-- The plain sparse tree beside a key's bits, as the peers of a proof.
+use Rattle.std.proofs.Common.{◌≡◌, ℕ, zero, suc, ◌+◌, ◌-◌, ◌<◌, Bool, true, false, not, cond, nat_lt, List, [], ◌∷◌, ◌++◌, length, Option, Some, None, unwrap_or, get_or, refl, sym, ap, ◌∙◌, arith, append_assoc}
+use Rattle.std.proofs.lemmas.List.{append-nil, length-append}
+use Rattle.std.proofs.lemmas.Bool.{le-ltb}
+use Rattle.std.specs.Option.{option_map}
+use Rattle.std.specs.FinMap.{get}
+use Rattle.warg_crypto.specs.EmptyTrees.{empty_root}
+use Rattle.warg_map.specs.Bits.{key_bits}
+use Rattle.warg_map.specs.Sparse.{root_of, leaf_digest, map_of}
+use Rattle.warg_map.specs.Last.{last_under}
+use Rattle.warg_map.specs.ProofValue.{peer_of, proof_value}
+use Rattle.warg_witness.specs.Inputs.{branch_input}
+use Rattle.warg_witness.specs.MapClaims.{value_in}
+use Rattle.warg_witness.specs.MapInputs.{fork_input, path_input, plain_input_at}
+use Rattle.warg_witness.specs.MapPaths.{plain_peers}
+
+pub length-plain_peers : (H : List ℕ → List ℕ) (held : List Bool → Option (List ℕ)) (bits : List Bool) → length (plain_peers H held bits) ≡ length bits
+unfolding plain_peers
+length-plain_peers H held [] = refl
+length-plain_peers H held (b ∷ bits) =
+    length-append (plain_peers H (λ q. held (b ∷ q)) bits) (Some (root_of H (length bits) (λ q. held (not b ∷ q))) ∷ [])
+    ∙ (let n = length-plain_peers H (λ q. held (b ∷ q)) bits in let e : length (plain_peers H (λ q. held (b ∷ q)) bits) + 1 ≡ suc (length bits) = omega (arith, n) in e)
+
+at_end : (xs : List (Option (List ℕ))) (y : Option (List ℕ)) (ys : List (Option (List ℕ))) (i : ℕ) → length xs ≡ i → get_or (xs ++ y ∷ ys) i None ≡ y
+at_end [] y ys zero e = refl
+at_end [] y ys (suc i) e = absurd (omega (arith, e))
+at_end (x ∷ xs) y ys zero e = absurd (omega (arith, e))
+at_end (x ∷ xs) y ys (suc i) e = at_end xs y ys i (omega (arith, e))
+
+-- the peer of a height in a list of all 256
+peer_there : (H : List ℕ → List ℕ) (peers before after : List (Option (List ℕ))) (digest : List ℕ) (i : ℕ) → peers ≡ before ++ Some digest ∷ after → length before ≡ i → length peers ≡ 256 → peer_of H peers i ≡ digest
+peer_there H peers before after digest i e n all =
+    let none : 256 - length peers ≡ 0 = omega (arith, all) in
+    let place : i - 0 ≡ i = omega arith in
+    ap (λ k. cond (nat_lt i k) (empty_root H i) (unwrap_or (get_or peers (i - k) None) (empty_root H i))) none
+    ∙ ap (λ t. cond t (empty_root H i) (unwrap_or (get_or peers (i - 0) None) (empty_root H i))) (le-ltb i 0 (omega arith))
+    ∙ ap (λ j. unwrap_or (get_or peers j None) (empty_root H i)) place
+    ∙ ap (λ ps. unwrap_or (get_or ps i None) (empty_root H i)) e
+    ∙ ap (λ o. unwrap_or o (empty_root H i)) (at_end before (Some digest) after i n)
+
+-- the branch over both halves
+both_halves : (H : List ℕ → List ℕ) (held : List Bool → Option (List ℕ)) (b : Bool) (k : ℕ) (peer value : List ℕ) → peer ≡ root_of H k (λ q. held (not b ∷ q)) → value ≡ root_of H k (λ q. held (b ∷ q))
+    → ◌≡◌ {A = List ℕ} (1 ∷ cond b (peer ++ value) (value ++ peer)) (branch_input (root_of H k (λ q. held (false ∷ q))) (root_of H k (λ q. held (true ∷ q))))
+both_halves H held true k peer value p v = ap (λ t. 1 ∷ t ++ value) p ∙ ap (λ t. 1 ∷ root_of H k (λ q. held (false ∷ q)) ++ t) v
+both_halves H held false k peer value p v = ap (λ t. 1 ∷ t ++ peer) v ∙ ap (λ t. 1 ∷ root_of H k (λ q. held (false ∷ q)) ++ t) p
+
+-- the plain peers lead to the plain root
+pub plain_value : (H : List ℕ → List ℕ) (held : List Bool → Option (List ℕ)) (bits : List Bool) (peers after : List (Option (List ℕ))) (x : List ℕ) → peers ≡ plain_peers H held bits ++ after → length peers ≡ 256
+    → x ≡ unwrap_or (held bits) (empty_root H 0) → proof_value H peers x bits ≡ root_of H (length bits) held
+unfolding plain_peers proof_value root_of
+plain_value H held [] peers after x e all is = is
+plain_value H held (b ∷ bits) peers after x e all is =
+    let more = e ∙ append_assoc (plain_peers H (λ q. held (b ∷ q)) bits) (Some (root_of H (length bits) (λ q. held (not b ∷ q))) ∷ []) after in
+    ap H (both_halves H held b (length bits) (peer_of H peers (length bits)) (proof_value H peers x bits)
+    (peer_there H peers (plain_peers H (λ q. held (b ∷ q)) bits) after _ (length bits) more (length-plain_peers H (λ q. held (b ∷ q)) bits) all)
+    (plain_value H (λ q. held (b ∷ q)) bits peers (Some (root_of H (length bits) (λ q. held (not b ∷ q))) ∷ after) x more all is))
+
+-- the plain peers below a prefix
+plain_after : (H : List ℕ → List ℕ) (held : List Bool → Option (List ℕ)) (prefix rest : List Bool) (peers after : List (Option (List ℕ))) → peers ≡ plain_peers H held (prefix ++ rest) ++ after
+    → (more : List (Option (List ℕ))) × (peers ≡ plain_peers H (λ q. held (prefix ++ q)) rest ++ more)
+unfolding plain_peers
+plain_after H held [] rest peers after e = (after, e)
+plain_after H held (b ∷ prefix) rest peers after e =
+    plain_after H (λ q. held (b ∷ q)) prefix rest peers (Some (root_of H (length (prefix ++ rest)) (λ q. held (not b ∷ q))) ∷ after)
+    (e ∙ append_assoc (plain_peers H (λ q. held (b ∷ q)) (prefix ++ rest)) (Some (root_of H (length (prefix ++ rest)) (λ q. held (not b ∷ q))) ∷ []) after)
+
+leaf_is : (H : List ℕ → List ℕ) (o : Option (List ℕ × List ℕ)) → leaf_digest H (value_in o) ≡ unwrap_or (option_map (λ e. leaf_digest H e.1) o) (empty_root H 0)
+unfolding empty_root
+leaf_is H None = refl
+leaf_is H (Some e) = refl
+
+-- the leaf digest under bits, by what is held there
+pub plain_leaf_is : (H : List ℕ → List ℕ) (insertions : List (List ℕ × List ℕ)) (bits : List Bool) → get (map_of H insertions) bits ≡ option_map (λ e. leaf_digest H e.1) (last_under H bits insertions)
+    → leaf_digest H (value_in (last_under H bits insertions)) ≡ unwrap_or (get (map_of H insertions) bits) (empty_root H 0)
+plain_leaf_is H insertions bits held = leaf_is H (last_under H bits insertions) ∙ ap (λ o. unwrap_or o (empty_root H 0)) (sym held)
+
+more_of : (H : List ℕ → List ℕ) (held : List Bool → Option (List ℕ)) (b : Bool) (bits : List Bool) (peers after : List (Option (List ℕ))) → peers ≡ plain_peers H held (b ∷ bits) ++ after
+    → peers ≡ plain_peers H (λ q. held (b ∷ q)) bits ++ Some (root_of H (length bits) (λ q. held (not b ∷ q))) ∷ after
+unfolding plain_peers
+more_of H held b bits peers after e = e ∙ append_assoc (plain_peers H (λ q. held (b ∷ q)) bits) (Some (root_of H (length bits) (λ q. held (not b ∷ q))) ∷ []) after
+
+below_prefix : (H : List ℕ → List ℕ) (held : List Bool → Option (List ℕ)) (b : Bool) (bits : List Bool) (peers after : List (Option (List ℕ))) (x : List ℕ) → peers ≡ plain_peers H held (b ∷ bits) ++ after
+    → length peers ≡ 256 → x ≡ unwrap_or (held (b ∷ bits)) (empty_root H 0)
+    → fork_input H peers x b bits ≡ branch_input (root_of H (length bits) (λ q. held (false ∷ q))) (root_of H (length bits) (λ q. held (true ∷ q)))
+below_prefix H held b bits peers after x e all is =
+    let more = more_of H held b bits peers after e in
+    both_halves H held b (length bits) (peer_of H peers (length bits)) (proof_value H peers x bits)
+    (peer_there H peers (plain_peers H (λ q. held (b ∷ q)) bits) after _ (length bits) more (length-plain_peers H (λ q. held (b ∷ q)) bits) all)
+    (plain_value H (λ q. held (b ∷ q)) bits peers (Some (root_of H (length bits) (λ q. held (not b ∷ q))) ∷ after) x more all is)
+
+-- the input of the plain peers' evaluation at a prefix is the plain input there
+pub plain_input_is : (H : List ℕ → List ℕ) (insertions : List (List ℕ × List ℕ)) (bits prefix rest : List Bool) → length bits ≡ 256
+    → get (map_of H insertions) bits ≡ option_map (λ e. leaf_digest H e.1) (last_under H bits insertions) → bits ≡ prefix ++ rest
+    → path_input H (plain_peers H (get (map_of H insertions)) bits) (value_in (last_under H bits insertions)) rest ≡ plain_input_at H insertions prefix (length rest)
+plain_input_is H insertions bits prefix [] long held e = ap (λ q. 0 ∷ value_in (last_under H q insertions)) (e ∙ append-nil prefix)
+plain_input_is H insertions bits prefix (b ∷ below) long held e =
+    let all = length-plain_peers H (get (map_of H insertions)) bits ∙ long in
+    let from = plain_after H (get (map_of H insertions)) prefix (b ∷ below) (plain_peers H (get (map_of H insertions)) bits) []
+        (ap (plain_peers H (get (map_of H insertions))) e ∙ sym (append-nil (plain_peers H (get (map_of H insertions)) (prefix ++ b ∷ below)))) in
+    below_prefix H (λ q. get (map_of H insertions) (prefix ++ q)) b below (plain_peers H (get (map_of H insertions)) bits) from.0 (leaf_digest H (value_in (last_under H bits insertions))) from.1 all
+    (plain_leaf_is H insertions bits held ∙ ap (λ q. unwrap_or (get (map_of H insertions) q) (empty_root H 0)) e)

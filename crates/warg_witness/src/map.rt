@@ -1,0 +1,273 @@
+//! Witnesses for the map's proofs.
+
+ghost use Rattle.std.specs.Prelude.{◌≡◌, ℕ, ◌≤◌, ◌↔◌, Bool, List, [], length, Option, IfOk, MatchOption};
+ghost use Rattle.warg_map.specs.Last.{last_under};
+ghost use Rattle.warg_map.specs.Sparse.{leaf_digest, pair_bytes};
+ghost use Rattle.warg_witness.specs.MapClaims.{value_in, IsKeyMet, IsAbsenceMet, IsKeyAgreement, IsLastValue};
+ghost use Rattle.warg_witness.specs.MapPlaced.{IsKeyPlaced, IsKeyAgreementPlaced};
+ghost use Rattle.warg_witness.specs.MapMeeting.{IsKeyMeeting};
+ghost use Rattle.warg_witness.specs.MapPaths.{IsLastPlace};
+ghost use Rattle.warg_witness.specs.Parting.{Collides};
+
+mod empty;
+mod keys;
+mod last;
+mod path;
+mod tree;
+
+use crate::collision::{Collision, Finding};
+use crate::compare::have_same_bytes;
+use crate::descent::Parting;
+use crate::pair::{collide_values, part};
+use empty::empty_trees;
+use last::is_last_value;
+use path::{Evaluation, meet_on_path};
+use std::alloc::{AllocError, Allocator};
+use tree::plain_path;
+use warg_crypto::{Hash, SupportedDigest, VisitBytes, bytes_of};
+use warg_log::hash_leaf;
+use warg_map::Proof;
+use warg_map::laws::{all_bits, last_held, same_digest};
+
+// A proof that leads to the plain root of given insertions.
+#[derive(Drop)]
+struct KeyMeeting<D> {
+    // Where the evaluation parts from the plain tree on the way from the root to the key's leaf.
+    parting: Parting<D>,
+    // The place of the last insertion under the key's digest.
+    last: Option<usize>,
+}
+
+// The digest of the plain tree's leaf, by the place of the last insertion under it.
+fn plain_leaf<D: SupportedDigest, K: VisitBytes, V: VisitBytes>(
+    insertions: &[(K, V)],
+    last: Option<usize>,
+) -> Hash<D>
+    requires { (bits : List Bool) × IsLastPlace D.digest (pair_bytes K.bytes V.bytes insertions.now) bits last }
+    ensures { (bits : List Bool) → IsLastPlace D.digest (pair_bytes K.bytes V.bytes insertions.now) bits last
+        → result ≡ leaf_digest D.digest (value_in (last_under D.digest bits (pair_bytes K.bytes V.bytes insertions.now))) }
+{
+    match last {
+        Some(place) => hash_leaf(&insertions[place].1),
+        None => hash_leaf(&()),
+    }
+}
+
+// The meeting of a proof with the insertions, or None where they don't meet.
+fn meet<D: SupportedDigest, K: VisitBytes, V: VisitBytes, W: VisitBytes, A: Allocator + Copy>(
+    alloc: A,
+    peers: &[Option<Hash<D>>],
+    key: &K,
+    value: &W,
+    insertions: &[(K, V)],
+) -> Result<Option<KeyMeeting<D>>, AllocError>
+    requires { length peers.now ≤ 256 }
+    ensures { IfOk result (λ met. MatchOption met
+        (IsKeyMet D.digest peers.now (K.bytes key.now) (W.bytes value.now) (pair_bytes K.bytes V.bytes insertions.now) → ⊥)
+        (λ m. IsKeyMeeting D.digest peers.now (K.bytes key.now) (W.bytes value.now) (pair_bytes K.bytes V.bytes insertions.now) m.parting m.last)) }
+{
+    last_held();
+    all_bits();
+    let digest = Hash::of(key);
+    let empty = empty_trees(alloc)?;
+    let plain = plain_path(alloc, insertions, &empty, &digest)?;
+    let evaluation = Evaluation {
+        peers,
+        leaf: hash_leaf(value),
+    };
+    let tree = Evaluation {
+        peers: &plain.peers,
+        leaf: plain_leaf(insertions, plain.last),
+    };
+    let Some(parting) = meet_on_path(&digest, &empty, evaluation, tree) else {
+        return Ok(None);
+    };
+    Ok(Some(KeyMeeting {
+        parting,
+        last: plain.last,
+    }))
+}
+
+// The collision of two keys of one digest.
+fn collide_keys<D: SupportedDigest, K: VisitBytes, A: Allocator + Copy>(
+    alloc: A,
+    claimed: &K,
+    inserted: &K,
+) -> Result<Collision<D, A>, AllocError>
+    requires { Collides D.digest (K.bytes claimed.now, K.bytes inserted.now) }
+    ensures { IfOk result (λ c. c ≡ (K.bytes claimed.now, K.bytes inserted.now)) }
+{
+    let first = bytes_of(alloc, claimed)?;
+    let second = bytes_of(alloc, inserted)?;
+    Ok(Collision::new(first, second))
+}
+
+// The collision that a false claim of a key shows: where the evaluation parts from the plain tree, at the leaf, or
+// the key with another one of its digest.
+fn collide<D: SupportedDigest, K: VisitBytes, V: VisitBytes, W: VisitBytes, A: Allocator + Copy>(
+    alloc: A,
+    met: &KeyMeeting<D>,
+    key: &K,
+    value: &W,
+    insertions: &[(K, V)],
+) -> Result<Collision<D, A>, AllocError>
+    requires met { (peers : List (Option (List ℕ))) × IsKeyMeeting D.digest peers (K.bytes key.now) (W.bytes value.now) (pair_bytes K.bytes V.bytes insertions.now) met.now.parting met.now.last }
+    requires untrue { IsLastValue (K.bytes key.now) (W.bytes value.now) (pair_bytes K.bytes V.bytes insertions.now) → ⊥ }
+    ensures { IfOk result (λ c. (peers : List (Option (List ℕ))) → IsKeyMeeting D.digest peers (K.bytes key.now) (W.bytes value.now) (pair_bytes K.bytes V.bytes insertions.now) met.now.parting met.now.last
+        → IsKeyPlaced D.digest peers (W.bytes value.now) (K.bytes key.now) (pair_bytes K.bytes V.bytes insertions.now) c.0 c.1) }
+{
+    last_held();
+    all_bits();
+    same_digest();
+    if !met.parting.is_target() {
+        return part(alloc, &met.parting);
+    }
+    let Some(place) = met.last else {
+        return collide_values(alloc, &met.parting, value, &());
+    };
+    let (inserted, last) = &insertions[place];
+    if have_same_bytes(value, last)? {
+        return collide_keys(alloc, key, inserted);
+    }
+    collide_values(alloc, &met.parting, value, last)
+}
+
+// What a proof's peers and a value, or no bytes, show of a key.
+fn find<D: SupportedDigest, K: VisitBytes, V: VisitBytes, W: VisitBytes, A: Allocator + Copy>(
+    alloc: A,
+    peers: &[Option<Hash<D>>],
+    key: &K,
+    value: &W,
+    insertions: &[(K, V)],
+) -> Result<Finding<D, A>, AllocError>
+    requires { length peers.now ≤ 256 }
+    ensures not_met { IfOk result (λ f. (f ≡ Finding.NotMet)
+        ↔ (IsKeyMet D.digest peers.now (K.bytes key.now) (W.bytes value.now) (pair_bytes K.bytes V.bytes insertions.now) → ⊥)) }
+    ensures holds { IfOk result (λ f. (f ≡ Finding.Holds)
+        ↔ (IsKeyMet D.digest peers.now (K.bytes key.now) (W.bytes value.now) (pair_bytes K.bytes V.bytes insertions.now)
+        × IsLastValue (K.bytes key.now) (W.bytes value.now) (pair_bytes K.bytes V.bytes insertions.now))) }
+    ensures collision { IfOk result (λ f. (c : _) → f ≡ Finding.Collision c
+        → IsKeyPlaced D.digest peers.now (W.bytes value.now) (K.bytes key.now) (pair_bytes K.bytes V.bytes insertions.now) c.0 c.1) }
+{
+    let Some(met) = meet(alloc, peers, key, value, insertions)? else {
+        return Ok(Finding::NotMet);
+    };
+    if is_last_value(key, value, insertions)? {
+        return Ok(Finding::Holds);
+    }
+    Ok(Finding::Collision(collide(
+        alloc, &met, key, value, insertions,
+    )?))
+}
+
+/// Whether a proof's claim about a key's value is true of the insertions: the value inserted last under the key's
+/// bytes has the value's bytes. A key that is inserted nowhere counts as one with no bytes.
+///
+/// `NotMet` exactly where the proof doesn't lead from the value to the root of the map of the insertions. `Holds`
+/// exactly where it does, and the claim is true. Else a collision: what the digest function takes in the evaluation
+/// (first) and in the plain tree over the insertions (second) at one prefix of the key's bits; or the key's bytes
+/// (first) and those of an inserted key with the same digest (second).
+///
+/// It hashes each inserted key once, and each branch of the plain tree once, and beside them few hashes on the key's
+/// path. It keeps the keys' digests with their places, and copies no key and no value but into a collision. Want of
+/// memory is the only error.
+pub fn witness_key<
+    D: SupportedDigest,
+    K: VisitBytes,
+    V: VisitBytes,
+    A: Allocator + Copy,
+    B: Allocator,
+>(
+    alloc: A,
+    proof: &Proof<D, K, V, B>,
+    key: &K,
+    value: &V,
+    insertions: &[(K, V)],
+) -> Result<Finding<D, A>, AllocError>
+    ensures not_met { IfOk result (λ f. (f ≡ Finding.NotMet)
+        ↔ (IsKeyMet D.digest proof.now (K.bytes key.now) (V.bytes value.now) (pair_bytes K.bytes V.bytes insertions.now) → ⊥)) }
+    ensures holds { IfOk result (λ f. (f ≡ Finding.Holds)
+        ↔ (IsKeyMet D.digest proof.now (K.bytes key.now) (V.bytes value.now) (pair_bytes K.bytes V.bytes insertions.now)
+        × IsLastValue (K.bytes key.now) (V.bytes value.now) (pair_bytes K.bytes V.bytes insertions.now))) }
+    ensures collision { IfOk result (λ f. (c : _) → f ≡ Finding.Collision c
+        → IsKeyPlaced D.digest proof.now (V.bytes value.now) (K.bytes key.now) (pair_bytes K.bytes V.bytes insertions.now) c.0 c.1) }
+{
+    find(alloc, proof.peers(), key, value, insertions)
+}
+
+/// Whether a proof's claim that a key is absent is true of the insertions: the value inserted last under the key's
+/// bytes has no bytes, or the key is inserted nowhere.
+///
+/// `NotMet` exactly where the proof doesn't lead from an empty leaf to the root of the map of the insertions. `Holds`
+/// exactly where it does, and the claim is true. Else a collision, as that of [`witness_key`] for a value without
+/// bytes, and at the same cost. Want of memory is the only error.
+pub fn witness_absent<
+    D: SupportedDigest,
+    K: VisitBytes,
+    V: VisitBytes,
+    A: Allocator + Copy,
+    B: Allocator,
+>(
+    alloc: A,
+    proof: &Proof<D, K, V, B>,
+    key: &K,
+    insertions: &[(K, V)],
+) -> Result<Finding<D, A>, AllocError>
+    ensures not_met { IfOk result (λ f. (f ≡ Finding.NotMet)
+        ↔ (IsAbsenceMet D.digest proof.now (K.bytes key.now) (pair_bytes K.bytes V.bytes insertions.now) → ⊥)) }
+    ensures holds { IfOk result (λ f. (f ≡ Finding.Holds)
+        ↔ (IsAbsenceMet D.digest proof.now (K.bytes key.now) (pair_bytes K.bytes V.bytes insertions.now)
+        × IsLastValue (K.bytes key.now) [] (pair_bytes K.bytes V.bytes insertions.now))) }
+    ensures collision { IfOk result (λ f. (c : _) → f ≡ Finding.Collision c
+        → IsKeyPlaced D.digest proof.now [] (K.bytes key.now) (pair_bytes K.bytes V.bytes insertions.now) c.0 c.1) }
+{
+    find(alloc, proof.peers(), key, &(), insertions)
+}
+
+/// Whether two proofs of one key, each with a value, agree under one root, whichever it is.
+///
+/// `NotMet` exactly where the two don't lead to one root. `Holds` exactly where they do, and the values have the same
+/// bytes. Else a collision: what the digest function takes in the first and in the second evaluation at one prefix of
+/// the key's bits. Want of memory is the only error.
+pub fn agree_key<
+    D: SupportedDigest,
+    K: VisitBytes,
+    V: VisitBytes,
+    A: Allocator + Copy,
+    B: Allocator,
+    C: Allocator,
+>(
+    alloc: A,
+    key: &K,
+    first_proof: &Proof<D, K, V, B>,
+    first_value: &V,
+    second_proof: &Proof<D, K, V, C>,
+    second_value: &V,
+) -> Result<Finding<D, A>, AllocError>
+    ensures not_met { IfOk result (λ f. (f ≡ Finding.NotMet)
+        ↔ (IsKeyAgreement D.digest (K.bytes key.now) first_proof.now (V.bytes first_value.now) second_proof.now (V.bytes second_value.now) → ⊥)) }
+    ensures holds { IfOk result (λ f. (f ≡ Finding.Holds)
+        ↔ (IsKeyAgreement D.digest (K.bytes key.now) first_proof.now (V.bytes first_value.now) second_proof.now (V.bytes second_value.now)
+        × (V.bytes first_value.now ≡ V.bytes second_value.now))) }
+    ensures collision { IfOk result (λ f. (c : _) → f ≡ Finding.Collision c
+        → IsKeyAgreementPlaced D.digest (K.bytes key.now) first_proof.now (V.bytes first_value.now) second_proof.now (V.bytes second_value.now) c.0 c.1) }
+{
+    let digest = Hash::of(key);
+    let empty = empty_trees(alloc)?;
+    let first = Evaluation {
+        peers: first_proof.peers(),
+        leaf: hash_leaf(first_value),
+    };
+    let second = Evaluation {
+        peers: second_proof.peers(),
+        leaf: hash_leaf(second_value),
+    };
+    let Some(parting) = meet_on_path(&digest, &empty, first, second) else {
+        return Ok(Finding::NotMet);
+    };
+    if have_same_bytes(first_value, second_value)? {
+        return Ok(Finding::Holds);
+    }
+    let pair = collide_values(alloc, &parting, first_value, second_value)?;
+    Ok(Finding::Collision(pair))
+}

@@ -1,0 +1,23 @@
+//! The digests of empty trees, each computed once.
+
+ghost use Rattle.std.specs.Prelude.{IfOk};
+ghost use Rattle.warg_witness.specs.MapPaths.{AreEmptyTrees};
+
+use std::alloc::{AllocError, Allocator};
+use warg_crypto::{Hash, SupportedDigest, empty_tree_hash};
+
+/// The digests of the empty trees of 0 to 256 levels, by their heights.
+pub(crate) fn empty_trees<D: SupportedDigest, A: Allocator>(
+    alloc: A,
+) -> Result<Vec<Hash<D>, A>, AllocError>
+    ensures { IfOk result (λ digests. AreEmptyTrees D.digest digests.items) }
+{
+    let mut digests = Vec::new(alloc);
+    let mut empty = empty_tree_hash::<D>(0);
+    for height in 0..256 {
+        digests.push(empty.copied())?;
+        empty = D::empty_above(height, &empty);
+    }
+    digests.push(empty)?;
+    Ok(digests)
+}
