@@ -25,6 +25,11 @@ impl Answer {
         *self.text.allocator()
     }
 
+    /// Ends the line.
+    pub(crate) fn end(&mut self) -> Result<(), AllocError> {
+        self.text.push('\n')
+    }
+
     /// Writes one word more.
     pub(crate) fn word(&mut self, word: &str) -> Result<(), AllocError> {
         if !self.text.is_empty() {

@@ -19,33 +19,34 @@ use crate::answer::Answer;
 use crate::words::{Fault, Words};
 
 /// Answers the call that the words spell.
-pub(crate) fn answer(words: &mut Words<'_>, answer: &mut Answer) -> Result<(), Fault> {
+pub(crate) fn answer(words: &mut Words<'_>, to: &mut Answer) -> Result<(), Fault> {
     let name = words.name()?;
-    if is_answered(name, words, answer)? {
-        Ok(())
-    } else {
-        Err(Fault::BadCall)
+    match name {
+        "log" => logs::log(words, to),
+        "walk" => proofs::walk(words, to),
+        "evaluate_value" => proofs::evaluate_value(words, to),
+        "evaluate_hash" => proofs::evaluate_hash(words, to),
+        "consistency" => proofs::consistency(words, to),
+        "inclusions" => proofs::inclusions(words, to),
+        "bundle" => bundles::bundle(words, to),
+        "witness_value" => witnesses::witness_value(words, to),
+        "witness_hash" => witnesses::witness_hash(words, to),
+        "witness_consistency" => witnesses::witness_consistency(words, to),
+        "agree_value" => witnesses::agree_value(words, to),
+        _ => others(name, words, to),
     }
 }
 
-// Whether one of the modules knows the name, and so answered the call.
-fn is_answered(name: &str, words: &mut Words<'_>, to: &mut Answer) -> Result<bool, Fault> {
-    Ok(
-        nodes::answer(name, words, to)?
-            || logs::answer(name, words, to)?
-            || proofs::answer(name, words, to)?
-            || maps::answer(name, words, to)?
-            || witnesses::answer(name, words, to)?
-            || others(name, words, to)?,
-    )
-}
-
-fn others(name: &str, words: &mut Words<'_>, to: &mut Answer) -> Result<bool, Fault> {
-    Ok(
-        bundles::answer(name, words, to)?
-            || checks::answer(name, words, to)?
-            || messages::answer(name, words, to)?
-            || values::answer(name, words, to)?
-            || runs::answer(name, words, to)?,
-    )
+fn others(name: &str, words: &mut Words<'_>, to: &mut Answer) -> Result<(), Fault> {
+    match name {
+        "map" => maps::map(words, to),
+        "prove" => maps::prove(words, to),
+        "prove_absence" => maps::prove_absence(words, to),
+        "wire" => messages::wire(words, to),
+        "read" => values::read(words, to),
+        "check_inclusion" => checks::check_inclusion(words, to),
+        "check_consistency" => checks::check_consistency(words, to),
+        "run" => runs::run(words, to),
+        _ => nodes::answer(name, words, to),
+    }
 }

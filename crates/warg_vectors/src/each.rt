@@ -1,23 +1,22 @@
 //! Calls that take memory, and what they answer with each growth refused in turn.
 
 use crate::answer::{Answer, is_want_of_memory};
-use crate::words::{Fault, Words};
+use crate::words::{Arguments, Fault, Words};
 use refusing::Refusing;
 use std::alloc::{AllocError, Allocator, Global};
 
-/// A call that takes memory: its arguments, as a line has them.
-pub(crate) trait Call: Sized + Drop {
-    /// Reads the arguments.
-    fn read(words: &mut Words<'_>) -> Result<Self, Fault>;
+/// A call that takes memory.
+pub(crate) trait Call {
+    /// The arguments that a line gives.
+    type Given: Arguments;
 
-    /// Makes the call, which takes its memory from `memory`, and writes its answer. All else takes memory from
-    /// the answer's allocator.
-    fn answer<M: Memory>(&self, memory: M, answer: &mut Answer) -> Result<(), AllocError>;
-
-    /// Whether the arguments that a call looks at are as they were read.
-    fn stands(&self) -> bool {
-        true
-    }
+    /// Makes the call, which takes its memory from `memory`, and writes its answer. All else takes memory from the
+    /// answer's allocator.
+    fn answer<M: Memory>(
+        given: &Self::Given,
+        memory: M,
+        answer: &mut Answer,
+    ) -> Result<(), AllocError>;
 }
 
 /// Memory for one call.
@@ -39,41 +38,60 @@ impl Memory for &Refusing<Global> {
 // More growths than any call has.
 const MOST_GROWTHS: u64 = 1 << 32;
 
-/// Answers the call that the words spell.
+/// Answers the call whose arguments the words are.
 pub(crate) fn answer<C: Call>(words: &mut Words<'_>, answer: &mut Answer) -> Result<(), Fault> {
-    let call = C::read(words)?;
+    let given = C::Given::read(words)?;
     words.end()?;
     if words.is_each() {
-        answer_each(&call, answer)?;
+        answer_each::<C>(&given, answer)?;
     } else {
-        call.answer(answer.alloc(), answer)?;
+        C::answer(&given, answer.alloc(), answer)?;
     }
     Ok(())
 }
 
 // Makes the call with its first growth refused, with its second, and so on, until a run meets no refusal. The answer is
 // the call's, or says what went wrong.
-fn answer_each<C: Call>(call: &C, answer: &mut Answer) -> Result<(), AllocError> {
+fn answer_each<C: Call>(given: &C::Given, answer: &mut Answer) -> Result<(), AllocError> {
     let mut wanted = Answer::new(answer.alloc());
-    call.answer(answer.alloc(), &mut wanted)?;
+    C::answer(given, answer.alloc(), &mut wanted)?;
     for growths in 0..MOST_GROWTHS {
-        let memory = Refusing::after(answer.alloc(), growths);
         let mut found = Answer::new(answer.alloc());
-        call.answer(&memory, &mut found)?;
-        if !is_right(call, &memory, &found, &wanted) {
-            answer.shown(&growths)?;
-            answer.word("growths give")?;
-            return answer.word(found.text());
+        if !is_refused::<C>(given, growths, &mut found)? {
+            return write(growths, &found, &wanted, answer);
         }
-        if !memory.has_refused() {
-            return answer.word(wanted.text());
+        if !is_want_of_memory(found.text()) && found.text() != wanted.text() {
+            return write(growths, &found, &wanted, answer);
         }
     }
     answer.word("refused with any number of growths")
 }
 
-// Whether a run gave the call's answer, or a refusal where a growth was refused, and left the arguments as they were.
-fn is_right<C: Call>(call: &C, memory: &Refusing<Global>, found: &Answer, wanted: &Answer) -> bool {
-    let refused = memory.has_refused() && is_want_of_memory(found.text());
-    (refused || found.text() == wanted.text()) && call.stands()
+// Makes the call with so many growths, and says whether one more was refused. The arguments have to stand.
+fn is_refused<C: Call>(
+    given: &C::Given,
+    growths: u64,
+    found: &mut Answer,
+) -> Result<bool, AllocError> {
+    let memory = Refusing::after(found.alloc(), growths);
+    C::answer(given, &memory, found)?;
+    if !given.stands() {
+        found.word("with other arguments")?;
+    }
+    Ok(memory.has_refused())
+}
+
+// Writes the answer that is wanted, or the other one that so many growths gave.
+fn write(
+    growths: u64,
+    found: &Answer,
+    wanted: &Answer,
+    answer: &mut Answer,
+) -> Result<(), AllocError> {
+    if found.text() == wanted.text() {
+        return answer.word(wanted.text());
+    }
+    answer.shown(&growths)?;
+    answer.word("growths give")?;
+    answer.word(found.text())
 }

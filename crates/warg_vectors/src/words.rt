@@ -1,5 +1,7 @@
 //! The words of a line, and what they spell.
 
+ghost use Rattle.std.specs.Prelude.{◌≤◌, ◌^◌};
+
 use std::alloc::{AllocError, AllocFailed, Global};
 use warg_crypto::{Hash, SupportedDigest, VisitBytes};
 use warg_log::Node;
@@ -84,7 +86,7 @@ impl<'a> Words<'a> {
     /// What the next word spells.
     pub(crate) fn read<W: Word>(&mut self) -> Result<W, Fault> {
         let word = self.next()?;
-        W::read(self.alloc, word)
+        W::from_word(self.alloc, word)
     }
 
     /// A fault unless all words were read.
@@ -98,12 +100,12 @@ impl<'a> Words<'a> {
 
 /// What a word can spell.
 pub(crate) trait Word: Sized + Drop {
-    fn read(alloc: Global, word: &str) -> Result<Self, Fault>;
+    fn from_word(alloc: Global, word: &str) -> Result<Self, Fault>;
 }
 
 /// One to twenty decimal digits, of a value below 2^64.
 impl Word for usize {
-    fn read(_alloc: Global, word: &str) -> Result<usize, Fault> {
+    fn from_word(_alloc: Global, word: &str) -> Result<usize, Fault> {
         if word.is_empty() || word.len() > 20 {
             return Err(Fault::BadCall);
         }
@@ -125,14 +127,31 @@ fn with_digit(value: usize, digit: u8) -> Result<usize, Fault> {
 }
 
 impl Word for Node {
-    fn read(alloc: Global, word: &str) -> Result<Node, Fault> {
-        Ok(Node(usize::read(alloc, word)?))
+    fn from_word(alloc: Global, word: &str) -> Result<Node, Fault> {
+        Ok(Node(usize::from_word(alloc, word)?))
+    }
+}
+
+/// A length of a log: a number up to 2^63.
+#[derive(Drop)]
+pub(crate) struct Length {
+    pub(crate) value: usize,
+    ghost most: { value ≤ 2 ^ 63 },
+}
+
+impl Word for Length {
+    fn from_word(alloc: Global, word: &str) -> Result<Length, Fault> {
+        let value = usize::from_word(alloc, word)?;
+        if value > 1 << 63 {
+            return Err(Fault::BadCall);
+        }
+        Ok(Length { value })
     }
 }
 
 /// `-` for no bytes, else lower-case hexadecimal digits.
 impl Word for Vec<u8> {
-    fn read(alloc: Global, word: &str) -> Result<Vec<u8>, Fault> {
+    fn from_word(alloc: Global, word: &str) -> Result<Vec<u8>, Fault> {
         if word == "-" {
             return Ok(Vec::new(alloc));
         }
@@ -155,7 +174,7 @@ fn has_lower_case_alone(word: &str) -> bool {
 
 /// 64 lower-case hexadecimal digits.
 impl<D> Word for Hash<D> {
-    fn read(_alloc: Global, word: &str) -> Result<Hash<D>, Fault> {
+    fn from_word(_alloc: Global, word: &str) -> Result<Hash<D>, Fault> {
         let mut bytes = [0; 32];
         if !has_lower_case_alone(word) || hex::decode_to_slice(word, &mut bytes).is_err() {
             return Err(Fault::BadCall);
@@ -166,22 +185,22 @@ impl<D> Word for Hash<D> {
 
 /// A peer: `none`, or a hash.
 impl<D> Word for Option<Hash<D>> {
-    fn read(alloc: Global, word: &str) -> Result<Option<Hash<D>>, Fault> {
+    fn from_word(alloc: Global, word: &str) -> Result<Option<Hash<D>>, Fault> {
         if word == "none" {
             return Ok(None);
         }
-        Ok(Some(Hash::read(alloc, word)?))
+        Ok(Some(Hash::from_word(alloc, word)?))
     }
 }
 
 /// Two words that are parted by a colon.
 impl<S: Word, T: Word> Word for (S, T) {
-    fn read(alloc: Global, word: &str) -> Result<(S, T), Fault> {
+    fn from_word(alloc: Global, word: &str) -> Result<(S, T), Fault> {
         let Some((first, second)) = word.split_once(':') else {
             return Err(Fault::BadCall);
         };
-        let first = S::read(alloc, first)?;
-        let second = T::read(alloc, second)?;
+        let first = S::from_word(alloc, first)?;
+        let second = T::from_word(alloc, second)?;
         Ok((first, second))
     }
 }
@@ -193,7 +212,7 @@ pub(crate) struct List<T> {
 }
 
 impl<T: Word> Word for List<T> {
-    fn read(alloc: Global, word: &str) -> Result<List<T>, Fault> {
+    fn from_word(alloc: Global, word: &str) -> Result<List<T>, Fault> {
         let mut items = Vec::new(alloc);
         if word == "[]" {
             return Ok(List { items });
@@ -209,10 +228,10 @@ impl<T: Word> Word for List<T> {
 fn push_item<T: Word>(items: &mut Vec<T>, item: &str) -> Result<(), Fault> {
     let alloc = *items.allocator();
     let Some((count, word)) = item.split_once('*') else {
-        items.push(T::read(alloc, item)?)?;
+        items.push(T::from_word(alloc, item)?)?;
         return Ok(());
     };
-    let count = usize::read(alloc, count)?;
+    let count = usize::from_word(alloc, count)?;
     if count > MOST_COPIES {
         return Err(Fault::BadCall);
     }
@@ -222,7 +241,65 @@ fn push_item<T: Word>(items: &mut Vec<T>, item: &str) -> Result<(), Fault> {
 fn push_copies<T: Word>(items: &mut Vec<T>, count: usize, word: &str) -> Result<(), Fault> {
     let alloc = *items.allocator();
     for _ in 0..count {
-        items.push(T::read(alloc, word)?)?;
+        items.push(T::from_word(alloc, word)?)?;
     }
     Ok(())
+}
+
+/// The arguments of a call: one word or several.
+pub(crate) trait Arguments: Sized + Drop {
+    fn read(words: &mut Words<'_>) -> Result<Self, Fault>;
+
+    /// Whether they are what the line gave. Only data are looked at.
+    fn stands(&self) -> bool {
+        true
+    }
+}
+
+impl Arguments for usize {
+    fn read(words: &mut Words<'_>) -> Result<usize, Fault> {
+        words.read()
+    }
+}
+
+impl Arguments for Node {
+    fn read(words: &mut Words<'_>) -> Result<Node, Fault> {
+        words.read()
+    }
+}
+
+impl Arguments for Length {
+    fn read(words: &mut Words<'_>) -> Result<Length, Fault> {
+        words.read()
+    }
+}
+
+impl Arguments for Vec<u8> {
+    fn read(words: &mut Words<'_>) -> Result<Vec<u8>, Fault> {
+        words.read()
+    }
+}
+
+impl<D> Arguments for Hash<D> {
+    fn read(words: &mut Words<'_>) -> Result<Hash<D>, Fault> {
+        words.read()
+    }
+}
+
+impl<T: Word> Arguments for List<T> {
+    fn read(words: &mut Words<'_>) -> Result<List<T>, Fault> {
+        words.read()
+    }
+}
+
+impl<A: Arguments, B: Arguments> Arguments for (A, B) {
+    fn read(words: &mut Words<'_>) -> Result<(A, B), Fault> {
+        let first = A::read(words)?;
+        let second = B::read(words)?;
+        Ok((first, second))
+    }
+
+    fn stands(&self) -> bool {
+        self.0.stands() && self.1.stands()
+    }
 }

@@ -3,60 +3,75 @@
 use crate::answer::Answer;
 use crate::calls::data::Data;
 use crate::calls::digests::{Digest, by_digest};
-use crate::calls::proofs;
 use crate::calls::wrong::Wrong;
 use crate::each::{Call, Memory};
-use crate::words::{Fault, List, Words};
-use std::alloc::{AllocError, Allocator};
+use crate::words::{Fault, Length, List, Words};
+use std::alloc::AllocError;
+use std::marker::PhantomData;
 use warg_crypto::SupportedDigest;
-use warg_log::{BundleError, ConsistencyProof, EncodeError, InclusionProof, Node, ProofBundle};
+use warg_log::{
+    BundleError, ConsistencyProof, EncodeError, InclusionProof, LogData, Node, ProofBundle,
+};
 
-/// Answers the call of this name, or false where the name is none of these.
-pub(super) fn answer(name: &str, words: &mut Words<'_>, to: &mut Answer) -> Result<bool, Fault> {
-    if name != "bundle" {
-        return Ok(false);
-    }
-    by_digest!(Bundle, words, to);
-    Ok(true)
+pub(super) fn bundle(words: &mut Words<'_>, to: &mut Answer) -> Result<(), Fault> {
+    by_digest!(BundleCall, words, to)
 }
 
 /// A bundle of the proofs of a log whose entries are lists of bytes.
 pub(super) type BytesBundle<D, A> = ProofBundle<D, Vec<u8>, A>;
 
-#[derive(Drop)]
-struct Bundle<D: SupportedDigest> {
-    data: Data<D>,
-    consistencies: Vec<ConsistencyProof<D, Vec<u8>>>,
-    inclusions: Vec<InclusionProof<D, Vec<u8>>>,
-}
+// The lengths of consistency proofs, and the nodes and lengths of inclusion proofs.
+type Proofs = (List<(Length, Length)>, List<(Node, Length)>);
 
-impl<D: SupportedDigest> Call for Bundle<D> {
-    fn read(words: &mut Words<'_>) -> Result<Bundle<D>, Fault> {
-        Ok(Bundle {
-            data: words.read()?,
-            consistencies: read_consistencies(words)?,
-            inclusions: read_inclusions(words)?,
-        })
-    }
+struct BundleCall<D>(PhantomData<D>);
 
-    fn answer<M: Memory>(&self, memory: M, answer: &mut Answer) -> Result<(), AllocError> {
-        match self.bundled(memory) {
+impl<D: SupportedDigest> Call for BundleCall<D> {
+    type Given = (Data<D>, Proofs);
+
+    fn answer<M: Memory>(
+        given: &(Data<D>, Proofs),
+        memory: M,
+        answer: &mut Answer,
+    ) -> Result<(), AllocError> {
+        match bundled(&given.0, &given.1, memory) {
             Ok(bundle) => write(&bundle, memory, answer),
             Err(fault) => answer.refusal(&fault),
         }
     }
-
-    fn stands(&self) -> bool {
-        self.data.stands()
-    }
 }
 
-impl<D: SupportedDigest> Bundle<D> {
-    fn bundled<M: Memory>(&self, memory: M) -> Result<BytesBundle<D, M>, BundleError> {
-        let consistencies = Vec::from_slice(memory, self.consistencies.as_slice())?;
-        let inclusions = Vec::from_slice(memory, self.inclusions.as_slice())?;
-        ProofBundle::bundle(memory, consistencies, inclusions, &self.data.held)
+fn bundled<D: SupportedDigest, M: Memory>(
+    data: &Data<D>,
+    proofs: &Proofs,
+    memory: M,
+) -> Result<BytesBundle<D, M>, BundleError> {
+    let consistencies = consistencies(data, memory, proofs.0.items.as_slice())?;
+    let inclusions = inclusions(data, memory, proofs.1.items.as_slice())?;
+    ProofBundle::bundle(memory, consistencies, inclusions, &data.held)
+}
+
+fn consistencies<D: SupportedDigest, M: Memory>(
+    data: &Data<D>,
+    memory: M,
+    lengths: &[(Length, Length)],
+) -> Result<Vec<ConsistencyProof<D, Vec<u8>>, M>, AllocError> {
+    let mut proofs = Vec::new(memory);
+    for (old, new) in lengths {
+        proofs.push(data.held.prove_consistency(old.value, new.value))?;
     }
+    Ok(proofs)
+}
+
+fn inclusions<D: SupportedDigest, M: Memory>(
+    data: &Data<D>,
+    memory: M,
+    places: &[(Node, Length)],
+) -> Result<Vec<InclusionProof<D, Vec<u8>>, M>, AllocError> {
+    let mut proofs = Vec::new(memory);
+    for (node, length) in places {
+        proofs.push(data.held.prove_inclusion(*node, length.value))?;
+    }
+    Ok(proofs)
 }
 
 // Writes the bundle's bytes, which are those of the bundle of its parts.
@@ -66,34 +81,9 @@ fn write<D: SupportedDigest, M: Memory>(
     to: &mut Answer,
 ) -> Result<(), AllocError> {
     match encoded(bundle, memory) {
-        Ok(bytes) => match rebundle(bundle, memory, bytes.as_slice()) {
-            Ok(()) => to.bytes(bytes.as_slice()),
-            Err(wrong) => wrong.write(to),
-        },
+        Ok(bytes) => write_same(bytes.as_slice(), &rebundled(bundle, memory), memory, to),
         Err(fault) => to.refusal(&fault),
     }
-}
-
-fn read_consistencies<D: SupportedDigest>(
-    words: &mut Words<'_>,
-) -> Result<Vec<ConsistencyProof<D, Vec<u8>>>, Fault> {
-    let pairs: List<(usize, usize)> = words.read()?;
-    let mut proofs = Vec::new(words.alloc());
-    for pair in pairs.items.as_slice() {
-        proofs.push(proofs::consistency_between(words.alloc(), pair.0, pair.1)?)?;
-    }
-    Ok(proofs)
-}
-
-fn read_inclusions<D: SupportedDigest>(
-    words: &mut Words<'_>,
-) -> Result<Vec<InclusionProof<D, Vec<u8>>>, Fault> {
-    let pairs: List<(Node, usize)> = words.read()?;
-    let mut proofs = Vec::new(words.alloc());
-    for pair in pairs.items.as_slice() {
-        proofs.push(proofs::inclusion_of(words.alloc(), pair.0, pair.1)?)?;
-    }
-    Ok(proofs)
 }
 
 // The bundle's bytes. Where they are refused for memory, it is asked for them again.
@@ -110,55 +100,72 @@ fn encoded<D: SupportedDigest, M: Memory>(
     }
 }
 
-// A fault unless the bundle of the bundle's parts has these bytes.
-fn rebundle<D: SupportedDigest, M: Memory>(
-    bundle: &BytesBundle<D, M>,
-    memory: M,
+// Writes the bytes of a bundle, which another one has to have too.
+fn write_same<D: SupportedDigest, M: Memory>(
     bytes: &[u8],
-) -> Result<(), Wrong> {
-    let parts = match bundle.unbundle(memory) {
-        Ok(parts) => parts,
-        Err(AllocError) => {
-            memory.grant();
-            bundle.unbundle(memory)?
-        }
-    };
-    let again = ProofBundle::bundle(memory, parts.1, parts.2, &parts.0)?;
-    let same = encoded(&again, memory)?.as_slice() == bytes;
-    Wrong::unless(same, "of the bundle's parts, another bundle")
+    other: &Result<BytesBundle<D, M>, Wrong>,
+    memory: M,
+    to: &mut Answer,
+) -> Result<(), AllocError> {
+    match other {
+        Ok(other) => match other.encode(memory) {
+            Ok(again) if again.as_slice() != bytes => to.word("another bundle"),
+            Ok(_) => to.bytes(bytes),
+            Err(fault) => to.refusal(&fault),
+        },
+        Err(wrong) => wrong.write(to),
+    }
 }
 
-/// Writes the bytes of a bundle that was read. It is also the bundle of its message.
+// The bundle of a bundle's parts. Where they are refused, it is asked for them again.
+fn rebundled<D: SupportedDigest, M: Memory>(
+    bundle: &BytesBundle<D, M>,
+    memory: M,
+) -> Result<BytesBundle<D, M>, Wrong> {
+    match of_parts(bundle, memory) {
+        Err(Wrong::Memory) => {
+            memory.grant();
+            of_parts(bundle, memory)
+        }
+        ended => ended,
+    }
+}
+
+fn of_parts<D: SupportedDigest, M: Memory>(
+    bundle: &BytesBundle<D, M>,
+    memory: M,
+) -> Result<BytesBundle<D, M>, Wrong> {
+    let (data, consistencies, inclusions) = bundle.unbundle(memory)?;
+    Ok(ProofBundle::bundle(memory, consistencies, inclusions, &data)?)
+}
+
+/// Writes the bytes of a bundle that was read, which are those of the bundle of its message.
 pub(super) fn write_read<D: SupportedDigest, M: Memory>(
     bundle: &BytesBundle<D, M>,
     memory: M,
     to: &mut Answer,
 ) -> Result<(), AllocError> {
-    match reread(bundle, memory) {
-        Ok(bytes) => to.bytes(bytes.as_slice()),
-        Err(wrong) => wrong.write(to),
+    match encoded(bundle, memory) {
+        Ok(bytes) => write_same(bytes.as_slice(), &reread(bundle, memory), memory, to),
+        Err(fault) => to.refusal(&fault),
     }
 }
 
-// The bundle's bytes, which are those of the bundle of its message.
+// The bundle of a bundle's message. Where they are refused, it is asked for them again.
 fn reread<D: SupportedDigest, M: Memory>(
     bundle: &BytesBundle<D, M>,
     memory: M,
-) -> Result<Vec<u8, M>, Wrong> {
-    let bytes = encoded(bundle, memory)?;
-    let again = match through_message(bundle, memory) {
+) -> Result<BytesBundle<D, M>, Wrong> {
+    match of_message(bundle, memory) {
         Err(Wrong::Memory) => {
             memory.grant();
-            through_message(bundle, memory)?
+            of_message(bundle, memory)
         }
-        ended => ended?,
-    };
-    let same = encoded(&again, memory)?.as_slice() == bytes.as_slice();
-    Wrong::unless(same, "through its message, another bundle")?;
-    Ok(bytes)
+        ended => ended,
+    }
 }
 
-fn through_message<D: SupportedDigest, M: Memory>(
+fn of_message<D: SupportedDigest, M: Memory>(
     bundle: &BytesBundle<D, M>,
     memory: M,
 ) -> Result<BytesBundle<D, M>, Wrong> {

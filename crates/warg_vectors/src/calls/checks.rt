@@ -5,72 +5,51 @@ use crate::each;
 use crate::each::{Call, Memory};
 use crate::words::{Fault, Words};
 use std::alloc::AllocError;
-use warg_check::{CheckError, check_consistency, check_inclusion};
 use warg_crypto::{Hash, Sha256};
 
-/// Answers the call of this name, or false where the name is none of these.
-pub(super) fn answer(name: &str, words: &mut Words<'_>, to: &mut Answer) -> Result<bool, Fault> {
-    match name {
-        "check_inclusion" => each::answer::<CheckInclusion>(words, to)?,
-        "check_consistency" => each::answer::<CheckConsistency>(words, to)?,
-        _ => return Ok(false),
-    }
-    Ok(true)
+pub(super) fn check_inclusion(words: &mut Words<'_>, to: &mut Answer) -> Result<(), Fault> {
+    each::answer::<InclusionCall>(words, to)
 }
 
-fn write(verdict: Result<bool, CheckError>, to: &mut Answer) -> Result<(), AllocError> {
-    match verdict {
-        Ok(verdict) => to.shown(&verdict),
-        Err(fault) => to.refusal(&fault),
-    }
+pub(super) fn check_consistency(words: &mut Words<'_>, to: &mut Answer) -> Result<(), Fault> {
+    each::answer::<ConsistencyCall>(words, to)
 }
 
-#[derive(Drop)]
-struct CheckInclusion {
-    bytes: Vec<u8>,
-    at: usize,
-    value: Vec<u8>,
-    root: Hash<Sha256>,
-}
+// The bytes, and the place of the proof in them.
+type Place = (Vec<u8>, usize);
 
-impl Call for CheckInclusion {
-    fn read(words: &mut Words<'_>) -> Result<CheckInclusion, Fault> {
-        Ok(CheckInclusion {
-            bytes: words.read()?,
-            at: words.read()?,
-            value: words.read()?,
-            root: words.read()?,
-        })
-    }
+struct InclusionCall;
 
-    fn answer<M: Memory>(&self, memory: M, answer: &mut Answer) -> Result<(), AllocError> {
-        let bytes = self.bytes.as_slice();
-        let verdict = check_inclusion(memory, bytes, self.at, &self.value, &self.root);
-        write(verdict, answer)
+impl Call for InclusionCall {
+    type Given = (Place, (Vec<u8>, Hash<Sha256>));
+
+    fn answer<M: Memory>(
+        given: &(Place, (Vec<u8>, Hash<Sha256>)),
+        memory: M,
+        answer: &mut Answer,
+    ) -> Result<(), AllocError> {
+        let ((bytes, at), (value, root)) = given;
+        match warg_check::check_inclusion(memory, bytes.as_slice(), *at, value, root) {
+            Ok(verdict) => answer.shown(&verdict),
+            Err(fault) => answer.refusal(&fault),
+        }
     }
 }
 
-#[derive(Drop)]
-struct CheckConsistency {
-    bytes: Vec<u8>,
-    at: usize,
-    old: Hash<Sha256>,
-    new: Hash<Sha256>,
-}
+struct ConsistencyCall;
 
-impl Call for CheckConsistency {
-    fn read(words: &mut Words<'_>) -> Result<CheckConsistency, Fault> {
-        Ok(CheckConsistency {
-            bytes: words.read()?,
-            at: words.read()?,
-            old: words.read()?,
-            new: words.read()?,
-        })
-    }
+impl Call for ConsistencyCall {
+    type Given = (Place, (Hash<Sha256>, Hash<Sha256>));
 
-    fn answer<M: Memory>(&self, memory: M, answer: &mut Answer) -> Result<(), AllocError> {
-        let bytes = self.bytes.as_slice();
-        let verdict = check_consistency(memory, bytes, self.at, &self.old, &self.new);
-        write(verdict, answer)
+    fn answer<M: Memory>(
+        given: &(Place, (Hash<Sha256>, Hash<Sha256>)),
+        memory: M,
+        answer: &mut Answer,
+    ) -> Result<(), AllocError> {
+        let ((bytes, at), (old, new)) = given;
+        match warg_check::check_consistency(memory, bytes.as_slice(), *at, old, new) {
+            Ok(verdict) => answer.shown(&verdict),
+            Err(fault) => answer.refusal(&fault),
+        }
     }
 }

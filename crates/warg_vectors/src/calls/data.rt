@@ -3,7 +3,7 @@
 ghost use Rattle.std.specs.Prelude.{IfOk};
 ghost use Rattle.warg_log.specs.Sparse.{IsAscending};
 
-use crate::words::{Fault, List, Word};
+use crate::words::{Arguments, Fault, List, Words};
 use std::alloc::Global;
 use warg_crypto::{Hash, SupportedDigest};
 use warg_log::{LogData, Node, SparseLogData};
@@ -15,30 +15,30 @@ pub(super) struct Data<D: SupportedDigest> {
     given: List<(Node, Hash<D>)>,
 }
 
-impl<D: SupportedDigest> Data<D> {
-    /// Whether it holds the digests that the line gave.
-    pub(super) fn stands(&self) -> bool {
-        self.given
-            .items
-            .iter()
-            .all(|pair| holds(&self.held, pair.0, &pair.1))
-    }
-}
-
-fn holds<D: SupportedDigest>(data: &SparseLogData<D, Vec<u8>>, node: Node, hash: &Hash<D>) -> bool {
-    data.has_hash(node) && data.hash_for(node).as_ref() == Some(hash)
-}
-
 /// A list of nodes with their digests, ascending.
-impl<D: SupportedDigest> Word for Data<D> {
-    fn read(alloc: Global, word: &str) -> Result<Data<D>, Fault> {
-        let given: List<(Node, Hash<D>)> = List::read(alloc, word)?;
-        let pairs = ascending(alloc, given.items.as_slice())?;
+impl<D: SupportedDigest> Arguments for Data<D> {
+    fn read(words: &mut Words<'_>) -> Result<Data<D>, Fault> {
+        let given: List<(Node, Hash<D>)> = words.read()?;
+        let pairs = ascending(words.alloc(), given.items.as_slice())?;
         Ok(Data {
             held: SparseLogData::from(pairs),
             given,
         })
     }
+
+    fn stands(&self) -> bool {
+        hold(&self.held, self.given.items.as_slice())
+    }
+}
+
+// Whether the data hold these digests.
+fn hold<D: SupportedDigest>(data: &SparseLogData<D, Vec<u8>>, pairs: &[(Node, Hash<D>)]) -> bool {
+    for pair in pairs {
+        if !data.has_hash(pair.0) || data.hash_for(pair.0).as_ref() != Some(&pair.1) {
+            return false;
+        }
+    }
+    true
 }
 
 // The same pairs, whose nodes have to ascend.

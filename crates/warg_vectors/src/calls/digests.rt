@@ -5,7 +5,7 @@ use std::alloc::Global;
 
 /// A digest function.
 #[derive(Clone, Copy)]
-pub(crate) enum Digest {
+pub(super) enum Digest {
     Sha256,
     Sum,
     Own32,
@@ -13,7 +13,7 @@ pub(crate) enum Digest {
 }
 
 impl Word for Digest {
-    fn read(_alloc: Global, word: &str) -> Result<Digest, Fault> {
+    fn from_word(_alloc: Global, word: &str) -> Result<Digest, Fault> {
         match word {
             "Sha256" => Ok(Digest::Sha256),
             "Sum" => Ok(Digest::Sum),
@@ -27,13 +27,14 @@ impl Word for Digest {
 /// Answers a call whose first word names its digest function.
 macro_rules! by_digest {
     ($call:ident, $words:expr, $to:expr) => {
-        match $words.read()? {
-            Digest::Sha256 => crate::each::answer::<$call<warg_crypto::Sha256>>($words, $to)?,
-            Digest::Sum => crate::each::answer::<$call<warg_crypto::weak::Sum>>($words, $to)?,
-            Digest::Own32 => crate::each::answer::<$call<warg_crypto::weak::Own32>>($words, $to)?,
-            Digest::Flat => crate::each::answer::<$call<warg_crypto::weak::Flat>>($words, $to)?,
+        match $words.read() {
+            Ok(Digest::Sha256) => crate::each::answer::<$call<warg_crypto::Sha256>>($words, $to),
+            Ok(Digest::Sum) => crate::each::answer::<$call<warg_crypto::weak::Sum>>($words, $to),
+            Ok(Digest::Own32) => crate::each::answer::<$call<warg_crypto::weak::Own32>>($words, $to),
+            Ok(Digest::Flat) => crate::each::answer::<$call<warg_crypto::weak::Flat>>($words, $to),
+            Err(fault) => Err(fault),
         }
     };
 }
 
-pub(crate) use by_digest;
+pub(super) use by_digest;

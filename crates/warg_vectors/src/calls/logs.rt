@@ -12,35 +12,25 @@ use std::marker::PhantomData;
 use warg_crypto::SupportedDigest;
 use warg_log::{LogBuilder, LogData, Node, VecLog, push_all};
 
-/// Answers the call of this name, or false where the name is none of these.
-pub(super) fn answer(name: &str, words: &mut Words<'_>, to: &mut Answer) -> Result<bool, Fault> {
-    if name != "log" {
-        return Ok(false);
-    }
-    by_digest!(Log, words, to);
-    Ok(true)
+pub(super) fn log(words: &mut Words<'_>, to: &mut Answer) -> Result<(), Fault> {
+    by_digest!(LogCall, words, to)
 }
 
 /// A log whose entries are lists of bytes.
 pub(super) type BytesLog<D, A = Global> = VecLog<D, Vec<u8>, A>;
 
-// The log of some entries.
-#[derive(Drop)]
-struct Log<D> {
-    entries: List<Vec<u8>>,
-    digest: PhantomData<D>,
-}
+struct LogCall<D>(PhantomData<D>);
 
-impl<D: SupportedDigest> Call for Log<D> {
-    fn read(words: &mut Words<'_>) -> Result<Log<D>, Fault> {
-        Ok(Log {
-            entries: words.read()?,
-            digest: PhantomData,
-        })
-    }
+impl<D: SupportedDigest> Call for LogCall<D> {
+    // The entries.
+    type Given = List<Vec<u8>>;
 
-    fn answer<M: Memory>(&self, memory: M, answer: &mut Answer) -> Result<(), AllocError> {
-        match grown::<D, M>(memory, answer.alloc(), self.entries.items.as_slice()) {
+    fn answer<M: Memory>(
+        entries: &List<Vec<u8>>,
+        memory: M,
+        answer: &mut Answer,
+    ) -> Result<(), AllocError> {
+        match grown::<D, M>(memory, answer.alloc(), entries.items.as_slice()) {
             Ok(log) => write(&log, answer),
             Err(wrong) => wrong.write(answer),
         }
@@ -72,10 +62,19 @@ fn grown<D: SupportedDigest, M: Memory>(
     for entry in entries {
         push(&mut log, memory, alloc, entries, entry)?;
     }
-    push_at_once(&log, memory, alloc, entries)?;
-    clone(&log, memory)?;
-    stack::grow(&log.checkpoint(), memory, alloc, entries)?;
+    compare(&log, memory, alloc, entries)?;
     Ok(log)
+}
+
+fn compare<D: SupportedDigest, M: Memory>(
+    log: &BytesLog<D, M>,
+    memory: M,
+    alloc: Global,
+    entries: &[Vec<u8>],
+) -> Result<(), Wrong> {
+    push_at_once(log, memory, alloc, entries)?;
+    clone(log, memory)?;
+    stack::grow(&log.checkpoint(), memory, alloc, entries)
 }
 
 // Pushes an entry.
@@ -166,7 +165,7 @@ fn proves_its_last<D: SupportedDigest, A: Allocator>(
     proof.evaluate_value(log, last) == Ok(log.checkpoint().root())
 }
 
-// Pushes all entries at once. Where it is refused, the log is that of the first ones, and takes the others.
+// Pushes all entries at once.
 fn push_at_once<D: SupportedDigest, M: Memory>(
     wanted: &BytesLog<D, M>,
     memory: M,
@@ -175,16 +174,15 @@ fn push_at_once<D: SupportedDigest, M: Memory>(
 ) -> Result<(), Wrong> {
     let mut log = VecLog::default(memory);
     if push_all(&mut log, entries).is_err() {
-        Wrong::unless(
-            is_log_of(&log, alloc, entries)?,
-            "a refused push of all left another beginning",
-        )?;
+        let beginning = is_log_of(&log, alloc, entries)?;
+        Wrong::unless(beginning, "a refused push of all left another beginning")?;
         memory.grant();
         push_others(&mut log, entries)?;
     }
     Wrong::unless(is_same(&log, wanted), "pushed at once, another log")
 }
 
+// Pushes the entries behind those that the log has.
 fn push_others<D: SupportedDigest, M: Memory>(
     log: &mut BytesLog<D, M>,
     entries: &[Vec<u8>],

@@ -14,15 +14,16 @@ use std::marker::PhantomData;
 use warg_crypto::{Hash, SupportedDigest};
 use warg_map::{Map, MapError, Proof};
 
-/// Answers the call of this name, or false where the name is none of these.
-pub(super) fn answer(name: &str, words: &mut Words<'_>, to: &mut Answer) -> Result<bool, Fault> {
-    match name {
-        "map" => by_digest!(Insertions, words, to),
-        "prove" => by_digest!(Prove, words, to),
-        "prove_absence" => by_digest!(ProveAbsence, words, to),
-        _ => return Ok(false),
-    }
-    Ok(true)
+pub(super) fn map(words: &mut Words<'_>, to: &mut Answer) -> Result<(), Fault> {
+    by_digest!(MapCall, words, to)
+}
+
+pub(super) fn prove(words: &mut Words<'_>, to: &mut Answer) -> Result<(), Fault> {
+    by_digest!(ProofCall, words, to)
+}
+
+pub(super) fn prove_absence(words: &mut Words<'_>, to: &mut Answer) -> Result<(), Fault> {
+    by_digest!(AbsenceCall, words, to)
 }
 
 // A map from bytes to bytes.
@@ -34,24 +35,17 @@ type BytesProof<'a, D, A> = Proof<D, &'a [u8], &'a [u8], A>;
 // A key, and the value that is inserted under it.
 type Insertion = (Vec<u8>, Vec<u8>);
 
-// The pairs that a map is made of, by insertion in order.
-#[derive(Drop)]
-struct Insertions<D> {
-    pairs: words::List<Insertion>,
-    digest: PhantomData<D>,
-}
+struct MapCall<D>(PhantomData<D>);
 
-impl<D: SupportedDigest> Call for Insertions<D> {
-    fn read(words: &mut Words<'_>) -> Result<Insertions<D>, Fault> {
-        Ok(Insertions {
-            pairs: words.read()?,
-            digest: PhantomData,
-        })
-    }
+impl<D: SupportedDigest> Call for MapCall<D> {
+    type Given = words::List<Insertion>;
 
-    fn answer<M: Memory>(&self, memory: M, answer: &mut Answer) -> Result<(), AllocError> {
-        let pairs = self.pairs.items.as_slice();
-        match grown_both_ways::<D, M>(memory, pairs) {
+    fn answer<M: Memory>(
+        pairs: &words::List<Insertion>,
+        memory: M,
+        answer: &mut Answer,
+    ) -> Result<(), AllocError> {
+        match grown_both_ways::<D, M>(memory, pairs.items.as_slice()) {
             Ok(map) => write(&map, answer),
             Err(wrong) => wrong.write(answer),
         }
@@ -73,21 +67,19 @@ fn grown_both_ways<'a, D: SupportedDigest, M: Memory>(
     pairs: &'a [Insertion],
 ) -> Result<BytesMap<'a, D, M>, Wrong> {
     let (first, last) = pairs.split_at(pairs.len().saturating_sub(2));
-    let before = grown(memory, first)?;
-    let mut map = before.clone()?;
-    for pair in last {
-        map = inserted(&map, memory, pair)?;
-    }
+    let before = grown(Map::default(memory)?, memory, first)?;
+    let map = grown(before.clone()?, memory, last)?;
     extend(&before, &map, memory, last)?;
     Ok(map)
 }
 
-// The map of these pairs, inserted one by one.
+// The map with these pairs, inserted one by one.
 fn grown<'a, D: SupportedDigest, M: Memory>(
+    before: BytesMap<'a, D, M>,
     memory: M,
     pairs: &'a [Insertion],
 ) -> Result<BytesMap<'a, D, M>, Wrong> {
-    let mut map = Map::default(memory)?;
+    let mut map = before;
     for pair in pairs {
         map = inserted(&map, memory, pair)?;
     }
@@ -205,66 +197,40 @@ impl<D: SupportedDigest> Seen<D> {
     }
 }
 
-// A key of the map of these pairs.
-#[derive(Drop)]
-struct Prove<D> {
-    insertions: Insertions<D>,
-    key: Vec<u8>,
-}
+// The map of some pairs, and a key.
+type Question = (words::List<Insertion>, Vec<u8>);
 
-impl<D: SupportedDigest> Call for Prove<D> {
-    fn read(words: &mut Words<'_>) -> Result<Prove<D>, Fault> {
-        Ok(Prove {
-            insertions: Insertions::read(words)?,
-            key: words.read()?,
-        })
-    }
+struct ProofCall<D>(PhantomData<D>);
 
-    fn answer<M: Memory>(&self, memory: M, answer: &mut Answer) -> Result<(), AllocError> {
-        let pairs = self.insertions.pairs.items.as_slice();
-        match grown::<D, M>(memory, pairs) {
-            Ok(map) => {
-                let proof = honest_proof(&map, memory, pairs, self.key.as_slice());
-                write_proof(proof, answer)
-            }
-            Err(wrong) => wrong.write(answer),
-        }
+impl<D: SupportedDigest> Call for ProofCall<D> {
+    type Given = Question;
+
+    fn answer<M: Memory>(
+        given: &Question,
+        memory: M,
+        answer: &mut Answer,
+    ) -> Result<(), AllocError> {
+        let (pairs, key) = given;
+        let (pairs, key) = (pairs.items.as_slice(), key.as_slice());
+        write_proof(proved::<D, M>(memory, pairs, key), answer)
     }
 }
 
-// The proof of a key. Where it is refused, the map is the one of before, and is asked again.
+// The proof of a key in the map of the pairs. It leads from the value last inserted to the map's root.
 fn proved<'a, D: SupportedDigest, M: Memory>(
-    map: &BytesMap<'a, D, M>,
-    memory: M,
-    key: &'a [u8],
-) -> Result<Option<BytesProof<'a, D, M>>, Wrong> {
-    let before = Seen::of(map);
-    match map.prove(key) {
-        Ok(proof) => Ok(proof),
-        Err(AllocError) => {
-            memory.grant();
-            Wrong::unless(before.is(map), "a refused proof changed the map")?;
-            Ok(map.prove(key)?)
-        }
-    }
-}
-
-// The proof of a key, which leads from the value last inserted under its digest to the map's root.
-fn honest_proof<'a, D: SupportedDigest, M: Memory>(
-    map: &BytesMap<'a, D, M>,
     memory: M,
     pairs: &'a [Insertion],
     key: &'a [u8],
 ) -> Result<Option<BytesProof<'a, D, M>>, Wrong> {
-    let Some(proof) = proved(map, memory, key)? else {
-        return Ok(None);
-    };
-    let honest = match last_value::<D>(pairs, key) {
-        Some(value) => proof.evaluate(&key, &value) == *map.root(),
-        None => false,
+    let map = grown(Map::default(memory)?, memory, pairs)?;
+    let proof = asked(&map, memory, key, false)?;
+    let honest = match (&proof, last_value::<D>(pairs, key)) {
+        (Some(proof), Some(value)) => proof.evaluate(&key, &value) == *map.root(),
+        (None, None) => true,
+        _ => false,
     };
     Wrong::unless(honest, "a proof that leads to another root")?;
-    Ok(Some(proof))
+    Ok(proof)
 }
 
 // The value that was last inserted under the digest of a key.
@@ -277,6 +243,68 @@ fn last_value<'a, D: SupportedDigest>(pairs: &'a [Insertion], key: &[u8]) -> Opt
         }
     }
     last
+}
+
+struct AbsenceCall<D>(PhantomData<D>);
+
+impl<D: SupportedDigest> Call for AbsenceCall<D> {
+    type Given = Question;
+
+    fn answer<M: Memory>(
+        given: &Question,
+        memory: M,
+        answer: &mut Answer,
+    ) -> Result<(), AllocError> {
+        let (pairs, key) = given;
+        let (pairs, key) = (pairs.items.as_slice(), key.as_slice());
+        write_proof(proved_absent::<D, M>(memory, pairs, key), answer)
+    }
+}
+
+// The proof of a key's absence in the map of the pairs. It leads from an empty leaf to the map's root.
+fn proved_absent<'a, D: SupportedDigest, M: Memory>(
+    memory: M,
+    pairs: &'a [Insertion],
+    key: &'a [u8],
+) -> Result<Option<BytesProof<'a, D, M>>, Wrong> {
+    let map = grown(Map::default(memory)?, memory, pairs)?;
+    let proof = asked(&map, memory, key, true)?;
+    let honest = match &proof {
+        Some(proof) => proof.evaluate_absent(&key) == *map.root(),
+        None => true,
+    };
+    Wrong::unless(honest, "a proof of absence that leads to another root")?;
+    Ok(proof)
+}
+
+// The proof of a key, or of its absence. Where it is refused, the map is the one of before, and is asked again.
+fn asked<'a, D: SupportedDigest, M: Memory>(
+    map: &BytesMap<'a, D, M>,
+    memory: M,
+    key: &'a [u8],
+    absent: bool,
+) -> Result<Option<BytesProof<'a, D, M>>, Wrong> {
+    let before = Seen::of(map);
+    match ask(map, key, absent) {
+        Ok(proof) => Ok(proof),
+        Err(AllocError) => {
+            memory.grant();
+            Wrong::unless(before.is(map), "a refused proof changed the map")?;
+            Ok(ask(map, key, absent)?)
+        }
+    }
+}
+
+fn ask<'a, D: SupportedDigest, M: Memory>(
+    map: &BytesMap<'a, D, M>,
+    key: &'a [u8],
+    absent: bool,
+) -> Result<Option<BytesProof<'a, D, M>>, AllocError> {
+    if absent {
+        map.prove_absence(key)
+    } else {
+        map.prove(key)
+    }
 }
 
 // Writes the peers of a proof.
@@ -300,64 +328,4 @@ fn write_peers<D>(peers: &[Option<Hash<D>>], to: &mut Answer) -> Result<(), Allo
         }
     }
     to.list(list)
-}
-
-// A key that the map of these pairs may not hold.
-#[derive(Drop)]
-struct ProveAbsence<D> {
-    insertions: Insertions<D>,
-    key: Vec<u8>,
-}
-
-impl<D: SupportedDigest> Call for ProveAbsence<D> {
-    fn read(words: &mut Words<'_>) -> Result<ProveAbsence<D>, Fault> {
-        Ok(ProveAbsence {
-            insertions: Insertions::read(words)?,
-            key: words.read()?,
-        })
-    }
-
-    fn answer<M: Memory>(&self, memory: M, answer: &mut Answer) -> Result<(), AllocError> {
-        let pairs = self.insertions.pairs.items.as_slice();
-        match grown::<D, M>(memory, pairs) {
-            Ok(map) => {
-                let proof = honest_absence(&map, memory, self.key.as_slice());
-                write_proof(proof, answer)
-            }
-            Err(wrong) => wrong.write(answer),
-        }
-    }
-}
-
-// The proof of a key's absence. Where it is refused, the map is the one of before, and is asked again.
-fn proved_absent<'a, D: SupportedDigest, M: Memory>(
-    map: &BytesMap<'a, D, M>,
-    memory: M,
-    key: &'a [u8],
-) -> Result<Option<BytesProof<'a, D, M>>, Wrong> {
-    let before = Seen::of(map);
-    match map.prove_absence(key) {
-        Ok(proof) => Ok(proof),
-        Err(AllocError) => {
-            memory.grant();
-            Wrong::unless(before.is(map), "a refused proof changed the map")?;
-            Ok(map.prove_absence(key)?)
-        }
-    }
-}
-
-// The proof of a key's absence, which leads from an empty leaf to the map's root.
-fn honest_absence<'a, D: SupportedDigest, M: Memory>(
-    map: &BytesMap<'a, D, M>,
-    memory: M,
-    key: &'a [u8],
-) -> Result<Option<BytesProof<'a, D, M>>, Wrong> {
-    let Some(proof) = proved_absent(map, memory, key)? else {
-        return Ok(None);
-    };
-    Wrong::unless(
-        proof.evaluate_absent(&key) == *map.root(),
-        "a proof of absence that leads to another root",
-    )?;
-    Ok(Some(proof))
 }

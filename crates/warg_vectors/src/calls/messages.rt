@@ -7,13 +7,14 @@ use crate::words::{Fault, Word, Words};
 use std::alloc::{AllocError, Global};
 use warg_protobuf::{LogProofBundle, MapProofBundle, StackLog, VecLog};
 
-/// Answers the call of this name, or false where the name is none of these.
-pub(super) fn answer(name: &str, words: &mut Words<'_>, to: &mut Answer) -> Result<bool, Fault> {
-    if name != "wire" {
-        return Ok(false);
+pub(super) fn wire(words: &mut Words<'_>, to: &mut Answer) -> Result<(), Fault> {
+    match words.read() {
+        Ok(Type::LogProofBundle) => each::answer::<LogBundleCall>(words, to),
+        Ok(Type::MapProofBundle) => each::answer::<MapBundleCall>(words, to),
+        Ok(Type::StackLog) => each::answer::<StackLogCall>(words, to),
+        Ok(Type::VecLog) => each::answer::<VecLogCall>(words, to),
+        Err(fault) => Err(fault),
     }
-    each::answer::<Wire>(words, to)?;
-    Ok(true)
 }
 
 /// The types of messages that stand alone.
@@ -26,39 +27,13 @@ pub(super) enum Type {
 }
 
 impl Word for Type {
-    fn read(_alloc: Global, word: &str) -> Result<Type, Fault> {
+    fn from_word(_alloc: Global, word: &str) -> Result<Type, Fault> {
         match word {
             "LogProofBundle" => Ok(Type::LogProofBundle),
             "MapProofBundle" => Ok(Type::MapProofBundle),
             "StackLog" => Ok(Type::StackLog),
             "VecLog" => Ok(Type::VecLog),
             _ => Err(Fault::BadCall),
-        }
-    }
-}
-
-// The bytes of a message.
-#[derive(Drop)]
-struct Wire {
-    of: Type,
-    bytes: Vec<u8>,
-}
-
-impl Call for Wire {
-    fn read(words: &mut Words<'_>) -> Result<Wire, Fault> {
-        Ok(Wire {
-            of: words.read()?,
-            bytes: words.read()?,
-        })
-    }
-
-    fn answer<M: Memory>(&self, memory: M, answer: &mut Answer) -> Result<(), AllocError> {
-        let bytes = self.bytes.as_slice();
-        match self.of {
-            Type::LogProofBundle => log_bundle(memory, bytes, answer),
-            Type::MapProofBundle => map_bundle(memory, bytes, answer),
-            Type::StackLog => stack_log(memory, bytes, answer),
-            Type::VecLog => vec_log(memory, bytes, answer),
         }
     }
 }
@@ -79,18 +54,66 @@ macro_rules! write_again {
     };
 }
 
-fn log_bundle<M: Memory>(memory: M, bytes: &[u8], to: &mut Answer) -> Result<(), AllocError> {
-    write_again!(LogProofBundle::decode(memory, bytes), memory, to)
+struct LogBundleCall;
+
+impl Call for LogBundleCall {
+    type Given = Vec<u8>;
+
+    fn answer<M: Memory>(
+        bytes: &Vec<u8>,
+        memory: M,
+        answer: &mut Answer,
+    ) -> Result<(), AllocError> {
+        write_again!(
+            LogProofBundle::decode(memory, bytes.as_slice()),
+            memory,
+            answer
+        )
+    }
 }
 
-fn map_bundle<M: Memory>(memory: M, bytes: &[u8], to: &mut Answer) -> Result<(), AllocError> {
-    write_again!(MapProofBundle::decode(memory, bytes), memory, to)
+struct MapBundleCall;
+
+impl Call for MapBundleCall {
+    type Given = Vec<u8>;
+
+    fn answer<M: Memory>(
+        bytes: &Vec<u8>,
+        memory: M,
+        answer: &mut Answer,
+    ) -> Result<(), AllocError> {
+        write_again!(
+            MapProofBundle::decode(memory, bytes.as_slice()),
+            memory,
+            answer
+        )
+    }
 }
 
-fn stack_log<M: Memory>(memory: M, bytes: &[u8], to: &mut Answer) -> Result<(), AllocError> {
-    write_again!(StackLog::decode(memory, bytes), memory, to)
+struct StackLogCall;
+
+impl Call for StackLogCall {
+    type Given = Vec<u8>;
+
+    fn answer<M: Memory>(
+        bytes: &Vec<u8>,
+        memory: M,
+        answer: &mut Answer,
+    ) -> Result<(), AllocError> {
+        write_again!(StackLog::decode(memory, bytes.as_slice()), memory, answer)
+    }
 }
 
-fn vec_log<M: Memory>(memory: M, bytes: &[u8], to: &mut Answer) -> Result<(), AllocError> {
-    write_again!(VecLog::decode(memory, bytes), memory, to)
+struct VecLogCall;
+
+impl Call for VecLogCall {
+    type Given = Vec<u8>;
+
+    fn answer<M: Memory>(
+        bytes: &Vec<u8>,
+        memory: M,
+        answer: &mut Answer,
+    ) -> Result<(), AllocError> {
+        write_again!(VecLog::decode(memory, bytes.as_slice()), memory, answer)
+    }
 }

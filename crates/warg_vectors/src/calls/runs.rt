@@ -5,34 +5,26 @@ use crate::each;
 use crate::each::{Call, Memory};
 use crate::words::{Fault, Words};
 use std::alloc::AllocError;
-use warg_check::program::run;
+use warg_check::program;
 
-/// Answers the call of this name, or false where the name is none of these.
-pub(super) fn answer(name: &str, words: &mut Words<'_>, to: &mut Answer) -> Result<bool, Fault> {
-    if name != "run" {
-        return Ok(false);
-    }
-    each::answer::<Run>(words, to)?;
-    Ok(true)
+pub(super) fn run(words: &mut Words<'_>, to: &mut Answer) -> Result<(), Fault> {
+    each::answer::<RunCall>(words, to)
 }
 
-// The whole input of a run.
-#[derive(Drop)]
-struct Run {
-    input: Vec<u8>,
-}
+struct RunCall;
 
-impl Call for Run {
-    fn read(words: &mut Words<'_>) -> Result<Run, Fault> {
-        Ok(Run {
-            input: words.read()?,
-        })
-    }
+impl Call for RunCall {
+    // The whole input.
+    type Given = Vec<u8>;
 
-    fn answer<M: Memory>(&self, memory: M, answer: &mut Answer) -> Result<(), AllocError> {
-        let mut reader = self.input.as_slice();
+    fn answer<M: Memory>(
+        input: &Vec<u8>,
+        memory: M,
+        answer: &mut Answer,
+    ) -> Result<(), AllocError> {
+        let mut reader = input.as_slice();
         let mut writer = Vec::new(answer.alloc());
-        match run(memory, &mut reader, &mut writer) {
+        match program::run(memory, &mut reader, &mut writer) {
             Ok(good) => {
                 answer.shown(&good)?;
                 answer.bytes(writer.as_slice())

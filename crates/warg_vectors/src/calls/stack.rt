@@ -9,7 +9,8 @@ use warg_log::{Checkpoint, LogBuilder, Node, StackLog, push_all};
 
 type BytesStack<D, A> = StackLog<D, Vec<u8>, A>;
 
-/// A fault unless the entries give a log of this checkpoint, pushed one by one and at once, and cloned.
+/// A fault unless the entries give a log of this checkpoint, pushed at once and cloned. Where the push is refused, the
+/// log is that of the first ones, and takes the others.
 pub(super) fn grow<D: SupportedDigest, M: Memory>(
     wanted: &Checkpoint<D>,
     memory: M,
@@ -17,53 +18,15 @@ pub(super) fn grow<D: SupportedDigest, M: Memory>(
     entries: &[Vec<u8>],
 ) -> Result<(), Wrong> {
     let mut stack = StackLog::default(memory);
-    for entry in entries {
-        push(&mut stack, memory, alloc, entries, entry)?;
+    if push_all(&mut stack, entries).is_err() {
+        let beginning = is_stack_of(&stack, alloc, entries)?;
+        Wrong::unless(beginning, "a refused push of all left another stack")?;
+        memory.grant();
+        push_others(&mut stack, entries)?;
     }
-    let kept = stack.checkpoint() == *wanted && stack.is_empty() == entries.is_empty();
-    Wrong::unless(kept, "on a stack, another log")?;
-    push_at_once(wanted, memory, alloc, entries)?;
+    let same = stack.checkpoint() == *wanted && stack.is_empty() == entries.is_empty();
+    Wrong::unless(same, "on a stack, another log")?;
     clone(&stack, memory)
-}
-
-// Pushes an entry.
-fn push<D: SupportedDigest, M: Memory>(
-    stack: &mut BytesStack<D, M>,
-    memory: M,
-    alloc: Global,
-    entries: &[Vec<u8>],
-    entry: &Vec<u8>,
-) -> Result<(), Wrong> {
-    let before = stack.length();
-    if before >= 1 << 63 {
-        return Err(Wrong::Because("too many entries"));
-    }
-    match stack.push(entry) {
-        Ok(node) => Wrong::unless(node == Node(2 * before), "on a stack, another node"),
-        Err(AllocError) => {
-            let stands = stack.length() == before && is_stack_of(stack, alloc, entries)?;
-            Wrong::unless(stands, "a refused push changed the stack")?;
-            memory.grant();
-            push_again(stack, alloc, entries, entry)
-        }
-    }
-}
-
-// Pushes an entry that was refused. The run ends with the refusal.
-fn push_again<D: SupportedDigest, M: Memory>(
-    stack: &mut BytesStack<D, M>,
-    alloc: Global,
-    entries: &[Vec<u8>],
-    entry: &Vec<u8>,
-) -> Result<(), Wrong> {
-    let before = stack.length();
-    if before >= 1 << 63 {
-        return Err(Wrong::Because("too many entries"));
-    }
-    let node = stack.push(entry)?;
-    let pushed = node == Node(2 * before) && is_stack_of(stack, alloc, entries)?;
-    Wrong::unless(pushed, "after a refused push, another stack")?;
-    Err(Wrong::Memory)
 }
 
 // Whether a log is that of as many of the entries as it has.
@@ -76,37 +39,18 @@ fn is_stack_of<D: SupportedDigest, A: Allocator>(
     Ok(stack.checkpoint() == plain.checkpoint())
 }
 
-// Pushes all entries at once. Where it is refused, the log is that of the first ones, and takes the others.
-fn push_at_once<D: SupportedDigest, M: Memory>(
-    wanted: &Checkpoint<D>,
-    memory: M,
-    alloc: Global,
-    entries: &[Vec<u8>],
-) -> Result<(), Wrong> {
-    let mut stack = StackLog::default(memory);
-    if push_all(&mut stack, entries).is_err() {
-        Wrong::unless(
-            is_stack_of(&stack, alloc, entries)?,
-            "a refused push of all left another stack",
-        )?;
-        memory.grant();
-        push_others(&mut stack, entries)?;
-    }
-    Wrong::unless(
-        stack.checkpoint() == *wanted,
-        "pushed at once on a stack, another log",
-    )
-}
-
+// Pushes the entries behind those that the log has: the next one, and then the others.
 fn push_others<D: SupportedDigest, M: Memory>(
     stack: &mut BytesStack<D, M>,
     entries: &[Vec<u8>],
 ) -> Result<(), Wrong> {
     let count = stack.length();
-    if count > entries.len() || entries.len() > 1 << 63 {
+    if count >= entries.len() || entries.len() > 1 << 63 {
         return Err(Wrong::Because("too many entries"));
     }
-    push_all(stack, &entries[count..])?;
+    let node = stack.push(&entries[count])?;
+    Wrong::unless(node == Node(2 * count), "on a stack, another node")?;
+    push_all(stack, &entries[count + 1..])?;
     Ok(())
 }
 

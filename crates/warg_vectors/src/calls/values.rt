@@ -1,4 +1,4 @@
-//! Values that are read from the bytes of their messages.
+//! Values that are read from the bytes of their messages, under SHA-256.
 
 use crate::answer::Answer;
 use crate::calls::bundles;
@@ -12,38 +12,27 @@ use std::alloc::AllocError;
 use warg_crypto::Sha256;
 use warg_log::{EncodeError, ProofBundle, StackLog, VecLog};
 
-/// Answers the call of this name, or false where the name is none of these.
-pub(super) fn answer(name: &str, words: &mut Words<'_>, to: &mut Answer) -> Result<bool, Fault> {
-    if name != "read" {
-        return Ok(false);
+pub(super) fn read(words: &mut Words<'_>, to: &mut Answer) -> Result<(), Fault> {
+    match words.read() {
+        Ok(Type::LogProofBundle) => each::answer::<LogBundleCall>(words, to),
+        Ok(Type::StackLog) => each::answer::<StackLogCall>(words, to),
+        Ok(Type::VecLog) => each::answer::<VecLogCall>(words, to),
+        Ok(Type::MapProofBundle) => Err(Fault::BadCall),
+        Err(fault) => Err(fault),
     }
-    match words.read()? {
-        Type::LogProofBundle => each::answer::<LogBundle>(words, to)?,
-        Type::StackLog => each::answer::<StackImage>(words, to)?,
-        Type::VecLog => each::answer::<VecImage>(words, to)?,
-        Type::MapProofBundle => return Ok(false),
-    }
-    Ok(true)
 }
 
-// The bytes of a bundle of a log's proofs.
-#[derive(Drop)]
-struct LogBundle {
-    bytes: Vec<u8>,
-}
+struct LogBundleCall;
 
-impl Call for LogBundle {
-    fn read(words: &mut Words<'_>) -> Result<LogBundle, Fault> {
-        Ok(LogBundle {
-            bytes: words.read()?,
-        })
-    }
+impl Call for LogBundleCall {
+    type Given = Vec<u8>;
 
-    fn answer<M: Memory>(&self, memory: M, answer: &mut Answer) -> Result<(), AllocError> {
-        let read: Result<BytesBundle<Sha256, M>, _> = ProofBundle::decode(
-            memory,
-            self.bytes.as_slice(),
-        );
+    fn answer<M: Memory>(
+        bytes: &Vec<u8>,
+        memory: M,
+        answer: &mut Answer,
+    ) -> Result<(), AllocError> {
+        let read: Result<BytesBundle<Sha256, M>, _> = ProofBundle::decode(memory, bytes.as_slice());
         match read {
             Ok(bundle) => bundles::write_read(&bundle, memory, answer),
             Err(fault) => answer.refusal(&fault),
@@ -51,23 +40,34 @@ impl Call for LogBundle {
     }
 }
 
-type ReadStack<M> = StackLog<Sha256, Vec<u8>, M>;
-
-// The bytes of a log that keeps its balanced roots.
-#[derive(Drop)]
-struct StackImage {
-    bytes: Vec<u8>,
+// Writes the bytes of a log, which the log of its message has to have too.
+macro_rules! write_same {
+    ($bytes:expr, $other:expr, $to:expr) => {
+        match ($bytes, $other) {
+            (Ok(bytes), Ok(other)) => match other.to_protobuf() {
+                Ok(again) if again.as_slice() != bytes.as_slice() => $to.word("another log"),
+                Ok(_) => $to.bytes(bytes.as_slice()),
+                Err(fault) => $to.refusal(&fault),
+            },
+            (Err(fault), _) => $to.refusal(&fault),
+            (_, Err(wrong)) => wrong.write($to),
+        }
+    };
 }
 
-impl Call for StackImage {
-    fn read(words: &mut Words<'_>) -> Result<StackImage, Fault> {
-        Ok(StackImage {
-            bytes: words.read()?,
-        })
-    }
+type ReadStack<M> = StackLog<Sha256, Vec<u8>, M>;
 
-    fn answer<M: Memory>(&self, memory: M, answer: &mut Answer) -> Result<(), AllocError> {
-        let read: Result<ReadStack<M>, _> = StackLog::from_protobuf(memory, self.bytes.as_slice());
+struct StackLogCall;
+
+impl Call for StackLogCall {
+    type Given = Vec<u8>;
+
+    fn answer<M: Memory>(
+        bytes: &Vec<u8>,
+        memory: M,
+        answer: &mut Answer,
+    ) -> Result<(), AllocError> {
+        let read: Result<ReadStack<M>, _> = StackLog::from_protobuf(memory, bytes.as_slice());
         match read {
             Ok(log) => write_stack(&log, memory, answer),
             Err(fault) => answer.refusal(&fault),
@@ -80,25 +80,7 @@ fn write_stack<M: Memory>(
     memory: M,
     to: &mut Answer,
 ) -> Result<(), AllocError> {
-    match reread_stack(log, memory) {
-        Ok(bytes) => to.bytes(bytes.as_slice()),
-        Err(wrong) => wrong.write(to),
-    }
-}
-
-// The log's bytes, which are those of the log of its message.
-fn reread_stack<M: Memory>(log: &ReadStack<M>, memory: M) -> Result<Vec<u8, M>, Wrong> {
-    let bytes = stack_bytes(log, memory)?;
-    let again = match stack_through_message(log, memory) {
-        Err(Wrong::Memory) => {
-            memory.grant();
-            stack_through_message(log, memory)?
-        }
-        ended => ended?,
-    };
-    let same = stack_bytes(&again, memory)?.as_slice() == bytes.as_slice();
-    Wrong::unless(same, "through its message, another log")?;
-    Ok(bytes)
+    write_same!(stack_bytes(log, memory), reread_stack(log, memory), to)
 }
 
 // The log's bytes. Where they are refused for memory, it is asked for them again.
@@ -112,28 +94,35 @@ fn stack_bytes<M: Memory>(log: &ReadStack<M>, memory: M) -> Result<Vec<u8, M>, E
     }
 }
 
-fn stack_through_message<M: Memory>(log: &ReadStack<M>, memory: M) -> Result<ReadStack<M>, Wrong> {
+// The log of the log's message. Where they are refused, it is asked for them again.
+fn reread_stack<M: Memory>(log: &ReadStack<M>, memory: M) -> Result<ReadStack<M>, Wrong> {
+    match stack_of_message(log, memory) {
+        Err(Wrong::Memory) => {
+            memory.grant();
+            stack_of_message(log, memory)
+        }
+        ended => ended,
+    }
+}
+
+fn stack_of_message<M: Memory>(log: &ReadStack<M>, memory: M) -> Result<ReadStack<M>, Wrong> {
     let message = log.to_message()?;
     Ok(StackLog::from_message(memory, message)?)
 }
 
 type ReadVec<M> = VecLog<Sha256, Vec<u8>, M>;
 
-// The bytes of a log that keeps the digests of all its nodes.
-#[derive(Drop)]
-struct VecImage {
-    bytes: Vec<u8>,
-}
+struct VecLogCall;
 
-impl Call for VecImage {
-    fn read(words: &mut Words<'_>) -> Result<VecImage, Fault> {
-        Ok(VecImage {
-            bytes: words.read()?,
-        })
-    }
+impl Call for VecLogCall {
+    type Given = Vec<u8>;
 
-    fn answer<M: Memory>(&self, memory: M, answer: &mut Answer) -> Result<(), AllocError> {
-        let read: Result<ReadVec<M>, _> = VecLog::from_protobuf(memory, self.bytes.as_slice());
+    fn answer<M: Memory>(
+        bytes: &Vec<u8>,
+        memory: M,
+        answer: &mut Answer,
+    ) -> Result<(), AllocError> {
+        let read: Result<ReadVec<M>, _> = VecLog::from_protobuf(memory, bytes.as_slice());
         match read {
             Ok(log) => write_vec(&log, memory, answer),
             Err(fault) => answer.refusal(&fault),
@@ -142,25 +131,7 @@ impl Call for VecImage {
 }
 
 fn write_vec<M: Memory>(log: &ReadVec<M>, memory: M, to: &mut Answer) -> Result<(), AllocError> {
-    match reread_vec(log, memory) {
-        Ok(bytes) => to.bytes(bytes.as_slice()),
-        Err(wrong) => wrong.write(to),
-    }
-}
-
-// The log's bytes, which are those of the log of its message.
-fn reread_vec<M: Memory>(log: &ReadVec<M>, memory: M) -> Result<Vec<u8, M>, Wrong> {
-    let bytes = vec_bytes(log, memory)?;
-    let again = match vec_through_message(log, memory) {
-        Err(Wrong::Memory) => {
-            memory.grant();
-            vec_through_message(log, memory)?
-        }
-        ended => ended?,
-    };
-    let same = vec_bytes(&again, memory)?.as_slice() == bytes.as_slice();
-    Wrong::unless(same, "through its message, another log")?;
-    Ok(bytes)
+    write_same!(vec_bytes(log, memory), reread_vec(log, memory), to)
 }
 
 // The log's bytes. Where they are refused for memory, it is asked for them again.
@@ -174,7 +145,18 @@ fn vec_bytes<M: Memory>(log: &ReadVec<M>, memory: M) -> Result<Vec<u8, M>, Encod
     }
 }
 
-fn vec_through_message<M: Memory>(log: &ReadVec<M>, memory: M) -> Result<ReadVec<M>, Wrong> {
+// The log of the log's message. Where they are refused, it is asked for them again.
+fn reread_vec<M: Memory>(log: &ReadVec<M>, memory: M) -> Result<ReadVec<M>, Wrong> {
+    match vec_of_message(log, memory) {
+        Err(Wrong::Memory) => {
+            memory.grant();
+            vec_of_message(log, memory)
+        }
+        ended => ended,
+    }
+}
+
+fn vec_of_message<M: Memory>(log: &ReadVec<M>, memory: M) -> Result<ReadVec<M>, Wrong> {
     let message = log.to_message()?;
     Ok(VecLog::from_message(memory, message)?)
 }

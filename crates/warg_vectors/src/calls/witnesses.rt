@@ -3,27 +3,31 @@
 use crate::answer::Answer;
 use crate::calls::data::Data;
 use crate::calls::digests::{Digest, by_digest};
-use crate::calls::proofs::{read_consistency, read_inclusion};
 use crate::each::{Call, Memory};
-use crate::words::{Fault, List, Words};
+use crate::words::{Fault, Length, List, Words};
 use std::alloc::{AllocError, Allocator};
+use std::marker::PhantomData;
 use warg_crypto::{Hash, SupportedDigest};
-use warg_log::{ConsistencyProof, InclusionProof};
-use warg_witness::{
-    Collision, Finding, agree_value, witness_consistency, witness_hash, witness_value,
-};
+use warg_log::{LogData, Node};
+use warg_witness::{Collision, Finding};
 
-/// Answers the call of this name, or false where the name is none of these.
-pub(super) fn answer(name: &str, words: &mut Words<'_>, to: &mut Answer) -> Result<bool, Fault> {
-    match name {
-        "witness_value" => by_digest!(WitnessValue, words, to),
-        "witness_hash" => by_digest!(WitnessHash, words, to),
-        "witness_consistency" => by_digest!(WitnessConsistency, words, to),
-        "agree_value" => by_digest!(AgreeValue, words, to),
-        _ => return Ok(false),
-    }
-    Ok(true)
+pub(super) fn witness_value(words: &mut Words<'_>, to: &mut Answer) -> Result<(), Fault> {
+    by_digest!(ValueCall, words, to)
 }
+
+pub(super) fn witness_hash(words: &mut Words<'_>, to: &mut Answer) -> Result<(), Fault> {
+    by_digest!(HashCall, words, to)
+}
+
+pub(super) fn witness_consistency(words: &mut Words<'_>, to: &mut Answer) -> Result<(), Fault> {
+    by_digest!(ConsistencyCall, words, to)
+}
+
+pub(super) fn agree_value(words: &mut Words<'_>, to: &mut Answer) -> Result<(), Fault> {
+    by_digest!(AgreementCall, words, to)
+}
+
+type Entries = List<Vec<u8>>;
 
 /// The pairs of byte strings that may be answered as a collision.
 pub(super) type Pairs = List<(Vec<u8>, Vec<u8>)>;
@@ -48,154 +52,113 @@ fn write_pair<D: SupportedDigest, A: Allocator>(
     to: &mut Answer,
 ) -> Result<(), AllocError> {
     to.word("Collision")?;
-    let (first, second) = (pair.first(), pair.second());
-    if pairs.items.iter().any(|given| given.0.as_slice() == first && given.1.as_slice() == second) {
+    if is_given(pair.first(), pair.second(), pairs.items.as_slice()) {
         return Ok(());
     }
-    to.bytes(first)?;
-    to.bytes(second)
+    to.bytes(pair.first())?;
+    to.bytes(pair.second())
 }
 
-#[derive(Drop)]
-struct WitnessValue<D: SupportedDigest> {
-    proof: InclusionProof<D, Vec<u8>>,
-    data: Data<D>,
-    value: Vec<u8>,
-    entries: List<Vec<u8>>,
-    pairs: Pairs,
+fn is_given(first: &[u8], second: &[u8], pairs: &[(Vec<u8>, Vec<u8>)]) -> bool {
+    for pair in pairs {
+        if pair.0.as_slice() == first && pair.1.as_slice() == second {
+            return true;
+        }
+    }
+    false
 }
 
-impl<D: SupportedDigest> Call for WitnessValue<D> {
-    fn read(words: &mut Words<'_>) -> Result<WitnessValue<D>, Fault> {
-        Ok(WitnessValue {
-            proof: read_inclusion(words)?,
-            data: words.read()?,
-            value: words.read()?,
-            entries: words.read()?,
-            pairs: words.read()?,
-        })
-    }
+// A claim about a node at a length, and what it is judged by.
+type Claim<D, C> = ((Node, Length), ((Data<D>, C), (Entries, Pairs)));
 
-    fn answer<M: Memory>(&self, memory: M, answer: &mut Answer) -> Result<(), AllocError> {
-        let entries = self.entries.items.as_slice();
-        let found = witness_value(memory, &self.proof, &self.data.held, &self.value, entries);
-        write(found, &self.pairs, answer)
-    }
+struct ValueCall<D>(PhantomData<D>);
 
-    fn stands(&self) -> bool {
-        self.data.stands()
-    }
-}
+impl<D: SupportedDigest> Call for ValueCall<D> {
+    type Given = Claim<D, Vec<u8>>;
 
-#[derive(Drop)]
-struct WitnessHash<D: SupportedDigest> {
-    proof: InclusionProof<D, Vec<u8>>,
-    data: Data<D>,
-    hash: Hash<D>,
-    entries: List<Vec<u8>>,
-    pairs: Pairs,
-}
-
-impl<D: SupportedDigest> Call for WitnessHash<D> {
-    fn read(words: &mut Words<'_>) -> Result<WitnessHash<D>, Fault> {
-        Ok(WitnessHash {
-            proof: read_inclusion(words)?,
-            data: words.read()?,
-            hash: words.read()?,
-            entries: words.read()?,
-            pairs: words.read()?,
-        })
-    }
-
-    fn answer<M: Memory>(&self, memory: M, answer: &mut Answer) -> Result<(), AllocError> {
-        let entries = self.entries.items.as_slice();
-        let hash = self.hash.copied();
-        let found = witness_hash(memory, &self.proof, &self.data.held, hash, entries);
-        write(found, &self.pairs, answer)
-    }
-
-    fn stands(&self) -> bool {
-        self.data.stands()
+    fn answer<M: Memory>(
+        given: &Claim<D, Vec<u8>>,
+        memory: M,
+        answer: &mut Answer,
+    ) -> Result<(), AllocError> {
+        let ((node, length), ((data, value), (entries, pairs))) = given;
+        let entries = entries.items.as_slice();
+        let proof = data.held.prove_inclusion(*node, length.value);
+        let found = warg_witness::witness_value(memory, &proof, &data.held, value, entries);
+        write(found, pairs, answer)
     }
 }
 
-#[derive(Drop)]
-struct WitnessConsistency<D: SupportedDigest> {
-    proof: ConsistencyProof<D, Vec<u8>>,
-    data: Data<D>,
-    old: List<Vec<u8>>,
-    new: List<Vec<u8>>,
-    pairs: Pairs,
-}
+struct HashCall<D>(PhantomData<D>);
 
-impl<D: SupportedDigest> Call for WitnessConsistency<D> {
-    fn read(words: &mut Words<'_>) -> Result<WitnessConsistency<D>, Fault> {
-        Ok(WitnessConsistency {
-            proof: read_consistency(words)?,
-            data: words.read()?,
-            old: words.read()?,
-            new: words.read()?,
-            pairs: words.read()?,
-        })
-    }
+impl<D: SupportedDigest> Call for HashCall<D> {
+    type Given = Claim<D, Hash<D>>;
 
-    fn answer<M: Memory>(&self, memory: M, answer: &mut Answer) -> Result<(), AllocError> {
-        let (old, new) = (self.old.items.as_slice(), self.new.items.as_slice());
-        let found = witness_consistency(memory, &self.proof, &self.data.held, old, new);
-        write(found, &self.pairs, answer)
-    }
-
-    fn stands(&self) -> bool {
-        self.data.stands()
+    fn answer<M: Memory>(
+        given: &Claim<D, Hash<D>>,
+        memory: M,
+        answer: &mut Answer,
+    ) -> Result<(), AllocError> {
+        let ((node, length), ((data, hash), (entries, pairs))) = given;
+        let (hash, entries) = (hash.copied(), entries.items.as_slice());
+        let proof = data.held.prove_inclusion(*node, length.value);
+        let found = warg_witness::witness_hash(memory, &proof, &data.held, hash, entries);
+        write(found, pairs, answer)
     }
 }
 
-// What one of two evaluations is over.
-#[derive(Drop)]
-struct Side<D: SupportedDigest> {
-    data: Data<D>,
-    value: Vec<u8>,
-}
+// Two lengths, digests, the old and the new entries.
+type Growth<D> = ((Length, Length), (Data<D>, ((Entries, Entries), Pairs)));
 
-fn read_side<D: SupportedDigest>(words: &mut Words<'_>) -> Result<Side<D>, Fault> {
-    Ok(Side {
-        data: words.read()?,
-        value: words.read()?,
-    })
-}
+struct ConsistencyCall<D>(PhantomData<D>);
 
-#[derive(Drop)]
-struct AgreeValue<D: SupportedDigest> {
-    proof: InclusionProof<D, Vec<u8>>,
-    first: Side<D>,
-    second: Side<D>,
-    pairs: Pairs,
-}
+impl<D: SupportedDigest> Call for ConsistencyCall<D> {
+    type Given = Growth<D>;
 
-impl<D: SupportedDigest> Call for AgreeValue<D> {
-    fn read(words: &mut Words<'_>) -> Result<AgreeValue<D>, Fault> {
-        Ok(AgreeValue {
-            proof: read_inclusion(words)?,
-            first: read_side(words)?,
-            second: read_side(words)?,
-            pairs: words.read()?,
-        })
-    }
-
-    fn answer<M: Memory>(&self, memory: M, answer: &mut Answer) -> Result<(), AllocError> {
-        let (first, second) = (&self.first, &self.second);
-        let found = agree_value(
+    fn answer<M: Memory>(
+        given: &Growth<D>,
+        memory: M,
+        answer: &mut Answer,
+    ) -> Result<(), AllocError> {
+        let ((old, new), (data, ((old_entries, new_entries), pairs))) = given;
+        let proof = data.held.prove_consistency(old.value, new.value);
+        let found = warg_witness::witness_consistency(
             memory,
-            &self.proof,
-            &first.data.held,
-            &first.value,
-            &second.data.held,
-            &second.value,
+            &proof,
+            &data.held,
+            old_entries.items.as_slice(),
+            new_entries.items.as_slice(),
         );
-        write(found, &self.pairs, answer)
+        write(found, pairs, answer)
     }
+}
 
-    fn stands(&self) -> bool {
-        self.first.data.stands() && self.second.data.stands()
+// A node at a length, and two evaluations.
+type Agreement<D> = (
+    (Node, Length),
+    ((Data<D>, Vec<u8>), ((Data<D>, Vec<u8>), Pairs)),
+);
+
+struct AgreementCall<D>(PhantomData<D>);
+
+impl<D: SupportedDigest> Call for AgreementCall<D> {
+    type Given = Agreement<D>;
+
+    fn answer<M: Memory>(
+        given: &Agreement<D>,
+        memory: M,
+        answer: &mut Answer,
+    ) -> Result<(), AllocError> {
+        let ((node, length), ((data, value), ((other_data, other_value), pairs))) = given;
+        let proof = data.held.prove_inclusion(*node, length.value);
+        let found = warg_witness::agree_value(
+            memory,
+            &proof,
+            &data.held,
+            value,
+            &other_data.held,
+            other_value,
+        );
+        write(found, pairs, answer)
     }
 }
