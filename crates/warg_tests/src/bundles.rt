@@ -1,4 +1,4 @@
-//! Bundles of a log's proofs: their readers, and refusals that come before any growth.
+//! Bundles of a log's proofs: their parts, and refusals that come before any growth.
 
 use crate::digests::{all, bytes_of, exhaust, hash_of};
 use refusing::Refusing;
@@ -15,118 +15,122 @@ type Bundle<'a> = ProofBundle<Sha256, (), &'a Refusing<Global>>;
 type Data = SparseLogData<Sha256, ()>;
 
 // Consistency from 2 to 3 and inclusion of the first and the last entry in the log of no bytes, `00` and `10`.
-fn both<'a>(alloc: Global, memory: &'a Refusing<Global>) -> Result<Bundle<'a>, Fail> {
-    let words = "0803 120102 1a020004 2224 0801 1220 U2 2224 0802 1220 L1 2224 0804 1220 L2";
-    let bytes = bytes_of(alloc, words)?;
-    Ok(ProofBundle::decode(memory, bytes.as_slice())?)
-}
+const BOTH: &str = "0803 120102 1a020004 2224 0801 1220 U2 2224 0802 1220 L1 2224 0804 1220 L2";
 
-// Whether the bundle has the three proofs and no others, and their digests.
-fn has_proofs(bundle: &Bundle<'_>) -> bool {
-    let data = bundle.hashes();
+// Whether the bundle answers these proofs and no others.
+fn has_proofs(bundle: &Bundle<'_>, data: &Data) -> bool {
     all(&[
         bundle.inclusion_proof(0) == Some(data.prove_inclusion(Node(0), 3)),
         bundle.inclusion_proof(1) == Some(data.prove_inclusion(Node(4), 3)),
         bundle.inclusion_proof(2).is_none(),
         bundle.consistency_proof(0) == Some(data.prove_consistency(2, 3)),
         bundle.consistency_proof(1).is_none(),
-        data.has_hash(Node(2)),
-        !data.has_hash(Node(0)),
     ])
 }
 
 #[test]
 fn readers_without_memory(rt: HostRuntime) -> Result<(), Fail> {
     let memory = Refusing::after(rt.alloc(), 99);
-    let bundle = both(rt.alloc(), &memory)?;
+    let bundle: Bundle<'_> = ProofBundle::decode(&memory, &bytes_of(rt.alloc(), BOTH)?)?;
     exhaust(&memory);
-    assert!(rt; has_proofs(&bundle));
-    assert!(rt; !memory.has_refused());
+    let none: Data = SparseLogData::from(Vec::new(rt.alloc()));
+    assert!(rt; has_proofs(&bundle, &none));
+    let hashes = bundle.hashes();
+    assert!(rt; all(&[hashes.has_hash(Node(2)), !hashes.has_hash(Node(0))]));
+    assert!(rt; hashes.hash_for(Node(1)) == Some(hash_of(rt.alloc(), "U2")?));
+    let roots = none.prove_consistency(2, 3).evaluate(&none).is_err();
+    assert!(rt; all(&[roots, memory.left() == 0, !memory.has_refused()]));
     Ok(())
+}
+
+#[test]
+fn parts_in_order(rt: HostRuntime) -> Result<(), Fail> {
+    let memory = Refusing::after(rt.alloc(), 99);
+    let bundle: Bundle<'_> = ProofBundle::decode(&memory, &bytes_of(rt.alloc(), BOTH)?)?;
+    let (hashes, consistencies, inclusions) = bundle.unbundle(&memory)?;
+    let proof = hashes.prove_consistency(2, 3);
+    let first = hashes.prove_inclusion(Node(0), 3);
+    let last = hashes.prove_inclusion(Node(4), 3);
+    assert!(rt; inclusions.as_slice() == [first, last].as_slice());
+    assert!(rt; consistencies.as_slice() == [proof].as_slice());
+    assert!(rt; proof.evaluate(&hashes).is_ok());
+    Ok(())
+}
+
+// What bundling these proofs over no data is refused for, where every growth is.
+fn refusal(
+    rt: &HostRuntime,
+    consistencies: &[ConsistencyProof<Sha256, ()>],
+    inclusions: &[InclusionProof<Sha256, ()>],
+) -> Result<Option<BundleError>, Fail> {
+    let memory = Refusing::after(rt.alloc(), 2);
+    let data: Data = SparseLogData::from(Vec::new(rt.alloc()));
+    let consistencies = Vec::from_slice(&memory, consistencies)?;
+    let inclusions = Vec::from_slice(&memory, inclusions)?;
+    exhaust(&memory);
+    match ProofBundle::bundle(&memory, consistencies, inclusions, &data) {
+        Ok(_) => Ok(None),
+        Err(fault) => Ok(Some(fault)),
+    }
 }
 
 // Whether bundling these proofs over no data is refused for this fault, where every growth is.
 fn is_refused(
-    alloc: Global,
+    rt: &HostRuntime,
     consistencies: &[ConsistencyProof<Sha256, ()>],
     inclusions: &[InclusionProof<Sha256, ()>],
-    want: &BundleError,
+    want: BundleError,
 ) -> Result<bool, Fail> {
-    let memory = Refusing::after(alloc, 2);
-    let consistencies = Vec::from_slice(&memory, consistencies)?;
-    let inclusions = Vec::from_slice(&memory, inclusions)?;
-    exhaust(&memory);
-    let data: Data = SparseLogData::from(Vec::new(alloc));
-    match ProofBundle::bundle(&memory, consistencies, inclusions, &data) {
-        Ok(_) => Ok(false),
-        Err(fault) => Ok(fault == *want),
-    }
+    Ok(refusal(rt, consistencies, inclusions)? == Some(want))
 }
 
 #[test]
 fn early_refusals_of_consistency_proofs(rt: HostRuntime) -> Result<(), Fail> {
     let data: Data = SparseLogData::from(Vec::new(rt.alloc()));
-    let rows = [
-        (
-            3,
-            2,
-            BundleError::Consistency(ConsistencyProofError::PointsOutOfOrder),
-        ),
-        (4, 5, BundleError::DifferentRoots),
-        (0, 1 << 32, BundleError::TooLarge),
-    ];
-    for (old, new, want) in &rows {
-        let proofs = [
-            data.prove_consistency(*old, *new),
-            data.prove_consistency(0, 1 << 32),
-        ];
-        assert!(rt; is_refused(rt.alloc(), &proofs, &[], want)?);
-    }
+    let backwards = [data.prove_consistency(3, 2)];
+    let fault = BundleError::Consistency(ConsistencyProofError::PointsOutOfOrder);
+    assert!(rt; is_refused(&rt, &backwards, &[], fault)?);
+    let different = [data.prove_consistency(0, 5), data.prove_consistency(1, 4)];
+    assert!(rt; is_refused(&rt, &different, &[], BundleError::DifferentRoots)?);
+    let long = [data.prove_consistency(0, 1 << 32)];
+    assert!(rt; is_refused(&rt, &long, &[], BundleError::TooLarge)?);
     Ok(())
 }
 
 #[test]
 fn early_refusals_of_inclusion_proofs(rt: HostRuntime) -> Result<(), Fail> {
     let data: Data = SparseLogData::from(Vec::new(rt.alloc()));
-    let too_new = BundleError::Inclusion(InclusionProofError::LeafTooNew);
-    let rows = [
-        (2, 1, too_new),
-        (0, 1 << 32, BundleError::TooLarge),
-        (0, 2, BundleError::Memory),
-    ];
-    for (node, length, want) in &rows {
-        let proofs = [data.prove_inclusion(Node(*node), *length)];
-        assert!(rt; is_refused(rt.alloc(), &[], &proofs, want)?);
-    }
+    let late = [data.prove_inclusion(Node(2), 1)];
+    let fault = BundleError::Inclusion(InclusionProofError::LeafTooNew);
+    assert!(rt; is_refused(&rt, &[], &late, fault)?);
+    let (old, new) = (
+        [data.prove_consistency(0, 5)],
+        [data.prove_inclusion(Node(8), 4)],
+    );
+    assert!(rt; is_refused(&rt, &old, &new, BundleError::DifferentRoots)?);
+    assert!(rt; is_refused(&rt, &[], &[], BundleError::NoProofs)?);
+    let known = [data.prove_inclusion(Node(0), 2)];
+    assert!(rt; is_refused(&rt, &[], &known, BundleError::Memory)?);
     Ok(())
 }
 
-#[test]
-fn early_refusals_of_others(rt: HostRuntime) -> Result<(), Fail> {
-    let data: Data = SparseLogData::from(Vec::new(rt.alloc()));
-    let consistencies = [data.prove_consistency(0, 5)];
-    let inclusions = [data.prove_inclusion(Node(8), 4)];
-    let different = BundleError::DifferentRoots;
-    assert!(rt; is_refused(rt.alloc(), &consistencies, &inclusions, &different)?);
-    assert!(rt; is_refused(rt.alloc(), &[], &[], &BundleError::NoProofs)?);
-    Ok(())
-}
-
-// A bundle of a node above 32 bits.
-fn large<'a>(alloc: Global, memory: &'a Refusing<Global>) -> Result<Bundle<'a>, Fail> {
-    let held = vec![in alloc; (Node((1 << 31) - 1), hash_of(alloc, "Z")?)]?;
-    let data: Data = SparseLogData::from(held);
-    let proofs = vec![in memory; data.prove_inclusion(Node(1 << 32), (1 << 31) + 1)]?;
-    Ok(ProofBundle::bundle(memory, Vec::new(memory), proofs, &data)?)
-}
-
+// A node's number above 32 bits.
 #[test]
 fn too_large_to_write_without_memory(rt: HostRuntime) -> Result<(), Fail> {
     let memory = Refusing::after(rt.alloc(), 99);
-    let bundle = large(rt.alloc(), &memory)?;
+    let held = vec![in rt.alloc(); (Node((1 << 31) - 1), hash_of(rt.alloc(), "Z")?)]?;
+    let data: Data = SparseLogData::from(held);
+    let proof = data.prove_inclusion(Node(1 << 32), (1 << 31) + 1);
+    let proofs = vec![in &memory; proof]?;
+    let bundle: Bundle<'_> = ProofBundle::bundle(&memory, Vec::new(&memory), proofs, &data)?;
     exhaust(&memory);
     assert!(rt; bundle.encode(&memory) == Err(EncodeError::TooLarge));
     assert!(rt; matches!(bundle.to_message(&memory), Err(EncodeError::TooLarge)));
-    assert!(rt; !memory.has_refused());
+    assert!(rt;
+        all(&[
+            bundle.inclusion_proof(0) == Some(proof),
+            !memory.has_refused()
+        ])
+    );
     Ok(())
 }

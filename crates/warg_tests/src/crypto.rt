@@ -4,7 +4,7 @@ ghost use Rattle.std.specs.Prelude.{◌≡◌, ◌↔◌, IsTrue};
 ghost use Rattle.std.specs.Ordering.{nat_cmp};
 ghost use Rattle.std.specs.Cmp.Lexicographic.{slice_cmp};
 
-use crate::digests::{L0, all, hash_ending_in};
+use crate::digests::{L0, L1, L2, U2, U3, Z, all, hash_ending_in};
 use refusing::Refusing;
 use std::alloc::{AllocError, Global};
 use std::cmp::Ordering;
@@ -30,6 +30,27 @@ fn hashed<D>(hash: &Hash<D>) -> u64 {
 // Whether a hash is spelled by these digits.
 fn is_spelled<D>(alloc: Global, hash: &Hash<D>, digits: &str) -> Result<bool, AllocError> {
     Ok(hex::encode(alloc, hash.bytes())?.as_str() == digits)
+}
+
+#[test]
+fn sha256_of_bytes_in_pieces(rt: HostRuntime) -> Result<(), Fail> {
+    for (mark, first, second, want) in [
+        ("", "", "", Z),
+        ("00", "", "", L0),
+        ("00", "00", "", L1),
+        ("00", "10", "", L2),
+        ("01", L0, L1, U2),
+        ("01", U2, L2, U3),
+    ] {
+        let mark = hex::decode(rt.alloc(), mark)?;
+        let pair = (
+            hex::decode(rt.alloc(), first)?,
+            hex::decode(rt.alloc(), second)?,
+        );
+        let hash = Hash::<Sha256>::of(&(mark, pair));
+        assert!(rt; is_spelled(rt.alloc(), &hash, want)?);
+    }
+    Ok(())
 }
 
 #[test]

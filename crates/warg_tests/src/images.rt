@@ -32,21 +32,24 @@ fn the_greatest_stack_log(rt: HostRuntime) -> Result<(), Fail> {
     let bytes = bytes_of(rt.alloc(), "088080808008 1228 08ffffffff07 1220 L0")?;
     let memory = Refusing::after(rt.alloc(), 99);
     let mut log: Stack<'_> = StackLog::from_protobuf(&memory, &bytes)?;
-    assert!(rt; log.to_protobuf()?.as_slice() == bytes.as_slice());
-    assert!(rt; log.length() == 1 << 31);
+    assert!(rt;
+        all(&[
+            log.length() == 1 << 31,
+            log.to_protobuf()?.as_slice() == bytes.as_slice()
+        ])
+    );
+    let root = log.checkpoint().root();
     log.push(&0)?;
     exhaust(&memory);
-    assert!(rt; is_too_large(&log) && !memory.has_refused());
-    Ok(())
-}
-
-// Whether a log of 2^31 + 1 entries can't be written, and stays as it was.
-fn is_too_large(log: &Stack<'_>) -> bool {
     let before = log.checkpoint();
-    all(&[
-        matches!(log.to_protobuf(), Err(EncodeError::TooLarge)),
-        matches!(log.to_message(), Err(EncodeError::TooLarge)),
-        log.length() == (1 << 31) + 1,
-        log.checkpoint() == before,
-    ])
+    assert!(rt; matches!(log.to_protobuf(), Err(EncodeError::TooLarge)));
+    assert!(rt;
+        all(&[
+            matches!(log.to_message(), Err(EncodeError::TooLarge)),
+            !memory.has_refused()
+        ])
+    );
+    assert!(rt; all(&[log.length() == (1 << 31) + 1, log.checkpoint() == before]));
+    assert!(rt; before.root() != root);
+    Ok(())
 }

@@ -7,13 +7,11 @@ use std::test::Fail;
 use warg_crypto::weak::Sum;
 use warg_crypto::{Hash, Sha256};
 use warg_log::{
-    ConsistencyProofError, InclusionProofError, InclusionProofWalk, LogBuilder, LogData, Node,
-    SparseLogData, StackLog, VecLog, push_all,
+    ConsistencyProofError, InclusionProofError, LogBuilder, LogData, Node, SparseLogData, StackLog,
+    VecLog, push_all,
 };
 
-type Text = &'static str;
-
-type TextLog = VecLog<Sha256, Text>;
+type TextLog = VecLog<Sha256, &'static str>;
 
 const TEXTS: [&str; 25] = [
     "93", "67", "30", "37", "23", "75", "57", "89", "76", "42", "9", "14", "40", "59", "26", "66",
@@ -149,51 +147,24 @@ fn digests_of_nodes_that_exist(rt: HostRuntime) -> Result<(), Fail> {
     Ok(())
 }
 
-// Whether a log's clone takes one entry more than it, and it is left as it was.
-fn clone_grows(log: &VecLog<Sha256, Text>, before: &Hash<Sha256>, after: &Hash<Sha256>) -> bool {
-    let Ok(mut other) = log.clone() else {
-        return false;
-    };
-    if other.length() != 2 || other.push(&"\x10").is_err() {
-        return false;
-    }
-    let (old, new) = (log.checkpoint(), other.checkpoint());
-    all(&[
-        old.root() == *before,
-        old.length() == 2,
-        new.root() == *after,
-    ])
-}
-
 #[test]
 fn clones_grow_apart(rt: HostRuntime) -> Result<(), Fail> {
-    let (before, after) = (hash_of(rt.alloc(), "U2")?, hash_of(rt.alloc(), "U3")?);
-    let mut log = VecLog::default(rt.alloc());
+    let mut log: VecLog<Sha256, &str> = VecLog::default(rt.alloc());
+    let mut stack: StackLog<Sha256, &str> = StackLog::default(rt.alloc());
     push_all(&mut log, &["", "\0"])?;
-    assert!(rt; clone_grows(&log, &before, &after));
-    let mut stack = StackLog::default(rt.alloc());
     push_all(&mut stack, &["", "\0"])?;
-    assert!(rt; stack_clone_grows(&stack, &before, &after));
+    let mut other = log.clone()?;
+    let mut others = stack.clone()?;
+    assert!(rt; push_all(&mut other, &["\x10"])? == push_all(&mut others, &["\x10"])?);
+    assert!(rt; other.checkpoint().root() == hash_of(rt.alloc(), "U3")?);
+    assert!(rt;
+        all(&[
+            log.checkpoint().root() == hash_of(rt.alloc(), "U2")?,
+            log.length() == 2
+        ])
+    );
+    assert!(rt; all(&[stack.checkpoint() == log.checkpoint(), other.length() == 3]));
     Ok(())
-}
-
-fn stack_clone_grows(
-    stack: &StackLog<Sha256, Text>,
-    before: &Hash<Sha256>,
-    after: &Hash<Sha256>,
-) -> bool {
-    let Ok(mut other) = stack.clone() else {
-        return false;
-    };
-    if other.length() != 2 || other.push(&"\x10").is_err() {
-        return false;
-    }
-    let (old, new) = (stack.checkpoint(), other.checkpoint());
-    all(&[
-        old.root() == *before,
-        old.length() == 2,
-        new.root() == *after,
-    ])
 }
 
 // The checkpoint of a log of these entries.
@@ -283,28 +254,17 @@ fn a_log_s_calls_without_memory(rt: HostRuntime) -> Result<(), Fail> {
     push_all(&mut log, &[1, 2, 3])?;
     let walk = log.prove_inclusion(Node(2), 3).walk(&memory)?;
     exhaust(&memory);
-    assert!(rt; answers_alone(&log));
-    assert!(rt; has_counts(&walk));
-    assert!(rt; !memory.has_refused());
+    assert!(rt; all(&[memory.left() == 0, answers_alone(&log)]));
+    assert!(rt; [walk.initial_walk_len(), walk.lower_broots()] == [1, 1]);
+    assert!(rt;
+        all(&[
+            walk.upper_broots() == 0,
+            walk.nodes() == [Node(0), Node(4)].as_slice()
+        ])
+    );
+    assert!(rt; VecLog::<Sum, u8, _>::default(&memory).length() == 0);
+    assert!(rt; StackLog::<Sum, u8, _>::default(&memory).is_empty() && !memory.has_refused());
     Ok(())
-}
-
-fn has_counts(walk: &InclusionProofWalk<Scarce<'_>>) -> bool {
-    all(&[
-        walk.initial_walk_len() == 1,
-        walk.lower_broots() == 1,
-        walk.upper_broots() == 0,
-        walk.nodes() == [Node(0), Node(4)].as_slice(),
-    ])
-}
-
-#[test]
-fn empty_logs_without_memory(rt: HostRuntime) {
-    let none = Refusing::after(rt.alloc(), 0);
-    let log: ByteLog<Scarce<'_>> = VecLog::default(&none);
-    let stack: StackLog<Sum, u8, Scarce<'_>> = StackLog::default(&none);
-    assert!(rt; log.checkpoint() == stack.checkpoint());
-    assert!(rt; !none.has_refused());
 }
 
 #[test]
@@ -313,30 +273,30 @@ fn given_digests_without_memory(rt: HostRuntime) -> Result<(), Fail> {
     let pairs = vec![in &memory; (Node(1), hash_ending_in(5)), (Node(4), hash_ending_in(7))]?;
     exhaust(&memory);
     let data: SparseLogData<Sum, u8, Scarce<'_>> = SparseLogData::from(pairs);
-    assert!(rt; holds_two(&data));
-    assert!(rt; leads_to_root(&data));
-    assert!(rt; !memory.has_refused());
-    Ok(())
-}
-
-fn holds_two(data: &SparseLogData<Sum, u8, Scarce<'_>>) -> bool {
-    all(&[
-        data.hash_for(Node(1)) == Some(hash_ending_in(5)),
-        data.hash_for(Node(4)) == Some(hash_ending_in(7)),
-        data.has_hash(Node(4)),
-        !data.has_hash(Node(0)),
-        !data.has_hash(Node(3)),
-        !data.has_hash(Node(5)),
-    ])
-}
-
-fn leads_to_root(data: &SparseLogData<Sum, u8, Scarce<'_>>) -> bool {
-    let roots = data.prove_consistency(2, 3).evaluate(data);
+    assert!(rt;
+        all(&[
+            data.has_hash(Node(4)),
+            !data.has_hash(Node(3)),
+            !data.has_hash(Node(5))
+        ])
+    );
+    assert!(rt;
+        all(&[
+            data.hash_for(Node(1)) == Some(hash_ending_in(5)),
+            !data.has_hash(Node(0))
+        ])
+    );
+    let roots = data.prove_consistency(2, 3).evaluate(&data);
+    assert!(rt; roots == Ok((hash_ending_in(5), hash_ending_in(13))));
     let root = data
         .prove_inclusion(Node(1), 3)
-        .evaluate_hash(data, hash_ending_in(9));
-    all(&[
-        roots == Ok((hash_ending_in(5), hash_ending_in(13))),
-        root == Ok(hash_ending_in(17)),
-    ])
+        .evaluate_hash(&data, hash_ending_in(9));
+    assert!(rt;
+        all(&[
+            root == Ok(hash_ending_in(17)),
+            memory.left() == 0,
+            !memory.has_refused()
+        ])
+    );
+    Ok(())
 }

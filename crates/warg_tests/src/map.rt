@@ -75,11 +75,19 @@ fn equal_roots_of_weak_digests(rt: HostRuntime) -> Result<(), Fail> {
 fn values_of_a_proof(rt: HostRuntime) -> Result<(), Fail> {
     let map = grown(rt.alloc(), &[("foo", "bar"), ("baz", "bat")])?;
     let proof = map.prove("baz")?.ok_or("held")?;
-    let root = map.root();
-    let leads = proof.evaluate(&"baz", &"bat") == *root;
-    let other = proof.evaluate(&"other", &"bar") == *root;
-    let without = proof.evaluate(&"baz", &"") == *root;
-    assert!(rt; [leads, other, without] == [true, false, false]);
+    for (key, value, leads) in [
+        ("baz", "bat", true),
+        ("other", "bar", false),
+        ("baz", "", false),
+    ] {
+        assert!(rt; (proof.evaluate(&key, &value) == *map.root()) == leads);
+    }
+    assert!(rt;
+        all(&[
+            proof.evaluate_absent(&"baz") != *map.root(),
+            map.prove("qux")?.is_none()
+        ])
+    );
     Ok(())
 }
 
@@ -93,35 +101,32 @@ fn foo(memory: &Refusing<Global>) -> Result<Scarce<'_>, MapError> {
 fn calls_without_memory(rt: HostRuntime) -> Result<(), Fail> {
     let memory = Refusing::after(rt.alloc(), 99);
     let map = foo(&memory)?;
+    let proof = map.prove("foo")?.ok_or("held")?;
+    let absence = map.prove_absence("qux")?.ok_or("absent")?;
     exhaust(&memory);
     let same = map.clone()?;
-    assert!(rt; is_same(&same, &map));
-    assert!(rt; Scarce::default(&memory)?.is_empty());
-    assert!(rt; !memory.has_refused());
-    Ok(())
-}
-
-fn is_same<'a>(same: &Scarce<'a>, map: &Scarce<'a>) -> bool {
-    all(&[
-        same == map,
-        hashed(same) == hashed(map),
-        same.root() == map.root(),
-        same.len() == 1,
-        !same.is_empty(),
-        same.node_count() == 2,
-    ])
-}
-
-#[test]
-fn a_proof_s_calls_without_memory(rt: HostRuntime) -> Result<(), Fail> {
-    let memory = Refusing::after(rt.alloc(), 99);
-    let map = foo(&memory)?;
-    let proof = map.prove("foo")?.ok_or("held")?;
-    exhaust(&memory);
-    let absent = proof.evaluate_absent(&"foo");
-    assert!(rt; proof.evaluate(&"foo", &"bar") == *map.root() && absent != *map.root());
-    assert!(rt; proof.peers().len() == 1);
-    assert!(rt; Vec::from(proof).len() == 1 && !memory.has_refused());
+    assert!(rt;
+        all(&[
+            same == map,
+            hashed(&same) == hashed(&map),
+            same.root() == map.root()
+        ])
+    );
+    assert!(rt; all(&[same.len() == 1, !same.is_empty(), same.node_count() == 2]));
+    assert!(rt;
+        all(&[
+            proof.peers().len() == 1,
+            proof.evaluate(&"foo", &"bar") == *same.root()
+        ])
+    );
+    assert!(rt; absence.evaluate_absent(&"qux") == *same.root());
+    assert!(rt;
+        all(&[
+            Vec::from(proof).len() == 1,
+            Scarce::default(&memory)?.is_empty()
+        ])
+    );
+    assert!(rt; all(&[memory.left() == 0, !memory.has_refused()]));
     Ok(())
 }
 
