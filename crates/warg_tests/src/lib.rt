@@ -23,4 +23,6 @@ mod program;
 #[cfg(test)]
 mod readme;
 #[cfg(test)]
+mod text;
+#[cfg(test)]
 mod witness;
