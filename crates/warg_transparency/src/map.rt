@@ -1,0 +1,3 @@
+//! The verifiable map: what the crate `warg_map` has.
+
+pub use warg_map::{Map, MapError, MapProofBundle, Proof, ProofBundle};
