@@ -207,6 +207,9 @@ impl<D: SupportedDigest, K: VisitBytes + Drop, V: VisitBytes + Drop, A: Allocato
     ///
     /// The proof has one peer more than the most bits that the key's digest shares with another that is held, and one for
     /// a lone key.
+    ///
+    /// It takes the key by value, as the Rust crate does, where [`evaluate`](Proof::evaluate) lends it: whoever evaluates
+    /// the proof keeps a copy, which costs nothing for a reference, and a growth and the key's bytes for an owned one.
     pub fn prove(&self, key: K) -> Result<Option<Proof<D, K, V, A>>, AllocError>
         ensures answer { IfOk result (λ o.
             MatchOption o
@@ -233,8 +236,9 @@ impl<D: SupportedDigest, K: VisitBytes + Drop, V: VisitBytes + Drop, A: Allocato
     /// The proof that the leaf digest under `key` is that of an empty leaf, or `None` exactly where it isn't.
     ///
     /// For a key whose digest isn't held the proof has one peer more than the most bits that this digest shares with one
-    /// that is held, and none in the map of nothing; a peer is `None` where its subtree holds no key. For one that is held
-    /// with the digest of an empty leaf, as a value without bytes gives it, it is the proof of [`prove`](Map::prove).
+    /// that is held, and none in the empty map; a peer is `None` where its subtree holds no key. For one that is held
+    /// with the digest of an empty leaf, as a value without bytes gives it, it is the proof of [`prove`](Map::prove). It
+    /// takes the key by value, as that does.
     pub fn prove_absence(&self, key: K) -> Result<Option<Proof<D, K, V, A>>, AllocError>
         ensures empty { IfOk result (λ o. IsSome o
             ↔ (leaf_at D.digest self.now (key_bits D.digest (K.bytes key)) ≡ empty_root D.digest 0)) }
