@@ -14,10 +14,24 @@ use std::io;
 use std::io::{BufRead, BufReader, Write};
 
 fn main(rt: HostRuntime) -> io::Result<()> {
-    let lines = BufReader::new(rt.alloc(), rt.stdin())?.split(rt.alloc(), b'\n');
-    for line in lines {
-        let answer = answer_line(rt.alloc(), line?.as_slice())?;
-        rt.stdout().write_all(answer.text().as_bytes())?;
+    let mut reader = BufReader::new(rt.alloc(), rt.stdin())?;
+    answer_lines(rt.alloc(), &mut reader, &mut rt.stdout())
+}
+
+// Answers all lines. The last one counts without its end, too.
+fn answer_lines<R: BufRead, W: Write>(
+    alloc: Global,
+    reader: &mut R,
+    writer: &mut W,
+) -> io::Result<()> {
+    for _ in 0..u64::MAX {
+        let mut line = Vec::new(alloc);
+        if reader.read_until(b'\n', &mut line)? == 0 {
+            break;
+        }
+        let line = line.as_slice();
+        let answer = answer_line(alloc, line.strip_suffix(b"\n").unwrap_or(line))?;
+        writer.write_all(answer.text().as_bytes())?;
     }
     Ok(())
 }

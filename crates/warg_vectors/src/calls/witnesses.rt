@@ -4,7 +4,7 @@ use crate::answer::Answer;
 use crate::calls::data::Data;
 use crate::calls::digests::{Digest, by_digest};
 use crate::each::{Call, Memory};
-use crate::words::{Fault, Length, List, Words};
+use crate::words::{Arguments, Fault, Length, List, Words};
 use std::alloc::{AllocError, Allocator};
 use std::marker::PhantomData;
 use warg_crypto::{Hash, SupportedDigest};
@@ -69,7 +69,28 @@ fn is_given(first: &[u8], second: &[u8], pairs: &[(Vec<u8>, Vec<u8>)]) -> bool {
 }
 
 // A claim about a node at a length, and what it is judged by.
-type Claim<D, C> = ((Node, Length), ((Data<D>, C), (Entries, Pairs)));
+#[derive(Drop)]
+struct Claim<D: SupportedDigest, C> {
+    place: (Node, Length),
+    data: Data<D>,
+    what: C,
+    judged: (Entries, Pairs),
+}
+
+impl<D: SupportedDigest, C: Arguments> Arguments for Claim<D, C> {
+    fn read(words: &mut Words<'_>) -> Result<Claim<D, C>, Fault> {
+        Ok(Claim {
+            place: Arguments::read(words)?,
+            data: Arguments::read(words)?,
+            what: Arguments::read(words)?,
+            judged: Arguments::read(words)?,
+        })
+    }
+
+    fn stands(&self) -> bool {
+        self.data.stands()
+    }
+}
 
 struct ValueCall<D>(PhantomData<D>);
 
@@ -81,10 +102,12 @@ impl<D: SupportedDigest> Call for ValueCall<D> {
         memory: M,
         answer: &mut Answer,
     ) -> Result<(), AllocError> {
-        let ((node, length), ((data, value), (entries, pairs))) = given;
+        let (node, length) = &given.place;
+        let (entries, pairs) = &given.judged;
+        let data = &given.data.held;
+        let proof = data.prove_inclusion(*node, length.value);
         let entries = entries.items.as_slice();
-        let proof = data.held.prove_inclusion(*node, length.value);
-        let found = warg_witness::witness_value(memory, &proof, &data.held, value, entries);
+        let found = warg_witness::witness_value(memory, &proof, data, &given.what, entries);
         write(found, pairs, answer)
     }
 }
@@ -99,16 +122,39 @@ impl<D: SupportedDigest> Call for HashCall<D> {
         memory: M,
         answer: &mut Answer,
     ) -> Result<(), AllocError> {
-        let ((node, length), ((data, hash), (entries, pairs))) = given;
-        let (hash, entries) = (hash.copied(), entries.items.as_slice());
-        let proof = data.held.prove_inclusion(*node, length.value);
-        let found = warg_witness::witness_hash(memory, &proof, &data.held, hash, entries);
+        let (node, length) = &given.place;
+        let (entries, pairs) = &given.judged;
+        let data = &given.data.held;
+        let proof = data.prove_inclusion(*node, length.value);
+        let (hash, entries) = (given.what.copied(), entries.items.as_slice());
+        let found = warg_witness::witness_hash(memory, &proof, data, hash, entries);
         write(found, pairs, answer)
     }
 }
 
-// Two lengths, digests, the old and the new entries.
-type Growth<D> = ((Length, Length), (Data<D>, ((Entries, Entries), Pairs)));
+// Two lengths, and the old and the new entries.
+#[derive(Drop)]
+struct Growth<D: SupportedDigest> {
+    lengths: (Length, Length),
+    data: Data<D>,
+    entries: (Entries, Entries),
+    pairs: Pairs,
+}
+
+impl<D: SupportedDigest> Arguments for Growth<D> {
+    fn read(words: &mut Words<'_>) -> Result<Growth<D>, Fault> {
+        Ok(Growth {
+            lengths: Arguments::read(words)?,
+            data: Arguments::read(words)?,
+            entries: Arguments::read(words)?,
+            pairs: Arguments::read(words)?,
+        })
+    }
+
+    fn stands(&self) -> bool {
+        self.data.stands()
+    }
+}
 
 struct ConsistencyCall<D>(PhantomData<D>);
 
@@ -120,24 +166,39 @@ impl<D: SupportedDigest> Call for ConsistencyCall<D> {
         memory: M,
         answer: &mut Answer,
     ) -> Result<(), AllocError> {
-        let ((old, new), (data, ((old_entries, new_entries), pairs))) = given;
-        let proof = data.held.prove_consistency(old.value, new.value);
-        let found = warg_witness::witness_consistency(
-            memory,
-            &proof,
-            &data.held,
-            old_entries.items.as_slice(),
-            new_entries.items.as_slice(),
-        );
-        write(found, pairs, answer)
+        let (old_length, new_length) = &given.lengths;
+        let (old, new) = &given.entries;
+        let data = &given.data.held;
+        let proof = data.prove_consistency(old_length.value, new_length.value);
+        let (old, new) = (old.items.as_slice(), new.items.as_slice());
+        let found = warg_witness::witness_consistency(memory, &proof, data, old, new);
+        write(found, &given.pairs, answer)
     }
 }
 
 // A node at a length, and two evaluations.
-type Agreement<D> = (
-    (Node, Length),
-    ((Data<D>, Vec<u8>), ((Data<D>, Vec<u8>), Pairs)),
-);
+#[derive(Drop)]
+struct Agreement<D: SupportedDigest> {
+    place: (Node, Length),
+    first: (Data<D>, Vec<u8>),
+    second: (Data<D>, Vec<u8>),
+    pairs: Pairs,
+}
+
+impl<D: SupportedDigest> Arguments for Agreement<D> {
+    fn read(words: &mut Words<'_>) -> Result<Agreement<D>, Fault> {
+        Ok(Agreement {
+            place: Arguments::read(words)?,
+            first: Arguments::read(words)?,
+            second: Arguments::read(words)?,
+            pairs: Arguments::read(words)?,
+        })
+    }
+
+    fn stands(&self) -> bool {
+        self.first.stands() && self.second.stands()
+    }
+}
 
 struct AgreementCall<D>(PhantomData<D>);
 
@@ -149,7 +210,9 @@ impl<D: SupportedDigest> Call for AgreementCall<D> {
         memory: M,
         answer: &mut Answer,
     ) -> Result<(), AllocError> {
-        let ((node, length), ((data, value), ((other_data, other_value), pairs))) = given;
+        let (node, length) = &given.place;
+        let (data, value) = &given.first;
+        let (other_data, other_value) = &given.second;
         let proof = data.held.prove_inclusion(*node, length.value);
         let found = warg_witness::agree_value(
             memory,
@@ -159,6 +222,6 @@ impl<D: SupportedDigest> Call for AgreementCall<D> {
             &other_data.held,
             other_value,
         );
-        write(found, pairs, answer)
+        write(found, &given.pairs, answer)
     }
 }
