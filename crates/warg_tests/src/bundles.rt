@@ -24,14 +24,22 @@ fn both<'a>(alloc: Global, memory: &'a Refusing<Global>) -> Result<Bundle<'a>, F
 // Whether the bundle has the three proofs and no others, and their digests.
 fn has_proofs(bundle: &Bundle<'_>) -> bool {
     let data = bundle.hashes();
+    let (first, last) = (
+        data.prove_inclusion(Node(0), 3),
+        data.prove_inclusion(Node(4), 3),
+    );
+    let inclusions = [bundle.inclusion_proof(0), bundle.inclusion_proof(1)];
+    let others = [
+        bundle.inclusion_proof(2).is_some(),
+        bundle.consistency_proof(1).is_some(),
+    ];
+    let consistency = bundle.consistency_proof(0) == Some(data.prove_consistency(2, 3));
+    let held = [data.has_hash(Node(2)), data.has_hash(Node(0))];
     all(&[
-        bundle.inclusion_proof(0) == Some(data.prove_inclusion(Node(0), 3)),
-        bundle.inclusion_proof(1) == Some(data.prove_inclusion(Node(4), 3)),
-        bundle.inclusion_proof(2).is_none(),
-        bundle.consistency_proof(0) == Some(data.prove_consistency(2, 3)),
-        bundle.consistency_proof(1).is_none(),
-        data.has_hash(Node(2)),
-        !data.has_hash(Node(0)),
+        inclusions == [Some(first), Some(last)],
+        others == [false, false],
+        consistency,
+        held == [true, false],
     ])
 }
 
@@ -66,38 +74,26 @@ fn is_refused(
 #[test]
 fn early_refusals_of_consistency_proofs(rt: HostRuntime) -> Result<(), Fail> {
     let data: Data = SparseLogData::from(Vec::new(rt.alloc()));
-    let rows = [
-        (
-            3,
-            2,
-            BundleError::Consistency(ConsistencyProofError::PointsOutOfOrder),
-        ),
-        (4, 5, BundleError::DifferentRoots),
-        (0, 1 << 32, BundleError::TooLarge),
-    ];
-    for (old, new, want) in &rows {
-        let proofs = [
-            data.prove_consistency(*old, *new),
-            data.prove_consistency(0, 1 << 32),
-        ];
-        assert!(rt; is_refused(rt.alloc(), &proofs, &[], want)?);
-    }
+    let backwards = [data.prove_consistency(3, 2)];
+    let fault = BundleError::Consistency(ConsistencyProofError::PointsOutOfOrder);
+    assert!(rt; is_refused(rt.alloc(), &backwards, &[], &fault)?);
+    let different = [data.prove_consistency(0, 5), data.prove_consistency(1, 4)];
+    assert!(rt; is_refused(rt.alloc(), &different, &[], &BundleError::DifferentRoots)?);
+    let long = [data.prove_consistency(0, 1 << 32)];
+    assert!(rt; is_refused(rt.alloc(), &long, &[], &BundleError::TooLarge)?);
     Ok(())
 }
 
 #[test]
 fn early_refusals_of_inclusion_proofs(rt: HostRuntime) -> Result<(), Fail> {
     let data: Data = SparseLogData::from(Vec::new(rt.alloc()));
-    let too_new = BundleError::Inclusion(InclusionProofError::LeafTooNew);
-    let rows = [
-        (2, 1, too_new),
-        (0, 1 << 32, BundleError::TooLarge),
-        (0, 2, BundleError::Memory),
-    ];
-    for (node, length, want) in &rows {
-        let proofs = [data.prove_inclusion(Node(*node), *length)];
-        assert!(rt; is_refused(rt.alloc(), &[], &proofs, want)?);
-    }
+    let late = [data.prove_inclusion(Node(2), 1)];
+    let fault = BundleError::Inclusion(InclusionProofError::LeafTooNew);
+    assert!(rt; is_refused(rt.alloc(), &[], &late, &fault)?);
+    let long = [data.prove_inclusion(Node(0), 1 << 32)];
+    assert!(rt; is_refused(rt.alloc(), &[], &long, &BundleError::TooLarge)?);
+    let unknown = [data.prove_inclusion(Node(0), 2)];
+    assert!(rt; is_refused(rt.alloc(), &[], &unknown, &BundleError::Memory)?);
     Ok(())
 }
 
@@ -125,8 +121,13 @@ fn too_large_to_write_without_memory(rt: HostRuntime) -> Result<(), Fail> {
     let memory = Refusing::after(rt.alloc(), 99);
     let bundle = large(rt.alloc(), &memory)?;
     exhaust(&memory);
-    assert!(rt; bundle.encode(&memory) == Err(EncodeError::TooLarge));
-    assert!(rt; matches!(bundle.to_message(&memory), Err(EncodeError::TooLarge)));
+    assert!(rt; is_too_large(&bundle, &memory));
     assert!(rt; !memory.has_refused());
     Ok(())
+}
+
+fn is_too_large<'a>(bundle: &Bundle<'a>, memory: &'a Refusing<Global>) -> bool {
+    let encoded = matches!(bundle.encode(memory), Err(EncodeError::TooLarge));
+    let message = matches!(bundle.to_message(memory), Err(EncodeError::TooLarge));
+    encoded & message
 }
