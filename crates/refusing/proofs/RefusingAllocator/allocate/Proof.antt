@@ -15,7 +15,7 @@ use contract.Monad.{Fun, fact}
 use contract.Running.{tables, tables_of}
 use sound.WpLaws.{fm_of, WpFn-mono}
 use types.Part.{agg}
-use types.Run.{stop, fld, addr, no_more, and_then, of_opd, lit, first, branches, skips, exec, returns, returns_within, enter}
+use types.Run.{stop, fld, addr, no_more, and_then, lit, first, branches, skips, exec, returns, returns_within, enter}
 use Rattle.std.proofs.alloc.Shapes.{after}
 use denote.Exit.{yes}
 use denote.RattleType.{owns}
@@ -30,13 +30,13 @@ use denote.Triple.Spec.{triple_of}
 use denote.Triple.Statement.{Triple}
 use denote.Triple.Table.{entered, cited}
 use denote.Triple.Walked.{Stays, stay_dropped, walk_of, ends_at, walked, Goes-dropped, walk_Meets}
-use types.Kit.{‵, raw, ◌⊛◌, some, later, given, at_ret, learn, pick, ◌$◌, ◌∵◌, !, qed, move, keep, drop, use0, use1, use2, split, split3, join, fsplit, fjoin, suffices, await, done}
+use types.Kit.{‵, raw, ◌⊛◌, some, later, given, at_ret, learn, pick, ◌$◌, ◌∵◌, !, qed, move, keep, use0, use1, use2, split, join, fsplit, fjoin, suffices, await, done}
 use types.ByLocal.{env, alloc_all, pass_all, free_all, look_at, get, through, sets, lands_as}
 use denote.RawPtr.{block_ptr}
 use denote.Builtin.{usize, RefOf}
 use denote.Triple.Call.{calls_at}
 use Rattle.std.proofs.alloc.Calls.{Al, α, seen, Answer, answer_val, Answer-typed, Answer-Ok, Answer-err, takes_key, Takes, at_takes, Answered, Takes-goes, Takes-gives, answers}
-use Rattle.refusing.proofs.Refuses.{Refuses, at_refuses, Refused, Refuses-goes, Refuses-gives}
+use Rattle.refusing.proofs.Refuses.{Refuses, at_refuses, Refuses-goes, Refuses-gives}
 use Rattle.refusing.proofs.is_refused.Symbol as c_sym
 use Rattle.refusing.proofs.is_refused.Met as c_met
 use Rattle.refusing.specs.contracts.Refusing as wrapper
