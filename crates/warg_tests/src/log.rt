@@ -217,35 +217,25 @@ fn checkpoints_are_ordered_by_root_then_length(rt: HostRuntime) -> Result<(), Fa
 }
 
 #[test]
-fn proofs_compared(rt: HostRuntime) -> Result<(), Fail> {
+fn inclusion_proofs_compared(rt: HostRuntime) -> Result<(), Fail> {
     let log = sums(rt.alloc(), &[1, 2, 3])?;
     let proof = log.prove_inclusion(Node(2), 3);
-    assert!(rt;
-        all(&[
-            proof == proof.clone()?,
-            proof.leaf() == Node(2),
-            proof.log_length() == 3
-        ])
+    let (later, other) = (
+        log.prove_inclusion(Node(2), 4),
+        log.prove_inclusion(Node(0), 3),
     );
-    assert!(rt;
-        all(&[
-            proof != log.prove_inclusion(Node(2), 4),
-            proof != log.prove_inclusion(Node(0), 3)
-        ])
-    );
+    assert!(rt; [proof == proof.clone()?, proof == later, proof == other] == [true, false, false]);
+    assert!(rt; all(&[proof.leaf() == Node(2), proof.log_length() == 3]));
+    Ok(())
+}
+
+#[test]
+fn consistency_proofs_compared(rt: HostRuntime) -> Result<(), Fail> {
+    let log = sums(rt.alloc(), &[1, 2, 3])?;
     let proof = log.prove_consistency(2, 3);
-    assert!(rt;
-        all(&[
-            proof == proof.clone()?,
-            [proof.old_length(), proof.new_length()] == [2, 3]
-        ])
-    );
-    assert!(rt;
-        all(&[
-            proof != log.prove_consistency(3, 3),
-            proof != log.prove_consistency(2, 2)
-        ])
-    );
+    let (later, other) = (log.prove_consistency(3, 3), log.prove_consistency(2, 2));
+    assert!(rt; [proof == proof.clone()?, proof == later, proof == other] == [true, false, false]);
+    assert!(rt; [proof.old_length(), proof.new_length()] == [2, 3]);
     Ok(())
 }
 
