@@ -9,6 +9,7 @@ pub mod WalkLemmas
 pub mod LawLemmas
 pub mod OrderLemmas
 pub mod StepLemmas
+pub mod PartLemmas
 pub mod AgreeLemmas
 pub mod MetLemmas
 pub mod SparseLemmas

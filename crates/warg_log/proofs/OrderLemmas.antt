@@ -21,7 +21,7 @@ pub reverse-cons : (xs : List ℕ) (x : ℕ) → reverse (x ∷ xs) ≡ reverse 
 reverse-cons xs x = reverse_onto xs x []
 
 -- the cases of a range of more than 2 ^ h leaves
-need_target : (s w h a n : ℕ) → 2 ^ h < n → a ≡ s → n ≡ w → needed_within s w (suc h) a n ≡ []
+pub need_target : (s w h a n : ℕ) → 2 ^ h < n → a ≡ s → n ≡ w → needed_within s w (suc h) a n ≡ []
 unfolding needed_within
 need_target s w h a n more e f = rw (lt-leb n (2 ^ h) more, target_true s w a n e f) refl
 
@@ -33,13 +33,13 @@ apart_false : (s w h a n : ℕ) → (n ≡ 2 ^ suc h → IsBeside s w a n → �
 apart_false s w h a n apart = false_from_ne_true (n == 2 ^ suc h && is_beside s w a n)
     (λ e. let p = and_parts (n == 2 ^ suc h) (is_beside s w a n) e in apart (eqb-true n (2 ^ suc h) p.0) (beside_parts s w a n p.1))
 
-need_rest_first : (s w h a n : ℕ) → 2 ^ h < n → (a ≡ s → n ≡ w → ⊥) → (n ≡ 2 ^ suc h → IsBeside s w a n → ⊥) → IsBeside s w a (2 ^ h)
+pub need_rest_first : (s w h a n : ℕ) → 2 ^ h < n → (a ≡ s → n ≡ w → ⊥) → (n ≡ 2 ^ suc h → IsBeside s w a n → ⊥) → IsBeside s w a (2 ^ h)
     → needed_within s w (suc h) a n ≡ needed_within s w h (a + 2 ^ h) (n - 2 ^ h) ++ needed_within s w h a (2 ^ h)
 unfolding needed_within
 need_rest_first s w h a n more other apart front =
     rw (lt-leb n (2 ^ h) more, target_false s w a n other, apart_false s w h a n apart, beside_true s w a (2 ^ h) front) refl
 
-need_front_first : (s w h a n : ℕ) → 2 ^ h < n → (a ≡ s → n ≡ w → ⊥) → (n ≡ 2 ^ suc h → IsBeside s w a n → ⊥) → (IsBeside s w a (2 ^ h) → ⊥)
+pub need_front_first : (s w h a n : ℕ) → 2 ^ h < n → (a ≡ s → n ≡ w → ⊥) → (n ≡ 2 ^ suc h → IsBeside s w a n → ⊥) → (IsBeside s w a (2 ^ h) → ⊥)
     → needed_within s w (suc h) a n ≡ needed_within s w h a (2 ^ h) ++ needed_within s w h (a + 2 ^ h) (n - 2 ^ h)
 unfolding needed_within
 need_front_first s w h a n more other apart front =
@@ -54,13 +54,13 @@ unfolding needed_within
 need_one_target s w a e f = rw (target_true s w a 1 e f) refl
 
 -- what misses the target isn't it
-missed : (s w a n : ℕ) → 0 < w → 0 < n → IsBeside s w a n → a ≡ s → n ≡ w → ⊥
+pub missed : (s w a n : ℕ) → 0 < w → 0 < n → IsBeside s w a n → a ≡ s → n ≡ w → ⊥
 missed s w a n some leaves beside e f = ⊎_elim
     (λ (le : a + n ≤ s). let no : ⊥ = omega arith in no)
     (λ (le : s + w ≤ a). let no : ⊥ = omega arith in no) beside
 
 -- a range of a power of two that misses the target
-need_full : (s w h a : ℕ) → 0 < w → IsBeside s w a (2 ^ h) → needed_within s w h a (2 ^ h) ≡ node_over a (2 ^ h) ∷ []
+pub need_full : (s w h a : ℕ) → 0 < w → IsBeside s w a (2 ^ h) → needed_within s w h a (2 ^ h) ≡ node_over a (2 ^ h) ∷ []
 need_full s w zero a some beside = need_one s w a (missed s w a 1 some (lit< tt) beside)
 need_full s w (suc h) a some beside =
     let twice : 2 ^ suc h ≡ 2 ^ h * 2 = pow-suc 2 h in
@@ -68,12 +68,12 @@ need_full s w (suc h) a some beside =
     need_beside s w h a (2 ^ suc h) (omega arith) refl (missed s w a (2 ^ suc h) some (omega arith) beside) beside
 
 -- a part of what misses the target misses it too
-front_missed : (s w a n f : ℕ) → f ≤ n → IsBeside s w a n → IsBeside s w a f
+pub front_missed : (s w a n f : ℕ) → f ≤ n → IsBeside s w a n → IsBeside s w a f
 front_missed s w a n f le beside = ⊎_elim
     (λ (e : a + n ≤ s). inl (let e' : a + f ≤ s = omega arith in e'))
     (λ (e : s + w ≤ a). inr e) beside
 
-rest_missed : (s w a n f : ℕ) → f ≤ n → IsBeside s w a n → IsBeside s w (a + f) (n - f)
+pub rest_missed : (s w a n f : ℕ) → f ≤ n → IsBeside s w a n → IsBeside s w (a + f) (n - f)
 rest_missed s w a n f le beside = ⊎_elim
     (λ (e : a + n ≤ s). inl (let e' : a + f + (n - f) ≤ s = omega arith in e'))
     (λ (e : s + w ≤ a). inr (let e' : s + w ≤ a + f = omega arith in e')) beside

@@ -1,6 +1,6 @@
 -- The nodes of a log's tree by their numbers (the numbering of Dat and of bin_trees, "flat in-order
 -- trees": leaf i is 2 * i, and a branch lies between its children).
-use Rattle.std.specs.Prelude.{◌≡◌, ℕ, zero, suc, ◌+◌, ◌-◌, ◌*◌, ◌/◌, ◌%◌, ◌^◌, ◌≤◌, ◌==◌, nat_le, if◌then◌else◌, List, [], ◌∷◌}
+use Rattle.std.specs.Prelude.{◌≡◌, ℕ, zero, suc, ◌+◌, ◌-◌, ◌*◌, ◌/◌, ◌%◌, ◌^◌, ◌<◌, ◌≤◌, ◌==◌, nat_le, if◌then◌else◌, List, [], ◌∷◌}
 
 -- The number x is the j-th node of height k, from 0: x + 1 = 2 ^ k * (2 * j + 1). It stands for the
 -- leaves from j * 2 ^ k up to but not including (j + 1) * 2 ^ k.
@@ -60,3 +60,13 @@ balanced_over a n = balanced_within n a n
 -- The balanced roots of a length: the nodes that its binary digits cut from the left, greatest first.
 abbrev pub balanced_roots : ℕ → List ℕ
 balanced_roots n = balanced_over 0 n
+
+-- The leaves below these nodes, one node after the other, are those from a up to but not including e.
+abbrev pub Follow : ℕ → ℕ → List ℕ → Type 0
+Follow a e [] = a ≡ e
+Follow a e (t ∷ ts) = (start_of t ≡ a) × Follow (end_of t) e ts
+
+-- The first node is lower than h, and each further one is lower than the one before it.
+abbrev pub Fall : ℕ → List ℕ → Type 0
+Fall h [] = Unit {0}
+Fall h (t ∷ ts) = (height_of t < h) × Fall (height_of t) ts

@@ -3,13 +3,14 @@
 //! Read them beside the definitions: they state the standard's own words (RFC 6962, section 2.1) where
 //! a definition takes another road, and they are all that a proof about the definitions needs.
 
-ghost use Rattle.std.specs.Prelude.{◌≡◌, ℕ, ◌+◌, ◌-◌, ◌*◌, ◌/◌, ◌%◌, ◌^◌, ◌<◌, ◌≤◌, ◌⊎◌, ◌↔◌, List, [], ◌∷◌, length, take, drop, Option, Some, Ok, IsSome, slice_index_or};
+ghost use Rattle.std.specs.Prelude.{◌≡◌, ℕ, ◌+◌, ◌-◌, ◌*◌, ◌/◌, ◌%◌, ◌^◌, ◌<◌, ◌≤◌, ◌⊎◌, ◌↔◌, List, [], ◌∷◌, ◌++◌, length, take, drop, Option, Some, Ok, IsSome, slice_index_or};
+ghost use Rattle.std.specs.List.{AllByRecursion};
 ghost use Rattle.std.specs.Ordering.{nat_cmp, ordering_then};
 ghost use Rattle.std.specs.Cmp.Lexicographic.{slice_cmp};
-ghost use Rattle.warg_log.specs.Nodes.{IsNode, ExistsAt, sibling_place, height_of, place_of, start_of, end_of, node_over};
+ghost use Rattle.warg_log.specs.Nodes.{IsNode, ExistsAt, sibling_place, height_of, place_of, start_of, end_of, node_over, balanced_over, balanced_roots, Follow, Fall};
 ghost use Rattle.warg_log.specs.Tree.{branch, front_of, root_of, root_over, leaves_of, leaves_below, own_digest};
 ghost use Rattle.warg_log.specs.Cut.{joined, cut_over, cut_root, old_over, old_root, IsFull, IsBeside};
-ghost use Rattle.warg_log.specs.Walks.{needed, IsKnown};
+ghost use Rattle.warg_log.specs.Walks.{needed, needed_over, IsKnown};
 ghost use Rattle.warg_log.specs.Consistency.{consistency, IsConsistent};
 
 use crate::log::Checkpoint;
@@ -59,6 +60,11 @@ pub fn interval_has_number()
     ensures only { (x k j : ℕ) → IsNode x k j → x ≡ node_over (j * 2 ^ k) (2 ^ k) }
 {}
 
+/// The number of a node that exists at a length is at most that of the length's last leaf.
+pub fn existing_number()
+    ensures { (x n : ℕ) → ExistsAt x n → x + 2 ≤ 2 * n }
+{}
+
 /// A node and its sibling have one parent: the node of the height above over either is the same.
 pub fn parent_of_sibling()
     ensures { (x y k j : ℕ) → IsNode x (k + 1) (sibling_place j / 2) → IsNode y (k + 1) (j / 2) → x ≡ y }
@@ -68,6 +74,23 @@ pub fn parent_of_sibling()
 pub fn children_of_parent()
     ensures left { (l r x s k j : ℕ) → IsNode l k (2 * (j / 2)) → IsNode r k (2 * (j / 2) + 1) → IsNode x k j → IsNode s k (sibling_place j) → j % 2 ≡ 0 → (l ≡ x) × (r ≡ s) }
     ensures right { (l r x s k j : ℕ) → IsNode l k (2 * (j / 2)) → IsNode r k (2 * (j / 2) + 1) → IsNode x k j → IsNode s k (sibling_place j) → j % 2 ≡ 1 → (l ≡ s) × (r ≡ x) }
+{}
+
+/// The balanced roots of a length: their leaves follow one another from the first to the last one, and
+/// their heights fall.
+pub fn balanced_in_a_row()
+    ensures follow { (n : ℕ) → Follow 0 n (balanced_roots n) }
+    ensures fall { (n : ℕ) → Fall n (balanced_roots n) }
+{}
+
+/// The balanced root of a range of a power of two of leaves is the node over it.
+pub fn balanced_full()
+    ensures { (a n : ℕ) → IsFull n → balanced_over a n ≡ node_over a n ∷ [] }
+{}
+
+/// The balanced roots of any other range are the node over its first part, and those of the rest.
+pub fn balanced_parts()
+    ensures { (a n : ℕ) → 1 < n → (IsFull n → ⊥) → balanced_over a n ≡ node_over a (front_of n) ∷ balanced_over (a + front_of n) (n - front_of n) }
 {}
 
 /// The cut root of the target's own range is the digest in its place.
@@ -86,6 +109,41 @@ pub fn cut_parts()
     ensures { (H : List ℕ → List ℕ) (F : ℕ → Option (List ℕ)) (x : List ℕ) (s w a n : ℕ) → 1 < n → (a ≡ s → n ≡ w → ⊥) → (IsFull n → IsBeside s w a n → ⊥) → cut_over H F x s w a n ≡ joined H (cut_over H F x s w a (front_of n)) (cut_over H F x s w (a + front_of n) (n - front_of n)) }
 {}
 
+/// The cut root of a range that misses the target is the range's old root.
+pub fn cut_old()
+    ensures { (H : List ℕ → List ℕ) (F : ℕ → Option (List ℕ)) (x : List ℕ) (s w a n : ℕ) → 0 < w → 0 < n → IsBeside s w a n → cut_over H F x s w a n ≡ old_over H F a n }
+{}
+
+/// Where all digests have 32 bytes, each cut root has as many.
+pub fn cut_size()
+    ensures { (H : List ℕ → List ℕ) (F : ℕ → Option (List ℕ)) (x : List ℕ) (s w a n : ℕ) (r : List ℕ) → ((m : List ℕ) → length (H m) ≡ 32) → ((t : ℕ) (d : List ℕ) → F t ≡ Some d → length d ≡ 32)
+        → length x ≡ 32 → cut_over H F x s w a n ≡ Some r → length r ≡ 32 }
+{}
+
+/// The target's own range needs no node.
+pub fn needed_target()
+    ensures { (s w : ℕ) → needed_over s w s w ≡ [] }
+{}
+
+/// A range that misses the target and has a power of two of leaves needs the node over it.
+pub fn needed_beside()
+    ensures { (s w a n : ℕ) → 0 < w → IsFull n → IsBeside s w a n → needed_over s w a n ≡ node_over a n ∷ [] }
+{}
+
+/// Any other range needs what its two parts need: the rest's nodes stand first where the first part misses
+/// the target, and else the first part's.
+pub fn needed_parts()
+    ensures rest_first { (s w a n : ℕ) → 1 < n → (a ≡ s → n ≡ w → ⊥) → (IsFull n → IsBeside s w a n → ⊥) → IsBeside s w a (front_of n)
+        → needed_over s w a n ≡ needed_over s w (a + front_of n) (n - front_of n) ++ needed_over s w a (front_of n) }
+    ensures front_first { (s w a n : ℕ) → 1 < n → (a ≡ s → n ≡ w → ⊥) → (IsFull n → IsBeside s w a n → ⊥) → (IsBeside s w a (front_of n) → ⊥)
+        → needed_over s w a n ≡ needed_over s w a (front_of n) ++ needed_over s w (a + front_of n) (n - front_of n) }
+{}
+
+/// The needed nodes exist at the length.
+pub fn needed_exist()
+    ensures { (t n : ℕ) → 0 < n → AllByRecursion (λ x. ExistsAt x n) (needed t n) }
+{}
+
 /// A cut root is there exactly where the digest of each needed node is.
 pub fn needed_known()
     ensures { (H : List ℕ → List ℕ) (F : ℕ → Option (List ℕ)) (t : ℕ) (x : List ℕ) (n : ℕ) → IsKnown F (needed t n) ↔ IsSome (cut_root H F t x n) }
@@ -95,6 +153,13 @@ pub fn needed_known()
 /// the log's is the root of that many leaves.
 pub fn cut_own()
     ensures { (H : List ℕ → List ℕ) (ds : List (List ℕ)) (t n : ℕ) → 0 < n → n ≤ length ds → cut_root H (own_digest H ds) t (root_of H (leaves_below t ds)) n ≡ Some (root_of H (take n ds)) }
+{}
+
+/// The same of a range that begins at a multiple of a power of two and has at most so many leaves, as each
+/// range of the recursion does: its cut root is the root over it, whichever the target is.
+pub fn cut_own_range()
+    ensures { (H : List ℕ → List ℕ) (ds : List (List ℕ)) (s w k c n : ℕ) → 0 < n → n ≤ 2 ^ k → c * 2 ^ k + n ≤ length ds
+        → cut_over H (own_digest H ds) (root_over H ds s w) s w (c * 2 ^ k) n ≡ Some (root_over H ds (c * 2 ^ k) n) }
 {}
 
 /// A log's proof of an entry of its own leads to the log's root: over the log's own digests, leaf `i`
@@ -117,6 +182,12 @@ pub fn old_parts()
 /// leaves.
 pub fn old_own()
     ensures { (H : List ℕ → List ℕ) (ds : List (List ℕ)) (m : ℕ) → 0 < m → m ≤ length ds → old_root H (own_digest H ds) m ≡ Some (root_of H (take m ds)) }
+{}
+
+/// The same of a range that begins at a multiple of a power of two and has at most so many leaves.
+pub fn old_own_range()
+    ensures { (H : List ℕ → List ℕ) (ds : List (List ℕ)) (k c n : ℕ) → 0 < n → n ≤ 2 ^ k → c * 2 ^ k + n ≤ length ds
+        → old_over H (own_digest H ds) (c * 2 ^ k) n ≡ Some (root_over H ds (c * 2 ^ k) n) }
 {}
 
 /// A consistency proof evaluates to two roots exactly where these meet it.
