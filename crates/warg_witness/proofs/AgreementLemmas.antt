@@ -2,7 +2,7 @@
 use Rattle.std.proofs.Common.{◌≡◌, ℕ, ◌^◌, List, ◌∷◌, Option, Some, refl, sym, ap, ◌∙◌, arith}
 use Rattle.warg_log.specs.Nodes.{height_of, start_of}
 use Rattle.warg_log.specs.Cut.{cut_root}
-use Rattle.warg_log.proofs.CutLemmas.{target_true, target_false}
+use Rattle.warg_witness.proofs.LogLemmas.{target_true, target_false}
 use Rattle.warg_witness.specs.Parting.{HaveOneDigest, IsParting, Collides, pair_of}
 use Rattle.warg_witness.specs.Placed.{IsAgreementPlaced}
 use Rattle.warg_witness.specs.declared.descent.Parting.{Parting}

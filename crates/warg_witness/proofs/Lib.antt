@@ -1,3 +1,4 @@
+pub mod LogLemmas
 pub mod RangeLemmas
 pub mod DescentLemmas
 pub mod HashLemmas

@@ -6,6 +6,7 @@ pub mod Parting
 pub mod Compared
 pub mod Meeting
 pub mod Laws
+pub mod LogLaws
 pub mod MapClaims
 pub mod MapInputs
 pub mod MapPlaced

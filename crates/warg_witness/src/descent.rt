@@ -6,6 +6,7 @@ ghost use Rattle.warg_log.specs.Cut.{cut_over};
 ghost use Rattle.warg_witness.specs.Parting.{HaveOneDigest, IsParting};
 ghost use Rattle.warg_witness.specs.Ranges.{IsAround, IsAligned, IsNodeRange, IsSide};
 
+use crate::laws::log_laws;
 use warg_crypto::{Hash, SupportedDigest, VisitBytes};
 use warg_log::{Interval, LogData, range_root};
 
@@ -61,6 +62,7 @@ fn parts<D: SupportedDigest, V: VisitBytes, L: LogData<D, V>>(
     ensures right { cut_over D.digest (L.digest_at hashes.now) hash.now target.now.start target.now.count
         (range.now.start + front_of range.now.count) (range.now.count - front_of range.now.count) ≡ Some result.1 }
 {
+    log_laws();
     let (front, rest) = range.split();
     let Some(left) = range_root(hashes, target, hash, &front) else {
         unreachable!()
@@ -82,6 +84,7 @@ fn part_around(target: &Interval, range: &Interval) -> Interval
     ensures around { IsAround target.now.start target.now.count result.start result.count }
     ensures side { IsSide range.now.start range.now.count result.start result.count }
 {
+    log_laws();
     let (front, rest) = range.split();
     if target.start < rest.start {
         front
@@ -108,6 +111,7 @@ pub(crate) fn descend<D: SupportedDigest, V: VisitBytes, L: LogData<D, V>, M: Lo
     ensures { IsParting D.digest (L.digest_at first.now) first_hash.now (M.digest_at second.now) second_hash.now
         target.now.start target.now.count range.now.start range.now.count result }
 {
+    log_laws();
     if range.equals(target) {
         return Parting::Target;
     }

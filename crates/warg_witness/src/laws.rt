@@ -14,33 +14,69 @@ ghost use Rattle.warg_map.specs.Peers.{Proves};
 ghost use Rattle.warg_map.specs.Sparse.{sparse_root, map_of};
 ghost use Rattle.warg_witness.specs.MapClaims.{IsKeyMet, IsAbsenceMet, IsKeyAgreement, IsLastValue};
 ghost use Rattle.warg_witness.specs.MapPlaced.{IsKeyPlaced, IsKeyAgreementPlaced};
+ghost use Rattle.warg_witness.specs.LogLaws.{LogLaws};
 ghost use Rattle.warg_witness.specs.Laws.{GivesHashes, GivesDigests, HoldsHashes, HoldsPeers, SomeCollision};
 
+use warg_log::laws::{
+    balanced_full, balanced_parts, consistency_met, cut_old, cut_own_range, cut_parts, cut_size,
+    cut_target, front_is_greatest, interval_has_number, number_is_node, old_full, old_own_range,
+    old_parts, root_over_one, root_over_parts,
+};
 use warg_map::laws::{all_bits, last_held, root_at_prefix, same_digest};
+
+// What the log's laws say of its definitions, as one premise.
+pub(crate) fn log_laws()
+    ensures { LogLaws }
+{
+    front_is_greatest();
+    interval_has_number();
+    number_is_node();
+    root_over_one();
+    root_over_parts();
+    balanced_full();
+    balanced_parts();
+    cut_target();
+    cut_parts();
+    cut_old();
+    cut_size();
+    cut_own_range();
+    old_full();
+    old_parts();
+    old_own_range();
+    consistency_met();
+}
 
 /// A value's claim that is met and isn't true gives a collision.
 pub fn value_or_collision()
     ensures { (H : List ℕ → List ℕ) (F : ℕ → Option (List ℕ)) (value : List ℕ) (node n : ℕ) (entries : List (List ℕ)) → GivesHashes H → HoldsHashes F
         → IsMet H F (H (0 ∷ value)) node n entries → (IsEntry value node entries → ⊥) → SomeCollision H (IsValuePlaced H F value node entries) }
-{}
+{
+    log_laws();
+}
 
 /// A hash's claim that is met and isn't true gives a collision.
 pub fn hash_or_collision()
     ensures { (H : List ℕ → List ℕ) (F : ℕ → Option (List ℕ)) (hash : List ℕ) (node n : ℕ) (entries : List (List ℕ)) → GivesHashes H → HoldsHashes F → length hash ≡ 32
         → IsMet H F hash node n entries → (IsRootBelow H hash node entries → ⊥) → SomeCollision H (IsHashPlaced H F hash node entries) }
-{}
+{
+    log_laws();
+}
 
 /// Two different values that lead to one root over two data give a collision.
 pub fn agreement_or_collision()
     ensures { (H : List ℕ → List ℕ) (F : ℕ → Option (List ℕ)) (value : List ℕ) (G : ℕ → Option (List ℕ)) (other : List ℕ) (node n : ℕ) → GivesHashes H → HoldsHashes F → HoldsHashes G
         → IsAgreement H F (H (0 ∷ value)) G (H (0 ∷ other)) node n → (value ≡ other → ⊥) → SomeCollision H (IsAgreementPlaced H F value G other node n) }
-{}
+{
+    log_laws();
+}
 
 /// A claim of consistency that is met and isn't true gives a collision.
 pub fn consistency_or_collision()
     ensures { (H : List ℕ → List ℕ) (F : ℕ → Option (List ℕ)) (m n : ℕ) (old new : List (List ℕ)) → GivesHashes H → HoldsHashes F
         → IsConsistencyMet H F m n old new → (Begins old new → ⊥) → SomeCollision H (IsConsistencyPlaced H F old new) }
-{}
+{
+    log_laws();
+}
 
 /// Two different values that two proofs of one key lead to one root give a collision.
 pub fn key_agreement_or_collision()

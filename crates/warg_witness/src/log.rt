@@ -15,6 +15,7 @@ mod consistency;
 use crate::collision::{Collision, Finding, leaf_bytes};
 use crate::compare::have_same_bytes;
 use crate::descent::{Parting, descend};
+use crate::laws::log_laws;
 use crate::pair::{collide_values, part};
 use crate::plain::{plain_bytes, plain_digest, plain_root, plain_tree};
 pub use consistency::witness_consistency;
@@ -48,6 +49,7 @@ fn meet<D: SupportedDigest, V: VisitBytes, L: LogData<D, V>, A: Allocator + Copy
         (λ m. IsMeeting D.digest (L.digest_at hashes.now) hash.now proof.now.leaf.0 proof.now.log_length (map (λ e. V.bytes e) entries.now)
         m.tree m.target.start m.target.count m.plain m.parting)) }
 {
+    log_laws();
     if entries.len() != proof.log_length() {
         return Ok(None);
     }
@@ -132,6 +134,7 @@ pub fn witness_value<D: SupportedDigest, V: VisitBytes, L: LogData<D, V>, A: All
     ensures collision { IfOk result (λ f. (c : _) → f ≡ Finding.Collision c
         → IsValuePlaced D.digest (L.digest_at hashes.now) (V.bytes value.now) proof.now.leaf.0 (map (λ e. V.bytes e) entries.now) c.0 c.1) }
 {
+    log_laws();
     let hash = hash_leaf::<D, V>(value);
     let Some(met) = meet(alloc, proof, hashes, &hash, entries)? else {
         return Ok(Finding::NotMet);
@@ -168,6 +171,7 @@ pub fn witness_hash<D: SupportedDigest, V: VisitBytes, L: LogData<D, V>, A: Allo
     ensures collision { IfOk result (λ f. (c : _) → f ≡ Finding.Collision c
         → IsHashPlaced D.digest (L.digest_at hashes.now) hash proof.now.leaf.0 (map (λ e. V.bytes e) entries.now) c.0 c.1) }
 {
+    log_laws();
     let Some(met) = meet(alloc, proof, hashes, &hash, entries)? else {
         return Ok(Finding::NotMet);
     };

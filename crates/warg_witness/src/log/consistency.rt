@@ -14,6 +14,7 @@ ghost use Rattle.warg_witness.specs.Meeting.{IsConsistencyMeeting, LeadsToBoth};
 use crate::collision::{Collision, Finding, leaf_bytes};
 use crate::compare::have_same_bytes;
 use crate::descent::{Parting, descend};
+use crate::laws::log_laws;
 use crate::pair::part;
 use crate::plain::{plain_digest, plain_root, plain_tree};
 use std::alloc::{AllocError, Allocator};
@@ -47,6 +48,7 @@ fn meet<D: SupportedDigest, V: VisitBytes, L: LogData<D, V>, A: Allocator + Copy
         (IsConsistencyMet D.digest (L.digest_at hashes.now) proof.now.old_length proof.now.new_length (map (λ e. V.bytes e) old.now) (map (λ e. V.bytes e) new.now) → ⊥)
         (λ trees. IsConsistencyMeeting D.digest (L.digest_at hashes.now) proof.now.old_length proof.now.new_length (map (λ e. V.bytes e) old.now) (map (λ e. V.bytes e) new.now) trees.old trees.new)) }
 {
+    log_laws();
     if !have_lengths(proof, old, new) {
         return Ok(None);
     }
@@ -82,6 +84,7 @@ fn is_same_entry<D: SupportedDigest, V: VisitBytes, A: Allocator>(
     requires new_leaf { slice_index_or trees.now.new place [] ≡ D.digest (0 ∷ V.bytes new.now) }
     ensures { IfOk result (λ same. IsTrue same ↔ (V.bytes old.now ≡ V.bytes new.now)) }
 {
+    log_laws();
     let leaf = Interval::new(place, 1);
     if plain_digest(&trees.old, &leaf) != plain_digest(&trees.new, &leaf) {
         return Ok(false);
@@ -138,6 +141,7 @@ fn held_root<D: SupportedDigest, V: VisitBytes, L: LogData<D, V>, A: Allocator>(
     ensures around { IsAround place 1 result.0.start result.0.count }
     ensures leads { LeadsToBoth D.digest (L.digest_at hashes.now) trees.now.old trees.now.new result.0.start result.0.count result.1 }
 {
+    log_laws();
     let root = root_around(place, &Interval::new(0, trees.old.length()));
     match hashes.hash_for(root.node()) {
         Some(hash) => (root, hash),
@@ -159,6 +163,7 @@ fn part_from<D: SupportedDigest, V: VisitBytes, L: LogData<D, V>, A: Allocator>(
     ensures { IsParting D.digest (L.digest_at hashes.now) hash.now (own_digest D.digest tree.now) (root_over D.digest tree.now node.now.start node.now.count)
         node.now.start node.now.count 0 (length tree.now) result }
 {
+    log_laws();
     let plain = plain_digest(tree, node);
     let whole = Interval::new(0, tree.length());
     descend(hashes, hash, tree, &plain, node, &whole)
@@ -178,6 +183,7 @@ fn part_below<D: SupportedDigest, V: VisitBytes, A: Allocator>(
     ensures { IsParting D.digest (own_digest D.digest trees.now.old) (root_over D.digest trees.now.old place 1) (own_digest D.digest trees.now.new) (root_over D.digest trees.now.new place 1)
         place 1 node.now.start node.now.count result }
 {
+    log_laws();
     let leaf = Interval::new(place, 1);
     let old = plain_digest(&trees.old, &leaf);
     let new = plain_digest(&trees.new, &leaf);
@@ -200,6 +206,7 @@ fn collide_at<D: SupportedDigest, V: VisitBytes, L: LogData<D, V>, A: Allocator 
     requires differ { DiffersFirst (map (λ e. V.bytes e) old.now) (map (λ e. V.bytes e) new.now) place }
     ensures { IfOk result (λ c. IsConsistencyPlaced D.digest (L.digest_at hashes.now) (map (λ e. V.bytes e) old.now) (map (λ e. V.bytes e) new.now) c.0 c.1) }
 {
+    log_laws();
     let (root, hash) = held_root(hashes, trees, place);
     let from_old = part_from(hashes, &hash, &root, &trees.old);
     if !from_old.is_target() {

@@ -22,7 +22,7 @@ descend-parting-requires-clause-one g c =
     let ok = c.in-Ok.ensures.ok in
     let evaluation = rw c.copied.ensures at ok.1 in
     let count = count_is (λ e. g.V.VisitBytes.bytes e) _ _ _ c.if-entries-log_length.false c.log_length.ensures.value in
-    have_root _ _ _ _ _ _ _ _ _ _ _ _ evaluation (root ∙ c.plain_root.ensures)
+    have_root c.log_laws.ensures _ _ _ _ _ _ _ _ _ _ _ _ evaluation (root ∙ c.plain_root.ensures)
     (c.interval-target.ensures.start ∙ ap (λ (x : Node). start_of x.0) leaf) (c.interval-target.ensures.count ∙ ap (λ (x : Node). 2 ^ height_of x.0) leaf)
     c.new-whole.ensures.start (c.new-whole.ensures.count ∙ c.log_length-2.ensures.value)
     (sym (length-leaves g.D.SupportedDigest.digest _ _ c.in_ok-tree.ensures ∙ count)) c.new-whole.result.some c.plain_digest-plain.ensures

@@ -14,13 +14,13 @@ returns-then-branch-clause-holds g c =
 pub collide-requires-clause-collides : goal.collide-requires-clause-collides
 collide-requires-clause-collides g c =
     let meeting = rw (c.in-Some.is, c.hash_leaf-hash.ensures) at c.in_ok-met.ensures.met in
-    (value_shown _ _ _ _ _ _ _ _ _ _ _ _ _ c.in-Some.met.target.some (some_leaves _ _ meeting.met.exists) meeting
+    (value_shown c.log_laws.ensures _ _ _ _ _ _ _ _ _ _ _ _ _ c.in-Some.met.target.some (some_leaves _ _ meeting.met.exists) meeting
     (refl, refl, λ at. not_false (sym c.if-branch.false ∙ c.in_ok-is_entry.ensures.1 at))).collides
 
 pub returns-clause-collision : goal.returns-clause-collision
 returns-clause-collision g c k is =
     let meeting = rw (c.in-Some.is, c.hash_leaf-hash.ensures) at c.in_ok-met.ensures.met in
-    let shown = (value_shown _ _ _ _ _ _ _ _ _ _ _ _ _ c.in-Some.met.target.some (some_leaves _ _ meeting.met.exists) meeting
+    let shown = (value_shown c.log_laws.ensures _ _ _ _ _ _ _ _ _ _ _ _ _ c.in-Some.met.target.some (some_leaves _ _ meeting.met.exists) meeting
     (refl, refl, λ at. not_false (sym c.if-branch.false ∙ c.in_ok-is_entry.ensures.1 at))).placed in
     let same : ◌≡◌ {A = List ℕ × List ℕ} k c.in_ok-collide.field-0 = cc in
     value_placed_as _ _ _ _ _ _ k (same ∙ c.in_ok-collide.ensures) shown

@@ -1,5 +1,5 @@
 use Rattle.std.proofs.Common.{◌≡◌, true, sym, ◌∙◌}
-use Rattle.warg_log.proofs.AgreeLemmas.{same_true, same_equal}
+use Rattle.warg_witness.proofs.HashLemmas.{same_true, same_equal}
 use Rattle.warg_witness.proofs.CompareLemmas.{window_visited, slice_from}
 use Rattle.warg_witness.proofs.compare.WindowByteVisitor.visit_bytes.Goals as goal
 use Rattle.warg_witness.proofs.compare.WindowByteVisitor.visit_bytes.Goals.{then-self, else-self}

@@ -13,6 +13,6 @@ pub returns-then-ne : goal.returns-then-ne
 returns-then-ne g c =
     let digest = g.D.SupportedDigest.digest in
     let leaf = c.new-leaf.ensures in
-    let old_is = leaf_is digest _ _ _ _ _ _ leaf.start leaf.count c.requires.in_old c.plain_digest.ensures c.requires.old_leaf in
-    let new_is = leaf_is digest _ _ _ _ _ _ leaf.start leaf.count c.requires.in_new c.plain_digest-2.ensures c.requires.new_leaf in
+    let old_is = leaf_is c.log_laws.ensures digest _ _ _ _ _ _ leaf.start leaf.count c.requires.in_old c.plain_digest.ensures c.requires.old_leaf in
+    let new_is = leaf_is c.log_laws.ensures digest _ _ _ _ _ _ leaf.start leaf.count c.requires.in_new c.plain_digest-2.ensures c.requires.new_leaf in
     (λ no. absurd (cc), λ same. absurd (ne_true _ _ c.if-ne.ensures (old_is ∙ ap (λ v. digest (0 ∷ v)) same ∙ sym new_is)))

@@ -12,7 +12,7 @@ descend-requires-clause-node g c = leaf_node _ _ c.new-leaf.ensures.count
 
 pub descend-requires-clause-one : goal.descend-requires-clause-one
 descend-requires-clause-one g c =
-    have_node _ _ _ _ _ _ _ _ _ c.plain_digest-old.ensures c.plain_digest-new.ensures c.requires.node c.args.node.now.some c.requires.in_old c.requires.in_new c.requires.same
+    have_node c.log_laws.ensures _ _ _ _ _ _ _ _ _ c.plain_digest-old.ensures c.plain_digest-new.ensures c.requires.node c.args.node.now.some c.requires.in_old c.requires.in_new c.requires.same
 
 pub returns : goal.returns
 returns g c =

@@ -8,4 +8,4 @@ descend-requires-clause-aligned g c = whole_aligned _ _ _ c.new-whole.ensures.st
 
 pub descend-requires-clause-one : goal.descend-requires-clause-one
 descend-requires-clause-one g c =
-    have_tree_root _ _ _ _ _ _ _ _ _ c.requires.met c.plain_digest-plain.ensures c.new-whole.ensures.start (c.new-whole.ensures.count ∙ c.length.ensures.value) c.new-whole.result.some
+    have_tree_root c.log_laws.ensures _ _ _ _ _ _ _ _ _ c.requires.met c.plain_digest-plain.ensures c.new-whole.ensures.start (c.new-whole.ensures.count ∙ c.length.ensures.value) c.new-whole.result.some
