@@ -7,7 +7,7 @@ use Rattle.std.proofs.lemmas.Bool.{le-leb, lt-leb, eq-eqb, ne_eqb, cases_lt, cas
 use Rattle.warg_log.specs.Nodes.{height_of, place_of, start_of, end_of, node_over, balanced_within, balanced_over, balanced_roots}
 use Rattle.warg_log.specs.Tree.{branch, front_of, root_of, root_over, leaves_below, own_digest}
 use Rattle.warg_log.specs.Cut.{joined, IsFull, old_over, old_root}
-use Rattle.warg_log.specs.Blocks.{Blocks, Grows, StandsFor, digest_beside, block_at, block_over, joined_blocks}
+use Rattle.warg_log.specs.Blocks.{Blocks, Grows, StandsFor, digest_beside, block_at, block_over, joined_blocks, pushed}
 use Rattle.warg_log.proofs.NodeLemmas.{node_is, node_at, pow_below_pow}
 use Rattle.warg_log.proofs.RootLemmas.{below_pow, front_of-is}
 use Rattle.warg_log.proofs.CutLemmas.{root_over-split, old_over-full, old_over-parts, old_root-own}
@@ -390,3 +390,30 @@ none_root H b len none = empty H b.digests (len ∙ ap (λ m. length (balanced_r
     empty : (H : List ℕ → List ℕ) (ds : List (List ℕ)) → length ds ≡ 0 → joined_blocks H ds ≡ H []
     empty H [] e = refl
     empty H (d ∷ ds) e = absurd (omega arith)
+
+-- a push
+split_last : (l : List (List ℕ)) → 0 < length l → (front : List (List ℕ)) × (last : List ℕ) × (l ≡ front ++ last ∷ [])
+split_last [] some = absurd (omega arith)
+split_last (d ∷ []) some = ([], d, refl)
+split_last (d ∷ e ∷ ds) some = let rest = split_last (e ∷ ds) (let lt : 0 < suc (length ds) = omega arith in lt) in (d ∷ rest.0, rest.1, ap (λ l. d ∷ l) rest.2)
+
+joined_up : (H : List ℕ → List ℕ) (n : ℕ) (d : List ℕ) (digests : List (List ℕ)) (k i rest : ℕ) (left : List (List ℕ)) (last : List ℕ) → rest ≤ k → IsJoined H n d digests i rest left last
+    → (new : List (List ℕ)) × ((G : ℕ → ℕ → List ℕ) → Grows H n d digests G → new ≡ map (λ t. G (height_of t) (start_of t)) (balanced_roots (n + 1)))
+joined_up H n d digests zero i rest left last le from = (left ++ last ∷ [], (join_done H n d digests i rest left (left ++ last ∷ []) last (λ odd. omega arith) from refl).1)
+joined_up H n d digests (suc k) i rest left last le from = ⊎_elim
+    (λ (odd : rest % 2 ≡ 1).
+    let at = split_last left (join_some H n d digests i rest left last odd from) in
+    joined_up H n d digests k (suc i) (rest / 2) at.0 (branch H at.1 last) (omega arith) (join_step H n d digests i rest left at.0 last at.1 odd at.2 from))
+    (λ (even : rest % 2 ≡ 1 → ⊥). finished (left ++ last ∷ []) (join_done H n d digests i rest left (left ++ last ∷ []) last even from refl).1)
+    (cases_eq (rest % 2) 1)
+  where
+    finished : (new : List (List ℕ)) → ((G : ℕ → ℕ → List ℕ) → Grows H n d digests G → new ≡ map (λ t. G (height_of t) (start_of t)) (balanced_roots (n + 1)))
+        → (new : List (List ℕ)) × ((G : ℕ → ℕ → List ℕ) → Grows H n d digests G → new ≡ map (λ t. G (height_of t) (start_of t)) (balanced_roots (n + 1)))
+    finished new all = (new, all)
+
+pub stands_pushed : (H : List ℕ → List ℕ) (b : Blocks) (d : List ℕ) (ds : List (List ℕ)) → StandsFor H b ds → StandsFor H (pushed H b d) (ds ++ d ∷ [])
+stands_pushed H b d ds stands =
+    let len : length b.digests ≡ length (balanced_roots b.len) = ap length stands.roots ∙ length-map (balanced_roots b.len) (λ t. root_of H (leaves_below t ds)) in
+    let new = joined_up H b.len d b.digests b.len 0 b.len b.digests d (let le : b.len ≤ b.len = omega arith in le) (join_none H b.len d b.digests len) in
+    let own = new.1 (block_over H (block_at b) b.len d) (grows_over H b d len) in
+    stands_after H b (pushed H b d) d ds stands refl (λ G grows. sym own ∙ new.1 G grows)

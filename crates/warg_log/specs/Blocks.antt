@@ -24,6 +24,7 @@ block_over H F n d zero a = if a == n then d else unwrap_or (F (node_over a 1)) 
 block_over H F n d (suc h) a = unwrap_or (F (node_over a (2 ^ suc h))) (branch H (block_over H F n d h a) (block_over H F n d h (a + 2 ^ h)))
 
 -- The blocks after a push of d: each balanced root of the next length has the digest of its leaves.
+-- `laws::pushed_stands` says so of blocks that stand for leaf digests.
 abbrev pub pushed : (List ℕ → List ℕ) → Blocks → List ℕ → Blocks
 pushed H b d = record {
   len = b.len + 1;

@@ -20,7 +20,8 @@ is_beside s w a n = nat_le (a + n) s || nat_le (s + w) a
 
 -- The cut root of a range of at least one and at most 2 ^ h leaves: x at the target; F's digest where
 -- the range misses the target and has a power of two of leaves; else the branch of the range's parts,
--- split as in root_within. None where F lacks a digest. `laws::cut_parts` states the recursion.
+-- split as in root_within. None where F lacks a digest. `laws::cut_target`, `cut_beside` and `cut_parts`
+-- state the recursion.
 unfoldable pub cut_within : (List ℕ → List ℕ) → (ℕ → Option (List ℕ)) → List ℕ → ℕ → ℕ → ℕ → ℕ → ℕ → Option (List ℕ)
 cut_within H F x s w zero a n = if is_target s w a n then Some x else F (node_over a n)
 cut_within H F x s w (suc h) a n =
@@ -50,7 +51,7 @@ IsBeside s w a n = (a + n ≤ s) ⊎ (s + w ≤ a)
 
 -- The old root of a range of at least one and at most 2 ^ h leaves: F's digest where the range has a
 -- power of two of leaves, else the branch of its parts, split as in root_within. None where F lacks a
--- digest.
+-- digest. `laws::old_full` and `old_parts` state the recursion.
 unfoldable pub old_within : (List ℕ → List ℕ) → (ℕ → Option (List ℕ)) → ℕ → ℕ → ℕ → Option (List ℕ)
 old_within H F zero a n = F (node_over a n)
 old_within H F (suc h) a n =

@@ -8,7 +8,8 @@ abbrev pub IsNode : ℕ → ℕ → ℕ → Type 0
 IsNode x k j = x + 1 ≡ 2 ^ k * (2 * j + 1)
 
 -- The height of a number's node, by halving: 0 for an even number, else one more than that of its
--- half. The fuel is enough where it is at least the number.
+-- half. The fuel is enough where it is at least the number. `laws::number_is_node` says that each number
+-- is the node of its height and its place, and of no other.
 unfoldable pub height_within : ℕ → ℕ → ℕ
 height_within zero x = 0
 height_within (suc fuel) x = if x % 2 == 0 then 0 else suc (height_within fuel (x / 2))
@@ -46,6 +47,7 @@ abbrev pub number_of : ℕ → ℕ → ℕ
 number_of k j = node_over (j * 2 ^ k) (2 ^ k)
 
 -- The nodes that the h lowest binary digits of n cut from the leaves from a on, greatest first.
+-- `laws::balanced_full` and `balanced_parts` state the recursion, and `balanced_in_a_row` what they are.
 unfoldable pub balanced_within : ℕ → ℕ → ℕ → List ℕ
 balanced_within zero a n = []
 balanced_within (suc h) a n =

@@ -10,7 +10,8 @@ branch H left right = H (1 ∷ left ++ right)
 abbrev pub leaves_of : (List ℕ → List ℕ) → List (List ℕ) → List (List ℕ)
 leaves_of H entries = map (λ e. H (0 ∷ e)) entries
 
--- The greatest power of two below n that is at most 2 ^ h, or 1.
+-- The greatest power of two below n that is at most 2 ^ h, or 1. `laws::front_is_greatest` says so of
+-- `front_of`.
 unfoldable pub front_within : ℕ → ℕ → ℕ
 front_within zero n = 1
 front_within (suc h) n = if nat_le n (2 ^ suc h) then front_within h n else 2 ^ suc h

@@ -4,7 +4,8 @@ use Rattle.warg_log.specs.Nodes.{height_of, place_of, sibling_place, start_of, n
 use Rattle.warg_log.specs.Cut.{is_target, is_beside}
 
 -- The nodes at which cut_within reads in a range. Those of the part that holds the target come first;
--- where neither part does, those of the right part.
+-- where neither part does, those of the right part. `laws::needed_target`, `needed_beside` and
+-- `needed_parts` state the recursion.
 unfoldable pub needed_within : ℕ → ℕ → ℕ → ℕ → ℕ → List ℕ
 needed_within s w zero a n = if is_target s w a n then [] else node_over a n ∷ []
 needed_within s w (suc h) a n =

@@ -3,7 +3,7 @@
 //! Read them beside the definitions: they state the standard's own words (RFC 6962, section 2.1) where
 //! a definition takes another road, and they are all that a proof about the definitions needs.
 
-ghost use Rattle.std.specs.Prelude.{◌≡◌, ℕ, ◌+◌, ◌-◌, ◌*◌, ◌/◌, ◌%◌, ◌^◌, ◌<◌, ◌≤◌, ◌⊎◌, ◌↔◌, List, [], ◌∷◌, ◌++◌, length, take, drop, Option, Some, Ok, IsSome, slice_index_or};
+ghost use Rattle.std.specs.Prelude.{◌≡◌, ℕ, ◌+◌, ◌-◌, ◌*◌, ◌/◌, ◌%◌, ◌^◌, ◌<◌, ◌≤◌, ◌⊎◌, ◌↔◌, List, [], ◌∷◌, ◌++◌, length, take, drop, Option, Some, Ok, IsSome, IsTrue, slice_index_or};
 ghost use Rattle.std.specs.List.{AllByRecursion};
 ghost use Rattle.std.specs.Ordering.{nat_cmp, ordering_then};
 ghost use Rattle.std.specs.Cmp.Lexicographic.{slice_cmp};
@@ -11,6 +11,7 @@ ghost use Rattle.warg_log.specs.Nodes.{IsNode, ExistsAt, sibling_place, height_o
 ghost use Rattle.warg_log.specs.Tree.{branch, front_of, root_of, root_over, leaves_of, leaves_below, own_digest};
 ghost use Rattle.warg_log.specs.Cut.{joined, cut_over, cut_root, old_over, old_root, IsFull, IsBeside};
 ghost use Rattle.warg_log.specs.Walks.{needed, needed_over, IsKnown};
+ghost use Rattle.warg_log.specs.Blocks.{Blocks, StandsFor, joined_blocks, pushed};
 ghost use Rattle.warg_log.specs.Consistency.{consistency, IsConsistent};
 
 use crate::log::Checkpoint;
@@ -202,9 +203,28 @@ pub fn own_consistency()
     ensures { (H : List ℕ → List ℕ) (ds : List (List ℕ)) (m n : ℕ) → 0 < m → m ≤ n → n ≤ length ds → consistency H (own_digest H ds) m n ≡ Ok (root_of H (take m ds), root_of H (take n ds)) }
 {}
 
+/// Blocks that stand for leaf digests stand, after a push of one more, for these and that one behind them.
+pub fn pushed_stands()
+    ensures { (H : List ℕ → List ℕ) (b : Blocks) (d : List ℕ) (ds : List (List ℕ)) → StandsFor H b ds → StandsFor H (pushed H b d) (ds ++ d ∷ []) }
+{}
+
+/// Blocks that stand for leaf digests, joined from the right, are the root over these.
+pub fn stands_for_root()
+    ensures { (H : List ℕ → List ℕ) (b : Blocks) (ds : List (List ℕ)) → StandsFor H b ds → joined_blocks H b.digests ≡ root_of H ds }
+{}
+
 /// Checkpoints are ordered by their roots' bytes, and where these are equal by their lengths.
 pub fn order_by_root_then_length<D>(first: &Checkpoint<D>, second: &Checkpoint<D>) -> Ordering
     ensures { result ≡ ordering_then (slice_cmp nat_cmp first.now.root second.now.root) (nat_cmp first.now.length second.now.length) }
 {
     first.cmp(second)
+}
+
+/// Checkpoints are equal exactly where their roots and their lengths are, which is where their order calls
+/// them equal.
+pub fn equal_by_root_and_length<D>(first: &Checkpoint<D>, second: &Checkpoint<D>) -> bool
+    ensures parts { IsTrue result ↔ ((first.now.root ≡ second.now.root) × (first.now.length ≡ second.now.length)) }
+    ensures order { IsTrue result ↔ (ordering_then (slice_cmp nat_cmp first.now.root second.now.root) (nat_cmp first.now.length second.now.length) ≡ Ordering.Equal) }
+{
+    first == second
 }
