@@ -3,6 +3,7 @@ use Rattle.std.proofs.Common.{◌≡◌, ℕ, zero, suc, ◌+◌, ◌*◌, ◌^�
 use Rattle.std.specs.Prelude.{filter}
 use Rattle.std.specs.List.{AllByRecursion, list_any, list_all, range_with_len}
 use Rattle.std.proofs.lemmas.Bool.{eqb-true, eq-eqb, ne_eqb, ltb-true, ltb-false, lt-ltb, le-ltb, le-leb, lt-leb, or_right, and_from, and_parts, cases_Bool, cases_lt}
+use Rattle.std.proofs.lemmas.Nat.{pow_pos}
 use Rattle.std.proofs.lemmas.List.Folds.{list_any_at}
 use Rattle.std.proofs.lemmas.List.FromFn.{length-range_with_len, get_or-range_with_len}
 use Rattle.std.proofs.lemmas.Map.Views.{any-filter_same}
@@ -15,18 +16,23 @@ use Rattle.warg_log.specs.declared.proof.InclusionProofError.{InclusionProofErro
 use Rattle.warg_log.specs.declared.proof.InclusionProofError.TheVariants as inclusion
 use Rattle.warg_log.specs.declared.error.BundleError.{BundleError}
 use Rattle.warg_log.specs.declared.error.BundleError.TheVariants.{Inclusion, TooLarge, HashNotFound, Memory}
-use Rattle.warg_log.specs.Nodes.{end_of, height_of, place_of, start_of}
+use Rattle.warg_log.specs.Nodes.{ExistsAt, end_of, height_of, place_of}
 use Rattle.warg_log.specs.Tree.{own_digest}
 use Rattle.warg_log.specs.Walks.{needed}
 use Rattle.warg_log.specs.Sparse.{Pairs, IsAscending}
 use Rattle.warg_log.specs.Bundling.{needed_by, bundle_length, LacksNeeded}
 use Rattle.warg_log.specs.Bundles.{Bundle, bundle_message, entry_of, NodesFit}
-use Rattle.warg_log.proofs.NodeLemmas.{end_some}
-use Rattle.warg_log.proofs.OrderLemmas.{needed_below}
 use Rattle.warg_check.specs.Orders.{bundle}
 use Rattle.warg_check.specs.Bundled.{needed_ascending, entry_before, entries_for, proof_message, numbers_fit}
 use Rattle.warg_check.specs.States.{State, log_at}
 use Rattle.warg_check.specs.Text.{answer, bytes_or_refusal}
+
+-- What the log's laws say.
+abbrev pub NeededExist : Type 0
+NeededExist = (t n : ℕ) → 0 < n → AllByRecursion (λ x. ExistsAt x n) (needed t n)
+
+abbrev pub ExistingNumber : Type 0
+ExistingNumber = (x n : ℕ) → ExistsAt x n → x + 2 ≤ 2 * n
 
 -- ---- the needed nodes, ascending
 
@@ -76,16 +82,23 @@ filtered test a (suc n) (p ∷ ps) up low high is =
     rw inside (rw (rest, same) refl))
     (cases_lt a p.0.0)
 
-numbers_are : (ps : Pairs) (t n : ℕ) → IsAscending ps → 0 < n → ((x : ℕ) → list_any (nat_eq x) (map (λ (p : Node × List ℕ). p.0.0) ps) ≡ list_any (nat_eq x) (needed t n))
+-- a needed node's number
+needed_below : NeededExist → ExistingNumber → (t n : ℕ) → 0 < n → (x : ℕ) → list_any (nat_eq x) (needed t n) ≡ true → x < 2 * n
+needed_below exist number t n some x there = below x n (number x n (among (λ y. ExistsAt y n) x (needed t n) (exist t n some) there))
+  where
+    below : (x n : ℕ) → x + 2 ≤ 2 * n → x < 2 * n
+    below x n le = omega arith
+
+numbers_are : (ps : Pairs) (t n : ℕ) → IsAscending ps → ((x : ℕ) → list_any (nat_eq x) (needed t n) ≡ true → x < 2 * n) → ((x : ℕ) → list_any (nat_eq x) (map (λ (p : Node × List ℕ). p.0.0) ps) ≡ list_any (nat_eq x) (needed t n))
     → needed_ascending t n ≡ map (λ (p : Node × List ℕ). p.0.0) ps
-numbers_are ps t n up some exactly = filtered (λ x. list_any (nat_eq x) (needed t n)) 0 (2 * n) ps up
+numbers_are ps t n up below exactly = filtered (λ x. list_any (nat_eq x) (needed t n)) 0 (2 * n) ps up
     (all_among (λ x. 0 ≤ x) ps (λ x there. omega arith))
-    (all_among (λ x. x < 0 + 2 * n) ps (λ x there. let lt : x < 2 * n = among (λ y. y < 2 * n) x (needed t n) (needed_below (start_of t) (2 ^ height_of t) n some) (sym (exactly x) ∙ there) in omega arith))
+    (all_among (λ x. x < 0 + 2 * n) ps (λ x there. let lt : x < 2 * n = below x (sym (exactly x) ∙ there) in omega arith))
     (λ z le. sym (exactly z))
 
-needed_stands : (t n x : ℕ) → 0 < n → list_any (nat_eq x) (needed t n) ≡ true → list_any (nat_eq x) (needed_ascending t n) ≡ true
-needed_stands t n x some there =
-    let lt : x < 2 * n = among (λ y. y < 2 * n) x (needed t n) (needed_below (start_of t) (2 ^ height_of t) n some) there in
+needed_stands : (t n x : ℕ) → ((x : ℕ) → list_any (nat_eq x) (needed t n) ≡ true → x < 2 * n) → list_any (nat_eq x) (needed t n) ≡ true → list_any (nat_eq x) (needed_ascending t n) ≡ true
+needed_stands t n x below there =
+    let lt : x < 2 * n = below x there in
     let len : length (range_with_len 0 (2 * n)) ≡ 2 * n = length-range_with_len 0 (2 * n) in
     let here : get_or (range_with_len 0 (2 * n)) x 0 ≡ 0 + x = get_or-range_with_len 0 (2 * n) x 0 lt in
     any-filter_same (nat_eq x) (λ y. list_any (nat_eq y) (needed t n)) true (λ y same. let e : x ≡ y = eqb-true x y same in rw (← e) there) (range_with_len 0 (2 * n))
@@ -189,11 +202,14 @@ only_these F node n e told memory found large new =
     (λ exists small at. absurd (cc (is, at)))
 
 some_length : (t n : ℕ) → nat_lt n (end_of t) ≡ false → 0 < n
-some_length t n exists = let le = ltb-false n (end_of t) exists in let pos : 0 < end_of t = end_some (height_of t) (place_of t) in omega arith
+some_length t n exists = let le = ltb-false n (end_of t) exists in let pos : 0 < end_of t = end_some (2 ^ height_of t) (place_of t) (pow_pos (height_of t)) in omega arith
+  where
+    end_some : (p j : ℕ) → 0 < p → 0 < (j + 1) * p
+    end_some p j pos = omega arith
 
-pub not_known_answer : (log : List (List ℕ)) (s : State) (node : Node) (n : ℕ) → log ≡ log_at s → Told (own_digest sha256 log) node n HashNotFound → answer s (bundle node.0 n) ≡ codes "refused hash not known"
+pub not_known_answer : NeededExist → ExistingNumber → (log : List (List ℕ)) (s : State) (node : Node) (n : ℕ) → log ≡ log_at s → Told (own_digest sha256 log) node n HashNotFound → answer s (bundle node.0 n) ≡ codes "refused hash not known"
 unfolding answer
-not_known_answer log s node n is told = ⊎_elim
+not_known_answer exist number log s node n is told = ⊎_elim
     (λ (m : HashNotFound ≡ Memory). absurd (cc (m)))
     (λ (rest : (bundle_length [] ((node, n) ∷ []) ≡ Err HashNotFound) ⊎ ((HashNotFound ≡ HashNotFound) × LacksNeeded (own_digest sha256 log) [] (node ∷ []) (bundle_length [] ((node, n) ∷ [])))). ⊎_elim
     (λ (other : bundle_length [] ((node, n) ∷ []) ≡ Err HashNotFound). length_cases node n _ (λ late at. absurd (cc (other, at))) (λ exists great at. absurd (cc (other, at))) (λ exists small at. absurd (cc (other, at))))
@@ -204,18 +220,18 @@ not_known_answer log s node n is told = ⊎_elim
     let one : LacksNeeded (own_digest sha256 log) [] (node ∷ []) (Ok n) = rw at at lacks.1 in
     let there : list_any (nat_eq one.0) (needed node.0 n) ≡ true = rw append-nil at one.1 in
     let none : own_digest sha256 (log_at s) one.0 ≡ None = rw is at one.2 in
-    rw (exists, small, entries_lack (own_digest sha256 (log_at s)) one.0 (needed_ascending node.0 n) (needed_stands node.0 n one.0 (some_length node.0 n exists) there) none) refl))
+    rw (exists, small, entries_lack (own_digest sha256 (log_at s)) one.0 (needed_ascending node.0 n) (needed_stands node.0 n one.0 (needed_below exist number node.0 n (some_length node.0 n exists)) there) none) refl))
     rest)
     told
 
 -- the digests that are held stand in the message
-pub bundle_answer : (log : List (List ℕ)) (s : State) (b : Bundle) (node : Node) (n : ℕ) → log ≡ log_at s
+pub bundle_answer : NeededExist → ExistingNumber → (log : List (List ℕ)) (s : State) (b : Bundle) (node : Node) (n : ℕ) → log ≡ log_at s
     → bundle_length [] ((node, n) ∷ []) ≡ Ok b.log_length → b.consistent_lengths ≡ [] → b.included_nodes ≡ node ∷ [] → IsAscending b.hashes
     → ((x : ℕ) → list_any (nat_eq x) (map (λ (p : Node × List ℕ). p.0.0) b.hashes) ≡ list_any (nat_eq x) (needed_by b.consistent_lengths b.included_nodes b.log_length))
     → AllByRecursion (λ (p : Node × List ℕ). own_digest sha256 log p.0.0 ≡ Some p.1) b.hashes
     → answer s (bundle node.0 n) ≡ bytes_or_refusal (bundle_message b)
 unfolding answer
-bundle_answer log s b node n is length_is no_lengths one_node up exactly source = length_cases node n _
+bundle_answer exist number log s b node n is length_is no_lengths one_node up exactly source = length_cases node n _
     (λ late at. absurd (cc (length_is, at)))
     (λ exists great at. absurd (cc (length_is, at)))
     (λ exists small at.
@@ -223,4 +239,4 @@ bundle_answer log s b node n is length_is no_lengths one_node up exactly source 
     let each : (x : ℕ) → list_any (nat_eq x) (map (λ (p : Node × List ℕ). p.0.0) b.hashes) ≡ list_any (nat_eq x) (needed node.0 n) = λ x. exactly x ∙ rw (no_lengths, one_node, ← count, append-nil) refl in
     let own : AllByRecursion (λ (p : Node × List ℕ). own_digest sha256 (log_at s) p.0.0 ≡ Some p.1) b.hashes = rw is at source in
     let same : proof_message node.0 n (map entry_of b.hashes) ≡ bundle_message b = rw (no_lengths, one_node, ← count) refl in
-    rw (exists, small, numbers_are b.hashes node.0 n up (some_length node.0 n exists) each, entries_are (own_digest sha256 (log_at s)) b.hashes own) (ap bytes_or_refusal same))
+    rw (exists, small, numbers_are b.hashes node.0 n up (needed_below exist number node.0 n (some_length node.0 n exists)) each, entries_are (own_digest sha256 (log_at s)) b.hashes own) (ap bytes_or_refusal same))

@@ -16,6 +16,7 @@ use crate::verdict::{CheckError, check_inclusion};
 use std::alloc::{AllocError, Allocator};
 use std::fmt::Write;
 use warg_crypto::{Hash, Sha256};
+use warg_log::laws::{existing_number, needed_exist};
 use warg_log::{
     BundleError, ConsistencyProofError, EncodeError, InclusionProofError, LogBuilder, LogData,
     Node, ProofBundle, VecLog,
@@ -169,6 +170,8 @@ impl<A: Allocator + Copy> Session<A> {
         ensures ok { OnOk result (Answers self.old self.new (bundle node.0 log_length.now.value)) }
         ensures errors { IfErr result (Refuses self.old (bundle node.0 log_length.now.value)) }
     {
+        needed_exist();
+        existing_number();
         let proofs = Vec::from_slice(
             self.alloc,
             &[self.log.prove_inclusion(node, log_length.value)],
