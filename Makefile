@@ -7,8 +7,10 @@ run:
 	mkdir -p bin && cp crates/warg_check_cli/out/warg_check_cli bin/warg_check && \
 	echo "bin/warg_check reads commands on standard input, as: printf 'push -\\nlog\\n' | bin/warg_check"
 
-# Proves every crate from nothing, tries the must-fail edits, runs the tests and the program.
+# Refuses a lemma of another crate; proves every crate from nothing, tries the must-fail edits, runs the tests and the
+# programs.
 test:
+	@python3 scripts/foreign_proofs.py
 	rt ci
 
 # Proves and builds the measuring program, and prints its figures.
