@@ -10,6 +10,7 @@ pub mod LawLemmas
 pub mod OrderLemmas
 pub mod StepLemmas
 pub mod PartLemmas
+pub mod ClimbLemmas
 pub mod AgreeLemmas
 pub mod MetLemmas
 pub mod SparseLemmas

@@ -20,7 +20,7 @@ use Rattle.std.proofs.Math.Seq.{get_or-append_seam, take-length}
 use Rattle.std.proofs.lemmas.List.{take-append-le, drop-append-le, length-drop}
 
 -- no leaves have no balanced root
-balanced_zero : (h a : ℕ) → balanced_within h a 0 ≡ []
+pub balanced_zero : (h a : ℕ) → balanced_within h a 0 ≡ []
 unfolding balanced_within
 balanced_zero zero a = refl
 balanced_zero (suc h) a = rw (lt-leb (2 ^ h) 0 (pow_pos h)) (balanced_zero h a)

@@ -1,7 +1,7 @@
 -- The nodes that the cut root reads.
-use Rattle.std.specs.Prelude.{◌≡◌, ℕ, zero, suc, length, reverse, ◌/◌, ◌+◌, ◌-◌, ◌^◌, ◌&&◌, ◌==◌, nat_le, if◌then◌else◌, List, [], ◌∷◌, ◌++◌, Option, IsSome}
+use Rattle.std.specs.Prelude.{◌≡◌, ℕ, zero, suc, length, reverse, ◌/◌, ◌%◌, ◌+◌, ◌-◌, ◌^◌, ◌&&◌, ◌==◌, nat_le, if◌then◌else◌, List, [], ◌∷◌, ◌++◌, Option, None, IsSome}
 use Rattle.warg_log.specs.Nodes.{height_of, place_of, sibling_place, start_of, node_over, number_of, balanced_over}
-use Rattle.warg_log.specs.Cut.{is_target, is_beside}
+use Rattle.warg_log.specs.Cut.{joined, is_target, is_beside}
 
 -- The nodes at which cut_within reads in a range. Those of the part that holds the target come first;
 -- where neither part does, those of the right part. `laws::needed_target`, `needed_beside` and
@@ -39,7 +39,8 @@ siblings_up (suc c) k j = siblings_up c k j ++ number_of (k + c) (sibling_place 
 
 -- The walk from the node t over the n leaves from a on: the siblings on the way up to a balanced root,
 -- and then the balanced roots right of that root and those left of it, both from right to left. The
--- three parts have `initial`, `lower` and `upper` nodes.
+-- three parts have `initial`, `lower` and `upper` nodes. `laws::cut_by_walk` joins their digests in this
+-- order.
 pub record IsWalkOver (t a n : ℕ) (nodes : List ℕ) (initial lower upper : ℕ) : Type 0 where
   pub left : List ℕ
   pub right : List ℕ
@@ -51,3 +52,18 @@ pub record IsWalkOver (t a n : ℕ) (nodes : List ℕ) (initial lower upper : �
 -- The walk from the node t at length n.
 abbrev pub IsWalk : ℕ → ℕ → List ℕ → ℕ → ℕ → ℕ → Type 0
 IsWalk t n nodes initial lower upper = IsWalkOver t 0 n nodes initial lower upper
+
+-- What the digest at the j-th node of height k becomes on the first c steps up, joined with the digests
+-- that F has for the siblings, the lower number's on the left.
+abbrev pub climbed : (List ℕ → List ℕ) → (ℕ → Option (List ℕ)) → Option (List ℕ) → ℕ → ℕ → ℕ → Option (List ℕ)
+climbed H F x k j zero = x
+climbed H F x k j (suc c) =
+    if j / 2 ^ c % 2 == 0
+    then joined H (climbed H F x k j c) (F (number_of (k + c) (sibling_place (j / 2 ^ c))))
+    else joined H (F (number_of (k + c) (sibling_place (j / 2 ^ c)))) (climbed H F x k j c)
+
+-- Digests joined from the right.
+abbrev pub joined_all : (List ℕ → List ℕ) → List (Option (List ℕ)) → Option (List ℕ)
+joined_all H [] = None
+joined_all H (d ∷ []) = d
+joined_all H (d ∷ e ∷ ds) = joined H d (joined_all H (e ∷ ds))

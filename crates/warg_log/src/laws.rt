@@ -3,14 +3,14 @@
 //! Read them beside the definitions: they state the standard's own words (RFC 6962, section 2.1) where
 //! a definition takes another road, and they are all that a proof about the definitions needs.
 
-ghost use Rattle.std.specs.Prelude.{◌≡◌, ℕ, ◌+◌, ◌-◌, ◌*◌, ◌/◌, ◌%◌, ◌^◌, ◌<◌, ◌≤◌, ◌⊎◌, ◌↔◌, List, [], ◌∷◌, ◌++◌, length, take, drop, Option, Some, Ok, IsSome, IsTrue, slice_index_or};
+ghost use Rattle.std.specs.Prelude.{◌≡◌, ℕ, ◌+◌, ◌-◌, ◌*◌, ◌/◌, ◌%◌, ◌^◌, ◌<◌, ◌≤◌, ◌⊎◌, ◌↔◌, List, [], ◌∷◌, ◌++◌, length, take, drop, map, Option, Some, Ok, IsSome, IsTrue, slice_index_or};
 ghost use Rattle.std.specs.List.{AllByRecursion};
 ghost use Rattle.std.specs.Ordering.{nat_cmp, ordering_then};
 ghost use Rattle.std.specs.Cmp.Lexicographic.{slice_cmp};
-ghost use Rattle.warg_log.specs.Nodes.{IsNode, ExistsAt, sibling_place, height_of, place_of, start_of, end_of, node_over, balanced_over, balanced_roots, Follow, Fall};
+ghost use Rattle.warg_log.specs.Nodes.{IsNode, ExistsAt, sibling_place, height_of, place_of, start_of, end_of, node_over, number_of, balanced_over, balanced_roots, Follow, Fall};
 ghost use Rattle.warg_log.specs.Tree.{branch, front_of, root_of, root_over, leaves_of, leaves_below, own_digest};
 ghost use Rattle.warg_log.specs.Cut.{joined, cut_over, cut_root, old_over, old_root, IsFull, IsBeside};
-ghost use Rattle.warg_log.specs.Walks.{needed, needed_over, IsKnown};
+ghost use Rattle.warg_log.specs.Walks.{needed, needed_over, climbed, joined_all, IsKnown};
 ghost use Rattle.warg_log.specs.Blocks.{Blocks, StandsFor, joined_blocks, pushed};
 ghost use Rattle.warg_log.specs.Consistency.{consistency, IsConsistent};
 
@@ -148,6 +148,15 @@ pub fn needed_exist()
 /// A cut root is there exactly where the digest of each needed node is.
 pub fn needed_known()
     ensures { (H : List ℕ → List ℕ) (F : ℕ → Option (List ℕ)) (t : ℕ) (x : List ℕ) (n : ℕ) → IsKnown F (needed t n) ↔ IsSome (cut_root H F t x n) }
+{}
+
+/// The cut root by the digests of a walk, in its order: the target's digest is joined with those of the
+/// siblings on the way up to its balanced root, the lower number's on the left; then the digests of all
+/// balanced roots, with what it has become in that root's place, are joined from right to left.
+pub fn cut_by_walk()
+    ensures { (H : List ℕ → List ℕ) (F : ℕ → Option (List ℕ)) (t : ℕ) (x : List ℕ) (n steps : ℕ) (left right : List ℕ) → 0 < n
+        → balanced_roots n ≡ left ++ number_of (height_of t + steps) (place_of t / 2 ^ steps) ∷ right
+        → cut_root H F t x n ≡ joined_all H (map F left ++ climbed H F (Some x) (height_of t) (place_of t) steps ∷ map F right) }
 {}
 
 /// Over a log's own digests, with a node's own digest in its place, the cut root at each length up to
