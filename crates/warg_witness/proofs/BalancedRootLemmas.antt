@@ -1,14 +1,14 @@
 -- Balanced roots as ranges of the tree's recursion, and what is read of them.
-use Rattle.std.proofs.Common.{◌≡◌, ℕ, zero, suc, ◌+◌, ◌-◌, ◌*◌, ◌^◌, ◌<◌, ◌≤◌, ◌==◌, true, false, List, ◌∷◌, Option, Some, refl, sym, ap, ◌∙◌, arith, lit≤, subst, ⊎_elim, inl, inr}
+use Rattle.std.proofs.Common.{◌≡◌, ℕ, suc, ◌+◌, ◌-◌, ◌*◌, ◌^◌, ◌<◌, ◌≤◌, List, Option, Some, refl, sym, ap, ◌∙◌, arith, lit≤, subst, ⊎_elim, inl, inr}
 use Rattle.std.specs.List.{AllByRecursion, Contains}
 use Rattle.std.proofs.Math.Nat.{pow-suc, pow-le-pow_right}
 use Rattle.std.proofs.lemmas.Nat.{pow_pos, pow-add}
-use Rattle.std.proofs.lemmas.Bool.{le-leb, lt-leb, cases_Bool, cases_lt}
+use Rattle.std.proofs.lemmas.Bool.{cases_lt}
 use Rattle.std.proofs.lemmas.List.Elements.{All-contains_itself, recursion_from_All}
 use Rattle.warg_log.specs.Nodes.{height_of, start_of, node_over, balanced_over}
 use Rattle.warg_log.specs.Tree.{front_of}
-use Rattle.warg_log.specs.Cut.{cut_within, cut_over, old_within, old_over, is_target, is_beside, IsFull, IsBeside}
-use Rattle.warg_witness.proofs.LogLemmas.{balanced_cut, cut_over-old, node_at, front_is, balanced_full, number_over, old_over-power, more_than_one, cut_over-at, cut_over-parts, old_over-parts, target_false}
+use Rattle.warg_log.specs.Cut.{cut_over, old_over, IsFull, IsBeside}
+use Rattle.warg_witness.proofs.LogLemmas.{balanced_cut, cut_over-old, node_at, front_is, balanced_full, number_over, old_over-power, more_than_one, cut_over-at, cut_over-parts, old_over-parts}
 use Rattle.warg_witness.specs.Ranges.{IsPart, IsAround, IsAligned, IsNodeRange, IsBalancedRoot}
 use Rattle.warg_witness.specs.Ranges.IsPart.{whole as whole_part, front as front_part, rest as rest_part}
 use Rattle.warg_witness.specs.Ranges.IsBalancedRoot.{full, front, rest}

@@ -1,7 +1,7 @@
 -- What the log's laws give a proof, with a little arithmetic.
-use Rattle.std.proofs.Common.{◌≡◌, ℕ, zero, suc, ◌+◌, ◌-◌, ◌*◌, ◌^◌, ◌<◌, ◌≤◌, ◌==◌, ◌⊎◌, inl, inr, true, false, nat_eq, nat_le, List, [], ◌∷◌, length, Option, Some, Ok, refl, sym, ap, ◌∙◌, arith, lit<, lit≤, ⊎_elim, get_or}
+use Rattle.std.proofs.Common.{◌≡◌, ℕ, zero, suc, ◌+◌, ◌-◌, ◌*◌, ◌^◌, ◌<◌, ◌≤◌, ◌==◌, ◌⊎◌, inl, inr, true, false, List, [], ◌∷◌, length, Option, Some, Ok, refl, sym, ap, ◌∙◌, arith, lit<, lit≤, ⊎_elim, get_or}
 use Rattle.std.proofs.Math.Nat.{pow-suc, pow-le-pow_right, mul-le-mul_right}
-use Rattle.std.proofs.lemmas.Nat.{pow_pos, pow-add}
+use Rattle.std.proofs.lemmas.Nat.{pow-add}
 use Rattle.std.proofs.lemmas.Bool.{and_from, and_parts, eq-eqb, eqb-true, false_from_ne_true, cases_lt}
 use Rattle.warg_log.specs.Nodes.{IsNode, height_of, place_of, node_over, balanced_over}
 use Rattle.warg_log.specs.Tree.{branch, front_of, root_over, own_digest}

@@ -1,5 +1,5 @@
 -- A log's own digests by ranges.
-use Rattle.std.proofs.Common.{◌≡◌, ℕ, ◌+◌, ◌^◌, ◌<◌, ◌≤◌, List, length, Some, refl, ◌∙◌, ap, arith}
+use Rattle.std.proofs.Common.{◌≡◌, ℕ, ◌+◌, ◌^◌, ◌<◌, ◌≤◌, List, length, Some, ap, arith}
 use Rattle.std.proofs.Math.Seq.{take-length}
 use Rattle.warg_log.specs.Tree.{root_of, root_over, own_digest}
 use Rattle.warg_log.specs.Cut.{cut_over, old_over}

@@ -1,12 +1,12 @@
 -- The way down by the definitions alone.
-use Rattle.std.proofs.Common.{◌≡◌, ℕ, zero, suc, ◌+◌, ◌-◌, ◌^◌, ◌<◌, ◌≤◌, ◌⊎◌, inl, inr, ⊎_elim, ◌==◌, ◌&&◌, nat_le, true, false, List, [], ◌∷◌, ◌++◌, length, take, get_or, Option, Some, None, refl, sym, ap, ◌∙◌, arith}
+use Rattle.std.proofs.Common.{◌≡◌, ℕ, zero, suc, ◌+◌, ◌-◌, ◌^◌, ◌<◌, ◌≤◌, ◌⊎◌, inl, inr, ⊎_elim, nat_le, true, false, List, [], ◌∷◌, length, take, get_or, Option, Some, None, refl, sym, ap, ◌∙◌, arith}
 use Rattle.std.proofs.Math.Seq.{take-length, take-suc}
 use Rattle.std.proofs.lemmas.Bool.{leb-true, cases_lt, cases_eq, cases_Bool}
 use Rattle.std.proofs.lemmas.Nat.{pow_pos}
 use Rattle.std.proofs.lemmas.List.{length-map}
-use Rattle.warg_log.specs.Nodes.{height_of, start_of, end_of, node_over}
+use Rattle.warg_log.specs.Nodes.{height_of, start_of, end_of}
 use Rattle.warg_log.specs.Tree.{branch, front_of, leaves_of, root_over, own_digest}
-use Rattle.warg_log.specs.Cut.{joined, is_target, is_beside, cut_within, cut_over, IsFull}
+use Rattle.warg_log.specs.Cut.{joined, cut_over, IsFull}
 use Rattle.warg_witness.proofs.LogLemmas.{cut_len, front_is, pow_below_pow, cut_over-at, more_than_one}
 use Rattle.warg_witness.specs.Ranges.{IsAround, IsAligned, IsNodeRange, IsBalancedRoot, IsSide}
 use Rattle.warg_witness.specs.Inputs.{plain_input}
