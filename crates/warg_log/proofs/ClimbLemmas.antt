@@ -1,11 +1,11 @@
--- The cut root by the digests of a walk, in its order.
-use Rattle.std.proofs.Common.{◌≡◌, ℕ, zero, suc, ◌+◌, ◌-◌, ◌*◌, ◌/◌, ◌%◌, ◌^◌, ◌<◌, ◌≤◌, List, [], ◌∷◌, ◌++◌, map, Option, Some, refl, sym, ap, ◌∙◌, arith, lit≤, ⊎_elim, inl, inr}
+-- The cut root by the digests of a walk, in its order, and which nodes balanced roots are.
+use Rattle.std.proofs.Common.{◌≡◌, ℕ, zero, suc, ◌+◌, ◌-◌, ◌*◌, ◌/◌, ◌%◌, ◌^◌, ◌<◌, ◌≤◌, List, [], ◌∷◌, ◌++◌, map, Option, Some, refl, sym, ap, ◌∙◌, arith, lit≤, ⊎_elim, ◌⊎◌, inl, inr}
 use Rattle.std.specs.List.{AllByRecursion}
 use Rattle.std.proofs.Math.Nat.{pow-suc, pow-le-pow_right, mul-le-mul_right, div-div-eq-div-mul, div-mul-le_self, lt-div-mul-add}
 use Rattle.std.proofs.lemmas.Nat.{pow_pos, pow-add}
 use Rattle.std.proofs.lemmas.Bool.{le-leb, lt-leb, eq-eqb, ne_eqb, cases_lt, cases_eq}
 use Rattle.std.proofs.lemmas.List.{map-append}
-use Rattle.warg_log.specs.Nodes.{height_of, place_of, start_of, end_of, node_over, number_of, balanced_within, balanced_roots, Follow}
+use Rattle.warg_log.specs.Nodes.{height_of, place_of, start_of, end_of, node_over, number_of, balanced_within, balanced_roots, Follow, Fall}
 use Rattle.warg_log.specs.Cut.{joined, cut_over, cut_root, IsFull, IsBeside}
 use Rattle.warg_log.specs.Walks.{climbed, joined_all}
 use Rattle.warg_log.proofs.NodeLemmas.{node_is, node_at}
@@ -224,3 +224,69 @@ cut_root-walk H F t x n c left right some roots =
     let mapped : map (range_cut H F x s w) (left ++ root ∷ right) ≡ map F left ++ climbed H F (Some x) (height_of t) (place_of t) c ∷ map F right =
     map-append (range_cut H F x s w) left (root ∷ right) ∙ rw (before, here, behind) refl in
     whole ∙ ap (λ l. joined_all H (map (range_cut H F x s w) l)) roots ∙ ap (joined_all H) mapped
+
+-- ---- no other nodes follow one another so, with heights that fall
+
+fall_bound : (h a e : ℕ) (ts : List ℕ) → Fall h ts → Follow a e ts → (a ≤ e) × (e < a + 2 ^ h)
+fall_bound h a e [] fall follow = let pos : 0 < 2 ^ h = pow_pos h in (omega arith, omega arith)
+fall_bound h a e (t ∷ ts) fall follow =
+    let rest = fall_bound (height_of t) (end_of t) e ts fall.1 follow.1 in
+    let low = rest.0 in
+    let high = rest.1 in
+    let here = follow.0 in
+    let ends = end_is t in
+    let less = fall.0 in
+    let grows : 2 ^ suc (height_of t) ≤ 2 ^ h = pow-le-pow_right (lit≤ tt) (let le : suc (height_of t) ≤ h = omega (arith, less) in le) in
+    let twice : 2 ^ suc (height_of t) ≡ 2 ^ height_of t * 2 = pow-suc 2 (height_of t) in
+    (omega (arith, here, ends, low), omega (arith, here, ends, high, grows, twice))
+
+number_from : (t a h : ℕ) → start_of t ≡ a → height_of t ≡ h → t ≡ node_over a (2 ^ h)
+number_from t a h start height = only_number t (height_of t) (place_of t) (node_is t) ∙ rw (← start, ← height) refl
+
+only_row : (h c e : ℕ) (ts : List ℕ) → Follow (c * 2 ^ h) e ts → Fall h ts → ts ≡ balanced_within h (c * 2 ^ h) (e - c * 2 ^ h)
+unfolding balanced_within
+only_row zero c e [] follow fall = refl
+only_row zero c e (t ∷ ts) follow fall = absurd (let less = fall.0 in omega (arith, less))
+only_row (suc h) c e [] follow fall =
+    let none : e - c * 2 ^ suc h ≡ 0 = omega arith in
+    rw none (sym (balanced_zero (suc h) (c * 2 ^ suc h)))
+only_row (suc h) c e (t ∷ ts) follow fall =
+    let twice : 2 ^ suc h ≡ 2 ^ h * 2 = pow-suc 2 h in
+    let start : c * 2 ^ suc h ≡ 2 * c * 2 ^ h = rw twice (omega arith) in
+    at start (only_row h) (rw start at follow) (⊎_elim
+    (λ (low : height_of t < h). inl low)
+    (λ (high : h ≤ height_of t). let same : height_of t ≡ h = let less = fall.0 in omega (arith, less) in inr same) (cases_lt (height_of t) h))
+  where
+    both : (t : ℕ) (ts : List ℕ) (r : ℕ) (rs : List ℕ) → t ≡ r → ts ≡ rs → t ∷ ts ≡ r ∷ rs
+    both t ts r rs e f = cc
+
+    at : c * 2 ^ suc h ≡ 2 * c * 2 ^ h → ((c e : ℕ) (ts : List ℕ) → Follow (c * 2 ^ h) e ts → Fall h ts → ts ≡ balanced_within h (c * 2 ^ h) (e - c * 2 ^ h))
+        → Follow (2 * c * 2 ^ h) e (t ∷ ts) → (height_of t < h) ⊎ (height_of t ≡ h)
+        → t ∷ ts ≡ balanced_within (suc h) (c * 2 ^ suc h) (e - c * 2 ^ suc h)
+    at start lower follow' which = rw start (⊎_elim
+        (λ (low : height_of t < h).
+        let fall' : Fall h (t ∷ ts) = (low, fall.1) in
+        let bound = fall_bound h (2 * c * 2 ^ h) e (t ∷ ts) fall' follow' in
+        let small : e - 2 * c * 2 ^ h < 2 ^ h = let b = bound.0 in let d = bound.1 in omega (arith, b, d) in
+        lower (2 * c) e (t ∷ ts) follow' fall' ∙ rw (lt-leb (2 ^ h) (e - 2 * c * 2 ^ h) small) refl)
+        (λ (same : height_of t ≡ h).
+        let number : t ≡ node_over (2 * c * 2 ^ h) (2 ^ h) = number_from t (2 * c * 2 ^ h) h follow'.0 same in
+        let width : 2 ^ height_of t ≡ 2 ^ h = ap (λ i. 2 ^ i) same in
+        let ends : end_of t ≡ (2 * c + 1) * 2 ^ h = let here = follow'.0 in let last = end_is t in omega (arith, here, last, width) in
+        let rest_follow : Follow ((2 * c + 1) * 2 ^ h) e ts = rw ends at follow'.1 in
+        let rest_fall : Fall h ts = rw same at fall.1 in
+        let bound = fall_bound h ((2 * c + 1) * 2 ^ h) e ts rest_fall rest_follow in
+        let big : 2 ^ h ≤ e - 2 * c * 2 ^ h = let b = bound.0 in omega (arith, b) in
+        let middle : 2 * c * 2 ^ h + 2 ^ h ≡ (2 * c + 1) * 2 ^ h = omega arith in
+        let count : e - 2 * c * 2 ^ h - 2 ^ h ≡ e - (2 * c + 1) * 2 ^ h = omega arith in
+        rw (le-leb (2 ^ h) (e - 2 * c * 2 ^ h) big, middle, count) (both t ts _ _ number (lower (2 * c + 1) e ts rest_follow rest_fall)))
+        which)
+
+pub balanced_roots-only : (n h : ℕ) (ts : List ℕ) → Follow 0 n ts → Fall h ts → ts ≡ balanced_roots n
+balanced_roots-only n h ts follow fall =
+    let zero_start : 0 * 2 ^ h ≡ 0 = omega arith in
+    let follow' : Follow (0 * 2 ^ h) n ts = rw zero_start follow in
+    let bound = fall_bound h 0 n ts fall follow in
+    let all : n - 0 ≡ n = omega arith in
+    let less : n < 2 ^ h = let b = bound.1 in omega (arith, b) in
+    only_row h 0 n ts follow' fall ∙ rw (zero_start, all) (balanced_at h n 0 n less (below_pow n))

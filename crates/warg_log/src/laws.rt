@@ -78,10 +78,11 @@ pub fn children_of_parent()
 {}
 
 /// The balanced roots of a length: their leaves follow one another from the first to the last one, and
-/// their heights fall.
+/// their heights fall. No other nodes are so.
 pub fn balanced_in_a_row()
     ensures follow { (n : ℕ) → Follow 0 n (balanced_roots n) }
     ensures fall { (n : ℕ) → Fall n (balanced_roots n) }
+    ensures only { (n h : ℕ) (ts : List ℕ) → Follow 0 n ts → Fall h ts → ts ≡ balanced_roots n }
 {}
 
 /// The balanced root of a range of a power of two of leaves is the node over it.
