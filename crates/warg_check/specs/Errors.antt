@@ -4,7 +4,7 @@ use Rattle.warg_check.specs.States.{State, FindsFull}
 use Rattle.warg_check.specs.declared.program.RunError.{RunError}
 use Rattle.warg_check.specs.declared.program.RunError.TheVariants.{Read, Write, Memory, Full}
 
--- Want of memory, or that there was no room.
+-- Out of memory, or that there was no room.
 abbrev pub IsRefusal : Type 0 → RunError → Type 0
 IsRefusal full Read = ⊥
 IsRefusal full Write = ⊥

@@ -25,7 +25,7 @@ abbrev pub Answers : Result Bool CheckError → Result Bool CheckError → Type 
 Answers (Ok holds) verdict = verdict ≡ Ok holds
 Answers (Err e) verdict = (e ≡ fault.Memory) ⊎ (verdict ≡ Err e)
 
--- A fault of bytes, or want of memory, as what a check answers.
+-- A fault of bytes, or out of memory, as what a check answers.
 abbrev pub check_fault : DecodeError → CheckError
 check_fault decoding.Memory = fault.Memory
 check_fault e = fault.Decode e

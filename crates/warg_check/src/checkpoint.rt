@@ -29,10 +29,7 @@ pub fn check_entry<D: SupportedDigest, V: VisitBytes, A: Allocator + Copy>(
     ensures memory { result ≢ Err (CheckError.Decode decoding.Memory) }
     ensures wire { result ≢ Err (CheckError.Decode (decoding.Wire wire.Memory)) }
 {
-    let bundle = match ProofBundle::<D, V, A>::decode(alloc, bytes) {
-        Ok(bundle) => bundle,
-        Err(fault) => return Err(CheckError::from(fault)),
-    };
+    let bundle = ProofBundle::<D, V, A>::decode(alloc, bytes)?;
     match bundle.inclusion_proof(at) {
         Some(proof) => Ok(is_entry(&bundle, &proof, index, value, checkpoint)),
         None => Err(CheckError::NoSuchProof),
@@ -83,10 +80,7 @@ pub fn check_growth<D: SupportedDigest, A: Allocator + Copy>(
     ensures memory { result ≢ Err (CheckError.Decode decoding.Memory) }
     ensures wire { result ≢ Err (CheckError.Decode (decoding.Wire wire.Memory)) }
 {
-    let bundle = match ProofBundle::<D, (), A>::decode(alloc, bytes) {
-        Ok(bundle) => bundle,
-        Err(fault) => return Err(CheckError::from(fault)),
-    };
+    let bundle = ProofBundle::<D, (), A>::decode(alloc, bytes)?;
     match bundle.consistency_proof(at) {
         Some(proof) => Ok(is_growth(&bundle, &proof, old, new)),
         None => Err(CheckError::NoSuchProof),

@@ -52,10 +52,7 @@ pub fn check_inclusion<D: SupportedDigest, V: VisitBytes, A: Allocator + Copy>(
     ensures memory { result ≢ Err (CheckError.Decode decoding.Memory) }
     ensures wire { result ≢ Err (CheckError.Decode (decoding.Wire wire.Memory)) }
 {
-    let bundle = match ProofBundle::<D, V, A>::decode(alloc, bytes) {
-        Ok(bundle) => bundle,
-        Err(fault) => return Err(CheckError::from(fault)),
-    };
+    let bundle = ProofBundle::<D, V, A>::decode(alloc, bytes)?;
     match bundle.inclusion_proof(at) {
         Some(proof) => Ok(is_included(&bundle, &proof, value, root)),
         None => Err(CheckError::NoSuchProof),
@@ -94,10 +91,7 @@ pub fn check_consistency<D: SupportedDigest, A: Allocator + Copy>(
     ensures memory { result ≢ Err (CheckError.Decode decoding.Memory) }
     ensures wire { result ≢ Err (CheckError.Decode (decoding.Wire wire.Memory)) }
 {
-    let bundle = match ProofBundle::<D, (), A>::decode(alloc, bytes) {
-        Ok(bundle) => bundle,
-        Err(fault) => return Err(CheckError::from(fault)),
-    };
+    let bundle = ProofBundle::<D, (), A>::decode(alloc, bytes)?;
     match bundle.consistency_proof(at) {
         Some(proof) => Ok(is_extended(&bundle, &proof, old, new)),
         None => Err(CheckError::NoSuchProof),
@@ -136,10 +130,7 @@ pub fn check_key<D: SupportedDigest, K: VisitBytes, V: VisitBytes, A: Allocator 
     ensures memory { result ≢ Err (CheckError.Decode decoding.Memory) }
     ensures wire { result ≢ Err (CheckError.Decode (decoding.Wire wire.Memory)) }
 {
-    let bundle = match MapProofBundle::<D, K, V, A>::decode(alloc, bytes) {
-        Ok(bundle) => bundle,
-        Err(fault) => return Err(CheckError::from(fault)),
-    };
+    let bundle = MapProofBundle::<D, K, V, A>::decode(alloc, bytes)?;
     let proofs = bundle.unbundle();
     match proofs.as_slice().get(at) {
         Some(proof) => Ok(proof.evaluate(key, value) == *root),
@@ -162,10 +153,7 @@ pub fn check_absent<D: SupportedDigest, K: VisitBytes, A: Allocator + Copy>(
     ensures memory { result ≢ Err (CheckError.Decode decoding.Memory) }
     ensures wire { result ≢ Err (CheckError.Decode (decoding.Wire wire.Memory)) }
 {
-    let bundle = match MapProofBundle::<D, K, (), A>::decode(alloc, bytes) {
-        Ok(bundle) => bundle,
-        Err(fault) => return Err(CheckError::from(fault)),
-    };
+    let bundle = MapProofBundle::<D, K, (), A>::decode(alloc, bytes)?;
     let (_proofs, absences) = bundle.unbundle_all();
     match absences.as_slice().get(at) {
         Some(absence) => Ok(absence.evaluate_absent(key) == *root),

@@ -16,6 +16,7 @@ pub mod MetLemmas
 pub mod SparseLemmas
 pub mod StackLemmas
 pub mod BundleLemmas
+pub mod EqualLemmas
 pub mod NeededLemmas
 pub mod SameLemmas
 pub mod ImageLemmas

@@ -1,5 +1,7 @@
 -- Log bundles: their messages, and what messages and bytes are read as.
-use Rattle.std.specs.Prelude.{ℕ, suc, ◌^◌, ◌<◌, nat_le, if◌then◌else◌, List, [], ◌∷◌, map, Option, Some, None, Result}
+use Rattle.std.specs.Prelude.{ℕ, suc, ◌^◌, ◌<◌, Bool, nat_eq, nat_le, if◌then◌else◌, List, [], ◌∷◌, map, Option, Some, None, Result}
+use Rattle.std.specs.Ordering.{on, eq_of_both}
+use Rattle.std.specs.Cmp.Lexicographic.{pointwise}
 use Rattle.std.specs.List.{AllByRecursion}
 use Rattle.warg_protobuf.specs.HashEntry.{Entry}
 use Rattle.warg_protobuf.specs.LogProofBundle.{LogBundle, log_schema}
@@ -62,3 +64,19 @@ bundle_in m = unless (entries_fault 0 m.hashes) (record {
 -- of its contents.
 abbrev pub bundle_of : List ℕ → Result Bundle DecodeError
 bundle_of bytes = held_in bundle_in (message_of log_schema bytes)
+
+-- Whether two nodes have one number.
+abbrev pub same_node : Node → Node → Bool
+same_node = on (λ (node : Node). node.0) nat_eq
+
+-- Whether two pairs have one node and one digest.
+abbrev pub same_pair : Node × List ℕ → Node × List ℕ → Bool
+same_pair = eq_of_both (on (λ (p : Node × List ℕ). p.0) same_node) (on (λ (p : Node × List ℕ). p.1) (pointwise nat_eq))
+
+-- Whether two bundles have one length, and the same old lengths, nodes and digests, each in order.
+abbrev pub same_bundle : Bundle → Bundle → Bool
+same_bundle = eq_of_both
+    (eq_of_both
+    (eq_of_both (on (λ (b : Bundle). b.log_length) nat_eq) (on (λ (b : Bundle). b.consistent_lengths) (pointwise nat_eq)))
+    (on (λ (b : Bundle). b.included_nodes) (pointwise same_node)))
+    (on (λ (b : Bundle). b.hashes) (pointwise same_pair))

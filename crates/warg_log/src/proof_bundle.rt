@@ -10,7 +10,7 @@ ghost use Rattle.warg_log.specs.Cut.{cut_root};
 ghost use Rattle.warg_log.specs.Consistency.{consistency};
 ghost use Rattle.warg_log.specs.Decoding.{Reads};
 ghost use Rattle.warg_log.specs.Bundling.{bundle_length, needed_by, LacksNeeded};
-ghost use Rattle.warg_log.specs.Bundles.{bundle_message, bundle_in, bundle_of, NodesFit, entry_of, pair_of, entries_fault};
+ghost use Rattle.warg_log.specs.Bundles.{bundle_message, bundle_in, bundle_of, NodesFit, entry_of, pair_of, entries_fault, same_bundle};
 
 use crate::consistency::ConsistencyProof;
 use crate::error::{BundleError, DecodeError, EncodeError};
@@ -46,6 +46,45 @@ impl<D: SupportedDigest, V: VisitBytes, A: Allocator> Model for ProofBundle<D, V
     ghost view = { λ b. record { log_length = b.log_length; consistent_lengths = b.consistent_lengths.items; included_nodes = b.included_nodes.items; hashes = b.hashes } };
 
     ghost invariant = { λ b. IsAscending b.hashes };
+}
+
+/// By the length, the old lengths, the nodes and the digests, each in order.
+impl<D: SupportedDigest, V: VisitBytes, A: Allocator> PartialEq for ProofBundle<D, V, A> {
+    ghost use Rattle.std.specs.Prelude.{◌≡◌, ◌↔◌, IsTrue};
+    ghost use Rattle.std.specs.Cmp.Rules.{comparing};
+    ghost use Rattle.std.proofs.Common.{rules};
+    ghost use Rattle.warg_log.specs.Bundles.{same_bundle};
+
+    ghost eq = { same_bundle };
+
+    ghost laws = { Prim.search (comparing, rules) depth 9 };
+
+    fn eq(&self, other: &ProofBundle<D, V, A>) -> bool
+        ensures value { result ≡ same_bundle self.now other.now }
+        ensures exact { IsTrue result ↔ (self.now ≡ other.now) }
+    {
+        same_parts(self, other)
+    }
+}
+
+impl<D: SupportedDigest, V: VisitBytes, A: Allocator> Eq for ProofBundle<D, V, A> {
+    ghost use Rattle.std.specs.Cmp.Rules.{comparing};
+    ghost use Rattle.std.proofs.Common.{rules};
+
+    ghost laws = { Prim.search (comparing, rules) depth 9 };
+}
+
+// Whether two bundles have the same length, old lengths, nodes and digests.
+fn same_parts<D: SupportedDigest, V: VisitBytes, A: Allocator>(
+    first: &ProofBundle<D, V, A>,
+    second: &ProofBundle<D, V, A>,
+) -> bool
+    ensures { result ≡ same_bundle first.now second.now }
+{
+    first.log_length == second.log_length
+        && first.consistent_lengths == second.consistent_lengths
+        && first.included_nodes == second.included_nodes
+        && first.hashes.pairs() == second.hashes.pairs()
 }
 
 impl<D: SupportedDigest, V: VisitBytes, A: Allocator> ProofBundle<D, V, A> {

@@ -17,3 +17,4 @@ pub mod BundleLemmas
 pub mod Last
 pub mod Prefixes
 pub mod DigestBits
+pub mod EqualLemmas

@@ -1,6 +1,9 @@
 -- What messages and bytes of map proofs are read as. A proof's message is the list of its peers, and a bundle's
 -- that of its proofs and absences, so the value that a message holds is the message itself, if it has no fault.
-use Rattle.std.specs.Prelude.{ℕ, nat_le, if◌then◌else◌, List, length, Option, Some, None, Result}
+use Rattle.std.specs.Prelude.{ℕ, Bool, nat_eq, nat_le, if◌then◌else◌, List, length, Option, Some, None, Result}
+use Rattle.std.specs.Option.{option_eq}
+use Rattle.std.specs.Ordering.{on, eq_of_both}
+use Rattle.std.specs.Cmp.Lexicographic.{pointwise}
 use Rattle.warg_protobuf.specs.MapProofBundle.{MapBundle, map_schema}
 use Rattle.warg_protobuf.specs.Schema.{message_of}
 use Rattle.warg_log.specs.declared.error.DecodeError.{DecodeError}
@@ -36,3 +39,11 @@ bundle_in b = unless (bundle_fault b) b
 -- its contents.
 abbrev pub bundle_of : List ℕ → Result MapBundle DecodeError
 bundle_of bytes = held_in bundle_in (message_of map_schema bytes)
+
+-- Whether two proofs have the same peers.
+abbrev pub same_peers : Peers → Peers → Bool
+same_peers = pointwise (option_eq (pointwise nat_eq))
+
+-- Whether two bundles have the same proofs and the same absences, each in order.
+abbrev pub same_bundle : MapBundle → MapBundle → Bool
+same_bundle = eq_of_both (on (λ (b : MapBundle). b.proofs) (pointwise same_peers)) (on (λ (b : MapBundle). b.absences) (pointwise same_peers))

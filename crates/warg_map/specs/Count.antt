@@ -29,6 +29,6 @@ nodes (suc k) m run =
     (cond (is_bare (after true m)) (nodes k (after false m) true + cond run 0 1)
     (1 + (nodes k (after false m) false + nodes k (after true m) false))))
 
--- The nodes of a map's tree: one for the map of nothing, two for a lone key, and else those of 256 levels.
+-- The nodes of a map's tree: one for the empty map, two for a lone key, and else those of 256 levels.
 abbrev pub node_count : SparseMap → ℕ
 node_count m = cond (nat_eq (len m) 0) 1 (cond (nat_eq (len m) 1) 2 (nodes 256 m false))

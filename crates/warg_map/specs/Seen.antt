@@ -41,7 +41,7 @@ IsLevel (Empty n) = n ≤ 256
 abbrev pub IsBelow : ℕ → ℕ × SparseMap → Type 0
 IsBelow len below = Splits below.1 ⊎ ((len ≡ 1) × (below.0 ≡ 255) × IsLone below.1)
 
--- The form of the tree: a fork holds a key on each side; a stem has bits, and below them what may stand there; and nothing stands for nothing but the whole map of nothing.
+-- The form of the tree: a fork holds a key on each side; a stem has bits, and below them what may stand there; and an empty node stands for the whole empty map alone.
 abbrev pub IsFormed : {D A : _} → Node D A → Type 0
 IsFormed (Leaf h) = Unit {0}
 IsFormed (Fork f) = HoldsKey f.value.left.1 × HoldsKey f.value.right.1

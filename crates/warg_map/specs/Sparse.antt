@@ -1,7 +1,7 @@
 -- The plain sparse Merkle tree over a finite map from bit lists to leaf digests.
-use Rattle.std.specs.Prelude.{◌≡◌, ℕ, zero, suc, Bool, true, false, List, [], ◌∷◌, ◌++◌, map, Option, unwrap_or}
+use Rattle.std.specs.Prelude.{◌≡◌, ℕ, zero, suc, Bool, true, false, List, [], ◌∷◌, ◌++◌, length, map, Option, IsTrue, unwrap_or}
 use Rattle.std.specs.List.{AllPairs}
-use Rattle.std.specs.FinMap.{FinMap, get, insert, empty, code}
+use Rattle.std.specs.FinMap.{FinMap, get, contains_key, insert, empty, code}
 use Rattle.std.specs.Ordering.{bool_cmp}
 use Rattle.std.specs.Cmp.Lexicographic.{slice_cmp}
 use Rattle.std.specs.Coded.{Coded, coded_list, coded_ℕ, coded_bool}
@@ -26,6 +26,10 @@ unfoldable pub root_of : (List ℕ → List ℕ) → ℕ → (List Bool → Opti
 root_of H zero held = unwrap_or (held []) (empty_root H 0)
 root_of H (suc k) held = H (1 ∷ (root_of H k (λ bits. held (false ∷ bits)) ++ root_of H k (λ bits. held (true ∷ bits))))
 
+-- All bits that a map holds are as many as its levels.
+abbrev pub HasLevels : ℕ → SparseMap → Type 0
+HasLevels k m = (bits : List Bool) → IsTrue (contains_key m bits) → length bits ≡ k
+
 -- The plain sparse root of k levels of a map.
 abbrev pub sparse_root : (List ℕ → List ℕ) → ℕ → SparseMap → List ℕ
 sparse_root H k m = root_of H k (get m)
@@ -43,7 +47,7 @@ unfoldable pub inserted : (List ℕ → List ℕ) → SparseMap → List (List �
 inserted H m [] = m
 inserted H m (e ∷ es) = inserted H (insert m (key_bits H e.0) (leaf_digest H e.1)) es
 
--- The map of insertions, made in order into the map of nothing.
+-- The map of insertions, made in order into the empty map.
 abbrev pub map_of : (List ℕ → List ℕ) → List (List ℕ × List ℕ) → SparseMap
 map_of H es = inserted H empty es
 

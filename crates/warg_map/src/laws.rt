@@ -9,10 +9,14 @@ ghost use Rattle.std.specs.Cmp.Lexicographic.{slice_cmp};
 ghost use Rattle.warg_crypto.specs.Digests.{IsDigest};
 ghost use Rattle.warg_crypto.specs.EmptyTrees.{empty_root};
 ghost use Rattle.warg_map.specs.Bits.{key_bits};
-ghost use Rattle.warg_map.specs.Sparse.{SparseMap, bits_cmp, root_of, sparse_root, leaf_at, leaf_digest, inserted, map_of, HasDistinctKeys};
+ghost use Rattle.warg_map.specs.Sparse.{SparseMap, HasLevels, bits_cmp, root_of, sparse_root, leaf_at, leaf_digest, inserted, map_of, HasDistinctKeys};
 ghost use Rattle.warg_map.specs.Last.{last_under};
 ghost use Rattle.warg_map.specs.ProofValue.{proof_value};
 ghost use Rattle.warg_map.specs.Peers.{Proves, ProvesAbsent};
+
+use crate::map::Map;
+use std::alloc::Allocator;
+use warg_crypto::SupportedDigest;
 
 /// Insertions of keys of distinct digests give one map in any order, and so one root; and one map has one proof of each
 /// key ([`one_proof`]).
@@ -35,6 +39,13 @@ pub fn one_absence_proof()
 pub fn one_root()
     ensures { (H : List ℕ → List ℕ) (m n : SparseMap) → ((bits : List Bool) → length bits ≡ 256 → leaf_at H m bits ≡ leaf_at H n bits) → sparse_root H 256 m ≡ sparse_root H 256 n }
 {}
+
+/// All bits that a map holds are 256.
+pub fn held_bits<D: SupportedDigest, K, V, A: Allocator>(map: &Map<D, K, V, A>)
+    ensures { HasLevels 256 map.now }
+{
+    map.levels();
+}
 
 /// A key has 256 bits.
 pub fn all_bits()

@@ -1,6 +1,6 @@
 //! An immutable map as a sparse Merkle tree of 256 levels, with proofs of presence and absence.
 //!
-//! A [`Map`] is grown from the map of nothing. `insert` and `extend` give a new map, which shares with the old one what
+//! A [`Map`] is grown from the empty map. `insert` and `extend` give a new map, which shares with the old one what
 //! they don't change. `prove` gives a [`Proof`] of what is held under a key, and `prove_absence` one that nothing is. Who
 //! has the root alone evaluates a proof by `evaluate` or `evaluate_absent`, and compares.
 //!

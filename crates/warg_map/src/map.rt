@@ -1,11 +1,11 @@
 //! The map.
 
-ghost use Rattle.std.specs.Prelude.{◌≡◌, ℕ, List, ◌+◌, ◌*◌, ◌<◌, ◌≤◌, ◌↔◌, ◌∷◌, ◌++◌, [], IfOk, IfSome, IsSome, IsTrue, MatchOption, Some, false};
+ghost use Rattle.std.specs.Prelude.{◌≡◌, ◌≢◌, ℕ, List, Option, ◌+◌, ◌*◌, ◌<◌, ◌≤◌, ◌↔◌, ◌∷◌, ◌++◌, [], IfOk, IsOk, IfSome, IsSome, IsTrue, MatchOption, Some, None, Ok, Err, false};
 ghost use Rattle.std.specs.FinMap as map;
 ghost use Rattle.std.specs.Iterator.{IsFinite, Drains, Yields};
 ghost use Rattle.warg_map.specs.Bits.{key_bits};
 ghost use Rattle.warg_crypto.specs.EmptyTrees.{empty_root};
-ghost use Rattle.warg_map.specs.Sparse.{sparse_root, leaf_at, leaf_digest, inserted, pair_bytes};
+ghost use Rattle.warg_map.specs.Sparse.{HasLevels, sparse_root, leaf_at, leaf_digest, inserted, pair_bytes};
 ghost use Rattle.warg_map.specs.ProofValue.{proof_value};
 ghost use Rattle.warg_map.specs.Peers.{Proves, ProvesAbsent};
 ghost use Rattle.warg_map.specs.Count.{node_count};
@@ -65,7 +65,7 @@ pub struct Map<D: SupportedDigest, K, V, A: Allocator = Global> {
 impl<D: SupportedDigest, K, V, A: Allocator> Model for Map<D, K, V, A> {
     ghost use Rattle.std.specs.Prelude.{◌≡◌};
     ghost use Rattle.std.specs.FinMap.{len};
-    ghost use Rattle.warg_map.specs.Sparse.{SparseMap, sparse_map_code};
+    ghost use Rattle.warg_map.specs.Sparse.{SparseMap, sparse_map_code, HasLevels};
 
     ghost Value = { SparseMap };
 
@@ -73,7 +73,7 @@ impl<D: SupportedDigest, K, V, A: Allocator> Model for Map<D, K, V, A> {
 
     ghost view = { λ m. m.link.1 };
 
-    ghost invariant = { λ m. (m.link.0 ≡ 256) × (m.count ≡ len m.link.1) };
+    ghost invariant = { λ m. (m.link.0 ≡ 256) × (m.count ≡ len m.link.1) × HasLevels 256 m.link.1 };
 }
 
 // By hand, so that a caller who drops a map sees a call and not the tree.
@@ -162,6 +162,13 @@ impl<D: SupportedDigest, K, V, A: Allocator> Map<D, K, V, A> {
         self.count
     }
 
+    // All bits that are held are 256.
+    pub(crate) fn levels(&self)
+        ensures { HasLevels 256 self.now }
+    {
+        let _link = &self.link;
+    }
+
     /// Whether no key digest is held.
     pub fn is_empty(&self) -> bool
         ensures { IsTrue result ↔ (map.len self.now ≡ 0) }
@@ -169,7 +176,7 @@ impl<D: SupportedDigest, K, V, A: Allocator> Map<D, K, V, A> {
         self.len() == 0
     }
 
-    /// The number of nodes that the tree is made of, a shared one counted at each place: 1 for the map of nothing, 2 for
+    /// The number of nodes that the tree is made of, a shared one counted at each place: 1 for the empty map, 2 for
     /// a lone key, and at most `3 * n - 2` for `n` of two or more key digests.
     pub fn node_count(&self) -> u128
         ensures exact { result ≡ node_count self.now }
@@ -190,9 +197,10 @@ impl<D: SupportedDigest, K: VisitBytes + Drop, V: VisitBytes + Drop, A: Allocato
     V,
     A,
 > {
-    /// The map of nothing, which keeps `alloc` for its nodes and proofs.
+    /// The empty map, which keeps `alloc` for its nodes and proofs. It takes no memory, and is never refused.
     pub fn default(alloc: A) -> Result<Map<D, K, V, A>, AllocError>
-        ensures { IfOk result (λ m. m ≡ map.empty) }
+        ensures empty { IfOk result (λ m. m ≡ map.empty) }
+        ensures granted { IsOk result }
     {
         Ok(Map {
             link: Link::new(Node::Empty(256)),
@@ -203,7 +211,7 @@ impl<D: SupportedDigest, K: VisitBytes + Drop, V: VisitBytes + Drop, A: Allocato
         })
     }
 
-    /// The proof of what is held under `key`, or `None` exactly where its digest isn't held.
+    /// The proof of what is held under `key`, or `None` exactly where its digest isn't held, which takes no memory.
     ///
     /// The proof has one peer more than the most bits that the key's digest shares with another that is held, and one for
     /// a lone key.
@@ -215,6 +223,8 @@ impl<D: SupportedDigest, K: VisitBytes + Drop, V: VisitBytes + Drop, A: Allocato
             MatchOption o
             (map.contains_key self.now (key_bits D.digest (K.bytes key)) ≡ false)
             (λ p. Proves D.digest 256 self.now (key_bits D.digest (K.bytes key)) p)) }
+
+        ensures none { map.contains_key self.now (key_bits D.digest (K.bytes key)) ≡ false → result ≡ Ok None }
 
         // From the leaf digest that is held the proof leads to the root.
         ensures honest { IfOk result (λ o. IfSome o (λ p.
@@ -233,7 +243,8 @@ impl<D: SupportedDigest, K: VisitBytes + Drop, V: VisitBytes + Drop, A: Allocato
         Ok(Some(proof))
     }
 
-    /// The proof that the leaf digest under `key` is that of an empty leaf, or `None` exactly where it isn't.
+    /// The proof that the leaf digest under `key` is that of an empty leaf, or `None` exactly where it isn't, which takes
+    /// no memory.
     ///
     /// For a key whose digest isn't held the proof has one peer more than the most bits that this digest shares with one
     /// that is held, and none in the empty map; a peer is `None` where its subtree holds no key. For one that is held
@@ -246,6 +257,7 @@ impl<D: SupportedDigest, K: VisitBytes + Drop, V: VisitBytes + Drop, A: Allocato
             MatchOption (map.get self.now (key_bits D.digest (K.bytes key)))
             (ProvesAbsent D.digest self.now (key_bits D.digest (K.bytes key)) p)
             (λ _. Proves D.digest 256 self.now (key_bits D.digest (K.bytes key)) p))) }
+        ensures none { leaf_at D.digest self.now (key_bits D.digest (K.bytes key)) ≢ empty_root D.digest 0 → result ≡ Ok None }
 
         // From an empty leaf the proof leads to the root.
         ensures honest { IfOk result (λ o. IfSome o (λ p.
@@ -294,11 +306,11 @@ impl<D: SupportedDigest, K: VisitBytes + Drop, V: VisitBytes + Drop, A: Allocato
 
     /// The map with all the pairs of an iterator inserted, in order.
     ///
-    /// `Full` comes where one of them is a new key digest at a `len` of `usize::MAX`. After a refusal the rest of the
-    /// iterator is dropped.
+    /// `Full` comes where one of them is a new key digest at a `len` of `usize::MAX`: before anything grows where it is
+    /// the first. After a refusal the rest of the iterator is dropped.
     pub fn extend<I: Iterator<Item = (K, V)> + Drop>(
         &self,
-        iter: I,
+        mut iter: I,
     ) -> Result<Map<D, K, V, A>, MapError>
         requires can { I.can_next iter }
         requires ends { IsFinite (I.remaining iter) }
@@ -307,11 +319,40 @@ impl<D: SupportedDigest, K: VisitBytes + Drop, V: VisitBytes + Drop, A: Allocato
         ensures full { result ≡ Err MapError.Full → ((es : List (K × V)) × (e : K × V) × (rest : I) × Yields I.next_gives iter (es ++ e ∷ []) rest
             × (map.len (inserted D.digest self.now (pair_bytes K.bytes V.bytes es)) ≡ usize.MAX)
             × (map.contains_key (inserted D.digest self.now (pair_bytes K.bytes V.bytes es)) (key_bits D.digest (K.bytes e.0)) ≡ false)) }
+        // Where a map is the answer, no pair was one too many.
+        ensures fits { IfOk result (λ m. map.len m ≤ usize.MAX) }
+
+        // Where the map is full, and the first pair, whichever it is, is of a new key digest, memory isn't asked for.
+        ensures at_once { map.len self.now ≡ usize.MAX
+            → ((first : Option (K × V)) (rest : I) → I.next_gives iter first rest → MatchOption first ⊥ (λ e. map.contains_key self.now (key_bits D.digest (K.bytes e.0)) ≡ false))
+            → result ≡ Err MapError.Full }
     {
-        let mut all = self.clone()?;
+        let _len = self.len();
+        let Some((key, val)) = iter.next() else {
+            return Ok(self.clone()?);
+        };
+        self.insert(key, val)?.extended(iter)
+    }
+
+    // This map with all the pairs of an iterator inserted, in order.
+    fn extended<I: Iterator<Item = (K, V)> + Drop>(
+        self,
+        iter: I,
+    ) -> Result<Map<D, K, V, A>, MapError>
+        requires can { I.can_next iter }
+        requires ends { IsFinite (I.remaining iter) }
+        ensures ok { IfOk result (λ m. ((es : List (K × V)) × Drains I.next_gives iter es
+            × (m ≡ inserted D.digest self (pair_bytes K.bytes V.bytes es)))) }
+        ensures full { result ≡ Err MapError.Full → ((es : List (K × V)) × (e : K × V) × (rest : I) × Yields I.next_gives iter (es ++ e ∷ []) rest
+            × (map.len (inserted D.digest self (pair_bytes K.bytes V.bytes es)) ≡ usize.MAX)
+            × (map.contains_key (inserted D.digest self (pair_bytes K.bytes V.bytes es)) (key_bits D.digest (K.bytes e.0)) ≡ false)) }
+        ensures fits { IfOk result (λ m. map.len m ≤ usize.MAX) }
+    {
+        let mut all = self;
         for (key, val) in iter {
             all = all.insert(key, val)?;
         }
+        let _len = all.len();
         Ok(all)
     }
 }

@@ -19,7 +19,7 @@ use warg_crypto::{Hash, SupportedDigest, empty_tree_hash};
 /// A node of the tree, with what stands below it.
 ///
 /// The form follows from the map: a fork holds a key on each side, below a stem stands a fork, a lone key is a stem of
-/// one bit over a singleton, and `Empty` stands alone, as the map of nothing. What a variant has is shared, so that a
+/// one bit over a singleton, and `Empty` stands alone, as the empty map. What a variant has is shared, so that a
 /// node takes no more than its own kind.
 #[cycle(tree)]
 #[derive(Drop)]
@@ -206,12 +206,12 @@ impl<D: SupportedDigest, A: Allocator> Node<D, A> {
 }
 
 impl<D: SupportedDigest, A: Allocator + Copy> Node<D, A> {
-    ghost use Rattle.std.specs.Prelude.{MatchOption, false, length, IfSome};
+    ghost use Rattle.std.specs.Prelude.{MatchOption, None, Ok, false, length, IfSome};
     ghost use Rattle.warg_map.specs.Path.{bits_left};
     ghost use Rattle.warg_map.specs.Peers.{Proves};
     ghost use Rattle.warg_map.specs.Seen.{height_of, held_by, IsWellFormed};
 
-    /// The proof that the bits that the path has left are held, or `None` exactly where they aren't.
+    /// The proof that the bits that the path has left are held, or `None` exactly where they aren't, which takes no memory.
     pub fn prove<K, V>(
         &self,
         alloc: A,
@@ -223,6 +223,7 @@ impl<D: SupportedDigest, A: Allocator + Copy> Node<D, A> {
             MatchOption o
             (map.contains_key (held_by self.now) (bits_left path.entry) ≡ false)
             (λ p. Proves D.digest (height_of self.now) (held_by self.now) (bits_left path.entry) p)) }
+        ensures none { map.contains_key (held_by self.now) (bits_left path.entry) ≡ false → result ≡ Ok None }
         ensures few { IfOk result (λ o. IfSome o (λ p. length p ≤ height_of self.now)) }
     {
         match self {

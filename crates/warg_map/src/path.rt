@@ -202,6 +202,3 @@ impl<D> Iterator for ReversePath<D> {
         Some(side_at(&self.hash, self.index))
     }
 }
-
-#[cfg(test)]
-mod tests;

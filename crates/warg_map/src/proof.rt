@@ -6,6 +6,7 @@ ghost use Rattle.warg_map.specs.Bits.{key_bits, last_bits};
 ghost use Rattle.warg_map.specs.Sparse.{leaf_digest};
 ghost use Rattle.warg_map.specs.ProofValue.{peer_of, proof_value};
 ghost use Rattle.warg_map.specs.Peers.{empty_peers};
+ghost use Rattle.warg_map.specs.Bundles.{same_peers};
 
 mod message;
 
@@ -35,6 +36,39 @@ impl<D, K, V, A: Allocator> Model for Proof<D, K, V, A> {
     ghost view = { λ p. p.peers.items };
 
     ghost invariant = { λ p. length p.peers.items ≤ 256 };
+}
+
+/// By the peers alone.
+impl<D, K, V, A: Allocator> PartialEq for Proof<D, K, V, A> {
+    ghost use Rattle.std.specs.Prelude.{◌≡◌, ◌↔◌, IsTrue};
+    ghost use Rattle.std.specs.Cmp.Rules.{comparing};
+    ghost use Rattle.std.proofs.Common.{rules};
+    ghost use Rattle.warg_map.specs.Bundles.{same_peers};
+
+    ghost eq = { same_peers };
+
+    ghost laws = { Prim.search (comparing, rules) };
+
+    fn eq(&self, other: &Proof<D, K, V, A>) -> bool
+        ensures value { result ≡ same_peers self.now other.now }
+        ensures exact { IsTrue result ↔ (self.now ≡ other.now) }
+    {
+        are_same(self.peers(), other.peers())
+    }
+}
+
+// Whether these are the same peers.
+fn are_same<D>(first: &[Option<Hash<D>>], second: &[Option<Hash<D>>]) -> bool
+    ensures { result ≡ same_peers first.now second.now }
+{
+    first == second
+}
+
+impl<D, K, V, A: Allocator> Eq for Proof<D, K, V, A> {
+    ghost use Rattle.std.specs.Cmp.Rules.{comparing};
+    ghost use Rattle.std.proofs.Common.{rules};
+
+    ghost laws = { Prim.search (comparing, rules) };
 }
 
 impl<D, K, V, A: Allocator> Proof<D, K, V, A> {

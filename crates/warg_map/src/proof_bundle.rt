@@ -5,7 +5,7 @@ ghost use Rattle.warg_protobuf.specs.declared.error.WireError.TheVariants as wir
 ghost use Rattle.warg_protobuf.specs.MapInclusionProof.{proof_view};
 ghost use Rattle.warg_protobuf.specs.MapProofBundle.{map_view, map_bytes};
 ghost use Rattle.warg_log.specs.Decoding.{Reads, first_fault};
-ghost use Rattle.warg_map.specs.Bundles.{proof_fault, bundle_in, bundle_of};
+ghost use Rattle.warg_map.specs.Bundles.{proof_fault, bundle_in, bundle_of, same_bundle};
 
 use crate::proof::Proof;
 use std::alloc::{AllocError, Allocator, Global};
@@ -27,6 +27,42 @@ impl<D, K, V, A: Allocator> Model for ProofBundle<D, K, V, A> {
     ghost Value = { MapBundle };
 
     ghost view = { λ b. record { proofs = b.proofs.items; absences = b.absences.items } };
+}
+
+/// By the proofs and the absences, each in order.
+impl<D, K, V, A: Allocator> PartialEq for ProofBundle<D, K, V, A> {
+    ghost use Rattle.std.specs.Prelude.{◌≡◌, ◌↔◌, IsTrue};
+    ghost use Rattle.std.specs.Cmp.Rules.{comparing};
+    ghost use Rattle.std.proofs.Common.{rules};
+    ghost use Rattle.warg_map.specs.Bundles.{same_bundle};
+
+    ghost eq = { same_bundle };
+
+    ghost laws = { Prim.search (comparing, rules) depth 9 };
+
+    fn eq(&self, other: &ProofBundle<D, K, V, A>) -> bool
+        ensures value { result ≡ same_bundle self.now other.now }
+        ensures exact { IsTrue result ↔ (self.now ≡ other.now) }
+    {
+        same_lists(self, other)
+    }
+}
+
+impl<D, K, V, A: Allocator> Eq for ProofBundle<D, K, V, A> {
+    ghost use Rattle.std.specs.Cmp.Rules.{comparing};
+    ghost use Rattle.std.proofs.Common.{rules};
+
+    ghost laws = { Prim.search (comparing, rules) depth 9 };
+}
+
+// Whether two bundles have the same proofs and the same absences.
+fn same_lists<D, K, V, A: Allocator>(
+    first: &ProofBundle<D, K, V, A>,
+    second: &ProofBundle<D, K, V, A>,
+) -> bool
+    ensures { result ≡ same_bundle first.now second.now }
+{
+    first.proofs == second.proofs && first.absences == second.absences
 }
 
 impl<D, K, V, A: Allocator + Copy> ProofBundle<D, K, V, A> {

@@ -57,6 +57,28 @@ fn parts_in_order(rt: HostRuntime) -> Result<(), Fail> {
     Ok(())
 }
 
+fn read(alloc: Global, words: &str) -> Result<ProofBundle<Sha256, ()>, Fail> {
+    Ok(ProofBundle::decode(alloc, &bytes_of(alloc, words)?)?)
+}
+
+// Bundles are equal exactly where their lengths, old lengths, nodes and digests are.
+#[test]
+fn equal_bundles(rt: HostRuntime) -> Result<(), Fail> {
+    let bundle = read(rt.alloc(), BOTH)?;
+    assert!(rt; bundle == read(rt.alloc(), BOTH)?);
+    for other in [
+        "0804 120102 1a020004 2224 0801 1220 U2 2224 0802 1220 L1 2224 0804 1220 L2",
+        "0803 120101 1a020004 2224 0801 1220 U2 2224 0802 1220 L1 2224 0804 1220 L2",
+        "0803 120102 1a020002 2224 0801 1220 U2 2224 0802 1220 L1 2224 0804 1220 L2",
+        "0803 120102 1a020004 2224 0801 1220 U2 2224 0802 1220 L1 2224 0804 1220 L1",
+        "0803 120102 1a020004 2224 0801 1220 U2 2224 0802 1220 L1 2224 0805 1220 L2",
+        "0803 120102 1a020004 2224 0801 1220 U2 2224 0802 1220 L1",
+    ] {
+        assert!(rt; bundle != read(rt.alloc(), other)?);
+    }
+    Ok(())
+}
+
 // What bundling these proofs over no data is refused for, where every growth is.
 fn refusal(
     rt: &HostRuntime,

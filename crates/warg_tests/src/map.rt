@@ -8,7 +8,7 @@ use std::hash::{DefaultHasher, Hasher};
 use std::test::Fail;
 use warg_crypto::Sha256;
 use warg_crypto::weak::Sum;
-use warg_map::{Map, MapError};
+use warg_map::{Map, MapError, MapProofBundle, Proof};
 
 type Text = &'static str;
 
@@ -67,6 +67,29 @@ fn equal_roots_of_weak_digests(rt: HostRuntime) -> Result<(), Fail> {
     let lone = nothing.insert(&[3], &[9])?;
     let two = nothing.insert(&[1, 2], &[8])?.insert(&[4], &[1])?;
     assert!(rt; all(&[lone == two, lone.len() == 1, two.len() == 2]));
+    Ok(())
+}
+
+type TextProof = Proof<Sha256, Text, Text>;
+
+fn proven(alloc: Global, pairs: &[(Text, Text)], key: Text) -> Result<TextProof, Fail> {
+    Ok(grown(alloc, pairs)?.prove(key)?.ok_or("held")?)
+}
+
+// Proofs are equal exactly where their peers are, and bundles where their proofs and their absences are.
+#[test]
+fn equal_proofs_and_bundles(rt: HostRuntime) -> Result<(), Fail> {
+    let pairs = [("foo", "bar"), ("baz", "bat")];
+    let back = [("baz", "bat"), ("foo", "bar")];
+    let proof = proven(rt.alloc(), &pairs, "foo")?;
+    assert!(rt; proof == proven(rt.alloc(), &back, "foo")?);
+    assert!(rt; proof != proven(rt.alloc(), &pairs, "baz")?);
+    assert!(rt; proof != proven(rt.alloc(), &[("foo", "bar")], "foo")?);
+    let bundle = MapProofBundle::bundle(vec![in rt.alloc(); proof]?);
+    let again = vec![in rt.alloc(); proven(rt.alloc(), &back, "foo")?]?;
+    let lone = vec![in rt.alloc(); proven(rt.alloc(), &back, "foo")?]?;
+    assert!(rt; bundle == MapProofBundle::bundle(again));
+    assert!(rt; bundle != MapProofBundle::bundle_with(Vec::new(rt.alloc()), lone));
     Ok(())
 }
 

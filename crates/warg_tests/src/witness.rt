@@ -59,6 +59,25 @@ fn other_values_in_pieces(rt: HostRuntime) -> Result<(), Fail> {
     Ok(())
 }
 
+type Pair = (&'static str, &'static str);
+
+fn found(alloc: Global, value: Pair) -> Result<Finding<Flat>, Fail> {
+    let log = in_pieces(alloc)?;
+    let proof = log.prove_inclusion(Node(0), 1);
+    Ok(witness_value(alloc, &proof, &log, &value, &ENTRIES)?)
+}
+
+// Findings are equal exactly where they are of one kind, with the same byte strings.
+#[test]
+fn equal_findings(rt: HostRuntime) -> Result<(), Fail> {
+    let collision = found(rt.alloc(), ("ab", "c"))?;
+    assert!(rt; collision == found(rt.alloc(), ("a", "bc"))?);
+    assert!(rt; collision != found(rt.alloc(), ("ab", "d"))?);
+    assert!(rt; collision != found(rt.alloc(), ("ab", "cd"))?);
+    assert!(rt; found(rt.alloc(), ("ab", "cd"))? == found(rt.alloc(), ("abcd", ""))?);
+    Ok(())
+}
+
 // The entries of an honest log, in which some are the same.
 const TEXTS: [&str; 25] = [
     "93", "67", "30", "37", "23", "75", "57", "89", "76", "42", "9", "14", "40", "59", "26", "66",

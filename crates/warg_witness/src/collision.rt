@@ -26,6 +26,32 @@ impl<D: SupportedDigest, A: Allocator> Model for Collision<D, A> {
     ghost invariant = { λ c. (c.first.items ≡ c.second.items → ⊥) × (D.digest c.first.items ≡ D.digest c.second.items) };
 }
 
+/// By both byte strings, each with the one in its place.
+impl<D: SupportedDigest, A: Allocator> PartialEq for Collision<D, A> {
+    ghost use Rattle.std.specs.Prelude.{◌≡◌, ◌↔◌, IsTrue};
+    ghost use Rattle.std.specs.Cmp.Rules.{comparing};
+    ghost use Rattle.std.proofs.Common.{rules};
+    ghost use Rattle.warg_witness.specs.Compared.{same_pair};
+
+    ghost eq = { same_pair };
+
+    ghost laws = { Prim.search (comparing, rules) };
+
+    fn eq(&self, other: &Collision<D, A>) -> bool
+        ensures value { result ≡ same_pair self.now other.now }
+        ensures exact { IsTrue result ↔ (self.now ≡ other.now) }
+    {
+        self.first == other.first && self.second == other.second
+    }
+}
+
+impl<D: SupportedDigest, A: Allocator> Eq for Collision<D, A> {
+    ghost use Rattle.std.specs.Cmp.Rules.{comparing};
+    ghost use Rattle.std.proofs.Common.{rules};
+
+    ghost laws = { Prim.search (comparing, rules) };
+}
+
 impl<D: SupportedDigest, A: Allocator> Collision<D, A> {
     pub(crate) fn new(first: Vec<u8, A>, second: Vec<u8, A>) -> Collision<D, A>
         requires differ { first.items ≡ second.items → ⊥ }
@@ -60,6 +86,7 @@ impl<D: SupportedDigest, A: Allocator> Collision<D, A> {
 }
 
 /// What a witness found.
+#[derive_where(PartialEq, Eq)]
 #[derive(Drop)]
 pub enum Finding<D: SupportedDigest, A: Allocator = Global> {
     /// The claim is met, and it is true.

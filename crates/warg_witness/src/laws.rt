@@ -5,7 +5,7 @@
 //! entries or the insertions. They hold for every function from byte lists to 32 bytes, and for all data and
 //! peers of such digests.
 
-ghost use Rattle.std.specs.Prelude.{◌≡◌, ℕ, ◌≤◌, List, [], ◌∷◌, length, Option, Some};
+ghost use Rattle.std.specs.Prelude.{◌≡◌, ℕ, ◌≤◌, ◌↔◌, IsTrue, List, [], ◌∷◌, length, Option, Some};
 ghost use Rattle.warg_witness.specs.Claims.{IsMet, IsEntry, IsRootBelow, IsAgreement, IsConsistencyMet, Begins};
 ghost use Rattle.warg_witness.specs.Placed.{IsValuePlaced, IsHashPlaced, IsAgreementPlaced, IsConsistencyPlaced};
 ghost use Rattle.warg_map.specs.Bits.{key_bits};
@@ -17,6 +17,9 @@ ghost use Rattle.warg_witness.specs.MapPlaced.{IsKeyPlaced, IsKeyAgreementPlaced
 ghost use Rattle.warg_witness.specs.LogLaws.{LogLaws};
 ghost use Rattle.warg_witness.specs.Laws.{GivesHashes, GivesDigests, HoldsHashes, HoldsPeers, SomeCollision};
 
+use crate::collision::Finding;
+use std::alloc::Allocator;
+use warg_crypto::SupportedDigest;
 use warg_log::laws::{
     balanced_full, balanced_parts, consistency_met, cut_old, cut_own_range, cut_parts, cut_size,
     cut_target, front_is_greatest, interval_has_number, number_is_node, old_full, old_own_range,
@@ -115,4 +118,14 @@ pub fn equal_roots()
     last_held();
     all_bits();
     root_at_prefix();
+}
+
+/// Findings are equal exactly where they are of one kind, and, as collisions, have the same byte strings.
+pub fn equal_findings<D: SupportedDigest, A: Allocator>(
+    first: &Finding<D, A>,
+    second: &Finding<D, A>,
+) -> bool
+    ensures { IsTrue result ↔ (first.now ≡ second.now) }
+{
+    first == second
 }

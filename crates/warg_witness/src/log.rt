@@ -1,6 +1,8 @@
 //! Witnesses for the log's proofs.
 
-ghost use Rattle.std.specs.Prelude.{◌≡◌, ℕ, ◌+◌, ◌^◌, ◌≤◌, ◌↔◌, List, [], ◌∷◌, length, map, None, Ok, IfOk, IsTrue, MatchOption};
+ghost use Rattle.std.specs.Prelude.{◌≡◌, ℕ, ◌+◌, ◌^◌, ◌≤◌, ◌↔◌, List, [], ◌∷◌, length, map, None, Ok, IfOk, IsTrue, MatchOption, ◌⊎◌};
+ghost use Rattle.warg_log.specs.Nodes.{ExistsAt};
+ghost use Rattle.warg_log.specs.Cut.{cut_root};
 ghost use Rattle.warg_log.specs.Tree.{leaves_of};
 ghost use Rattle.warg_witness.specs.Ranges.{IsNodeRange};
 ghost use Rattle.warg_witness.specs.Compared.{IsAt};
@@ -44,6 +46,7 @@ fn meet<D: SupportedDigest, V: VisitBytes, L: LogData<D, V>, A: Allocator + Copy
     entries: &[V],
 ) -> Result<Option<Meeting<D, V, A>>, AllocError>
     ensures count { (length entries.now ≡ proof.now.log_length → ⊥) → result ≡ Ok None }
+    ensures fails { ((ExistsAt proof.now.leaf.0 proof.now.log_length → ⊥) ⊎ (cut_root D.digest (L.digest_at hashes.now) proof.now.leaf.0 hash.now proof.now.log_length ≡ None)) → result ≡ Ok None }
     ensures met { IfOk result (λ met. MatchOption met
         (IsMet D.digest (L.digest_at hashes.now) hash.now proof.now.leaf.0 proof.now.log_length (map (λ e. V.bytes e) entries.now) → ⊥)
         (λ m. IsMeeting D.digest (L.digest_at hashes.now) hash.now proof.now.leaf.0 proof.now.log_length (map (λ e. V.bytes e) entries.now)
@@ -111,13 +114,13 @@ fn collide<D: SupportedDigest, V: VisitBytes, A: Allocator + Copy>(
 /// Whether a proof's claim about a value is true of the entries: the node is a leaf, and its entry has the
 /// value's bytes.
 ///
-/// `NotMet` exactly where the entries aren't as many as the proof's length says, which is decided before
-/// any growth, or the evaluation over the data isn't Ok with the root of the tree over the entries. `Holds`
-/// exactly where it is, and the claim is true. Else a collision: what the digest function takes in the
-/// evaluation (first) and in the tree over the entries (second) at one range around the node.
+/// `NotMet` exactly where the entries aren't as many as the proof's length says, or the evaluation over the
+/// data isn't Ok, both of which are decided before any growth, or it isn't with the root of the tree over the
+/// entries. `Holds` exactly where it is, and the claim is true. Else a collision: what the digest function
+/// takes in the evaluation (first) and in the tree over the entries (second) at one range around the node.
 ///
 /// It hashes each leaf and branch of the tree over the entries once, and few digests on one path beside
-/// them. Want of memory is the only error.
+/// them. Out of memory is the only error.
 pub fn witness_value<D: SupportedDigest, V: VisitBytes, L: LogData<D, V>, A: Allocator + Copy>(
     alloc: A,
     proof: &InclusionProof<D, V>,
@@ -126,11 +129,13 @@ pub fn witness_value<D: SupportedDigest, V: VisitBytes, L: LogData<D, V>, A: All
     entries: &[V],
 ) -> Result<Finding<D, A>, AllocError>
     ensures count { (length entries.now ≡ proof.now.log_length → ⊥) → result ≡ Ok Finding.NotMet }
+    ensures fails { ((ExistsAt proof.now.leaf.0 proof.now.log_length → ⊥) ⊎ (cut_root D.digest (L.digest_at hashes.now) proof.now.leaf.0 (D.digest (0 ∷ V.bytes value.now)) proof.now.log_length ≡ None)) → result ≡ Ok Finding.NotMet }
     ensures not_met { IfOk result (λ f. (f ≡ Finding.NotMet)
         ↔ (IsMet D.digest (L.digest_at hashes.now) (D.digest (0 ∷ V.bytes value.now)) proof.now.leaf.0 proof.now.log_length (map (λ e. V.bytes e) entries.now) → ⊥)) }
     ensures holds { IfOk result (λ f. (f ≡ Finding.Holds)
         ↔ (IsMet D.digest (L.digest_at hashes.now) (D.digest (0 ∷ V.bytes value.now)) proof.now.leaf.0 proof.now.log_length (map (λ e. V.bytes e) entries.now)
         × IsEntry (V.bytes value.now) proof.now.leaf.0 (map (λ e. V.bytes e) entries.now))) }
+    ensures met { IfOk result (λ f. (c : _) → f ≡ Finding.Collision c → IsMet D.digest (L.digest_at hashes.now) (D.digest (0 ∷ V.bytes value.now)) proof.now.leaf.0 proof.now.log_length (map (λ e. V.bytes e) entries.now)) }
     ensures collision { IfOk result (λ f. (c : _) → f ≡ Finding.Collision c
         → IsValuePlaced D.digest (L.digest_at hashes.now) (V.bytes value.now) proof.now.leaf.0 (map (λ e. V.bytes e) entries.now) c.0 c.1) }
 {
@@ -148,13 +153,13 @@ pub fn witness_value<D: SupportedDigest, V: VisitBytes, L: LogData<D, V>, A: All
 /// Whether a proof's claim about a hash is true of the entries: the hash is the root of the entries below
 /// the node.
 ///
-/// `NotMet` exactly where the entries aren't as many as the proof's length says, which is decided before
-/// any growth, or the evaluation over the data isn't Ok with the root of the tree over the entries. `Holds`
-/// exactly where it is, and the claim is true. Else a collision: what the digest function takes in the
-/// evaluation (first) and in the tree over the entries (second) at one range around the node.
+/// `NotMet` exactly where the entries aren't as many as the proof's length says, or the evaluation over the
+/// data isn't Ok, both of which are decided before any growth, or it isn't with the root of the tree over the
+/// entries. `Holds` exactly where it is, and the claim is true. Else a collision: what the digest function
+/// takes in the evaluation (first) and in the tree over the entries (second) at one range around the node.
 ///
 /// It hashes each leaf and branch of the tree over the entries once, and few digests on one path beside
-/// them. Want of memory is the only error.
+/// them. Out of memory is the only error.
 pub fn witness_hash<D: SupportedDigest, V: VisitBytes, L: LogData<D, V>, A: Allocator + Copy>(
     alloc: A,
     proof: &InclusionProof<D, V>,
@@ -163,11 +168,13 @@ pub fn witness_hash<D: SupportedDigest, V: VisitBytes, L: LogData<D, V>, A: Allo
     entries: &[V],
 ) -> Result<Finding<D, A>, AllocError>
     ensures count { (length entries.now ≡ proof.now.log_length → ⊥) → result ≡ Ok Finding.NotMet }
+    ensures fails { ((ExistsAt proof.now.leaf.0 proof.now.log_length → ⊥) ⊎ (cut_root D.digest (L.digest_at hashes.now) proof.now.leaf.0 hash proof.now.log_length ≡ None)) → result ≡ Ok Finding.NotMet }
     ensures not_met { IfOk result (λ f. (f ≡ Finding.NotMet)
         ↔ (IsMet D.digest (L.digest_at hashes.now) hash proof.now.leaf.0 proof.now.log_length (map (λ e. V.bytes e) entries.now) → ⊥)) }
     ensures holds { IfOk result (λ f. (f ≡ Finding.Holds)
         ↔ (IsMet D.digest (L.digest_at hashes.now) hash proof.now.leaf.0 proof.now.log_length (map (λ e. V.bytes e) entries.now)
         × IsRootBelow D.digest hash proof.now.leaf.0 (map (λ e. V.bytes e) entries.now))) }
+    ensures met { IfOk result (λ f. (c : _) → f ≡ Finding.Collision c → IsMet D.digest (L.digest_at hashes.now) hash proof.now.leaf.0 proof.now.log_length (map (λ e. V.bytes e) entries.now)) }
     ensures collision { IfOk result (λ f. (c : _) → f ≡ Finding.Collision c
         → IsHashPlaced D.digest (L.digest_at hashes.now) hash proof.now.leaf.0 (map (λ e. V.bytes e) entries.now) c.0 c.1) }
 {
@@ -184,9 +191,10 @@ pub fn witness_hash<D: SupportedDigest, V: VisitBytes, L: LogData<D, V>, A: Allo
 /// Whether two evaluations of one proof, over two data and with two values, that lead to one root, whichever
 /// it is, are of the same value: for a client that holds no entries.
 ///
-/// `NotMet` exactly where one evaluation isn't Ok or both lead to different roots. `Holds` exactly where both
-/// are Ok with one root, and the values have the same bytes. Else a collision: what the digest function takes
-/// in the first and in the second evaluation at one range around the node. Want of memory is the only error.
+/// `NotMet` exactly where one evaluation isn't Ok or both lead to different roots, which takes no memory.
+/// `Holds` exactly where both are Ok with one root, and the values have the same bytes. Else a collision: what
+/// the digest function takes in the first and in the second evaluation at one range around the node. Out of
+/// memory is the only error.
 pub fn agree_value<
     D: SupportedDigest,
     V: VisitBytes,
@@ -201,11 +209,13 @@ pub fn agree_value<
     second_hashes: &M,
     second_value: &V,
 ) -> Result<Finding<D, A>, AllocError>
+    ensures unmet { (IsAgreement D.digest (L.digest_at first_hashes.now) (D.digest (0 ∷ V.bytes first_value.now)) (M.digest_at second_hashes.now) (D.digest (0 ∷ V.bytes second_value.now)) proof.now.leaf.0 proof.now.log_length → ⊥) → result ≡ Ok Finding.NotMet }
     ensures not_met { IfOk result (λ f. (f ≡ Finding.NotMet)
         ↔ (IsAgreement D.digest (L.digest_at first_hashes.now) (D.digest (0 ∷ V.bytes first_value.now)) (M.digest_at second_hashes.now) (D.digest (0 ∷ V.bytes second_value.now)) proof.now.leaf.0 proof.now.log_length → ⊥)) }
     ensures holds { IfOk result (λ f. (f ≡ Finding.Holds)
         ↔ (IsAgreement D.digest (L.digest_at first_hashes.now) (D.digest (0 ∷ V.bytes first_value.now)) (M.digest_at second_hashes.now) (D.digest (0 ∷ V.bytes second_value.now)) proof.now.leaf.0 proof.now.log_length
         × (V.bytes first_value.now ≡ V.bytes second_value.now))) }
+    ensures met { IfOk result (λ f. (c : _) → f ≡ Finding.Collision c → IsAgreement D.digest (L.digest_at first_hashes.now) (D.digest (0 ∷ V.bytes first_value.now)) (M.digest_at second_hashes.now) (D.digest (0 ∷ V.bytes second_value.now)) proof.now.leaf.0 proof.now.log_length) }
     ensures collision { IfOk result (λ f. (c : _) → f ≡ Finding.Collision c
         → IsAgreementPlaced D.digest (L.digest_at first_hashes.now) (V.bytes first_value.now) (M.digest_at second_hashes.now) (V.bytes second_value.now) proof.now.leaf.0 proof.now.log_length c.0 c.1) }
 {

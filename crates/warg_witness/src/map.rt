@@ -1,6 +1,6 @@
 //! Witnesses for the map's proofs.
 
-ghost use Rattle.std.specs.Prelude.{◌≡◌, ℕ, ◌≤◌, ◌↔◌, Bool, List, [], length, Option, IfOk, MatchOption};
+ghost use Rattle.std.specs.Prelude.{◌≡◌, ℕ, ◌≤◌, ◌↔◌, Bool, List, [], length, Option, Ok, IfOk, MatchOption};
 ghost use Rattle.warg_map.specs.Last.{last_under};
 ghost use Rattle.warg_map.specs.Sparse.{leaf_digest, pair_bytes};
 ghost use Rattle.warg_witness.specs.MapClaims.{value_in, IsKeyMet, IsAbsenceMet, IsKeyAgreement, IsLastValue};
@@ -79,7 +79,7 @@ fn meet<D: SupportedDigest, K: VisitBytes, V: VisitBytes, W: VisitBytes, A: Allo
         peers: &plain.peers,
         leaf: plain_leaf(insertions, plain.last),
     };
-    let Some(parting) = meet_on_path(&digest, &empty, evaluation, tree) else {
+    let Some(parting) = meet_on_path(&digest, evaluation, tree) else {
         return Ok(None);
     };
     Ok(Some(KeyMeeting {
@@ -146,6 +146,7 @@ fn find<D: SupportedDigest, K: VisitBytes, V: VisitBytes, W: VisitBytes, A: Allo
     ensures holds { IfOk result (λ f. (f ≡ Finding.Holds)
         ↔ (IsKeyMet D.digest peers.now (K.bytes key.now) (W.bytes value.now) (pair_bytes K.bytes V.bytes insertions.now)
         × IsLastValue (K.bytes key.now) (W.bytes value.now) (pair_bytes K.bytes V.bytes insertions.now))) }
+    ensures met { IfOk result (λ f. (c : _) → f ≡ Finding.Collision c → IsKeyMet D.digest peers.now (K.bytes key.now) (W.bytes value.now) (pair_bytes K.bytes V.bytes insertions.now)) }
     ensures collision { IfOk result (λ f. (c : _) → f ≡ Finding.Collision c
         → IsKeyPlaced D.digest peers.now (W.bytes value.now) (K.bytes key.now) (pair_bytes K.bytes V.bytes insertions.now) c.0 c.1) }
 {
@@ -168,7 +169,7 @@ fn find<D: SupportedDigest, K: VisitBytes, V: VisitBytes, W: VisitBytes, A: Allo
 ///
 /// It hashes each inserted key, each last value under a key digest, and each branch of the plain tree over a key once,
 /// and beside them 256 branches of the proof. It keeps the keys' digests with their places, which it sorts once, and 513
-/// digests more, and copies no key and no value but into a collision. Want of memory is the only error.
+/// digests more, and copies no key and no value but into a collision. Out of memory is the only error.
 pub fn witness_key<
     D: SupportedDigest,
     K: VisitBytes,
@@ -187,6 +188,7 @@ pub fn witness_key<
     ensures holds { IfOk result (λ f. (f ≡ Finding.Holds)
         ↔ (IsKeyMet D.digest proof.now (K.bytes key.now) (V.bytes value.now) (pair_bytes K.bytes V.bytes insertions.now)
         × IsLastValue (K.bytes key.now) (V.bytes value.now) (pair_bytes K.bytes V.bytes insertions.now))) }
+    ensures met { IfOk result (λ f. (c : _) → f ≡ Finding.Collision c → IsKeyMet D.digest proof.now (K.bytes key.now) (V.bytes value.now) (pair_bytes K.bytes V.bytes insertions.now)) }
     ensures collision { IfOk result (λ f. (c : _) → f ≡ Finding.Collision c
         → IsKeyPlaced D.digest proof.now (V.bytes value.now) (K.bytes key.now) (pair_bytes K.bytes V.bytes insertions.now) c.0 c.1) }
 {
@@ -198,7 +200,7 @@ pub fn witness_key<
 ///
 /// `NotMet` exactly where the proof doesn't lead from an empty leaf to the root of the map of the insertions. `Holds`
 /// exactly where it does, and the claim is true. Else a collision, as that of [`witness_key`] for a value without
-/// bytes, and at the same cost. Want of memory is the only error.
+/// bytes, and at the same cost. Out of memory is the only error.
 pub fn witness_absent<
     D: SupportedDigest,
     K: VisitBytes,
@@ -216,6 +218,7 @@ pub fn witness_absent<
     ensures holds { IfOk result (λ f. (f ≡ Finding.Holds)
         ↔ (IsAbsenceMet D.digest proof.now (K.bytes key.now) (pair_bytes K.bytes V.bytes insertions.now)
         × IsLastValue (K.bytes key.now) [] (pair_bytes K.bytes V.bytes insertions.now))) }
+    ensures met { IfOk result (λ f. (c : _) → f ≡ Finding.Collision c → IsAbsenceMet D.digest proof.now (K.bytes key.now) (pair_bytes K.bytes V.bytes insertions.now)) }
     ensures collision { IfOk result (λ f. (c : _) → f ≡ Finding.Collision c
         → IsKeyPlaced D.digest proof.now [] (K.bytes key.now) (pair_bytes K.bytes V.bytes insertions.now) c.0 c.1) }
 {
@@ -224,9 +227,9 @@ pub fn witness_absent<
 
 /// Whether two proofs of one key, each with a value, agree under one root, whichever it is.
 ///
-/// `NotMet` exactly where the two don't lead to one root. `Holds` exactly where they do, and the values have the same
-/// bytes. Else a collision: what the digest function takes in the first and in the second evaluation at one prefix of
-/// the key's bits. Want of memory is the only error.
+/// `NotMet` exactly where the two don't lead to one root, which takes no memory. `Holds` exactly where they do, and the
+/// values have the same bytes. Else a collision: what the digest function takes in the first and in the second
+/// evaluation at one prefix of the key's bits. Out of memory is the only error.
 pub fn agree_key<
     D: SupportedDigest,
     K: VisitBytes,
@@ -242,16 +245,17 @@ pub fn agree_key<
     second_proof: &Proof<D, K, V, C>,
     second_value: &V,
 ) -> Result<Finding<D, A>, AllocError>
+    ensures unmet { (IsKeyAgreement D.digest (K.bytes key.now) first_proof.now (V.bytes first_value.now) second_proof.now (V.bytes second_value.now) → ⊥) → result ≡ Ok Finding.NotMet }
     ensures not_met { IfOk result (λ f. (f ≡ Finding.NotMet)
         ↔ (IsKeyAgreement D.digest (K.bytes key.now) first_proof.now (V.bytes first_value.now) second_proof.now (V.bytes second_value.now) → ⊥)) }
     ensures holds { IfOk result (λ f. (f ≡ Finding.Holds)
         ↔ (IsKeyAgreement D.digest (K.bytes key.now) first_proof.now (V.bytes first_value.now) second_proof.now (V.bytes second_value.now)
         × (V.bytes first_value.now ≡ V.bytes second_value.now))) }
+    ensures met { IfOk result (λ f. (c : _) → f ≡ Finding.Collision c → IsKeyAgreement D.digest (K.bytes key.now) first_proof.now (V.bytes first_value.now) second_proof.now (V.bytes second_value.now)) }
     ensures collision { IfOk result (λ f. (c : _) → f ≡ Finding.Collision c
         → IsKeyAgreementPlaced D.digest (K.bytes key.now) first_proof.now (V.bytes first_value.now) second_proof.now (V.bytes second_value.now) c.0 c.1) }
 {
     let digest = Hash::of(key);
-    let empty = empty_trees(alloc)?;
     let first = Evaluation {
         peers: first_proof.peers(),
         leaf: hash_leaf(first_value),
@@ -260,7 +264,7 @@ pub fn agree_key<
         peers: second_proof.peers(),
         leaf: hash_leaf(second_value),
     };
-    let Some(parting) = meet_on_path(&digest, &empty, first, second) else {
+    let Some(parting) = meet_on_path(&digest, first, second) else {
         return Ok(Finding::NotMet);
     };
     if have_same_bytes(first_value, second_value)? {

@@ -1,6 +1,6 @@
 //! Proofs as messages.
 
-ghost use Rattle.std.specs.Prelude.{◌≡◌, ◌≢◌, ◌⊎◌, None, Some, Ok, Err, IfOk, IfErr, map};
+ghost use Rattle.std.specs.Prelude.{◌≡◌, ◌≢◌, ◌<◌, ◌⊎◌, length, None, Some, Ok, Err, IfOk, IfErr, map};
 ghost use Rattle.warg_protobuf.specs.OptionalHash.{hash_view};
 ghost use Rattle.warg_protobuf.specs.MapInclusionProof.{proof_view};
 ghost use Rattle.warg_log.specs.Decoding.{Reads, first_fault};
@@ -22,6 +22,7 @@ impl<D, K, V, A: Allocator + Copy> Proof<D, K, V, A> {
     /// them is there and doesn't have 32 bytes.
     pub fn from_message(alloc: A, message: Message<A>) -> Result<Self, DecodeError>
         ensures exact { Reads result (proof_in (proof_view message)) }
+        ensures most { 256 < length (proof_view message) → result ≡ Err DecodeError.TooManyPeers }
         ensures message { IfOk result (λ proof. proof ≡ proof_view message) }
         ensures wire { (e : _) → result ≢ Err (DecodeError.Wire e) }
     {

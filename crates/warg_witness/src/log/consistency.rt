@@ -1,9 +1,10 @@
 //! The witness for consistency proofs.
 
-ghost use Rattle.std.specs.Prelude.{◌≡◌, ℕ, ◌+◌, ◌^◌, ◌<◌, ◌≤◌, ◌↔◌, List, [], ◌∷◌, length, map, None, Some, Ok, IfOk, IsTrue, MatchOption, slice_index_or};
+ghost use Rattle.std.specs.Prelude.{◌≡◌, ℕ, ◌+◌, ◌^◌, ◌<◌, ◌≤◌, ◌↔◌, List, [], ◌∷◌, length, map, None, Some, Ok, Err, IfOk, IsTrue, MatchOption, slice_index_or};
 ghost use Rattle.warg_log.specs.Tree.{leaves_of, root_of, root_over, own_digest};
 ghost use Rattle.warg_log.specs.Cut.{cut_over};
-ghost use Rattle.warg_log.specs.Consistency.{IsConsistent};
+ghost use Rattle.warg_log.specs.Consistency.{IsConsistent, consistency};
+ghost use Rattle.warg_log.specs.declared.consistency.ConsistencyProofError.{ConsistencyProofError};
 ghost use Rattle.warg_witness.specs.Ranges.{IsAround, IsNodeRange, IsBalancedRoot};
 ghost use Rattle.warg_witness.specs.Claims.{Begins, IsConsistencyMet};
 ghost use Rattle.warg_witness.specs.Placed.{IsConsistencyPlaced};
@@ -44,6 +45,7 @@ fn meet<D: SupportedDigest, V: VisitBytes, L: LogData<D, V>, A: Allocator + Copy
     new: &[V],
 ) -> Result<Option<Trees<D, V, A>>, AllocError>
     ensures count { ((length old.now ≡ proof.now.old_length) × (length new.now ≡ proof.now.new_length) → ⊥) → result ≡ Ok None }
+    ensures fails { (fault : ConsistencyProofError) → consistency D.digest (L.digest_at hashes.now) proof.now.old_length proof.now.new_length ≡ Err fault → result ≡ Ok None }
     ensures met { IfOk result (λ met. MatchOption met
         (IsConsistencyMet D.digest (L.digest_at hashes.now) proof.now.old_length proof.now.new_length (map (λ e. V.bytes e) old.now) (map (λ e. V.bytes e) new.now) → ⊥)
         (λ trees. IsConsistencyMeeting D.digest (L.digest_at hashes.now) proof.now.old_length proof.now.new_length (map (λ e. V.bytes e) old.now) (map (λ e. V.bytes e) new.now) trees.old trees.new)) }
@@ -228,15 +230,15 @@ fn collide_at<D: SupportedDigest, V: VisitBytes, L: LogData<D, V>, A: Allocator 
 /// Whether a consistency proof's claim is true of the entries: the new entries begin with the old ones, byte
 /// by byte.
 ///
-/// `NotMet` exactly where the entries aren't as many as the proof's lengths say, which is decided before any
-/// growth, or the evaluation over the data isn't Ok with the roots of the trees over the entries: so for the
-/// old length 0, and for an old length above the new one. `Holds` exactly where it is, and the claim is true.
+/// `NotMet` exactly where the entries aren't as many as the proof's lengths say, or the evaluation over the data
+/// isn't Ok, both of which are decided before any growth, or it isn't with the roots of the trees over the
+/// entries: so for the old length 0, and for an old length above the new one. `Holds` exactly where it is, and the claim is true.
 /// Else a collision, one of: what the digest function takes for the old root (first) and in the tree over the
 /// old entries (second) at one range; what it takes in the evaluation (first) and in the tree over the new
 /// entries (second) at one range around a balanced root of the old length; what it takes in the old tree
 /// (first) and in the new one (second) at one range of both.
 ///
-/// It hashes each leaf and branch of both trees once, and few digests on three paths beside them. Want of
+/// It hashes each leaf and branch of both trees once, and few digests on three paths beside them. Out of
 /// memory is the only error.
 pub fn witness_consistency<
     D: SupportedDigest,
@@ -251,11 +253,13 @@ pub fn witness_consistency<
     new: &[V],
 ) -> Result<Finding<D, A>, AllocError>
     ensures count { ((length old.now ≡ proof.now.old_length) × (length new.now ≡ proof.now.new_length) → ⊥) → result ≡ Ok Finding.NotMet }
+    ensures fails { (fault : ConsistencyProofError) → consistency D.digest (L.digest_at hashes.now) proof.now.old_length proof.now.new_length ≡ Err fault → result ≡ Ok Finding.NotMet }
     ensures not_met { IfOk result (λ f. (f ≡ Finding.NotMet)
         ↔ (IsConsistencyMet D.digest (L.digest_at hashes.now) proof.now.old_length proof.now.new_length (map (λ e. V.bytes e) old.now) (map (λ e. V.bytes e) new.now) → ⊥)) }
     ensures holds { IfOk result (λ f. (f ≡ Finding.Holds)
         ↔ (IsConsistencyMet D.digest (L.digest_at hashes.now) proof.now.old_length proof.now.new_length (map (λ e. V.bytes e) old.now) (map (λ e. V.bytes e) new.now)
         × Begins (map (λ e. V.bytes e) old.now) (map (λ e. V.bytes e) new.now))) }
+    ensures met { IfOk result (λ f. (c : _) → f ≡ Finding.Collision c → IsConsistencyMet D.digest (L.digest_at hashes.now) proof.now.old_length proof.now.new_length (map (λ e. V.bytes e) old.now) (map (λ e. V.bytes e) new.now)) }
     ensures collision { IfOk result (λ f. (c : _) → f ≡ Finding.Collision c
         → IsConsistencyPlaced D.digest (L.digest_at hashes.now) (map (λ e. V.bytes e) old.now) (map (λ e. V.bytes e) new.now) c.0 c.1) }
 {

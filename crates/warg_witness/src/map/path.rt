@@ -1,12 +1,13 @@
 //! Two evaluations along one key's bits, and where they part.
 
 ghost use Rattle.std.specs.Prelude.{◌≡◌, ℕ, ◌<◌, ◌≤◌, Bool, List, ◌∷◌, ◌++◌, length, Option, MatchOption, if◌then◌else◌};
+ghost use Rattle.warg_crypto.specs.EmptyTrees.{empty_root};
 ghost use Rattle.warg_map.specs.Bits.{bit_at, last_bits};
 ghost use Rattle.warg_map.specs.ProofValue.{peer_of, proof_value};
-ghost use Rattle.warg_witness.specs.MapPaths.{AreEmptyTrees, IsClimb, MeetsOnPath};
+ghost use Rattle.warg_witness.specs.MapPaths.{IsClimb, MeetsOnPath};
 
 use crate::descent::{Parting, is_same};
-use warg_crypto::{Hash, SupportedDigest};
+use warg_crypto::{Hash, SupportedDigest, empty_tree_hash};
 use warg_log::hash_branch;
 
 /// Bit `at` of a digest, from the most significant bit of its first byte.
@@ -22,21 +23,21 @@ pub(crate) fn bit<D>(digest: &Hash<D>, at: usize) -> bool
 // The peer of a height: where it is missing or None, the empty tree of that height.
 fn peer_at<'a, D: SupportedDigest>(
     peers: &'a [Option<Hash<D>>],
-    empty: &'a [Hash<D>],
+    empty: &'a Hash<D>,
     height: usize,
 ) -> &'a Hash<D>
     requires few { length peers.now ≤ 256 }
     requires height { height < 256 }
-    requires empty { AreEmptyTrees D.digest empty.now }
+    requires empty { empty.now ≡ empty_root D.digest height }
     ensures { result.now ≡ peer_of D.digest peers.now height }
 {
     let missing = 256 - peers.len();
     if height < missing {
-        return &empty[height];
+        return empty;
     }
     match &peers[height - missing] {
         Some(peer) => peer,
-        None => &empty[height],
+        None => empty,
     }
 }
 
@@ -106,11 +107,9 @@ pub(crate) struct Evaluation<'a, D> {
 /// roots. It hashes each branch of both once.
 pub(crate) fn meet_on_path<D: SupportedDigest>(
     key: &Hash<D>,
-    empty: &[Hash<D>],
     first: Evaluation<'_, D>,
     second: Evaluation<'_, D>,
 ) -> Option<Parting<D>>
-    requires { AreEmptyTrees D.digest empty.now }
     ensures { MatchOption result
         (proof_value D.digest first.entry.peers.now first.entry.leaf (last_bits key.now 256) ≡ proof_value D.digest second.entry.peers.now second.entry.leaf (last_bits key.now 256) → ⊥)
         (λ p. MeetsOnPath D.digest first.entry.peers.now first.entry.leaf second.entry.peers.now second.entry.leaf (last_bits key.now 256) p) }
@@ -120,11 +119,13 @@ pub(crate) fn meet_on_path<D: SupportedDigest>(
         second: second.leaf,
         parting: Parting::Target,
     };
+    let mut empty = empty_tree_hash(0);
     for height in 0..256 {
         let right = bit(key, 255 - height);
-        let first_peer = peer_at(first.peers, empty, height);
-        let second_peer = peer_at(second.peers, empty, height);
+        let first_peer = peer_at(first.peers, &empty, height);
+        let second_peer = peer_at(second.peers, &empty, height);
         climb = climb.up(right, first_peer, second_peer);
+        empty = D::empty_above(height, &empty);
     }
     if climb.first == climb.second {
         Some(climb.parting)

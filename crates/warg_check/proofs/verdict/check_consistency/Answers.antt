@@ -6,5 +6,5 @@ use Rattle.warg_check.proofs.verdict.check_consistency.Goals as goal
 
 pub returns-in-Some-clause-verdict : goal.returns-in-Some-clause-verdict
 returns-in-Some-clause-verdict g c =
-    judged_at (λ (b : Bundle). b.consistent_lengths) (extends g.D.SupportedDigest.digest c.args.old.now c.args.new.now) c.args.at (bundle_of c.args.bytes.now) c.in-Ok.bundle c.in-Some.proof.old_length c.is_extended.result
-    c.in-Ok.ensures.exact c.in-Some.ensures.old_length (sym c.is_extended.ensures)
+    judged_at (λ (b : Bundle). b.consistent_lengths) (extends g.D.SupportedDigest.digest c.args.old.now c.args.new.now) c.args.at (bundle_of c.args.bytes.now) c.in_ok-bundle.bundle c.in-Some.proof.old_length c.is_extended.result
+    c.in_ok-bundle.ensures.exact c.in-Some.ensures.old_length (sym c.is_extended.ensures)

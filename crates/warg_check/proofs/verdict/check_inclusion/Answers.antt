@@ -6,5 +6,5 @@ use Rattle.warg_check.proofs.verdict.check_inclusion.Goals as goal
 
 pub returns-in-Some-clause-verdict : goal.returns-in-Some-clause-verdict
 returns-in-Some-clause-verdict g c =
-    judged_at (λ (b : Bundle). b.included_nodes) (includes g.D.SupportedDigest.digest (g.V.VisitBytes.bytes c.args.value.now) c.args.root.now) c.args.at (bundle_of c.args.bytes.now) c.in-Ok.bundle c.in-Some.proof.leaf c.is_included.result
-    c.in-Ok.ensures.exact c.in-Some.ensures.leaf (sym c.is_included.ensures)
+    judged_at (λ (b : Bundle). b.included_nodes) (includes g.D.SupportedDigest.digest (g.V.VisitBytes.bytes c.args.value.now) c.args.root.now) c.args.at (bundle_of c.args.bytes.now) c.in_ok-bundle.bundle c.in-Some.proof.leaf c.is_included.result
+    c.in_ok-bundle.ensures.exact c.in-Some.ensures.leaf (sym c.is_included.ensures)

@@ -45,3 +45,17 @@ returns-clause-not_met g c =
     let second = rw (c.copied-2.ensures, c.hash_leaf-second_hash.ensures) at c.in-Ok-evaluate_hash.ensures.ok.1 in
     let same = ne_false _ _ c.if-ne.ensures in
     (λ e. absurd (cc), λ none. absurd (none (record { root = c.in-Ok.first_root; exists = c.in-Ok.ensures.ok.0; first_is = first; second_is = second ∙ ap Some (sym same) })))
+
+pub returns-clause-unmet : goal.returns-clause-unmet
+returns-clause-unmet g c = λ none.
+    let first = rw (c.copied.ensures, c.hash_leaf-first_hash.ensures) at c.in-Ok.ensures.ok.1 in
+    let second = rw (c.copied-2.ensures, c.hash_leaf-second_hash.ensures) at c.in-Ok-evaluate_hash.ensures.ok.1 in
+    let same = ne_false _ _ c.if-ne.ensures in
+    absurd (none (record { root = c.in-Ok.first_root; exists = c.in-Ok.ensures.ok.0; first_is = first; second_is = second ∙ ap Some (sym same) }))
+
+pub returns-clause-met : goal.returns-clause-met
+returns-clause-met g c = λ _ _.
+    let first = rw (c.copied.ensures, c.hash_leaf-first_hash.ensures) at c.in-Ok.ensures.ok.1 in
+    let second = rw (c.copied-2.ensures, c.hash_leaf-second_hash.ensures) at c.in-Ok-evaluate_hash.ensures.ok.1 in
+    let same = ne_false _ _ c.if-ne.ensures in
+    record { root = c.in-Ok.first_root; exists = c.in-Ok.ensures.ok.0; first_is = first; second_is = second ∙ ap Some (sym same) }

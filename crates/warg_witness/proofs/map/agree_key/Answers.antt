@@ -1,4 +1,4 @@
-use Rattle.std.proofs.Common.{◌≡◌, refl, List, ℕ, ◌∙◌, sym, true, false}
+use Rattle.std.proofs.Common.{◌≡◌, List, ℕ, ◌∙◌, sym, true, false}
 use Rattle.warg_witness.proofs.KeyAgreementLemmas.{key_agreement_shown, key_agreement_placed_as}
 use Rattle.warg_witness.proofs.map.agree_key.Goals as goal
 

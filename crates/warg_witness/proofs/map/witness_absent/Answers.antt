@@ -9,3 +9,6 @@ returns-clause-holds g c = rw (c.peers.ensures.value, absent_leaf g.D.SupportedD
 
 pub returns-clause-collision : goal.returns-clause-collision
 returns-clause-collision g c = rw c.peers.ensures.value at c.find.ensures.collision
+
+pub returns-clause-met : goal.returns-clause-met
+returns-clause-met g c = rw (c.peers.ensures.value, absent_leaf g.D.SupportedDigest.digest) at c.find.ensures.met

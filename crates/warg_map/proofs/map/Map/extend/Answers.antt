@@ -1,34 +1,52 @@
 use Rattle.warg_map.specs.declared.map.MapError.TheVariants.{Full}
-use Rattle.std.proofs.Common.{◌≡◌, Err, ap, sym, ◌∙◌, subst, rules}
-use Rattle.std.specs.Iterator.{Yields}
-use Rattle.std.proofs.iter.Next.{Yields-more}
-use Rattle.std.specs.FinMap.{insert, len, contains_key}
+use Rattle.std.proofs.Common.{◌≡◌, [], ◌∷◌, Err, refl, ap, sym, ◌∙◌, rules}
+use Rattle.std.specs.FinMap.{len, contains_key}
+use Rattle.std.proofs.lemmas.Result.{IfOk-weaker}
 use Rattle.warg_map.specs.Bits.{key_bits}
-use Rattle.warg_map.specs.Sparse.{leaf_digest}
-use Rattle.warg_map.proofs.Insertions.{inserted-none, inserted-pair}
+use Rattle.warg_map.specs.Sparse.{SparseMap, inserted, pair_bytes}
+use Rattle.warg_map.proofs.Insertions.{inserted-none, inserted-first}
 use Rattle.warg_map.proofs.map.Map.extend.Goals as goal
 
-pub loop-key-init : goal.loop-key-init
-loop-key-init g c = c.in_ok-all.ensures.cases ∙ sym (inserted-none g.D.SupportedDigest.digest c.args.self.now)
+pub returns-in_default-clause-ok : goal.returns-in_default-clause-ok
+returns-in_default-clause-ok g c =
+    ([], (c.next.new.self, (c.args.iter, refl, c.in_default.ensures.steps)), c.in_ok-clone.ensures.cases ∙ sym (inserted-none g.D.SupportedDigest.digest c.args.self.now))
 
-pub returns-in_err-all-2-clause-full : goal.returns-in_err-all-2-clause-full
-returns-in_err-all-2-clause-full g c = λ full.
-    let e : Err c.in_err-all-2.field-0.0 ≡ Err Full = search rules in
-    let h = c.in_err-all-2.ensures.full.0 e in
-    let H = g.D.SupportedDigest.digest in (
-      c.loop-key.yielded,
+pub returns-in_err-insert-clause-full : goal.returns-in_err-insert-clause-full
+returns-in_err-insert-clause-full g c = λ full.
+    let e : Err c.in_err-insert.field-0.0 ≡ Err Full = search rules in
+    let h = c.in_err-insert.ensures.full.0 e in
+    let H = g.D.SupportedDigest.digest in
+    let none = inserted-none H c.args.self.now in (
+      [],
       (c.in-Some.key, c.in-Some.val),
       c.next.new.self,
-      Yields-more g.I.Iterator.next_gives c.args.iter c.loop-key.yielded c.loop-key.key-iterator (c.in-Some.key, c.in-Some.val) c.next.new.self (subst (λ (it : _). Yields g.I.Iterator.next_gives it c.loop-key.yielded c.loop-key.key-iterator) c.into_iter-key-iterator.ensures.into_iter_gives c.loop-key.yielded_by) c.in-Some.ensures.steps,
-      sym (ap len c.loop-key.invariant) ∙ h.0,
-      sym (ap (λ m. contains_key m (key_bits H (g.K.VisitBytes.bytes c.in-Some.key))) c.loop-key.invariant) ∙ h.1,
+      (c.next.new.self, c.in-Some.ensures.steps, refl),
+      ap len none ∙ h.0,
+      ap (λ m. contains_key m (key_bits H (g.K.VisitBytes.bytes c.in-Some.key))) none ∙ h.1,
     )
 
-pub loop-key-preserved : goal.loop-key-preserved
-loop-key-preserved g c =
+pub returns-clause-ok : goal.returns-clause-ok
+returns-clause-ok g c =
     let H = g.D.SupportedDigest.digest in
     let kb = g.K.VisitBytes.bytes in
     let vb = g.V.VisitBytes.bytes in
-    c.in_ok-all-2.ensures.ok
-    ∙ ap (λ m. insert m (key_bits H (kb c.in-Some.key)) (leaf_digest H (vb c.in-Some.val))) c.loop-key.invariant
-    ∙ sym (inserted-pair H kb vb c.args.self.now c.loop-key.yielded (c.in-Some.key, c.in-Some.val))
+    IfOk-weaker c.extended.result _ _ (λ m p. (
+      (c.in-Some.key, c.in-Some.val) ∷ p.0,
+      (p.1.0, (p.1.1.0, (c.next.new.self, c.in-Some.ensures.steps, p.1.1.1), p.1.1.2)),
+      p.2 ∙ ap (λ (first : SparseMap). inserted H first (pair_bytes kb vb p.0)) c.in_ok-insert.ensures.ok ∙ sym (inserted-first H kb vb c.args.self.now (c.in-Some.key, c.in-Some.val) p.0),
+    )) c.extended.ensures.ok
+
+pub returns-clause-full : goal.returns-clause-full
+returns-clause-full g c = λ full.
+    let H = g.D.SupportedDigest.digest in
+    let kb = g.K.VisitBytes.bytes in
+    let vb = g.V.VisitBytes.bytes in
+    let p = c.extended.ensures.full full in
+    let e = inserted-first H kb vb c.args.self.now (c.in-Some.key, c.in-Some.val) p.0 ∙ ap (λ (first : SparseMap). inserted H first (pair_bytes kb vb p.0)) (sym c.in_ok-insert.ensures.ok) in (
+      (c.in-Some.key, c.in-Some.val) ∷ p.0,
+      p.1,
+      p.2,
+      (c.next.new.self, c.in-Some.ensures.steps, p.3),
+      ap len e ∙ p.4,
+      ap (λ m. contains_key m (key_bits H (kb p.1.0))) e ∙ p.5,
+    )

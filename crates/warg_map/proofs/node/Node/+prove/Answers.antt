@@ -77,3 +77,50 @@ returns-in_ok-push_empties-in-Stem-clause-few g t c =
     let few = rw c.in-Some-3.is at c.in_ok-proof-in-Stem.ensures.few in
     let e = ap length c.in_ok-push_empties-in-Stem.ensures ∙ length_peers c.in-Some-3.proof _ ∙ ap (λ j. length c.in-Some-3.proof + j) (length-empty_peers H _ c.as_ref-stem.result.now.len) in
     omega (arith, hs, hb, few, e)
+
+-- a key that isn't held is refused no memory
+pub returns-in-Leaf-clause-none : goal.returns-in-Leaf-clause-none
+returns-in-Leaf-clause-none g t c = λ absent. let held = (returns-in-Leaf-clause-answer g t c).held in cc
+
+pub returns-else-shared_with-height-clause-none : goal.returns-else-shared_with-height-clause-none
+returns-else-shared_with-height-clause-none g t c = λ absent. let held = (returns-else-shared_with-height-clause-answer g t c).held in cc
+
+pub returns-in_err-proof-in-Fork-clause-none : goal.returns-in_err-proof-in-Fork-clause-none
+returns-in_err-proof-in-Fork-clause-none g t c = λ absent.
+    let found = ap is_some (finds_in_fork _ c.node.result.now _ _ (side_bit c.in-Some.side) _ _ (is_fork c.in-Fork.is c.as_ref-fork.ensures) c.in-Some.ensures.steps.bits (search rules) refl) in
+    let none = c.in_err-proof-in-Fork.ensures.none (found ∙ absent) in cc
+
+pub returns-in_err-push-in-Fork-clause-none : goal.returns-in_err-push-in-Fork-clause-none
+returns-in_err-push-in-Fork-clause-none g t c = λ absent.
+    let found = ap is_some (finds_in_fork _ c.node.result.now _ _ (side_bit c.in-Some.side) _ _ (is_fork c.in-Fork.is c.as_ref-fork.ensures) c.in-Some.ensures.steps.bits (search rules) refl) in
+    let none = rw c.in-Some-2.is at c.in_ok-proof-in-Fork.ensures.none (found ∙ absent) in cc
+
+pub returns-in_ok-push-in-Fork-clause-none : goal.returns-in_ok-push-in-Fork-clause-none
+returns-in_ok-push-in-Fork-clause-none g t c = λ absent. let held = (returns-in_ok-push-in-Fork-clause-answer g t c).held in cc
+
+pub returns-in_err-proof-in-Stem-clause-none : goal.returns-in_err-proof-in-Stem-clause-none
+returns-in_err-proof-in-Stem-clause-none g t c = λ absent.
+    let s = c.as_ref-stem.result.now in
+    let i = c.args.path.index in
+    let hash = c.args.path.hash.now in
+    let all : c.shared_with-in-Stem.result ≡ c.as_ref-stem.result.now.len = omega (arith, c.shared_with-in-Stem.ensures.at_most, c.if-shared_with-stem.false) in
+    let same : bits_from s.key i s.len ≡ bits_from hash i s.len = ap (bits_from s.key i) (sym all) ∙ c.shared_with-in-Stem.ensures.same ∙ ap (bits_from hash i) all in
+    let found = ap is_some (finds_below c.args.self.now c.node-in-Stem.result.now _ _ _ hash i s.len c.advance.new.self.index _ (is_stem c.in-Stem.is c.as_ref-stem.ensures) c.requires.well_formed
+    refl c.requires.height refl same
+    c.node-in-Stem.ensures.seen (ap (λ y. last_bits y (256 - c.advance.new.self.index)) c.advance.ensures.digest) c.advance.ensures.index refl) in
+    let none = c.in_err-proof-in-Stem.ensures.none (found ∙ absent) in cc
+
+pub returns-in_err-push_empties-in-Stem-clause-none : goal.returns-in_err-push_empties-in-Stem-clause-none
+returns-in_err-push_empties-in-Stem-clause-none g t c = λ absent.
+    let s = c.as_ref-stem.result.now in
+    let i = c.args.path.index in
+    let hash = c.args.path.hash.now in
+    let all : c.shared_with-in-Stem.result ≡ c.as_ref-stem.result.now.len = omega (arith, c.shared_with-in-Stem.ensures.at_most, c.if-shared_with-stem.false) in
+    let same : bits_from s.key i s.len ≡ bits_from hash i s.len = ap (bits_from s.key i) (sym all) ∙ c.shared_with-in-Stem.ensures.same ∙ ap (bits_from hash i) all in
+    let found = ap is_some (finds_below c.args.self.now c.node-in-Stem.result.now _ _ _ hash i s.len c.advance.new.self.index _ (is_stem c.in-Stem.is c.as_ref-stem.ensures) c.requires.well_formed
+    refl c.requires.height refl same
+    c.node-in-Stem.ensures.seen (ap (λ y. last_bits y (256 - c.advance.new.self.index)) c.advance.ensures.digest) c.advance.ensures.index refl) in
+    let none = rw c.in-Some-3.is at c.in_ok-proof-in-Stem.ensures.none (found ∙ absent) in cc
+
+pub returns-in_ok-push_empties-in-Stem-clause-none : goal.returns-in_ok-push_empties-in-Stem-clause-none
+returns-in_ok-push_empties-in-Stem-clause-none g t c = λ absent. let held = (returns-in_ok-push_empties-in-Stem-clause-answer g t c).held in cc
