@@ -1,5 +1,5 @@
-# The three ways in: the program, the tests, the figures.
-.PHONY: run test bench
+# The ways in: the program, the tests, the figures, and the library for C.
+.PHONY: run test bench ffi ffi-test
 
 # Proves and builds the program, and leaves it at bin/warg_check.
 run:
@@ -14,3 +14,11 @@ test:
 # Proves and builds the measuring program, and prints its figures.
 bench:
 	@cd crates/warg_bench && rt run && out/warg_bench measure
+
+# Proves and builds the library for C, as ffi/libwarg.a and ffi/libwarg.so, with ffi/warg.h.
+ffi:
+	@ffi/build.sh
+
+# Runs the examples in C, Python and Rust on every check line of the vectors.
+ffi-test: ffi
+	@ffi/test.sh
