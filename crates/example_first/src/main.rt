@@ -1,0 +1,28 @@
+//! A log, a proof out of it as bytes, and the verdict of a client who holds the log's checkpoint.
+#![tactic(auto)]
+
+use anyhow::Result;
+use warg_check::check_entry;
+use warg_crypto::Sha256;
+use warg_log::{LogBuilder, LogData, ProofBundle, VecLog};
+
+fn main(rt: HostRuntime) -> Result<()> {
+    let alloc = rt.alloc();
+
+    // A registry keeps a log of entries, and tells everyone its checkpoint: root and length.
+    let mut log: VecLog<Sha256, &str> = VecLog::default(alloc);
+    log.push(&"one")?;
+    let leaf = log.push(&"two")?;
+    let checkpoint = log.checkpoint();
+
+    // It sends a proof that "two" is in the log, as bytes.
+    let proof = log.prove_inclusion(leaf, log.length());
+    let proofs = vec![in alloc; proof]?;
+    let bundle = ProofBundle::bundle(alloc, Vec::new(alloc), proofs, &log)?;
+    let bytes = bundle.encode(alloc)?;
+
+    // A client checks the bytes: is entry 1 of the log with this checkpoint "two"?
+    let verdict = check_entry(alloc, bytes.as_slice(), 0, 1, &"two", &checkpoint)?;
+    println!(rt; "{verdict}")?;
+    Ok(())
+}

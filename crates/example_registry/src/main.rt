@@ -1,0 +1,51 @@
+//! A registry: reads releases, a line each, and keeps them in a log. For each release it prints what a client needs:
+//! the release, the log's length and root, and a bundle of proofs as hexadecimal digits, parted by tabs.
+//!
+//! The bundle proves that the release is the log's last entry, and that the log before it is a beginning of the log.
+#![tactic(auto)]
+
+use anyhow::{Result, bail};
+use std::alloc::Global;
+use warg_crypto::Sha256;
+use warg_log::{BundleError, GREATEST_LENGTH, LogBuilder, LogData, Node, ProofBundle, VecLog};
+
+type Log = VecLog<Sha256, String>;
+
+fn main(rt: HostRuntime) -> Result<()> {
+    let mut log = Log::default(rt.alloc());
+    for line in rt.lines(rt.alloc()) {
+        publish(&rt, &mut log, &line?)?;
+    }
+    Ok(())
+}
+
+// Adds a release to the log, and prints it with its proofs.
+fn publish(rt: &HostRuntime, log: &mut Log, release: &String) -> Result<()> {
+    if log.length() == GREATEST_LENGTH {
+        bail!("the log is full");
+    }
+    log.push(release)?;
+    let checkpoint = log.checkpoint();
+    let bytes = last_entry(rt.alloc(), log)?.encode(rt.alloc())?;
+    let bundle = hex::encode(rt.alloc(), bytes.as_slice())?;
+    println!(rt;
+        "{release}\t{}\t{}\t{bundle}",
+        checkpoint.length(),
+        checkpoint.root()
+    )?;
+    Ok(())
+}
+
+// The proofs that the last entry is in the log, and that the log before it is a beginning of the log.
+fn last_entry(alloc: Global, log: &Log) -> Result<ProofBundle<Sha256, String>, BundleError> {
+    let length = log.length();
+    let before = length.saturating_sub(1);
+    let inclusion = log.prove_inclusion(Node::leaf(before), length);
+    let consistency = log.prove_consistency(before, length);
+    ProofBundle::bundle(
+        alloc,
+        vec![in alloc; consistency]?,
+        vec![in alloc; inclusion]?,
+        log,
+    )
+}

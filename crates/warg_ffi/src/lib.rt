@@ -1,0 +1,163 @@
+//! Verdicts on the proofs in a bundle's bytes, for C and whatever calls C: `warg_check` under SHA-256 as a
+//! static library.
+//!
+//! Each call stands alone. It keeps no state and no pointer, gives back what memory it takes, and answers
+//! a number: 1 for true, 0 for false, and a negative number for each reason why there is no verdict. The
+//! header `ffi/warg.h` names the numbers, and says what a caller of C has to keep.
+#![tactic(auto)]
+
+ghost use Rattle.std.specs.Prelude.{◌≡◌, ◌+◌, ◌*◌, ◌^◌, [], ◌∷◌};
+ghost use Rattle.warg_crypto.specs.Digests.{sha256};
+ghost use Rattle.warg_check.specs.Verdicts.{inclusion_verdict, consistency_verdict, key_verdict, absent_verdict};
+ghost use Rattle.warg_check.specs.CheckpointVerdicts.{entry_verdict, growth_verdict};
+ghost use Rattle.warg_ffi.specs.Numbers.{Gives, number_under};
+
+mod number;
+
+use number::{ROOT_LENGTH, number};
+use std::alloc::Global;
+use warg_check::{
+    check_absent, check_consistency, check_entry, check_growth, check_inclusion, check_key,
+};
+use warg_crypto::{Hash, Sha256};
+use warg_log::Checkpoint;
+
+/// The version of the library, a byte for each number: 0.9.2, the version of the Rust crate whose calls these
+/// are, and 1 for what came here since.
+#[unsafe(no_mangle)]
+pub extern "C" fn warg_version() -> u32
+    ensures { result ≡ 9 * 2 ^ 16 + 2 * 2 ^ 8 + 1 }
+{
+    0x0009_0201
+}
+
+/// Whether the inclusion proof at a place of a log bundle, counted from 0, shows that entry `index`, from
+/// 0, of the log of this length and root has the value's bytes: the number of the verdict of
+/// `warg_check::check_entry`.
+#[unsafe(no_mangle)]
+pub extern "C" fn warg_check_entry(
+    alloc: Global,
+    bundle: &[u8],
+    at: usize,
+    index: usize,
+    value: &[u8],
+    length: usize,
+    root: &[u8],
+) -> i32
+    ensures { Gives result (number_under (root.now ∷ []) (entry_verdict sha256 bundle.now at index value.now length root.now)) }
+{
+    match Hash::<Sha256>::try_from(root) {
+        Ok(root) => {
+            let checkpoint = Checkpoint::new(root, length);
+            number(check_entry(alloc, bundle, at, index, &value, &checkpoint))
+        }
+        Err(_) => ROOT_LENGTH,
+    }
+}
+
+/// Whether the consistency proof at a place of a log bundle, counted from 0, shows that the log of the old
+/// length and root is a beginning of the log of the new ones: the number of the verdict of
+/// `warg_check::check_growth`. From an empty log it is false: no proof is made of it.
+#[unsafe(no_mangle)]
+pub extern "C" fn warg_check_growth(
+    alloc: Global,
+    bundle: &[u8],
+    at: usize,
+    old_length: usize,
+    old_root: &[u8],
+    new_length: usize,
+    new_root: &[u8],
+) -> i32
+    ensures { Gives result (number_under (old_root.now ∷ new_root.now ∷ []) (growth_verdict sha256 bundle.now at old_length old_root.now new_length new_root.now)) }
+{
+    match (
+        Hash::<Sha256>::try_from(old_root),
+        Hash::<Sha256>::try_from(new_root),
+    ) {
+        (Ok(old_root), Ok(new_root)) => {
+            let old = Checkpoint::new(old_root, old_length);
+            let new = Checkpoint::new(new_root, new_length);
+            number(check_growth(alloc, bundle, at, &old, &new))
+        }
+        _ => ROOT_LENGTH,
+    }
+}
+
+/// Whether the inclusion proof at a place of a log bundle, counted from 0, evaluates to the root with the
+/// value: the number of the verdict of `warg_check::check_inclusion`. It binds neither the log's length nor
+/// the entry's place: whoever holds a checkpoint calls [`warg_check_entry`].
+#[unsafe(no_mangle)]
+pub extern "C" fn warg_check_inclusion(
+    alloc: Global,
+    bundle: &[u8],
+    at: usize,
+    value: &[u8],
+    root: &[u8],
+) -> i32
+    ensures { Gives result (number_under (root.now ∷ []) (inclusion_verdict sha256 bundle.now at value.now root.now)) }
+{
+    match Hash::<Sha256>::try_from(root) {
+        Ok(root) => number(check_inclusion(alloc, bundle, at, &value, &root)),
+        Err(_) => ROOT_LENGTH,
+    }
+}
+
+/// Whether the consistency proof at a place of a log bundle, counted from 0, evaluates to the two roots:
+/// the number of the verdict of `warg_check::check_consistency`. It binds no length: whoever holds
+/// checkpoints calls [`warg_check_growth`].
+#[unsafe(no_mangle)]
+pub extern "C" fn warg_check_consistency(
+    alloc: Global,
+    bundle: &[u8],
+    at: usize,
+    old_root: &[u8],
+    new_root: &[u8],
+) -> i32
+    ensures { Gives result (number_under (old_root.now ∷ new_root.now ∷ []) (consistency_verdict sha256 bundle.now at old_root.now new_root.now)) }
+{
+    match (
+        Hash::<Sha256>::try_from(old_root),
+        Hash::<Sha256>::try_from(new_root),
+    ) {
+        (Ok(old), Ok(new)) => number(check_consistency(alloc, bundle, at, &old, &new)),
+        _ => ROOT_LENGTH,
+    }
+}
+
+/// Whether the proof at a place of a map bundle, counted from 0, shows that the map with this root holds
+/// the value under the key: the number of the verdict of `warg_check::check_key`.
+#[unsafe(no_mangle)]
+pub extern "C" fn warg_check_key(
+    alloc: Global,
+    bundle: &[u8],
+    at: usize,
+    key: &[u8],
+    value: &[u8],
+    root: &[u8],
+) -> i32
+    ensures { Gives result (number_under (root.now ∷ []) (key_verdict sha256 bundle.now at key.now value.now root.now)) }
+{
+    match Hash::<Sha256>::try_from(root) {
+        Ok(root) => number(check_key(alloc, bundle, at, &key, &value, &root)),
+        Err(_) => ROOT_LENGTH,
+    }
+}
+
+/// Whether the absence at a place of a map bundle, counted from 0, shows that the map with this root holds
+/// nothing under the key, or a value without bytes: the number of the verdict of
+/// `warg_check::check_absent`.
+#[unsafe(no_mangle)]
+pub extern "C" fn warg_check_absent(
+    alloc: Global,
+    bundle: &[u8],
+    at: usize,
+    key: &[u8],
+    root: &[u8],
+) -> i32
+    ensures { Gives result (number_under (root.now ∷ []) (absent_verdict sha256 bundle.now at key.now root.now)) }
+{
+    match Hash::<Sha256>::try_from(root) {
+        Ok(root) => number(check_absent(alloc, bundle, at, &key, &root)),
+        Err(_) => ROOT_LENGTH,
+    }
+}

@@ -1,0 +1,9 @@
+//! How a program calls each library: small callers with what they are promised, proved from the libraries' contracts.
+//! `CALLING.md` beside each library's `src/` shows them.
+#![tactic(auto)]
+
+pub mod check;
+pub mod crypto;
+pub mod log;
+pub mod map;
+pub mod witness;

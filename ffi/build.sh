@@ -1,0 +1,21 @@
+#!/usr/bin/env bash
+# Proves the static library, and leaves it for C at ffi/libwarg.a and ffi/libwarg.so. Nothing but the calls of
+# ffi/warg.h can be seen in either.
+set -eu
+cd "$(dirname "$0")/.."
+kit="$(dirname "$(rt doc)")"
+work="$(mktemp -d)"
+trap 'rm -rf "$work"' EXIT
+
+(cd crates/warg_ffi && rt lib > "$work/lib.log" 2>&1) || { tail -20 "$work/lib.log"; exit 1; }
+parts=(crates/warg_ffi/out/libwarg_ffi.a "$kit/c/liblibc_c.a")
+grep -o 'warg_[a-z]*\(_[a-z]*\)*(' ffi/warg.h | tr -d '(' | sort -u > "$work/calls"
+{ echo '{ global:'; sed 's/$/;/' "$work/calls"; echo 'local: *; };'; } > "$work/version"
+
+ld -r --whole-archive "${parts[@]}" -o "$work/warg.o"
+objcopy --keep-global-symbols="$work/calls" "$work/warg.o"
+rm -f ffi/libwarg.a
+ar rcs ffi/libwarg.a "$work/warg.o"
+cc -shared -o ffi/libwarg.so -Wl,--whole-archive "${parts[@]}" -Wl,--no-whole-archive \
+    -Wl,-z,defs -Wl,--version-script="$work/version"
+echo "ffi/libwarg.a and ffi/libwarg.so have $(wc -l < "$work/calls") calls"

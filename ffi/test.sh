@@ -1,0 +1,48 @@
+#!/usr/bin/env bash
+# Runs the three examples on every check line of the vectors, and compares their answers, and then a hostile
+# caller. Says which examples were run: one whose compiler or interpreter isn't there is left out.
+set -eu
+cd "$(dirname "$0")/.."
+work="$(mktemp -d)"
+trap 'rm -rf "$work"' EXIT
+vectors=crates/warg_vectors
+
+paste "$vectors/stdin" "$vectors/stdout" | sed -n 's/^\(each \)\?\(check_[^\t]*\t\)/\2/p' > "$work/lines"
+cut -f1 "$work/lines" > "$work/calls"
+cut -f2 "$work/lines" > "$work/answers"
+
+# Runs an example under a name, and compares.
+try() {
+    local name="$1"; shift
+    "$@" < "$work/calls" > "$work/$name.answers"
+    cmp "$work/$name.answers" "$work/answers"
+    echo "ffi/examples/check.$name: $(wc -l < "$work/calls") check lines answered right"
+}
+
+ran=0
+if command -v cc > /dev/null; then
+    cc -O2 -Wall -Wextra -Werror -I ffi ffi/examples/check.c ffi/libwarg.a -o "$work/check_c"
+    try c "$work/check_c"
+    ran=$((ran + 1))
+fi
+if command -v python3 > /dev/null; then
+    try py python3 ffi/examples/check.py
+    ran=$((ran + 1))
+fi
+if command -v rustc > /dev/null; then
+    rustc --edition 2024 -O ffi/examples/check.rs -L native=ffi -l static=warg -o "$work/check_rs"
+    try rs "$work/check_rs"
+    ran=$((ran + 1))
+fi
+echo "$ran of 3 examples ran"
+[ "$ran" -gt 0 ]
+
+if command -v cc > /dev/null; then
+    wrap=-Wl,--wrap=malloc,--wrap=realloc,--wrap=free
+    cc -O2 -Wall -Wextra -Werror -I ffi ffi/hostile.c ffi/libwarg.a "$wrap" -o "$work/hostile"
+    "$work/hostile" 100000 < "$work/calls"
+    if command -v valgrind > /dev/null; then
+        valgrind -q --error-exitcode=9 --leak-check=full "$work/hostile" 300 < "$work/calls"
+        echo "valgrind reports nothing"
+    fi
+fi

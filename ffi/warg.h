@@ -1,0 +1,101 @@
+/* Verdicts on the proofs of transparency logs and maps, from their bytes, under SHA-256.
+ *
+ * Which call to use first: whoever holds a log's checkpoint, its length and root, calls warg_check_entry and
+ * warg_check_growth, which bind both. warg_check_inclusion and warg_check_consistency say that a proof
+ * evaluates to a root, and bind neither a log's length nor an entry's place. For maps there are
+ * warg_check_key and warg_check_absent.
+ *
+ * Each call answers WARG_TRUE, WARG_FALSE, or a negative number that says why there is no verdict. No call
+ * keeps state or a pointer; each gives back the memory that it took. So calls from several threads don't
+ * meet, as long as malloc, realloc and free may be called from several threads.
+ *
+ * What the caller sees to:
+ *  - each pointer is valid for as many bytes as the length behind it says, and isn't written meanwhile;
+ *    a pointer to no bytes is valid too, and not NULL;
+ *  - malloc, realloc and free come from one allocator, and blocks are aligned as the C standard asks;
+ *  - no call is made from a signal handler, nor in the forked child of a process with threads;
+ *  - bytes of strangers are bounded before they come here: a call asks for up to 60 times as much memory as
+ *    a bundle has bytes.
+ *
+ * The calls are proved up to this boundary. That this header and the library agree is not. */
+#ifndef WARG_H
+#define WARG_H
+
+#include <stddef.h>
+#include <stdint.h>
+
+#ifdef __cplusplus
+extern "C" {
+#endif
+
+enum {
+    WARG_TRUE = 1,
+    WARG_FALSE = 0,
+
+    /* Memory was refused. This says nothing of the proof. */
+    WARG_OUT_OF_MEMORY = -1,
+    /* The bundle has no proof of the kind at the place. */
+    WARG_NO_SUCH_PROOF = -2,
+    /* A root isn't 32 bytes. It is looked at before the bundle. */
+    WARG_ROOT_LENGTH = -3,
+
+    /* The first fault of the bundle's bytes as a message. */
+    WARG_TRUNCATED = -11,        /* they end inside a number or a field */
+    WARG_BAD_VARINT = -12,       /* the tenth byte of a varint is above 1 */
+    WARG_BAD_TAG = -13,          /* a tag is above 2^32 - 1, or its field number is 0 */
+    WARG_GROUP = -14,            /* a field has wire type 3 or 4 */
+    WARG_BAD_WIRE_TYPE = -15,    /* a field has wire type 6 or 7 */
+    WARG_WRONG_WIRE_TYPE = -16,  /* a known field has another wire type than its own */
+    WARG_NUMBER_TOO_LARGE = -17, /* a number is above 2^32 - 1 */
+
+    /* The first fault of what the message holds. */
+    WARG_HASH_LENGTH = -21,    /* a digest isn't 32 bytes */
+    WARG_NOT_ASCENDING = -22,  /* a digest's node isn't above the one before */
+    WARG_TOO_MANY_PEERS = -23  /* a map's proof has more than 256 peers */
+};
+
+/* The version, a byte each: the three numbers of the Rust crate whose calls these are, and what came since. */
+uint32_t warg_version(void);
+
+/* Whether the inclusion proof at a place of a log bundle, counted from 0, shows that entry `index`, from 0, of
+ * the log of this length and root has the value's bytes: it is a proof of that leaf at that length, and
+ * evaluates to the root. */
+int32_t warg_check_entry(const uint8_t *bundle, size_t bundle_bytes, size_t at, size_t index,
+                         const uint8_t *value, size_t value_bytes, size_t length,
+                         const uint8_t *root, size_t root_bytes);
+
+/* Whether the consistency proof at a place of a log bundle, counted from 0, shows that the log of the old
+ * length and root is a beginning of the log of the new ones: it is a proof between these lengths, and
+ * evaluates to both roots. From an empty log it is false: every log continues that one. */
+int32_t warg_check_growth(const uint8_t *bundle, size_t bundle_bytes, size_t at, size_t old_length,
+                          const uint8_t *old_root, size_t old_root_bytes, size_t new_length,
+                          const uint8_t *new_root, size_t new_root_bytes);
+
+/* Whether the inclusion proof at a place of a log bundle evaluates to the root with the value. */
+int32_t warg_check_inclusion(const uint8_t *bundle, size_t bundle_bytes, size_t at,
+                             const uint8_t *value, size_t value_bytes,
+                             const uint8_t *root, size_t root_bytes);
+
+/* Whether the consistency proof at a place of a log bundle evaluates to the two roots. */
+int32_t warg_check_consistency(const uint8_t *bundle, size_t bundle_bytes, size_t at,
+                               const uint8_t *old_root, size_t old_root_bytes,
+                               const uint8_t *new_root, size_t new_root_bytes);
+
+/* Whether the proof at a place of a map bundle, counted from 0, shows that the map with this root holds the
+ * value under the key. */
+int32_t warg_check_key(const uint8_t *bundle, size_t bundle_bytes, size_t at,
+                       const uint8_t *key, size_t key_bytes,
+                       const uint8_t *value, size_t value_bytes,
+                       const uint8_t *root, size_t root_bytes);
+
+/* Whether the absence at a place of a map bundle, counted from 0, shows that the map with this root holds
+ * nothing under the key, or a value without bytes. */
+int32_t warg_check_absent(const uint8_t *bundle, size_t bundle_bytes, size_t at,
+                          const uint8_t *key, size_t key_bytes,
+                          const uint8_t *root, size_t root_bytes);
+
+#ifdef __cplusplus
+}
+#endif
+
+#endif
