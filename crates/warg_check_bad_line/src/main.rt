@@ -1,0 +1,10 @@
+//! The main function of `warg_check`, on a bad line: it ends with the exit status 1.
+#![tactic(auto)]
+
+use std::process::ExitCode;
+use warg_check::program::run;
+use warg_check_status::exit_code;
+
+fn main(rt: HostRuntime) -> ExitCode {
+    exit_code(run(rt.alloc(), &mut rt.stdin(), &mut rt.stdout()))
+}
