@@ -8,10 +8,12 @@ ghost use Rattle.warg_check.specs.declared.program.RunError.TheVariants.{Memory}
 
 mod command;
 mod session;
+mod status;
 mod word;
 mod words;
 
 use session::answers;
+pub use status::exit_code;
 use std::alloc::{AllocError, AllocFailed, Allocator};
 use std::io::{Read, Write};
 use thiserror::Error;

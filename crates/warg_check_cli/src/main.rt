@@ -5,13 +5,8 @@
 #![tactic(auto)]
 
 use std::process::ExitCode;
-use warg_check::program::{RunError, run};
+use warg_check::program::{exit_code, run};
 
 fn main(rt: HostRuntime) -> ExitCode {
-    match run(rt.alloc(), &mut rt.stdin(), &mut rt.stdout()) {
-        Ok(true) => ExitCode::from(0),
-        Ok(false) => ExitCode::from(1),
-        Err(RunError::Read | RunError::Write) => ExitCode::from(2),
-        Err(RunError::Memory | RunError::Full) => ExitCode::from(3),
-    }
+    exit_code(run(rt.alloc(), &mut rt.stdin(), &mut rt.stdout()))
 }

@@ -13,57 +13,84 @@ mod messages;
 mod nodes;
 mod proofs;
 mod runs;
-mod stack;
+mod stored;
 mod values;
 mod witnesses;
 mod wrong;
 
 use crate::answer::Answer;
-use crate::words::{Fault, Words};
+use crate::calls::digests::Digest;
+use crate::each;
+use crate::words::{Fault, Given, Words};
+use warg_crypto::weak::{Flat, Own32, Sum};
+use warg_crypto::{Sha256, SupportedDigest};
 
 /// Answers the call that the words spell.
-pub(crate) fn answer(words: &mut Words<'_>, answer: &mut Answer) -> Result<(), Fault> {
+pub(crate) fn answer(words: &mut Words<'_>, to: &mut Answer) -> Result<(), Fault> {
     let name = words.name()?;
-    if is_answered(name, words, answer)? {
-        Ok(())
-    } else {
-        Err(Fault::BadCall)
+    match name {
+        "walk" => each::answer::<proofs::Walk>(words, to),
+        "inclusions" => each::answer::<proofs::Inclusions>(words, to),
+        "wire" => each::answer::<messages::Wire>(words, to),
+        "read" => values::read(words, to),
+        "run" => each::answer::<runs::Run>(words, to),
+        "check_inclusion" => each::answer::<checks::CheckInclusion>(words, to),
+        "check_consistency" => each::answer::<checks::CheckConsistency>(words, to),
+        "check_key" => each::answer::<checks::CheckKey>(words, to),
+        "check_absent" => each::answer::<checks::CheckAbsent>(words, to),
+        "check_entry" => each::answer::<checks::CheckEntry>(words, to),
+        "check_growth" => each::answer::<checks::CheckGrowth>(words, to),
+        _ if nodes::has_call(name) => nodes::answer(name, words, to),
+        _ => by_digest(name, words, to),
     }
 }
 
-// Whether one of the modules knows the name, and so answered the call.
-fn is_answered(name: &str, words: &mut Words<'_>, to: &mut Answer) -> Result<bool, Fault> {
-    Ok(
-        nodes::answer(name, words, to)?
-            || of_logs(name, words, to)?
-            || of_maps(name, words, to)?
-            || of_bytes(name, words, to)?,
-    )
+// Answers a call whose first word names its digest function.
+fn by_digest(name: &str, words: &mut Words<'_>, to: &mut Answer) -> Result<(), Fault> {
+    match Digest::read(words) {
+        Ok(Digest::Sha256) => of_log::<Sha256>(name, words, to),
+        Ok(Digest::Sum) => of_log::<Sum>(name, words, to),
+        Ok(Digest::Own32) => of_log::<Own32>(name, words, to),
+        Ok(Digest::Flat) => of_log::<Flat>(name, words, to),
+        Err(fault) => Err(fault),
+    }
 }
 
-fn of_logs(name: &str, words: &mut Words<'_>, to: &mut Answer) -> Result<bool, Fault> {
-    Ok(
-        logs::answer(name, words, to)?
-            || proofs::answer(name, words, to)?
-            || bundles::answer(name, words, to)?
-            || witnesses::answer(name, words, to)?,
-    )
+fn of_log<D: SupportedDigest>(
+    name: &str,
+    words: &mut Words<'_>,
+    to: &mut Answer,
+) -> Result<(), Fault> {
+    match name {
+        "log" => each::answer::<logs::Log<D>>(words, to),
+        "evaluate_value" => each::answer::<proofs::EvaluateValue<D>>(words, to),
+        "evaluate_hash" => each::answer::<proofs::EvaluateHash<D>>(words, to),
+        "consistency" => each::answer::<proofs::Consistency<D>>(words, to),
+        "bundle" => each::answer::<bundles::Bundle<D>>(words, to),
+        "witness_value" => each::answer::<witnesses::WitnessValue<D>>(words, to),
+        "witness_hash" => each::answer::<witnesses::WitnessHash<D>>(words, to),
+        "witness_consistency" => each::answer::<witnesses::WitnessConsistency<D>>(words, to),
+        "agree_value" => each::answer::<witnesses::AgreeValue<D>>(words, to),
+        _ => of_map::<D>(name, words, to),
+    }
 }
 
-fn of_maps(name: &str, words: &mut Words<'_>, to: &mut Answer) -> Result<bool, Fault> {
-    Ok(
-        maps::answer(name, words, to)?
-            || map_proofs::answer(name, words, to)?
-            || map_bundles::answer(name, words, to)?
-            || map_witnesses::answer(name, words, to)?,
-    )
-}
-
-fn of_bytes(name: &str, words: &mut Words<'_>, to: &mut Answer) -> Result<bool, Fault> {
-    Ok(
-        checks::answer(name, words, to)?
-            || messages::answer(name, words, to)?
-            || values::answer(name, words, to)?
-            || runs::answer(name, words, to)?,
-    )
+fn of_map<D: SupportedDigest>(
+    name: &str,
+    words: &mut Words<'_>,
+    to: &mut Answer,
+) -> Result<(), Fault> {
+    match name {
+        "map" => each::answer::<maps::Insert<D>>(words, to),
+        "prove" => each::answer::<maps::Prove<D>>(words, to),
+        "prove_absence" => each::answer::<maps::ProveAbsence<D>>(words, to),
+        "map_proof" => each::answer::<map_proofs::MapProof<D>>(words, to),
+        "evaluate" => each::answer::<map_proofs::Evaluate<D>>(words, to),
+        "evaluate_absent" => each::answer::<map_proofs::EvaluateAbsent<D>>(words, to),
+        "map_bundle" => each::answer::<map_bundles::MapBundle<D>>(words, to),
+        "witness_key" => each::answer::<map_witnesses::WitnessKey<D>>(words, to),
+        "witness_absent" => each::answer::<map_witnesses::WitnessAbsent<D>>(words, to),
+        "agree_key" => each::answer::<map_witnesses::AgreeKey<D>>(words, to),
+        _ => Err(Fault::BadCall),
+    }
 }

@@ -1,7 +1,9 @@
 //! The words of a line, and what they spell.
 
+ghost use Rattle.std.specs.Prelude.{◌≤◌, ◌^◌};
+
 use std::alloc::{AllocError, AllocFailed, Global};
-use warg_crypto::{Hash, SupportedDigest, VisitBytes};
+use warg_crypto::Hash;
 use warg_log::Node;
 
 /// Why a line has no answer of its own.
@@ -28,19 +30,27 @@ impl<T: Drop> From<AllocFailed<T>> for Fault {
 // How often a list's `COUNT*WORD` may repeat its word.
 const MOST_COPIES: usize = 1 << 24;
 
-/// The words of a line that are still to be read, from left to right.
+/// The words that are still to be read, from left to right: those of a line, parted by spaces, or of an item of a list,
+/// parted by colons.
 #[derive(Drop)]
 pub(crate) struct Words<'a> {
     alloc: Global,
     rest: Option<&'a str>,
+    parted_by: char,
     is_each: bool,
 }
 
 impl<'a> Words<'a> {
+    /// The words of a line.
     pub(crate) fn of(alloc: Global, line: &'a str) -> Words<'a> {
+        Words::parted(alloc, line, ' ')
+    }
+
+    fn parted(alloc: Global, text: &'a str, parted_by: char) -> Words<'a> {
         Words {
             alloc,
-            rest: Some(line),
+            rest: Some(text),
+            parted_by,
             is_each: false,
         }
     }
@@ -69,7 +79,7 @@ impl<'a> Words<'a> {
         let Some(rest) = self.rest else {
             return Err(Fault::BadCall);
         };
-        match rest.split_once(' ') {
+        match rest.split_once(self.parted_by) {
             Some((word, rest)) => {
                 self.rest = Some(rest);
                 Ok(word)
@@ -81,12 +91,6 @@ impl<'a> Words<'a> {
         }
     }
 
-    /// What the next word spells.
-    pub(crate) fn read<W: Word>(&mut self) -> Result<W, Fault> {
-        let word = self.next()?;
-        W::read(self.alloc, word)
-    }
-
     /// A fault unless all words were read.
     pub(crate) fn end(&self) -> Result<(), Fault> {
         match self.rest {
@@ -96,50 +100,73 @@ impl<'a> Words<'a> {
     }
 }
 
-/// What a word can spell.
-pub(crate) trait Word: Sized + Drop {
-    fn read(alloc: Global, word: &str) -> Result<Self, Fault>;
-}
+/// What one word spells, or several.
+pub(crate) trait Given: Sized + Drop {
+    fn read(words: &mut Words<'_>) -> Result<Self, Fault>;
 
-/// One to twenty decimal digits, of a value below 2^64.
-impl Word for usize {
-    fn read(_alloc: Global, word: &str) -> Result<usize, Fault> {
-        if word.is_empty() || word.len() > 20 {
-            return Err(Fault::BadCall);
-        }
-        let mut value = 0usize;
-        for digit in word.as_bytes() {
-            value = with_digit(value, *digit)?;
-        }
-        Ok(value)
+    /// Whether it is what the line gave. Only data are looked at.
+    fn stands(&self) -> bool {
+        true
     }
 }
 
-fn with_digit(value: usize, digit: u8) -> Result<usize, Fault> {
-    if !digit.is_ascii_digit() {
+// The number that one to twenty decimal digits spell, below 2^64.
+fn number(word: &str) -> Result<usize, Fault> {
+    if word.len() > 20 || !has_digits_alone(word) {
         return Err(Fault::BadCall);
     }
-    let tens = value.checked_mul(10).ok_or(Fault::BadCall)?;
-    tens.checked_add(usize::from(digit - b'0'))
-        .ok_or(Fault::BadCall)
+    word.parse().map_err(|_| Fault::BadCall)
 }
 
-impl Word for Node {
-    fn read(alloc: Global, word: &str) -> Result<Node, Fault> {
-        Ok(Node(usize::read(alloc, word)?))
+fn has_digits_alone(word: &str) -> bool {
+    for byte in word.as_bytes() {
+        if !byte.is_ascii_digit() {
+            return false;
+        }
+    }
+    true
+}
+
+impl Given for usize {
+    fn read(words: &mut Words<'_>) -> Result<usize, Fault> {
+        number(words.next()?)
+    }
+}
+
+impl Given for Node {
+    fn read(words: &mut Words<'_>) -> Result<Node, Fault> {
+        Ok(Node(number(words.next()?)?))
+    }
+}
+
+/// A length of a log: a number up to 2^63.
+#[derive(Drop)]
+pub(crate) struct Length {
+    pub(crate) value: usize,
+    ghost most: { value ≤ 2 ^ 63 },
+}
+
+impl Given for Length {
+    fn read(words: &mut Words<'_>) -> Result<Length, Fault> {
+        let value = number(words.next()?)?;
+        if value > 1 << 63 {
+            return Err(Fault::BadCall);
+        }
+        Ok(Length { value })
     }
 }
 
 /// `-` for no bytes, else lower-case hexadecimal digits.
-impl Word for Vec<u8> {
-    fn read(alloc: Global, word: &str) -> Result<Vec<u8>, Fault> {
+impl Given for Vec<u8> {
+    fn read(words: &mut Words<'_>) -> Result<Vec<u8>, Fault> {
+        let word = words.next()?;
         if word == "-" {
-            return Ok(Vec::new(alloc));
+            return Ok(Vec::new(words.alloc()));
         }
         if word.is_empty() || !has_lower_case_alone(word) {
             return Err(Fault::BadCall);
         }
-        match hex::decode(alloc, word) {
+        match hex::decode(words.alloc(), word) {
             Ok(bytes) => Ok(bytes),
             Err(hex::FromHexError::OutOfMemory) => Err(Fault::Memory),
             Err(_) => Err(Fault::BadCall),
@@ -148,14 +175,18 @@ impl Word for Vec<u8> {
 }
 
 fn has_lower_case_alone(word: &str) -> bool {
-    word.as_bytes()
-        .iter()
-        .all(|byte| !byte.is_ascii_uppercase())
+    for byte in word.as_bytes() {
+        if byte.is_ascii_uppercase() {
+            return false;
+        }
+    }
+    true
 }
 
 /// 64 lower-case hexadecimal digits.
-impl<D> Word for Hash<D> {
-    fn read(_alloc: Global, word: &str) -> Result<Hash<D>, Fault> {
+impl<D> Given for Hash<D> {
+    fn read(words: &mut Words<'_>) -> Result<Hash<D>, Fault> {
+        let word = words.next()?;
         let mut bytes = [0; 32];
         if !has_lower_case_alone(word) || hex::decode_to_slice(word, &mut bytes).is_err() {
             return Err(Fault::BadCall);
@@ -164,25 +195,27 @@ impl<D> Word for Hash<D> {
     }
 }
 
-/// A peer: `none`, or a hash.
-impl<D> Word for Option<Hash<D>> {
-    fn read(alloc: Global, word: &str) -> Result<Option<Hash<D>>, Fault> {
+/// `none`, or what another word spells.
+impl<T: Given> Given for Option<T> {
+    fn read(words: &mut Words<'_>) -> Result<Option<T>, Fault> {
+        let word = words.next()?;
         if word == "none" {
             return Ok(None);
         }
-        Ok(Some(Hash::read(alloc, word)?))
+        Ok(Some(T::read(&mut Words::of(words.alloc(), word))?))
     }
 }
 
-/// Two words that are parted by a colon.
-impl<S: Word, T: Word> Word for (S, T) {
-    fn read(alloc: Global, word: &str) -> Result<(S, T), Fault> {
-        let Some((first, second)) = word.split_once(':') else {
-            return Err(Fault::BadCall);
-        };
-        let first = S::read(alloc, first)?;
-        let second = T::read(alloc, second)?;
+/// One after the other.
+impl<A: Given, B: Given> Given for (A, B) {
+    fn read(words: &mut Words<'_>) -> Result<(A, B), Fault> {
+        let first = A::read(words)?;
+        let second = B::read(words)?;
         Ok((first, second))
+    }
+
+    fn stands(&self) -> bool {
+        self.0.stands() && self.1.stands()
     }
 }
 
@@ -192,9 +225,10 @@ pub(crate) struct List<T> {
     pub(crate) items: Vec<T>,
 }
 
-impl<T: Word> Word for List<T> {
-    fn read(alloc: Global, word: &str) -> Result<List<T>, Fault> {
-        let mut items = Vec::new(alloc);
+impl<T: Given> Given for List<T> {
+    fn read(words: &mut Words<'_>) -> Result<List<T>, Fault> {
+        let word = words.next()?;
+        let mut items = Vec::new(words.alloc());
         if word == "[]" {
             return Ok(List { items });
         }
@@ -206,23 +240,23 @@ impl<T: Word> Word for List<T> {
 }
 
 // Pushes what one item of a list stands for.
-fn push_item<T: Word>(items: &mut Vec<T>, item: &str) -> Result<(), Fault> {
-    let alloc = *items.allocator();
+fn push_item<T: Given>(items: &mut Vec<T>, item: &str) -> Result<(), Fault> {
     let Some((count, word)) = item.split_once('*') else {
-        items.push(T::read(alloc, item)?)?;
-        return Ok(());
+        return push_copies(items, 1, item);
     };
-    let count = usize::read(alloc, count)?;
+    let count = number(count)?;
     if count > MOST_COPIES {
         return Err(Fault::BadCall);
     }
     push_copies(items, count, word)
 }
 
-fn push_copies<T: Word>(items: &mut Vec<T>, count: usize, word: &str) -> Result<(), Fault> {
+fn push_copies<T: Given>(items: &mut Vec<T>, count: usize, word: &str) -> Result<(), Fault> {
     let alloc = *items.allocator();
     for _ in 0..count {
-        items.push(T::read(alloc, word)?)?;
+        let mut words = Words::parted(alloc, word, ':');
+        items.push(T::read(&mut words)?)?;
+        words.end()?;
     }
     Ok(())
 }

@@ -1,30 +1,19 @@
 //! Verdicts on the proofs in bytes, under SHA-256.
 
 use crate::answer::Answer;
-use crate::each;
 use crate::each::{Call, Memory};
-use crate::words::{Fault, Words};
 use std::alloc::AllocError;
-use warg_check::{
-    CheckError, check_absent, check_consistency, check_entry, check_growth, check_inclusion,
-    check_key,
-};
+use warg_check::CheckError;
 use warg_crypto::{Hash, Sha256};
 use warg_log::Checkpoint;
 
-/// Answers the call of this name, or false where the name is none of these.
-pub(super) fn answer(name: &str, words: &mut Words<'_>, to: &mut Answer) -> Result<bool, Fault> {
-    match name {
-        "check_inclusion" => each::answer::<CheckInclusion>(words, to)?,
-        "check_consistency" => each::answer::<CheckConsistency>(words, to)?,
-        "check_key" => each::answer::<CheckKey>(words, to)?,
-        "check_absent" => each::answer::<CheckAbsent>(words, to)?,
-        "check_entry" => each::answer::<CheckEntry>(words, to)?,
-        "check_growth" => each::answer::<CheckGrowth>(words, to)?,
-        _ => return Ok(false),
-    }
-    Ok(true)
-}
+// The bytes, and the place of the proof in them.
+type Place = (Vec<u8>, usize);
+
+type Root = Hash<Sha256>;
+
+// The length and the root of a checkpoint.
+type Known = (usize, Root);
 
 fn write(verdict: Result<bool, CheckError>, to: &mut Answer) -> Result<(), AllocError> {
     match verdict {
@@ -33,170 +22,117 @@ fn write(verdict: Result<bool, CheckError>, to: &mut Answer) -> Result<(), Alloc
     }
 }
 
-#[derive(Drop)]
-struct CheckInclusion {
-    bytes: Vec<u8>,
-    at: usize,
-    value: Vec<u8>,
-    root: Hash<Sha256>,
-}
+pub(super) struct CheckInclusion;
 
 impl Call for CheckInclusion {
-    fn read(words: &mut Words<'_>) -> Result<CheckInclusion, Fault> {
-        Ok(CheckInclusion {
-            bytes: words.read()?,
-            at: words.read()?,
-            value: words.read()?,
-            root: words.read()?,
-        })
-    }
+    type Given = (Place, (Vec<u8>, Root));
 
-    fn answer<M: Memory>(&self, memory: M, answer: &mut Answer) -> Result<(), AllocError> {
-        let bytes = self.bytes.as_slice();
-        let verdict = check_inclusion(memory, bytes, self.at, &self.value, &self.root);
-        write(verdict, answer)
+    fn answer<M: Memory>(
+        given: &(Place, (Vec<u8>, Root)),
+        memory: M,
+        to: &mut Answer,
+    ) -> Result<(), AllocError> {
+        let ((bytes, at), (value, root)) = given;
+        let bytes = bytes.as_slice();
+        write(
+            warg_check::check_inclusion(memory, bytes, *at, value, root),
+            to,
+        )
     }
 }
 
-#[derive(Drop)]
-struct CheckConsistency {
-    bytes: Vec<u8>,
-    at: usize,
-    old: Hash<Sha256>,
-    new: Hash<Sha256>,
-}
+pub(super) struct CheckConsistency;
 
 impl Call for CheckConsistency {
-    fn read(words: &mut Words<'_>) -> Result<CheckConsistency, Fault> {
-        Ok(CheckConsistency {
-            bytes: words.read()?,
-            at: words.read()?,
-            old: words.read()?,
-            new: words.read()?,
-        })
-    }
+    type Given = (Place, (Root, Root));
 
-    fn answer<M: Memory>(&self, memory: M, answer: &mut Answer) -> Result<(), AllocError> {
-        let bytes = self.bytes.as_slice();
-        let verdict = check_consistency(memory, bytes, self.at, &self.old, &self.new);
-        write(verdict, answer)
+    fn answer<M: Memory>(
+        given: &(Place, (Root, Root)),
+        memory: M,
+        to: &mut Answer,
+    ) -> Result<(), AllocError> {
+        let ((bytes, at), (old, new)) = given;
+        let bytes = bytes.as_slice();
+        write(
+            warg_check::check_consistency(memory, bytes, *at, old, new),
+            to,
+        )
     }
 }
 
-#[derive(Drop)]
-struct CheckKey {
-    bytes: Vec<u8>,
-    at: usize,
-    key: Vec<u8>,
-    value: Vec<u8>,
-    root: Hash<Sha256>,
-}
+pub(super) struct CheckKey;
 
 impl Call for CheckKey {
-    fn read(words: &mut Words<'_>) -> Result<CheckKey, Fault> {
-        Ok(CheckKey {
-            bytes: words.read()?,
-            at: words.read()?,
-            key: words.read()?,
-            value: words.read()?,
-            root: words.read()?,
-        })
-    }
+    type Given = (Place, ((Vec<u8>, Vec<u8>), Root));
 
-    fn answer<M: Memory>(&self, memory: M, answer: &mut Answer) -> Result<(), AllocError> {
-        let bytes = self.bytes.as_slice();
-        let verdict = check_key(memory, bytes, self.at, &self.key, &self.value, &self.root);
-        write(verdict, answer)
+    fn answer<M: Memory>(
+        given: &(Place, ((Vec<u8>, Vec<u8>), Root)),
+        memory: M,
+        to: &mut Answer,
+    ) -> Result<(), AllocError> {
+        let ((bytes, at), ((key, value), root)) = given;
+        let bytes = bytes.as_slice();
+        write(
+            warg_check::check_key(memory, bytes, *at, key, value, root),
+            to,
+        )
     }
 }
 
-#[derive(Drop)]
-struct CheckAbsent {
-    bytes: Vec<u8>,
-    at: usize,
-    key: Vec<u8>,
-    root: Hash<Sha256>,
-}
+pub(super) struct CheckAbsent;
 
 impl Call for CheckAbsent {
-    fn read(words: &mut Words<'_>) -> Result<CheckAbsent, Fault> {
-        Ok(CheckAbsent {
-            bytes: words.read()?,
-            at: words.read()?,
-            key: words.read()?,
-            root: words.read()?,
-        })
-    }
+    type Given = (Place, (Vec<u8>, Root));
 
-    fn answer<M: Memory>(&self, memory: M, answer: &mut Answer) -> Result<(), AllocError> {
-        let bytes = self.bytes.as_slice();
-        let verdict = check_absent(memory, bytes, self.at, &self.key, &self.root);
-        write(verdict, answer)
+    fn answer<M: Memory>(
+        given: &(Place, (Vec<u8>, Root)),
+        memory: M,
+        to: &mut Answer,
+    ) -> Result<(), AllocError> {
+        let ((bytes, at), (key, root)) = given;
+        let bytes = bytes.as_slice();
+        write(warg_check::check_absent(memory, bytes, *at, key, root), to)
     }
 }
 
-#[derive(Drop)]
-struct CheckEntry {
-    bytes: Vec<u8>,
-    at: usize,
-    index: usize,
-    value: Vec<u8>,
-    checkpoint: Checkpoint<Sha256>,
+fn checkpoint(known: &Known) -> Checkpoint<Sha256> {
+    Checkpoint::new(known.1.copied(), known.0)
 }
 
-// Reads a checkpoint: its length, and its root.
-fn read_checkpoint(words: &mut Words<'_>) -> Result<Checkpoint<Sha256>, Fault> {
-    let length = words.read()?;
-    let root = words.read()?;
-    Ok(Checkpoint::new(root, length))
-}
+pub(super) struct CheckEntry;
 
 impl Call for CheckEntry {
-    fn read(words: &mut Words<'_>) -> Result<CheckEntry, Fault> {
-        Ok(CheckEntry {
-            bytes: words.read()?,
-            at: words.read()?,
-            index: words.read()?,
-            value: words.read()?,
-            checkpoint: read_checkpoint(words)?,
-        })
-    }
+    type Given = (Place, ((usize, Vec<u8>), Known));
 
-    fn answer<M: Memory>(&self, memory: M, answer: &mut Answer) -> Result<(), AllocError> {
-        let bytes = self.bytes.as_slice();
-        let verdict = check_entry(
-            memory,
-            bytes,
-            self.at,
-            self.index,
-            &self.value,
-            &self.checkpoint,
-        );
-        write(verdict, answer)
+    fn answer<M: Memory>(
+        given: &(Place, ((usize, Vec<u8>), Known)),
+        memory: M,
+        to: &mut Answer,
+    ) -> Result<(), AllocError> {
+        let ((bytes, at), ((index, value), known)) = given;
+        let (bytes, known) = (bytes.as_slice(), checkpoint(known));
+        write(
+            warg_check::check_entry(memory, bytes, *at, *index, value, &known),
+            to,
+        )
     }
 }
 
-#[derive(Drop)]
-struct CheckGrowth {
-    bytes: Vec<u8>,
-    at: usize,
-    old: Checkpoint<Sha256>,
-    new: Checkpoint<Sha256>,
-}
+pub(super) struct CheckGrowth;
 
 impl Call for CheckGrowth {
-    fn read(words: &mut Words<'_>) -> Result<CheckGrowth, Fault> {
-        Ok(CheckGrowth {
-            bytes: words.read()?,
-            at: words.read()?,
-            old: read_checkpoint(words)?,
-            new: read_checkpoint(words)?,
-        })
-    }
+    type Given = (Place, (Known, Known));
 
-    fn answer<M: Memory>(&self, memory: M, answer: &mut Answer) -> Result<(), AllocError> {
-        let bytes = self.bytes.as_slice();
-        let verdict = check_growth(memory, bytes, self.at, &self.old, &self.new);
-        write(verdict, answer)
+    fn answer<M: Memory>(
+        given: &(Place, (Known, Known)),
+        memory: M,
+        to: &mut Answer,
+    ) -> Result<(), AllocError> {
+        let ((bytes, at), (old, new)) = given;
+        let (old, new) = (checkpoint(old), checkpoint(new));
+        write(
+            warg_check::check_growth(memory, bytes.as_slice(), *at, &old, &new),
+            to,
+        )
     }
 }

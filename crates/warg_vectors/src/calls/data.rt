@@ -1,7 +1,6 @@
 //! The digests that a line gives for some nodes, as data of a proof.
 
-use crate::words::{Fault, List, Word};
-use std::alloc::Global;
+use crate::words::{Fault, Given, List, Words};
 use warg_crypto::{Hash, SupportedDigest};
 use warg_log::{LogData, Node, NotAscending, SparseLogData};
 
@@ -12,27 +11,27 @@ pub(super) struct Data<D: SupportedDigest> {
     given: List<(Node, Hash<D>)>,
 }
 
-impl<D: SupportedDigest> Data<D> {
-    /// Whether it holds the digests that the line gave.
-    pub(super) fn stands(&self) -> bool {
-        self.given
-            .items
-            .iter()
-            .all(|pair| holds(&self.held, pair.0, &pair.1))
-    }
-}
-
-fn holds<D: SupportedDigest>(data: &SparseLogData<D, Vec<u8>>, node: Node, hash: &Hash<D>) -> bool {
-    data.has_hash(node) && data.hash_for(node).as_ref() == Some(hash)
-}
-
 /// A list of nodes with their digests, ascending.
-impl<D: SupportedDigest> Word for Data<D> {
-    fn read(alloc: Global, word: &str) -> Result<Data<D>, Fault> {
-        let given: List<(Node, Hash<D>)> = List::read(alloc, word)?;
+impl<D: SupportedDigest> Given for Data<D> {
+    fn read(words: &mut Words<'_>) -> Result<Data<D>, Fault> {
+        let given: List<(Node, Hash<D>)> = List::read(words)?;
         match SparseLogData::try_from(given.items.clone()?) {
             Ok(held) => Ok(Data { held, given }),
             Err(NotAscending) => Err(Fault::BadCall),
         }
     }
+
+    fn stands(&self) -> bool {
+        hold(&self.held, self.given.items.as_slice())
+    }
+}
+
+// Whether the data hold these digests.
+fn hold<D: SupportedDigest>(data: &SparseLogData<D, Vec<u8>>, pairs: &[(Node, Hash<D>)]) -> bool {
+    for pair in pairs {
+        if !data.has_hash(pair.0) || data.hash_for(pair.0).as_ref() != Some(&pair.1) {
+            return false;
+        }
+    }
+    true
 }

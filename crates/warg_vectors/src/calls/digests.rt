@@ -1,20 +1,19 @@
 //! The digest functions, by their names.
 
-use crate::words::{Fault, Word};
-use std::alloc::Global;
+use crate::words::{Fault, Given, Words};
 
 /// A digest function.
 #[derive(Clone, Copy)]
-pub(crate) enum Digest {
+pub(super) enum Digest {
     Sha256,
     Sum,
     Own32,
     Flat,
 }
 
-impl Word for Digest {
-    fn read(_alloc: Global, word: &str) -> Result<Digest, Fault> {
-        match word {
+impl Given for Digest {
+    fn read(words: &mut Words<'_>) -> Result<Digest, Fault> {
+        match words.next()? {
             "Sha256" => Ok(Digest::Sha256),
             "Sum" => Ok(Digest::Sum),
             "Own32" => Ok(Digest::Own32),
@@ -23,17 +22,3 @@ impl Word for Digest {
         }
     }
 }
-
-/// Answers a call whose first word names its digest function.
-macro_rules! by_digest {
-    ($call:ident, $words:expr, $to:expr) => {
-        match $words.read()? {
-            Digest::Sha256 => crate::each::answer::<$call<warg_crypto::Sha256>>($words, $to)?,
-            Digest::Sum => crate::each::answer::<$call<warg_crypto::weak::Sum>>($words, $to)?,
-            Digest::Own32 => crate::each::answer::<$call<warg_crypto::weak::Own32>>($words, $to)?,
-            Digest::Flat => crate::each::answer::<$call<warg_crypto::weak::Flat>>($words, $to)?,
-        }
-    };
-}
-
-pub(crate) use by_digest;

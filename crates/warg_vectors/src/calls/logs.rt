@@ -1,48 +1,29 @@
-//! Logs that entries are pushed into.
+//! Logs that entries are pushed into: one that keeps all digests, and one that keeps its balanced roots alone.
 
 use crate::answer;
 use crate::answer::Answer;
-use crate::calls::digests::{Digest, by_digest};
-use crate::calls::stack;
 use crate::calls::wrong::Wrong;
 use crate::each::{Call, Memory};
-use crate::words::{Fault, List, Words};
+use crate::words::List;
 use std::alloc::{AllocError, Allocator, Global};
 use std::marker::PhantomData;
 use warg_crypto::SupportedDigest;
-use warg_log::{LogBuilder, LogData, Node, VecLog, push_all};
+use warg_log::{LogBuilder, LogData, Node, StackLog, VecLog, push_all};
 
-/// Answers the call of this name, or false where the name is none of these.
-pub(super) fn answer(name: &str, words: &mut Words<'_>, to: &mut Answer) -> Result<bool, Fault> {
-    if name != "log" {
-        return Ok(false);
-    }
-    by_digest!(Log, words, to);
-    Ok(true)
-}
+// A log whose entries are lists of bytes.
+type BytesLog<D, A = Global> = VecLog<D, Vec<u8>, A>;
 
-/// A log whose entries are lists of bytes.
-pub(super) type BytesLog<D, A = Global> = VecLog<D, Vec<u8>, A>;
+type Entries = List<Vec<u8>>;
 
-// The log of some entries.
-#[derive(Drop)]
-struct Log<D> {
-    entries: List<Vec<u8>>,
-    digest: PhantomData<D>,
-}
+pub(super) struct Log<D>(PhantomData<D>);
 
 impl<D: SupportedDigest> Call for Log<D> {
-    fn read(words: &mut Words<'_>) -> Result<Log<D>, Fault> {
-        Ok(Log {
-            entries: words.read()?,
-            digest: PhantomData,
-        })
-    }
+    type Given = Entries;
 
-    fn answer<M: Memory>(&self, memory: M, answer: &mut Answer) -> Result<(), AllocError> {
-        match grown::<D, M>(memory, answer.alloc(), self.entries.items.as_slice()) {
-            Ok(log) => write(&log, answer),
-            Err(wrong) => wrong.write(answer),
+    fn answer<M: Memory>(entries: &Entries, memory: M, to: &mut Answer) -> Result<(), AllocError> {
+        match grown_both::<D, M>(memory, entries) {
+            Ok(log) => write(&log, to),
+            Err(wrong) => wrong.write(to),
         }
     }
 }
@@ -61,93 +42,33 @@ fn write<D: SupportedDigest, A: Allocator>(
     to.list(tree)
 }
 
-// The log of the entries, pushed one by one. Pushing them at once gives the same log, a clone of it is the same, and the
-// other kind of log has the same checkpoint.
-fn grown<D: SupportedDigest, M: Memory>(
-    memory: M,
-    alloc: Global,
-    entries: &[Vec<u8>],
-) -> Result<BytesLog<D, M>, Wrong> {
-    let mut log = VecLog::default(memory);
-    for entry in entries {
-        push(&mut log, memory, alloc, entries, entry)?;
-    }
-    push_at_once(&log, memory, alloc, entries)?;
-    clone(&log, memory)?;
-    stack::grow(&log.checkpoint(), memory, alloc, entries)?;
-    Ok(log)
+// A kind of log.
+trait Kind<D: SupportedDigest>: LogBuilder<D, Vec<u8>> + Sized + Drop {
+    fn cloned(&self) -> Result<Self, AllocError>;
+
+    // Whether it is the same log as `plain`, which has the first of these entries.
+    fn is(&self, plain: &BytesLog<D>, entries: &Entries) -> bool;
 }
 
-// Pushes an entry.
-fn push<D: SupportedDigest, M: Memory>(
-    log: &mut BytesLog<D, M>,
-    memory: M,
-    alloc: Global,
-    entries: &[Vec<u8>],
-    entry: &Vec<u8>,
-) -> Result<(), Wrong> {
-    let before = log.length();
-    if before >= 1 << 63 {
-        return Err(Wrong::Because("too many entries"));
+impl<D: SupportedDigest, A: Memory> Kind<D> for BytesLog<D, A> {
+    fn cloned(&self) -> Result<BytesLog<D, A>, AllocError> {
+        self.clone()
     }
-    match log.push(entry) {
-        Ok(node) => Wrong::unless(node == Node(2 * before), "another node"),
-        Err(AllocError) => {
-            let stands = log.length() == before && is_log_of(log, alloc, entries)?;
-            Wrong::unless(stands, "a refused push changed the log")?;
-            memory.grant();
-            push_again(log, alloc, entries, entry)
-        }
+
+    fn is(&self, plain: &BytesLog<D>, entries: &Entries) -> bool {
+        let same = self.as_ref() == plain.as_ref() && self.checkpoint() == plain.checkpoint();
+        same && proves_its_last(self, entries.items.as_slice())
     }
 }
 
-// Pushes an entry that was refused. The run ends with the refusal.
-fn push_again<D: SupportedDigest, M: Memory>(
-    log: &mut BytesLog<D, M>,
-    alloc: Global,
-    entries: &[Vec<u8>],
-    entry: &Vec<u8>,
-) -> Result<(), Wrong> {
-    let before = log.length();
-    if before >= 1 << 63 {
-        return Err(Wrong::Because("too many entries"));
+impl<D: SupportedDigest, A: Memory> Kind<D> for StackLog<D, Vec<u8>, A> {
+    fn cloned(&self) -> Result<StackLog<D, Vec<u8>, A>, AllocError> {
+        self.clone()
     }
-    let node = log.push(entry)?;
-    let pushed = node == Node(2 * before) && is_log_of(log, alloc, entries)?;
-    Wrong::unless(pushed, "after a refused push, another log")?;
-    Err(Wrong::Memory)
-}
 
-// Whether a log is that of as many of the entries as it has, and proves the last one.
-pub(super) fn is_log_of<D: SupportedDigest, A: Allocator>(
-    log: &BytesLog<D, A>,
-    alloc: Global,
-    entries: &[Vec<u8>],
-) -> Result<bool, AllocError> {
-    let plain: BytesLog<D> = beginning(alloc, entries, log.length())?;
-    Ok(is_same(log, &plain) && proves_its_last(log, entries))
-}
-
-pub(super) fn is_same<D: SupportedDigest, A: Allocator, B: Allocator>(
-    log: &BytesLog<D, A>,
-    other: &BytesLog<D, B>,
-) -> bool {
-    log.as_ref() == other.as_ref() && log.checkpoint() == other.checkpoint()
-}
-
-/// The log of the first entries, as many as `count`.
-pub(super) fn beginning<D: SupportedDigest>(
-    alloc: Global,
-    entries: &[Vec<u8>],
-    count: usize,
-) -> Result<BytesLog<D>, AllocError> {
-    let mut log = VecLog::default(alloc);
-    for entry in entries.iter().take(count) {
-        if log.length() < 1 << 63 {
-            log.push(entry)?;
-        }
+    fn is(&self, plain: &BytesLog<D>, _entries: &Entries) -> bool {
+        self.checkpoint() == plain.checkpoint() && self.is_empty() == (plain.length() == 0)
     }
-    Ok(log)
 }
 
 // Whether the proof of the log's last entry leads to its root.
@@ -156,40 +77,125 @@ fn proves_its_last<D: SupportedDigest, A: Allocator>(
     entries: &[Vec<u8>],
 ) -> bool {
     let length = log.length();
-    let Some(last) = entries.iter().take(length).last() else {
-        return true;
-    };
-    if length == 0 || length > 1 << 63 {
-        return false;
+    if length == 0 || length > entries.len() || length > 1 << 63 {
+        return length == 0;
     }
     let proof = log.prove_inclusion(Node(2 * (length - 1)), length);
-    proof.evaluate_value(log, last) == Ok(log.checkpoint().root())
+    proof.evaluate_value(log, &entries[length - 1]) == Ok(log.checkpoint().root())
 }
 
-// Pushes all entries at once. Where it is refused, the log is that of the first ones, and takes the others.
-fn push_at_once<D: SupportedDigest, M: Memory>(
-    wanted: &BytesLog<D, M>,
+// The log of the entries that keeps all digests. The other one has the same checkpoint.
+fn grown_both<D: SupportedDigest, M: Memory>(
     memory: M,
-    alloc: Global,
-    entries: &[Vec<u8>],
-) -> Result<(), Wrong> {
-    let mut log = VecLog::default(memory);
-    if push_all(&mut log, entries).is_err() {
-        Wrong::unless(
-            is_log_of(&log, alloc, entries)?,
-            "a refused push of all left another beginning",
-        )?;
-        memory.grant();
-        push_others(&mut log, entries)?;
-    }
-    Wrong::unless(is_same(&log, wanted), "pushed at once, another log")
+    entries: &Entries,
+) -> Result<BytesLog<D, M>, Wrong> {
+    let stack = StackLog::<D, _, _>::default(memory);
+    grown(stack, StackLog::default(memory), memory, entries)?;
+    grown(
+        VecLog::default(memory),
+        VecLog::default(memory),
+        memory,
+        entries,
+    )
 }
 
-fn push_others<D: SupportedDigest, M: Memory>(
-    log: &mut BytesLog<D, M>,
+// The log of the entries, pushed one by one to an empty log. Pushing them at once to the other one gives the same log, and
+// a clone of it is the same.
+fn grown<D: SupportedDigest, M: Memory, K: Kind<D>>(
+    empty: K,
+    other: K,
+    memory: M,
+    entries: &Entries,
+) -> Result<K, Wrong> {
+    let mut log = empty;
+    for entry in entries.items.as_slice() {
+        push(&mut log, memory, entries, entry)?;
+    }
+    let plain = beginning(entries, entries.items.len())?;
+    Wrong::unless(log.is(&plain, entries), "another log")?;
+    let other = pushed_at_once(other, memory, entries)?;
+    Wrong::unless(other.is(&plain, entries), "pushed at once, another log")?;
+    let clone = cloned(&log, memory)?;
+    Wrong::unless(clone.is(&plain, entries), "another clone")?;
+    Ok(log)
+}
+
+// The log of the first entries, as many as `count`.
+fn beginning<D: SupportedDigest>(
+    entries: &Entries,
+    count: usize,
+) -> Result<BytesLog<D>, AllocError> {
+    let mut log = VecLog::default(*entries.items.allocator());
+    for entry in entries.items.iter().take(count) {
+        if log.length() < 1 << 63 {
+            log.push(entry)?;
+        }
+    }
+    Ok(log)
+}
+
+// A fault unless the log is that of so many of the entries.
+fn expect<D: SupportedDigest, K: Kind<D>>(
+    log: &K,
+    entries: &Entries,
+    count: usize,
+) -> Result<(), Wrong> {
+    let plain = beginning(entries, count)?;
+    Wrong::unless(log.is(&plain, entries), "after a refused push, another log")
+}
+
+// Pushes an entry. Where it is refused, the log is the one of before, and takes the entry; the run ends with the refusal.
+fn push<D: SupportedDigest, M: Memory, K: Kind<D>>(
+    log: &mut K,
+    memory: M,
+    entries: &Entries,
+    entry: &Vec<u8>,
+) -> Result<(), Wrong> {
+    let before = log.checkpoint().length();
+    if push_next(log, entry, before).is_ok() {
+        return Ok(());
+    }
+    expect(log, entries, before)?;
+    memory.grant();
+    push_next(log, entry, before)?;
+    expect(log, entries, before.saturating_add(1))?;
+    Err(Wrong::Memory)
+}
+
+// Pushes an entry to a log of this length, which answers the entry's node.
+fn push_next<D: SupportedDigest, K: Kind<D>>(
+    log: &mut K,
+    entry: &Vec<u8>,
+    before: usize,
+) -> Result<(), Wrong> {
+    if before >= 1 << 63 || log.checkpoint().length() != before {
+        return Err(Wrong::Because("another length"));
+    }
+    let node = log.push(entry)?;
+    Wrong::unless(node == Node(2 * before), "another node")
+}
+
+// The log of all entries, pushed at once. Where it is refused, it is that of the first ones, and takes the others.
+fn pushed_at_once<D: SupportedDigest, M: Memory, K: Kind<D>>(
+    empty: K,
+    memory: M,
+    entries: &Entries,
+) -> Result<K, Wrong> {
+    let mut log = empty;
+    if push_rest(&mut log, entries.items.as_slice()).is_err() {
+        expect(&log, entries, log.checkpoint().length())?;
+        memory.grant();
+        push_rest(&mut log, entries.items.as_slice())?;
+    }
+    Ok(log)
+}
+
+// Pushes the entries that the log doesn't have yet.
+fn push_rest<D: SupportedDigest, K: Kind<D>>(
+    log: &mut K,
     entries: &[Vec<u8>],
 ) -> Result<(), Wrong> {
-    let count = log.length();
+    let count = log.checkpoint().length();
     if count > entries.len() || entries.len() > 1 << 63 {
         return Err(Wrong::Because("too many entries"));
     }
@@ -197,14 +203,13 @@ fn push_others<D: SupportedDigest, M: Memory>(
     Ok(())
 }
 
-// Clones the log. Where it is refused, it is cloned again.
-fn clone<D: SupportedDigest, M: Memory>(log: &BytesLog<D, M>, memory: M) -> Result<(), Wrong> {
-    let other = match log.clone() {
-        Ok(other) => other,
+// A clone of the log. Where it is refused, it is asked for again.
+fn cloned<D: SupportedDigest, M: Memory, K: Kind<D>>(log: &K, memory: M) -> Result<K, AllocError> {
+    match log.cloned() {
         Err(AllocError) => {
             memory.grant();
-            log.clone()?
+            log.cloned()
         }
-    };
-    Wrong::unless(is_same(&other, log), "another clone")
+        ended => ended,
+    }
 }

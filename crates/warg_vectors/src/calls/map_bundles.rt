@@ -1,121 +1,88 @@
 //! Bundles of a map's proofs.
 
 use crate::answer::Answer;
-use crate::calls::digests::{Digest, by_digest};
-use crate::calls::maps::{BytesProof, Insertions, grown};
+use crate::calls::maps::{BytesMap, Insertions, MapProof, asked, grown};
+use crate::calls::stored;
+use crate::calls::stored::{Messaged, Stored};
 use crate::calls::wrong::Wrong;
 use crate::each::{Call, Memory};
-use crate::words::{Fault, List, Words};
+use crate::words::List;
 use std::alloc::AllocError;
+use std::marker::PhantomData;
 use warg_crypto::{SupportedDigest, VisitBytes};
-use warg_log::EncodeError;
+use warg_log::{DecodeError, EncodeError};
 use warg_map::MapProofBundle;
 
-/// Answers the call of this name, or false where the name is none of these.
-pub(super) fn answer(name: &str, words: &mut Words<'_>, to: &mut Answer) -> Result<bool, Fault> {
-    if name != "map_bundle" {
-        return Ok(false);
-    }
-    by_digest!(MapBundle, words, to);
-    Ok(true)
-}
+/// A bundle of the proofs of a map from such keys to such values.
+pub(super) type BytesMapBundle<D, K, M> = MapProofBundle<D, K, K, M>;
 
 // Keys that a map holds, and keys that it doesn't.
-#[derive(Drop)]
-struct MapBundle<D: SupportedDigest> {
-    insertions: Insertions<D>,
-    keys: List<Vec<u8>>,
-    absent: List<Vec<u8>>,
-}
+type Keys = (List<Vec<u8>>, List<Vec<u8>>);
+
+pub(super) struct MapBundle<D>(PhantomData<D>);
 
 impl<D: SupportedDigest> Call for MapBundle<D> {
-    fn read(words: &mut Words<'_>) -> Result<MapBundle<D>, Fault> {
-        Ok(MapBundle {
-            insertions: Insertions::read(words)?,
-            keys: words.read()?,
-            absent: words.read()?,
-        })
-    }
+    type Given = (Insertions, Keys);
 
-    fn answer<M: Memory>(&self, memory: M, answer: &mut Answer) -> Result<(), AllocError> {
-        match self.bundled(memory) {
-            Ok(bytes) => answer.bytes(bytes.as_slice()),
-            Err(wrong) => wrong.write(answer),
+    fn answer<M: Memory>(
+        given: &(Insertions, Keys),
+        memory: M,
+        to: &mut Answer,
+    ) -> Result<(), AllocError> {
+        match bundled::<D, M>(&given.0, &given.1, memory) {
+            Ok(bundle) => stored::write(&bundle, memory, to),
+            Err(wrong) => wrong.write(to),
         }
     }
 }
 
-impl<D: SupportedDigest> MapBundle<D> {
-    fn bundled<M: Memory>(&self, memory: M) -> Result<Vec<u8, M>, Wrong> {
-        let proofs = self.proofs(memory)?;
-        let absences = self.absences(memory)?;
-        let bundle = if absences.is_empty() {
-            MapProofBundle::bundle(proofs)
-        } else {
-            MapProofBundle::bundle_with(proofs, absences)
-        };
-        reread(bundle, memory)
-    }
-
-    fn proofs<M: Memory>(&self, memory: M) -> Result<Vec<BytesProof<'_, D, M>, M>, Wrong> {
-        let map = grown::<D, M>(memory, self.insertions.pairs.items.as_slice())?;
-        let mut proofs = Vec::new(memory);
-        for key in self.keys.items.as_slice() {
-            match map.prove(key.as_slice())? {
-                Some(proof) => proofs.push(proof)?,
-                None => return Err(Wrong::Because("no proof of a key")),
-            }
-        }
-        Ok(proofs)
-    }
-
-    fn absences<M: Memory>(&self, memory: M) -> Result<Vec<BytesProof<'_, D, M>, M>, Wrong> {
-        let map = grown::<D, M>(memory, self.insertions.pairs.items.as_slice())?;
-        let mut absences = Vec::new(memory);
-        for key in self.absent.items.as_slice() {
-            match map.prove_absence(key.as_slice())? {
-                Some(proof) => absences.push(proof)?,
-                None => return Err(Wrong::Because("no proof of an absent key")),
-            }
-        }
-        Ok(absences)
-    }
-}
-
-// The bundle's bytes. Where they are refused for memory, it is asked for them again.
-fn encoded<D: SupportedDigest, K: VisitBytes, V: VisitBytes, M: Memory>(
-    bundle: &MapProofBundle<D, K, V, M>,
+fn bundled<'a, D: SupportedDigest, M: Memory>(
+    insertions: &'a Insertions,
+    keys: &'a Keys,
     memory: M,
-) -> Result<Vec<u8, M>, EncodeError> {
-    match bundle.encode(memory) {
-        Err(EncodeError::Memory) => {
-            memory.grant();
-            bundle.encode(memory)
+) -> Result<BytesMapBundle<D, &'a [u8], M>, Wrong> {
+    let map = grown(memory, insertions)?;
+    let proofs = all_asked(&map, memory, keys.0.items.as_slice(), false)?;
+    let absences = all_asked(&map, memory, keys.1.items.as_slice(), true)?;
+    if absences.is_empty() {
+        return Ok(MapProofBundle::bundle(proofs));
+    }
+    Ok(MapProofBundle::bundle_with(proofs, absences))
+}
+
+// The proofs of the keys, or of their absences.
+fn all_asked<'a, D: SupportedDigest, M: Memory>(
+    map: &BytesMap<'a, D, M>,
+    memory: M,
+    keys: &'a [Vec<u8>],
+    absent: bool,
+) -> Result<Vec<MapProof<'a, D, M>, M>, Wrong> {
+    let mut proofs = Vec::new(memory);
+    for key in keys {
+        match asked(map, memory, key.as_slice(), absent)? {
+            Some(proof) => proofs.push(proof)?,
+            None => return Err(Wrong::Because("no proof of a key")),
         }
-        ended => ended,
+    }
+    Ok(proofs)
+}
+
+/// Its message goes through its parts, too.
+impl<D: SupportedDigest, K: VisitBytes, M: Memory> Messaged<M> for BytesMapBundle<D, K, M> {
+    fn through_message(&self, memory: M) -> Result<BytesMapBundle<D, K, M>, Wrong> {
+        let message = self.to_message(memory)?;
+        let bundle: BytesMapBundle<D, K, M> = MapProofBundle::from_message(memory, message)?;
+        let (proofs, absences) = bundle.unbundle_all();
+        Ok(MapProofBundle::bundle_with(proofs, absences))
     }
 }
 
-/// The bundle's bytes, which are those of the bundle of its message, and of that of its parts.
-pub(super) fn reread<D: SupportedDigest, K: VisitBytes, V: VisitBytes, M: Memory>(
-    bundle: MapProofBundle<D, K, V, M>,
-    memory: M,
-) -> Result<Vec<u8, M>, Wrong> {
-    let bytes = encoded(&bundle, memory)?;
-    let again = through_message(&bundle, memory)?;
-    let same = encoded(&again, memory)?.as_slice() == bytes.as_slice();
-    Wrong::unless(same, "through its message, another bundle")?;
-    let (proofs, absences) = bundle.unbundle_all();
-    let parts = MapProofBundle::bundle_with(proofs, absences);
-    let same = encoded(&parts, memory)?.as_slice() == bytes.as_slice();
-    Wrong::unless(same, "of the bundle's parts, another bundle")?;
-    Ok(bytes)
-}
+impl<D: SupportedDigest, K: VisitBytes, M: Memory> Stored<M> for BytesMapBundle<D, K, M> {
+    fn decode(memory: M, bytes: &[u8]) -> Result<BytesMapBundle<D, K, M>, DecodeError> {
+        MapProofBundle::decode(memory, bytes)
+    }
 
-fn through_message<D: SupportedDigest, K: VisitBytes, V: VisitBytes, M: Memory>(
-    bundle: &MapProofBundle<D, K, V, M>,
-    memory: M,
-) -> Result<MapProofBundle<D, K, V, M>, Wrong> {
-    let message = bundle.to_message(memory)?;
-    Ok(MapProofBundle::from_message(memory, message)?)
+    fn encode(&self, memory: M) -> Result<Vec<u8, M>, EncodeError> {
+        MapProofBundle::encode(self, memory)
+    }
 }

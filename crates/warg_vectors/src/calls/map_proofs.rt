@@ -1,96 +1,136 @@
 //! Proofs of maps that are given by their peers, and what they evaluate to.
 
-use crate::answer::Answer;
-use crate::calls::digests::{Digest, by_digest};
+use crate::answer::{Answer, List as Words};
+use crate::calls::stored::{Messaged, through_message};
+use crate::calls::wrong::Wrong;
 use crate::each::{Call, Memory};
-use crate::words::{Fault, List, Words};
-use std::alloc::{AllocError, Global};
+use crate::words;
+use crate::words::{Fault, Given, List};
+use std::alloc::{AllocError, Allocator};
+use std::marker::PhantomData;
 use warg_crypto::{Hash, SupportedDigest};
 use warg_log::DecodeError;
 use warg_map::Proof;
 use warg_protobuf::{MapInclusionProof, OptionalHash};
 
-/// Answers the call of this name, or false where the name is none of these.
-pub(super) fn answer(name: &str, words: &mut Words<'_>, to: &mut Answer) -> Result<bool, Fault> {
-    match name {
-        "evaluate" => by_digest!(Evaluate, words, to),
-        "evaluate_absent" => by_digest!(EvaluateAbsent, words, to),
-        _ => return Ok(false),
-    }
-    Ok(true)
-}
-
 /// A proof over bytes.
-pub(super) type GivenProof<D> = Proof<D, Vec<u8>, Vec<u8>>;
+pub(super) type BytesProof<D, M> = Proof<D, Vec<u8>, Vec<u8>, M>;
 
-/// Reads a proof by its peers, of which there are at most 256.
-pub(super) fn read_proof<D: SupportedDigest>(
-    words: &mut Words<'_>,
-) -> Result<GivenProof<D>, Fault> {
-    let peers: List<Option<Hash<D>>> = words.read()?;
-    let message = message_of(words.alloc(), peers.items.as_slice())?;
-    match Proof::from_message(words.alloc(), message) {
-        Ok(proof) => Ok(proof),
-        Err(DecodeError::Memory) => Err(Fault::Memory),
-        Err(_) => Err(Fault::BadCall),
+// The peers of a proof, as their bytes.
+type Peers = List<Option<Vec<u8>>>;
+
+/// A proof that a line gives by its peers, of which there are at most 256.
+#[derive(Drop)]
+pub(super) struct GivenProof<D: SupportedDigest> {
+    pub(super) proof: Proof<D, Vec<u8>, Vec<u8>>,
+}
+
+impl<D: SupportedDigest> Given for GivenProof<D> {
+    fn read(words: &mut words::Words<'_>) -> Result<GivenProof<D>, Fault> {
+        let peers = Peers::read(words)?;
+        match proof_of(words.alloc(), &peers) {
+            Ok(proof) => Ok(GivenProof { proof }),
+            Err(DecodeError::Memory) => Err(Fault::Memory),
+            Err(_) => Err(Fault::BadCall),
+        }
     }
 }
 
-fn message_of<D>(
-    alloc: Global,
-    peers: &[Option<Hash<D>>],
-) -> Result<MapInclusionProof, AllocError> {
-    let mut hashes = Vec::new(alloc);
-    for peer in peers {
-        hashes.push(optional_hash(alloc, peer)?)?;
+// The proof of the message of these peers.
+fn proof_of<D: SupportedDigest, M: Memory>(
+    memory: M,
+    peers: &Peers,
+) -> Result<BytesProof<D, M>, DecodeError> {
+    let mut hashes = Vec::new(memory);
+    for peer in peers.items.as_slice() {
+        hashes.push(optional_hash(memory, peer)?)?;
     }
-    Ok(MapInclusionProof { hashes })
+    Proof::from_message(memory, MapInclusionProof { hashes })
 }
 
-fn optional_hash<D>(alloc: Global, peer: &Option<Hash<D>>) -> Result<OptionalHash, AllocError> {
+fn optional_hash<M: Memory>(
+    memory: M,
+    peer: &Option<Vec<u8>>,
+) -> Result<OptionalHash<M>, AllocError> {
     let hash = match peer {
-        Some(hash) => Some(Vec::from_slice(alloc, hash.bytes())?),
+        Some(bytes) => Some(Vec::from_slice(memory, bytes.as_slice())?),
         None => None,
     };
     Ok(OptionalHash { hash })
 }
 
-#[derive(Drop)]
-struct Evaluate<D: SupportedDigest> {
-    proof: GivenProof<D>,
-    key: Vec<u8>,
-    value: Vec<u8>,
+impl<D: SupportedDigest, M: Memory> Messaged<M> for BytesProof<D, M> {
+    fn through_message(&self, memory: M) -> Result<BytesProof<D, M>, Wrong> {
+        let message = self.to_message(memory)?;
+        Ok(Proof::from_message(memory, message)?)
+    }
 }
+
+pub(super) struct MapProof<D>(PhantomData<D>);
+
+impl<D: SupportedDigest> Call for MapProof<D> {
+    type Given = Peers;
+
+    fn answer<M: Memory>(peers: &Peers, memory: M, to: &mut Answer) -> Result<(), AllocError> {
+        let read: Result<BytesProof<D, M>, _> = proof_of(memory, peers);
+        match read {
+            Ok(proof) => write_same(&proof, through_message(&proof, memory), to),
+            Err(fault) => to.refusal(&fault),
+        }
+    }
+}
+
+// Writes the peers of a proof, which are those of the proof of its message.
+fn write_same<D: SupportedDigest, M: Memory>(
+    proof: &BytesProof<D, M>,
+    other: Result<BytesProof<D, M>, Wrong>,
+    to: &mut Answer,
+) -> Result<(), AllocError> {
+    match other {
+        Ok(other) if other.peers() == proof.peers() => write_peers(proof.peers(), to),
+        Ok(_) => to.word("another proof"),
+        Err(wrong) => wrong.write(to),
+    }
+}
+
+/// Writes the peers of a proof.
+pub(super) fn write_peers<D>(peers: &[Option<Hash<D>>], to: &mut Answer) -> Result<(), AllocError> {
+    let mut list = Words::new(to.alloc());
+    for peer in peers {
+        match peer {
+            Some(hash) => list.push_hash(hash)?,
+            None => list.push_shown(&"none")?,
+        }
+    }
+    to.list(list)
+}
+
+pub(super) struct Evaluate<D>(PhantomData<D>);
 
 impl<D: SupportedDigest> Call for Evaluate<D> {
-    fn read(words: &mut Words<'_>) -> Result<Evaluate<D>, Fault> {
-        Ok(Evaluate {
-            proof: read_proof(words)?,
-            key: words.read()?,
-            value: words.read()?,
-        })
-    }
+    type Given = (GivenProof<D>, (Vec<u8>, Vec<u8>));
 
-    fn answer<M: Memory>(&self, _memory: M, answer: &mut Answer) -> Result<(), AllocError> {
-        answer.hash(&self.proof.evaluate(&self.key, &self.value))
+    fn answer<M: Memory>(
+        given: &(GivenProof<D>, (Vec<u8>, Vec<u8>)),
+        _memory: M,
+        to: &mut Answer,
+    ) -> Result<(), AllocError> {
+        let (given, (key, value)) = given;
+        to.hash(&given.proof.evaluate(key, value))
     }
 }
 
-#[derive(Drop)]
-struct EvaluateAbsent<D: SupportedDigest> {
-    proof: GivenProof<D>,
-    key: Vec<u8>,
-}
+pub(super) struct EvaluateAbsent<D>(PhantomData<D>);
 
 impl<D: SupportedDigest> Call for EvaluateAbsent<D> {
-    fn read(words: &mut Words<'_>) -> Result<EvaluateAbsent<D>, Fault> {
-        Ok(EvaluateAbsent {
-            proof: read_proof(words)?,
-            key: words.read()?,
-        })
-    }
+    type Given = (GivenProof<D>, Vec<u8>);
 
-    fn answer<M: Memory>(&self, _memory: M, answer: &mut Answer) -> Result<(), AllocError> {
-        answer.hash(&self.proof.evaluate_absent(&self.key))
+    fn answer<M: Memory>(
+        given: &(GivenProof<D>, Vec<u8>),
+        _memory: M,
+        to: &mut Answer,
+    ) -> Result<(), AllocError> {
+        let (given, key) = given;
+        to.hash(&given.proof.evaluate_absent(key))
     }
 }

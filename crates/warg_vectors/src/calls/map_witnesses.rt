@@ -1,123 +1,73 @@
 //! Collisions out of false claims about a map.
 
 use crate::answer::Answer;
-use crate::calls::digests::{Digest, by_digest};
-use crate::calls::map_proofs::{GivenProof, read_proof};
+use crate::calls::map_proofs::GivenProof;
+use crate::calls::maps::Insertions;
 use crate::calls::witnesses::{Pairs, write};
 use crate::each::{Call, Memory};
-use crate::words::{Fault, List, Words};
 use std::alloc::AllocError;
+use std::marker::PhantomData;
 use warg_crypto::SupportedDigest;
-use warg_witness::{agree_key, witness_absent, witness_key};
 
-/// Answers the call of this name, or false where the name is none of these.
-pub(super) fn answer(name: &str, words: &mut Words<'_>, to: &mut Answer) -> Result<bool, Fault> {
-    match name {
-        "witness_key" => by_digest!(WitnessKey, words, to),
-        "witness_absent" => by_digest!(WitnessAbsent, words, to),
-        "agree_key" => by_digest!(AgreeKey, words, to),
-        _ => return Ok(false),
-    }
-    Ok(true)
-}
+// A proof, the key and the value that it is claimed for, the insertions, and the pairs.
+type KeyClaim<D> = ((GivenProof<D>, (Vec<u8>, Vec<u8>)), (Insertions, Pairs));
 
-// Keys with the values that were inserted under them.
-type Insertions = List<(Vec<u8>, Vec<u8>)>;
-
-#[derive(Drop)]
-struct WitnessKey<D: SupportedDigest> {
-    proof: GivenProof<D>,
-    key: Vec<u8>,
-    value: Vec<u8>,
-    insertions: Insertions,
-    pairs: Pairs,
-}
+pub(super) struct WitnessKey<D>(PhantomData<D>);
 
 impl<D: SupportedDigest> Call for WitnessKey<D> {
-    fn read(words: &mut Words<'_>) -> Result<WitnessKey<D>, Fault> {
-        Ok(WitnessKey {
-            proof: read_proof(words)?,
-            key: words.read()?,
-            value: words.read()?,
-            insertions: words.read()?,
-            pairs: words.read()?,
-        })
-    }
+    type Given = KeyClaim<D>;
 
-    fn answer<M: Memory>(&self, memory: M, answer: &mut Answer) -> Result<(), AllocError> {
-        let insertions = self.insertions.items.as_slice();
-        let found = witness_key(memory, &self.proof, &self.key, &self.value, insertions);
-        write(found, &self.pairs, answer)
+    fn answer<M: Memory>(
+        given: &KeyClaim<D>,
+        memory: M,
+        to: &mut Answer,
+    ) -> Result<(), AllocError> {
+        let ((proof, (key, value)), (insertions, pairs)) = given;
+        let insertions = insertions.items.as_slice();
+        let found = warg_witness::witness_key(memory, &proof.proof, key, value, insertions);
+        write(found, pairs, to)
     }
 }
 
-#[derive(Drop)]
-struct WitnessAbsent<D: SupportedDigest> {
-    proof: GivenProof<D>,
-    key: Vec<u8>,
-    insertions: Insertions,
-    pairs: Pairs,
-}
+// A proof, the key that is claimed to be absent, the insertions, and the pairs.
+type AbsenceClaim<D> = ((GivenProof<D>, Vec<u8>), (Insertions, Pairs));
+
+pub(super) struct WitnessAbsent<D>(PhantomData<D>);
 
 impl<D: SupportedDigest> Call for WitnessAbsent<D> {
-    fn read(words: &mut Words<'_>) -> Result<WitnessAbsent<D>, Fault> {
-        Ok(WitnessAbsent {
-            proof: read_proof(words)?,
-            key: words.read()?,
-            insertions: words.read()?,
-            pairs: words.read()?,
-        })
-    }
+    type Given = AbsenceClaim<D>;
 
-    fn answer<M: Memory>(&self, memory: M, answer: &mut Answer) -> Result<(), AllocError> {
-        let insertions = self.insertions.items.as_slice();
-        let found = witness_absent(memory, &self.proof, &self.key, insertions);
-        write(found, &self.pairs, answer)
+    fn answer<M: Memory>(
+        given: &AbsenceClaim<D>,
+        memory: M,
+        to: &mut Answer,
+    ) -> Result<(), AllocError> {
+        let ((proof, key), (insertions, pairs)) = given;
+        let insertions = insertions.items.as_slice();
+        let found = warg_witness::witness_absent(memory, &proof.proof, key, insertions);
+        write(found, pairs, to)
     }
 }
 
-// What one of two evaluations is of.
-#[derive(Drop)]
-struct Side<D: SupportedDigest> {
-    proof: GivenProof<D>,
-    value: Vec<u8>,
-}
+// A proof, and the value that it is evaluated from.
+type Side<D> = (GivenProof<D>, Vec<u8>);
 
-fn read_side<D: SupportedDigest>(words: &mut Words<'_>) -> Result<Side<D>, Fault> {
-    Ok(Side {
-        proof: read_proof(words)?,
-        value: words.read()?,
-    })
-}
+// A key, two evaluations for it, and the pairs.
+type Agreement<D> = ((Vec<u8>, (Side<D>, Side<D>)), Pairs);
 
-#[derive(Drop)]
-struct AgreeKey<D: SupportedDigest> {
-    key: Vec<u8>,
-    first: Side<D>,
-    second: Side<D>,
-    pairs: Pairs,
-}
+pub(super) struct AgreeKey<D>(PhantomData<D>);
 
 impl<D: SupportedDigest> Call for AgreeKey<D> {
-    fn read(words: &mut Words<'_>) -> Result<AgreeKey<D>, Fault> {
-        Ok(AgreeKey {
-            key: words.read()?,
-            first: read_side(words)?,
-            second: read_side(words)?,
-            pairs: words.read()?,
-        })
-    }
+    type Given = Agreement<D>;
 
-    fn answer<M: Memory>(&self, memory: M, answer: &mut Answer) -> Result<(), AllocError> {
-        let (first, second) = (&self.first, &self.second);
-        let found = agree_key(
-            memory,
-            &self.key,
-            &first.proof,
-            &first.value,
-            &second.proof,
-            &second.value,
-        );
-        write(found, &self.pairs, answer)
+    fn answer<M: Memory>(
+        given: &Agreement<D>,
+        memory: M,
+        to: &mut Answer,
+    ) -> Result<(), AllocError> {
+        let ((key, ((first, value), (second, other_value))), pairs) = given;
+        let (first, second) = (&first.proof, &second.proof);
+        let found = warg_witness::agree_key(memory, key, first, value, second, other_value);
+        write(found, pairs, to)
     }
 }

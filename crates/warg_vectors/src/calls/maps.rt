@@ -3,57 +3,41 @@
 ghost use Rattle.std.specs.Prelude.{length};
 ghost use Rattle.std.specs.Iterator.{at_most};
 
-use crate::answer::{Answer, List};
-use crate::calls::digests::{Digest, by_digest};
+use crate::answer::Answer;
+use crate::calls::map_proofs::write_peers;
 use crate::calls::wrong::Wrong;
 use crate::each::{Call, Memory};
-use crate::words;
-use crate::words::{Fault, Words};
+use crate::words::List;
 use std::alloc::{AllocError, Allocator};
 use std::marker::PhantomData;
 use warg_crypto::{Hash, SupportedDigest};
 use warg_map::{Map, MapError, Proof};
 
-/// Answers the call of this name, or false where the name is none of these.
-pub(super) fn answer(name: &str, words: &mut Words<'_>, to: &mut Answer) -> Result<bool, Fault> {
-    match name {
-        "map" => by_digest!(Insertions, words, to),
-        "prove" => by_digest!(Prove, words, to),
-        "prove_absence" => by_digest!(ProveAbsence, words, to),
-        _ => return Ok(false),
-    }
-    Ok(true)
-}
-
 /// A map from bytes to bytes.
 pub(super) type BytesMap<'a, D, A> = Map<D, &'a [u8], &'a [u8], A>;
 
 /// A proof of such a map.
-pub(super) type BytesProof<'a, D, A> = Proof<D, &'a [u8], &'a [u8], A>;
+pub(super) type MapProof<'a, D, A> = Proof<D, &'a [u8], &'a [u8], A>;
 
-/// A key, and the value that is inserted under it.
-pub(super) type Insertion = (Vec<u8>, Vec<u8>);
+// A key, and the value that is inserted under it.
+type Insertion = (Vec<u8>, Vec<u8>);
 
 /// The pairs that a map is made of, by insertion in order.
-#[derive(Drop)]
-pub(super) struct Insertions<D> {
-    pub(super) pairs: words::List<Insertion>,
-    digest: PhantomData<D>,
-}
+pub(super) type Insertions = List<Insertion>;
 
-impl<D: SupportedDigest> Call for Insertions<D> {
-    fn read(words: &mut Words<'_>) -> Result<Insertions<D>, Fault> {
-        Ok(Insertions {
-            pairs: words.read()?,
-            digest: PhantomData,
-        })
-    }
+pub(super) struct Insert<D>(PhantomData<D>);
 
-    fn answer<M: Memory>(&self, memory: M, answer: &mut Answer) -> Result<(), AllocError> {
-        let pairs = self.pairs.items.as_slice();
-        match grown_both_ways::<D, M>(memory, pairs) {
-            Ok(map) => write(&map, answer),
-            Err(wrong) => wrong.write(answer),
+impl<D: SupportedDigest> Call for Insert<D> {
+    type Given = Insertions;
+
+    fn answer<M: Memory>(
+        insertions: &Insertions,
+        memory: M,
+        to: &mut Answer,
+    ) -> Result<(), AllocError> {
+        match grown_both_ways::<D, M>(memory, insertions.items.as_slice()) {
+            Ok(map) => write(&map, to),
+            Err(wrong) => wrong.write(to),
         }
     }
 }
@@ -73,21 +57,27 @@ fn grown_both_ways<'a, D: SupportedDigest, M: Memory>(
     pairs: &'a [Insertion],
 ) -> Result<BytesMap<'a, D, M>, Wrong> {
     let (first, last) = pairs.split_at(pairs.len().saturating_sub(2));
-    let before = grown(memory, first)?;
-    let mut map = before.clone()?;
-    for pair in last {
-        map = inserted(&map, memory, pair)?;
-    }
+    let before = grown_by(Map::default(memory)?, memory, first)?;
+    let map = grown_by(before.clone()?, memory, last)?;
     extend(&before, &map, memory, last)?;
     Ok(map)
 }
 
-/// The map of these pairs, inserted one by one.
+/// The map of these insertions.
 pub(super) fn grown<'a, D: SupportedDigest, M: Memory>(
+    memory: M,
+    insertions: &'a Insertions,
+) -> Result<BytesMap<'a, D, M>, Wrong> {
+    grown_by(Map::default(memory)?, memory, insertions.items.as_slice())
+}
+
+// The map with these pairs, inserted one by one.
+fn grown_by<'a, D: SupportedDigest, M: Memory>(
+    before: BytesMap<'a, D, M>,
     memory: M,
     pairs: &'a [Insertion],
 ) -> Result<BytesMap<'a, D, M>, Wrong> {
-    let mut map = Map::default(memory)?;
+    let mut map = before;
     for pair in pairs {
         map = inserted(&map, memory, pair)?;
     }
@@ -131,7 +121,7 @@ fn insert_again<'a, D: SupportedDigest, M: Memory>(
 fn proof_at<'a, D: SupportedDigest, M: Memory>(
     map: &BytesMap<'a, D, M>,
     key: &'a [u8],
-) -> Result<BytesProof<'a, D, M>, Wrong> {
+) -> Result<MapProof<'a, D, M>, Wrong> {
     if let Some(proof) = map.prove(key)? {
         return Ok(proof);
     }
@@ -205,83 +195,32 @@ impl<D: SupportedDigest> Seen<D> {
     }
 }
 
-// A key of the map of these pairs.
-#[derive(Drop)]
-struct Prove<D> {
-    insertions: Insertions<D>,
-    key: Vec<u8>,
-}
+// Insertions, and a key.
+type Question = (Insertions, Vec<u8>);
+
+pub(super) struct Prove<D>(PhantomData<D>);
 
 impl<D: SupportedDigest> Call for Prove<D> {
-    fn read(words: &mut Words<'_>) -> Result<Prove<D>, Fault> {
-        Ok(Prove {
-            insertions: Insertions::read(words)?,
-            key: words.read()?,
-        })
-    }
+    type Given = Question;
 
-    fn answer<M: Memory>(&self, memory: M, answer: &mut Answer) -> Result<(), AllocError> {
-        let pairs = self.insertions.pairs.items.as_slice();
-        match grown::<D, M>(memory, pairs) {
-            Ok(map) => {
-                let proof = honest_proof(&map, memory, pairs, self.key.as_slice());
-                write_proof(proof, answer)
-            }
-            Err(wrong) => wrong.write(answer),
-        }
+    fn answer<M: Memory>(given: &Question, memory: M, to: &mut Answer) -> Result<(), AllocError> {
+        write_proof(proved::<D, M>(memory, given, false), to)
     }
 }
 
-// The proof of a key. Where it is refused, the map is the one of before, and is asked again.
-fn proved<'a, D: SupportedDigest, M: Memory>(
-    map: &BytesMap<'a, D, M>,
-    memory: M,
-    key: &'a [u8],
-) -> Result<Option<BytesProof<'a, D, M>>, Wrong> {
-    let before = Seen::of(map);
-    match map.prove(key) {
-        Ok(proof) => Ok(proof),
-        Err(AllocError) => {
-            memory.grant();
-            Wrong::unless(before.is(map), "a refused proof changed the map")?;
-            Ok(map.prove(key)?)
-        }
-    }
-}
+pub(super) struct ProveAbsence<D>(PhantomData<D>);
 
-// The proof of a key, which leads from the value last inserted under its digest to the map's root.
-fn honest_proof<'a, D: SupportedDigest, M: Memory>(
-    map: &BytesMap<'a, D, M>,
-    memory: M,
-    pairs: &'a [Insertion],
-    key: &'a [u8],
-) -> Result<Option<BytesProof<'a, D, M>>, Wrong> {
-    let Some(proof) = proved(map, memory, key)? else {
-        return Ok(None);
-    };
-    let honest = match last_value::<D>(pairs, key) {
-        Some(value) => proof.evaluate(&key, &value) == *map.root(),
-        None => false,
-    };
-    Wrong::unless(honest, "a proof that leads to another root")?;
-    Ok(Some(proof))
-}
+impl<D: SupportedDigest> Call for ProveAbsence<D> {
+    type Given = Question;
 
-// The value that was last inserted under the digest of a key.
-fn last_value<'a, D: SupportedDigest>(pairs: &'a [Insertion], key: &[u8]) -> Option<&'a [u8]> {
-    let mut last = None;
-    let hash = Hash::<D>::of(&key);
-    for pair in pairs {
-        if Hash::<D>::of(&pair.0) == hash {
-            last = Some(pair.1.as_slice());
-        }
+    fn answer<M: Memory>(given: &Question, memory: M, to: &mut Answer) -> Result<(), AllocError> {
+        write_proof(proved::<D, M>(memory, given, true), to)
     }
-    last
 }
 
 // Writes the peers of a proof.
 fn write_proof<D: SupportedDigest, A: Allocator>(
-    proof: Result<Option<BytesProof<'_, D, A>>, Wrong>,
+    proof: Result<Option<MapProof<'_, D, A>>, Wrong>,
     to: &mut Answer,
 ) -> Result<(), AllocError> {
     match proof {
@@ -291,73 +230,67 @@ fn write_proof<D: SupportedDigest, A: Allocator>(
     }
 }
 
-fn write_peers<D>(peers: &[Option<Hash<D>>], to: &mut Answer) -> Result<(), AllocError> {
-    let mut list = List::new(to.alloc());
-    for peer in peers {
-        match peer {
-            Some(hash) => list.push_hash(hash)?,
-            None => list.push_shown(&"none")?,
+// The proof of a key in the map of the insertions, or of its absence. It leads to the map's root.
+fn proved<'a, D: SupportedDigest, M: Memory>(
+    memory: M,
+    given: &'a Question,
+    absent: bool,
+) -> Result<Option<MapProof<'a, D, M>>, Wrong> {
+    let map = grown(memory, &given.0)?;
+    let proof = asked(&map, memory, given.1.as_slice(), absent)?;
+    if let Some(proof) = &proof {
+        let root = if absent {
+            proof.evaluate_absent(&given.1.as_slice())
+        } else {
+            honest_root(proof, given)
+        };
+        Wrong::unless(root == *map.root(), "a proof that leads to another root")?;
+    }
+    Ok(proof)
+}
+
+// The root to which a proof leads from the value that was last inserted under the digest of the key.
+fn honest_root<'a, D: SupportedDigest, A: Allocator>(
+    proof: &MapProof<'a, D, A>,
+    given: &'a Question,
+) -> Hash<D> {
+    let mut value: &'a [u8] = &[];
+    let hash = Hash::<D>::of(&given.1);
+    for pair in given.0.items.as_slice() {
+        if Hash::<D>::of(&pair.0) == hash {
+            value = pair.1.as_slice();
         }
     }
-    to.list(list)
+    let key = given.1.as_slice();
+    proof.evaluate(&key, &value)
 }
 
-// A key that the map of these pairs may not hold.
-#[derive(Drop)]
-struct ProveAbsence<D> {
-    insertions: Insertions<D>,
-    key: Vec<u8>,
-}
-
-impl<D: SupportedDigest> Call for ProveAbsence<D> {
-    fn read(words: &mut Words<'_>) -> Result<ProveAbsence<D>, Fault> {
-        Ok(ProveAbsence {
-            insertions: Insertions::read(words)?,
-            key: words.read()?,
-        })
-    }
-
-    fn answer<M: Memory>(&self, memory: M, answer: &mut Answer) -> Result<(), AllocError> {
-        let pairs = self.insertions.pairs.items.as_slice();
-        match grown::<D, M>(memory, pairs) {
-            Ok(map) => {
-                let proof = honest_absence(&map, memory, self.key.as_slice());
-                write_proof(proof, answer)
-            }
-            Err(wrong) => wrong.write(answer),
-        }
-    }
-}
-
-// The proof of a key's absence. Where it is refused, the map is the one of before, and is asked again.
-fn proved_absent<'a, D: SupportedDigest, M: Memory>(
+/// The proof of a key, or of its absence. Where it is refused, the map is the one of before, and is asked again.
+pub(super) fn asked<'a, D: SupportedDigest, M: Memory>(
     map: &BytesMap<'a, D, M>,
     memory: M,
     key: &'a [u8],
-) -> Result<Option<BytesProof<'a, D, M>>, Wrong> {
+    absent: bool,
+) -> Result<Option<MapProof<'a, D, M>>, Wrong> {
     let before = Seen::of(map);
-    match map.prove_absence(key) {
+    match ask(map, key, absent) {
         Ok(proof) => Ok(proof),
         Err(AllocError) => {
             memory.grant();
             Wrong::unless(before.is(map), "a refused proof changed the map")?;
-            Ok(map.prove_absence(key)?)
+            Ok(ask(map, key, absent)?)
         }
     }
 }
 
-// The proof of a key's absence, which leads from an empty leaf to the map's root.
-fn honest_absence<'a, D: SupportedDigest, M: Memory>(
+fn ask<'a, D: SupportedDigest, M: Memory>(
     map: &BytesMap<'a, D, M>,
-    memory: M,
     key: &'a [u8],
-) -> Result<Option<BytesProof<'a, D, M>>, Wrong> {
-    let Some(proof) = proved_absent(map, memory, key)? else {
-        return Ok(None);
-    };
-    Wrong::unless(
-        proof.evaluate_absent(&key) == *map.root(),
-        "a proof of absence that leads to another root",
-    )?;
-    Ok(Some(proof))
+    absent: bool,
+) -> Result<Option<MapProof<'a, D, M>>, AllocError> {
+    if absent {
+        map.prove_absence(key)
+    } else {
+        map.prove(key)
+    }
 }

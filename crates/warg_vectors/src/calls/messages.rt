@@ -1,20 +1,10 @@
 //! Messages of the wire.
 
 use crate::answer::Answer;
-use crate::each;
 use crate::each::{Call, Memory};
-use crate::words::{Fault, Word, Words};
-use std::alloc::{AllocError, Global};
+use crate::words::{Fault, Given, Words};
+use std::alloc::AllocError;
 use warg_protobuf::{LogProofBundle, MapProofBundle, StackLog, VecLog};
-
-/// Answers the call of this name, or false where the name is none of these.
-pub(super) fn answer(name: &str, words: &mut Words<'_>, to: &mut Answer) -> Result<bool, Fault> {
-    if name != "wire" {
-        return Ok(false);
-    }
-    each::answer::<Wire>(words, to)?;
-    Ok(true)
-}
 
 /// The types of messages that stand alone.
 #[derive(Clone, Copy)]
@@ -25,9 +15,9 @@ pub(super) enum Type {
     VecLog,
 }
 
-impl Word for Type {
-    fn read(_alloc: Global, word: &str) -> Result<Type, Fault> {
-        match word {
+impl Given for Type {
+    fn read(words: &mut Words<'_>) -> Result<Type, Fault> {
+        match words.next()? {
             "LogProofBundle" => Ok(Type::LogProofBundle),
             "MapProofBundle" => Ok(Type::MapProofBundle),
             "StackLog" => Ok(Type::StackLog),
@@ -37,28 +27,23 @@ impl Word for Type {
     }
 }
 
-// The bytes of a message.
-#[derive(Drop)]
-struct Wire {
-    of: Type,
-    bytes: Vec<u8>,
-}
+pub(super) struct Wire;
 
 impl Call for Wire {
-    fn read(words: &mut Words<'_>) -> Result<Wire, Fault> {
-        Ok(Wire {
-            of: words.read()?,
-            bytes: words.read()?,
-        })
-    }
+    // The bytes of a message of the type.
+    type Given = (Type, Vec<u8>);
 
-    fn answer<M: Memory>(&self, memory: M, answer: &mut Answer) -> Result<(), AllocError> {
-        let bytes = self.bytes.as_slice();
-        match self.of {
-            Type::LogProofBundle => log_bundle(memory, bytes, answer),
-            Type::MapProofBundle => map_bundle(memory, bytes, answer),
-            Type::StackLog => stack_log(memory, bytes, answer),
-            Type::VecLog => vec_log(memory, bytes, answer),
+    fn answer<M: Memory>(
+        given: &(Type, Vec<u8>),
+        memory: M,
+        to: &mut Answer,
+    ) -> Result<(), AllocError> {
+        let bytes = given.1.as_slice();
+        match given.0 {
+            Type::LogProofBundle => log_bundle(memory, bytes, to),
+            Type::MapProofBundle => map_bundle(memory, bytes, to),
+            Type::StackLog => stack_log(memory, bytes, to),
+            Type::VecLog => vec_log(memory, bytes, to),
         }
     }
 }

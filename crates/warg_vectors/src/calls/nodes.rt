@@ -1,84 +1,86 @@
 //! The numbering of nodes.
 
-ghost use Rattle.std.specs.Prelude.{◌≤◌, ◌^◌};
-
 use crate::answer::{Answer, List};
 use crate::each;
 use crate::each::{Call, Memory};
-use crate::words::{Fault, Words};
+use crate::words::{Fault, Given, Length, Words};
 use std::alloc::AllocError;
 use warg_log::{Node, Side};
 
-/// Answers the call of this name, or false where the name is none of these.
-pub(super) fn answer(name: &str, words: &mut Words<'_>, to: &mut Answer) -> Result<bool, Fault> {
-    match name {
-        "exists" => exists(words, to)?,
-        "next" => next(words, to)?,
-        "first" => first(words, to)?,
-        "broots" => each::answer::<Broots>(words, to)?,
-        _ => return of_one_node(name, words, to),
+const NAMES: [&str; 13] = [
+    "broots",
+    "exists",
+    "next",
+    "first",
+    "height",
+    "side",
+    "sibling",
+    "parent",
+    "left_sibling",
+    "right_sibling",
+    "children",
+    "leftmost",
+    "rightmost",
+];
+
+/// Whether a call of this name is one of these.
+pub(super) fn has_call(name: &str) -> bool {
+    for known in NAMES {
+        if known == name {
+            return true;
+        }
     }
-    Ok(true)
+    false
+}
+
+/// Answers the call of this name.
+pub(super) fn answer(name: &str, words: &mut Words<'_>, to: &mut Answer) -> Result<(), Fault> {
+    match name {
+        "broots" => each::answer::<Broots>(words, to),
+        "exists" => exists(words, to),
+        "next" => next(words, to),
+        "first" => first(words, to),
+        _ => of_one_node(name, words, to),
+    }
 }
 
 // Answers a call that takes a node alone.
-fn of_one_node(name: &str, words: &mut Words<'_>, to: &mut Answer) -> Result<bool, Fault> {
-    let Some(call) = OneNode::named(name) else {
-        return Ok(false);
-    };
-    let node = words.read()?;
+fn of_one_node(name: &str, words: &mut Words<'_>, to: &mut Answer) -> Result<(), Fault> {
+    let node = Node::read(words)?;
     words.end()?;
-    match call {
-        OneNode::Side => side(node, to)?,
-        OneNode::Children => children(node, to)?,
-        _ => to.shown(&call.number(node).ok_or(Fault::BadCall)?)?,
+    match name {
+        "height" => write(Some(node.height() as usize), to),
+        "sibling" => write(sibling(node), to),
+        "parent" => write(parent(node), to),
+        "left_sibling" => write(left_sibling(node), to),
+        "right_sibling" => write(right_sibling(node), to),
+        "leftmost" => write(leftmost(node), to),
+        "rightmost" => write(rightmost(node), to),
+        "children" => children(node, to),
+        "side" => side(node, to),
+        _ => Err(Fault::BadCall),
     }
-    Ok(true)
 }
 
-// The calls that take a node alone.
-#[derive(Clone, Copy)]
-enum OneNode {
-    Height,
-    Side,
-    Sibling,
-    Parent,
-    LeftSibling,
-    RightSibling,
-    Children,
-    Leftmost,
-    Rightmost,
+// Writes a number, if the call's condition is met.
+fn write(number: Option<usize>, to: &mut Answer) -> Result<(), Fault> {
+    let number = number.ok_or(Fault::BadCall)?;
+    to.shown(&number)?;
+    Ok(())
 }
 
-impl OneNode {
-    fn named(name: &str) -> Option<OneNode> {
-        match name {
-            "height" => Some(OneNode::Height),
-            "side" => Some(OneNode::Side),
-            "sibling" => Some(OneNode::Sibling),
-            "parent" => Some(OneNode::Parent),
-            "left_sibling" => Some(OneNode::LeftSibling),
-            "right_sibling" => Some(OneNode::RightSibling),
-            "children" => Some(OneNode::Children),
-            "leftmost" => Some(OneNode::Leftmost),
-            "rightmost" => Some(OneNode::Rightmost),
-            _ => None,
-        }
+fn sibling(node: Node) -> Option<usize> {
+    if node.height() >= 63 {
+        return None;
     }
+    Some(node.sibling().0)
+}
 
-    // The number that the call answers, if it answers one and its condition is met.
-    fn number(self, node: Node) -> Option<usize> {
-        match self {
-            OneNode::Height => Some(node.height() as usize),
-            OneNode::Sibling if node.height() < 63 => Some(node.sibling().0),
-            OneNode::Parent if node.height() < 63 => Some(node.parent().0),
-            OneNode::LeftSibling if node.height() < 63 => left_sibling(node),
-            OneNode::RightSibling if node.height() < 63 => right_sibling(node),
-            OneNode::Leftmost if node.height() < 64 => Some(node.leftmost_descendent().0),
-            OneNode::Rightmost if node.height() < 64 => Some(node.rightmost_descendent().0),
-            _ => None,
-        }
+fn parent(node: Node) -> Option<usize> {
+    if node.height() >= 63 {
+        return None;
     }
+    Some(node.parent().0)
 }
 
 fn left_sibling(node: Node) -> Option<usize> {
@@ -99,6 +101,20 @@ fn right_sibling(node: Node) -> Option<usize> {
         Side::Left => Some(node.right_sibling().0),
         Side::Right => None,
     }
+}
+
+fn leftmost(node: Node) -> Option<usize> {
+    if node.height() >= 64 {
+        return None;
+    }
+    Some(node.leftmost_descendent().0)
+}
+
+fn rightmost(node: Node) -> Option<usize> {
+    if node.height() >= 64 {
+        return None;
+    }
+    Some(node.rightmost_descendent().0)
 }
 
 fn side(node: Node, to: &mut Answer) -> Result<(), Fault> {
@@ -124,69 +140,58 @@ fn children(node: Node, to: &mut Answer) -> Result<(), Fault> {
 }
 
 fn exists(words: &mut Words<'_>, to: &mut Answer) -> Result<(), Fault> {
-    let node: Node = words.read()?;
-    let length = words.read()?;
+    let (node, length): (Node, usize) = Given::read(words)?;
     words.end()?;
     to.shown(&node.exists_at_length(length))?;
     Ok(())
 }
 
 fn first(words: &mut Words<'_>, to: &mut Answer) -> Result<(), Fault> {
-    let height: usize = words.read()?;
+    let height = usize::read(words)?;
     words.end()?;
     if height >= 64 {
         return Err(Fault::BadCall);
     }
-    to.shown(&Node::first_node_with_height(height as u32).0)?;
-    Ok(())
+    write(Some(Node::first_node_with_height(height as u32).0), to)
 }
 
 fn next(words: &mut Words<'_>, to: &mut Answer) -> Result<(), Fault> {
-    let node = words.read()?;
-    let height = words.read()?;
+    let (node, height): (Node, usize) = Given::read(words)?;
     words.end()?;
-    let next = next_after(node, height).ok_or(Fault::BadCall)?;
-    to.shown(&next.0)?;
-    Ok(())
+    write(next_after(node, height), to)
 }
 
 // The next node of a height, or None where the call's condition isn't met.
-fn next_after(node: Node, height: usize) -> Option<Node> {
+fn next_after(node: Node, height: usize) -> Option<usize> {
     if node.height() >= 64 || height > node.height() as usize {
         return None;
     }
     let height = height as u32;
     let end = node.rightmost_descendent().0.checked_add(2)?;
     end.checked_add(2usize.pow(height) - 1)?;
-    Some(node.next_node_with_height(height))
+    Some(node.next_node_with_height(height).0)
 }
 
 // The balanced roots of a length.
-#[derive(Drop)]
-struct Broots {
-    length: usize,
-    ghost most: { length ≤ 2 ^ 63 },
-}
+struct Broots;
 
 impl Call for Broots {
-    fn read(words: &mut Words<'_>) -> Result<Broots, Fault> {
-        let length = words.read()?;
-        if length > 1 << 63 {
-            return Err(Fault::BadCall);
-        }
-        Ok(Broots { length })
-    }
+    type Given = Length;
 
-    fn answer<M: Memory>(&self, memory: M, answer: &mut Answer) -> Result<(), AllocError> {
-        match Node::broots_for_len(memory, self.length) {
-            Ok(roots) => write(roots.as_slice(), answer),
+    fn answer<M: Memory>(
+        length: &Length,
+        memory: M,
+        answer: &mut Answer,
+    ) -> Result<(), AllocError> {
+        match Node::broots_for_len(memory, length.value) {
+            Ok(roots) => write_nodes(roots.as_slice(), answer),
             Err(fault) => answer.refusal(&fault),
         }
     }
 }
 
 /// Writes the list of the nodes' numbers.
-pub(super) fn write(nodes: &[Node], to: &mut Answer) -> Result<(), AllocError> {
+pub(super) fn write_nodes(nodes: &[Node], to: &mut Answer) -> Result<(), AllocError> {
     let mut list = List::new(to.alloc());
     for node in nodes {
         list.push_shown(&node.0)?;

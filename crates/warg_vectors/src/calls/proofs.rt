@@ -2,86 +2,29 @@
 
 use crate::answer::{Answer, List};
 use crate::calls::data::Data;
-use crate::calls::digests::{Digest, by_digest};
-use crate::calls::nodes;
-use crate::each;
+use crate::calls::nodes::write_nodes;
 use crate::each::{Call, Memory};
-use crate::words::{Fault, Word, Words};
-use std::alloc::{AllocError, Allocator, Global};
+use crate::words::Length;
+use std::alloc::{AllocError, Allocator};
+use std::marker::PhantomData;
 use warg_crypto::{Hash, Sha256, SupportedDigest};
-use warg_log::{ConsistencyProof, InclusionProof, InclusionProofWalk, LogData, Node, VecLog};
+use warg_log::{InclusionProof, InclusionProofError, InclusionProofWalk, LogData, Node, VecLog};
 
-/// Answers the call of this name, or false where the name is none of these.
-pub(super) fn answer(name: &str, words: &mut Words<'_>, to: &mut Answer) -> Result<bool, Fault> {
-    match name {
-        "walk" => each::answer::<Walk>(words, to)?,
-        "evaluate_value" => by_digest!(EvaluateValue, words, to),
-        "evaluate_hash" => by_digest!(EvaluateHash, words, to),
-        "consistency" => by_digest!(Consistency, words, to),
-        "inclusions" => each::answer::<Inclusions>(words, to)?,
-        _ => return Ok(false),
-    }
-    Ok(true)
-}
+/// A node, and the length at which its inclusion is proved.
+pub(super) type Place = (Node, Length);
 
-/// The proof of a node at a length, which is at most 2^63.
-pub(super) fn inclusion_of<D: SupportedDigest>(
-    alloc: Global,
-    node: Node,
-    length: usize,
-) -> Result<InclusionProof<D, Vec<u8>>, Fault> {
-    if length > 1 << 63 {
-        return Err(Fault::BadCall);
-    }
-    let data: VecLog<D, Vec<u8>> = VecLog::default(alloc);
-    Ok(data.prove_inclusion(node, length))
-}
+// A log of which only its proofs are looked at.
+type Empty = VecLog<Sha256, Vec<u8>>;
 
-/// The proof from an old to a new length, which are at most 2^63.
-pub(super) fn consistency_between<D: SupportedDigest>(
-    alloc: Global,
-    old_length: usize,
-    new_length: usize,
-) -> Result<ConsistencyProof<D, Vec<u8>>, Fault> {
-    if old_length > 1 << 63 || new_length > 1 << 63 {
-        return Err(Fault::BadCall);
-    }
-    let data: VecLog<D, Vec<u8>> = VecLog::default(alloc);
-    Ok(data.prove_consistency(old_length, new_length))
-}
-
-/// The proof of the next two words, a node and a length.
-pub(super) fn read_inclusion<D: SupportedDigest>(
-    words: &mut Words<'_>,
-) -> Result<InclusionProof<D, Vec<u8>>, Fault> {
-    let node = words.read()?;
-    let length = words.read()?;
-    inclusion_of(words.alloc(), node, length)
-}
-
-/// The proof of the next two words, an old and a new length.
-pub(super) fn read_consistency<D: SupportedDigest>(
-    words: &mut Words<'_>,
-) -> Result<ConsistencyProof<D, Vec<u8>>, Fault> {
-    let old_length = words.read()?;
-    let new_length = words.read()?;
-    consistency_between(words.alloc(), old_length, new_length)
-}
-
-#[derive(Drop)]
-struct Walk {
-    proof: InclusionProof<Sha256, Vec<u8>>,
-}
+pub(super) struct Walk;
 
 impl Call for Walk {
-    fn read(words: &mut Words<'_>) -> Result<Walk, Fault> {
-        Ok(Walk {
-            proof: read_inclusion(words)?,
-        })
-    }
+    type Given = Place;
 
-    fn answer<M: Memory>(&self, memory: M, answer: &mut Answer) -> Result<(), AllocError> {
-        match self.proof.walk(memory) {
+    fn answer<M: Memory>(given: &Place, memory: M, answer: &mut Answer) -> Result<(), AllocError> {
+        let (node, length) = given;
+        let log = Empty::default(answer.alloc());
+        match log.prove_inclusion(*node, length.value).walk(memory) {
             Ok(walk) => write_walk(&walk, answer),
             Err(fault) => answer.refusal(&fault),
         }
@@ -92,115 +35,29 @@ fn write_walk<A: Allocator>(
     walk: &InclusionProofWalk<A>,
     to: &mut Answer,
 ) -> Result<(), AllocError> {
-    nodes::write(walk.nodes(), to)?;
+    write_nodes(walk.nodes(), to)?;
     to.shown(&walk.initial_walk_len())?;
     to.shown(&walk.lower_broots())?;
     to.shown(&walk.upper_broots())
 }
 
-#[derive(Drop)]
-struct EvaluateValue<D: SupportedDigest> {
-    proof: InclusionProof<D, Vec<u8>>,
-    data: Data<D>,
-    value: Vec<u8>,
-}
-
-impl<D: SupportedDigest> Call for EvaluateValue<D> {
-    fn read(words: &mut Words<'_>) -> Result<EvaluateValue<D>, Fault> {
-        Ok(EvaluateValue {
-            proof: read_inclusion(words)?,
-            data: words.read()?,
-            value: words.read()?,
-        })
-    }
-
-    fn answer<M: Memory>(&self, _memory: M, answer: &mut Answer) -> Result<(), AllocError> {
-        match self.proof.evaluate_value(&self.data.held, &self.value) {
-            Ok(root) => answer.hash(&root),
-            Err(fault) => answer.refusal(&fault),
-        }
-    }
-
-    fn stands(&self) -> bool {
-        self.data.stands()
-    }
-}
-
-#[derive(Drop)]
-struct EvaluateHash<D: SupportedDigest> {
-    proof: InclusionProof<D, Vec<u8>>,
-    data: Data<D>,
-    hash: Hash<D>,
-}
-
-impl<D: SupportedDigest> Call for EvaluateHash<D> {
-    fn read(words: &mut Words<'_>) -> Result<EvaluateHash<D>, Fault> {
-        Ok(EvaluateHash {
-            proof: read_inclusion(words)?,
-            data: words.read()?,
-            hash: words.read()?,
-        })
-    }
-
-    fn answer<M: Memory>(&self, _memory: M, answer: &mut Answer) -> Result<(), AllocError> {
-        match self
-            .proof
-            .evaluate_hash(&self.data.held, self.hash.copied())
-        {
-            Ok(root) => answer.hash(&root),
-            Err(fault) => answer.refusal(&fault),
-        }
-    }
-
-    fn stands(&self) -> bool {
-        self.data.stands()
-    }
-}
-
-#[derive(Drop)]
-struct Consistency<D: SupportedDigest> {
-    proof: ConsistencyProof<D, Vec<u8>>,
-    data: Data<D>,
-}
-
-impl<D: SupportedDigest> Call for Consistency<D> {
-    fn read(words: &mut Words<'_>) -> Result<Consistency<D>, Fault> {
-        Ok(Consistency {
-            proof: read_consistency(words)?,
-            data: words.read()?,
-        })
-    }
-
-    fn answer<M: Memory>(&self, _memory: M, answer: &mut Answer) -> Result<(), AllocError> {
-        match self.proof.evaluate(&self.data.held) {
-            Ok((old_root, new_root)) => {
-                answer.hash(&old_root)?;
-                answer.hash(&new_root)
-            }
-            Err(fault) => answer.refusal(&fault),
-        }
-    }
-
-    fn stands(&self) -> bool {
-        self.data.stands()
-    }
-}
-
-#[derive(Drop)]
-struct Inclusions {
-    proof: ConsistencyProof<Sha256, Vec<u8>>,
-}
+pub(super) struct Inclusions;
 
 impl Call for Inclusions {
-    fn read(words: &mut Words<'_>) -> Result<Inclusions, Fault> {
-        Ok(Inclusions {
-            proof: read_consistency(words)?,
-        })
-    }
+    type Given = (Length, Length);
 
-    fn answer<M: Memory>(&self, memory: M, answer: &mut Answer) -> Result<(), AllocError> {
-        match self.proof.inclusions(memory) {
-            Ok(proofs) => write_leaves(proofs.as_slice(), self.proof.new_length(), answer),
+    fn answer<M: Memory>(
+        given: &(Length, Length),
+        memory: M,
+        answer: &mut Answer,
+    ) -> Result<(), AllocError> {
+        let (old, new) = given;
+        let log = Empty::default(answer.alloc());
+        match log
+            .prove_consistency(old.value, new.value)
+            .inclusions(memory)
+        {
+            Ok(proofs) => write_leaves(proofs.as_slice(), new.value, answer),
             Err(fault) => answer.refusal(&fault),
         }
     }
@@ -220,4 +77,68 @@ fn write_leaves<D>(
         list.push_shown(&proof.leaf().0)?;
     }
     to.list(list)
+}
+
+pub(super) struct EvaluateValue<D>(PhantomData<D>);
+
+impl<D: SupportedDigest> Call for EvaluateValue<D> {
+    type Given = (Place, (Data<D>, Vec<u8>));
+
+    fn answer<M: Memory>(
+        given: &(Place, (Data<D>, Vec<u8>)),
+        _memory: M,
+        answer: &mut Answer,
+    ) -> Result<(), AllocError> {
+        let ((node, length), (data, value)) = given;
+        let proof = data.held.prove_inclusion(*node, length.value);
+        write_root(proof.evaluate_value(&data.held, value), answer)
+    }
+}
+
+pub(super) struct EvaluateHash<D>(PhantomData<D>);
+
+impl<D: SupportedDigest> Call for EvaluateHash<D> {
+    type Given = (Place, (Data<D>, Hash<D>));
+
+    fn answer<M: Memory>(
+        given: &(Place, (Data<D>, Hash<D>)),
+        _memory: M,
+        answer: &mut Answer,
+    ) -> Result<(), AllocError> {
+        let ((node, length), (data, hash)) = given;
+        let proof = data.held.prove_inclusion(*node, length.value);
+        write_root(proof.evaluate_hash(&data.held, hash.copied()), answer)
+    }
+}
+
+fn write_root<D>(
+    root: Result<Hash<D>, InclusionProofError>,
+    to: &mut Answer,
+) -> Result<(), AllocError> {
+    match root {
+        Ok(root) => to.hash(&root),
+        Err(fault) => to.refusal(&fault),
+    }
+}
+
+pub(super) struct Consistency<D>(PhantomData<D>);
+
+impl<D: SupportedDigest> Call for Consistency<D> {
+    type Given = ((Length, Length), Data<D>);
+
+    fn answer<M: Memory>(
+        given: &((Length, Length), Data<D>),
+        _memory: M,
+        answer: &mut Answer,
+    ) -> Result<(), AllocError> {
+        let ((old, new), data) = given;
+        let proof = data.held.prove_consistency(old.value, new.value);
+        match proof.evaluate(&data.held) {
+            Ok((old_root, new_root)) => {
+                answer.hash(&old_root)?;
+                answer.hash(&new_root)
+            }
+            Err(fault) => answer.refusal(&fault),
+        }
+    }
 }

@@ -1,44 +1,26 @@
 //! Runs of the program.
 
 use crate::answer::Answer;
-use crate::each;
 use crate::each::{Call, Memory};
-use crate::words::{Fault, Words};
 use std::alloc::AllocError;
 use warg_check::program::run;
 
-/// Answers the call of this name, or false where the name is none of these.
-pub(super) fn answer(name: &str, words: &mut Words<'_>, to: &mut Answer) -> Result<bool, Fault> {
-    if name != "run" {
-        return Ok(false);
-    }
-    each::answer::<Run>(words, to)?;
-    Ok(true)
-}
-
-// The whole input of a run.
-#[derive(Drop)]
-struct Run {
-    input: Vec<u8>,
-}
+pub(super) struct Run;
 
 impl Call for Run {
-    fn read(words: &mut Words<'_>) -> Result<Run, Fault> {
-        Ok(Run {
-            input: words.read()?,
-        })
-    }
+    // The whole input.
+    type Given = Vec<u8>;
 
-    fn answer<M: Memory>(&self, memory: M, answer: &mut Answer) -> Result<(), AllocError> {
-        let mut reader = self.input.as_slice();
-        let mut writer = Vec::new(answer.alloc());
+    fn answer<M: Memory>(input: &Vec<u8>, memory: M, to: &mut Answer) -> Result<(), AllocError> {
+        let mut reader = input.as_slice();
+        let mut writer = Vec::new(to.alloc());
         match run(memory, &mut reader, &mut writer) {
             Ok(good) => {
-                answer.shown(&good)?;
-                answer.bytes(writer.as_slice())
+                to.shown(&good)?;
+                to.bytes(writer.as_slice())
             }
-            Err(_) if !writer.is_empty() => answer.word("refused after writing"),
-            Err(fault) => answer.refusal(&fault),
+            Err(_) if !writer.is_empty() => to.word("refused after writing"),
+            Err(fault) => to.refusal(&fault),
         }
     }
 }

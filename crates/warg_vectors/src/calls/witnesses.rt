@@ -2,28 +2,16 @@
 
 use crate::answer::Answer;
 use crate::calls::data::Data;
-use crate::calls::digests::{Digest, by_digest};
-use crate::calls::proofs::{read_consistency, read_inclusion};
+use crate::calls::proofs::Place;
 use crate::each::{Call, Memory};
-use crate::words::{Fault, List, Words};
+use crate::words::{Length, List};
 use std::alloc::{AllocError, Allocator};
+use std::marker::PhantomData;
 use warg_crypto::{Hash, SupportedDigest};
-use warg_log::{ConsistencyProof, InclusionProof};
-use warg_witness::{
-    Collision, Finding, agree_value, witness_consistency, witness_hash, witness_value,
-};
+use warg_log::LogData;
+use warg_witness::{Collision, Finding};
 
-/// Answers the call of this name, or false where the name is none of these.
-pub(super) fn answer(name: &str, words: &mut Words<'_>, to: &mut Answer) -> Result<bool, Fault> {
-    match name {
-        "witness_value" => by_digest!(WitnessValue, words, to),
-        "witness_hash" => by_digest!(WitnessHash, words, to),
-        "witness_consistency" => by_digest!(WitnessConsistency, words, to),
-        "agree_value" => by_digest!(AgreeValue, words, to),
-        _ => return Ok(false),
-    }
-    Ok(true)
-}
+type Entries = List<Vec<u8>>;
 
 /// The pairs of byte strings that may be answered as a collision.
 pub(super) type Pairs = List<(Vec<u8>, Vec<u8>)>;
@@ -48,154 +36,98 @@ fn write_pair<D: SupportedDigest, A: Allocator>(
     to: &mut Answer,
 ) -> Result<(), AllocError> {
     to.word("Collision")?;
-    let (first, second) = (pair.first(), pair.second());
-    if pairs.items.iter().any(|given| given.0.as_slice() == first && given.1.as_slice() == second) {
+    if is_given(pair.first(), pair.second(), pairs.items.as_slice()) {
         return Ok(());
     }
-    to.bytes(first)?;
-    to.bytes(second)
+    to.bytes(pair.first())?;
+    to.bytes(pair.second())
 }
 
-#[derive(Drop)]
-struct WitnessValue<D: SupportedDigest> {
-    proof: InclusionProof<D, Vec<u8>>,
-    data: Data<D>,
-    value: Vec<u8>,
-    entries: List<Vec<u8>>,
-    pairs: Pairs,
+fn is_given(first: &[u8], second: &[u8], pairs: &[(Vec<u8>, Vec<u8>)]) -> bool {
+    for pair in pairs {
+        if pair.0.as_slice() == first && pair.1.as_slice() == second {
+            return true;
+        }
+    }
+    false
 }
+
+// A claim of a value or a hash at a place, what it is evaluated over, and what it is judged by.
+type Claim<D, C> = ((Place, Data<D>), (C, (Entries, Pairs)));
+
+pub(super) struct WitnessValue<D>(PhantomData<D>);
 
 impl<D: SupportedDigest> Call for WitnessValue<D> {
-    fn read(words: &mut Words<'_>) -> Result<WitnessValue<D>, Fault> {
-        Ok(WitnessValue {
-            proof: read_inclusion(words)?,
-            data: words.read()?,
-            value: words.read()?,
-            entries: words.read()?,
-            pairs: words.read()?,
-        })
-    }
+    type Given = Claim<D, Vec<u8>>;
 
-    fn answer<M: Memory>(&self, memory: M, answer: &mut Answer) -> Result<(), AllocError> {
-        let entries = self.entries.items.as_slice();
-        let found = witness_value(memory, &self.proof, &self.data.held, &self.value, entries);
-        write(found, &self.pairs, answer)
-    }
-
-    fn stands(&self) -> bool {
-        self.data.stands()
+    fn answer<M: Memory>(
+        given: &Claim<D, Vec<u8>>,
+        memory: M,
+        to: &mut Answer,
+    ) -> Result<(), AllocError> {
+        let (((node, length), data), (value, (entries, pairs))) = given;
+        let proof = data.held.prove_inclusion(*node, length.value);
+        let entries = entries.items.as_slice();
+        let found = warg_witness::witness_value(memory, &proof, &data.held, value, entries);
+        write(found, pairs, to)
     }
 }
 
-#[derive(Drop)]
-struct WitnessHash<D: SupportedDigest> {
-    proof: InclusionProof<D, Vec<u8>>,
-    data: Data<D>,
-    hash: Hash<D>,
-    entries: List<Vec<u8>>,
-    pairs: Pairs,
-}
+pub(super) struct WitnessHash<D>(PhantomData<D>);
 
 impl<D: SupportedDigest> Call for WitnessHash<D> {
-    fn read(words: &mut Words<'_>) -> Result<WitnessHash<D>, Fault> {
-        Ok(WitnessHash {
-            proof: read_inclusion(words)?,
-            data: words.read()?,
-            hash: words.read()?,
-            entries: words.read()?,
-            pairs: words.read()?,
-        })
-    }
+    type Given = Claim<D, Hash<D>>;
 
-    fn answer<M: Memory>(&self, memory: M, answer: &mut Answer) -> Result<(), AllocError> {
-        let entries = self.entries.items.as_slice();
-        let hash = self.hash.copied();
-        let found = witness_hash(memory, &self.proof, &self.data.held, hash, entries);
-        write(found, &self.pairs, answer)
-    }
-
-    fn stands(&self) -> bool {
-        self.data.stands()
+    fn answer<M: Memory>(
+        given: &Claim<D, Hash<D>>,
+        memory: M,
+        to: &mut Answer,
+    ) -> Result<(), AllocError> {
+        let (((node, length), data), (hash, (entries, pairs))) = given;
+        let proof = data.held.prove_inclusion(*node, length.value);
+        let (hash, entries) = (hash.copied(), entries.items.as_slice());
+        let found = warg_witness::witness_hash(memory, &proof, &data.held, hash, entries);
+        write(found, pairs, to)
     }
 }
 
-#[derive(Drop)]
-struct WitnessConsistency<D: SupportedDigest> {
-    proof: ConsistencyProof<D, Vec<u8>>,
-    data: Data<D>,
-    old: List<Vec<u8>>,
-    new: List<Vec<u8>>,
-    pairs: Pairs,
-}
+// Two lengths, what the proof between them is evaluated over, the old and the new entries, and the pairs.
+type Growth<D> = (((Length, Length), Data<D>), ((Entries, Entries), Pairs));
+
+pub(super) struct WitnessConsistency<D>(PhantomData<D>);
 
 impl<D: SupportedDigest> Call for WitnessConsistency<D> {
-    fn read(words: &mut Words<'_>) -> Result<WitnessConsistency<D>, Fault> {
-        Ok(WitnessConsistency {
-            proof: read_consistency(words)?,
-            data: words.read()?,
-            old: words.read()?,
-            new: words.read()?,
-            pairs: words.read()?,
-        })
-    }
+    type Given = Growth<D>;
 
-    fn answer<M: Memory>(&self, memory: M, answer: &mut Answer) -> Result<(), AllocError> {
-        let (old, new) = (self.old.items.as_slice(), self.new.items.as_slice());
-        let found = witness_consistency(memory, &self.proof, &self.data.held, old, new);
-        write(found, &self.pairs, answer)
-    }
-
-    fn stands(&self) -> bool {
-        self.data.stands()
+    fn answer<M: Memory>(given: &Growth<D>, memory: M, to: &mut Answer) -> Result<(), AllocError> {
+        let (((from, until), data), ((old, new), pairs)) = given;
+        let proof = data.held.prove_consistency(from.value, until.value);
+        let (old, new) = (old.items.as_slice(), new.items.as_slice());
+        let found = warg_witness::witness_consistency(memory, &proof, &data.held, old, new);
+        write(found, pairs, to)
     }
 }
 
-// What one of two evaluations is over.
-#[derive(Drop)]
-struct Side<D: SupportedDigest> {
-    data: Data<D>,
-    value: Vec<u8>,
-}
+// What an evaluation is over, and the value.
+type Side<D> = (Data<D>, Vec<u8>);
 
-fn read_side<D: SupportedDigest>(words: &mut Words<'_>) -> Result<Side<D>, Fault> {
-    Ok(Side {
-        data: words.read()?,
-        value: words.read()?,
-    })
-}
+// A place, two evaluations there, and the pairs.
+type Agreement<D> = ((Place, (Side<D>, Side<D>)), Pairs);
 
-#[derive(Drop)]
-struct AgreeValue<D: SupportedDigest> {
-    proof: InclusionProof<D, Vec<u8>>,
-    first: Side<D>,
-    second: Side<D>,
-    pairs: Pairs,
-}
+pub(super) struct AgreeValue<D>(PhantomData<D>);
 
 impl<D: SupportedDigest> Call for AgreeValue<D> {
-    fn read(words: &mut Words<'_>) -> Result<AgreeValue<D>, Fault> {
-        Ok(AgreeValue {
-            proof: read_inclusion(words)?,
-            first: read_side(words)?,
-            second: read_side(words)?,
-            pairs: words.read()?,
-        })
-    }
+    type Given = Agreement<D>;
 
-    fn answer<M: Memory>(&self, memory: M, answer: &mut Answer) -> Result<(), AllocError> {
-        let (first, second) = (&self.first, &self.second);
-        let found = agree_value(
-            memory,
-            &self.proof,
-            &first.data.held,
-            &first.value,
-            &second.data.held,
-            &second.value,
-        );
-        write(found, &self.pairs, answer)
-    }
-
-    fn stands(&self) -> bool {
-        self.first.data.stands() && self.second.data.stands()
+    fn answer<M: Memory>(
+        given: &Agreement<D>,
+        memory: M,
+        to: &mut Answer,
+    ) -> Result<(), AllocError> {
+        let (((node, length), ((data, value), (other_data, other_value))), pairs) = given;
+        let proof = data.held.prove_inclusion(*node, length.value);
+        let (data, other_data) = (&data.held, &other_data.held);
+        let found = warg_witness::agree_value(memory, &proof, data, value, other_data, other_value);
+        write(found, pairs, to)
     }
 }
