@@ -1,9 +1,9 @@
 # The ways in: the program, the tests, the figures, and the library for C.
 .PHONY: run test bench ffi ffi-test
 
-# Proves and builds the program, and leaves it at bin/warg_check.
+# Proves and builds the program, and leaves it at bin/warg_check. CPU=x86-64-v3 builds it for newer processors.
 run:
-	@cd crates/warg_check_cli && rt run < stdin > /dev/null && cd ../.. && \
+	@cd crates/warg_check_cli && rt run $(if $(CPU),--cpu $(CPU)) < stdin > /dev/null && cd ../.. && \
 	mkdir -p bin && cp crates/warg_check_cli/out/warg_check_cli bin/warg_check && \
 	echo "bin/warg_check reads commands on standard input, as: printf 'push -\\nlog\\n' | bin/warg_check"
 
