@@ -297,12 +297,7 @@ fn given_digests_without_memory(rt: HostRuntime) -> Result<(), Fail> {
     let root = data
         .prove_inclusion(Node(1), 3)
         .evaluate_hash(&data, hash_ending_in(9));
-    assert!(rt;
-        all(&[
-            root == Ok(hash_ending_in(17)),
-            memory.left() == 0,
-            !memory.has_refused()
-        ])
-    );
+    assert!(rt; root == Ok(hash_ending_in(17)));
+    assert!(rt; all(&[memory.left() == 0, !memory.has_refused()]));
     Ok(())
 }
