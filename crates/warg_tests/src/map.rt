@@ -143,12 +143,8 @@ fn calls_without_memory(rt: HostRuntime) -> Result<(), Fail> {
         ])
     );
     assert!(rt; absence.evaluate_absent(&"qux") == *same.root());
-    assert!(rt;
-        all(&[
-            Vec::from(proof).len() == 1,
-            Scarce::default(&memory)?.is_empty()
-        ])
-    );
+    assert!(rt; Vec::from(proof).len() == 1);
+    assert!(rt; Scarce::default(&memory)?.is_empty());
     assert!(rt; all(&[memory.left() == 0, !memory.has_refused()]));
     Ok(())
 }
