@@ -21,8 +21,8 @@ mod messages;
 #[cfg(test)]
 mod program;
 #[cfg(test)]
-mod readme;
-#[cfg(test)]
 mod text;
+#[cfg(test)]
+mod uses;
 #[cfg(test)]
 mod witness;

@@ -4,7 +4,7 @@ use std::cmp::Ordering;
 use std::test::Fail;
 use warg_crypto::laws::{equal_by_bytes, order_by_bytes};
 use warg_crypto::{Hash, Sha256};
-use warg_log::laws::order_by_root_then_length;
+use warg_log::laws::{equal_by_root_and_length, order_by_root_then_length};
 use warg_log::{Checkpoint, GREATEST_LENGTH, Node, ProofBundle};
 
 // SHA-256 of the byte 00.
@@ -58,6 +58,7 @@ fn orders_of_hashes_and_checkpoints(rt: HostRuntime) {
     let other = Checkpoint::new(high, 0);
     assert!(rt; order_by_root_then_length(&short, &long) == Ordering::Less);
     assert!(rt; order_by_root_then_length(&other, &long) == Ordering::Greater);
+    assert!(rt; equal_by_root_and_length(&long, &long) && !equal_by_root_and_length(&short, &long));
 }
 
 #[test]

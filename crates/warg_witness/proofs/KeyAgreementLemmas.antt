@@ -1,5 +1,5 @@
 -- What an agreement on a key shows.
-use Rattle.std.proofs.Common.{◌≡◌, ℕ, Bool, List, [], ◌∷◌, ◌++◌, Option, refl, sym, ap, ◌∙◌}
+use Rattle.std.proofs.Common.{◌≡◌, ℕ, List, [], ◌∷◌, Option, refl, sym}
 use Rattle.std.proofs.lemmas.List.{append-nil}
 use Rattle.warg_map.specs.Bits.{key_bits}
 use Rattle.warg_witness.specs.Laws.{GivesHashes, HoldsPeers, SomeCollision}

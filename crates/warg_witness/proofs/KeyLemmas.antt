@@ -1,5 +1,5 @@
 -- What a false claim of a key shows.
-use Rattle.std.proofs.Common.{◌≡◌, ℕ, ◌<◌, ◌≤◌, Bool, true, List, [], ◌∷◌, ◌++◌, length, map, Option, Some, None, IfOk, unwrap_or, get_or, ◌⊎◌, inl, inr, ⊎_elim, refl, sym, ap, ◌∙◌, arith}
+use Rattle.std.proofs.Common.{◌≡◌, ℕ, ◌≤◌, Bool, List, [], ◌∷◌, length, map, Option, Some, None, IfOk, get_or, inl, inr, refl, sym, ap, ◌∙◌, arith}
 use Rattle.std.proofs.lemmas.List.{append-nil, length-map, get_or-map}
 use Rattle.std.specs.List.{Contains}
 use Rattle.std.specs.Option.{option_map}
@@ -9,10 +9,10 @@ use Rattle.std.specs.declared.result.Result.TheVariants.{Ok, Err}
 use Rattle.warg_crypto.specs.EmptyTrees.{empty_root}
 use Rattle.warg_map.specs.Bits.{key_bits, last_bits}
 use Rattle.warg_map.specs.Sparse.{sparse_root, leaf_digest, map_of, pair_bytes}
-use Rattle.warg_map.specs.Last.{last_with, same_bits, last_under}
+use Rattle.warg_map.specs.Last.{same_bits, last_under}
 use Rattle.warg_map.specs.ProofValue.{proof_value}
-use Rattle.warg_witness.specs.MapClaims.{value_in, last_insertion, IsLastValue, IsKeyMet}
-use Rattle.warg_witness.specs.MapPlaced.{IsPlacedAtPrefix, IsPlacedAtKeys, IsKeyPlaced}
+use Rattle.warg_witness.specs.MapClaims.{value_in, IsLastValue, IsKeyMet}
+use Rattle.warg_witness.specs.MapPlaced.{IsKeyPlaced}
 use Rattle.warg_witness.specs.MapPaths.{IsPathParting, MeetsOnPath, IsLastPlace, plain_peers}
 use Rattle.warg_witness.specs.MapMeeting.{IsKeyMeeting}
 use Rattle.warg_witness.specs.Parting.{Collides, PartsAtBranch, pair_of}

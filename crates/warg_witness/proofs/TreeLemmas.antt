@@ -1,9 +1,8 @@
 -- The plain sparse tree over sorted keys.
-use Rattle.std.proofs.Common.{◌≡◌, ℕ, zero, suc, ◌+◌, ◌-◌, ◌<◌, ◌≤◌, Bool, true, false, not, List, [], ◌∷◌, ◌++◌, length, Option, Some, None, unwrap_or, MatchOption, get_or, ⊎_elim, refl, sym, ap, ◌∙◌, arith, append_assoc}
+use Rattle.std.proofs.Common.{◌≡◌, ℕ, zero, suc, ◌+◌, ◌-◌, ◌<◌, Bool, true, false, not, List, [], ◌∷◌, ◌++◌, length, Option, Some, None, unwrap_or, MatchOption, get_or, refl, sym, ap, ◌∙◌, arith, append_assoc}
 use Rattle.std.proofs.lemmas.List.{length-append, append-nil, get_or_default}
-use Rattle.std.proofs.lemmas.Bool.{cases_Bool, lt-ltb}
-use Rattle.std.specs.declared.cmp.Ordering.{Ordering}
-use Rattle.std.specs.declared.cmp.Ordering.TheVariants.{Less, Equal, Greater}
+use Rattle.std.proofs.lemmas.Bool.{lt-ltb}
+use Rattle.std.specs.declared.cmp.Ordering.TheVariants.{Equal}
 use Rattle.std.specs.Ordering.{is_lt, nat_cmp, ordering_then}
 use Rattle.std.specs.Option.{option_map}
 use Rattle.std.specs.FinMap.{get}
@@ -14,7 +13,7 @@ use Rattle.warg_map.specs.Bits.{bit_at, bits_from, key_bits, last_bits}
 use Rattle.warg_map.specs.Sparse.{SparseMap, bits_cmp, root_of, leaf_digest, map_of, pair_bytes}
 use Rattle.warg_map.specs.Last.{same_bits, last_under}
 use Rattle.warg_witness.specs.Laws.{GivesDigests}
-use Rattle.warg_witness.specs.MapPaths.{key_at, entry_at, entry_cmp, IsKeyUnder, AreKeysUnder, AreEmptyTrees, IsPlaceOfLast, IsLastPlace, plain_peers}
+use Rattle.warg_witness.specs.MapPaths.{key_at, entry_at, entry_cmp, AreKeysUnder, AreEmptyTrees, IsPlaceOfLast, IsLastPlace, plain_peers}
 use Rattle.warg_witness.proofs.LastLemmas.{last_with-none, last_with-at, same_bits-true, same_bits-itself, pair_at, length-pair_bytes}
 use Rattle.warg_witness.proofs.KeysLemmas.{OrderOfBits, AllBits}
 use Rattle.warg_witness.proofs.KeyLawLemmas.{LastHeld}

@@ -1,5 +1,5 @@
 -- A map's proof that leads to the plain root of given insertions, and what a witness knows of it.
-use Rattle.std.specs.Prelude.{◌≡◌, ℕ, List, Option}
+use Rattle.std.specs.Prelude.{ℕ, List, Option}
 use Rattle.std.specs.FinMap.{get}
 use Rattle.warg_map.specs.Bits.{key_bits}
 use Rattle.warg_map.specs.Sparse.{leaf_digest, map_of}

@@ -1,6 +1,5 @@
 -- Two evaluations along one key's bits, and the plain sparse tree as the second of them.
 use Rattle.std.specs.Prelude.{◌≡◌, ℕ, ◌+◌, ◌<◌, ◌≤◌, Bool, not, false, List, [], ◌∷◌, ◌++◌, length, Option, Some, None, MatchOption, slice_index_or}
-use Rattle.std.specs.FinMap.{get}
 use Rattle.std.specs.declared.cmp.Ordering.{Ordering}
 use Rattle.std.specs.Ordering.{is_lt, nat_cmp, ordering_then}
 use Rattle.std.specs.Cmp.Lexicographic.{slice_cmp}
@@ -8,7 +7,7 @@ use Rattle.warg_crypto.specs.EmptyTrees.{empty_root}
 use Rattle.warg_map.specs.Bits.{key_bits}
 use Rattle.warg_map.specs.Sparse.{root_of}
 use Rattle.warg_map.specs.Last.{last_under}
-use Rattle.warg_map.specs.ProofValue.{peer_of, proof_value}
+use Rattle.warg_map.specs.ProofValue.{proof_value}
 use Rattle.warg_witness.specs.Inputs.{branch_input}
 use Rattle.warg_witness.specs.MapInputs.{fork_input}
 use Rattle.warg_witness.specs.declared.descent.Parting.{Parting}

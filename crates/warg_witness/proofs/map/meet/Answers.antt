@@ -1,5 +1,4 @@
-use Rattle.std.proofs.Common.{◌≡◌, ℕ, List, refl, sym, ap, ◌∙◌}
-use Rattle.warg_map.specs.Sparse.{pair_bytes}
+use Rattle.std.proofs.Common.{◌∙◌}
 use Rattle.warg_witness.proofs.KeyLemmas.{tree_few, apart_not_met, meeting_from}
 use Rattle.warg_witness.proofs.map.meet.Goals as goal
 

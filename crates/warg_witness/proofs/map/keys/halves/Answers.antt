@@ -1,4 +1,4 @@
-use Rattle.std.proofs.Common.{rules, ◌≡◌, ℕ, ◌<◌, not, List, length, refl, sym, ap, ◌∙◌}
+use Rattle.std.proofs.Common.{rules, ℕ, ◌<◌, not, List, length}
 use Rattle.std.proofs.lemmas.List.Sorted.{IsPartitionPoint-from_clause}
 use Rattle.warg_map.specs.Bits.{bit_at}
 use Rattle.warg_witness.proofs.KeysLemmas.{are_parted, zeros_are, ones_are}

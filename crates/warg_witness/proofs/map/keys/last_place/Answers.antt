@@ -1,4 +1,4 @@
-use Rattle.std.proofs.Common.{◌≡◌, ℕ, ◌-◌, ◌<◌, List, [], length, ap, arith}
+use Rattle.std.proofs.Common.{ℕ, ◌-◌, ◌<◌, List, [], length, ap, arith}
 use Rattle.warg_witness.proofs.map.keys.last_place.Goals as goal
 
 pub returns-in-Some : goal.returns-in-Some

@@ -1,4 +1,4 @@
-use Rattle.std.proofs.Common.{rules, ◌≡◌, ℕ, ◌+◌, ◌-◌, ◌<◌, ◌≤◌, Bool, true, false, not, List, [], ◌∷◌, ◌++◌, length, refl, sym, ap, ◌∙◌, arith}
+use Rattle.std.proofs.Common.{rules, ◌≡◌, ◌+◌, ◌<◌, Bool, not, List, [], ◌∷◌, ◌++◌, length, arith}
 use Rattle.warg_map.specs.Sparse.{pair_bytes}
 use Rattle.warg_witness.specs.MapPaths.{AreKeysUnder}
 use Rattle.warg_witness.proofs.TreeLemmas.{last_place_is, peers_none, peers_more, place_more, length-push_bit}

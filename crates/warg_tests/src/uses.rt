@@ -1,0 +1,43 @@
+//! The callers of `warg_uses`, at concrete types.
+
+use std::test::Fail;
+use warg_crypto::weak::Flat;
+use warg_log::{LogBuilder, LogData, Node, VecLog};
+use warg_map::Map;
+use warg_uses::{crypto, map, witness};
+
+#[test]
+fn a_release_s_digest(rt: HostRuntime) -> Result<(), Fail> {
+    let release = crypto::Release {
+        name: "a",
+        version: "bc",
+    };
+    // SHA-256 of the bytes of "abc" (FIPS 180-4).
+    let digits = crypto::digest(&release).to_string(rt.alloc())?;
+    let wanted = "ba7816bf8f01cfea414140de5dae2223b00361a396177a9cb410ff61f20015ad";
+    assert!(rt; digits.as_str() == wanted);
+    Ok(())
+}
+
+#[test]
+fn a_package_that_is_absent(rt: HostRuntime) -> Result<(), Fail> {
+    let packages = map::release(&Map::default(rt.alloc())?, "left-pad", "1.0.0")?;
+    assert!(rt; map::absence(&packages, "left-pad")?.is_none());
+    assert!(rt; map::absence(&packages, "right-pad")?.is_some());
+    let proof = packages.prove("left-pad")?.ok_or("no proof")?;
+    assert!(rt; map::has_version(&proof, "left-pad", "1.0.0", packages.root()));
+    assert!(rt; !map::has_version(&proof, "left-pad", "2.0.0", packages.root()));
+    Ok(())
+}
+
+#[test]
+fn an_auditor_finds_a_collision(rt: HostRuntime) -> Result<(), Fail> {
+    let mut log: VecLog<Flat, &str> = VecLog::default(rt.alloc());
+    log.push(&"one")?;
+    log.push(&"two")?;
+    let proof = log.prove_inclusion(Node(0), 2);
+    let found = witness::audit(rt.alloc(), &proof, &log, &"lie", &["one", "two"])?;
+    let pair = found.ok_or("no collision")?;
+    assert!(rt; pair.first() == b"\0lie".as_slice() && pair.second() == b"\0one".as_slice());
+    Ok(())
+}
