@@ -17,6 +17,10 @@ use warg_log::{Checkpoint, ConsistencyProof, InclusionProof, Node, ProofBundle};
 /// checkpoint's length, and evaluates to its root.
 ///
 /// The errors are those of [`check_inclusion`](crate::check_inclusion).
+///
+/// ```rust
+/// let holds = check_entry(alloc, bytes.as_slice(), 0, 0, &"left-pad 1.0.0", &checkpoint)?;
+/// ```
 pub fn check_entry<D: SupportedDigest, V: VisitBytes, A: Allocator + Copy>(
     alloc: A,
     bytes: &[u8],

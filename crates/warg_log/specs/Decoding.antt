@@ -5,7 +5,7 @@ use Rattle.warg_protobuf.specs.declared.error.WireError.TheVariants as wire
 use Rattle.warg_log.specs.declared.error.DecodeError.{DecodeError}
 use Rattle.warg_log.specs.declared.error.DecodeError.TheVariants as fault
 
--- A fault of the bytes, or want of memory, as what reading a value from them answers.
+-- A fault of the bytes, or that memory was refused, as what reading a value from them answers.
 abbrev pub wire_fault : WireError → DecodeError
 wire_fault wire.Memory = fault.Memory
 wire_fault e = fault.Wire e

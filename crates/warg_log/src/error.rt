@@ -86,7 +86,7 @@ impl<T: Drop> From<AllocFailed<T>> for EncodeError {
     }
 }
 
-/// Why a message or bytes are read as no value: the first fault, or want of memory.
+/// Why a message or bytes are read as no value: the first fault, or out of memory.
 #[derive(Debug, PartialEq, Eq, Drop, Error)]
 pub enum DecodeError {
     /// The bytes are no message. The fault inside is never `Memory`.

@@ -146,6 +146,11 @@ impl<D: SupportedDigest, V: VisitBytes, A: Allocator + Copy> ProofBundle<D, V, A
     /// inclusion proofs in turn `DifferentRoots`, and then `Inclusion` with `LeafTooNew`; `NoProofs`; and
     /// `TooLarge` where the length is above `u32::MAX`. Then `HashNotFound` where the data lacks a needed
     /// digest. A consistency proof from length 0 needs none.
+    ///
+    /// ```rust
+    /// let proofs = vec![in alloc; releases.prove_inclusion(leaf, releases.length())]?;
+    /// let bytes = ProofBundle::bundle(alloc, Vec::new(alloc), proofs, &releases)?.encode(alloc)?;
+    /// ```
     pub fn bundle<L: LogData<D, V>>(
         alloc: A,
         consistency_proofs: Vec<ConsistencyProof<D, V>, A>,

@@ -20,6 +20,12 @@ use warg_crypto::{Hash, SupportedDigest, VisitBytes};
 /// It answers each of its own inclusion and consistency proofs, at any length up to its own. For `n`
 /// entries it keeps `2 * n - 1` digests; a node that doesn't exist yet has a spacer at its place, the
 /// digest of no bytes, which is never answered as the node's.
+///
+/// ```rust
+/// let mut releases: VecLog<Sha256, &str> = VecLog::default(alloc);
+/// let leaf = releases.push(&"left-pad 1.0.0")?;
+/// let checkpoint = releases.checkpoint();
+/// ```
 #[derive(Drop)]
 pub struct VecLog<D: SupportedDigest, V: VisitBytes, A: Allocator = Global> {
     count: usize,

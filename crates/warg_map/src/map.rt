@@ -51,9 +51,17 @@ impl From<AllocError> for MapError {
 /// where no key is held the leaf is that of no bytes. Under each key digest the value inserted last counts.
 ///
 /// An insertion gives a new map, which shares with the old one what it doesn't change. The root fixes the contents, up to
-/// values without bytes: a key with such a value counts in [`len`](Map::len), and has the root of a map without it.
+/// a collision and values without bytes: a key with such a value counts in [`len`](Map::len), and has the root of a map without it.
 ///
 /// Contracts see a map as the finite map from key bits to leaf digests.
+///
+/// ```rust
+/// let none: Map<Sha256, &str, &str> = Map::default(alloc)?;
+/// let newest = none.insert("left-pad", "1.0.0")?;
+/// if let Some(proof) = newest.prove("left-pad")? {
+///     let holds = proof.evaluate(&"left-pad", &"1.0.0") == *newest.root();
+/// }
+/// ```
 pub struct Map<D: SupportedDigest, K, V, A: Allocator = Global> {
     link: Link<D, A>,
     count: usize,

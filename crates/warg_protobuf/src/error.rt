@@ -5,7 +5,7 @@ ghost use Rattle.warg_protobuf.specs.declared.error.WireError.TheVariants.{Memor
 use std::alloc::{AllocError, AllocFailed};
 use thiserror::Error;
 
-/// The first fault of the bytes from left to right, or want of memory.
+/// The first fault of the bytes from left to right, or out of memory.
 ///
 /// Each field is split off whole, and then checked at once if its number is known. Splitting off looks for
 /// the faults from `Truncated` or `BadVarint` in the tag, over `BadTag`, `Group` and `BadWireType`, to

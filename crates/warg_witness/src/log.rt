@@ -121,6 +121,13 @@ fn collide<D: SupportedDigest, V: VisitBytes, A: Allocator + Copy>(
 ///
 /// It hashes each leaf and branch of the tree over the entries once, and few digests on one path beside
 /// them. Out of memory is the only error.
+///
+/// ```rust
+/// match witness_value(alloc, &proof, &data, &"left-pad 6.6.6", &["left-pad 1.0.0"])? {
+///     Finding::Collision(pair) => report(pair.first(), pair.second()),
+///     Finding::Holds | Finding::NotMet => (),
+/// }
+/// ```
 pub fn witness_value<D: SupportedDigest, V: VisitBytes, L: LogData<D, V>, A: Allocator + Copy>(
     alloc: A,
     proof: &InclusionProof<D, V>,
