@@ -13,7 +13,7 @@ use warg_witness::{Collision, Finding, witness_value};
 pub fn audit<D: SupportedDigest, V: VisitBytes, L: LogData<D, V>>(
     alloc: Global,
     proof: &InclusionProof<D, V>,
-    data: &L,
+    hashes: &L,
     value: &V,
     entries: &[V],
 ) -> Result<Option<Collision<D>>, AllocError>
@@ -21,11 +21,11 @@ pub fn audit<D: SupportedDigest, V: VisitBytes, L: LogData<D, V>>(
     ensures same { IfOk result (λ o. IfSome o (λ c. D.digest c.0 ≡ D.digest c.1)) }
 
     // A proof that leads to the entries' root, and lies, gives a collision.
-    ensures lies { IsMet D.digest (L.digest_at data.now) (D.digest (0 ∷ V.bytes value.now)) proof.now.leaf.0 proof.now.log_length (map (λ e. V.bytes e) entries.now)
+    ensures lies { IsMet D.digest (L.digest_at hashes.now) (D.digest (0 ∷ V.bytes value.now)) proof.now.leaf.0 proof.now.log_length (map (λ e. V.bytes e) entries.now)
         → (IsEntry (V.bytes value.now) proof.now.leaf.0 (map (λ e. V.bytes e) entries.now) → ⊥)
         → result ≢ Ok None }
 {
-    match witness_value(alloc, proof, data, value, entries)? {
+    match witness_value(alloc, proof, hashes, value, entries)? {
         Finding::Holds | Finding::NotMet => Ok(None),
         Finding::Collision(pair) => {
             let _bytes = pair.first();
