@@ -24,7 +24,7 @@ bytes_again len bytes rest e =
     rw (le-ltb (length (bytes ++ rest)) len long, take_at bytes rest len e, drop_at bytes rest len e) refl
 
 -- no payload has such a kind
-bad_kind : (kind : ℕ) (bytes : List ℕ) → 6 ≤ kind → payload_at kind bytes ≡ Err errors.BadWireType
+pub bad_kind : (kind : ℕ) (bytes : List ℕ) → 6 ≤ kind → payload_at kind bytes ≡ Err errors.BadWireType
 unfolding payload_at
 bad_kind kind bytes le =
     let a : kind ≢ 0 = omega arith in
@@ -85,12 +85,12 @@ payload_again bytes (fixed32 found) rest h = rw (h.0, bytes_again 4 found rest h
 -- ---- fields
 
 -- a field whose number stands in the tag, with the payload behind the tag
-abbrev with_payload : ℕ × List ℕ → Result (Field × List ℕ) WireError
+abbrev pub with_payload : ℕ × List ℕ → Result (Field × List ℕ) WireError
 with_payload tag =
     payload_at (tag.0 % 8) tag.1 >>= λ payload. Ok (record { number = tag.0 / 8; payload = payload.0 }, payload.1)
 
 -- a tag that is in range, and what stands behind it
-abbrev behind_tag : ℕ × List ℕ → Result (Field × List ℕ) WireError
+abbrev pub behind_tag : ℕ × List ℕ → Result (Field × List ℕ) WireError
 behind_tag tag = cond (leb (2 ^ 32) tag.0 || eqb (tag.0 / 8) 0) (Err errors.BadTag) (with_payload tag)
 
 field_spelled : (tag text : List ℕ) (n : ℕ) (p : Payload) → IsVarint tag n → n < 2 ^ 32 → n / 8 ≢ 0

@@ -1,7 +1,9 @@
 pub mod Steps
 pub mod Varints
 pub mod Fields
+pub mod Faults
 pub mod Sequences
+pub mod Packed
 pub mod Loops
 pub mod Decoders
 pub mod Writing

@@ -1,13 +1,13 @@
--- Things one after the other: what is read is spelled so, and what is spelled so is read.
-use Rattle.std.proofs.Common.{◌≡◌, ℕ, zero, suc, ◌<◌, ◌≤◌, List, [], ◌∷◌, ◌++◌, length, Result, Ok, Err, refl, ap, subst, ◌∙◌, arith}
+-- Things one after the other: what is read is spelled so, what is spelled so is read, and likewise the first fault.
+use Rattle.std.proofs.Common.{◌≡◌, ℕ, zero, suc, ◌<◌, ◌≤◌, List, [], ◌∷◌, ◌++◌, length, Result, Ok, Err, refl, ap, subst, ◌∙◌, append_assoc, arith, inl, inr, ◌⊎◌}
 use Rattle.std.proofs.lemmas.List.{length-append, nil_from_length}
 use Rattle.warg_protobuf.specs.declared.error.WireError.{WireError}
 use Rattle.warg_protobuf.specs.Reading.{◌>>=◌, all_in, all_of, Reader, Check}
 use Rattle.warg_protobuf.specs.Varint.{IsVarint, varint_at}
 use Rattle.warg_protobuf.specs.Field.{SpellsField, SpellsAll, field_at}
 use Rattle.warg_protobuf.specs.Spelled.{AllCheck}
-use Rattle.warg_protobuf.proofs.Steps.{bind_ok, ok_is}
-use Rattle.warg_protobuf.proofs.Varints.{Takes, varint_takes, varint_again, varint_not_empty}
+use Rattle.warg_protobuf.proofs.Steps.{bind_ok, bind_err, ok_is}
+use Rattle.warg_protobuf.proofs.Varints.{Takes, parts_joined, varint_takes, varint_again, varint_not_empty}
 use Rattle.warg_protobuf.proofs.Fields.{field_takes, field_again, field_not_empty}
 
 -- what is split off has bytes
@@ -123,3 +123,95 @@ all_again split Spells check code bytes [] s ok = ap (all_of split check) s
 all_again split Spells check code bytes (x ∷ xs) s ok =
     let first = all_cons split Spells check code s.0 s.1 x s.2 ok.0 in
     ap (all_of split check) s.4 ∙ first ∙ rw (all_again split Spells check code s.1 xs s.3 ok.1) refl
+
+-- ---- the first fault
+
+-- At the front stands something that can't be split off, or a thing that doesn't check.
+abbrev pub FaultHere : {X : Type 0} → Reader X → Check X → List ℕ → WireError → Type 0
+FaultHere {X} split check bytes e = (split bytes ≡ Err e) ⊎ ((x : X × List ℕ) × (split bytes ≡ Ok x) × (check x.0 ≡ Err e))
+
+-- A front of the bytes is things that check, and the rest, which isn't empty, begins with the fault.
+pub record FirstFault {X : Type 0} (split : Reader X) (Spells : List ℕ → X → Type 0) (check : Check X) (bytes : List ℕ) (e : WireError) : Type 0 where
+  pub taken : List X
+  pub front : List ℕ
+  pub rest : List ℕ
+  pub parts : bytes ≡ front ++ rest
+  pub there : AreThere Spells check front taken
+  pub left : 0 < length rest
+  pub why : FaultHere split check rest e
+
+module _ {X : Type 0} (split : Reader X) (Spells : List ℕ → X → Type 0) (check : Check X) (code : IsCode split Spells) where
+  fault_after : (bytes : List ℕ) (x : X × List ℕ) (e : WireError) → Takes Spells bytes x → check x.0 ≡ Ok tt
+      → FirstFault split Spells check x.1 e → FirstFault split Spells check bytes e
+  fault_after bytes x e t ok f = record {
+    taken = x.0 ∷ f.taken;
+    front = t.text ++ f.front;
+    rest = f.rest;
+    parts = parts_joined bytes t.text f.front x.1 f.rest t.parts f.parts;
+    there = ((t.text, f.front, t.spelled, f.there.0, refl), (ok, f.there.1));
+    left = f.left;
+    why = f.why;
+  }
+
+  fault_here : (b : ℕ) (bytes : List ℕ) (e : WireError) → FaultHere split check (b ∷ bytes) e
+      → FirstFault split Spells check (b ∷ bytes) e
+  fault_here b bytes e why = record {
+    taken = [];
+    front = [];
+    rest = b ∷ bytes;
+    parts = refl;
+    there = (refl, tt);
+    left = omega arith;
+    why = why;
+  }
+
+  -- things after the first, at most so many
+  abbrev others_in : ℕ → X × List ℕ → Result (List X) WireError
+  others_in more x = all_in split check more x.1 >>= λ others. Ok (x.0 ∷ others)
+
+  fault_found_in : (more : ℕ) (bytes : List ℕ) (e : WireError) → length bytes ≤ more
+      → all_in split check more bytes ≡ Err e → FirstFault split Spells check bytes e
+  unfolding all_in
+  fault_found_in zero bytes e le h = absurd cc
+  fault_found_in (suc more) [] e le h = absurd cc
+  fault_found_in (suc more) (b ∷ bytes) e le h =
+      elim (bind_err (split (b ∷ bytes)) (λ x. check x.0 >>= λ _. others_in more x) e h) [
+        | inl cut ↦ fault_here b bytes e (inl cut)
+        | inr a ↦
+            elim (bind_err (check a.0.0) (λ _. others_in more a.0) e a.2) [
+              | inl bad ↦ fault_here b bytes e (inr (a.0, a.1, bad))
+              | inr c ↦
+                  elim (bind_err (all_in split check more a.0.1) (λ others. Ok (a.0.0 ∷ others)) e c.2) [
+                    | inl later ↦
+                        let lt = code.shrink.shrinks (b ∷ bytes) a.0 a.1 in
+                        let rest = fault_found_in more a.0.1 e (omega arith) later in
+                        fault_after (b ∷ bytes) a.0 e (code.takes (b ∷ bytes) a.0 a.1) c.1 rest
+                    | inr d ↦ absurd (let bad : Ok (a.0.0 ∷ d.0) ≡ Err e = d.2 in cc)
+                  ]
+            ]
+      ]
+
+  -- a fault that reading meets stands in the bytes
+  pub fault_found : (bytes : List ℕ) (e : WireError) → all_of split check bytes ≡ Err e → FirstFault split Spells check bytes e
+  unfolding all_of
+  fault_found bytes e h = fault_found_in (length bytes) bytes e (omega arith) h
+
+  fault_at_is : (rest : List ℕ) (e : WireError) → 0 < length rest → FaultHere split check rest e
+      → all_of split check rest ≡ Err e
+  fault_at_is rest e long why =
+      all_more split check code.shrink rest long ∙
+      elim why [ inl cut ↦ rw cut refl | inr a ↦ rw (a.1, a.2) refl ]
+
+  fault_behind : (taken : List X) (front rest : List ℕ) (e : WireError) → SpellsAll Spells front taken
+      → AllCheck check taken → 0 < length rest → FaultHere split check rest e → all_of split check (front ++ rest) ≡ Err e
+  fault_behind [] front rest e s ok long why =
+      ap (λ (l : List ℕ). all_of split check (l ++ rest)) s ∙ fault_at_is rest e long why
+  fault_behind (x ∷ xs) front rest e s ok long why =
+      let parts : front ++ rest ≡ s.0 ++ (s.1 ++ rest) =
+      ap (λ (l : List ℕ). l ++ rest) s.4 ∙ append_assoc s.0 s.1 rest in
+      let one = all_cons split Spells check code s.0 (s.1 ++ rest) x s.2 ok.0 in
+      ap (all_of split check) parts ∙ one ∙ rw (fault_behind xs s.1 rest e s.3 ok.1 long why) refl
+
+  -- a fault that stands in the bytes is the one that reading meets
+  pub fault_met : (bytes : List ℕ) (e : WireError) → FirstFault split Spells check bytes e → all_of split check bytes ≡ Err e
+  fault_met bytes e f = ap (all_of split check) f.parts ∙ fault_behind f.taken f.front f.rest e f.there.0 f.there.1 f.left f.why

@@ -9,6 +9,12 @@ done x = Ok x
 pub ok_is : {A : Type 0} (x y : A) → done x ≡ done y → x ≡ y
 ok_is x y e = cc
 
+abbrev failed : {A : Type 0} → WireError → Result A WireError
+failed e = Err e
+
+pub err_is : {A : Type 0} (d e : WireError) → failed {A = A} d ≡ failed e → d ≡ e
+err_is d e h = cc
+
 -- the value of a step that did not fail
 pub bind_ok : {A B : Type 0} (r : Result A WireError) (f : A → Result B WireError) (y : B) → (r >>= f) ≡ Ok y
     → (x : A) × (r ≡ Ok x) × (f x ≡ Ok y)

@@ -2,6 +2,7 @@ pub mod Reading
 pub mod Varint
 pub mod Field
 pub mod Schema
+pub mod Faults
 pub mod Spelled
 pub mod Written
 pub mod Adds

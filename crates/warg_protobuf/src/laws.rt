@@ -1,12 +1,17 @@
 //! Laws of the encoding, each the contract of a function that does nothing.
-ghost use Rattle.std.specs.Prelude.{◌≡◌, ◌≤◌, ◌<◌, ◌^◌, ◌++◌, ◌↔◌, ℕ, List, Ok, Err, length};
+ghost use Rattle.std.specs.Prelude.{◌≡◌, ◌≢◌, ◌≤◌, ◌<◌, ◌^◌, ◌++◌, ◌↔◌, ℕ, List, Option, Ok, Err, length};
 ghost use Rattle.warg_protobuf.specs.declared.error.WireError.{WireError};
-ghost use Rattle.warg_protobuf.specs.Varint.{IsVarint, varint_bytes};
-ghost use Rattle.warg_protobuf.specs.Field.{Field, SpellsField, field_at};
-ghost use Rattle.warg_protobuf.specs.Schema.{message_of};
+ghost use Rattle.warg_protobuf.specs.declared.error.WireError.TheVariants.{WrongWireType};
+ghost use Rattle.warg_protobuf.specs.Varint.{IsVarint, varint_at, varint_bytes};
+ghost use Rattle.warg_protobuf.specs.Field.{Payload, delimited, Field, wire_type, SpellsField, field_at};
+ghost use Rattle.warg_protobuf.specs.Schema.{packed_uint32s, message_of, message_in};
+ghost use Rattle.warg_protobuf.specs.Faults.{BeginsWith, VarintFault, FieldFault, IsPacked, PackedFault};
 ghost use Rattle.warg_protobuf.specs.Spelled.{IsSpelled, FaultStands};
+ghost use Rattle.warg_protobuf.specs.HashEntry.{Entry, entry_schema};
 ghost use Rattle.warg_protobuf.specs.LogProofBundle.{LogBundle, log_schema};
+ghost use Rattle.warg_protobuf.specs.MapInclusionProof.{proof_schema};
 ghost use Rattle.warg_protobuf.specs.MapProofBundle.{MapBundle, map_schema};
+ghost use Rattle.warg_protobuf.specs.OptionalHash.{hash_schema};
 ghost use Rattle.warg_protobuf.specs.StackLog.{StackImage, stack_schema};
 ghost use Rattle.warg_protobuf.specs.VecLog.{VecImage, vec_schema};
 
@@ -21,6 +26,24 @@ pub fn field_at_front()
     ensures { (bytes rest : List ℕ) (f : Field) →
         (field_at bytes ≡ Ok (f, rest)) ↔
         ((front : List ℕ) × SpellsField front f × (bytes ≡ front ++ rest)) }
+{}
+
+/// A varint is split off the front of bytes exactly where its spelling stands there, and else the fault is the one that stands there.
+pub fn varint_at_front()
+    ensures number { (bytes rest : List ℕ) (n : ℕ) →
+        (varint_at bytes ≡ Ok (n, rest)) ↔ BeginsWith IsVarint bytes n rest }
+    ensures fault { (bytes : List ℕ) (e : WireError) → (varint_at bytes ≡ Err e) ↔ VarintFault bytes e }
+{}
+
+/// No field is split off the front of bytes exactly where one of the causes stands there, and the fault is the first cause's.
+pub fn field_fault_at_front()
+    ensures { (bytes : List ℕ) (e : WireError) → (field_at bytes ≡ Err e) ↔ FieldFault bytes e }
+{}
+
+/// Packed numbers are read exactly where the bytes are their spellings, and else the fault is the first that stands there.
+pub fn packed_is_read()
+    ensures numbers { (bytes ns : List ℕ) → IsPacked bytes ns ↔ (packed_uint32s bytes ≡ Ok ns) }
+    ensures fault { (bytes : List ℕ) (e : WireError) → PackedFault bytes e ↔ (packed_uint32s bytes ≡ Err e) }
 {}
 
 /// What is written of a number spells it, and nothing shorter does.
@@ -39,6 +62,12 @@ pub fn spelled_is_read()
         IsSpelled stack_schema bytes m ↔ (message_of stack_schema bytes ≡ Ok m) }
     ensures vec_log { (bytes : List ℕ) (m : VecImage) →
         IsSpelled vec_schema bytes m ↔ (message_of vec_schema bytes ≡ Ok m) }
+    ensures hash_entry { (bytes : List ℕ) (m : Entry) →
+        IsSpelled entry_schema bytes m ↔ (message_of entry_schema bytes ≡ Ok m) }
+    ensures map_proof { (bytes : List ℕ) (m : List (Option (List ℕ))) →
+        IsSpelled proof_schema bytes m ↔ (message_of proof_schema bytes ≡ Ok m) }
+    ensures optional_hash { (bytes : List ℕ) (m : Option (List ℕ)) →
+        IsSpelled hash_schema bytes m ↔ (message_of hash_schema bytes ≡ Ok m) }
 {}
 
 /// A fault stands in bytes exactly where reading meets it. So one stands there at most, and none beside a message.
@@ -51,4 +80,27 @@ pub fn fault_is_met()
         FaultStands stack_schema bytes e ↔ (message_of stack_schema bytes ≡ Err e) }
     ensures vec_log { (bytes : List ℕ) (e : WireError) →
         FaultStands vec_schema bytes e ↔ (message_of vec_schema bytes ≡ Err e) }
+    ensures hash_entry { (bytes : List ℕ) (e : WireError) →
+        FaultStands entry_schema bytes e ↔ (message_of entry_schema bytes ≡ Err e) }
+    ensures map_proof { (bytes : List ℕ) (e : WireError) →
+        FaultStands proof_schema bytes e ↔ (message_of proof_schema bytes ≡ Err e) }
+    ensures optional_hash { (bytes : List ℕ) (e : WireError) →
+        FaultStands hash_schema bytes e ↔ (message_of hash_schema bytes ≡ Err e) }
+{}
+
+/// A payload that is to hold an inner message fails by the fault that stands in the message's bytes.
+pub fn inner_fault_is_met()
+    ensures hash_entry { (bytes : List ℕ) (e : WireError) →
+        FaultStands entry_schema bytes e ↔ (message_in entry_schema (delimited bytes) ≡ Err e) }
+    ensures map_proof { (bytes : List ℕ) (e : WireError) →
+        FaultStands proof_schema bytes e ↔ (message_in proof_schema (delimited bytes) ≡ Err e) }
+    ensures optional_hash { (bytes : List ℕ) (e : WireError) →
+        FaultStands hash_schema bytes e ↔ (message_in hash_schema (delimited bytes) ≡ Err e) }
+{}
+
+/// An inner message stands in a payload of wire type 2, and a payload of another type fails by `WrongWireType`.
+pub fn inner_message_is_delimited()
+    ensures hash_entry { (p : Payload) → wire_type p ≢ 2 → message_in entry_schema p ≡ Err WrongWireType }
+    ensures map_proof { (p : Payload) → wire_type p ≢ 2 → message_in proof_schema p ≡ Err WrongWireType }
+    ensures optional_hash { (p : Payload) → wire_type p ≢ 2 → message_in hash_schema p ≡ Err WrongWireType }
 {}

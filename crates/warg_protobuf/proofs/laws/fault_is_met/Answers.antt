@@ -1,3 +1,6 @@
+use Rattle.warg_protobuf.specs.HashEntry.{entry_schema}
+use Rattle.warg_protobuf.specs.MapInclusionProof.{proof_schema}
+use Rattle.warg_protobuf.specs.OptionalHash.{hash_schema}
 use Rattle.warg_protobuf.specs.LogProofBundle.{log_schema}
 use Rattle.warg_protobuf.specs.MapProofBundle.{map_schema}
 use Rattle.warg_protobuf.specs.StackLog.{stack_schema}
@@ -16,3 +19,12 @@ returns-clause-stack_log c bytes e = (fault_read stack_schema bytes e, read_faul
 
 pub returns-clause-vec_log : goal.returns-clause-vec_log
 returns-clause-vec_log c bytes e = (fault_read vec_schema bytes e, read_fault vec_schema bytes e)
+
+pub returns-clause-hash_entry : goal.returns-clause-hash_entry
+returns-clause-hash_entry c bytes e = (fault_read entry_schema bytes e, read_fault entry_schema bytes e)
+
+pub returns-clause-map_proof : goal.returns-clause-map_proof
+returns-clause-map_proof c bytes e = (fault_read proof_schema bytes e, read_fault proof_schema bytes e)
+
+pub returns-clause-optional_hash : goal.returns-clause-optional_hash
+returns-clause-optional_hash c bytes e = (fault_read hash_schema bytes e, read_fault hash_schema bytes e)
