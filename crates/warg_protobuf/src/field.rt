@@ -32,6 +32,8 @@ fn split_bytes(len: u64, bytes: &[u8]) -> Result<(&[u8], &[u8]), WireError>
 }
 
 /// The payload of a wire type at the front, and the bytes after it.
+// Inlined, as the two calls around it, so that a payload isn't handed on through memory.
+#[inline(always)]
 #[tactic(auto, unfolding(crate::specs::Field::payload_at))]
 fn read_payload(wire_type: u64, bytes: &[u8]) -> Result<(Payload<'_>, &[u8]), WireError>
     ensures { Gives (λ x. (payload_view x.0, x.1.now)) result (payload_at wire_type bytes.now) }
@@ -60,6 +62,7 @@ fn read_payload(wire_type: u64, bytes: &[u8]) -> Result<(Payload<'_>, &[u8]), Wi
 }
 
 /// The field at the front, and the bytes after it.
+#[inline(always)]
 #[tactic(auto, unfolding(crate::specs::Field::field_at))]
 pub(crate) fn read_field(bytes: &[u8]) -> Result<(Field<'_>, &[u8]), WireError>
     ensures { Gives (λ x. (field_view x.0, x.1.now)) result (field_at bytes.now) }

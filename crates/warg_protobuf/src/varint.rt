@@ -30,10 +30,17 @@ fn read_groups(more: u32, bytes: &[u8]) -> Result<(u64, &[u8]), WireError>
 }
 
 /// The number at the front, and the bytes after it.
-#[tactic(auto, unfolding(crate::specs::Varint::varint_at))]
+// Most numbers take one byte: these are read with no call.
+#[inline(always)]
+#[tactic(auto, unfolding(crate::specs::Varint::varint_at, crate::specs::Varint::varint_in))]
 pub(crate) fn read_varint(bytes: &[u8]) -> Result<(u64, &[u8]), WireError>
     ensures { Gives (λ x. (x.0, x.1.now)) result (varint_at bytes.now) }
 {
+    if let [first, rest @ ..] = bytes
+        && *first < 128
+    {
+        return Ok((u64::from(*first), rest));
+    }
     read_groups(9, bytes)
 }
 
