@@ -6,9 +6,10 @@ use Rattle.warg_protobuf.specs.declared.error.WireError.TheVariants as errors
 use Rattle.warg_protobuf.specs.Reading.{◌>>=◌, Gives}
 use Rattle.warg_protobuf.specs.Field.{Payload, varint, fixed64, delimited, fixed32, Field, wire_type, SpellsField, field_at}
 use Rattle.warg_protobuf.specs.Schema.{Schema, check_by, fields_of, message_of, message_in}
-use Rattle.warg_protobuf.specs.Spelled.{IsSpelled, FaultStands}
+use Rattle.warg_protobuf.specs.Spelled.{IsSpelled, FaultAt, FaultStands}
 use Rattle.warg_protobuf.proofs.Steps.{bind_ok, bind_err, ok_is}
-use Rattle.warg_protobuf.proofs.Sequences.{FirstFault, fields, all_takes, all_again, fault_found, fault_met}
+use Rattle.warg_protobuf.proofs.Faults.{field_fault, fault_field, begins_field, field_begins}
+use Rattle.warg_protobuf.proofs.Sequences.{FaultHere, FirstFault, fields, all_takes, all_again, fault_found, fault_met}
 
 -- ---- messages
 
@@ -35,6 +36,17 @@ spelled_read {M} schema bytes m s =
 
 -- ---- faults
 
+-- the fault at the front, by its cause
+fault_at : {M : Type 0} (schema : Schema M) (bytes : List ℕ) (e : WireError)
+    → FaultHere field_at (check_by schema.table) bytes e → FaultAt schema bytes e
+fault_at schema bytes e (inl cut) = inl (field_fault bytes e cut)
+fault_at schema bytes e (inr a) = inr (a.0.0, a.0.1, begins_field bytes a.0 a.1, a.2)
+
+fault_here : {M : Type 0} (schema : Schema M) (bytes : List ℕ) (e : WireError) → FaultAt schema bytes e
+    → FaultHere field_at (check_by schema.table) bytes e
+fault_here schema bytes e (inl cause) = inl (fault_field bytes e cause)
+fault_here schema bytes e (inr a) = inr ((a.0, a.1), field_begins bytes a.0 a.1 a.2, a.3)
+
 -- the first fault of fields, in a message's words
 fields_fault : {M : Type 0} (schema : Schema M) (bytes : List ℕ) (e : WireError)
     → FirstFault field_at SpellsField (check_by schema.table) bytes e → FaultStands schema bytes e
@@ -46,7 +58,7 @@ fields_fault schema bytes e f = record {
   spelled = f.there.0;
   checked = f.there.1;
   left = f.left;
-  why = f.why;
+  why = fault_at schema f.rest e f.why;
 }
 
 -- a fault that reading meets stands in the bytes
@@ -65,7 +77,7 @@ pub fault_read : {M : Type 0} (schema : Schema M) (bytes : List ℕ) (e : WireEr
 unfolding message_of
 fault_read {M} schema bytes e f =
     let first : FirstFault field_at SpellsField (check_by schema.table) bytes e =
-    record { taken = f.taken; front = f.front; rest = f.rest; parts = f.parts; there = (f.spelled, f.checked); left = f.left; why = f.why } in
+    record { taken = f.taken; front = f.front; rest = f.rest; parts = f.parts; there = (f.spelled, f.checked); left = f.left; why = fault_here schema f.rest e f.why } in
     ap (said schema) (fault_met field_at SpellsField (check_by schema.table) fields bytes e first)
 
 -- ---- inner messages

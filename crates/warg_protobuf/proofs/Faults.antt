@@ -5,14 +5,14 @@ use Rattle.warg_protobuf.specs.declared.error.WireError.{WireError}
 use Rattle.warg_protobuf.specs.declared.error.WireError.TheVariants as errors
 use Rattle.warg_protobuf.specs.Reading.{◌>>=◌}
 use Rattle.warg_protobuf.specs.Varint.{IsVarint, varint_in, varint_at}
-use Rattle.warg_protobuf.specs.Field.{varint, fixed64, delimited, fixed32, Field, bytes_at, payload_at, field_at}
+use Rattle.warg_protobuf.specs.Field.{varint, fixed64, delimited, fixed32, Field, SpellsField, bytes_at, payload_at, field_at}
 use Rattle.warg_protobuf.specs.Faults.{BeginsWith, AllGoOn, VarintFault, PayloadFault, FieldFault}
 use Rattle.warg_protobuf.specs.Faults.VarintFault.{ends, tenth}
 use Rattle.warg_protobuf.specs.Faults.PayloadFault.{in_varint, below_eight, in_length, below_length, group_start, group_end, below_four, no_type}
 use Rattle.warg_protobuf.specs.Faults.FieldFault.{in_tag, bad_tag, in_payload}
 use Rattle.warg_protobuf.proofs.Steps.{bind_err, chosen, err_is}
 use Rattle.warg_protobuf.proofs.Varints.{varint_takes, varint_again}
-use Rattle.warg_protobuf.proofs.Fields.{bad_kind, with_payload, behind_tag}
+use Rattle.warg_protobuf.proofs.Fields.{bad_kind, with_payload, behind_tag, field_takes, field_again}
 
 -- ---- varints
 
@@ -185,3 +185,12 @@ fault_field bytes e (bad_tag tag rest begins out) = rw (varint_begins bytes tag 
 fault_field bytes e (in_payload tag rest fault begins low has_number p) =
     let ne : tag / 8 ≢ 0 = omega arith in
     rw (varint_begins bytes tag rest begins, lt-leb (2 ^ 32) tag low, ne_eqb (tag / 8) 0 ne, fault_payload (tag % 8) rest fault p) refl
+
+pub begins_field : (bytes : List ℕ) (x : Field × List ℕ) → field_at bytes ≡ Ok x → BeginsWith SpellsField bytes x.0 x.1
+begins_field bytes x e =
+    let t = field_takes bytes x e in
+    record { front = t.text; spelled = t.spelled; parts = t.parts }
+
+pub field_begins : (bytes : List ℕ) (f : Field) (rest : List ℕ) → BeginsWith SpellsField bytes f rest
+    → field_at bytes ≡ Ok (f, rest)
+field_begins bytes f rest b = ap field_at b.parts ∙ field_again b.front f rest b.spelled

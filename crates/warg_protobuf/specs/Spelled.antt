@@ -3,7 +3,8 @@ use Rattle.std.specs.Prelude.{◌≡◌, ℕ, ◌<◌, List, ◌++◌, length, �
 use Rattle.std.specs.List.{AllByRecursion}
 use Rattle.warg_protobuf.specs.Reading.{Check}
 use Rattle.warg_protobuf.specs.declared.error.WireError.{WireError}
-use Rattle.warg_protobuf.specs.Field.{Field, SpellsField, SpellsAll, field_at}
+use Rattle.warg_protobuf.specs.Field.{Field, SpellsField, SpellsAll}
+use Rattle.warg_protobuf.specs.Faults.{BeginsWith, FieldFault}
 use Rattle.warg_protobuf.specs.Schema.{Schema, check_by}
 
 -- Each of these things checks.
@@ -17,11 +18,11 @@ pub record IsSpelled {M : Type 0} (schema : Schema M) (bytes : List ℕ) (m : M)
   pub checked : AllCheck (check_by schema.table) fields
   pub is : m ≡ schema.message fields
 
--- At the front stands something that can't be split off as a field, or a whole field that doesn't check (this crate's faults).
+-- At the front stands no field, for this cause, or a whole field that doesn't check (this crate's faults).
 abbrev pub FaultAt : {M : Type 0} → Schema M → List ℕ → WireError → Type 0
 FaultAt schema bytes fault =
-    (field_at bytes ≡ Err fault) ⊎
-    ((x : Field × List ℕ) × (field_at bytes ≡ Ok x) × (check_by schema.table x.0 ≡ Err fault))
+    FieldFault bytes fault ⊎
+    ((f : Field) × (rest : List ℕ) × BeginsWith SpellsField bytes f rest × (check_by schema.table f ≡ Err fault))
 
 -- A front of the bytes is the spellings of fields that all check, and the rest, which isn't empty, begins with the fault (this crate's faults).
 pub record FaultStands {M : Type 0} (schema : Schema M) (bytes : List ℕ) (fault : WireError) : Type 0 where
