@@ -227,7 +227,7 @@ impl<D: SupportedDigest, A: Allocator + Copy> Node<D, A> {
         ensures few { IfOk result (λ o. IfSome o (λ p. length p ≤ height_of self.now)) }
     {
         match self {
-            Node::Leaf(_) => Ok(Some(Proof::new(Vec::new(alloc)))),
+            Node::Leaf(_) => Ok(Some(Proof::with_room(alloc, path.index())?)),
             Node::Empty(_) => Ok(None),
             Node::Fork(fork) => {
                 let fork = fork.as_ref();
@@ -245,7 +245,7 @@ impl<D: SupportedDigest, A: Allocator + Copy> Node<D, A> {
                 if singleton.shared_with(&path) < singleton.height() {
                     return Ok(None);
                 }
-                Ok(Some(Proof::new(Vec::new(alloc))))
+                Ok(Some(Proof::with_room(alloc, path.index())?))
             }
             Node::Stem(stem) => {
                 let stem = stem.as_ref();
@@ -298,13 +298,14 @@ impl<D: SupportedDigest, A: Allocator + Copy> Node<D, A> {
                 let singleton = singleton.as_ref();
                 let shared = singleton.shared_with(&path);
                 let far = singleton.lowered(singleton.height() - shared - 1);
-                Ok(Proof::parted(alloc, far.hash(), shared)?)
+                Ok(Proof::parted(alloc, far.hash(), shared, path.index())?)
             }
             Node::Stem(stem) => {
                 let stem = stem.as_ref();
                 let shared = stem.shared_with(&path);
                 if shared < stem.len {
-                    return Ok(Proof::parted(alloc, stem.hash_below(shared + 1), shared)?);
+                    let far = stem.hash_below(shared + 1);
+                    return Ok(Proof::parted(alloc, far, shared, path.index())?);
                 }
                 path.advance(stem.len);
                 let mut proof = stem.below.node().prove_absent(alloc, path)?;

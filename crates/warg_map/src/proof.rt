@@ -84,6 +84,13 @@ impl<D, K, V, A: Allocator> Proof<D, K, V, A> {
         }
     }
 
+    /// The proof of no peers, with room for `room` of them.
+    pub(crate) fn with_room(alloc: A, room: usize) -> Result<Proof<D, K, V, A>, AllocError>
+        ensures { IfOk result (λ p. p ≡ []) }
+    {
+        Ok(Proof::new(Vec::with_capacity(alloc, room)?))
+    }
+
     /// Adds a peer at the top.
     pub(crate) fn push(&mut self, peer: Option<Hash<D>>) -> Result<(), AllocError>
         requires { length self.old < 256 }
@@ -112,16 +119,18 @@ impl<D, K, V, A: Allocator> Proof<D, K, V, A> {
         &self.peers
     }
 
-    /// The proof with one peer below `missing` times `None`.
+    /// The proof with one peer below `missing` times `None`, and room for `above` more.
     pub(crate) fn parted(
         alloc: A,
         peer: Hash<D>,
         missing: usize,
+        above: usize,
     ) -> Result<Proof<D, K, V, A>, AllocError>
-        requires { missing < 256 }
+        requires place { missing < 256 }
+        requires room { above ≤ 256 }
         ensures { IfOk result (λ p. p ≡ Some peer ∷ replicate missing None) }
     {
-        let mut proof = Proof::new(Vec::new(alloc));
+        let mut proof = Proof::with_room(alloc, 1 + missing + above)?;
         proof.push(Some(peer))?;
         proof.push_missing(missing)?;
         Ok(proof)

@@ -1,10 +1,10 @@
-use Rattle.std.proofs.Common.{◌≡◌, ◌+◌, ◌-◌, ◌<◌, cond, length, is_some, ap, sym, ◌∙◌, refl, arith, rules}
+use Rattle.std.proofs.Common.{◌≡◌, ◌+◌, ◌-◌, ◌<◌, cond, length, true, false, is_some, ap, sym, ◌∙◌, refl, arith, rules}
 use Rattle.warg_map.specs.Side.{side_bit}
 use Rattle.warg_map.specs.Bits.{last_bits, bits_from}
 use Rattle.warg_map.specs.Seen.{height_of}
 use Rattle.warg_map.proofs.Form.{is_fork, is_lone, is_stem}
 use Rattle.warg_map.proofs.Sparse.{contains_key-empty, length-last_bits, last_bits-end}
-use Rattle.warg_map.proofs.Finds.{finds_in_fork, finds_none_lone, finds_none_stem, finds_below, lone_same}
+use Rattle.warg_map.proofs.Finds.{finds_in_fork, finds_leaf, finds_lone, finds_none_lone, finds_none_stem, finds_below, lone_same}
 use Rattle.warg_map.proofs.Peers.{proves_in_fork, proves_single, proves_leaf, proves_stem, length_peers, length-empty_peers}
 use Rattle.warg_map.proofs.node.Node.+prove.Goals as goal
 
@@ -35,10 +35,10 @@ returns-in_default-3-clause-answer g t c =
     c.node-in-Stem.ensures.seen (ap (λ y. last_bits y (256 - c.advance.new.self.index)) c.advance.ensures.digest) c.advance.ensures.index refl))
     ∙ rw c.in_default-3.is at c.in_ok-proof-in-Stem.ensures.answer
 
-pub returns-in-Leaf-clause-answer : goal.returns-in-Leaf-clause-answer
-returns-in-Leaf-clause-answer g t c =
+pub returns-in_ok-with_room-in-Leaf-clause-answer : goal.returns-in_ok-with_room-in-Leaf-clause-answer
+returns-in_ok-with_room-in-Leaf-clause-answer g t c =
     let z : height_of c.args.self.now ≡ 0 = ap height_of c.in-Leaf.is in
-    proves_leaf g.D.SupportedDigest.digest c.args.self.now c.in-Leaf.field-0 _ _ c.in-Leaf.is (last_bits-end c.args.path.hash.now c.args.path.index (omega (arith, z, c.requires.height))) (c.new-in-Leaf.ensures ∙ c.new.ensures.items)
+    proves_leaf g.D.SupportedDigest.digest c.args.self.now c.in-Leaf.field-0 _ _ c.in-Leaf.is (last_bits-end c.args.path.hash.now c.args.path.index (omega (arith, z, c.requires.height))) c.in_ok-with_room-in-Leaf.ensures
 
 pub returns-in-Empty-clause-answer : goal.returns-in-Empty-clause-answer
 returns-in-Empty-clause-answer g t c = rw c.in-Empty.is (contains_key-empty _)
@@ -46,16 +46,16 @@ returns-in-Empty-clause-answer g t c = rw c.in-Empty.is (contains_key-empty _)
 pub returns-in_ok-push-in-Fork-clause-answer : goal.returns-in_ok-push-in-Fork-clause-answer
 returns-in_ok-push-in-Fork-clause-answer g t c =
     let n = length-last_bits c.next.new.self.hash.now (256 - c.next.new.self.index) in
-    proves_in_fork g.D.SupportedDigest.digest c.args.self.now c.node.result.now _ _ (side_bit c.in-Some.side) _ c.in-Some-2.proof _ _ c.index-in-Fork.result.now
+    proves_in_fork g.D.SupportedDigest.digest c.args.self.now c.node.result.now _ _ (side_bit c.in-Some.side) _ c.in-Some-2.proof _ _ c.index-in-Fork-2.result.now
     (is_fork c.in-Fork.is c.as_ref-fork.ensures) c.requires.well_formed c.in-Some.ensures.steps.bits (omega (arith, n, c.requires.height, c.in-Some.ensures.steps.index)) (search rules)
-    (c.index-in-Fork.ensures ∙ ap (λ b. cond b c.as_ref-fork.result.now.right c.as_ref-fork.result.now.left) c.opposite.ensures)
+    (c.index-in-Fork-2.ensures ∙ ap (λ b. cond b c.as_ref-fork.result.now.right c.as_ref-fork.result.now.left) c.opposite.ensures)
     (c.copied.ensures ∙ c.hash.ensures) (rw c.in-Some-2.is at c.in_ok-proof-in-Fork.ensures.answer) c.in_ok-push-in-Fork.ensures
 
-pub returns-else-shared_with-height-clause-answer : goal.returns-else-shared_with-height-clause-answer
-returns-else-shared_with-height-clause-answer g t c =
+pub returns-in_ok-with_room-in-Singleton-clause-answer : goal.returns-in_ok-with_room-in-Singleton-clause-answer
+returns-in_ok-with_room-in-Singleton-clause-answer g t c =
     let all : c.shared_with.result ≡ c.as_ref-singleton.result.now.height = omega (arith, c.shared_with.ensures.at_most, c.if-shared_with-height.false, c.height.ensures.value) in
     proves_single g.D.SupportedDigest.digest c.args.self.now _ _ _ (is_lone c.in-Singleton.is c.as_ref-singleton.ensures) c.requires.well_formed
-    (lone_same c.args.self.now _ c.args.path.hash.now c.args.path.index c.shared_with.result (is_lone c.in-Singleton.is c.as_ref-singleton.ensures) c.requires.height all c.shared_with.ensures.same) (c.new-in-Singleton-2.ensures ∙ c.new-in-Singleton.ensures.items)
+    (lone_same c.args.self.now _ c.args.path.hash.now c.args.path.index c.shared_with.result (is_lone c.in-Singleton.is c.as_ref-singleton.ensures) c.requires.height all c.shared_with.ensures.same) c.in_ok-with_room-in-Singleton.ensures
 
 pub returns-in_ok-push_empties-in-Stem-clause-answer : goal.returns-in_ok-push_empties-in-Stem-clause-answer
 returns-in_ok-push_empties-in-Stem-clause-answer g t c =
@@ -79,11 +79,24 @@ returns-in_ok-push_empties-in-Stem-clause-few g t c =
     omega (arith, hs, hb, few, e)
 
 -- a key that isn't held is refused no memory
-pub returns-in-Leaf-clause-none : goal.returns-in-Leaf-clause-none
-returns-in-Leaf-clause-none g t c = λ absent. let held = (returns-in-Leaf-clause-answer g t c).held in cc
+pub returns-in_err-with_room-in-Leaf-clause-none : goal.returns-in_err-with_room-in-Leaf-clause-none
+returns-in_err-with_room-in-Leaf-clause-none g t c = λ absent.
+    let z : height_of c.args.self.now ≡ 0 = ap height_of c.in-Leaf.is in
+    let found = ap is_some (finds_leaf c.args.self.now c.in-Leaf.field-0 _ _ c.in-Leaf.is (last_bits-end c.args.path.hash.now c.args.path.index (omega (arith, z, c.requires.height))) refl) in
+    let e : true ≡ false = found ∙ absent in cc
 
-pub returns-else-shared_with-height-clause-none : goal.returns-else-shared_with-height-clause-none
-returns-else-shared_with-height-clause-none g t c = λ absent. let held = (returns-else-shared_with-height-clause-answer g t c).held in cc
+pub returns-in_ok-with_room-in-Leaf-clause-none : goal.returns-in_ok-with_room-in-Leaf-clause-none
+returns-in_ok-with_room-in-Leaf-clause-none g t c = λ absent. let held = (returns-in_ok-with_room-in-Leaf-clause-answer g t c).held in cc
+
+pub returns-in_err-with_room-in-Singleton-clause-none : goal.returns-in_err-with_room-in-Singleton-clause-none
+returns-in_err-with_room-in-Singleton-clause-none g t c = λ absent.
+    let all : c.shared_with.result ≡ c.as_ref-singleton.result.now.height = omega (arith, c.shared_with.ensures.at_most, c.if-shared_with-height.false, c.height.ensures.value) in
+    let found = ap is_some (finds_lone c.args.self.now _ _ _ (is_lone c.in-Singleton.is c.as_ref-singleton.ensures)
+    (lone_same c.args.self.now _ c.args.path.hash.now c.args.path.index c.shared_with.result (is_lone c.in-Singleton.is c.as_ref-singleton.ensures) c.requires.height all c.shared_with.ensures.same) refl) in
+    let e : true ≡ false = found ∙ absent in cc
+
+pub returns-in_ok-with_room-in-Singleton-clause-none : goal.returns-in_ok-with_room-in-Singleton-clause-none
+returns-in_ok-with_room-in-Singleton-clause-none g t c = λ absent. let held = (returns-in_ok-with_room-in-Singleton-clause-answer g t c).held in cc
 
 pub returns-in_err-proof-in-Fork-clause-none : goal.returns-in_err-proof-in-Fork-clause-none
 returns-in_err-proof-in-Fork-clause-none g t c = λ absent.

@@ -47,8 +47,8 @@ overflow_sub-height-in-Singleton g t c =
 
 pub returns-then-shared-stem-clause-answer : goal.returns-then-shared-stem-clause-answer
 returns-then-shared-stem-clause-answer g t c =
-    absent_beside_stem g.D.SupportedDigest.digest c.args.self.now _ _ c.args.path.hash.now c.hash_below.result c.args.path.index c.shared_with-shared-in-Stem.result _ (is_stem c.in-Stem.is c.as_ref-stem.ensures) c.requires.well_formed refl c.requires.height c.if-shared-stem.true
-    c.shared_with-shared-in-Stem.ensures.same (c.shared_with-shared-in-Stem.ensures.apart c.if-shared-stem.true) c.hash_below.ensures c.in_ok-parted-in-Stem.ensures
+    absent_beside_stem g.D.SupportedDigest.digest c.args.self.now _ _ c.args.path.hash.now c.hash_below-far.result c.args.path.index c.shared_with-shared-in-Stem.result _ (is_stem c.in-Stem.is c.as_ref-stem.ensures) c.requires.well_formed refl c.requires.height c.if-shared-stem.true
+    c.shared_with-shared-in-Stem.ensures.same (c.shared_with-shared-in-Stem.ensures.apart c.if-shared-stem.true) c.hash_below-far.ensures c.in_ok-parted-in-Stem.ensures
 
 pub prove_absent-requires-in-Stem : goal.prove_absent-requires-in-Stem
 prove_absent-requires-in-Stem g t c κs within =
