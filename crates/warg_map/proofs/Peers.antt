@@ -14,9 +14,9 @@ use Rattle.warg_map.specs.Lone.{Lone}
 use Rattle.warg_crypto.specs.EmptyTrees.{empty_root}
 use Rattle.warg_map.specs.Bits.{last_bits, bits_from}
 use Rattle.warg_map.specs.Sparse.{SparseMap, bits_cmp, root_of, sparse_root}
-use Rattle.warg_map.specs.Under.{join_at, under, HoldsKey, Splits, IsLone}
+use Rattle.warg_map.specs.Under.{join_at, under, HoldsKey, Splits, IsLone, empty_peers}
 use Rattle.warg_map.specs.Seen.{seen, height_of, held_by, IsWellFormed}
-use Rattle.warg_map.specs.Peers.{IsPeers, IsPeerCount, Proves, shared, lone_peers, empty_peers}
+use Rattle.warg_map.specs.Peers.{IsPeers, IsPeerCount, Proves, shared, lone_peers}
 use Rattle.warg_map.proofs.Sparse.{bits_total, get-join_at, contains_key-insert_same, sparse_root-empty, head_same, tail_same, length-bits_from}
 use Rattle.warg_map.proofs.Under.{get-join_at_other, get-join_at_nil, get-under, no_some}
 use Rattle.warg_map.proofs.Form.{lone_tied}

@@ -1,4 +1,4 @@
--- The bits that a path has left.
+-- The bits that a path has left. Clauses of private functions alone cite what stands here.
 use Rattle.std.specs.Prelude.{◌≡◌, ◌+◌, ◌-◌, Bool, List, Option, MatchOption, IfSome, reverse}
 use Rattle.std.specs.Iterator.{YieldsFirstBy}
 use Rattle.warg_map.specs.declared.path.Path.{Path}

@@ -1,7 +1,6 @@
 -- The peers of the proofs that a map gives.
-use Rattle.std.specs.Prelude.{◌≡◌, ℕ, zero, suc, ◌+◌, ◌<◌, Bool, true, false, not, IsTrue, ◌⊎◌, reverse, cond, nat_eq, List, [], ◌∷◌, ◌++◌, length, Option, Some, None, is_some}
+use Rattle.std.specs.Prelude.{◌≡◌, ℕ, suc, ◌+◌, ◌<◌, Bool, true, false, not, IsTrue, ◌⊎◌, reverse, cond, nat_eq, List, [], ◌∷◌, length, Option, Some, None, is_some}
 use Rattle.std.specs.FinMap.{get, contains_key}
-use Rattle.warg_crypto.specs.EmptyTrees.{empty_root}
 use Rattle.warg_map.specs.Sparse.{SparseMap, root_of}
 
 -- How many bits two bit lists share before they part.
@@ -54,8 +53,3 @@ pub record ProvesAbsent (H : List ℕ → List ℕ) (m : SparseMap) (bits : List
   pub absent : contains_key m bits ≡ false
   pub peers_from_top : IsAbsentPeers H (get m) bits (reverse peers)
   pub count : IsAbsentCount m bits (length peers)
-
--- The digests of the empty trees of n heights from k on, as peers.
-unfoldable pub empty_peers : (List ℕ → List ℕ) → ℕ → ℕ → List (Option (List ℕ))
-empty_peers H k zero = []
-empty_peers H k (suc n) = empty_peers H k n ++ Some (empty_root H (k + n)) ∷ []

@@ -1,4 +1,4 @@
--- What a node of the tree stands for.
+-- What a node of the tree stands for. Clauses of private functions alone cite what stands here.
 use Rattle.std.specs.Prelude.{◌≡◌, ℕ, ◌+◌, ◌≤◌, ◌<◌, Bool, not, if◌then◌else◌, List, [], ◌⊎◌}
 use Rattle.std.specs.FinMap.{insert, empty, contains_key}
 use Rattle.warg_map.specs.declared.node.Node.{Node}

@@ -1,5 +1,6 @@
--- Maps built of smaller ones: two below a fork, and one below the bits of a stem.
-use Rattle.std.specs.Prelude.{◌≡◌, ℕ, ◌+◌, Bool, true, false, cond, List, [], ◌∷◌, ◌++◌, map, length, IsTrue}
+-- Maps built of smaller ones: two below a fork, and one below the bits of a stem. Clauses of private functions alone
+-- cite what stands here.
+use Rattle.std.specs.Prelude.{◌≡◌, ℕ, zero, suc, ◌+◌, Bool, true, false, cond, Option, Some, List, [], ◌∷◌, ◌++◌, map, length, IsTrue}
 use Rattle.std.specs.FinMap.{from_entries, entries, contains_key, insert, empty}
 use Rattle.warg_crypto.specs.EmptyTrees.{empty_root}
 use Rattle.warg_map.specs.Sparse.{SparseMap}
@@ -21,6 +22,11 @@ under (b ∷ bits) m = join_at b (under bits m) empty
 unfoldable pub lift : (List ℕ → List ℕ) → ℕ → List ℕ → List Bool → List ℕ
 lift H k x [] = x
 lift H k x (b ∷ bits) = H (1 ∷ cond b (empty_root H (k + length bits) ++ lift H k x bits) (lift H k x bits ++ empty_root H (k + length bits)))
+
+-- The digests of the empty trees of n heights from k on, as peers.
+unfoldable pub empty_peers : (List ℕ → List ℕ) → ℕ → ℕ → List (Option (List ℕ))
+empty_peers H k zero = []
+empty_peers H k (suc n) = empty_peers H k n ++ Some (empty_root H (k + n)) ∷ []
 
 -- Some key is held.
 abbrev pub HoldsKey : SparseMap → Type 0
