@@ -1,6 +1,6 @@
 -- What is found in a node.
-use Rattle.std.proofs.Common.{◌≡◌, ℕ, ◌+◌, ◌-◌, ◌<◌, Bool, true, false, cond, List, [], ◌∷◌, ◌++◌, Option, Some, None, refl, sym, ap, ◌∙◌, subst, arith}
-use Rattle.std.specs.FinMap.{insert, empty, get, get-insert}
+use Rattle.std.proofs.Common.{◌≡◌, ℕ, ◌+◌, ◌-◌, ◌<◌, ◌≤◌, Bool, true, false, cond, List, [], ◌∷◌, ◌++◌, Option, Some, None, is_some, refl, sym, ap, ◌∙◌, subst, arith}
+use Rattle.std.specs.FinMap.{insert, empty, get, contains_key, get-insert}
 use Rattle.std.specs.Ordering.{eq_by_cmp}
 use Rattle.std.specs.declared.rc.Rc.{Rc}
 use Rattle.warg_map.specs.declared.node.Node.{Node}
@@ -103,3 +103,18 @@ pub finds_below : {D A : _} (old below : Node D A) (s : Rc (Stem' D A) A) (bits 
 finds_below old below s bits low key from len index r is w e height el same b lo ix h =
     h ∙ ap (λ d. get d.1 low) b ∙ sym (get-under (bits_from key from len) low s.value.below.1)
     ∙ sym (ap (λ d. get d.1 bits) (stem_held old s key from len is w height el same) ∙ ap (get (under (bits_from key from len) s.value.below.1)) (stem_bits old s bits low key from len index is w e height el lo ix))
+
+-- a path that shares all of a stem's bits
+pub all_shared : (key hash : List ℕ) (from shared len : ℕ) → shared ≤ len → len ≤ shared → bits_from key from shared ≡ bits_from hash from shared → bits_from key from len ≡ bits_from hash from len
+all_shared key hash from shared len most least same =
+    let all : shared ≡ len = omega arith in
+    rw all at same
+
+-- such a path finds below the stem what it finds from the stem on
+pub held_below : {D A : _} (old below : Node D A) (s : Rc (Stem' D A) A) (hash rest : List ℕ) (from shared index : ℕ) → old ≡ Stem s → IsWellFormed old → height_of old + from ≡ 256 → shared ≤ s.value.len → s.value.len ≤ shared → bits_from s.value.key from shared ≡ bits_from hash from shared → seen below ≡ s.value.below → rest ≡ hash → index ≡ from + s.value.len → contains_key (held_by below) (last_bits rest (256 - index)) ≡ contains_key (held_by old) (last_bits hash (256 - from))
+held_below old below s hash rest from shared index is w height most least same b digest ix =
+    ap is_some (finds_below old below s _ _ hash from s.value.len index _ is w refl height refl (all_shared s.value.key hash from shared s.value.len most least same) b (ap (λ y. last_bits y (256 - index)) digest) ix refl)
+
+-- what is held below a fork, on the side of the path
+pub held_in_fork : {D A : _} (old child : Node D A) (f : Rc (Fork' D A) A) (bits : List Bool) (b : Bool) (p : List Bool) → old ≡ Fork f → bits ≡ b ∷ p → seen child ≡ (cond b f.value.right f.value.left) → contains_key (held_by child) p ≡ contains_key (held_by old) bits
+held_in_fork old child f bits b p is e s = ap is_some (finds_in_fork old child f bits b p _ is e s refl)

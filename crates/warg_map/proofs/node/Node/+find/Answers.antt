@@ -1,12 +1,12 @@
 use Rattle.std.proofs.Common.{◌≡◌, ◌-◌, ◌<◌, ap, sym, ◌∙◌, refl, arith, rules}
 use Rattle.std.specs.FinMap.{get-empty}
 use Rattle.warg_map.specs.Side.{side_bit}
-use Rattle.warg_map.specs.Bits.{last_bits, bits_from}
+use Rattle.warg_map.specs.Bits.{last_bits}
 use Rattle.warg_map.specs.Sparse.{bits_cmp}
 use Rattle.warg_map.specs.Seen.{height_of}
 use Rattle.warg_map.proofs.Form.{is_fork, is_lone, is_stem}
 use Rattle.warg_map.proofs.Sparse.{last_bits-end}
-use Rattle.warg_map.proofs.Finds.{finds_in_fork, finds_lone, finds_leaf, finds_none_lone, finds_none_stem, finds_below, lone_same}
+use Rattle.warg_map.proofs.Finds.{finds_in_fork, finds_lone, finds_leaf, finds_none_lone, finds_none_stem, finds_below, lone_same, all_shared}
 use Rattle.warg_map.proofs.node.Node.+find.Goals as goal
 
 pub returns-then-shared_with-height : goal.returns-then-shared_with-height
@@ -43,8 +43,7 @@ returns-else-shared_with-stem g t c =
     let s = c.as_ref-stem.result.now in
     let i = c.args.path.index in
     let hash = c.args.path.hash.now in
-    let all : c.shared_with-in-Stem.result ≡ c.as_ref-stem.result.now.len = omega (arith, c.shared_with-in-Stem.ensures.at_most, c.if-shared_with-stem.false) in
-    let same : bits_from s.key i s.len ≡ bits_from hash i s.len = ap (bits_from s.key i) (sym all) ∙ c.shared_with-in-Stem.ensures.same ∙ ap (bits_from hash i) all in
+    let same = all_shared s.key hash i c.shared_with-in-Stem.result s.len c.shared_with-in-Stem.ensures.at_most c.if-shared_with-stem.false c.shared_with-in-Stem.ensures.same in
     finds_below c.args.self.now c.node-in-Stem.result.now _ _ _ hash i s.len c.advance.new.self.index c.find-in-Stem.result (is_stem c.in-Stem.is c.as_ref-stem.ensures) c.requires.well_formed
     refl c.requires.height refl same
     c.node-in-Stem.ensures.seen (ap (λ y. last_bits y (256 - c.advance.new.self.index)) c.advance.ensures.digest) c.advance.ensures.index c.find-in-Stem.ensures

@@ -1,16 +1,16 @@
 use Rattle.std.proofs.Common.{◌≡◌, ◌+◌, ◌-◌, ◌<◌, cond, length, true, false, is_some, ap, sym, ◌∙◌, refl, arith, rules}
 use Rattle.warg_map.specs.Side.{side_bit}
-use Rattle.warg_map.specs.Bits.{last_bits, bits_from}
+use Rattle.warg_map.specs.Bits.{last_bits}
 use Rattle.warg_map.specs.Seen.{height_of}
 use Rattle.warg_map.proofs.Form.{is_fork, is_lone, is_stem}
 use Rattle.warg_map.proofs.Sparse.{contains_key-empty, length-last_bits, last_bits-end}
-use Rattle.warg_map.proofs.Finds.{finds_in_fork, finds_leaf, finds_lone, finds_none_lone, finds_none_stem, finds_below, lone_same}
+use Rattle.warg_map.proofs.Finds.{finds_leaf, finds_lone, finds_none_lone, finds_none_stem, lone_same, all_shared, held_below, held_in_fork}
 use Rattle.warg_map.proofs.Peers.{proves_in_fork, proves_single, proves_leaf, proves_stem, length_peers, length-empty_peers}
 use Rattle.warg_map.proofs.node.Node.+prove.Goals as goal
 
 pub returns-in_default-2-clause-answer : goal.returns-in_default-2-clause-answer
 returns-in_default-2-clause-answer g t c =
-    sym (ap is_some (finds_in_fork _ c.node.result.now _ _ (side_bit c.in-Some.side) _ _ (is_fork c.in-Fork.is c.as_ref-fork.ensures) c.in-Some.ensures.steps.bits (search rules) refl)) ∙ rw c.in_default-2.is at c.in_ok-proof-in-Fork.ensures.answer
+    sym (held_in_fork _ c.node.result.now _ _ (side_bit c.in-Some.side) _ (is_fork c.in-Fork.is c.as_ref-fork.ensures) c.in-Some.ensures.steps.bits (search rules)) ∙ rw c.in_default-2.is at c.in_ok-proof-in-Fork.ensures.answer
 
 pub returns-then-shared_with-height-clause-answer : goal.returns-then-shared_with-height-clause-answer
 returns-then-shared_with-height-clause-answer g t c =
@@ -25,14 +25,8 @@ returns-then-shared_with-stem-clause-answer g t c =
 
 pub returns-in_default-3-clause-answer : goal.returns-in_default-3-clause-answer
 returns-in_default-3-clause-answer g t c =
-    let s = c.as_ref-stem.result.now in
-    let i = c.args.path.index in
-    let hash = c.args.path.hash.now in
-    let all : c.shared_with-in-Stem.result ≡ c.as_ref-stem.result.now.len = omega (arith, c.shared_with-in-Stem.ensures.at_most, c.if-shared_with-stem.false) in
-    let same : bits_from s.key i s.len ≡ bits_from hash i s.len = ap (bits_from s.key i) (sym all) ∙ c.shared_with-in-Stem.ensures.same ∙ ap (bits_from hash i) all in
-    sym (ap is_some (finds_below c.args.self.now c.node-in-Stem.result.now _ _ _ hash i s.len c.advance.new.self.index _ (is_stem c.in-Stem.is c.as_ref-stem.ensures) c.requires.well_formed
-    refl c.requires.height refl same
-    c.node-in-Stem.ensures.seen (ap (λ y. last_bits y (256 - c.advance.new.self.index)) c.advance.ensures.digest) c.advance.ensures.index refl))
+    sym (held_below c.args.self.now c.node-in-Stem.result.now _ c.args.path.hash.now _ c.args.path.index c.shared_with-in-Stem.result c.advance.new.self.index (is_stem c.in-Stem.is c.as_ref-stem.ensures) c.requires.well_formed c.requires.height
+    c.shared_with-in-Stem.ensures.at_most c.if-shared_with-stem.false c.shared_with-in-Stem.ensures.same c.node-in-Stem.ensures.seen c.advance.ensures.digest c.advance.ensures.index)
     ∙ rw c.in_default-3.is at c.in_ok-proof-in-Stem.ensures.answer
 
 pub returns-in_ok-with_room-in-Leaf-clause-answer : goal.returns-in_ok-with_room-in-Leaf-clause-answer
@@ -62,8 +56,7 @@ returns-in_ok-push_empties-in-Stem-clause-answer g t c =
     let s = c.as_ref-stem.result.now in
     let i = c.args.path.index in
     let hash = c.args.path.hash.now in
-    let all : c.shared_with-in-Stem.result ≡ c.as_ref-stem.result.now.len = omega (arith, c.shared_with-in-Stem.ensures.at_most, c.if-shared_with-stem.false) in
-    let same : bits_from s.key i s.len ≡ bits_from hash i s.len = ap (bits_from s.key i) (sym all) ∙ c.shared_with-in-Stem.ensures.same ∙ ap (bits_from hash i) all in
+    let same = all_shared s.key hash i c.shared_with-in-Stem.result s.len c.shared_with-in-Stem.ensures.at_most c.if-shared_with-stem.false c.shared_with-in-Stem.ensures.same in
     proves_stem g.D.SupportedDigest.digest c.args.self.now c.node-in-Stem.result.now _ _ _ hash i s.len c.advance.new.self.index _ c.in-Some-3.proof _ (is_stem c.in-Stem.is c.as_ref-stem.ensures) c.requires.well_formed
     refl c.requires.height refl same
     c.node-in-Stem.ensures.seen (ap (λ y. last_bits y (256 - c.advance.new.self.index)) c.advance.ensures.digest) c.advance.ensures.index refl
@@ -100,12 +93,12 @@ returns-in_ok-with_room-in-Singleton-clause-none g t c = λ absent. let held = (
 
 pub returns-in_err-proof-in-Fork-clause-none : goal.returns-in_err-proof-in-Fork-clause-none
 returns-in_err-proof-in-Fork-clause-none g t c = λ absent.
-    let found = ap is_some (finds_in_fork _ c.node.result.now _ _ (side_bit c.in-Some.side) _ _ (is_fork c.in-Fork.is c.as_ref-fork.ensures) c.in-Some.ensures.steps.bits (search rules) refl) in
+    let found = held_in_fork _ c.node.result.now _ _ (side_bit c.in-Some.side) _ (is_fork c.in-Fork.is c.as_ref-fork.ensures) c.in-Some.ensures.steps.bits (search rules) in
     let none = c.in_err-proof-in-Fork.ensures.none (found ∙ absent) in cc
 
 pub returns-in_err-push-in-Fork-clause-none : goal.returns-in_err-push-in-Fork-clause-none
 returns-in_err-push-in-Fork-clause-none g t c = λ absent.
-    let found = ap is_some (finds_in_fork _ c.node.result.now _ _ (side_bit c.in-Some.side) _ _ (is_fork c.in-Fork.is c.as_ref-fork.ensures) c.in-Some.ensures.steps.bits (search rules) refl) in
+    let found = held_in_fork _ c.node.result.now _ _ (side_bit c.in-Some.side) _ (is_fork c.in-Fork.is c.as_ref-fork.ensures) c.in-Some.ensures.steps.bits (search rules) in
     let none = rw c.in-Some-2.is at c.in_ok-proof-in-Fork.ensures.none (found ∙ absent) in cc
 
 pub returns-in_ok-push-in-Fork-clause-none : goal.returns-in_ok-push-in-Fork-clause-none
@@ -113,26 +106,14 @@ returns-in_ok-push-in-Fork-clause-none g t c = λ absent. let held = (returns-in
 
 pub returns-in_err-proof-in-Stem-clause-none : goal.returns-in_err-proof-in-Stem-clause-none
 returns-in_err-proof-in-Stem-clause-none g t c = λ absent.
-    let s = c.as_ref-stem.result.now in
-    let i = c.args.path.index in
-    let hash = c.args.path.hash.now in
-    let all : c.shared_with-in-Stem.result ≡ c.as_ref-stem.result.now.len = omega (arith, c.shared_with-in-Stem.ensures.at_most, c.if-shared_with-stem.false) in
-    let same : bits_from s.key i s.len ≡ bits_from hash i s.len = ap (bits_from s.key i) (sym all) ∙ c.shared_with-in-Stem.ensures.same ∙ ap (bits_from hash i) all in
-    let found = ap is_some (finds_below c.args.self.now c.node-in-Stem.result.now _ _ _ hash i s.len c.advance.new.self.index _ (is_stem c.in-Stem.is c.as_ref-stem.ensures) c.requires.well_formed
-    refl c.requires.height refl same
-    c.node-in-Stem.ensures.seen (ap (λ y. last_bits y (256 - c.advance.new.self.index)) c.advance.ensures.digest) c.advance.ensures.index refl) in
+    let found = held_below c.args.self.now c.node-in-Stem.result.now _ c.args.path.hash.now _ c.args.path.index c.shared_with-in-Stem.result c.advance.new.self.index (is_stem c.in-Stem.is c.as_ref-stem.ensures) c.requires.well_formed c.requires.height
+    c.shared_with-in-Stem.ensures.at_most c.if-shared_with-stem.false c.shared_with-in-Stem.ensures.same c.node-in-Stem.ensures.seen c.advance.ensures.digest c.advance.ensures.index in
     let none = c.in_err-proof-in-Stem.ensures.none (found ∙ absent) in cc
 
 pub returns-in_err-push_empties-in-Stem-clause-none : goal.returns-in_err-push_empties-in-Stem-clause-none
 returns-in_err-push_empties-in-Stem-clause-none g t c = λ absent.
-    let s = c.as_ref-stem.result.now in
-    let i = c.args.path.index in
-    let hash = c.args.path.hash.now in
-    let all : c.shared_with-in-Stem.result ≡ c.as_ref-stem.result.now.len = omega (arith, c.shared_with-in-Stem.ensures.at_most, c.if-shared_with-stem.false) in
-    let same : bits_from s.key i s.len ≡ bits_from hash i s.len = ap (bits_from s.key i) (sym all) ∙ c.shared_with-in-Stem.ensures.same ∙ ap (bits_from hash i) all in
-    let found = ap is_some (finds_below c.args.self.now c.node-in-Stem.result.now _ _ _ hash i s.len c.advance.new.self.index _ (is_stem c.in-Stem.is c.as_ref-stem.ensures) c.requires.well_formed
-    refl c.requires.height refl same
-    c.node-in-Stem.ensures.seen (ap (λ y. last_bits y (256 - c.advance.new.self.index)) c.advance.ensures.digest) c.advance.ensures.index refl) in
+    let found = held_below c.args.self.now c.node-in-Stem.result.now _ c.args.path.hash.now _ c.args.path.index c.shared_with-in-Stem.result c.advance.new.self.index (is_stem c.in-Stem.is c.as_ref-stem.ensures) c.requires.well_formed c.requires.height
+    c.shared_with-in-Stem.ensures.at_most c.if-shared_with-stem.false c.shared_with-in-Stem.ensures.same c.node-in-Stem.ensures.seen c.advance.ensures.digest c.advance.ensures.index in
     let none = rw c.in-Some-3.is at c.in_ok-proof-in-Stem.ensures.none (found ∙ absent) in cc
 
 pub returns-in_ok-push_empties-in-Stem-clause-none : goal.returns-in_ok-push_empties-in-Stem-clause-none

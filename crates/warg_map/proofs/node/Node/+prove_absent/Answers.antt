@@ -1,12 +1,12 @@
-use Rattle.std.proofs.Common.{◌≡◌, ℕ, ◌-◌, cond, length, List, Option, None, true, false, is_some, ap, sym, ◌∙◌, refl, arith, rules}
+use Rattle.std.proofs.Common.{◌≡◌, ℕ, ◌-◌, cond, length, List, Option, None, true, false, is_some, ap, ◌∙◌, refl, arith, rules}
 use Rattle.std.proofs.lemmas.List.{length-replicate}
 use Rattle.warg_map.specs.Side.{side_bit}
-use Rattle.warg_map.specs.Bits.{last_bits, bits_from}
+use Rattle.warg_map.specs.Bits.{last_bits}
 use Rattle.warg_map.specs.Sparse.{sparse_root}
 use Rattle.warg_map.specs.Seen.{height_of}
 use Rattle.warg_map.proofs.Sparse.{length-last_bits, last_bits-end}
 use Rattle.warg_map.proofs.Form.{lone_seen, is_fork, is_lone, is_stem}
-use Rattle.warg_map.proofs.Finds.{finds_in_fork, finds_below, finds_leaf}
+use Rattle.warg_map.proofs.Finds.{finds_leaf, all_shared, held_below, held_in_fork}
 use Rattle.warg_map.proofs.Absences.{absent_nothing, absent_in_fork, absent_beside_lone, absent_beside_stem, absent_below, lone_parts}
 use Rattle.warg_map.proofs.node.Node.+prove_absent.Goals as goal
 
@@ -31,7 +31,7 @@ prove_absent-requires g t c κs within = (
             c.node.ensures.well_formed,
             (
               search rules,
-              ap is_some (finds_in_fork c.args.self.now c.node.result.now _ _ (side_bit c.in-Some.side) _ _ (is_fork c.in-Fork.is c.as_ref-fork.ensures) c.in-Some.ensures.steps.bits (search rules) refl) ∙ c.requires.absent,
+              held_in_fork c.args.self.now c.node.result.now _ _ (side_bit c.in-Some.side) _ (is_fork c.in-Fork.is c.as_ref-fork.ensures) c.in-Some.ensures.steps.bits (search rules) ∙ c.requires.absent,
             ),
           ),
         ),
@@ -51,34 +51,29 @@ returns-then-shared-stem-clause-answer g t c =
     c.shared_with-shared-in-Stem.ensures.same (c.shared_with-shared-in-Stem.ensures.apart c.if-shared-stem.true) c.hash_below-far.ensures c.in_ok-parted-in-Stem.ensures
 
 pub prove_absent-requires-in-Stem : goal.prove_absent-requires-in-Stem
-prove_absent-requires-in-Stem g t c κs within =
-    let s = c.as_ref-stem.result.now in
-    let i = c.args.path.index in
-    let hash = c.args.path.hash.now in
-    let all : c.shared_with-shared-in-Stem.result ≡ c.as_ref-stem.result.now.len = omega (arith, c.shared_with-shared-in-Stem.ensures.at_most, c.if-shared-stem.false) in
-    let same : bits_from s.key i s.len ≡ bits_from hash i s.len = ap (bits_from s.key i) (sym all) ∙ c.shared_with-shared-in-Stem.ensures.same ∙ ap (bits_from hash i) all in (
+prove_absent-requires-in-Stem g t c κs within = (
+  search rules,
+  (
+    search rules,
+    (
       search rules,
       (
         search rules,
         (
           search rules,
           (
-            search rules,
+            c.node-in-Stem.ensures.well_formed,
             (
               search rules,
-              (
-                c.node-in-Stem.ensures.well_formed,
-                (
-                  search rules,
-                  ap is_some (finds_below c.args.self.now c.node-in-Stem.result.now _ _ _ hash i s.len c.advance.new.self.index _ (is_stem c.in-Stem.is c.as_ref-stem.ensures) c.requires.well_formed refl c.requires.height refl same
-                      c.node-in-Stem.ensures.seen (ap (λ y. last_bits y (256 - c.advance.new.self.index)) c.advance.ensures.digest) c.advance.ensures.index refl) ∙ c.requires.absent,
-                ),
-              ),
+              held_below c.args.self.now c.node-in-Stem.result.now _ c.args.path.hash.now _ c.args.path.index c.shared_with-shared-in-Stem.result c.advance.new.self.index (is_stem c.in-Stem.is c.as_ref-stem.ensures) c.requires.well_formed c.requires.height
+                  c.shared_with-shared-in-Stem.ensures.at_most c.if-shared-stem.false c.shared_with-shared-in-Stem.ensures.same c.node-in-Stem.ensures.seen c.advance.ensures.digest c.advance.ensures.index ∙ c.requires.absent,
             ),
           ),
         ),
       ),
-    )
+    ),
+  ),
+)
 
 pub returns-in-Empty-clause-answer : goal.returns-in-Empty-clause-answer
 returns-in-Empty-clause-answer g t c = absent_nothing g.D.SupportedDigest.digest c.args.self.now c.in-Empty.field-0 _ _ c.in-Empty.is (c.new-in-Empty.ensures ∙ c.new.ensures.items)
@@ -115,7 +110,6 @@ returns-in_ok-push_missing-in-Stem-clause-answer g t c =
     let s = c.as_ref-stem.result.now in
     let i = c.args.path.index in
     let hash = c.args.path.hash.now in
-    let all : c.shared_with-shared-in-Stem.result ≡ c.as_ref-stem.result.now.len = omega (arith, c.shared_with-shared-in-Stem.ensures.at_most, c.if-shared-stem.false) in
-    let same : bits_from s.key i s.len ≡ bits_from hash i s.len = ap (bits_from s.key i) (sym all) ∙ c.shared_with-shared-in-Stem.ensures.same ∙ ap (bits_from hash i) all in
+    let same = all_shared s.key hash i c.shared_with-shared-in-Stem.result s.len c.shared_with-shared-in-Stem.ensures.at_most c.if-shared-stem.false c.shared_with-shared-in-Stem.ensures.same in
     absent_below g.D.SupportedDigest.digest c.args.self.now c.node-in-Stem.result.now _ _ _ hash i s.len c.advance.new.self.index c.in_ok-proof-in-Stem.proof _ (is_stem c.in-Stem.is c.as_ref-stem.ensures) c.requires.well_formed refl c.requires.height refl same
     c.node-in-Stem.ensures.seen (ap (λ y. last_bits y (256 - c.advance.new.self.index)) c.advance.ensures.digest) c.advance.ensures.index c.in_ok-proof-in-Stem.ensures.answer c.in_ok-push_missing-in-Stem.ensures
