@@ -121,10 +121,7 @@ impl<D, K, V, A: Allocator + Copy> ProofBundle<D, K, V, A> {
         ensures exact { Reads result (bundle_of bytes.now) }
         ensures wire { result ≢ Err (DecodeError.Wire wire.Memory) }
     {
-        let message = match Message::decode(alloc, bytes) {
-            Ok(message) => message,
-            Err(fault) => return Err(DecodeError::from(fault)),
-        };
+        let message = Message::decode(alloc, bytes)?;
         ProofBundle::from_message(alloc, message)
     }
 
