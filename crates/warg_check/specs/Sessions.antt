@@ -19,8 +19,8 @@ pub record GoesOn {A : Type 0} (old new : Session A) (s : State) (added : List �
   pub text_is : string_bytes new.text ≡ string_bytes old.text ++ added
 
 -- The session answered an order, at whatever state it stood.
-abbrev pub Answers : {A : Type 0} → Session A → Session A → Order → Type 0
-Answers old new order = (s : State) → StandsAt old s → GoesOn old new (after s order) (answer s order ++ 10 ∷ [])
+abbrev pub AnswersOrder : {A : Type 0} → Session A → Session A → Order → Type 0
+AnswersOrder old new order = (s : State) → StandsAt old s → GoesOn old new (after s order) (answer s order ++ 10 ∷ [])
 
 -- The session took the line of a number, at whatever state it stood.
 abbrev pub Takes : {A : Type 0} → Session A → Session A → ℕ → Line → Type 0

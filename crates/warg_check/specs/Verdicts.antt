@@ -16,7 +16,7 @@ use Rattle.warg_map.specs.Bits.{key_bits}
 use Rattle.warg_map.specs.Sparse.{leaf_digest}
 use Rattle.warg_map.specs.ProofValue.{proof_value}
 use Rattle.warg_map.specs.Bundles.{Peers}
-use Rattle.warg_map.specs.Bundles as maps
+use Rattle.warg_map.specs.Bundles.{map_bundle_of}
 use Rattle.warg_check.specs.declared.verdict.CheckError.{CheckError}
 use Rattle.warg_check.specs.declared.verdict.CheckError.TheVariants as fault
 
@@ -73,8 +73,8 @@ leads H leaf key root peers = pointwise nat_eq (proof_value H peers leaf (key_bi
 
 -- The verdict on the proof at a place of a map bundle's bytes: from the value's leaf digest.
 abbrev pub key_verdict : (List ℕ → List ℕ) → List ℕ → ℕ → List ℕ → List ℕ → List ℕ → Result Bool CheckError
-key_verdict H bytes at key value root = verdict (λ (b : MapBundle). b.proofs) (λ b. leads H (leaf_digest H value) key root) at (maps.bundle_of bytes)
+key_verdict H bytes at key value root = verdict (λ (b : MapBundle). b.proofs) (λ b. leads H (leaf_digest H value) key root) at (map_bundle_of bytes)
 
 -- The verdict on the absence at a place of a map bundle's bytes: from an empty leaf.
 abbrev pub absent_verdict : (List ℕ → List ℕ) → List ℕ → ℕ → List ℕ → List ℕ → Result Bool CheckError
-absent_verdict H bytes at key root = verdict (λ (b : MapBundle). b.absences) (λ b. leads H (empty_root H 0) key root) at (maps.bundle_of bytes)
+absent_verdict H bytes at key root = verdict (λ (b : MapBundle). b.absences) (λ b. leads H (empty_root H 0) key root) at (map_bundle_of bytes)

@@ -13,7 +13,7 @@ use Rattle.warg_map.specs.Lone.{Lone}
 use Rattle.warg_map.specs.Bits.{bit_at, bits_from, last_bits}
 use Rattle.warg_map.specs.Sparse.{SparseMap, bits_cmp, sparse_root}
 use Rattle.warg_map.specs.Under.{join_at, under, HoldsKey}
-use Rattle.warg_map.specs.Seen.{seen, height_of, held_by, IsWellFormed}
+use Rattle.warg_map.specs.Seen.{seen, tree_height, held_by, IsWellFormed}
 use Rattle.warg_map.specs.Peers.{shared, IsOther, IsAbsentPeers, IsAbsentCount, ProvesAbsent}
 use Rattle.warg_map.proofs.Sparse.{get-join_at, contains_key-join_at, contains_key-empty, contains_key-insert_same, length-bits_from}
 use Rattle.warg_map.proofs.Under.{join_at-other, get-under, under-append, holds-under, no_some, lone-under, bits_from-part, last_bits-at}
@@ -140,15 +140,15 @@ in_fork H f false p ps d child x w len ce xe e h =
     fork_proves_absent H false f.value.left.1 f.value.right.1 p ps d w.formed.1
     (e ∙ ap (λ c. sparse_root H c.0 c.1) xe ∙ ap (λ n. sparse_root H n f.value.right.1) (sym (len ∙ w.level.0))) (subst (λ (c : ℕ × SparseMap). ProvesAbsent H c.1 p ps) ce h)
 
-pub absent_in_fork : {D A : _} (H : List ℕ → List ℕ) (old child : Node D A) (f : Rc (Fork' D A) A) (bits : List Bool) (b : Bool) (p : List Bool) (ps new : List (Option (List ℕ))) (d : List ℕ) (x : ℕ × SparseMap) → old ≡ Fork f → IsWellFormed old → bits ≡ b ∷ p → length p + 1 ≡ height_of old → seen child ≡ cond b f.value.right f.value.left → x ≡ cond (not b) f.value.right f.value.left → d ≡ sparse_root H x.0 x.1 → ProvesAbsent H (held_by child) p ps → new ≡ ps ++ Some d ∷ [] → ProvesAbsent H (held_by old) bits new
+pub absent_in_fork : {D A : _} (H : List ℕ → List ℕ) (old child : Node D A) (f : Rc (Fork' D A) A) (bits : List Bool) (b : Bool) (p : List Bool) (ps new : List (Option (List ℕ))) (d : List ℕ) (x : ℕ × SparseMap) → old ≡ Fork f → IsWellFormed old → bits ≡ b ∷ p → length p + 1 ≡ tree_height old → seen child ≡ cond b f.value.right f.value.left → x ≡ cond (not b) f.value.right f.value.left → d ≡ sparse_root H x.0 x.1 → ProvesAbsent H (held_by child) p ps → new ≡ ps ++ Some d ∷ [] → ProvesAbsent H (held_by old) bits new
 absent_in_fork H old child f bits b p ps new d x is w e len ce xe de h n =
     let wf : IsWellFormed (Fork f) = subst IsWellFormed is w in
-    let k : length p + 1 ≡ f.value.left.0 + 1 = len ∙ ap height_of is in
+    let k : length p + 1 ≡ f.value.left.0 + 1 = len ∙ ap tree_height is in
     rw (is, e, n) (in_fork H f b p ps d (seen child) x wf (omega (arith, k)) ce xe de h)
 
-pub absent_beside_lone : {D A : _} (H : List ℕ → List ℕ) (old : Node D A) (s : Rc Lone A) (bits : List Bool) (key d : List ℕ) (from j : ℕ) (new : List (Option (List ℕ))) → old ≡ Singleton s → bits ≡ last_bits key (256 - from) → height_of old + from ≡ 256 → j < s.value.height → bits_from s.value.key from j ≡ bits_from key from j → ¬ (bit_at s.value.key (from + j) ≡ bit_at key (from + j)) → d ≡ sparse_root H (s.value.height - j - 1) (insert empty (last_bits s.value.key (s.value.height - j - 1)) s.value.value) → new ≡ Some d ∷ replicate j None → ProvesAbsent H (held_by old) bits new
+pub absent_beside_lone : {D A : _} (H : List ℕ → List ℕ) (old : Node D A) (s : Rc Lone A) (bits : List Bool) (key d : List ℕ) (from j : ℕ) (new : List (Option (List ℕ))) → old ≡ Singleton s → bits ≡ last_bits key (256 - from) → tree_height old + from ≡ 256 → j < s.value.height → bits_from s.value.key from j ≡ bits_from key from j → ¬ (bit_at s.value.key (from + j) ≡ bit_at key (from + j)) → d ≡ sparse_root H (s.value.height - j - 1) (insert empty (last_bits s.value.key (s.value.height - j - 1)) s.value.value) → new ≡ Some d ∷ replicate j None → ProvesAbsent H (held_by old) bits new
 absent_beside_lone H old s bits key d from j new is e height lt same apart de n =
-    let hs : s.value.height + from ≡ 256 = sym (ap (λ d. height_of d + from) is) ∙ height in
+    let hs : s.value.height + from ≡ 256 = sym (ap (λ d. tree_height d + from) is) ∙ height in
     let whole : from + s.value.height ≡ 256 = omega (arith, hs) in
     let all : 256 - from ≡ s.value.height + 0 = omega (arith, hs) in
     let whole' : from + (s.value.height + 0) ≡ 256 = omega (arith, hs) in
@@ -162,10 +162,10 @@ absent_beside_lone H old s bits key d from j new is e height lt same apart de n 
     (de ∙ ap (λ h. sparse_root H h (insert empty (last_bits s.value.key (s.value.height - j - 1)) s.value.value)) r ∙ ap (λ h. sparse_root H (s.value.height + 0 - (j + 1)) (insert empty (last_bits s.value.key h) s.value.value)) r'
     ∙ ap (λ q. sparse_root H (s.value.height + 0 - (j + 1)) (insert empty q s.value.value)) (last_bits-at s.value.key (from + (j + 1)) (s.value.height - (j + 1)) place) ∙ ap (sparse_root H (s.value.height + 0 - (j + 1))) (lone-under _ s.value.value)))
 
-pub absent_beside_stem : {D A : _} (H : List ℕ → List ℕ) (old : Node D A) (s : Rc (Stem' D A) A) (bits : List Bool) (key d : List ℕ) (from j : ℕ) (new : List (Option (List ℕ))) → old ≡ Stem s → IsWellFormed old → bits ≡ last_bits key (256 - from) → height_of old + from ≡ 256 → j < s.value.len → bits_from s.value.key from j ≡ bits_from key from j → ¬ (bit_at s.value.key (from + j) ≡ bit_at key (from + j)) → d ≡ sparse_root H (s.value.below.0 + (s.value.len - (j + 1))) (under (bits_from s.value.key (s.value.from + (j + 1)) (s.value.len - (j + 1))) s.value.below.1) → new ≡ Some d ∷ replicate j None → ProvesAbsent H (held_by old) bits new
+pub absent_beside_stem : {D A : _} (H : List ℕ → List ℕ) (old : Node D A) (s : Rc (Stem' D A) A) (bits : List Bool) (key d : List ℕ) (from j : ℕ) (new : List (Option (List ℕ))) → old ≡ Stem s → IsWellFormed old → bits ≡ last_bits key (256 - from) → tree_height old + from ≡ 256 → j < s.value.len → bits_from s.value.key from j ≡ bits_from key from j → ¬ (bit_at s.value.key (from + j) ≡ bit_at key (from + j)) → d ≡ sparse_root H (s.value.below.0 + (s.value.len - (j + 1))) (under (bits_from s.value.key (s.value.from + (j + 1)) (s.value.len - (j + 1))) s.value.below.1) → new ≡ Some d ∷ replicate j None → ProvesAbsent H (held_by old) bits new
 absent_beside_stem H old s bits key d from j new is w e height lt same apart de n =
     let ws : IsWellFormed (Stem s) = subst IsWellFormed is w in
-    let hs : s.value.below.0 + s.value.len + from ≡ 256 = sym (ap (λ d. height_of d + from) is) ∙ height in
+    let hs : s.value.below.0 + s.value.len + from ≡ 256 = sym (ap (λ d. tree_height d + from) is) ∙ height in
     let fr : s.value.from ≡ from = omega (arith, ws.level, hs) in
     let all : 256 - from ≡ s.value.len + s.value.below.0 = omega (arith, hs) in
     let whole : from + (s.value.len + s.value.below.0) ≡ 256 = omega (arith, hs) in
@@ -176,7 +176,7 @@ absent_beside_stem H old s bits key d from j new is w e height lt same apart de 
     (e ∙ ap (last_bits key) all ∙ last_bits-at key from (s.value.len + s.value.below.0) whole) lt same apart (stem_holds s.value.len s.value.below.0 s.value.below.1 ws.formed.1)
     (de ∙ ap (λ h. sparse_root H h (under (bits_from s.value.key (s.value.from + (j + 1)) (s.value.len - (j + 1))) s.value.below.1)) r ∙ ap (λ i. sparse_root H (s.value.len + s.value.below.0 - (j + 1)) (under (bits_from s.value.key (i + (j + 1)) (s.value.len - (j + 1))) s.value.below.1)) fr))
 
-pub absent_below : {D A : _} (H : List ℕ → List ℕ) (old below : Node D A) (s : Rc (Stem' D A) A) (bits low : List Bool) (key : List ℕ) (from len index : ℕ) (ps new : List (Option (List ℕ))) → old ≡ Stem s → IsWellFormed old → bits ≡ last_bits key (256 - from) → height_of old + from ≡ 256 → len ≡ s.value.len → bits_from s.value.key from len ≡ bits_from key from len → seen below ≡ s.value.below → low ≡ last_bits key (256 - index) → index ≡ from + len → ProvesAbsent H (held_by below) low ps → new ≡ ps ++ replicate len None → ProvesAbsent H (held_by old) bits new
+pub absent_below : {D A : _} (H : List ℕ → List ℕ) (old below : Node D A) (s : Rc (Stem' D A) A) (bits low : List Bool) (key : List ℕ) (from len index : ℕ) (ps new : List (Option (List ℕ))) → old ≡ Stem s → IsWellFormed old → bits ≡ last_bits key (256 - from) → tree_height old + from ≡ 256 → len ≡ s.value.len → bits_from s.value.key from len ≡ bits_from key from len → seen below ≡ s.value.below → low ≡ last_bits key (256 - index) → index ≡ from + len → ProvesAbsent H (held_by below) low ps → new ≡ ps ++ replicate len None → ProvesAbsent H (held_by old) bits new
 absent_below H old below s bits low key from len index ps new is w e height el same b lo ix pr n =
     let ws : IsWellFormed (Stem s) = subst IsWellFormed is w in
     let a = bits_from key from len in
@@ -188,7 +188,7 @@ absent_below H old below s bits low key from len index ps new is w e height el s
     (subst (λ (j : ℕ). ProvesAbsent H (under a m) (a ++ low) (ps ++ replicate j None)) la run))
 
 -- a lone key that isn't the path's parts from it
-pub lone_parts : {D A : _} (old : Node D A) (s : Rc Lone A) (hash : List ℕ) (from j : ℕ) → old ≡ Singleton s → height_of old + from ≡ 256 → j ≤ s.value.height → bits_from s.value.key from j ≡ bits_from hash from j → contains_key (held_by old) (last_bits hash (256 - from)) ≡ false → j < s.value.height
+pub lone_parts : {D A : _} (old : Node D A) (s : Rc Lone A) (hash : List ℕ) (from j : ℕ) → old ≡ Singleton s → tree_height old + from ≡ 256 → j ≤ s.value.height → bits_from s.value.key from j ≡ bits_from hash from j → contains_key (held_by old) (last_bits hash (256 - from)) ≡ false → j < s.value.height
 lone_parts old s hash from j is height most same absent =
     elim (nat_eq j s.value.height) as (λ b. nat_eq j s.value.height ≡ b → j < s.value.height) [
       | true ↦ λ e. absurd (held_not (held_by old) (last_bits hash (256 - from)) absent (sym (ap is_some (finds_lone old s (last_bits hash (256 - from)) s.value.value is (lone_same old s hash from j is height (eqb-true j s.value.height e) same) refl))))

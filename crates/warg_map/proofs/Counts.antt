@@ -11,8 +11,8 @@ use Rattle.warg_map.specs.declared.stem.Stem.{Stem as Stem'}
 use Rattle.warg_map.specs.Bits.{bits_from}
 use Rattle.warg_map.specs.Sparse.{SparseMap, bits_cmp}
 use Rattle.warg_map.specs.Under.{join, join_at, under, HoldsKey, Splits, IsLone}
-use Rattle.warg_map.specs.Seen.{height_of, held_by, IsWellFormed}
-use Rattle.warg_map.specs.Count.{stripped, after, nodes}
+use Rattle.warg_map.specs.Seen.{tree_height, held_by, IsWellFormed}
+use Rattle.warg_map.specs.Count.{stripped, half_after, nodes}
 use Rattle.warg_map.proofs.Form.{one_false, no_lone}
 use Rattle.warg_map.proofs.Under.{get-under_head, no_some}
 use Rattle.warg_map.proofs.Sparse.{bits_total, same_sparse, get-join_true, get-join_false, insert-join_false, insert-join_true, empty-is_join, contains_key-empty, length-bits_from}
@@ -28,15 +28,15 @@ find-stripped true q ((false ∷ p, v) ∷ es) = find-stripped true q es
 find-stripped false q ((true ∷ p, v) ∷ es) = find-stripped false q es
 find-stripped false q ((false ∷ p, v) ∷ es) = ap (cond (eq_by_cmp bits_cmp q p) (Some v)) (find-stripped false q es)
 
-pub get-after : (b : Bool) (m : SparseMap) (q : List Bool) → get (after b m) q ≡ get m (b ∷ q)
-unfolding after
-get-after b m q = get-from_entries bits_total (stripped b (entries m)) q ∙ find-stripped b q (entries m) ∙ sym (get-entries m (b ∷ q))
+pub get-half_after : (b : Bool) (m : SparseMap) (q : List Bool) → get (half_after b m) q ≡ get m (b ∷ q)
+unfolding half_after
+get-half_after b m q = get-from_entries bits_total (stripped b (entries m)) q ∙ find-stripped b q (entries m) ∙ sym (get-entries m (b ∷ q))
 
-pub after_join_false : (l r : SparseMap) → after false (join l r) ≡ l
-after_join_false l r = same_sparse _ _ (λ q. get-after false (join l r) q ∙ get-join_false l r q)
+pub half_after-join_false : (l r : SparseMap) → half_after false (join l r) ≡ l
+half_after-join_false l r = same_sparse _ _ (λ q. get-half_after false (join l r) q ∙ get-join_false l r q)
 
-pub after_join_true : (l r : SparseMap) → after true (join l r) ≡ r
-after_join_true l r = same_sparse _ _ (λ q. get-after true (join l r) q ∙ get-join_true l r q)
+pub half_after-join_true : (l r : SparseMap) → half_after true (join l r) ≡ r
+half_after-join_true l r = same_sparse _ _ (λ q. get-half_after true (join l r) q ∙ get-join_true l r q)
 
 -- how many a join holds
 from_entries_same : (m : SparseMap) → from_entries (entries m) ≡ m
@@ -116,13 +116,13 @@ unfolding nodes
 nodes-join k l r run hl hr =
     let n = len-join l r in
     let x : ¬ (len (join l r) ≡ 1) = λ e. omega (arith, e, n, hl, hr) in
-    let lf = after_join_false l r in
-    let rt = after_join_true l r in
-    let y : ¬ (len (after false (join l r)) ≡ 0) = λ e. (let z = ap len lf in omega (arith, e, z, hl)) in
-    let y' : ¬ (len (after true (join l r)) ≡ 0) = λ e. (let z = ap len rt in omega (arith, e, z, hr)) in
+    let lf = half_after-join_false l r in
+    let rt = half_after-join_true l r in
+    let y : ¬ (len (half_after false (join l r)) ≡ 0) = λ e. (let z = ap len lf in omega (arith, e, z, hl)) in
+    let y' : ¬ (len (half_after true (join l r)) ≡ 0) = λ e. (let z = ap len rt in omega (arith, e, z, hr)) in
     ap (λ j. nodes j (join l r) run) (add-one k)
     ∙ both _ _ _ _ _ _ _ (is_not _ _ x) (is_not _ _ y) (is_not _ _ y')
-    ∙ ap (λ m. 1 + (nodes k m false + nodes k (after true (join l r)) false)) lf ∙ ap (λ m. 1 + (nodes k l false + nodes k m false)) rt
+    ∙ ap (λ m. 1 + (nodes k m false + nodes k (half_after true (join l r)) false)) lf ∙ ap (λ m. 1 + (nodes k l false + nodes k m false)) rt
 
 left_bare : (c d : Bool) (w x z : ℕ) → c ≡ false → d ≡ true → cond c w (cond d x z) ≡ x
 left_bare true d w x z a b = cc
@@ -143,16 +143,16 @@ nodes-step k true m run h =
     let o = len-empty bits_cmp (List ℕ) in
     let x : ¬ (len (join empty m) ≡ 1) = λ e. omega (arith, e, n, o, h) in
     ap (λ j. nodes j (join empty m) run) (add-one k)
-    ∙ left_bare _ _ _ _ _ (is_not _ _ x) (eq-eqb _ _ (ap len (after_join_false empty m) ∙ o))
-    ∙ ap (λ t. nodes k t true + cond run 0 1) (after_join_true empty m)
+    ∙ left_bare _ _ _ _ _ (is_not _ _ x) (eq-eqb _ _ (ap len (half_after-join_false empty m) ∙ o))
+    ∙ ap (λ t. nodes k t true + cond run 0 1) (half_after-join_true empty m)
 nodes-step k false m run h =
     let n = len-join m empty in
     let o = len-empty bits_cmp (List ℕ) in
     let x : ¬ (len (join m empty) ≡ 1) = λ e. omega (arith, e, n, o, h) in
-    let y : ¬ (len (after false (join m empty)) ≡ 0) = λ e. (let z = ap len (after_join_false m empty) in omega (arith, e, z, h)) in
+    let y : ¬ (len (half_after false (join m empty)) ≡ 0) = λ e. (let z = ap len (half_after-join_false m empty) in omega (arith, e, z, h)) in
     ap (λ j. nodes j (join m empty) run) (add-one k)
-    ∙ right_bare _ _ _ _ _ _ _ (is_not _ _ x) (is_not _ _ y) (eq-eqb _ _ (ap len (after_join_true m empty) ∙ o))
-    ∙ ap (λ t. nodes k t true + cond run 0 1) (after_join_false m empty)
+    ∙ right_bare _ _ _ _ _ _ _ (is_not _ _ x) (is_not _ _ y) (eq-eqb _ _ (ap len (half_after-join_true m empty) ∙ o))
+    ∙ ap (λ t. nodes k t true + cond run 0 1) (half_after-join_false m empty)
 
 nodes-run : (k : ℕ) (a : List Bool) (m : SparseMap) → 1 < len m → nodes (k + length a) (under a m) true ≡ nodes k m true
 unfolding under
@@ -192,10 +192,10 @@ nodes-split zero m s = refl
 nodes-split (suc k) m s =
     let h = splits_more m s in
     let x : ¬ (len m ≡ 1) = λ e. omega (arith, e, h) in
-    let l = some_held (after false m) (s.0.0, ap is_some (get-after false m s.0.0) ∙ s.0.1) in
-    let r = some_held (after true m) (s.1.0, ap is_some (get-after true m s.1.0) ∙ s.1.1) in
-    let y : ¬ (len (after false m) ≡ 0) = λ e. omega (arith, e, l) in
-    let y' : ¬ (len (after true m) ≡ 0) = λ e. omega (arith, e, r) in
+    let l = some_held (half_after false m) (s.0.0, ap is_some (get-half_after false m s.0.0) ∙ s.0.1) in
+    let r = some_held (half_after true m) (s.1.0, ap is_some (get-half_after true m s.1.0) ∙ s.1.1) in
+    let y : ¬ (len (half_after false m) ≡ 0) = λ e. omega (arith, e, l) in
+    let y' : ¬ (len (half_after true m) ≡ 0) = λ e. omega (arith, e, r) in
     both _ _ _ _ _ _ _ (is_not _ _ x) (is_not _ _ y) (is_not _ _ y') ∙ sym (both _ _ _ _ _ _ _ (is_not _ _ x) (is_not _ _ y) (is_not _ _ y'))
 
 -- the nodes below
@@ -226,14 +226,14 @@ must_split h l k n m e c more (inl s) = s
 must_split h l k n m e c (inl x) (inr o) = absurd (omega (arith, e, x, o.0, o.1))
 must_split h l k n m e c (inr x) (inr o) = absurd (let y = ap len o.2.2 ∙ len-lone o.2.0 o.2.1 in omega (arith, c, x, y))
 
-pub below_splits : {D A : _} (old : Node D A) (s : Rc (Stem' D A) A) → old ≡ Stem s → IsWellFormed old → (height_of old < 256) ⊎ (1 < len (held_by old)) → Splits s.value.below.1
+pub below_splits : {D A : _} (old : Node D A) (s : Rc (Stem' D A) A) → old ≡ Stem s → IsWellFormed old → (tree_height old < 256) ⊎ (1 < len (held_by old)) → Splits s.value.below.1
 below_splits old s is w more =
     let ws : IsWellFormed (Stem s) = subst IsWellFormed is w in
-    let h : s.value.below.0 + s.value.len ≡ height_of old = sym (ap height_of is) in
-    let h' : s.value.len + s.value.below.0 ≡ height_of old = omega (arith, h) in
-    must_split (height_of old) s.value.len s.value.below.0 (len (held_by old)) s.value.below.1 h' (len_stem old s is) more ws.formed.1
+    let h : s.value.below.0 + s.value.len ≡ tree_height old = sym (ap tree_height is) in
+    let h' : s.value.len + s.value.below.0 ≡ tree_height old = omega (arith, h) in
+    must_split (tree_height old) s.value.len s.value.below.0 (len (held_by old)) s.value.below.1 h' (len_stem old s is) more ws.formed.1
 
-pub below_child : {D A : _} (old : Node D A) (s : Rc (Stem' D A) A) (child : ℕ × SparseMap) → old ≡ Stem s → IsWellFormed old → child ≡ s.value.below → (height_of old < 256) ⊎ (1 < len (held_by old)) → len (held_by old) < 18446744073709551616 → IsChild child 18446744073709551616
+pub below_child : {D A : _} (old : Node D A) (s : Rc (Stem' D A) A) (child : ℕ × SparseMap) → old ≡ Stem s → IsWellFormed old → child ≡ s.value.below → (tree_height old < 256) ⊎ (1 < len (held_by old)) → len (held_by old) < 18446744073709551616 → IsChild child 18446744073709551616
 below_child old s child is w e more b =
     let ws : IsWellFormed (Stem s) = subst IsWellFormed is w in
     let n = len_stem old s is in
@@ -241,7 +241,7 @@ below_child old s child is w e more b =
     subst (λ (d : ℕ × SparseMap). IsChild d 18446744073709551616) (sym e) (record { some = omega (arith, x); low = omega (arith, ws.level, ws.formed.0); fits = omega (arith, n, b) })
 
 -- the count of a node
-pub count_fork : {D A : _} (old : Node D A) (f : Rc (Fork' D A) A) (l r : ℕ × SparseMap) (x y : ℕ) → old ≡ Fork f → IsWellFormed old → l ≡ f.value.left → r ≡ f.value.right → x ≡ nodes l.0 l.1 false → y ≡ nodes r.0 r.1 false → 1 + x + y ≡ nodes (height_of old) (held_by old) false
+pub count_fork : {D A : _} (old : Node D A) (f : Rc (Fork' D A) A) (l r : ℕ × SparseMap) (x y : ℕ) → old ≡ Fork f → IsWellFormed old → l ≡ f.value.left → r ≡ f.value.right → x ≡ nodes l.0 l.1 false → y ≡ nodes r.0 r.1 false → 1 + x + y ≡ nodes (tree_height old) (held_by old) false
 count_fork old f l r x y is w le re xe ye =
     let ws : IsWellFormed (Fork f) = subst IsWellFormed is w in
     let a : x ≡ nodes f.value.left.0 f.value.left.1 false = xe ∙ ap (λ d. nodes d.0 d.1 false) le in
@@ -249,9 +249,9 @@ count_fork old f l r x y is w le re xe ye =
     let sum : 1 + x + y ≡ 1 + (x + y) = omega arith in
     sum ∙ ap (λ j. 1 + (j + y)) a ∙ ap (λ j. 1 + (nodes f.value.left.0 f.value.left.1 false + j)) b
     ∙ sym (nodes-join f.value.left.0 f.value.left.1 f.value.right.1 false (some_held _ ws.formed.0) (some_held _ ws.formed.1))
-    ∙ sym (ap (λ d. nodes (height_of d) (held_by d) false) is)
+    ∙ sym (ap (λ d. nodes (tree_height d) (held_by d) false) is)
 
-pub count_stem : {D A : _} (old : Node D A) (s : Rc (Stem' D A) A) (b : ℕ × SparseMap) (x : ℕ) → old ≡ Stem s → IsWellFormed old → (height_of old < 256) ⊎ (1 < len (held_by old)) → b ≡ s.value.below → x ≡ nodes b.0 b.1 false → 1 + x ≡ nodes (height_of old) (held_by old) false
+pub count_stem : {D A : _} (old : Node D A) (s : Rc (Stem' D A) A) (b : ℕ × SparseMap) (x : ℕ) → old ≡ Stem s → IsWellFormed old → (tree_height old < 256) ⊎ (1 < len (held_by old)) → b ≡ s.value.below → x ≡ nodes b.0 b.1 false → 1 + x ≡ nodes (tree_height old) (held_by old) false
 count_stem old s b x is w more be xe =
     let ws : IsWellFormed (Stem s) = subst IsWellFormed is w in
     let sp = below_splits old s is w more in
@@ -262,7 +262,7 @@ count_stem old s b x is w more be xe =
     let turn : 1 + x ≡ x + 1 = omega arith in
     turn ∙ ap (λ j. j + 1) (xe ∙ ap (λ d. nodes d.0 d.1 false) be ∙ sym (nodes-split k m sp))
     ∙ sym (nodes-under k a m (splits_more m sp) (omega (arith, la, ws.formed.0)))
-    ∙ ap (λ j. nodes (k + j) (under a m) false) la ∙ sym (ap (λ d. nodes (height_of d) (held_by d) false) is)
+    ∙ ap (λ j. nodes (k + j) (under a m) false) la ∙ sym (ap (λ d. nodes (tree_height d) (held_by d) false) is)
 
 -- what splits is no run of bits
 stem_no_split : (bs : List Bool) (m : SparseMap) → 0 < length bs → ¬ Splits (under bs m)

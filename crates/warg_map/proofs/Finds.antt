@@ -11,7 +11,7 @@ use Rattle.warg_map.specs.Lone.{Lone}
 use Rattle.warg_map.specs.Bits.{bit_at, bits_from, last_bits}
 use Rattle.warg_map.specs.Sparse.{SparseMap, bits_cmp}
 use Rattle.warg_map.specs.Under.{under}
-use Rattle.warg_map.specs.Seen.{seen, height_of, held_by, IsWellFormed}
+use Rattle.warg_map.specs.Seen.{seen, tree_height, held_by, IsWellFormed}
 use Rattle.warg_map.proofs.Sparse.{bits_total, get-join_true, get-join_false, tied_itself_bits}
 use Rattle.warg_map.proofs.Under.{get-under, get-under_apart, lone-under, bits_from-part, last_bits-at, bits_from-append}
 
@@ -45,9 +45,9 @@ pub finds_leaf : {D A : _} (old : Node D A) (x : Rc (List ℕ) A) (bits : List B
 finds_leaf old x bits r is e h = ap Some h ∙ sym (ap (λ n. get (held_by n) bits) is ∙ ap (get (insert empty [] x.value)) e ∙ get-lone [] x.value)
 
 -- a path that shares all the bits of a lone key
-pub lone_same : {D A : _} (old : Node D A) (s : Rc Lone A) (hash : List ℕ) (from j : ℕ) → old ≡ Singleton s → height_of old + from ≡ 256 → j ≡ s.value.height → bits_from s.value.key from j ≡ bits_from hash from j → last_bits hash (256 - from) ≡ last_bits s.value.key s.value.height
+pub lone_same : {D A : _} (old : Node D A) (s : Rc Lone A) (hash : List ℕ) (from j : ℕ) → old ≡ Singleton s → tree_height old + from ≡ 256 → j ≡ s.value.height → bits_from s.value.key from j ≡ bits_from hash from j → last_bits hash (256 - from) ≡ last_bits s.value.key s.value.height
 lone_same old s hash from j is height all same =
-    let hs : s.value.height + from ≡ 256 = sym (ap (λ d. height_of d + from) is) ∙ height in
+    let hs : s.value.height + from ≡ 256 = sym (ap (λ d. tree_height d + from) is) ∙ height in
     let n : 256 - from ≡ s.value.height = omega (arith, hs) in
     let whole : from + s.value.height ≡ 256 = omega (arith, hs) in
     ap (last_bits hash) n ∙ last_bits-at hash from s.value.height whole ∙ ap (bits_from hash from) (sym all) ∙ sym same ∙ ap (bits_from s.value.key from) all ∙ sym (last_bits-at s.value.key from s.value.height whole)
@@ -60,9 +60,9 @@ finds_parted m held bits one key from j len k was e lt same apart =
     let mine : bits ≡ a ++ bit_at key (from + j) ∷ bits_from key (from + (j + 1)) (len + k - (j + 1)) = e ∙ bits_from-part key from j (len + k) (omega (arith, lt)) in
     sym (ap (λ t. get t bits) (was ∙ ap (λ t. under t m) split) ∙ ap (get (under (a ++ bit_at one (from + j) ∷ cs) m)) mine ∙ get-under_apart a (bit_at key (from + j)) (bit_at one (from + j)) cs _ m apart)
 
-pub finds_none_lone : {D A : _} (old : Node D A) (s : Rc Lone A) (bits : List Bool) (key : List ℕ) (from j : ℕ) → old ≡ Singleton s → bits ≡ last_bits key (256 - from) → height_of old + from ≡ 256 → j < s.value.height → bits_from s.value.key from j ≡ bits_from key from j → ¬ (bit_at s.value.key (from + j) ≡ bit_at key (from + j)) → None ≡ get (held_by old) bits
+pub finds_none_lone : {D A : _} (old : Node D A) (s : Rc Lone A) (bits : List Bool) (key : List ℕ) (from j : ℕ) → old ≡ Singleton s → bits ≡ last_bits key (256 - from) → tree_height old + from ≡ 256 → j < s.value.height → bits_from s.value.key from j ≡ bits_from key from j → ¬ (bit_at s.value.key (from + j) ≡ bit_at key (from + j)) → None ≡ get (held_by old) bits
 finds_none_lone old s bits key from j is e height lt same apart =
-    let hs : s.value.height + from ≡ 256 = sym (ap (λ d. height_of d + from) is) ∙ height in
+    let hs : s.value.height + from ≡ 256 = sym (ap (λ d. tree_height d + from) is) ∙ height in
     let whole : from + s.value.height ≡ 256 = omega (arith, hs) in
     let n : 256 - from ≡ s.value.height + 0 = omega (arith, hs) in
     let whole' : from + (s.value.height + 0) ≡ 256 = omega (arith, hs) in
@@ -70,10 +70,10 @@ finds_none_lone old s bits key from j is e height lt same apart =
     (ap held_by is ∙ ap (λ q. insert empty q s.value.value) (last_bits-at s.value.key from s.value.height whole) ∙ lone-under (bits_from s.value.key from s.value.height) s.value.value)
     (e ∙ ap (last_bits key) n ∙ last_bits-at key from (s.value.height + 0) whole') lt same apart
 
-pub finds_none_stem : {D A : _} (old : Node D A) (s : Rc (Stem' D A) A) (bits : List Bool) (key : List ℕ) (from j : ℕ) → old ≡ Stem s → IsWellFormed old → bits ≡ last_bits key (256 - from) → height_of old + from ≡ 256 → j < s.value.len → bits_from s.value.key from j ≡ bits_from key from j → ¬ (bit_at s.value.key (from + j) ≡ bit_at key (from + j)) → None ≡ get (held_by old) bits
+pub finds_none_stem : {D A : _} (old : Node D A) (s : Rc (Stem' D A) A) (bits : List Bool) (key : List ℕ) (from j : ℕ) → old ≡ Stem s → IsWellFormed old → bits ≡ last_bits key (256 - from) → tree_height old + from ≡ 256 → j < s.value.len → bits_from s.value.key from j ≡ bits_from key from j → ¬ (bit_at s.value.key (from + j) ≡ bit_at key (from + j)) → None ≡ get (held_by old) bits
 finds_none_stem old s bits key from j is w e height lt same apart =
     let ws : IsWellFormed (Stem s) = subst IsWellFormed is w in
-    let hs : s.value.below.0 + s.value.len + from ≡ 256 = sym (ap (λ d. height_of d + from) is) ∙ height in
+    let hs : s.value.below.0 + s.value.len + from ≡ 256 = sym (ap (λ d. tree_height d + from) is) ∙ height in
     let fr : s.value.from ≡ from = omega (arith, ws.level, hs) in
     let n : 256 - from ≡ s.value.len + s.value.below.0 = omega (arith, hs) in
     let whole : from + (s.value.len + s.value.below.0) ≡ 256 = omega (arith, hs) in
@@ -82,9 +82,9 @@ finds_none_stem old s bits key from j is w e height lt same apart =
     (e ∙ ap (last_bits key) n ∙ last_bits-at key from (s.value.len + s.value.below.0) whole) lt same apart
 
 -- the bits below a stem
-pub stem_bits : {D A : _} (old : Node D A) (s : Rc (Stem' D A) A) (bits low : List Bool) (key : List ℕ) (from len index : ℕ) → old ≡ Stem s → IsWellFormed old → bits ≡ last_bits key (256 - from) → height_of old + from ≡ 256 → len ≡ s.value.len → low ≡ last_bits key (256 - index) → index ≡ from + len → bits ≡ bits_from key from len ++ low
+pub stem_bits : {D A : _} (old : Node D A) (s : Rc (Stem' D A) A) (bits low : List Bool) (key : List ℕ) (from len index : ℕ) → old ≡ Stem s → IsWellFormed old → bits ≡ last_bits key (256 - from) → tree_height old + from ≡ 256 → len ≡ s.value.len → low ≡ last_bits key (256 - index) → index ≡ from + len → bits ≡ bits_from key from len ++ low
 stem_bits old s bits low key from len index is w e height el lo ix =
-    let hs : s.value.below.0 + s.value.len + from ≡ 256 = sym (ap (λ d. height_of d + from) is) ∙ height in
+    let hs : s.value.below.0 + s.value.len + from ≡ 256 = sym (ap (λ d. tree_height d + from) is) ∙ height in
     let k = s.value.below.0 in
     let n : 256 - from ≡ len + k = omega (arith, hs, el) in
     let k256 : k ≡ 256 - index = omega (arith, hs, el, ix) in
@@ -92,14 +92,14 @@ stem_bits old s bits low key from len index is w e height el lo ix =
     let whole' : from + len + k ≡ 256 = omega (arith, hs, el) in
     e ∙ ap (last_bits key) n ∙ last_bits-at key from (len + k) whole ∙ bits_from-append key from len k ∙ ap (λ t. bits_from key from len ++ t) (sym (last_bits-at key (from + len) k whole') ∙ ap (last_bits key) k256 ∙ sym lo)
 
-pub stem_held : {D A : _} (old : Node D A) (s : Rc (Stem' D A) A) (key : List ℕ) (from len : ℕ) → old ≡ Stem s → IsWellFormed old → height_of old + from ≡ 256 → len ≡ s.value.len → bits_from s.value.key from len ≡ bits_from key from len → seen old ≡ (s.value.below.0 + len, under (bits_from key from len) s.value.below.1)
+pub stem_held : {D A : _} (old : Node D A) (s : Rc (Stem' D A) A) (key : List ℕ) (from len : ℕ) → old ≡ Stem s → IsWellFormed old → tree_height old + from ≡ 256 → len ≡ s.value.len → bits_from s.value.key from len ≡ bits_from key from len → seen old ≡ (s.value.below.0 + len, under (bits_from key from len) s.value.below.1)
 stem_held old s key from len is w height el same =
     let ws : IsWellFormed (Stem s) = subst IsWellFormed is w in
-    let hs : s.value.below.0 + s.value.len + from ≡ 256 = sym (ap (λ d. height_of d + from) is) ∙ height in
+    let hs : s.value.below.0 + s.value.len + from ≡ 256 = sym (ap (λ d. tree_height d + from) is) ∙ height in
     let fr : s.value.from ≡ from = omega (arith, ws.level, hs) in
     ap seen is ∙ ap (λ j. (s.value.below.0 + s.value.len, under (bits_from s.value.key j s.value.len) s.value.below.1)) fr ∙ ap (λ j. (s.value.below.0 + j, under (bits_from s.value.key from j) s.value.below.1)) (sym el) ∙ ap (λ t. (s.value.below.0 + len, under t s.value.below.1)) same
 
-pub finds_below : {D A : _} (old below : Node D A) (s : Rc (Stem' D A) A) (bits low : List Bool) (key : List ℕ) (from len index : ℕ) (r : Option (List ℕ)) → old ≡ Stem s → IsWellFormed old → bits ≡ last_bits key (256 - from) → height_of old + from ≡ 256 → len ≡ s.value.len → bits_from s.value.key from len ≡ bits_from key from len → seen below ≡ s.value.below → low ≡ last_bits key (256 - index) → index ≡ from + len → r ≡ get (held_by below) low → r ≡ get (held_by old) bits
+pub finds_below : {D A : _} (old below : Node D A) (s : Rc (Stem' D A) A) (bits low : List Bool) (key : List ℕ) (from len index : ℕ) (r : Option (List ℕ)) → old ≡ Stem s → IsWellFormed old → bits ≡ last_bits key (256 - from) → tree_height old + from ≡ 256 → len ≡ s.value.len → bits_from s.value.key from len ≡ bits_from key from len → seen below ≡ s.value.below → low ≡ last_bits key (256 - index) → index ≡ from + len → r ≡ get (held_by below) low → r ≡ get (held_by old) bits
 finds_below old below s bits low key from len index r is w e height el same b lo ix h =
     h ∙ ap (λ d. get d.1 low) b ∙ sym (get-under (bits_from key from len) low s.value.below.1)
     ∙ sym (ap (λ d. get d.1 bits) (stem_held old s key from len is w height el same) ∙ ap (get (under (bits_from key from len) s.value.below.1)) (stem_bits old s bits low key from len index is w e height el lo ix))
@@ -111,7 +111,7 @@ all_shared key hash from shared len most least same =
     rw all at same
 
 -- such a path finds below the stem what it finds from the stem on
-pub held_below : {D A : _} (old below : Node D A) (s : Rc (Stem' D A) A) (hash rest : List ℕ) (from shared index : ℕ) → old ≡ Stem s → IsWellFormed old → height_of old + from ≡ 256 → shared ≤ s.value.len → s.value.len ≤ shared → bits_from s.value.key from shared ≡ bits_from hash from shared → seen below ≡ s.value.below → rest ≡ hash → index ≡ from + s.value.len → contains_key (held_by below) (last_bits rest (256 - index)) ≡ contains_key (held_by old) (last_bits hash (256 - from))
+pub held_below : {D A : _} (old below : Node D A) (s : Rc (Stem' D A) A) (hash rest : List ℕ) (from shared index : ℕ) → old ≡ Stem s → IsWellFormed old → tree_height old + from ≡ 256 → shared ≤ s.value.len → s.value.len ≤ shared → bits_from s.value.key from shared ≡ bits_from hash from shared → seen below ≡ s.value.below → rest ≡ hash → index ≡ from + s.value.len → contains_key (held_by below) (last_bits rest (256 - index)) ≡ contains_key (held_by old) (last_bits hash (256 - from))
 held_below old below s hash rest from shared index is w height most least same b digest ix =
     ap is_some (finds_below old below s _ _ hash from s.value.len index _ is w refl height refl (all_shared s.value.key hash from shared s.value.len most least same) b (ap (λ y. last_bits y (256 - index)) digest) ix refl)
 

@@ -11,7 +11,7 @@ use Rattle.warg_map.specs.Lone.{Lone}
 use Rattle.warg_map.specs.Bits.{bit_at, bits_from, last_bits}
 use Rattle.warg_map.specs.Sparse.{SparseMap, bits_cmp}
 use Rattle.warg_map.specs.Under.{join, join_at, under, HoldsKey, Splits, IsLone}
-use Rattle.warg_map.specs.Seen.{seen, height_of, held_by, IsWellFormed, IsForkOf, IsSeen, Carries}
+use Rattle.warg_map.specs.Seen.{seen, tree_height, held_by, IsWellFormed, IsForkOf, IsSeen, Carries}
 use Rattle.warg_map.proofs.Sparse.{bits_total, get-join_true, get-join_false, contains_key-join_at, contains_key-insert_same, last_bits-step, length-bits_from}
 use Rattle.warg_map.proofs.Under.{under-append, under-none, bits_from-none, bits_from-append, last_bits-at, under_same, holds-under}
 
@@ -41,7 +41,7 @@ fork_formed false near far f h e lt n o =
       formed = (subst (λ (d : ℕ × SparseMap). HoldsKey d.1) (sym h.left) n, subst (λ (d : ℕ × SparseMap). HoldsKey d.1) (sym h.right) o);
     }
 
-pub fork_has : {D A : _} (b : Bool) (near far : ℕ × SparseMap) (f : Rc (Fork' D A) A) (key : List ℕ) → IsForkOf b near far f.value → near.0 ≡ far.0 → near.0 < 256 → bit_at key (255 - near.0) ≡ b → contains_key near.1 (last_bits key near.0) ≡ true → contains_key (held_by (Fork f)) (last_bits key (height_of (Fork f))) ≡ true
+pub fork_has : {D A : _} (b : Bool) (near far : ℕ × SparseMap) (f : Rc (Fork' D A) A) (key : List ℕ) → IsForkOf b near far f.value → near.0 ≡ far.0 → near.0 < 256 → bit_at key (255 - near.0) ≡ b → contains_key near.1 (last_bits key near.0) ≡ true → contains_key (held_by (Fork f)) (last_bits key (tree_height (Fork f))) ≡ true
 fork_has b near far f key h e lt at has =
     subst (λ (d : ℕ × SparseMap). contains_key d.1 (last_bits key d.0) ≡ true) (sym (fork_held b near far f h e))
     (ap (contains_key (join_at b near.1 far.1)) (last_bits-step key near.0 lt ∙ ap (λ x. x ∷ last_bits key near.0) at) ∙ contains_key-join_at b near.1 far.1 (last_bits key near.0) ∙ has)
@@ -85,28 +85,28 @@ pub lone_no_split : (p : List Bool) (v : List ℕ) → ¬ Splits (insert empty p
 lone_no_split p v s = no_lone p s.0.0 s.1.0 (lone_tied p _ v s.0.1) (lone_tied p _ v s.1.1)
 
 -- what stands below bits
-formed_below : {D A : _} (node : Node D A) (from len : ℕ) → IsWellFormed node → Carries node → ((s : Rc (Stem' D A) A) → node ≡ Stem s → ⊥) → ¬ (len ≡ 0) → from + len + height_of node ≡ 256 → Splits (held_by node) ⊎ ((len ≡ 1) × (height_of node ≡ 255) × IsLone (held_by node))
+formed_below : {D A : _} (node : Node D A) (from len : ℕ) → IsWellFormed node → Carries node → ((s : Rc (Stem' D A) A) → node ≡ Stem s → ⊥) → ¬ (len ≡ 0) → from + len + tree_height node ≡ 256 → Splits (held_by node) ⊎ ((len ≡ 1) × (tree_height node ≡ 255) × IsLone (held_by node))
 formed_below (Leaf d) from len w c n z h = absurd c
 formed_below (Fork f) from len w c n z h = inl (splits_join f.value.left.1 f.value.right.1 w.formed.0 w.formed.1)
 formed_below (Singleton s) from len w c n z h = inr (omega (arith, c, h, z), c, (last_bits s.value.key s.value.height, s.value.value, refl))
 formed_below (Stem s) from len w c n z h = absurd (n s refl)
 formed_below (Empty k) from len w c n z h = absurd c
 
-pub raised_none : {D A : _} (n : Node D A) (key : List ℕ) (from len : ℕ) → len ≡ 0 → IsWellFormed n → IsSeen n (height_of n + len) (under (bits_from key from len) (held_by n))
+pub raised_none : {D A : _} (n : Node D A) (key : List ℕ) (from len : ℕ) → len ≡ 0 → IsWellFormed n → IsSeen n (tree_height n + len) (under (bits_from key from len) (held_by n))
 raised_none n key from len h w =
-    let e : height_of n ≡ height_of n + len = omega (arith, h) in
+    let e : tree_height n ≡ tree_height n + len = omega (arith, h) in
     record {
-      seen_as = ap (λ j. (j, held_by n)) e ∙ ap (λ m. (height_of n + len, m)) (sym (under-none (held_by n)) ∙ ap (λ t. under t (held_by n)) (sym (bits_from-none key from)) ∙ ap (λ j. under (bits_from key from j) (held_by n)) (sym h));
+      seen_as = ap (λ j. (j, held_by n)) e ∙ ap (λ m. (tree_height n + len, m)) (sym (under-none (held_by n)) ∙ ap (λ t. under t (held_by n)) (sym (bits_from-none key from)) ∙ ap (λ j. under (bits_from key from j) (held_by n)) (sym h));
       well_formed = w;
     }
 
-pub raised_other : {D A : _} (node : Node D A) (s : Rc (Stem' D A) A) (key : List ℕ) (from len : ℕ) → IsWellFormed node → Carries node → ((x : Rc (Stem' D A) A) → node ≡ Stem x → ⊥) → ¬ (len ≡ 0) → from + len + height_of node ≡ 256 → s.value.key ≡ key → s.value.from ≡ from → s.value.len ≡ len → s.value.below ≡ seen node → IsSeen (Stem s) (height_of node + len) (under (bits_from key from len) (held_by node))
+pub raised_other : {D A : _} (node : Node D A) (s : Rc (Stem' D A) A) (key : List ℕ) (from len : ℕ) → IsWellFormed node → Carries node → ((x : Rc (Stem' D A) A) → node ≡ Stem x → ⊥) → ¬ (len ≡ 0) → from + len + tree_height node ≡ 256 → s.value.key ≡ key → s.value.from ≡ from → s.value.len ≡ len → s.value.below ≡ seen node → IsSeen (Stem s) (tree_height node + len) (under (bits_from key from len) (held_by node))
 raised_other node s key from len w c n z h ek ef el eb =
     record {
-      seen_as = ap (λ d. (d.0 + s.value.len, under (bits_from s.value.key s.value.from s.value.len) d.1)) eb ∙ ap (λ j. (height_of node + j, under (bits_from s.value.key s.value.from j) (held_by node))) el ∙ ap (λ j. (height_of node + len, under (bits_from s.value.key j len) (held_by node))) ef ∙ ap (λ j. (height_of node + len, under (bits_from j from len) (held_by node))) ek;
+      seen_as = ap (λ d. (d.0 + s.value.len, under (bits_from s.value.key s.value.from s.value.len) d.1)) eb ∙ ap (λ j. (tree_height node + j, under (bits_from s.value.key s.value.from j) (held_by node))) el ∙ ap (λ j. (tree_height node + len, under (bits_from s.value.key j len) (held_by node))) ef ∙ ap (λ j. (tree_height node + len, under (bits_from j from len) (held_by node))) ek;
       well_formed = record {
         level = ap (λ j. j + s.value.len + s.value.below.0) ef ∙ ap (λ j. from + j + s.value.below.0) el ∙ ap (λ d. from + len + d.0) eb ∙ h;
-        formed = (omega (arith, el, z), subst (λ (d : ℕ × SparseMap). Splits d.1 ⊎ ((s.value.len ≡ 1) × (d.0 ≡ 255) × IsLone d.1)) (sym eb) (subst (λ (j : ℕ). Splits (held_by node) ⊎ ((j ≡ 1) × (height_of node ≡ 255) × IsLone (held_by node))) (sym el) (formed_below node from len w c n z h)));
+        formed = (omega (arith, el, z), subst (λ (d : ℕ × SparseMap). Splits d.1 ⊎ ((s.value.len ≡ 1) × (d.0 ≡ 255) × IsLone d.1)) (sym eb) (subst (λ (j : ℕ). Splits (held_by node) ⊎ ((j ≡ 1) × (tree_height node ≡ 255) × IsLone (held_by node))) (sym el) (formed_below node from len w c n z h)));
       };
     }
 
@@ -133,19 +133,19 @@ stem_more lower s key from len w z h has ek ef el eb =
       };
     }
 
-pub raised_stem : {D A : _} (node : Node D A) (lower s : Rc (Stem' D A) A) (key : List ℕ) (from len : ℕ) → node ≡ Stem lower → IsWellFormed node → ¬ (len ≡ 0) → from + len + height_of node ≡ 256 → contains_key (held_by node) (last_bits key (height_of node)) ≡ true → s.value.key ≡ key → s.value.from ≡ from → s.value.len ≡ len + lower.value.len → s.value.below ≡ lower.value.below → IsSeen (Stem s) (height_of node + len) (under (bits_from key from len) (held_by node))
+pub raised_stem : {D A : _} (node : Node D A) (lower s : Rc (Stem' D A) A) (key : List ℕ) (from len : ℕ) → node ≡ Stem lower → IsWellFormed node → ¬ (len ≡ 0) → from + len + tree_height node ≡ 256 → contains_key (held_by node) (last_bits key (tree_height node)) ≡ true → s.value.key ≡ key → s.value.from ≡ from → s.value.len ≡ len + lower.value.len → s.value.below ≡ lower.value.below → IsSeen (Stem s) (tree_height node + len) (under (bits_from key from len) (held_by node))
 raised_stem node lower s key from len is w z h has ek ef el eb =
     rw is (stem_more lower s key from len (subst IsWellFormed is w) z (rw is at h) (rw is at has) ek ef el eb)
 
 -- what stands below a stem after an insertion
-splits_carries : {D A : _} (node : Node D A) → IsWellFormed node → height_of node < 256 → Splits (held_by node) → Carries node
+splits_carries : {D A : _} (node : Node D A) → IsWellFormed node → tree_height node < 256 → Splits (held_by node) → Carries node
 splits_carries (Leaf d) w h s = lone_no_split [] d.value s
 splits_carries (Fork f) w h s = tt
 splits_carries (Singleton l) w h s = absurd (lone_no_split (last_bits l.value.key l.value.height) l.value.value s)
 splits_carries (Stem t) w h s = tt
 splits_carries (Empty n) w h s = omega (arith, w.formed, h)
 
-high_carries : {D A : _} (node : Node D A) → IsWellFormed node → height_of node ≡ 255 → Carries node
+high_carries : {D A : _} (node : Node D A) → IsWellFormed node → tree_height node ≡ 255 → Carries node
 high_carries (Leaf d) w h = omega (arith, h)
 high_carries (Fork f) w h = tt
 high_carries (Singleton l) w h = h
@@ -154,11 +154,11 @@ high_carries (Empty n) w h = omega (arith, w.formed, h)
 
 after_by : {D A : _} (len from k : ℕ) (m : SparseMap) (p : List Bool) (v : List ℕ) (node : Node D A) → from + len + k ≡ 256 → 0 < len → Splits m ⊎ ((len ≡ 1) × (k ≡ 255) × IsLone m) → IsWellFormed node → seen node ≡ (k, insert m p v) → Carries node
 after_by len from k m p v node lev some (inl s) w e =
-    let h : height_of node ≡ k = ap (λ d. d.0) e in
+    let h : tree_height node ≡ k = ap (λ d. d.0) e in
     splits_carries node w (omega (arith, h, lev, some)) (subst (λ (d : ℕ × SparseMap). Splits d.1) (sym e) (splits_after m p v s))
 after_by len from k m p v node lev some (inr o) w e = high_carries node w (ap (λ d. d.0) e ∙ o.1)
 
-pub after_carries : {D A : _} (old : Node D A) (s : Rc (Stem' D A) A) (below node : Node D A) (p : List Bool) (v : List ℕ) → old ≡ Stem s → IsWellFormed old → seen below ≡ s.value.below → IsWellFormed node → seen node ≡ (height_of below, insert (held_by below) p v) → Carries node
+pub after_carries : {D A : _} (old : Node D A) (s : Rc (Stem' D A) A) (below node : Node D A) (p : List Bool) (v : List ℕ) → old ≡ Stem s → IsWellFormed old → seen below ≡ s.value.below → IsWellFormed node → seen node ≡ (tree_height below, insert (held_by below) p v) → Carries node
 after_carries old s below node p v is w b wn e =
     let ws : IsWellFormed (Stem s) = subst IsWellFormed is w in
     after_by s.value.len s.value.from s.value.below.0 s.value.below.1 p v node ws.level ws.formed.0 ws.formed.1 wn (e ∙ ap (λ d. (d.0, insert d.1 p v)) b)

@@ -7,7 +7,7 @@ use Rattle.std.specs.Prelude.{reverse}
 use Rattle.std.specs.FinMap.{get, insert, get-insert}
 use Rattle.std.specs.Ordering.{eq_by_cmp}
 use Rattle.warg_crypto.specs.EmptyTrees.{empty_root}
-use Rattle.warg_map.specs.Sparse.{SparseMap, bits_cmp, root_of, sparse_root}
+use Rattle.warg_map.specs.Sparse.{SparseMap, bits_cmp, root_of_levels, sparse_root}
 use Rattle.warg_map.specs.ProofValue.{peer_of, proof_value}
 use Rattle.warg_map.specs.Peers.{IsPeers, IsAbsentPeers, IsOther, Proves, ProvesAbsent}
 use Rattle.warg_map.proofs.Sparse.{bits_total, same_sparse, root-nothing, root-same, tied_itself_bits}
@@ -18,7 +18,7 @@ use Rattle.warg_map.proofs.Peers.{length_peers}
 unfoldable pub Explains : (List ℕ → List ℕ) → (List Bool → Option (List ℕ)) → List Bool → List (Option (List ℕ)) → Type 0
 Explains H m bits [] = (q : List Bool) → ¬ (q ≡ bits) → m q ≡ None
 Explains H m [] (o ∷ os) = ⊥
-Explains H m (b ∷ bits) (o ∷ os) = (unwrap_or o (empty_root H (length bits)) ≡ root_of H (length bits) (λ q. m (not b ∷ q))) × Explains H (λ q. m (b ∷ q)) bits os
+Explains H m (b ∷ bits) (o ∷ os) = (unwrap_or o (empty_root H (length bits)) ≡ root_of_levels H (length bits) (λ q. m (not b ∷ q))) × Explains H (λ q. m (b ∷ q)) bits os
 
 -- a missing peer
 missing : (b : Bool) (x y : List ℕ) → b ≡ true → cond b x y ≡ x
@@ -49,13 +49,13 @@ peer_there H peers before os o i e place few =
     ∙ sym (get_or-reverse peers (length before) None (omega (arith, n)))
     ∙ ap (λ xs. get_or xs (length before) None) e ∙ at_end before o os)
 
-other_none : (H : List ℕ → List ℕ) (k : ℕ) (m : List Bool → Option (List ℕ)) → ((q : List Bool) → m q ≡ None) → root_of H k m ≡ empty_root H k
+other_none : (H : List ℕ → List ℕ) (k : ℕ) (m : List Bool → Option (List ℕ)) → ((q : List Bool) → m q ≡ None) → root_of_levels H k m ≡ empty_root H k
 other_none H k m h = root-same H k m (λ q. None) h ∙ root-nothing H k
 
-branch : (H : List ℕ → List ℕ) (b : Bool) (k : ℕ) (m : List Bool → Option (List ℕ)) (x y : List ℕ) → x ≡ root_of H k (λ q. m (not b ∷ q)) → y ≡ root_of H k (λ q. m (b ∷ q)) → H (1 ∷ cond b (x ++ y) (y ++ x)) ≡ root_of H (suc k) m
-unfolding root_of
-branch H true k m x y e f = ap (λ z. H (1 ∷ (z ++ y))) e ∙ ap (λ z. H (1 ∷ (root_of H k (λ q. m (false ∷ q)) ++ z))) f
-branch H false k m x y e f = ap (λ z. H (1 ∷ (z ++ x))) f ∙ ap (λ z. H (1 ∷ (root_of H k (λ q. m (false ∷ q)) ++ z))) e
+branch : (H : List ℕ → List ℕ) (b : Bool) (k : ℕ) (m : List Bool → Option (List ℕ)) (x y : List ℕ) → x ≡ root_of_levels H k (λ q. m (not b ∷ q)) → y ≡ root_of_levels H k (λ q. m (b ∷ q)) → H (1 ∷ cond b (x ++ y) (y ++ x)) ≡ root_of_levels H (suc k) m
+unfolding root_of_levels
+branch H true k m x y e f = ap (λ z. H (1 ∷ (z ++ y))) e ∙ ap (λ z. H (1 ∷ (root_of_levels H k (λ q. m (false ∷ q)) ++ z))) f
+branch H false k m x y e f = ap (λ z. H (1 ∷ (z ++ x))) f ∙ ap (λ z. H (1 ∷ (root_of_levels H k (λ q. m (false ∷ q)) ++ z))) e
 
 head_differs : (b : Bool) (q p : List Bool) → ¬ (not b ∷ q ≡ b ∷ p)
 head_differs true q p e = cc
@@ -65,15 +65,15 @@ pub tail_is : (b : Bool) (q p : List Bool) → b ∷ q ≡ b ∷ p → q ≡ p
 tail_is b q p e = cc
 
 -- below the last peer
-pub honest_low : (H : List ℕ → List ℕ) (bits : List Bool) (m : List Bool → Option (List ℕ)) (peers : List (Option (List ℕ))) (v : List ℕ) → length bits + length peers ≤ 256 → ((q : List Bool) → ¬ (q ≡ bits) → m q ≡ None) → unwrap_or (m bits) (empty_root H 0) ≡ v → proof_value H peers v bits ≡ root_of H (length bits) m
-unfolding proof_value root_of empty_root
+pub honest_low : (H : List ℕ → List ℕ) (bits : List Bool) (m : List Bool → Option (List ℕ)) (peers : List (Option (List ℕ))) (v : List ℕ) → length bits + length peers ≤ 256 → ((q : List Bool) → ¬ (q ≡ bits) → m q ≡ None) → unwrap_or (m bits) (empty_root H 0) ≡ v → proof_value H peers v bits ≡ root_of_levels H (length bits) m
+unfolding proof_value root_of_levels empty_root
 honest_low H [] m peers v few h e = sym e
 honest_low H (b ∷ bits) m peers v few h e =
     branch H b (length bits) m (peer_of H peers (length bits)) (proof_value H peers v bits)
     (peer_missing H peers (length bits) (omega (arith, few)) ∙ sym (other_none H (length bits) (λ q. m (not b ∷ q)) (λ q. h (not b ∷ q) (head_differs b q bits))))
     (honest_low H bits (λ q. m (b ∷ q)) peers v (omega (arith, few)) (λ q n. h (b ∷ q) (λ x. n (tail_is b q bits x))) e)
 
-pub honest : (H : List ℕ → List ℕ) (bits : List Bool) (m : List Bool → Option (List ℕ)) (peers before os : List (Option (List ℕ))) (v : List ℕ) → reverse peers ≡ before ++ os → length before + length bits ≡ 256 → length peers ≤ 256 → Explains H m bits os → unwrap_or (m bits) (empty_root H 0) ≡ v → proof_value H peers v bits ≡ root_of H (length bits) m
+pub honest : (H : List ℕ → List ℕ) (bits : List Bool) (m : List Bool → Option (List ℕ)) (peers before os : List (Option (List ℕ))) (v : List ℕ) → reverse peers ≡ before ++ os → length before + length bits ≡ 256 → length peers ≤ 256 → Explains H m bits os → unwrap_or (m bits) (empty_root H 0) ≡ v → proof_value H peers v bits ≡ root_of_levels H (length bits) m
 unfolding proof_value Explains
 honest H bits m peers before [] v e place few h u =
     let n : length peers ≡ length before + 0 = sym (length-reverse peers) ∙ ap length e ∙ length_peers before [] in
@@ -91,7 +91,7 @@ explains_held H bits m [] h = h
 explains_held H [] m (o ∷ os) h = h
 explains_held H (b ∷ bits) m (o ∷ os) h = (ap (λ x. unwrap_or x (empty_root H (length bits))) h.0, explains_held H bits (λ q. m (b ∷ q)) os h.1)
 
-explains_other : (H : List ℕ → List ℕ) (k : ℕ) (m : List Bool → Option (List ℕ)) (o : Option (List ℕ)) → IsOther H k m o → unwrap_or o (empty_root H k) ≡ root_of H k m
+explains_other : (H : List ℕ → List ℕ) (k : ℕ) (m : List Bool → Option (List ℕ)) (o : Option (List ℕ)) → IsOther H k m o → unwrap_or o (empty_root H k) ≡ root_of_levels H k m
 explains_other H k m o (inl h) = ap (λ x. unwrap_or x (empty_root H k)) h.0 ∙ sym (other_none H k m h.1)
 explains_other H k m o (inr h) = ap (λ x. unwrap_or x (empty_root H k)) h.0
 

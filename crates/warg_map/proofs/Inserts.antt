@@ -10,7 +10,7 @@ use Rattle.warg_map.specs.Lone.{Lone, held_alone}
 use Rattle.warg_map.specs.Bits.{bit_at, bits_from, last_bits}
 use Rattle.warg_map.specs.Sparse.{SparseMap}
 use Rattle.warg_map.specs.Under.{join_at, under, HoldsKey}
-use Rattle.warg_map.specs.Seen.{seen, height_of, held_by, IsWellFormed, Inserts, IsForkOf, IsSeen}
+use Rattle.warg_map.specs.Seen.{seen, tree_height, held_by, IsWellFormed, Inserts, IsForkOf, IsSeen}
 use Rattle.warg_map.proofs.Sparse.{insert-join_at, contains_key-join_at, contains_key-empty, contains_key-insert_same, insert-again, last_bits-first, last_bits-zero}
 use Rattle.warg_map.proofs.Under.{insert-under, get-under, insert-under_apart, get-under_apart, lone-under, lone-append, bits_from-part, last_bits-at, bits_from-append}
 use Rattle.warg_map.proofs.Form.{fork_held, fork_formed}
@@ -129,10 +129,10 @@ lone_parted s n bits key v from j far e lt whole same apart fs h =
     (e ∙ ap (bits_from key from) z) lt (omega (arith, whole)) same apart (ap (λ d. d.0) fs) r
     (ap (λ d. d.1) fs ∙ ap (λ i. insert empty (last_bits s.key i) s.value) r' ∙ ap (λ q. insert empty q s.value) (last_bits-at s.key (from + (j + 1)) (s.height - (j + 1)) place) ∙ lone-under _ s.value) h
 
-pub stem_parted : {D A : _} (old : Node D A) (s : Rc (Stem' D A) A) (n : Node D A) (bits : List Bool) (key hash v : List ℕ) (from j : ℕ) (far : ℕ × SparseMap) → old ≡ Stem s → IsWellFormed old → bits ≡ last_bits hash (256 - from) → key ≡ hash → height_of old + from ≡ 256 → j < s.value.len → bits_from s.value.key from j ≡ bits_from key from j → ¬ (bit_at s.value.key (from + j) ≡ bit_at key (from + j)) → far ≡ (s.value.below.0 + (s.value.len - (j + 1)), under (bits_from s.value.key (s.value.from + (j + 1)) (s.value.len - (j + 1))) s.value.below.1) → IsSeen n (256 - from) (under (bits_from key from j) (join_at (bit_at key (from + j)) (insert empty (last_bits key far.0) v) far.1)) → Inserts (seen old) bits v n true
+pub stem_parted : {D A : _} (old : Node D A) (s : Rc (Stem' D A) A) (n : Node D A) (bits : List Bool) (key hash v : List ℕ) (from j : ℕ) (far : ℕ × SparseMap) → old ≡ Stem s → IsWellFormed old → bits ≡ last_bits hash (256 - from) → key ≡ hash → tree_height old + from ≡ 256 → j < s.value.len → bits_from s.value.key from j ≡ bits_from key from j → ¬ (bit_at s.value.key (from + j) ≡ bit_at key (from + j)) → far ≡ (s.value.below.0 + (s.value.len - (j + 1)), under (bits_from s.value.key (s.value.from + (j + 1)) (s.value.len - (j + 1))) s.value.below.1) → IsSeen n (256 - from) (under (bits_from key from j) (join_at (bit_at key (from + j)) (insert empty (last_bits key far.0) v) far.1)) → Inserts (seen old) bits v n true
 stem_parted old s n bits key hash v from j far is w e kh height lt same apart fs h =
     let ws : IsWellFormed (Stem s) = subst IsWellFormed is w in
-    let hs : s.value.below.0 + s.value.len + from ≡ 256 = sym (ap (λ d. height_of d + from) is) ∙ height in
+    let hs : s.value.below.0 + s.value.len + from ≡ 256 = sym (ap (λ d. tree_height d + from) is) ∙ height in
     let fr : s.value.from ≡ from = omega (arith, ws.level, hs) in
     let turn : s.value.below.0 + s.value.len ≡ s.value.len + s.value.below.0 = omega arith in
     let whole : from + (s.value.len + s.value.below.0) ≡ 256 = omega (arith, hs) in
@@ -144,10 +144,10 @@ stem_parted old s n bits key hash v from j far is w e kh height lt same apart fs
     (ap (λ d. d.0) fs) r (ap (λ d. d.1) fs ∙ ap (λ i. under (bits_from s.value.key (i + (j + 1)) (s.value.len - (j + 1))) s.value.below.1) fr) h
 
 -- an insertion below all the bits of a stem
-pub inserts_below : {D A : _} (old : Node D A) (s : Rc (Stem' D A) A) (below node n : Node D A) (bits low : List Bool) (key hash v : List ℕ) (from len index : ℕ) (fresh : Bool) → old ≡ Stem s → IsWellFormed old → height_of old + from ≡ 256 → bits ≡ last_bits hash (256 - from) → key ≡ hash → len ≡ s.value.len → bits_from s.value.key from len ≡ bits_from key from len → seen below ≡ s.value.below → low ≡ last_bits hash (256 - index) → index ≡ from + len → Inserts (seen below) low v node fresh → IsSeen n (height_of node + len) (under (bits_from key from len) (held_by node)) → Inserts (seen old) bits v n fresh
+pub inserts_below : {D A : _} (old : Node D A) (s : Rc (Stem' D A) A) (below node n : Node D A) (bits low : List Bool) (key hash v : List ℕ) (from len index : ℕ) (fresh : Bool) → old ≡ Stem s → IsWellFormed old → tree_height old + from ≡ 256 → bits ≡ last_bits hash (256 - from) → key ≡ hash → len ≡ s.value.len → bits_from s.value.key from len ≡ bits_from key from len → seen below ≡ s.value.below → low ≡ last_bits hash (256 - index) → index ≡ from + len → Inserts (seen below) low v node fresh → IsSeen n (tree_height node + len) (under (bits_from key from len) (held_by node)) → Inserts (seen old) bits v n fresh
 inserts_below old s below node n bits low key hash v from len index fresh is w height e kh el same b lo ix ins h =
     let ws : IsWellFormed (Stem s) = subst IsWellFormed is w in
-    let hs : s.value.below.0 + s.value.len + from ≡ 256 = sym (ap (λ d. height_of d + from) is) ∙ height in
+    let hs : s.value.below.0 + s.value.len + from ≡ 256 = sym (ap (λ d. tree_height d + from) is) ∙ height in
     let fr : s.value.from ≡ from = omega (arith, ws.level, hs) in
     let k = s.value.below.0 in
     let m = s.value.below.1 in
@@ -169,19 +169,19 @@ inserts_below old s below node n bits low key hash v from len index fresh is w h
     })
 
 -- what was inserted is held
-pub has_inserted : {D A : _} (below node : Node D A) (low : List Bool) (key hash v : List ℕ) (index : ℕ) (fresh : Bool) → Inserts (seen below) low v node fresh → low ≡ last_bits hash (256 - index) → key ≡ hash → height_of below + index ≡ 256 → contains_key (held_by node) (last_bits key (height_of node)) ≡ true
+pub has_inserted : {D A : _} (below node : Node D A) (low : List Bool) (key hash v : List ℕ) (index : ℕ) (fresh : Bool) → Inserts (seen below) low v node fresh → low ≡ last_bits hash (256 - index) → key ≡ hash → tree_height below + index ≡ 256 → contains_key (held_by node) (last_bits key (tree_height node)) ≡ true
 has_inserted below node low key hash v index fresh ins lo kh height =
-    let k256 : 256 - index ≡ height_of below = omega (arith, height) in
-    let q : last_bits key (height_of below) ≡ low = ap (λ y. last_bits y (height_of below)) kh ∙ sym (ap (last_bits hash) k256) ∙ sym lo in
+    let k256 : 256 - index ≡ tree_height below = omega (arith, height) in
+    let q : last_bits key (tree_height below) ≡ low = ap (λ y. last_bits y (tree_height below)) kh ∙ sym (ap (last_bits hash) k256) ∙ sym lo in
     subst (λ (d : ℕ × SparseMap). contains_key d.1 (last_bits key d.0) ≡ true) (sym ins.seen_as)
     (ap (contains_key (insert (held_by below) low v)) q ∙ contains_key-insert_same (held_by below) low v)
 
 -- the first key
-pub inserts_first : {D A : _} (old n : Node D A) (k : ℕ) (s : Rc Lone A) (bits : List Bool) (key hash v : List ℕ) (index : ℕ) → old ≡ Empty k → IsWellFormed old → height_of old + index ≡ 256 → bits ≡ last_bits hash (256 - index) → key ≡ hash → s.value.key ≡ key → s.value.height ≡ 255 → s.value.value ≡ v → IsSeen n (s.value.height + 1) (under (bits_from key 0 1) (insert empty (last_bits s.value.key s.value.height) s.value.value)) → Inserts (seen old) bits v n true
+pub inserts_first : {D A : _} (old n : Node D A) (k : ℕ) (s : Rc Lone A) (bits : List Bool) (key hash v : List ℕ) (index : ℕ) → old ≡ Empty k → IsWellFormed old → tree_height old + index ≡ 256 → bits ≡ last_bits hash (256 - index) → key ≡ hash → s.value.key ≡ key → s.value.height ≡ 255 → s.value.value ≡ v → IsSeen n (s.value.height + 1) (under (bits_from key 0 1) (insert empty (last_bits s.value.key s.value.height) s.value.value)) → Inserts (seen old) bits v n true
 inserts_first old n k s bits key hash v index is w height e kh ek eh ev h =
     let wk : IsWellFormed (Empty k) = subst IsWellFormed is w in
     let k256 : k ≡ 256 = wk.formed in
-    let i0 : 256 - index ≡ 1 + 255 = let hk : k + index ≡ 256 = sym (ap (λ d. height_of d + index) is) ∙ height in omega (arith, hk, k256) in
+    let i0 : 256 - index ≡ 1 + 255 = let hk : k + index ≡ 256 = sym (ap (λ d. tree_height d + index) is) ∙ height in omega (arith, hk, k256) in
     let a = bits_from key 0 1 in
     let p = last_bits key 255 in
     let mine : bits ≡ a ++ p = e ∙ ap (λ y. last_bits y (256 - index)) (sym kh) ∙ ap (last_bits key) i0 ∙ bits_from-append key 0 1 255 in

@@ -13,9 +13,9 @@ use Rattle.warg_map.specs.declared.stem.Stem.{Stem as Stem'}
 use Rattle.warg_map.specs.Lone.{Lone}
 use Rattle.warg_crypto.specs.EmptyTrees.{empty_root}
 use Rattle.warg_map.specs.Bits.{last_bits, bits_from}
-use Rattle.warg_map.specs.Sparse.{SparseMap, bits_cmp, root_of, sparse_root}
+use Rattle.warg_map.specs.Sparse.{SparseMap, bits_cmp, root_of_levels, sparse_root}
 use Rattle.warg_map.specs.Under.{join_at, under, HoldsKey, Splits, IsLone, empty_peers}
-use Rattle.warg_map.specs.Seen.{seen, height_of, held_by, IsWellFormed}
+use Rattle.warg_map.specs.Seen.{seen, tree_height, held_by, IsWellFormed}
 use Rattle.warg_map.specs.Peers.{IsPeers, IsPeerCount, Proves, shared, lone_peers}
 use Rattle.warg_map.proofs.Sparse.{bits_total, get-join_at, contains_key-insert_same, sparse_root-empty, head_same, tail_same, length-bits_from}
 use Rattle.warg_map.proofs.Under.{get-join_at_other, get-join_at_nil, get-under, no_some}
@@ -138,10 +138,10 @@ below_count len k a m p n (inr o) la h =
     (stem_count (lone_peers k) a m p n h)
 
 -- the peers over a join
-pub more : (H : List ℕ → List ℕ) (b : Bool) (m l o : List Bool → Option (List ℕ)) (p : List Bool) (d : List ℕ) (os : List (Option (List ℕ))) → ((q : List Bool) → m (b ∷ q) ≡ l q) → ((q : List Bool) → m (not b ∷ q) ≡ o q) → d ≡ root_of H (length p) o → IsPeers H l p os → IsPeers H m (b ∷ p) (Some d ∷ os)
+pub more : (H : List ℕ → List ℕ) (b : Bool) (m l o : List Bool → Option (List ℕ)) (p : List Bool) (d : List ℕ) (os : List (Option (List ℕ))) → ((q : List Bool) → m (b ∷ q) ≡ l q) → ((q : List Bool) → m (not b ∷ q) ≡ o q) → d ≡ root_of_levels H (length p) o → IsPeers H l p os → IsPeers H m (b ∷ p) (Some d ∷ os)
 unfolding IsPeers
 more H b m l o p d os near far e h =
-    (ap Some (e ∙ (λ i. root_of H (length p) (λ q. sym (far q) i))), subst (λ (f : List Bool → Option (List ℕ)). IsPeers H f p os) (λ i q. sym (near q) i) h)
+    (ap Some (e ∙ (λ i. root_of_levels H (length p) (λ q. sym (far q) i))), subst (λ (f : List Bool → Option (List ℕ)). IsPeers H f p os) (λ i q. sym (near q) i) h)
 
 pub get-far : (b : Bool) (near far : SparseMap) (q : List Bool) → get (join_at b near far) (not b ∷ q) ≡ get far q
 get-far true near far q = get-join_at_other false true near far q (λ e. cc)
@@ -185,7 +185,7 @@ fork_proves H h k b near far p ps d lt o e pr = record {
   count = subst (IsPeerCount (lone_peers h) (join_at b near far) (b ∷ p)) (sym (length_peers ps (Some d ∷ []))) (fork_count (lone_peers h) b near far p (length ps) o (subst (λ (j : ℕ). IsPeerCount j near p (length ps)) (not_high k lt) pr.count));
 }
 
-in_fork : {D A : _} (H : List ℕ → List ℕ) (f : Rc (Fork' D A) A) (b : Bool) (p : List Bool) (ps : List (Option (List ℕ))) (d : List ℕ) (child x : ℕ × SparseMap) → IsWellFormed (Fork f) → length p ≡ f.value.left.0 → child ≡ (cond b f.value.right f.value.left) → x ≡ (cond (not b) f.value.right f.value.left) → d ≡ sparse_root H x.0 x.1 → Proves H child.0 child.1 p ps → Proves H (height_of (Fork f)) (held_by (Fork f)) (b ∷ p) (ps ++ Some d ∷ [])
+in_fork : {D A : _} (H : List ℕ → List ℕ) (f : Rc (Fork' D A) A) (b : Bool) (p : List Bool) (ps : List (Option (List ℕ))) (d : List ℕ) (child x : ℕ × SparseMap) → IsWellFormed (Fork f) → length p ≡ f.value.left.0 → child ≡ (cond b f.value.right f.value.left) → x ≡ (cond (not b) f.value.right f.value.left) → d ≡ sparse_root H x.0 x.1 → Proves H child.0 child.1 p ps → Proves H (tree_height (Fork f)) (held_by (Fork f)) (b ∷ p) (ps ++ Some d ∷ [])
 in_fork H f true p ps d child x w len ce xe e h =
     fork_proves H _ f.value.right.0 true f.value.right.1 f.value.left.1 p ps d (omega (arith, w.level.0, w.level.1)) w.formed.0
     (e ∙ ap (λ c. sparse_root H c.0 c.1) xe ∙ ap (λ n. sparse_root H n f.value.left.1) (sym len)) (subst (λ (c : ℕ × SparseMap). Proves H c.0 c.1 p ps) ce h)
@@ -193,24 +193,24 @@ in_fork H f false p ps d child x w len ce xe e h =
     fork_proves H _ f.value.left.0 false f.value.left.1 f.value.right.1 p ps d w.level.1 w.formed.1
     (e ∙ ap (λ c. sparse_root H c.0 c.1) xe ∙ ap (λ n. sparse_root H n f.value.right.1) (sym (len ∙ w.level.0))) (subst (λ (c : ℕ × SparseMap). Proves H c.0 c.1 p ps) ce h)
 
-pub proves_in_fork : {D A : _} (H : List ℕ → List ℕ) (old child : Node D A) (f : Rc (Fork' D A) A) (bits : List Bool) (b : Bool) (p : List Bool) (ps new : List (Option (List ℕ))) (d : List ℕ) (x : ℕ × SparseMap) → old ≡ Fork f → IsWellFormed old → bits ≡ b ∷ p → length p + 1 ≡ height_of old → seen child ≡ (cond b f.value.right f.value.left) → x ≡ (cond (not b) f.value.right f.value.left) → d ≡ sparse_root H x.0 x.1 → Proves H (height_of child) (held_by child) p ps → new ≡ ps ++ Some d ∷ [] → Proves H (height_of old) (held_by old) bits new
+pub proves_in_fork : {D A : _} (H : List ℕ → List ℕ) (old child : Node D A) (f : Rc (Fork' D A) A) (bits : List Bool) (b : Bool) (p : List Bool) (ps new : List (Option (List ℕ))) (d : List ℕ) (x : ℕ × SparseMap) → old ≡ Fork f → IsWellFormed old → bits ≡ b ∷ p → length p + 1 ≡ tree_height old → seen child ≡ (cond b f.value.right f.value.left) → x ≡ (cond (not b) f.value.right f.value.left) → d ≡ sparse_root H x.0 x.1 → Proves H (tree_height child) (held_by child) p ps → new ≡ ps ++ Some d ∷ [] → Proves H (tree_height old) (held_by old) bits new
 proves_in_fork H old child f bits b p ps new d x is w e len ce xe de h n =
     let wf : IsWellFormed (Fork f) = subst IsWellFormed is w in
-    let k : length p + 1 ≡ f.value.left.0 + 1 = len ∙ ap height_of is in
+    let k : length p + 1 ≡ f.value.left.0 + 1 = len ∙ ap tree_height is in
     rw (is, e, n) (in_fork H f b p ps d (seen child) x wf (omega (arith, k)) ce xe de h)
 
-pub proves_single : {D A : _} (H : List ℕ → List ℕ) (old : Node D A) (s : Rc Lone A) (bits : List Bool) (ps : List (Option (List ℕ))) → old ≡ Singleton s → IsWellFormed old → bits ≡ last_bits s.value.key s.value.height → ps ≡ [] → Proves H (height_of old) (held_by old) bits ps
+pub proves_single : {D A : _} (H : List ℕ → List ℕ) (old : Node D A) (s : Rc Lone A) (bits : List Bool) (ps : List (Option (List ℕ))) → old ≡ Singleton s → IsWellFormed old → bits ≡ last_bits s.value.key s.value.height → ps ≡ [] → Proves H (tree_height old) (held_by old) bits ps
 proves_single H old s bits ps is w e n =
     let ws : IsWellFormed (Singleton s) = subst IsWellFormed is w in
     rw (is, e, n) (proves_lone H s.value.height (last_bits s.value.key s.value.height) s.value.value ws.formed)
 
-pub proves_leaf : {D A : _} (H : List ℕ → List ℕ) (old : Node D A) (x : Rc (List ℕ) A) (bits : List Bool) (ps : List (Option (List ℕ))) → old ≡ Leaf x → bits ≡ [] → ps ≡ [] → Proves H (height_of old) (held_by old) bits ps
+pub proves_leaf : {D A : _} (H : List ℕ → List ℕ) (old : Node D A) (x : Rc (List ℕ) A) (bits : List Bool) (ps : List (Option (List ℕ))) → old ≡ Leaf x → bits ≡ [] → ps ≡ [] → Proves H (tree_height old) (held_by old) bits ps
 proves_leaf H old x bits ps is e n = rw (is, e, n) (proves_lone H 0 [] x.value (omega arith))
 
-pub proves_stem : {D A : _} (H : List ℕ → List ℕ) (old below : Node D A) (s : Rc (Stem' D A) A) (bits low : List Bool) (key : List ℕ) (from len index low_height : ℕ) (ps new : List (Option (List ℕ))) → old ≡ Stem s → IsWellFormed old → bits ≡ last_bits key (256 - from) → height_of old + from ≡ 256 → len ≡ s.value.len → bits_from s.value.key from len ≡ bits_from key from len → seen below ≡ s.value.below → low ≡ last_bits key (256 - index) → index ≡ from + len → low_height ≡ 256 - s.value.from - s.value.len → length low ≡ 256 - index → Proves H (height_of below) (held_by below) low ps → new ≡ ps ++ empty_peers H low_height len → Proves H (height_of old) (held_by old) bits new
+pub proves_stem : {D A : _} (H : List ℕ → List ℕ) (old below : Node D A) (s : Rc (Stem' D A) A) (bits low : List Bool) (key : List ℕ) (from len index low_height : ℕ) (ps new : List (Option (List ℕ))) → old ≡ Stem s → IsWellFormed old → bits ≡ last_bits key (256 - from) → tree_height old + from ≡ 256 → len ≡ s.value.len → bits_from s.value.key from len ≡ bits_from key from len → seen below ≡ s.value.below → low ≡ last_bits key (256 - index) → index ≡ from + len → low_height ≡ 256 - s.value.from - s.value.len → length low ≡ 256 - index → Proves H (tree_height below) (held_by below) low ps → new ≡ ps ++ empty_peers H low_height len → Proves H (tree_height old) (held_by old) bits new
 proves_stem H old below s bits low key from len index low_height ps new is w e height el same b lo ix lh ll pr n =
     let ws : IsWellFormed (Stem s) = subst IsWellFormed is w in
-    let hs : s.value.below.0 + s.value.len + from ≡ 256 = sym (ap (λ d. height_of d + from) is) ∙ height in
+    let hs : s.value.below.0 + s.value.len + from ≡ 256 = sym (ap (λ d. tree_height d + from) is) ∙ height in
     let k = s.value.below.0 in
     let m = s.value.below.1 in
     let a = bits_from key from len in

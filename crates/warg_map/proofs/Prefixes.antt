@@ -4,7 +4,7 @@ use Rattle.std.proofs.lemmas.List.{length-reverse}
 use Rattle.std.specs.Prelude.{reverse}
 use Rattle.std.specs.FinMap.{get}
 use Rattle.warg_crypto.specs.EmptyTrees.{empty_root}
-use Rattle.warg_map.specs.Sparse.{SparseMap, root_of}
+use Rattle.warg_map.specs.Sparse.{SparseMap, root_of_levels}
 use Rattle.warg_map.specs.ProofValue.{proof_value}
 use Rattle.warg_map.specs.Peers.{Proves, ProvesAbsent}
 use Rattle.warg_map.proofs.Peers.{length_peers}
@@ -16,7 +16,7 @@ same_rest (b ∷ prefix) p q e = same_rest prefix p q (tail_is b (prefix ++ p) (
 
 honest_after : (H : List ℕ → List ℕ) (prefix rest : List Bool) (m : List Bool → Option (List ℕ)) (peers before os : List (Option (List ℕ))) (v : List ℕ) → reverse peers ≡ before ++ os
     → length before + (length prefix + length rest) ≡ 256 → length peers ≤ 256 → Explains H m (prefix ++ rest) os → unwrap_or (m (prefix ++ rest)) (empty_root H 0) ≡ v
-    → proof_value H peers v rest ≡ root_of H (length rest) (λ q. m (prefix ++ q))
+    → proof_value H peers v rest ≡ root_of_levels H (length rest) (λ q. m (prefix ++ q))
 unfolding Explains
 honest_after H [] rest m peers before os v e place few h u = honest H rest m peers before os v e (omega (arith, place)) few h u
 honest_after H (b ∷ prefix) rest m peers before [] v e place few h u =
@@ -27,13 +27,13 @@ honest_after H (b ∷ prefix) rest m peers before (o ∷ os) v e place few h u =
     honest_after H prefix rest (λ q. m (b ∷ q)) peers (before ++ o ∷ []) os v (e ∙ sym (append_assoc before (o ∷ []) os)) (omega (arith, one, place)) few h.1 u
 
 pub held_after : (H : List ℕ → List ℕ) (m : SparseMap) (prefix rest : List Bool) (peers : List (Option (List ℕ))) (x : List ℕ) → length prefix + length rest ≡ 256 → length peers ≤ 256
-    → Proves H 256 m (prefix ++ rest) peers → get m (prefix ++ rest) ≡ Some x → proof_value H peers x rest ≡ root_of H (length rest) (λ q. get m (prefix ++ q))
+    → Proves H 256 m (prefix ++ rest) peers → get m (prefix ++ rest) ≡ Some x → proof_value H peers x rest ≡ root_of_levels H (length rest) (λ q. get m (prefix ++ q))
 held_after H m prefix rest peers x n few p held =
     let z : 0 + (length prefix + length rest) ≡ 256 = omega (arith, n) in
     honest_after H prefix rest (get m) peers [] (reverse peers) x refl z few (explains_held H (prefix ++ rest) (get m) (reverse peers) p.peers_from_top) (ap (λ o. unwrap_or o (empty_root H 0)) held)
 
 pub absent_after : (H : List ℕ → List ℕ) (m : SparseMap) (prefix rest : List Bool) (peers : List (Option (List ℕ))) → length prefix + length rest ≡ 256 → length peers ≤ 256
-    → ProvesAbsent H m (prefix ++ rest) peers → proof_value H peers (empty_root H 0) rest ≡ root_of H (length rest) (λ q. get m (prefix ++ q))
+    → ProvesAbsent H m (prefix ++ rest) peers → proof_value H peers (empty_root H 0) rest ≡ root_of_levels H (length rest) (λ q. get m (prefix ++ q))
 absent_after H m prefix rest peers n few p =
     let z : 0 + (length prefix + length rest) ≡ 256 = omega (arith, n) in
     honest_after H prefix rest (get m) peers [] (reverse peers) (empty_root H 0) refl z few (explains_absent H (prefix ++ rest) (get m) (reverse peers) p.peers_from_top)

@@ -7,7 +7,7 @@ use Rattle.std.specs.Cmp.Lexicographic.{lists_total}
 use Rattle.std.specs.declared.cmp.Ordering.TheVariants.{Less, Equal, Greater}
 use Rattle.warg_crypto.specs.EmptyTrees.{empty_root}
 use Rattle.warg_map.specs.Bits.{bit_at, bits_from, last_bits}
-use Rattle.warg_map.specs.Sparse.{SparseMap, bits_cmp, root_of, sparse_root}
+use Rattle.warg_map.specs.Sparse.{SparseMap, bits_cmp, root_of_levels, sparse_root}
 use Rattle.warg_map.specs.Under.{join, join_at}
 
 pub bits_total : IsTotalOrder bits_cmp
@@ -116,26 +116,26 @@ insert-again m p v w =
     ∙ sym (get-insert bits_total m p w q))
 
 -- roots
-pub root-nothing : (H : List ℕ → List ℕ) (k : ℕ) → root_of H k (λ q. None) ≡ empty_root H k
-unfolding root_of empty_root
+pub root-nothing : (H : List ℕ → List ℕ) (k : ℕ) → root_of_levels H k (λ q. None) ≡ empty_root H k
+unfolding root_of_levels empty_root
 root-nothing H zero = refl
 root-nothing H (suc k) = ap (λ e. H (1 ∷ (e ++ e))) (root-nothing H k)
 
-pub root-same : (H : List ℕ → List ℕ) (k : ℕ) (m n : List Bool → Option (List ℕ)) → ((q : List Bool) → m q ≡ n q) → root_of H k m ≡ root_of H k n
-root-same H k m n h = λ i. root_of H k (λ q. h q i)
+pub root-same : (H : List ℕ → List ℕ) (k : ℕ) (m n : List Bool → Option (List ℕ)) → ((q : List Bool) → m q ≡ n q) → root_of_levels H k m ≡ root_of_levels H k n
+root-same H k m n h = λ i. root_of_levels H k (λ q. h q i)
 
 pub sparse_root-empty : (H : List ℕ → List ℕ) (k : ℕ) → sparse_root H k empty ≡ empty_root H k
 sparse_root-empty H k = root-same H k _ _ (get-empty bits_cmp) ∙ root-nothing H k
 
 pub sparse_root-join : (H : List ℕ → List ℕ) (k : ℕ) (l r : SparseMap) → sparse_root H (k + 1) (join l r) ≡ H (1 ∷ (sparse_root H k l ++ sparse_root H k r))
-unfolding root_of
+unfolding root_of_levels
 sparse_root-join H k l r =
-    ap (λ j. root_of H j (get (join l r))) (add-one k)
-    ∙ ap (λ a. H (1 ∷ (a ++ root_of H k (λ q. get (join l r) (true ∷ q))))) (root-same H k _ _ (get-join_false l r))
+    ap (λ j. root_of_levels H j (get (join l r))) (add-one k)
+    ∙ ap (λ a. H (1 ∷ (a ++ root_of_levels H k (λ q. get (join l r) (true ∷ q))))) (root-same H k _ _ (get-join_false l r))
     ∙ ap (λ b. H (1 ∷ (sparse_root H k l ++ b))) (root-same H k _ _ (get-join_true l r))
 
 pub sparse_root-leaf : (H : List ℕ → List ℕ) (v : List ℕ) → sparse_root H 0 (insert empty [] v) ≡ v
-unfolding root_of
+unfolding root_of_levels
 sparse_root-leaf H v = ap (λ o. unwrap_or o (empty_root H 0)) (get-insert bits_total empty [] v [])
 
 pub empty_root-step : (H : List ℕ → List ℕ) (k : ℕ) → empty_root H (k + 1) ≡ H (1 ∷ (empty_root H k ++ empty_root H k))

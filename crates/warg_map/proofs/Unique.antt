@@ -4,17 +4,17 @@ use Rattle.std.proofs.lemmas.List.{length-reverse, reverse-reverse}
 use Rattle.std.specs.Prelude.{reverse}
 use Rattle.std.specs.FinMap.{get, contains_key}
 use Rattle.warg_crypto.specs.EmptyTrees.{empty_root}
-use Rattle.warg_map.specs.Sparse.{SparseMap, root_of, sparse_root, leaf_at}
+use Rattle.warg_map.specs.Sparse.{SparseMap, root_of_levels, sparse_root, leaf_at}
 use Rattle.warg_map.specs.Peers.{IsPeers, IsPeerCount, Proves, IsOther, IsAbsentPeers, IsAbsentCount, ProvesAbsent}
 use Rattle.warg_map.proofs.Under.{no_some}
 
 -- the leaf digests decide the root
-root-leaves : (H : List ℕ → List ℕ) (k : ℕ) (m n : List Bool → Option (List ℕ)) → ((bits : List Bool) → length bits ≡ k → unwrap_or (m bits) (empty_root H 0) ≡ unwrap_or (n bits) (empty_root H 0)) → root_of H k m ≡ root_of H k n
-unfolding root_of
+root-leaves : (H : List ℕ → List ℕ) (k : ℕ) (m n : List Bool → Option (List ℕ)) → ((bits : List Bool) → length bits ≡ k → unwrap_or (m bits) (empty_root H 0) ≡ unwrap_or (n bits) (empty_root H 0)) → root_of_levels H k m ≡ root_of_levels H k n
+unfolding root_of_levels
 root-leaves H zero m n h = h [] refl
 root-leaves H (suc k) m n h =
-    ap (λ l. H (1 ∷ (l ++ root_of H k (λ bits. m (true ∷ bits))))) (root-leaves H k (λ bits. m (false ∷ bits)) (λ bits. n (false ∷ bits)) (λ bits e. h (false ∷ bits) (ap suc e)))
-    ∙ ap (λ r. H (1 ∷ (root_of H k (λ bits. n (false ∷ bits)) ++ r))) (root-leaves H k (λ bits. m (true ∷ bits)) (λ bits. n (true ∷ bits)) (λ bits e. h (true ∷ bits) (ap suc e)))
+    ap (λ l. H (1 ∷ (l ++ root_of_levels H k (λ bits. m (true ∷ bits))))) (root-leaves H k (λ bits. m (false ∷ bits)) (λ bits. n (false ∷ bits)) (λ bits e. h (false ∷ bits) (ap suc e)))
+    ∙ ap (λ r. H (1 ∷ (root_of_levels H k (λ bits. n (false ∷ bits)) ++ r))) (root-leaves H k (λ bits. m (true ∷ bits)) (λ bits. n (true ∷ bits)) (λ bits e. h (true ∷ bits) (ap suc e)))
 
 pub same_root : (H : List ℕ → List ℕ) (m n : SparseMap) → ((bits : List Bool) → length bits ≡ 256 → leaf_at H m bits ≡ leaf_at H n bits) → sparse_root H 256 m ≡ sparse_root H 256 n
 same_root H m n h = root-leaves H 256 (get m) (get n) h

@@ -32,18 +32,18 @@ abbrev pub bundle_fault : MapBundle → Option DecodeError
 bundle_fault b = earlier (first_fault proof_fault b.proofs) (first_fault proof_fault b.absences)
 
 -- The bundle that a message holds, or its first fault.
-abbrev pub bundle_in : MapBundle → Result MapBundle DecodeError
-bundle_in b = unless (bundle_fault b) b
+abbrev pub map_bundle_in : MapBundle → Result MapBundle DecodeError
+map_bundle_in b = unless (bundle_fault b) b
 
 -- The bundle that bytes spell, or their first fault: that of the message (proto3 encoding), and then that of
 -- its contents.
-abbrev pub bundle_of : List ℕ → Result MapBundle DecodeError
-bundle_of bytes = held_in bundle_in (message_of map_schema bytes)
+abbrev pub map_bundle_of : List ℕ → Result MapBundle DecodeError
+map_bundle_of bytes = held_in map_bundle_in (message_of map_schema bytes)
 
 -- Whether two proofs have the same peers.
 abbrev pub same_peers : Peers → Peers → Bool
 same_peers = pointwise (option_eq (pointwise nat_eq))
 
 -- Whether two bundles have the same proofs and the same absences, each in order.
-abbrev pub same_bundle : MapBundle → MapBundle → Bool
-same_bundle = eq_of_both (on (λ (b : MapBundle). b.proofs) (pointwise same_peers)) (on (λ (b : MapBundle). b.absences) (pointwise same_peers))
+abbrev pub same_map_bundle : MapBundle → MapBundle → Bool
+same_map_bundle = eq_of_both (on (λ (b : MapBundle). b.proofs) (pointwise same_peers)) (on (λ (b : MapBundle). b.absences) (pointwise same_peers))

@@ -13,8 +13,8 @@ stripped false ((true ∷ q, v) ∷ es) = stripped false es
 stripped false ((false ∷ q, v) ∷ es) = (q, v) ∷ stripped false es
 
 -- What a map holds after a bit.
-unfoldable pub after : Bool → SparseMap → SparseMap
-after b m = from_entries (stripped b (entries m))
+unfoldable pub half_after : Bool → SparseMap → SparseMap
+half_after b m = from_entries (stripped b (entries m))
 
 -- Nothing is held.
 abbrev pub is_bare : SparseMap → Bool
@@ -25,9 +25,9 @@ unfoldable pub nodes : ℕ → SparseMap → Bool → ℕ
 nodes zero m run = 1
 nodes (suc k) m run =
     cond (nat_eq (len m) 1) 1
-    (cond (is_bare (after false m)) (nodes k (after true m) true + cond run 0 1)
-    (cond (is_bare (after true m)) (nodes k (after false m) true + cond run 0 1)
-    (1 + (nodes k (after false m) false + nodes k (after true m) false))))
+    (cond (is_bare (half_after false m)) (nodes k (half_after true m) true + cond run 0 1)
+    (cond (is_bare (half_after true m)) (nodes k (half_after false m) true + cond run 0 1)
+    (1 + (nodes k (half_after false m) false + nodes k (half_after true m) false))))
 
 -- The nodes of a map's tree: one for the empty map, two for a lone key, and else those of 256 levels.
 abbrev pub node_count : SparseMap → ℕ

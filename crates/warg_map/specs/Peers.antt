@@ -1,7 +1,7 @@
 -- The peers of the proofs that a map gives.
 use Rattle.std.specs.Prelude.{◌≡◌, ℕ, suc, ◌+◌, ◌<◌, Bool, true, false, not, IsTrue, ◌⊎◌, reverse, cond, nat_eq, List, [], ◌∷◌, length, Option, Some, None, is_some}
 use Rattle.std.specs.FinMap.{get, contains_key}
-use Rattle.warg_map.specs.Sparse.{SparseMap, root_of}
+use Rattle.warg_map.specs.Sparse.{SparseMap, root_of_levels}
 
 -- How many bits two bit lists share before they part.
 abbrev pub shared : List Bool → List Bool → ℕ
@@ -16,7 +16,7 @@ shared (false ∷ p) (false ∷ q) = suc (shared p q)
 unfoldable pub IsPeers : (List ℕ → List ℕ) → (List Bool → Option (List ℕ)) → List Bool → List (Option (List ℕ)) → Type 0
 IsPeers H held bits [] = (q : List Bool) → ¬ (q ≡ bits) → held q ≡ None
 IsPeers H held [] (o ∷ os) = ⊥
-IsPeers H held (b ∷ bits) (o ∷ os) = (o ≡ Some (root_of H (length bits) (λ q. held (not b ∷ q)))) × IsPeers H (λ q. held (b ∷ q)) bits os
+IsPeers H held (b ∷ bits) (o ∷ os) = (o ≡ Some (root_of_levels H (length bits) (λ q. held (not b ∷ q)))) × IsPeers H (λ q. held (b ∷ q)) bits os
 
 -- The number of peers of held bits: one more than the most bits that they share with others that are held, or `lone` where no others are.
 pub record IsPeerCount (lone : ℕ) (m : SparseMap) (bits : List Bool) (n : ℕ) : Type 0 where
@@ -35,7 +35,7 @@ pub record Proves (H : List ℕ → List ℕ) (height : ℕ) (m : SparseMap) (bi
 
 -- The peer beside bits that are not held: None where the other half holds no key, and else Some of its sparse root.
 abbrev pub IsOther : (List ℕ → List ℕ) → ℕ → (List Bool → Option (List ℕ)) → Option (List ℕ) → Type 0
-IsOther H k held o = ((o ≡ None) × ((q : List Bool) → held q ≡ None)) ⊎ ((o ≡ Some (root_of H k held)) × ((q : List Bool) × IsTrue (is_some (held q))))
+IsOther H k held o = ((o ≡ None) × ((q : List Bool) → held q ≡ None)) ⊎ ((o ≡ Some (root_of_levels H k held)) × ((q : List Bool) × IsTrue (is_some (held q))))
 
 -- The peers of bits that are not held, from the top: each is that of the other half, and below the last nothing is held.
 unfoldable pub IsAbsentPeers : (List ℕ → List ℕ) → (List Bool → Option (List ℕ)) → List Bool → List (Option (List ℕ)) → Type 0

@@ -10,12 +10,12 @@ use Rattle.warg_map.specs.Lone.{held_alone}
 use Rattle.warg_map.specs.Under.{join, under, HoldsKey, Splits, IsLone}
 
 -- The height of a node: the number of levels of its tree.
-abbrev pub height_of : {D A : _} → Node D A → ℕ
-height_of (Leaf h) = 0
-height_of (Fork f) = f.value.left.0 + 1
-height_of (Singleton s) = s.value.height
-height_of (Stem s) = s.value.below.0 + s.value.len
-height_of (Empty n) = n
+abbrev pub tree_height : {D A : _} → Node D A → ℕ
+tree_height (Leaf h) = 0
+tree_height (Fork f) = f.value.left.0 + 1
+tree_height (Singleton s) = s.value.height
+tree_height (Stem s) = s.value.below.0 + s.value.len
+tree_height (Empty n) = n
 
 -- The map that a node stands for.
 abbrev pub held_by : {D A : _} → Node D A → SparseMap
@@ -27,7 +27,7 @@ held_by (Empty n) = empty
 
 -- What a link shows of its node: the height, and the map.
 abbrev pub seen : {D A : _} → Node D A → ℕ × SparseMap
-seen n = (height_of n, held_by n)
+seen n = (tree_height n, held_by n)
 
 -- The heights fit, and a stem's bits stand at their place in a key digest.
 abbrev pub IsLevel : {D A : _} → Node D A → Type 0

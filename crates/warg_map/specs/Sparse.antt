@@ -22,9 +22,9 @@ abbrev pub sparse_map_code : Coded SparseMap
 sparse_map_code = code (coded_list coded_bool) (coded_list coded_ℕ)
 
 -- The digest of the tree of k levels over what is held under each bit list: at no level the one leaf digest, or that of an empty leaf; above, the branch H(01 ++ left ++ right) over what is held after 0 and after 1.
-unfoldable pub root_of : (List ℕ → List ℕ) → ℕ → (List Bool → Option (List ℕ)) → List ℕ
-root_of H zero held = unwrap_or (held []) (empty_root H 0)
-root_of H (suc k) held = H (1 ∷ (root_of H k (λ bits. held (false ∷ bits)) ++ root_of H k (λ bits. held (true ∷ bits))))
+unfoldable pub root_of_levels : (List ℕ → List ℕ) → ℕ → (List Bool → Option (List ℕ)) → List ℕ
+root_of_levels H zero held = unwrap_or (held []) (empty_root H 0)
+root_of_levels H (suc k) held = H (1 ∷ (root_of_levels H k (λ bits. held (false ∷ bits)) ++ root_of_levels H k (λ bits. held (true ∷ bits))))
 
 -- All bits that a map holds are as many as its levels.
 abbrev pub HasLevels : ℕ → SparseMap → Type 0
@@ -32,7 +32,7 @@ HasLevels k m = (bits : List Bool) → IsTrue (contains_key m bits) → length b
 
 -- The plain sparse root of k levels of a map.
 abbrev pub sparse_root : (List ℕ → List ℕ) → ℕ → SparseMap → List ℕ
-sparse_root H k m = root_of H k (get m)
+sparse_root H k m = root_of_levels H k (get m)
 
 -- The leaf digest of bits: the one that is held, or else that of an empty leaf.
 abbrev pub leaf_at : (List ℕ → List ℕ) → SparseMap → List Bool → List ℕ

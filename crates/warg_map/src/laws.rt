@@ -9,7 +9,7 @@ ghost use Rattle.std.specs.Cmp.Lexicographic.{slice_cmp};
 ghost use Rattle.warg_crypto.specs.Digests.{IsDigest};
 ghost use Rattle.warg_crypto.specs.EmptyTrees.{empty_root};
 ghost use Rattle.warg_map.specs.Bits.{key_bits};
-ghost use Rattle.warg_map.specs.Sparse.{SparseMap, HasLevels, bits_cmp, root_of, sparse_root, leaf_at, leaf_digest, inserted, map_of, HasDistinctKeys};
+ghost use Rattle.warg_map.specs.Sparse.{SparseMap, HasLevels, bits_cmp, root_of_levels, sparse_root, leaf_at, leaf_digest, inserted, map_of, HasDistinctKeys};
 ghost use Rattle.warg_map.specs.Last.{last_under};
 ghost use Rattle.warg_map.specs.ProofValue.{proof_value};
 ghost use Rattle.warg_map.specs.Peers.{Proves, ProvesAbsent};
@@ -70,11 +70,11 @@ pub fn last_held()
 /// The proof of held bits leads from the leaf digest that is held to the plain root at each prefix of the bits.
 pub fn root_at_prefix()
     ensures { (H : List ℕ → List ℕ) (m : SparseMap) (prefix rest : List Bool) (peers : List (Option (List ℕ))) (x : List ℕ) → length prefix + length rest ≡ 256 → length peers ≤ 256
-        → Proves H 256 m (prefix ++ rest) peers → get m (prefix ++ rest) ≡ Some x → proof_value H peers x rest ≡ root_of H (length rest) (λ bits. get m (prefix ++ bits)) }
+        → Proves H 256 m (prefix ++ rest) peers → get m (prefix ++ rest) ≡ Some x → proof_value H peers x rest ≡ root_of_levels H (length rest) (λ bits. get m (prefix ++ bits)) }
 {}
 
 /// The proof that bits aren't held leads from an empty leaf to the plain root at each prefix of the bits.
 pub fn absent_root_at_prefix()
     ensures { (H : List ℕ → List ℕ) (m : SparseMap) (prefix rest : List Bool) (peers : List (Option (List ℕ))) → length prefix + length rest ≡ 256 → length peers ≤ 256
-        → ProvesAbsent H m (prefix ++ rest) peers → proof_value H peers (empty_root H 0) rest ≡ root_of H (length rest) (λ bits. get m (prefix ++ bits)) }
+        → ProvesAbsent H m (prefix ++ rest) peers → proof_value H peers (empty_root H 0) rest ≡ root_of_levels H (length rest) (λ bits. get m (prefix ++ bits)) }
 {}

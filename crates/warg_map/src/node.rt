@@ -38,12 +38,12 @@ pub enum Node<D: SupportedDigest, A: Allocator = Global> {
 
 impl<D: SupportedDigest, A: Allocator> Node<D, A> {
     ghost use Rattle.warg_map.specs.Path.{bits_left};
-    ghost use Rattle.warg_map.specs.Seen.{height_of, held_by, IsLevel, IsWellFormed};
+    ghost use Rattle.warg_map.specs.Seen.{tree_height, held_by, IsLevel, IsWellFormed};
 
     /// The digest of the tree.
     pub fn hash(&self) -> Hash<D>
         requires { IsLevel self.now }
-        ensures { result ≡ sparse_root D.digest (height_of self.now) (held_by self.now) }
+        ensures { result ≡ sparse_root D.digest (tree_height self.now) (held_by self.now) }
     {
         match self {
             Node::Leaf(hash) => hash.copied(),
@@ -57,7 +57,7 @@ impl<D: SupportedDigest, A: Allocator> Node<D, A> {
 
 impl<D: SupportedDigest, A: Allocator + Copy> Node<D, A> {
     ghost use Rattle.warg_map.specs.Path.{bits_left};
-    ghost use Rattle.warg_map.specs.Seen.{seen, height_of, held_by, IsWellFormed, Inserts, Carries, IsSeen};
+    ghost use Rattle.warg_map.specs.Seen.{seen, tree_height, held_by, IsWellFormed, Inserts, Carries, IsSeen};
 
     /// The node below `len` bits of `key`, from bit `from` on. The node holds the key, so a stem becomes longer.
     fn raised(
@@ -69,9 +69,9 @@ impl<D: SupportedDigest, A: Allocator + Copy> Node<D, A> {
     ) -> Result<Node<D, A>, AllocError>
         requires well_formed { IsWellFormed node }
         requires carries { Carries node }
-        requires height { from + len + height_of node ≡ 256 }
-        requires held { map.contains_key (held_by node) (last_bits key.now (height_of node)) ≡ true }
-        ensures { IfOk result (λ n. IsSeen n (height_of node + len) (under (bits_from key.now from len) (held_by node))) }
+        requires height { from + len + tree_height node ≡ 256 }
+        requires held { map.contains_key (held_by node) (last_bits key.now (tree_height node)) ≡ true }
+        ensures { IfOk result (λ n. IsSeen n (tree_height node + len) (under (bits_from key.now from len) (held_by node))) }
     {
         if len == 0 {
             return Ok(node);
@@ -122,7 +122,7 @@ impl<D: SupportedDigest, A: Allocator + Copy> Node<D, A> {
         value: Hash<D>,
     ) -> Result<(Node<D, A>, bool), AllocError>
         requires well_formed { IsWellFormed self.now }
-        requires height { height_of self.now + path.old.index ≡ 256 }
+        requires height { tree_height self.now + path.old.index ≡ 256 }
         ensures { IfOk result (λ p. Inserts (seen self.now) (bits_left path.old) value p.0 p.1) }
     {
         match self {
@@ -168,12 +168,12 @@ impl<D: SupportedDigest, A: Allocator + Copy> Node<D, A> {
 
 impl<D: SupportedDigest, A: Allocator> Node<D, A> {
     ghost use Rattle.warg_map.specs.Path.{bits_left};
-    ghost use Rattle.warg_map.specs.Seen.{height_of, held_by, IsWellFormed};
+    ghost use Rattle.warg_map.specs.Seen.{tree_height, held_by, IsWellFormed};
 
     /// The leaf digest that is held under the bits that the path has left.
     pub(crate) fn find(&self, mut path: Path<'_, D>) -> Option<Hash<D>>
         requires well_formed { IsWellFormed self.now }
-        requires height { height_of self.now + path.index ≡ 256 }
+        requires height { tree_height self.now + path.index ≡ 256 }
         ensures { result ≡ map.get (held_by self.now) (bits_left path.entry) }
     {
         match self {
@@ -209,7 +209,7 @@ impl<D: SupportedDigest, A: Allocator + Copy> Node<D, A> {
     ghost use Rattle.std.specs.Prelude.{MatchOption, None, Ok, false, length, IfSome};
     ghost use Rattle.warg_map.specs.Path.{bits_left};
     ghost use Rattle.warg_map.specs.Peers.{Proves};
-    ghost use Rattle.warg_map.specs.Seen.{height_of, held_by, IsWellFormed};
+    ghost use Rattle.warg_map.specs.Seen.{tree_height, held_by, IsWellFormed};
 
     /// The proof that the bits that the path has left are held, or `None` exactly where they aren't, which takes no memory.
     pub fn prove<K, V>(
@@ -218,13 +218,13 @@ impl<D: SupportedDigest, A: Allocator + Copy> Node<D, A> {
         mut path: Path<'_, D>,
     ) -> Result<Option<Proof<D, K, V, A>>, AllocError>
         requires well_formed { IsWellFormed self.now }
-        requires height { height_of self.now + path.index ≡ 256 }
+        requires height { tree_height self.now + path.index ≡ 256 }
         ensures answer { IfOk result (λ o.
             MatchOption o
             (map.contains_key (held_by self.now) (bits_left path.entry) ≡ false)
-            (λ p. Proves D.digest (height_of self.now) (held_by self.now) (bits_left path.entry) p)) }
+            (λ p. Proves D.digest (tree_height self.now) (held_by self.now) (bits_left path.entry) p)) }
         ensures none { map.contains_key (held_by self.now) (bits_left path.entry) ≡ false → result ≡ Ok None }
-        ensures few { IfOk result (λ o. IfSome o (λ p. length p ≤ height_of self.now)) }
+        ensures few { IfOk result (λ o. IfSome o (λ p. length p ≤ tree_height self.now)) }
     {
         match self {
             Node::Leaf(_) => Ok(Some(Proof::with_room(alloc, path.index())?)),
@@ -267,7 +267,7 @@ impl<D: SupportedDigest, A: Allocator + Copy> Node<D, A> {
     ghost use Rattle.std.specs.Prelude.{false, length};
     ghost use Rattle.warg_map.specs.Path.{bits_left};
     ghost use Rattle.warg_map.specs.Peers.{ProvesAbsent};
-    ghost use Rattle.warg_map.specs.Seen.{height_of, held_by, IsWellFormed};
+    ghost use Rattle.warg_map.specs.Seen.{tree_height, held_by, IsWellFormed};
 
     /// The proof that the bits that the path has left aren't held.
     pub(crate) fn prove_absent<K, V>(
@@ -276,10 +276,10 @@ impl<D: SupportedDigest, A: Allocator + Copy> Node<D, A> {
         mut path: Path<'_, D>,
     ) -> Result<Proof<D, K, V, A>, AllocError>
         requires well_formed { IsWellFormed self.now }
-        requires height { height_of self.now + path.index ≡ 256 }
+        requires height { tree_height self.now + path.index ≡ 256 }
         requires absent { map.contains_key (held_by self.now) (bits_left path) ≡ false }
         ensures answer { IfOk result (λ p. ProvesAbsent D.digest (held_by self.now) (bits_left path.entry) p) }
-        ensures few { IfOk result (λ p. length p ≤ height_of self.now) }
+        ensures few { IfOk result (λ p. length p ≤ tree_height self.now) }
     {
         match self {
             Node::Leaf(_) => unreachable!(),
@@ -320,15 +320,15 @@ impl<D: SupportedDigest, A: Allocator> Node<D, A> {
     ghost use Rattle.std.specs.Prelude.{◌*◌, ◌^◌, ◌⊎◌, false};
     ghost use Rattle.warg_map.specs.Under.{Splits};
     ghost use Rattle.warg_map.specs.Count.{nodes};
-    ghost use Rattle.warg_map.specs.Seen.{height_of, held_by, IsWellFormed};
+    ghost use Rattle.warg_map.specs.Seen.{tree_height, held_by, IsWellFormed};
 
     /// The number of nodes of a tree that holds a key, and more than one where it is the whole tree of 256 levels.
     pub(crate) fn count(&self) -> u128
         requires well_formed { IsWellFormed self.now }
         requires some { 0 < map.len (held_by self.now) }
-        requires more { (height_of self.now < 256) ⊎ (1 < map.len (held_by self.now)) }
+        requires more { (tree_height self.now < 256) ⊎ (1 < map.len (held_by self.now)) }
         requires fits { map.len (held_by self.now) < 2 ^ 64 }
-        ensures exact { result ≡ nodes (height_of self.now) (held_by self.now) false }
+        ensures exact { result ≡ nodes (tree_height self.now) (held_by self.now) false }
         ensures few { result + 2 ≤ 3 * map.len (held_by self.now) }
         ensures fewer { Splits (held_by self.now) → result + 3 ≤ 3 * map.len (held_by self.now) }
     {
@@ -349,9 +349,9 @@ impl<D: SupportedDigest, A: Allocator> Node<D, A> {
 
 /// The node is shared. It takes no memory, and refuses only where its owners can't be counted.
 impl<D: SupportedDigest, A: Allocator> Clone for Node<D, A> {
-    ghost use Rattle.warg_map.specs.Seen.{height_of, held_by, IsWellFormed, IsSeen};
+    ghost use Rattle.warg_map.specs.Seen.{tree_height, held_by, IsWellFormed, IsSeen};
 
-    ghost is_clone = { λ n copy. IsWellFormed n → IsSeen copy (height_of n) (held_by n) };
+    ghost is_clone = { λ n copy. IsWellFormed n → IsSeen copy (tree_height n) (held_by n) };
 
     fn clone(&self) -> Result<Node<D, A>, AllocError> {
         Ok(match self {

@@ -5,7 +5,7 @@ ghost use Rattle.warg_protobuf.specs.declared.error.WireError.TheVariants as wir
 ghost use Rattle.warg_protobuf.specs.MapInclusionProof.{proof_view};
 ghost use Rattle.warg_protobuf.specs.MapProofBundle.{map_view, map_bytes};
 ghost use Rattle.warg_log.specs.Decoding.{Reads, first_fault};
-ghost use Rattle.warg_map.specs.Bundles.{proof_fault, bundle_in, bundle_of, same_bundle};
+ghost use Rattle.warg_map.specs.Bundles.{proof_fault, map_bundle_in, map_bundle_of, same_map_bundle};
 
 use crate::proof::Proof;
 use std::alloc::{AllocError, Allocator, Global};
@@ -34,14 +34,14 @@ impl<D, K, V, A: Allocator> PartialEq for ProofBundle<D, K, V, A> {
     ghost use Rattle.std.specs.Prelude.{◌≡◌, ◌↔◌, IsTrue};
     ghost use Rattle.std.specs.Cmp.Rules.{comparing};
     ghost use Rattle.std.proofs.Common.{rules};
-    ghost use Rattle.warg_map.specs.Bundles.{same_bundle};
+    ghost use Rattle.warg_map.specs.Bundles.{same_map_bundle};
 
-    ghost eq = { same_bundle };
+    ghost eq = { same_map_bundle };
 
     ghost laws = { Prim.search (comparing, rules) depth 9 };
 
     fn eq(&self, other: &ProofBundle<D, K, V, A>) -> bool
-        ensures value { result ≡ same_bundle self.now other.now }
+        ensures value { result ≡ same_map_bundle self.now other.now }
         ensures exact { IsTrue result ↔ (self.now ≡ other.now) }
     {
         same_lists(self, other)
@@ -60,7 +60,7 @@ fn same_lists<D, K, V, A: Allocator>(
     first: &ProofBundle<D, K, V, A>,
     second: &ProofBundle<D, K, V, A>,
 ) -> bool
-    ensures { result ≡ same_bundle first.now second.now }
+    ensures { result ≡ same_map_bundle first.now second.now }
 {
     first.proofs == second.proofs && first.absences == second.absences
 }
@@ -106,7 +106,7 @@ impl<D, K, V, A: Allocator + Copy> ProofBundle<D, K, V, A> {
     /// The faults are looked for proof by proof, and then absence by absence: at each the errors of
     /// [`Proof::from_message`].
     pub fn from_message(alloc: A, message: Message<A>) -> Result<Self, DecodeError>
-        ensures exact { Reads result (bundle_in (map_view message)) }
+        ensures exact { Reads result (map_bundle_in (map_view message)) }
         ensures message { IfOk result (λ bundle. bundle ≡ map_view message) }
         ensures wire { (e : _) → result ≢ Err (DecodeError.Wire e) }
     {
@@ -118,7 +118,7 @@ impl<D, K, V, A: Allocator + Copy> ProofBundle<D, K, V, A> {
     /// Reads a bundle from the bytes of its message: the first fault of the message, and then that of
     /// [`ProofBundle::from_message`], is the error.
     pub fn decode(alloc: A, bytes: &[u8]) -> Result<Self, DecodeError>
-        ensures exact { Reads result (bundle_of bytes.now) }
+        ensures exact { Reads result (map_bundle_of bytes.now) }
         ensures wire { result ≢ Err (DecodeError.Wire wire.Memory) }
     {
         let message = Message::decode(alloc, bytes)?;
@@ -128,7 +128,7 @@ impl<D, K, V, A: Allocator + Copy> ProofBundle<D, K, V, A> {
     /// The bundle's message, which holds the same bundle. It is never `TooLarge`.
     pub fn to_message(&self, alloc: A) -> Result<Message<A>, EncodeError>
         ensures ok { IfOk result (λ message. map_view message ≡ self.now) }
-        ensures again { IfOk result (λ message. bundle_in (map_view message) ≡ Ok self.now) }
+        ensures again { IfOk result (λ message. map_bundle_in (map_view message) ≡ Ok self.now) }
         ensures too_large { result ≢ Err EncodeError.TooLarge }
     {
         let proofs = messages(alloc, self.proofs.as_slice())?;
@@ -139,7 +139,7 @@ impl<D, K, V, A: Allocator + Copy> ProofBundle<D, K, V, A> {
     /// Writes the bytes of the bundle's message, which are read as the same bundle. It is never `TooLarge`.
     pub fn encode(&self, alloc: A) -> Result<Vec<u8, A>, EncodeError>
         ensures written { IfOk result (λ bytes. bytes.items ≡ map_bytes self.now) }
-        ensures again { IfOk result (λ bytes. bundle_of bytes.items ≡ Ok self.now) }
+        ensures again { IfOk result (λ bytes. map_bundle_of bytes.items ≡ Ok self.now) }
         ensures too_large { result ≢ Err EncodeError.TooLarge }
     {
         let message = self.to_message(alloc)?;

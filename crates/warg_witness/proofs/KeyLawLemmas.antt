@@ -5,7 +5,7 @@ use Rattle.std.specs.Option.{option_map}
 use Rattle.warg_crypto.specs.Digests.{IsDigest}
 use Rattle.warg_crypto.specs.EmptyTrees.{empty_root}
 use Rattle.warg_map.specs.Bits.{key_bits}
-use Rattle.warg_map.specs.Sparse.{SparseMap, root_of, sparse_root, leaf_digest, map_of}
+use Rattle.warg_map.specs.Sparse.{SparseMap, root_of_levels, sparse_root, leaf_digest, map_of}
 use Rattle.warg_map.specs.ProofValue.{proof_value}
 use Rattle.warg_map.specs.Peers.{Proves}
 use Rattle.warg_map.specs.Last.{last_under}
@@ -21,14 +21,14 @@ use Rattle.warg_witness.proofs.PathLemmas.{parted_on_path}
 use Rattle.warg_witness.proofs.KeyLemmas.{IsHeld, PartsFromPlain, ShowsKey, plain_root_is, branch_shown, leaf_shown, none_differs, keys_shown}
 
 -- a root has 32 bytes where each leaf digest has
-root_len : (H : List ℕ → List ℕ) → GivesHashes H → (k : ℕ) (held : List Bool → Option (List ℕ)) → ((bits : List Bool) (digest : List ℕ) → held bits ≡ Some digest → length digest ≡ 32) → length (root_of H k held) ≡ 32
-unfolding root_of empty_root
+root_len : (H : List ℕ → List ℕ) → GivesHashes H → (k : ℕ) (held : List Bool → Option (List ℕ)) → ((bits : List Bool) (digest : List ℕ) → held bits ≡ Some digest → length digest ≡ 32) → length (root_of_levels H k held) ≡ 32
+unfolding root_of_levels empty_root
 root_len H gives zero held h = leaf (held []) (h [])
   where
     leaf : (o : Option (List ℕ)) → ((digest : List ℕ) → o ≡ Some digest → length digest ≡ 32) → length (unwrap_or o (H (0 ∷ []))) ≡ 32
     leaf None f = gives (0 ∷ [])
     leaf (Some digest) f = f digest refl
-root_len H gives (suc k) held h = gives (1 ∷ (root_of H k (λ bits. held (false ∷ bits)) ++ root_of H k (λ bits. held (true ∷ bits))))
+root_len H gives (suc k) held h = gives (1 ∷ (root_of_levels H k (λ bits. held (false ∷ bits)) ++ root_of_levels H k (λ bits. held (true ∷ bits))))
 
 holds_push : (peers : List (Option (List ℕ))) (digest : List ℕ) → length digest ≡ 32 → HoldsPeers peers → HoldsPeers (peers ++ Some digest ∷ [])
 holds_push [] digest size holds zero other e = ap length (sym (some_same digest other e)) ∙ size
@@ -41,7 +41,7 @@ holds_plain : (H : List ℕ → List ℕ) → GivesHashes H → (held : List Boo
 unfolding plain_peers
 holds_plain H gives held h [] = λ place digest e. absurd (cc)
 holds_plain H gives held h (b ∷ bits) =
-    holds_push (plain_peers H (λ q. held (b ∷ q)) bits) (root_of H (length bits) (λ q. held (not b ∷ q))) (root_len H gives (length bits) (λ q. held (not b ∷ q)) (λ q. h (not b ∷ q)))
+    holds_push (plain_peers H (λ q. held (b ∷ q)) bits) (root_of_levels H (length bits) (λ q. held (not b ∷ q))) (root_len H gives (length bits) (λ q. held (not b ∷ q)) (λ q. h (not b ∷ q)))
     (holds_plain H gives (λ q. held (b ∷ q)) (λ q. h (b ∷ q)) bits)
 
 holds_leaf : (H : List ℕ → List ℕ) → GivesHashes H → (o : Option (List ℕ × List ℕ)) (digest : List ℕ) → option_map (λ e. leaf_digest H e.1) o ≡ Some digest → length digest ≡ 32
@@ -92,7 +92,7 @@ absence_collides held long digest H peers key insertions digests holds met untru
 -- What the map's law says of the roots at prefixes.
 abbrev pub RootAtPrefix : Type 0
 RootAtPrefix = (H : List ℕ → List ℕ) (m : SparseMap) (prefix rest : List Bool) (peers : List (Option (List ℕ))) (x : List ℕ) → length prefix + length rest ≡ 256 → length peers ≤ 256
-    → Proves H 256 m (prefix ++ rest) peers → get m (prefix ++ rest) ≡ Some x → proof_value H peers x rest ≡ root_of H (length rest) (λ bits. get m (prefix ++ bits))
+    → Proves H 256 m (prefix ++ rest) peers → get m (prefix ++ rest) ≡ Some x → proof_value H peers x rest ≡ root_of_levels H (length rest) (λ bits. get m (prefix ++ bits))
 
 pub equal_roots_meet : LastHeld → AllBits → RootAtPrefix → (H : List ℕ → List ℕ) (insertions others : List (List ℕ × List ℕ)) (key value : List ℕ) (peers : List (Option (List ℕ)))
     → sparse_root H 256 (map_of H insertions) ≡ sparse_root H 256 (map_of H others) → last_under H (key_bits H key) insertions ≡ Some (key, value) → length peers ≤ 256

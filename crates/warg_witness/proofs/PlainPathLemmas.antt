@@ -5,7 +5,7 @@ use Rattle.std.proofs.lemmas.Bool.{le-ltb}
 use Rattle.std.specs.Option.{option_map}
 use Rattle.std.specs.FinMap.{get}
 use Rattle.warg_crypto.specs.EmptyTrees.{empty_root}
-use Rattle.warg_map.specs.Sparse.{root_of, leaf_digest, map_of}
+use Rattle.warg_map.specs.Sparse.{root_of_levels, leaf_digest, map_of}
 use Rattle.warg_map.specs.Last.{last_under}
 use Rattle.warg_map.specs.ProofValue.{peer_of, proof_value}
 use Rattle.warg_witness.specs.Inputs.{branch_input}
@@ -17,7 +17,7 @@ pub length-plain_peers : (H : List ℕ → List ℕ) (held : List Bool → Optio
 unfolding plain_peers
 length-plain_peers H held [] = refl
 length-plain_peers H held (b ∷ bits) =
-    length-append (plain_peers H (λ q. held (b ∷ q)) bits) (Some (root_of H (length bits) (λ q. held (not b ∷ q))) ∷ [])
+    length-append (plain_peers H (λ q. held (b ∷ q)) bits) (Some (root_of_levels H (length bits) (λ q. held (not b ∷ q))) ∷ [])
     ∙ (let n = length-plain_peers H (λ q. held (b ∷ q)) bits in let e : length (plain_peers H (λ q. held (b ∷ q)) bits) + 1 ≡ suc (length bits) = omega (arith, n) in e)
 
 at_end : (xs : List (Option (List ℕ))) (y : Option (List ℕ)) (ys : List (Option (List ℕ))) (i : ℕ) → length xs ≡ i → get_or (xs ++ y ∷ ys) i None ≡ y
@@ -38,21 +38,21 @@ peer_there H peers before after digest i e n all =
     ∙ ap (λ o. unwrap_or o (empty_root H i)) (at_end before (Some digest) after i n)
 
 -- the branch over both halves
-both_halves : (H : List ℕ → List ℕ) (held : List Bool → Option (List ℕ)) (b : Bool) (k : ℕ) (peer value : List ℕ) → peer ≡ root_of H k (λ q. held (not b ∷ q)) → value ≡ root_of H k (λ q. held (b ∷ q))
-    → ◌≡◌ {A = List ℕ} (1 ∷ cond b (peer ++ value) (value ++ peer)) (branch_input (root_of H k (λ q. held (false ∷ q))) (root_of H k (λ q. held (true ∷ q))))
-both_halves H held true k peer value p v = ap (λ t. 1 ∷ t ++ value) p ∙ ap (λ t. 1 ∷ root_of H k (λ q. held (false ∷ q)) ++ t) v
-both_halves H held false k peer value p v = ap (λ t. 1 ∷ t ++ peer) v ∙ ap (λ t. 1 ∷ root_of H k (λ q. held (false ∷ q)) ++ t) p
+both_halves : (H : List ℕ → List ℕ) (held : List Bool → Option (List ℕ)) (b : Bool) (k : ℕ) (peer value : List ℕ) → peer ≡ root_of_levels H k (λ q. held (not b ∷ q)) → value ≡ root_of_levels H k (λ q. held (b ∷ q))
+    → ◌≡◌ {A = List ℕ} (1 ∷ cond b (peer ++ value) (value ++ peer)) (branch_input (root_of_levels H k (λ q. held (false ∷ q))) (root_of_levels H k (λ q. held (true ∷ q))))
+both_halves H held true k peer value p v = ap (λ t. 1 ∷ t ++ value) p ∙ ap (λ t. 1 ∷ root_of_levels H k (λ q. held (false ∷ q)) ++ t) v
+both_halves H held false k peer value p v = ap (λ t. 1 ∷ t ++ peer) v ∙ ap (λ t. 1 ∷ root_of_levels H k (λ q. held (false ∷ q)) ++ t) p
 
 -- the plain peers lead to the plain root
 pub plain_value : (H : List ℕ → List ℕ) (held : List Bool → Option (List ℕ)) (bits : List Bool) (peers after : List (Option (List ℕ))) (x : List ℕ) → peers ≡ plain_peers H held bits ++ after → length peers ≡ 256
-    → x ≡ unwrap_or (held bits) (empty_root H 0) → proof_value H peers x bits ≡ root_of H (length bits) held
-unfolding plain_peers proof_value root_of
+    → x ≡ unwrap_or (held bits) (empty_root H 0) → proof_value H peers x bits ≡ root_of_levels H (length bits) held
+unfolding plain_peers proof_value root_of_levels
 plain_value H held [] peers after x e all is = is
 plain_value H held (b ∷ bits) peers after x e all is =
-    let more = e ∙ append_assoc (plain_peers H (λ q. held (b ∷ q)) bits) (Some (root_of H (length bits) (λ q. held (not b ∷ q))) ∷ []) after in
+    let more = e ∙ append_assoc (plain_peers H (λ q. held (b ∷ q)) bits) (Some (root_of_levels H (length bits) (λ q. held (not b ∷ q))) ∷ []) after in
     ap H (both_halves H held b (length bits) (peer_of H peers (length bits)) (proof_value H peers x bits)
     (peer_there H peers (plain_peers H (λ q. held (b ∷ q)) bits) after _ (length bits) more (length-plain_peers H (λ q. held (b ∷ q)) bits) all)
-    (plain_value H (λ q. held (b ∷ q)) bits peers (Some (root_of H (length bits) (λ q. held (not b ∷ q))) ∷ after) x more all is))
+    (plain_value H (λ q. held (b ∷ q)) bits peers (Some (root_of_levels H (length bits) (λ q. held (not b ∷ q))) ∷ after) x more all is))
 
 -- the plain peers below a prefix
 plain_after : (H : List ℕ → List ℕ) (held : List Bool → Option (List ℕ)) (prefix rest : List Bool) (peers after : List (Option (List ℕ))) → peers ≡ plain_peers H held (prefix ++ rest) ++ after
@@ -60,8 +60,8 @@ plain_after : (H : List ℕ → List ℕ) (held : List Bool → Option (List ℕ
 unfolding plain_peers
 plain_after H held [] rest peers after e = (after, e)
 plain_after H held (b ∷ prefix) rest peers after e =
-    plain_after H (λ q. held (b ∷ q)) prefix rest peers (Some (root_of H (length (prefix ++ rest)) (λ q. held (not b ∷ q))) ∷ after)
-    (e ∙ append_assoc (plain_peers H (λ q. held (b ∷ q)) (prefix ++ rest)) (Some (root_of H (length (prefix ++ rest)) (λ q. held (not b ∷ q))) ∷ []) after)
+    plain_after H (λ q. held (b ∷ q)) prefix rest peers (Some (root_of_levels H (length (prefix ++ rest)) (λ q. held (not b ∷ q))) ∷ after)
+    (e ∙ append_assoc (plain_peers H (λ q. held (b ∷ q)) (prefix ++ rest)) (Some (root_of_levels H (length (prefix ++ rest)) (λ q. held (not b ∷ q))) ∷ []) after)
 
 leaf_is : (H : List ℕ → List ℕ) (o : Option (List ℕ × List ℕ)) → leaf_digest H (value_in o) ≡ unwrap_or (option_map (λ e. leaf_digest H e.1) o) (empty_root H 0)
 unfolding empty_root
@@ -74,18 +74,18 @@ pub plain_leaf_is : (H : List ℕ → List ℕ) (insertions : List (List ℕ × 
 plain_leaf_is H insertions bits held = leaf_is H (last_under H bits insertions) ∙ ap (λ o. unwrap_or o (empty_root H 0)) (sym held)
 
 more_of : (H : List ℕ → List ℕ) (held : List Bool → Option (List ℕ)) (b : Bool) (bits : List Bool) (peers after : List (Option (List ℕ))) → peers ≡ plain_peers H held (b ∷ bits) ++ after
-    → peers ≡ plain_peers H (λ q. held (b ∷ q)) bits ++ Some (root_of H (length bits) (λ q. held (not b ∷ q))) ∷ after
+    → peers ≡ plain_peers H (λ q. held (b ∷ q)) bits ++ Some (root_of_levels H (length bits) (λ q. held (not b ∷ q))) ∷ after
 unfolding plain_peers
-more_of H held b bits peers after e = e ∙ append_assoc (plain_peers H (λ q. held (b ∷ q)) bits) (Some (root_of H (length bits) (λ q. held (not b ∷ q))) ∷ []) after
+more_of H held b bits peers after e = e ∙ append_assoc (plain_peers H (λ q. held (b ∷ q)) bits) (Some (root_of_levels H (length bits) (λ q. held (not b ∷ q))) ∷ []) after
 
 below_prefix : (H : List ℕ → List ℕ) (held : List Bool → Option (List ℕ)) (b : Bool) (bits : List Bool) (peers after : List (Option (List ℕ))) (x : List ℕ) → peers ≡ plain_peers H held (b ∷ bits) ++ after
     → length peers ≡ 256 → x ≡ unwrap_or (held (b ∷ bits)) (empty_root H 0)
-    → fork_input H peers x b bits ≡ branch_input (root_of H (length bits) (λ q. held (false ∷ q))) (root_of H (length bits) (λ q. held (true ∷ q)))
+    → fork_input H peers x b bits ≡ branch_input (root_of_levels H (length bits) (λ q. held (false ∷ q))) (root_of_levels H (length bits) (λ q. held (true ∷ q)))
 below_prefix H held b bits peers after x e all is =
     let more = more_of H held b bits peers after e in
     both_halves H held b (length bits) (peer_of H peers (length bits)) (proof_value H peers x bits)
     (peer_there H peers (plain_peers H (λ q. held (b ∷ q)) bits) after _ (length bits) more (length-plain_peers H (λ q. held (b ∷ q)) bits) all)
-    (plain_value H (λ q. held (b ∷ q)) bits peers (Some (root_of H (length bits) (λ q. held (not b ∷ q))) ∷ after) x more all is)
+    (plain_value H (λ q. held (b ∷ q)) bits peers (Some (root_of_levels H (length bits) (λ q. held (not b ∷ q))) ∷ after) x more all is)
 
 -- the input of the plain peers' evaluation at a prefix is the plain input there
 pub plain_input_is : (H : List ℕ → List ℕ) (insertions : List (List ℕ × List ℕ)) (bits prefix rest : List Bool) → length bits ≡ 256

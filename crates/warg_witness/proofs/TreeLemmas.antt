@@ -10,7 +10,7 @@ use Rattle.std.specs.Cmp.Lexicographic.{slice_cmp}
 use Rattle.warg_crypto.specs.EmptyTrees.{empty_root}
 use Rattle.warg_log.specs.Tree.{branch}
 use Rattle.warg_map.specs.Bits.{bit_at, bits_from, key_bits, last_bits}
-use Rattle.warg_map.specs.Sparse.{SparseMap, bits_cmp, root_of, leaf_digest, map_of, pair_bytes}
+use Rattle.warg_map.specs.Sparse.{SparseMap, bits_cmp, root_of_levels, leaf_digest, map_of, pair_bytes}
 use Rattle.warg_map.specs.Last.{same_bits, last_under}
 use Rattle.warg_witness.specs.Laws.{GivesDigests}
 use Rattle.warg_witness.specs.MapPaths.{key_at, entry_at, entry_cmp, AreKeysUnder, AreEmptyTrees, IsPlaceOfLast, IsLastPlace, plain_peers}
@@ -20,13 +20,13 @@ use Rattle.warg_witness.proofs.KeyLawLemmas.{LastHeld}
 use Rattle.warg_witness.proofs.PathBits.{length-last_bits}
 
 -- nothing is held
-root-nothing : (H : List ℕ → List ℕ) (k : ℕ) → root_of H k (λ q. None) ≡ empty_root H k
-unfolding root_of empty_root
+root-nothing : (H : List ℕ → List ℕ) (k : ℕ) → root_of_levels H k (λ q. None) ≡ empty_root H k
+unfolding root_of_levels empty_root
 root-nothing H zero = refl
 root-nothing H (suc k) = ap (λ e. H (1 ∷ (e ++ e))) (root-nothing H k)
 
-root-same : (H : List ℕ → List ℕ) (k : ℕ) (m n : List Bool → Option (List ℕ)) → ((q : List Bool) → m q ≡ n q) → root_of H k m ≡ root_of H k n
-root-same H k m n h = λ i. root_of H k (λ q. h q i)
+root-same : (H : List ℕ → List ℕ) (k : ℕ) (m n : List Bool → Option (List ℕ)) → ((q : List Bool) → m q ≡ n q) → root_of_levels H k m ≡ root_of_levels H k n
+root-same H k m n h = λ i. root_of_levels H k (λ q. h q i)
 
 false_from_not : (b : Bool) → (b ≡ true → ⊥) → b ≡ false
 false_from_not false h = refl
@@ -39,7 +39,7 @@ none_under H insertions prefix q keys none are =
     (λ i less. false_from_not _ (λ same. let found = are.all i q less (sym (same_bits-true _ _ same)) in let less' = found.1 in omega (arith, less', none)))
 
 pub root_none : LastHeld → (H : List ℕ → List ℕ) (insertions : List (List ℕ × List ℕ)) (prefix : List Bool) (keys : List (List ℕ × ℕ)) (k : ℕ) → length keys ≡ 0 → AreKeysUnder H insertions prefix keys
-    → root_of H k (λ q. get (map_of H insertions) (prefix ++ q)) ≡ empty_root H k
+    → root_of_levels H k (λ q. get (map_of H insertions) (prefix ++ q)) ≡ empty_root H k
 root_none held H insertions prefix keys k none are =
     root-same H k _ (λ q. None)
     (λ q. held H (prefix ++ q) insertions ∙ ap (option_map (λ (e : List ℕ × List ℕ). leaf_digest H e.1)) (none_under H insertions prefix q keys none are))
@@ -91,8 +91,8 @@ last_is held long order H digests insertions prefix keys n size are count =
 -- the leaf of a whole digest
 pub root_leaf : LastHeld → AllBits → OrderOfBits → (H : List ℕ → List ℕ) → GivesDigests H → (insertions : List (List ℕ × List ℕ)) (prefix : List Bool) (keys : List (List ℕ × ℕ)) (n : ℕ) → length prefix ≡ 256
     → AreKeysUnder H insertions prefix keys → length keys ≡ n + 1
-    → leaf_digest H (get_or insertions (entry_at keys n).1 ([], [])).1 ≡ root_of H 0 (λ q. get (map_of H insertions) (prefix ++ q))
-unfolding root_of
+    → leaf_digest H (get_or insertions (entry_at keys n).1 ([], [])).1 ≡ root_of_levels H 0 (λ q. get (map_of H insertions) (prefix ++ q))
+unfolding root_of_levels
 root_leaf held long order H digests insertions prefix keys n size are count =
     let last = last_is held long order H digests insertions prefix keys n size are count in
     sym (ap (λ q. unwrap_or (get (map_of H insertions) q) (empty_root H 0)) (append-nil prefix)
@@ -104,15 +104,15 @@ after_bit m prefix b q = ap (get m) (append_assoc prefix (b ∷ []) q)
 
 -- a branch over both halves
 pub root_branch : (H : List ℕ → List ℕ) (m : SparseMap) (prefix : List Bool) (depth : ℕ) (l r : List ℕ) → depth < 256
-    → l ≡ root_of H (256 - (depth + 1)) (λ q. get m ((prefix ++ false ∷ []) ++ q)) → r ≡ root_of H (256 - (depth + 1)) (λ q. get m ((prefix ++ true ∷ []) ++ q))
-    → branch H l r ≡ root_of H (256 - depth) (λ q. get m (prefix ++ q))
-unfolding root_of
+    → l ≡ root_of_levels H (256 - (depth + 1)) (λ q. get m ((prefix ++ false ∷ []) ++ q)) → r ≡ root_of_levels H (256 - (depth + 1)) (λ q. get m ((prefix ++ true ∷ []) ++ q))
+    → branch H l r ≡ root_of_levels H (256 - depth) (λ q. get m (prefix ++ q))
+unfolding root_of_levels
 root_branch H m prefix depth l r lt left right =
     let k = 256 - (depth + 1) in
     let up : suc k ≡ 256 - depth = omega (arith, lt) in
     ap (λ t. H (1 ∷ (t ++ r))) (left ∙ root-same H k _ (λ q. get m (prefix ++ false ∷ q)) (after_bit m prefix false))
-    ∙ ap (λ t. H (1 ∷ (root_of H k (λ q. get m (prefix ++ false ∷ q)) ++ t))) (right ∙ root-same H k _ (λ q. get m (prefix ++ true ∷ q)) (after_bit m prefix true))
-    ∙ ap (λ j. root_of H j (λ q. get m (prefix ++ q))) up
+    ∙ ap (λ t. H (1 ∷ (root_of_levels H k (λ q. get m (prefix ++ false ∷ q)) ++ t))) (right ∙ root-same H k _ (λ q. get m (prefix ++ true ∷ q)) (after_bit m prefix true))
+    ∙ ap (λ j. root_of_levels H j (λ q. get m (prefix ++ q))) up
 
 -- the bits of a key that are left at a depth
 pub bits_left-more : (key : List ℕ) (depth : ℕ) → depth < 256 → last_bits key (256 - depth) ≡ bit_at key depth ∷ last_bits key (256 - (depth + 1))
@@ -129,15 +129,15 @@ bits_left-none key depth e = ap (λ d. last_bits key (256 - d)) e
 
 -- one more of the plain peers
 pub peers_more : (H : List ℕ → List ℕ) (m : SparseMap) (key : List ℕ) (prefix : List Bool) (depth : ℕ) (b : Bool) (old below new : List (Option (List ℕ))) (far : List ℕ) → depth < 256 → b ≡ bit_at key depth
-    → below ≡ old ++ plain_peers H (λ q. get m ((prefix ++ b ∷ []) ++ q)) (last_bits key (256 - (depth + 1))) → far ≡ root_of H (256 - (depth + 1)) (λ q. get m ((prefix ++ not b ∷ []) ++ q))
+    → below ≡ old ++ plain_peers H (λ q. get m ((prefix ++ b ∷ []) ++ q)) (last_bits key (256 - (depth + 1))) → far ≡ root_of_levels H (256 - (depth + 1)) (λ q. get m ((prefix ++ not b ∷ []) ++ q))
     → new ≡ below ++ Some far ∷ [] → new ≡ old ++ plain_peers H (λ q. get m (prefix ++ q)) (last_bits key (256 - depth))
 unfolding plain_peers
 peers_more H m key prefix depth b old below new far lt bit is beside more =
     let rest = last_bits key (256 - (depth + 1)) in
     let near : (λ q. get m ((prefix ++ b ∷ []) ++ q)) ≡ (λ q. get m (prefix ++ b ∷ q)) = λ i q. after_bit m prefix b q i in
-    let other : root_of H (256 - (depth + 1)) (λ q. get m ((prefix ++ not b ∷ []) ++ q)) ≡ root_of H (length rest) (λ q. get m (prefix ++ not b ∷ q)) =
+    let other : root_of_levels H (256 - (depth + 1)) (λ q. get m ((prefix ++ not b ∷ []) ++ q)) ≡ root_of_levels H (length rest) (λ q. get m (prefix ++ not b ∷ q)) =
     root-same H (256 - (depth + 1)) _ (λ q. get m (prefix ++ not b ∷ q)) (after_bit m prefix (not b))
-    ∙ ap (λ k. root_of H k (λ q. get m (prefix ++ not b ∷ q))) (sym (length-last_bits key (256 - (depth + 1)))) in
+    ∙ ap (λ k. root_of_levels H k (λ q. get m (prefix ++ not b ∷ q))) (sym (length-last_bits key (256 - (depth + 1)))) in
     more ∙ ap (λ t. t ++ Some far ∷ []) (is ∙ ap (λ f. old ++ plain_peers H f rest) near)
     ∙ append_assoc old (plain_peers H (λ q. get m (prefix ++ b ∷ q)) rest) (Some far ∷ [])
     ∙ ap (λ d. old ++ (plain_peers H (λ q. get m (prefix ++ b ∷ q)) rest ++ Some d ∷ [])) (beside ∙ other)
@@ -145,7 +145,7 @@ peers_more H m key prefix depth b old below new far lt bit is beside more =
 
 -- the same, of what the code has
 pub empty_is : LastHeld → (H : List ℕ → List ℕ) (insertions : List (List ℕ × List ℕ)) (prefix : List Bool) (keys : List (List ℕ × ℕ)) (empty : List (List ℕ)) (k : ℕ) (digest copy : List ℕ) → AreEmptyTrees H empty → k < 257
-    → copy ≡ digest → digest ≡ get_or empty k digest → length keys ≡ 0 → AreKeysUnder H insertions prefix keys → copy ≡ root_of H k (λ q. get (map_of H insertions) (prefix ++ q))
+    → copy ≡ digest → digest ≡ get_or empty k digest → length keys ≡ 0 → AreKeysUnder H insertions prefix keys → copy ≡ root_of_levels H k (λ q. get (map_of H insertions) (prefix ++ q))
 empty_is held H insertions prefix keys empty k digest copy trees lt is at none are =
     let count = trees.count in
     is ∙ at ∙ get_or_default empty k digest [] (omega (arith, lt, count)) ∙ trees.each k lt ∙ sym (root_none held H insertions prefix keys k none are)
@@ -160,12 +160,12 @@ place_within H kb vb es prefix keys place are last =
 
 pub leaf_root : {K V : Type 0} → LastHeld → AllBits → OrderOfBits → (H : List ℕ → List ℕ) → GivesDigests H → (kb : K → List ℕ) (vb : V → List ℕ) (es : List (K × V)) (prefix : List Bool) (keys : List (List ℕ × ℕ))
     (depth place : ℕ) (e : K × V) (leaf : List ℕ) → depth ≡ 256 → length prefix ≡ depth → AreKeysUnder H (pair_bytes kb vb es) prefix keys → IsPlaceOfLast keys place → e ≡ get_or es place e → leaf ≡ H (0 ∷ vb e.1)
-    → leaf ≡ root_of H (256 - depth) (λ q. get (map_of H (pair_bytes kb vb es)) (prefix ++ q))
+    → leaf ≡ root_of_levels H (256 - depth) (λ q. get (map_of H (pair_bytes kb vb es)) (prefix ++ q))
 leaf_root held long order H digests kb vb es prefix keys depth place e leaf whole size are last at is =
     is ∙ ap (λ (f : List ℕ × List ℕ). leaf_digest H f.1) (sym (pair_at kb vb es place e (place_within H kb vb es prefix keys place are last) at))
     ∙ ap (λ n. leaf_digest H (get_or (pair_bytes kb vb es) n ([], [])).1) last.is
     ∙ root_leaf held long order H digests (pair_bytes kb vb es) prefix keys last.before (size ∙ whole) are last.count
-    ∙ ap (λ k. root_of H k (λ q. get (map_of H (pair_bytes kb vb es)) (prefix ++ q))) (let z : 0 ≡ 256 - depth = omega (arith, whole) in z)
+    ∙ ap (λ k. root_of_levels H k (λ q. get (map_of H (pair_bytes kb vb es)) (prefix ++ q))) (let z : 0 ≡ 256 - depth = omega (arith, whole) in z)
 
 -- the place of the last insertion, where the bits are whole
 pub last_place_is : LastHeld → AllBits → OrderOfBits → (H : List ℕ → List ℕ) → GivesDigests H → (insertions : List (List ℕ × List ℕ)) (prefix : List Bool) (keys : List (List ℕ × ℕ)) (key : List ℕ) (depth : ℕ) (found : Option ℕ)

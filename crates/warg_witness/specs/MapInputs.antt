@@ -2,7 +2,7 @@
 -- plain sparse tree over given insertions.
 use Rattle.std.specs.Prelude.{ℕ, zero, suc, Bool, true, false, cond, List, [], ◌∷◌, ◌++◌, length, Option}
 use Rattle.std.specs.FinMap.{get}
-use Rattle.warg_map.specs.Sparse.{root_of, map_of}
+use Rattle.warg_map.specs.Sparse.{root_of_levels, map_of}
 use Rattle.warg_map.specs.Last.{last_under}
 use Rattle.warg_map.specs.ProofValue.{peer_of, proof_value}
 use Rattle.warg_witness.specs.Inputs.{branch_input}
@@ -24,4 +24,4 @@ path_input H peers value (bit ∷ below) = fork_input H peers (H (0 ∷ value)) 
 abbrev pub plain_input_at : (List ℕ → List ℕ) → List (List ℕ × List ℕ) → List Bool → ℕ → List ℕ
 plain_input_at H insertions prefix zero = 0 ∷ value_in (last_under H prefix insertions)
 plain_input_at H insertions prefix (suc k) =
-    branch_input (root_of H k (λ bits. get (map_of H insertions) (prefix ++ false ∷ bits))) (root_of H k (λ bits. get (map_of H insertions) (prefix ++ true ∷ bits)))
+    branch_input (root_of_levels H k (λ bits. get (map_of H insertions) (prefix ++ false ∷ bits))) (root_of_levels H k (λ bits. get (map_of H insertions) (prefix ++ true ∷ bits)))

@@ -5,7 +5,7 @@ use Rattle.std.specs.Ordering.{is_lt, nat_cmp, ordering_then}
 use Rattle.std.specs.Cmp.Lexicographic.{slice_cmp}
 use Rattle.warg_crypto.specs.EmptyTrees.{empty_root}
 use Rattle.warg_map.specs.Bits.{key_bits}
-use Rattle.warg_map.specs.Sparse.{root_of}
+use Rattle.warg_map.specs.Sparse.{root_of_levels}
 use Rattle.warg_map.specs.Last.{last_under}
 use Rattle.warg_map.specs.ProofValue.{proof_value}
 use Rattle.warg_witness.specs.Inputs.{branch_input}
@@ -51,7 +51,7 @@ pub record AreEmptyTrees (H : List ℕ → List ℕ) (digests : List (List ℕ))
 -- the sparse root of what is held on its other side.
 unfoldable pub plain_peers : (List ℕ → List ℕ) → (List Bool → Option (List ℕ)) → List Bool → List (Option (List ℕ))
 plain_peers H held [] = []
-plain_peers H held (bit ∷ bits) = plain_peers H (λ q. held (bit ∷ q)) bits ++ Some (root_of H (length bits) (λ q. held (not bit ∷ q))) ∷ []
+plain_peers H held (bit ∷ bits) = plain_peers H (λ q. held (bit ∷ q)) bits ++ Some (root_of_levels H (length bits) (λ q. held (not bit ∷ q))) ∷ []
 
 -- The key of the insertion at a place.
 abbrev pub key_at : List (List ℕ × List ℕ) → ℕ → List ℕ

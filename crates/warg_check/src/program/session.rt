@@ -34,7 +34,7 @@ struct Session<A: Allocator> {
 }
 
 impl<A: Allocator + Copy> Session<A> {
-    ghost use Rattle.warg_check.specs.Sessions.{StandsAt, Answers, Takes, Refuses, RefusesLine, Adds};
+    ghost use Rattle.warg_check.specs.Sessions.{StandsAt, AnswersOrder, Takes, Refuses, RefusesLine, Adds};
 
     fn new(alloc: A) -> Result<Session<A>, AllocError>
         ensures state { IfOk result (λ session. StandsAt session start) }
@@ -72,7 +72,7 @@ impl<A: Allocator + Copy> Session<A> {
     }
 
     fn answer(&mut self, command: Command<A>) -> Result<(), RunError>
-        ensures ok { OnOk result (Answers self.old self.new command) }
+        ensures ok { OnOk result (AnswersOrder self.old self.new command) }
         ensures errors { IfErr result (Refuses self.old command) }
     {
         match command.kind {
@@ -99,7 +99,7 @@ impl<A: Allocator + Copy> Session<A> {
 
     #[tactic(auto, unfolding(crate::specs::Text::answer))]
     fn push(&mut self, entry: &Vec<u8, A>) -> Result<(), RunError>
-        ensures ok { OnOk result (Answers self.old self.new (push entry.now.items)) }
+        ensures ok { OnOk result (AnswersOrder self.old self.new (push entry.now.items)) }
         ensures errors { IfErr result (Refuses self.old (push entry.now.items)) }
     {
         if self.log.length() == 1 << 63 {
@@ -113,7 +113,7 @@ impl<A: Allocator + Copy> Session<A> {
 
     #[tactic(auto, unfolding(crate::specs::Text::answer))]
     fn checkpoint(&mut self) -> Result<(), RunError>
-        ensures ok { OnOk result (Answers self.old self.new log) }
+        ensures ok { OnOk result (AnswersOrder self.old self.new log) }
         ensures errors { IfErr result (Refuses self.old log) }
     {
         let checkpoint = self.log.checkpoint();
@@ -130,7 +130,7 @@ impl<A: Allocator + Copy> Session<A> {
         log_length: &LogLength,
         value: &Vec<u8, A>,
     ) -> Result<(), RunError>
-        ensures ok { OnOk result (Answers self.old self.new (include node.0 log_length.now.value value.now.items)) }
+        ensures ok { OnOk result (AnswersOrder self.old self.new (include node.0 log_length.now.value value.now.items)) }
         ensures errors { IfErr result (Refuses self.old (include node.0 log_length.now.value value.now.items)) }
     {
         let proof = self.log.prove_inclusion(node, log_length.value);
@@ -150,7 +150,7 @@ impl<A: Allocator + Copy> Session<A> {
 
     #[tactic(auto, unfolding(crate::specs::Text::answer))]
     fn consistent(&mut self, old: &LogLength, new: &LogLength) -> Result<(), RunError>
-        ensures ok { OnOk result (Answers self.old self.new (consistent old.now.value new.now.value)) }
+        ensures ok { OnOk result (AnswersOrder self.old self.new (consistent old.now.value new.now.value)) }
         ensures errors { IfErr result (Refuses self.old (consistent old.now.value new.now.value)) }
     {
         let proof = self.log.prove_consistency(old.value, new.value);
@@ -167,7 +167,7 @@ impl<A: Allocator + Copy> Session<A> {
 
     #[tactic(auto, unfolding(crate::specs::Text::answer))]
     fn bundle(&mut self, node: Node, log_length: &LogLength) -> Result<(), RunError>
-        ensures ok { OnOk result (Answers self.old self.new (bundle node.0 log_length.now.value)) }
+        ensures ok { OnOk result (AnswersOrder self.old self.new (bundle node.0 log_length.now.value)) }
         ensures errors { IfErr result (Refuses self.old (bundle node.0 log_length.now.value)) }
     {
         needed_exist();
@@ -212,7 +212,7 @@ impl<A: Allocator + Copy> Session<A> {
         value: &Vec<u8, A>,
         bundle: &Vec<u8, A>,
     ) -> Result<(), RunError>
-        ensures ok { OnOk result (Answers self.old self.new (verify root.now value.now.items bundle.now.items)) }
+        ensures ok { OnOk result (AnswersOrder self.old self.new (verify root.now value.now.items bundle.now.items)) }
         ensures errors { IfErr result (Refuses self.old (verify root.now value.now.items bundle.now.items)) }
     {
         match check_inclusion(self.alloc, bundle.as_slice(), 0, value, root) {
@@ -226,7 +226,7 @@ impl<A: Allocator + Copy> Session<A> {
 
     #[tactic(auto, unfolding(crate::specs::Text::answer), using(crate::proofs::MapLemmas::map_after_insert))]
     fn insert(&mut self, key: Vec<u8, A>, value: Vec<u8, A>) -> Result<(), RunError>
-        ensures ok { OnOk result (Answers self.old self.new (insert key.items value.items)) }
+        ensures ok { OnOk result (AnswersOrder self.old self.new (insert key.items value.items)) }
         ensures errors { IfErr result (Refuses self.old (insert key.items value.items)) }
     {
         self.map = match self.map.insert(key, value) {
@@ -241,7 +241,7 @@ impl<A: Allocator + Copy> Session<A> {
 
     #[tactic(auto, unfolding(crate::specs::Text::answer))]
     fn map_root(&mut self) -> Result<(), RunError>
-        ensures ok { OnOk result (Answers self.old self.new map) }
+        ensures ok { OnOk result (AnswersOrder self.old self.new map) }
         ensures errors { IfErr result (Refuses self.old map) }
     {
         let len = self.map.len();
@@ -252,7 +252,7 @@ impl<A: Allocator + Copy> Session<A> {
 
     #[tactic(auto, unfolding(crate::specs::Text::answer))]
     fn prove(&mut self, key: &Vec<u8, A>, value: &Vec<u8, A>) -> Result<(), RunError>
-        ensures ok { OnOk result (Answers self.old self.new (prove key.now.items value.now.items)) }
+        ensures ok { OnOk result (AnswersOrder self.old self.new (prove key.now.items value.now.items)) }
         ensures errors { IfErr result (Refuses self.old (prove key.now.items value.now.items)) }
     {
         let copy = Vec::from_slice(self.alloc, key.as_slice())?;
@@ -268,7 +268,7 @@ impl<A: Allocator + Copy> Session<A> {
 
     #[tactic(auto, unfolding(crate::specs::Text::answer))]
     fn absent(&mut self, key: &Vec<u8, A>) -> Result<(), RunError>
-        ensures ok { OnOk result (Answers self.old self.new (absent key.now.items)) }
+        ensures ok { OnOk result (AnswersOrder self.old self.new (absent key.now.items)) }
         ensures errors { IfErr result (Refuses self.old (absent key.now.items)) }
     {
         let copy = Vec::from_slice(self.alloc, key.as_slice())?;

@@ -3,7 +3,7 @@
 ghost use Rattle.std.specs.Prelude.{◌≡◌, ℕ, ◌+◌, ◌-◌, ◌<◌, ◌≤◌, Bool, List, [], ◌∷◌, ◌++◌, length, IfOk, OnOk};
 ghost use Rattle.std.specs.FinMap.{get};
 ghost use Rattle.warg_map.specs.Bits.{last_bits};
-ghost use Rattle.warg_map.specs.Sparse.{root_of, map_of, pair_bytes};
+ghost use Rattle.warg_map.specs.Sparse.{root_of_levels, map_of, pair_bytes};
 ghost use Rattle.warg_witness.specs.MapPaths.{AreEmptyTrees, AreKeysUnder, IsLastPlace, plain_peers};
 
 use crate::map::keys::{halves, last_place, sides, sorted_keys};
@@ -33,7 +33,7 @@ fn plain_root<D: SupportedDigest, K: VisitBytes, V: VisitBytes>(
     requires empty { AreEmptyTrees D.digest empty.now }
     requires keys { (prefix : List Bool) × (length prefix ≡ depth) × AreKeysUnder D.digest (pair_bytes K.bytes V.bytes insertions.now) prefix keys.now }
     ensures { (prefix : List Bool) → length prefix ≡ depth → AreKeysUnder D.digest (pair_bytes K.bytes V.bytes insertions.now) prefix keys.now
-        → result ≡ root_of D.digest (256 - depth) (λ bits. get (map_of D.digest (pair_bytes K.bytes V.bytes insertions.now)) (prefix ++ bits)) }
+        → result ≡ root_of_levels D.digest (256 - depth) (λ bits. get (map_of D.digest (pair_bytes K.bytes V.bytes insertions.now)) (prefix ++ bits)) }
 {
     last_held();
     all_bits();

@@ -3,7 +3,7 @@ use Rattle.std.specs.FinMap.{get-empty}
 use Rattle.warg_map.specs.Side.{side_bit}
 use Rattle.warg_map.specs.Bits.{last_bits}
 use Rattle.warg_map.specs.Sparse.{bits_cmp}
-use Rattle.warg_map.specs.Seen.{height_of}
+use Rattle.warg_map.specs.Seen.{tree_height}
 use Rattle.warg_map.proofs.Form.{is_fork, is_lone, is_stem}
 use Rattle.warg_map.proofs.Sparse.{last_bits-end}
 use Rattle.warg_map.proofs.Finds.{finds_in_fork, finds_lone, finds_leaf, finds_none_lone, finds_none_stem, finds_below, lone_same, all_shared}
@@ -22,7 +22,7 @@ returns-then-shared_with-stem g t c =
 
 pub returns-in-Leaf : goal.returns-in-Leaf
 returns-in-Leaf g t c =
-    let z : height_of c.args.self.now ≡ 0 = ap height_of c.in-Leaf.is in
+    let z : tree_height c.args.self.now ≡ 0 = ap tree_height c.in-Leaf.is in
     finds_leaf c.args.self.now c.in-Leaf.hash _ c.copied.result c.in-Leaf.is (last_bits-end c.args.path.hash.now c.args.path.index (omega (arith, z, c.requires.height))) (c.copied.ensures ∙ c.deref.ensures)
 
 pub returns-in-Empty : goal.returns-in-Empty

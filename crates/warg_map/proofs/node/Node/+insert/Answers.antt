@@ -1,7 +1,7 @@
 use Rattle.std.proofs.Common.{◌≡◌, ◌+◌, ◌-◌, ap, sym, ◌∙◌, refl, arith, rules}
 use Rattle.warg_map.specs.Side.{side_bit}
 use Rattle.warg_map.specs.Bits.{last_bits, bits_from, bit_at}
-use Rattle.warg_map.specs.Seen.{height_of}
+use Rattle.warg_map.specs.Seen.{tree_height}
 use Rattle.warg_map.specs.Lone.{Lone}
 use Rattle.warg_map.proofs.Sparse.{last_bits-end}
 use Rattle.warg_map.proofs.Form.{after_carries, rest_holds, lone_has, lone_seen, is_fork, is_stem}
@@ -17,8 +17,8 @@ raised-requires-clause-held g t c =
 pub returns-in_default-next : goal.returns-in_default-next
 returns-in_default-next g t c =
     let i : c.args.path.now.index ≡ 256 = c.in_default-next.ensures.steps.index.0 in
-    let z : height_of c.args.self.now ≡ 0 = omega (arith, c.requires.height, i) in
-    inserts_low_lone c.args.self.now c.in-Singleton.singleton _ _ c.args.value c.in-Singleton.is (sym (ap height_of c.in-Singleton.is) ∙ z) c.in_default-next.ensures.steps.bits.0 c.in_ok-new-in-Singleton.ensures.ok
+    let z : tree_height c.args.self.now ≡ 0 = omega (arith, c.requires.height, i) in
+    inserts_low_lone c.args.self.now c.in-Singleton.singleton _ _ c.args.value c.in-Singleton.is (sym (ap tree_height c.in-Singleton.is) ∙ z) c.in_default-next.ensures.steps.bits.0 c.in_ok-new-in-Singleton.ensures.ok
 
 pub parted-requires-clause-holds : goal.parted-requires-clause-holds
 parted-requires-clause-holds g t c =
@@ -46,15 +46,15 @@ raised-requires-in-Stem-clause-carries g t c =
 
 pub raised-requires-in-Stem-clause-held : goal.raised-requires-in-Stem-clause-held
 raised-requires-in-Stem-clause-held g t c =
-    let hb : height_of c.node-in-Stem.result.now ≡ c.as_ref-stem.result.now.below.0 = ap (λ d. d.0) c.node-in-Stem.ensures.seen in
-    let ho : height_of c.args.self.now ≡ c.as_ref-stem.result.now.below.0 + c.as_ref-stem.result.now.len = ap height_of (is_stem c.in-Stem.is c.as_ref-stem.ensures) in
+    let hb : tree_height c.node-in-Stem.result.now ≡ c.as_ref-stem.result.now.below.0 = ap (λ d. d.0) c.node-in-Stem.ensures.seen in
+    let ho : tree_height c.args.self.now ≡ c.as_ref-stem.result.now.below.0 + c.as_ref-stem.result.now.len = ap tree_height (is_stem c.in-Stem.is c.as_ref-stem.ensures) in
     has_inserted c.node-in-Stem.result.now c.in_ok-node-in-Stem-2.node _ c.copied-key-in-Stem.result c.args.path.now.hash.now c.args.value c.advance.new.self.index c.in_ok-node-in-Stem-2.fresh c.in_ok-node-in-Stem-2.ensures
     (ap (λ y. last_bits y (256 - c.advance.new.self.index)) c.advance.ensures.digest) (c.copied-key-in-Stem.ensures ∙ c.hash-in-Stem.ensures)
     (omega (arith, hb, ho, c.requires.height, c.advance.ensures.index, c.if-shared-stem.false, c.shared_with-shared.ensures.at_most))
 
 pub returns-in_ok-new-in-Leaf : goal.returns-in_ok-new-in-Leaf
 returns-in_ok-new-in-Leaf g t c =
-    let z : height_of c.args.self.now ≡ 0 = ap height_of c.in-Leaf.is in
+    let z : tree_height c.args.self.now ≡ 0 = ap tree_height c.in-Leaf.is in
     inserts_leaf c.args.self.now _ c.in-Leaf.field-0 c.in_ok-new-in-Leaf.field-0 c.args.value c.in-Leaf.is (last_bits-end c.args.path.now.hash.now c.args.path.now.index (omega (arith, z, c.requires.height))) c.in_ok-new-in-Leaf.ensures.ok
 
 pub returns-in_ok-node-in-Empty : goal.returns-in_ok-node-in-Empty

@@ -1,7 +1,7 @@
 use Rattle.std.proofs.Common.{◌≡◌, ◌+◌, ◌-◌, ◌<◌, cond, length, true, false, is_some, ap, sym, ◌∙◌, refl, arith, rules}
 use Rattle.warg_map.specs.Side.{side_bit}
 use Rattle.warg_map.specs.Bits.{last_bits}
-use Rattle.warg_map.specs.Seen.{height_of}
+use Rattle.warg_map.specs.Seen.{tree_height}
 use Rattle.warg_map.proofs.Form.{is_fork, is_lone, is_stem}
 use Rattle.warg_map.proofs.Sparse.{contains_key-empty, length-last_bits, last_bits-end}
 use Rattle.warg_map.proofs.Finds.{finds_leaf, finds_lone, finds_none_lone, finds_none_stem, lone_same, all_shared, held_below, held_in_fork}
@@ -31,7 +31,7 @@ returns-in_default-3-clause-answer g t c =
 
 pub returns-in_ok-with_room-in-Leaf-clause-answer : goal.returns-in_ok-with_room-in-Leaf-clause-answer
 returns-in_ok-with_room-in-Leaf-clause-answer g t c =
-    let z : height_of c.args.self.now ≡ 0 = ap height_of c.in-Leaf.is in
+    let z : tree_height c.args.self.now ≡ 0 = ap tree_height c.in-Leaf.is in
     proves_leaf g.D.SupportedDigest.digest c.args.self.now c.in-Leaf.field-0 _ _ c.in-Leaf.is (last_bits-end c.args.path.hash.now c.args.path.index (omega (arith, z, c.requires.height))) c.in_ok-with_room-in-Leaf.ensures
 
 pub returns-in-Empty-clause-answer : goal.returns-in-Empty-clause-answer
@@ -65,8 +65,8 @@ returns-in_ok-push_empties-in-Stem-clause-answer g t c =
 pub returns-in_ok-push_empties-in-Stem-clause-few : goal.returns-in_ok-push_empties-in-Stem-clause-few
 returns-in_ok-push_empties-in-Stem-clause-few g t c =
     let H = g.D.SupportedDigest.digest in
-    let hs : height_of c.args.self.now ≡ c.as_ref-stem.result.now.below.0 + c.as_ref-stem.result.now.len = ap height_of (is_stem c.in-Stem.is c.as_ref-stem.ensures) in
-    let hb : height_of c.node-in-Stem.result.now ≡ c.as_ref-stem.result.now.below.0 = ap (λ d. d.0) c.node-in-Stem.ensures.seen in
+    let hs : tree_height c.args.self.now ≡ c.as_ref-stem.result.now.below.0 + c.as_ref-stem.result.now.len = ap tree_height (is_stem c.in-Stem.is c.as_ref-stem.ensures) in
+    let hb : tree_height c.node-in-Stem.result.now ≡ c.as_ref-stem.result.now.below.0 = ap (λ d. d.0) c.node-in-Stem.ensures.seen in
     let few = rw c.in-Some-3.is at c.in_ok-proof-in-Stem.ensures.few in
     let e = ap length c.in_ok-push_empties-in-Stem.ensures ∙ length_peers c.in-Some-3.proof _ ∙ ap (λ j. length c.in-Some-3.proof + j) (length-empty_peers H _ c.as_ref-stem.result.now.len) in
     omega (arith, hs, hb, few, e)
@@ -74,7 +74,7 @@ returns-in_ok-push_empties-in-Stem-clause-few g t c =
 -- a key that isn't held is refused no memory
 pub returns-in_err-with_room-in-Leaf-clause-none : goal.returns-in_err-with_room-in-Leaf-clause-none
 returns-in_err-with_room-in-Leaf-clause-none g t c = λ absent.
-    let z : height_of c.args.self.now ≡ 0 = ap height_of c.in-Leaf.is in
+    let z : tree_height c.args.self.now ≡ 0 = ap tree_height c.in-Leaf.is in
     let found = ap is_some (finds_leaf c.args.self.now c.in-Leaf.field-0 _ _ c.in-Leaf.is (last_bits-end c.args.path.hash.now c.args.path.index (omega (arith, z, c.requires.height))) refl) in
     let e : true ≡ false = found ∙ absent in cc
 

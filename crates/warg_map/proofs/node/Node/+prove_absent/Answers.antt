@@ -3,7 +3,7 @@ use Rattle.std.proofs.lemmas.List.{length-replicate}
 use Rattle.warg_map.specs.Side.{side_bit}
 use Rattle.warg_map.specs.Bits.{last_bits}
 use Rattle.warg_map.specs.Sparse.{sparse_root}
-use Rattle.warg_map.specs.Seen.{height_of}
+use Rattle.warg_map.specs.Seen.{tree_height}
 use Rattle.warg_map.proofs.Sparse.{length-last_bits, last_bits-end}
 use Rattle.warg_map.proofs.Form.{lone_seen, is_fork, is_lone, is_stem}
 use Rattle.warg_map.proofs.Finds.{finds_leaf, all_shared, held_below, held_in_fork}
@@ -12,7 +12,7 @@ use Rattle.warg_map.proofs.node.Node.+prove_absent.Goals as goal
 
 pub unreachable-requires : goal.unreachable-requires
 unreachable-requires g t c =
-    let z : height_of c.args.self.now ≡ 0 = ap height_of c.in-Leaf.is in
+    let z : tree_height c.args.self.now ≡ 0 = ap tree_height c.in-Leaf.is in
     let e : true ≡ false = ap is_some (finds_leaf c.args.self.now c.in-Leaf.field-0 _ _ c.in-Leaf.is (last_bits-end c.args.path.hash.now c.args.path.index (omega (arith, z, c.requires.height))) refl) ∙ c.requires.absent in
     cc
 
@@ -100,7 +100,7 @@ returns-in_ok-parted-in-Singleton-clause-answer g t c =
 pub returns-in_ok-parted-in-Singleton-clause-few : goal.returns-in_ok-parted-in-Singleton-clause-few
 returns-in_ok-parted-in-Singleton-clause-few g t c =
     let lt = lone_parts c.args.self.now _ c.args.path.hash.now c.args.path.index c.shared_with-shared.result (is_lone c.in-Singleton.is c.as_ref-singleton.ensures) c.requires.height c.shared_with-shared.ensures.at_most c.shared_with-shared.ensures.same c.requires.absent in
-    let h : height_of c.args.self.now ≡ c.as_ref-singleton.result.now.height = ap height_of (is_lone c.in-Singleton.is c.as_ref-singleton.ensures) in
+    let h : tree_height c.args.self.now ≡ c.as_ref-singleton.result.now.height = ap tree_height (is_lone c.in-Singleton.is c.as_ref-singleton.ensures) in
     let n = ap length c.in_ok-parted-in-Singleton.ensures in
     let r = length-replicate {A = Option (List ℕ)} c.shared_with-shared.result None in
     omega (arith, lt, h, n, r)
