@@ -10,7 +10,7 @@ use Rattle.warg_check.specs.Words.{lines_of}
 use Rattle.warg_check.specs.Orders.{line_of, consistent}
 use Rattle.warg_check.specs.States.{State, start, log_at, map_at, after_line}
 use Rattle.warg_check.specs.Text.{said, is_not_bad, text_from, text_of, all_good, after_lines, answer, refusal, roots_or_refusal, verdict_or_refusal}
-use Rattle.warg_check.specs.Sessions.{StandsAt, Takes}
+use Rattle.warg_check.specs.Private.Sessions.{StandsAt, Takes}
 use Rattle.warg_check.specs.declared.program.session.Session.{Session}
 use Rattle.warg_check.specs.declared.verdict.CheckError.{CheckError}
 use Rattle.warg_check.specs.declared.verdict.CheckError.TheVariants as check

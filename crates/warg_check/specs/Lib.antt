@@ -1,11 +1,8 @@
 pub mod Words
 pub mod Orders
-pub mod Says
-pub mod Commands
 pub mod States
 pub mod Bundled
 pub mod Text
-pub mod Errors
-pub mod Sessions
 pub mod Verdicts
 pub mod CheckpointVerdicts
+pub mod Private

@@ -9,11 +9,11 @@ use Rattle.warg_map.specs.declared.node.Node.{Node}
 use Rattle.warg_map.specs.declared.node.Node.TheVariants.{Fork, Singleton, Stem, Empty}
 use Rattle.warg_map.specs.declared.fork.Fork.{Fork as Fork'}
 use Rattle.warg_map.specs.declared.stem.Stem.{Stem as Stem'}
-use Rattle.warg_map.specs.Lone.{Lone}
+use Rattle.warg_map.specs.Private.Lone.{Lone}
 use Rattle.warg_map.specs.Bits.{bit_at, bits_from, last_bits}
 use Rattle.warg_map.specs.Sparse.{SparseMap, bits_cmp, sparse_root}
-use Rattle.warg_map.specs.Under.{join_at, under, HoldsKey}
-use Rattle.warg_map.specs.Seen.{seen, tree_height, held_by, IsWellFormed}
+use Rattle.warg_map.specs.Private.Under.{join_at, under, HoldsKey}
+use Rattle.warg_map.specs.Private.Seen.{seen, tree_height, held_by, IsWellFormed}
 use Rattle.warg_map.specs.Peers.{shared, IsOther, IsAbsentPeers, IsAbsentCount, ProvesAbsent}
 use Rattle.warg_map.proofs.Sparse.{get-join_at, contains_key-join_at, contains_key-empty, contains_key-insert_same, length-bits_from}
 use Rattle.warg_map.proofs.Under.{join_at-other, get-under, under-append, holds-under, no_some, lone-under, bits_from-part, last_bits-at}

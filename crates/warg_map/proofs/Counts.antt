@@ -10,8 +10,8 @@ use Rattle.warg_map.specs.declared.fork.Fork.{Fork as Fork'}
 use Rattle.warg_map.specs.declared.stem.Stem.{Stem as Stem'}
 use Rattle.warg_map.specs.Bits.{bits_from}
 use Rattle.warg_map.specs.Sparse.{SparseMap, bits_cmp}
-use Rattle.warg_map.specs.Under.{join, join_at, under, HoldsKey, Splits, IsLone}
-use Rattle.warg_map.specs.Seen.{tree_height, held_by, IsWellFormed}
+use Rattle.warg_map.specs.Private.Under.{join, join_at, under, HoldsKey, Splits, IsLone}
+use Rattle.warg_map.specs.Private.Seen.{tree_height, held_by, IsWellFormed}
 use Rattle.warg_map.specs.Count.{stripped, half_after, nodes}
 use Rattle.warg_map.proofs.Form.{one_false, no_lone}
 use Rattle.warg_map.proofs.Under.{get-under_head, no_some}

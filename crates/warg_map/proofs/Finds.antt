@@ -7,11 +7,11 @@ use Rattle.warg_map.specs.declared.node.Node.{Node}
 use Rattle.warg_map.specs.declared.node.Node.TheVariants.{Leaf, Fork, Singleton, Stem}
 use Rattle.warg_map.specs.declared.fork.Fork.{Fork as Fork'}
 use Rattle.warg_map.specs.declared.stem.Stem.{Stem as Stem'}
-use Rattle.warg_map.specs.Lone.{Lone}
+use Rattle.warg_map.specs.Private.Lone.{Lone}
 use Rattle.warg_map.specs.Bits.{bit_at, bits_from, last_bits}
 use Rattle.warg_map.specs.Sparse.{SparseMap, bits_cmp}
-use Rattle.warg_map.specs.Under.{under}
-use Rattle.warg_map.specs.Seen.{seen, tree_height, held_by, IsWellFormed}
+use Rattle.warg_map.specs.Private.Under.{under}
+use Rattle.warg_map.specs.Private.Seen.{seen, tree_height, held_by, IsWellFormed}
 use Rattle.warg_map.proofs.Sparse.{bits_total, get-join_true, get-join_false, tied_itself_bits}
 use Rattle.warg_map.proofs.Under.{get-under, get-under_apart, lone-under, bits_from-part, last_bits-at, bits_from-append}
 

@@ -7,11 +7,11 @@ use Rattle.warg_map.specs.declared.node.Node.{Node}
 use Rattle.warg_map.specs.declared.node.Node.TheVariants.{Leaf, Fork, Singleton, Stem, Empty}
 use Rattle.warg_map.specs.declared.fork.Fork.{Fork as Fork'}
 use Rattle.warg_map.specs.declared.stem.Stem.{Stem as Stem'}
-use Rattle.warg_map.specs.Lone.{Lone}
+use Rattle.warg_map.specs.Private.Lone.{Lone}
 use Rattle.warg_map.specs.Bits.{bit_at, bits_from, last_bits}
 use Rattle.warg_map.specs.Sparse.{SparseMap, bits_cmp}
-use Rattle.warg_map.specs.Under.{join, join_at, under, HoldsKey, Splits, IsLone}
-use Rattle.warg_map.specs.Seen.{seen, tree_height, held_by, IsWellFormed, IsForkOf, IsSeen, Carries}
+use Rattle.warg_map.specs.Private.Under.{join, join_at, under, HoldsKey, Splits, IsLone}
+use Rattle.warg_map.specs.Private.Seen.{seen, tree_height, held_by, IsWellFormed, IsForkOf, IsSeen, Carries}
 use Rattle.warg_map.proofs.Sparse.{bits_total, get-join_true, get-join_false, contains_key-join_at, contains_key-insert_same, last_bits-step, length-bits_from}
 use Rattle.warg_map.proofs.Under.{under-append, under-none, bits_from-none, bits_from-append, last_bits-at, under_same, holds-under}
 

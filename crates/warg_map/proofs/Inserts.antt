@@ -6,11 +6,11 @@ use Rattle.warg_map.specs.declared.node.Node.{Node}
 use Rattle.warg_map.specs.declared.node.Node.TheVariants.{Leaf, Fork, Singleton, Stem, Empty}
 use Rattle.warg_map.specs.declared.fork.Fork.{Fork as Fork'}
 use Rattle.warg_map.specs.declared.stem.Stem.{Stem as Stem'}
-use Rattle.warg_map.specs.Lone.{Lone, held_alone}
+use Rattle.warg_map.specs.Private.Lone.{Lone, held_alone}
 use Rattle.warg_map.specs.Bits.{bit_at, bits_from, last_bits}
 use Rattle.warg_map.specs.Sparse.{SparseMap}
-use Rattle.warg_map.specs.Under.{join_at, under, HoldsKey}
-use Rattle.warg_map.specs.Seen.{seen, tree_height, held_by, IsWellFormed, Inserts, IsForkOf, IsSeen}
+use Rattle.warg_map.specs.Private.Under.{join_at, under, HoldsKey}
+use Rattle.warg_map.specs.Private.Seen.{seen, tree_height, held_by, IsWellFormed, Inserts, IsForkOf, IsSeen}
 use Rattle.warg_map.proofs.Sparse.{insert-join_at, contains_key-join_at, contains_key-empty, contains_key-insert_same, insert-again, last_bits-first, last_bits-zero}
 use Rattle.warg_map.proofs.Under.{insert-under, get-under, insert-under_apart, get-under_apart, lone-under, lone-append, bits_from-part, last_bits-at, bits_from-append}
 use Rattle.warg_map.proofs.Form.{fork_held, fork_formed}

@@ -10,12 +10,12 @@ use Rattle.warg_map.specs.declared.node.Node.{Node}
 use Rattle.warg_map.specs.declared.node.Node.TheVariants.{Leaf, Fork, Singleton, Stem}
 use Rattle.warg_map.specs.declared.fork.Fork.{Fork as Fork'}
 use Rattle.warg_map.specs.declared.stem.Stem.{Stem as Stem'}
-use Rattle.warg_map.specs.Lone.{Lone}
+use Rattle.warg_map.specs.Private.Lone.{Lone}
 use Rattle.warg_crypto.specs.EmptyTrees.{empty_root}
 use Rattle.warg_map.specs.Bits.{last_bits, bits_from}
 use Rattle.warg_map.specs.Sparse.{SparseMap, bits_cmp, root_of_levels, sparse_root}
-use Rattle.warg_map.specs.Under.{join_at, under, HoldsKey, Splits, IsLone, empty_peers}
-use Rattle.warg_map.specs.Seen.{seen, tree_height, held_by, IsWellFormed}
+use Rattle.warg_map.specs.Private.Under.{join_at, under, HoldsKey, Splits, IsLone, empty_peers}
+use Rattle.warg_map.specs.Private.Seen.{seen, tree_height, held_by, IsWellFormed}
 use Rattle.warg_map.specs.Peers.{IsPeers, IsPeerCount, Proves, shared, lone_peers}
 use Rattle.warg_map.proofs.Sparse.{bits_total, get-join_at, contains_key-insert_same, sparse_root-empty, head_same, tail_same, length-bits_from}
 use Rattle.warg_map.proofs.Under.{get-join_at_other, get-join_at_nil, get-under, no_some}

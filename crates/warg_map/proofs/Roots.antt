@@ -3,7 +3,7 @@ use Rattle.std.proofs.Common.{◌≡◌, ℕ, ◌+◌, ◌-◌, ◌≤◌, List,
 use Rattle.std.specs.FinMap.{insert, empty}
 use Rattle.warg_map.specs.Bits.{bits_from, last_bits}
 use Rattle.warg_map.specs.Sparse.{SparseMap, sparse_root}
-use Rattle.warg_map.specs.Under.{under, lift}
+use Rattle.warg_map.specs.Private.Under.{under, lift}
 use Rattle.warg_map.proofs.Sparse.{sparse_root-leaf, length-bits_from}
 use Rattle.warg_map.proofs.Under.{lift-under, lone-under, lone-append, bits_from-append}
 

@@ -8,7 +8,7 @@ use Rattle.std.specs.declared.cmp.Ordering.TheVariants.{Less, Equal, Greater}
 use Rattle.warg_crypto.specs.EmptyTrees.{empty_root}
 use Rattle.warg_map.specs.Bits.{bit_at, bits_from, last_bits}
 use Rattle.warg_map.specs.Sparse.{SparseMap, bits_cmp, root_of_levels, sparse_root}
-use Rattle.warg_map.specs.Under.{join, join_at}
+use Rattle.warg_map.specs.Private.Under.{join, join_at}
 
 pub bits_total : IsTotalOrder bits_cmp
 bits_total = lists_total bool_cmp_total

@@ -4,7 +4,7 @@ use Rattle.std.specs.FinMap.{get, insert, empty, contains_key, get-empty}
 use Rattle.warg_crypto.specs.EmptyTrees.{empty_root}
 use Rattle.warg_map.specs.Bits.{bit_at, bits_from, last_bits}
 use Rattle.warg_map.specs.Sparse.{SparseMap, bits_cmp, sparse_root}
-use Rattle.warg_map.specs.Under.{join_at, under, lift, HoldsKey}
+use Rattle.warg_map.specs.Private.Under.{join_at, under, lift, HoldsKey}
 use Rattle.warg_map.proofs.Sparse.{insert-join_at, get-join_at, insert-empty_at, get-join_nil, sparse_root-join, sparse_root-empty, length-bits_from}
 
 -- the bits of a digest

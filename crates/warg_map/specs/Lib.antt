@@ -1,12 +1,8 @@
 pub mod Bits
 pub mod Sparse
 pub mod Last
-pub mod Under
 pub mod ProofValue
 pub mod Peers
 pub mod Count
-pub mod Side
-pub mod Path
-pub mod Lone
-pub mod Seen
 pub mod Bundles
+pub mod Private

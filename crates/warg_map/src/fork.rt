@@ -2,7 +2,7 @@
 
 ghost use Rattle.std.specs.Prelude.{◌≡◌, ℕ, ◌+◌, IfOk, if◌then◌else◌};
 ghost use Rattle.warg_map.specs.Sparse.{sparse_root};
-ghost use Rattle.warg_map.specs.Under.{join};
+ghost use Rattle.warg_map.specs.Private.Under.{join};
 
 use crate::link::Link;
 use crate::path::Side;
@@ -20,8 +20,8 @@ pub struct Fork<D: SupportedDigest, A: Allocator = Global> {
 }
 
 impl<D: SupportedDigest, A: Allocator> Fork<D, A> {
-    ghost use Rattle.warg_map.specs.Side.{side_bit};
-    ghost use Rattle.warg_map.specs.Seen.{IsForkOf};
+    ghost use Rattle.warg_map.specs.Private.Side.{side_bit};
+    ghost use Rattle.warg_map.specs.Private.Seen.{IsForkOf};
 
     /// The fork of two links.
     pub fn new(left: Link<D, A>, right: Link<D, A>) -> Fork<D, A>
@@ -62,7 +62,7 @@ impl<D: SupportedDigest, A: Allocator> Index<Side> for Fork<D, A> {
     type Output = Link<D, A>;
 
     ghost use Rattle.std.specs.Prelude.{◌≡◌, if◌then◌else◌};
-    ghost use Rattle.warg_map.specs.Side.{side_bit};
+    ghost use Rattle.warg_map.specs.Private.Side.{side_bit};
 
     ghost index_gives = { λ f side link. link ≡ (if side_bit side then f.right else f.left) };
 

@@ -27,7 +27,7 @@ impl<D: SupportedDigest, A: Allocator> Model for Link<D, A> {
 
     ghost coded = { coded× coded_ℕ sparse_map_code };
 
-    ghost use Rattle.warg_map.specs.Seen.{seen, IsWellFormed};
+    ghost use Rattle.warg_map.specs.Private.Seen.{seen, IsWellFormed};
 
     ghost view = { λ a. seen a.node };
 
@@ -41,7 +41,7 @@ impl<D: SupportedDigest, A: Allocator> Model for Link<D, A> {
 }
 
 impl<D: SupportedDigest, A: Allocator> Link<D, A> {
-    ghost use Rattle.warg_map.specs.Seen.{seen, IsWellFormed};
+    ghost use Rattle.warg_map.specs.Private.Seen.{seen, IsWellFormed};
 
     /// A link to a node, whose digest it computes.
     pub fn new(node: Node<D, A>) -> Link<D, A>

@@ -4,7 +4,7 @@ ghost use Rattle.std.specs.Prelude.{◌≡◌, ℕ, ◌+◌, ◌-◌, ◌<◌, �
 ghost use Rattle.std.specs.FinMap as map;
 ghost use Rattle.warg_map.specs.Bits.{bit_at, bits_from, last_bits};
 ghost use Rattle.warg_map.specs.Sparse.{sparse_root};
-ghost use Rattle.warg_map.specs.Under.{join_at, under, HoldsKey};
+ghost use Rattle.warg_map.specs.Private.Under.{join_at, under, HoldsKey};
 
 use crate::fork::Fork;
 use crate::link::Link;
@@ -37,8 +37,8 @@ pub enum Node<D: SupportedDigest, A: Allocator = Global> {
 }
 
 impl<D: SupportedDigest, A: Allocator> Node<D, A> {
-    ghost use Rattle.warg_map.specs.Path.{bits_left};
-    ghost use Rattle.warg_map.specs.Seen.{tree_height, held_by, IsLevel, IsWellFormed};
+    ghost use Rattle.warg_map.specs.Private.Path.{bits_left};
+    ghost use Rattle.warg_map.specs.Private.Seen.{tree_height, held_by, IsLevel, IsWellFormed};
 
     /// The digest of the tree.
     pub fn hash(&self) -> Hash<D>
@@ -56,8 +56,8 @@ impl<D: SupportedDigest, A: Allocator> Node<D, A> {
 }
 
 impl<D: SupportedDigest, A: Allocator + Copy> Node<D, A> {
-    ghost use Rattle.warg_map.specs.Path.{bits_left};
-    ghost use Rattle.warg_map.specs.Seen.{seen, tree_height, held_by, IsWellFormed, Inserts, Carries, IsSeen};
+    ghost use Rattle.warg_map.specs.Private.Path.{bits_left};
+    ghost use Rattle.warg_map.specs.Private.Seen.{seen, tree_height, held_by, IsWellFormed, Inserts, Carries, IsSeen};
 
     /// The node below `len` bits of `key`, from bit `from` on. The node holds the key, so a stem becomes longer.
     fn raised(
@@ -167,8 +167,8 @@ impl<D: SupportedDigest, A: Allocator + Copy> Node<D, A> {
 }
 
 impl<D: SupportedDigest, A: Allocator> Node<D, A> {
-    ghost use Rattle.warg_map.specs.Path.{bits_left};
-    ghost use Rattle.warg_map.specs.Seen.{tree_height, held_by, IsWellFormed};
+    ghost use Rattle.warg_map.specs.Private.Path.{bits_left};
+    ghost use Rattle.warg_map.specs.Private.Seen.{tree_height, held_by, IsWellFormed};
 
     /// The leaf digest that is held under the bits that the path has left.
     pub(crate) fn find(&self, mut path: Path<'_, D>) -> Option<Hash<D>>
@@ -207,9 +207,9 @@ impl<D: SupportedDigest, A: Allocator> Node<D, A> {
 
 impl<D: SupportedDigest, A: Allocator + Copy> Node<D, A> {
     ghost use Rattle.std.specs.Prelude.{MatchOption, None, Ok, false, length, IfSome};
-    ghost use Rattle.warg_map.specs.Path.{bits_left};
+    ghost use Rattle.warg_map.specs.Private.Path.{bits_left};
     ghost use Rattle.warg_map.specs.Peers.{Proves};
-    ghost use Rattle.warg_map.specs.Seen.{tree_height, held_by, IsWellFormed};
+    ghost use Rattle.warg_map.specs.Private.Seen.{tree_height, held_by, IsWellFormed};
 
     /// The proof that the bits that the path has left are held, or `None` exactly where they aren't, which takes no memory.
     pub fn prove<K, V>(
@@ -265,9 +265,9 @@ impl<D: SupportedDigest, A: Allocator + Copy> Node<D, A> {
 
 impl<D: SupportedDigest, A: Allocator + Copy> Node<D, A> {
     ghost use Rattle.std.specs.Prelude.{false, length};
-    ghost use Rattle.warg_map.specs.Path.{bits_left};
+    ghost use Rattle.warg_map.specs.Private.Path.{bits_left};
     ghost use Rattle.warg_map.specs.Peers.{ProvesAbsent};
-    ghost use Rattle.warg_map.specs.Seen.{tree_height, held_by, IsWellFormed};
+    ghost use Rattle.warg_map.specs.Private.Seen.{tree_height, held_by, IsWellFormed};
 
     /// The proof that the bits that the path has left aren't held.
     pub(crate) fn prove_absent<K, V>(
@@ -318,9 +318,9 @@ impl<D: SupportedDigest, A: Allocator + Copy> Node<D, A> {
 
 impl<D: SupportedDigest, A: Allocator> Node<D, A> {
     ghost use Rattle.std.specs.Prelude.{◌*◌, ◌^◌, ◌⊎◌, false};
-    ghost use Rattle.warg_map.specs.Under.{Splits};
+    ghost use Rattle.warg_map.specs.Private.Under.{Splits};
     ghost use Rattle.warg_map.specs.Count.{nodes};
-    ghost use Rattle.warg_map.specs.Seen.{tree_height, held_by, IsWellFormed};
+    ghost use Rattle.warg_map.specs.Private.Seen.{tree_height, held_by, IsWellFormed};
 
     /// The number of nodes of a tree that holds a key, and more than one where it is the whole tree of 256 levels.
     pub(crate) fn count(&self) -> u128
@@ -349,7 +349,7 @@ impl<D: SupportedDigest, A: Allocator> Node<D, A> {
 
 /// The node is shared. It takes no memory, and refuses only where its owners can't be counted.
 impl<D: SupportedDigest, A: Allocator> Clone for Node<D, A> {
-    ghost use Rattle.warg_map.specs.Seen.{tree_height, held_by, IsWellFormed, IsSeen};
+    ghost use Rattle.warg_map.specs.Private.Seen.{tree_height, held_by, IsWellFormed, IsSeen};
 
     ghost is_clone = { λ n copy. IsWellFormed n → IsSeen copy (tree_height n) (held_by n) };
 

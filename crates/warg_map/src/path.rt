@@ -2,7 +2,7 @@
 
 ghost use Rattle.std.specs.Prelude.{◌≡◌, ℕ, ◌+◌, ◌-◌, ◌<◌, ◌≤◌, ◌∷◌, ◌++◌, not, if◌then◌else◌};
 ghost use Rattle.warg_map.specs.Bits.{bit_at, bits_from};
-ghost use Rattle.warg_map.specs.Side.{side_bit};
+ghost use Rattle.warg_map.specs.Private.Side.{side_bit};
 
 use std::alloc::AllocError;
 use warg_crypto::{Hash, SupportedDigest};
@@ -132,7 +132,7 @@ impl<'a, D> Iterator for Path<'a, D> {
     type Item = Side;
 
     ghost use Rattle.std.specs.Iterator.{at_most};
-    ghost use Rattle.warg_map.specs.Path.{TakesBit};
+    ghost use Rattle.warg_map.specs.Private.Path.{TakesBit};
 
     ghost next_gives = { TakesBit };
 
@@ -188,7 +188,7 @@ impl<D> Iterator for ReversePath<D> {
     type Item = Side;
 
     ghost use Rattle.std.specs.Iterator.{at_most};
-    ghost use Rattle.warg_map.specs.Path.{TakesLowerBit};
+    ghost use Rattle.warg_map.specs.Private.Path.{TakesLowerBit};
 
     ghost next_gives = { TakesLowerBit };
 

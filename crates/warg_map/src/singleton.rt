@@ -3,7 +3,7 @@
 ghost use Rattle.std.specs.Prelude.{◌≡◌, ℕ, ◌+◌, ◌-◌, ◌<◌, ◌≤◌, ◌∷◌, IfOk};
 ghost use Rattle.warg_map.specs.Bits.{bit_at, bits_from};
 ghost use Rattle.warg_map.specs.Sparse.{sparse_root};
-ghost use Rattle.warg_map.specs.Lone.{held_alone, IsKept};
+ghost use Rattle.warg_map.specs.Private.Lone.{held_alone, IsKept};
 
 use crate::link::Link;
 use crate::node::Node;
@@ -31,13 +31,13 @@ pub struct Singleton<D: SupportedDigest> {
 // Contracts see a lone key as its digest, its leaf digest and its height.
 impl<D: SupportedDigest> Model for Singleton<D> {
     ghost use Rattle.std.specs.Prelude.{◌≡◌, ℕ, ◌≤◌};
-    ghost use Rattle.warg_map.specs.Lone.{Lone};
+    ghost use Rattle.warg_map.specs.Private.Lone.{Lone};
 
     ghost Value = { Lone };
 
     ghost view = { λ s. record { key = s.key; value = s.value; height = s.height } };
 
-    ghost use Rattle.warg_map.specs.Lone.{IsKept};
+    ghost use Rattle.warg_map.specs.Private.Lone.{IsKept};
 
     ghost invariant = { λ s. (s.height ≤ 256) × IsKept D.digest s.low s.key s.value s.height };
 }
@@ -77,9 +77,9 @@ impl<D: SupportedDigest> Clone for Singleton<D> {
 }
 
 impl<D: SupportedDigest> Singleton<D> {
-    ghost use Rattle.warg_map.specs.Side.{side_bit};
-    ghost use Rattle.warg_map.specs.Path.{bits_left};
-    ghost use Rattle.warg_map.specs.Seen.{Inserts};
+    ghost use Rattle.warg_map.specs.Private.Side.{side_bit};
+    ghost use Rattle.warg_map.specs.Private.Path.{bits_left};
+    ghost use Rattle.warg_map.specs.Private.Seen.{Inserts};
 
     /// The tree of `height` levels that holds `value` under the last bits of `key`.
     pub fn new(key: Hash<D>, value: Hash<D>, height: usize) -> Singleton<D>

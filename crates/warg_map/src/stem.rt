@@ -3,7 +3,7 @@
 ghost use Rattle.std.specs.Prelude.{◌≡◌, ℕ, ◌+◌, ◌-◌, ◌<◌, ◌≤◌, IfOk};
 ghost use Rattle.warg_map.specs.Bits.{bit_at, bits_from};
 ghost use Rattle.warg_map.specs.Sparse.{sparse_root};
-ghost use Rattle.warg_map.specs.Under.{under, lift};
+ghost use Rattle.warg_map.specs.Private.Under.{under, lift};
 
 use crate::link::Link;
 use crate::node::Node;
@@ -75,7 +75,7 @@ impl<D: SupportedDigest, A: Allocator> Stem<D, A> {
 }
 
 impl<D: SupportedDigest, A: Allocator + Copy> Stem<D, A> {
-    ghost use Rattle.warg_map.specs.Seen.{IsBelow};
+    ghost use Rattle.warg_map.specs.Private.Seen.{IsBelow};
 
     /// What stands below the stem's first `at` bits.
     pub(crate) fn rest(&self, alloc: A, at: usize) -> Result<Link<D, A>, AllocError>

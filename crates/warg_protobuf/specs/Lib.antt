@@ -5,7 +5,6 @@ pub mod Schema
 pub mod Faults
 pub mod Spelled
 pub mod Written
-pub mod Adds
 pub mod HashEntry
 pub mod LogProofBundle
 pub mod OptionalHash
@@ -13,3 +12,4 @@ pub mod MapInclusionProof
 pub mod MapProofBundle
 pub mod StackLog
 pub mod VecLog
+pub mod Private

@@ -19,7 +19,7 @@ pub struct HashEntry<A: Allocator = Global> {
 #[tactic(auto, unfolding(crate::specs::HashEntry::entry_schema, crate::specs::HashEntry::entry_add, crate::specs::HashEntry::entry_fields, crate::specs::Schema::last_of, crate::specs::Schema::values))]
 impl<A: Allocator + Copy> Message<A> for HashEntry<A> {
     ghost use Rattle.warg_protobuf.specs.HashEntry.{Entry, entry_view, entry_schema, entry_add, entry_fields, EntryFits};
-    ghost use Rattle.warg_protobuf.specs.Adds.{entry_adds};
+    ghost use Rattle.warg_protobuf.specs.Private.Adds.{entry_adds};
 
     ghost Seen = { Entry };
 

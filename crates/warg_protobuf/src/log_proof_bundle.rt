@@ -31,7 +31,7 @@ pub struct LogProofBundle<A: Allocator = Global> {
 #[tactic(auto, unfolding(crate::specs::LogProofBundle::log_schema, crate::specs::LogProofBundle::log_add, crate::specs::LogProofBundle::log_fields, crate::specs::Schema::last_of, crate::specs::Schema::values))]
 impl<A: Allocator + Copy> Message<A> for LogProofBundle<A> {
     ghost use Rattle.warg_protobuf.specs.LogProofBundle.{LogBundle, log_view, log_schema, log_add, log_fields, LogFits};
-    ghost use Rattle.warg_protobuf.specs.Adds.{log_adds};
+    ghost use Rattle.warg_protobuf.specs.Private.Adds.{log_adds};
 
     ghost Seen = { LogBundle };
 

@@ -18,7 +18,7 @@ pub struct MapInclusionProof<A: Allocator = Global> {
 #[tactic(auto, unfolding(crate::specs::MapInclusionProof::proof_schema, crate::specs::MapInclusionProof::proof_add, crate::specs::MapInclusionProof::proof_fields, crate::specs::Schema::values))]
 impl<A: Allocator + Copy> Message<A> for MapInclusionProof<A> {
     ghost use Rattle.warg_protobuf.specs.MapInclusionProof.{proof_view, proof_schema, proof_add, proof_fields};
-    ghost use Rattle.warg_protobuf.specs.Adds.{proof_adds};
+    ghost use Rattle.warg_protobuf.specs.Private.Adds.{proof_adds};
 
     ghost Seen = { List (Option (List ℕ)) };
 

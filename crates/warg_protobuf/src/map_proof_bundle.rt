@@ -25,7 +25,7 @@ pub struct MapProofBundle<A: Allocator = Global> {
 #[tactic(auto, unfolding(crate::specs::MapProofBundle::map_schema, crate::specs::MapProofBundle::map_add, crate::specs::MapProofBundle::map_fields, crate::specs::Schema::values))]
 impl<A: Allocator + Copy> Message<A> for MapProofBundle<A> {
     ghost use Rattle.warg_protobuf.specs.MapProofBundle.{MapBundle, map_view, map_schema, map_add, map_fields};
-    ghost use Rattle.warg_protobuf.specs.Adds.{map_adds};
+    ghost use Rattle.warg_protobuf.specs.Private.Adds.{map_adds};
 
     ghost Seen = { MapBundle };
 

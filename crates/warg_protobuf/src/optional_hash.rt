@@ -19,7 +19,7 @@ pub struct OptionalHash<A: Allocator = Global> {
 #[tactic(auto, unfolding(crate::specs::OptionalHash::hash_schema, crate::specs::OptionalHash::hash_add, crate::specs::Schema::last_of, crate::specs::Schema::values))]
 impl<A: Allocator + Copy> Message<A> for OptionalHash<A> {
     ghost use Rattle.warg_protobuf.specs.OptionalHash.{hash_view, hash_schema, hash_add, hash_fields};
-    ghost use Rattle.warg_protobuf.specs.Adds.{hash_adds};
+    ghost use Rattle.warg_protobuf.specs.Private.Adds.{hash_adds};
 
     ghost Seen = { Option (List ℕ) };
 

@@ -27,7 +27,7 @@ pub struct StackLog<A: Allocator = Global> {
 #[tactic(auto, unfolding(crate::specs::StackLog::stack_schema, crate::specs::StackLog::stack_add, crate::specs::StackLog::stack_fields, crate::specs::Schema::last_of, crate::specs::Schema::values))]
 impl<A: Allocator + Copy> Message<A> for StackLog<A> {
     ghost use Rattle.warg_protobuf.specs.StackLog.{StackImage, stack_view, stack_schema, stack_add, stack_fields, StackFits};
-    ghost use Rattle.warg_protobuf.specs.Adds.{stack_adds};
+    ghost use Rattle.warg_protobuf.specs.Private.Adds.{stack_adds};
 
     ghost Seen = { StackImage };
 

@@ -26,7 +26,7 @@ pub struct VecLog<A: Allocator = Global> {
 #[tactic(auto, unfolding(crate::specs::VecLog::vec_schema, crate::specs::VecLog::vec_add, crate::specs::VecLog::vec_fields, crate::specs::Schema::last_of, crate::specs::Schema::values))]
 impl<A: Allocator + Copy> Message<A> for VecLog<A> {
     ghost use Rattle.warg_protobuf.specs.VecLog.{VecImage, vec_view, vec_schema, vec_add, vec_fields, VecFits};
-    ghost use Rattle.warg_protobuf.specs.Adds.{vec_adds};
+    ghost use Rattle.warg_protobuf.specs.Private.Adds.{vec_adds};
 
     ghost Seen = { VecImage };
 

@@ -3,7 +3,7 @@ use Rattle.std.proofs.Common.{◌≡◌, ℕ, ◌^◌, List, ◌∷◌, Option, 
 use Rattle.warg_log.specs.Nodes.{height_of, start_of}
 use Rattle.warg_log.specs.Cut.{cut_root}
 use Rattle.warg_witness.proofs.LogLemmas.{target_true, target_false}
-use Rattle.warg_witness.specs.Parting.{HaveOneDigest, IsParting, Collides, pair_of}
+use Rattle.warg_witness.specs.Private.Parting.{HaveOneDigest, IsParting, Collides, pair_of}
 use Rattle.warg_witness.specs.Placed.{IsAgreementPlaced}
 use Rattle.warg_witness.specs.declared.descent.Parting.{Parting}
 use Rattle.warg_witness.specs.declared.descent.Parting.TheVariants.{Target, Branch}

@@ -6,12 +6,12 @@ use Rattle.warg_log.specs.Tree.{leaves_of, root_of, root_over, own_digest}
 use Rattle.warg_log.specs.Cut.{cut_over}
 use Rattle.warg_witness.specs.Ranges.{IsAround, IsNodeRange}
 use Rattle.warg_witness.specs.Claims.{IsMet, IsEntry, IsRootBelow, IsAgreement, IsConsistencyMet, Begins}
-use Rattle.warg_witness.specs.Compared.{DiffersFirst}
+use Rattle.warg_witness.specs.Private.Compared.{DiffersFirst}
 use Rattle.warg_witness.specs.Inputs.{plain_input}
 use Rattle.warg_witness.specs.Placed.{IsValuePlaced, IsHashPlaced, IsAgreementPlaced, IsConsistencyPlaced}
 use Rattle.warg_witness.specs.Laws.{GivesHashes, HoldsHashes, SomeCollision}
-use Rattle.warg_witness.specs.Parting.{IsParting, Collides, PartsAtBranch, pair_of}
-use Rattle.warg_witness.specs.Meeting.{IsMeeting, IsConsistencyMeeting, LeadsToBoth}
+use Rattle.warg_witness.specs.Private.Parting.{IsParting, Collides, PartsAtBranch, pair_of}
+use Rattle.warg_witness.specs.Private.Meeting.{IsMeeting, IsConsistencyMeeting, LeadsToBoth}
 use Rattle.warg_witness.specs.declared.descent.Parting.TheVariants.{Target, Branch}
 use Rattle.warg_witness.proofs.PlainLemmas.{whole_aligned}
 use Rattle.warg_witness.proofs.ValueLemmas.{have_root, length-leaves, some_leaves, entry_from, value_shown, hash_shown}

@@ -6,7 +6,7 @@ use Rattle.std.proofs.Math.Nat.{min-eq_left, min-eq_right, min-le_right}
 use Rattle.std.proofs.Math.Seq.{take-append_seam, drop-append_seam, take-append-add, drop-append-add, take-length, drop-length, drop-nil, take-nil, take-add}
 use Rattle.std.proofs.Math.Dec.{eqb-suc-zero}
 use Rattle.std.specs.Option.{SomeIff}
-use Rattle.warg_witness.specs.Compared.{StandsAt, IsFound, IsFront}
+use Rattle.warg_witness.specs.Private.Compared.{StandsAt, IsFound, IsFront}
 
 -- two lists cut at one place have equal halves
 pub halves : (x y p q : List ℕ) → length x ≡ length p → x ++ y ≡ p ++ q → (x ≡ p) × (y ≡ q)

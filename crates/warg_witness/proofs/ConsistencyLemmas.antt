@@ -9,11 +9,11 @@ use Rattle.warg_log.specs.Consistency.{consistency, LeadsTo, IsConsistent}
 use Rattle.warg_witness.proofs.LogLemmas.{root_over-one, consistency-only, consistency-then}
 use Rattle.warg_witness.specs.Ranges.{IsPart, IsAligned, IsNodeRange, IsBalancedRoot}
 use Rattle.warg_witness.specs.Claims.{IsConsistencyMet}
-use Rattle.warg_witness.specs.Compared.{DiffersFirst}
+use Rattle.warg_witness.specs.Private.Compared.{DiffersFirst}
 use Rattle.warg_witness.specs.Inputs.{branch_input}
 use Rattle.warg_witness.specs.Placed.{IsConsistencyPlaced}
-use Rattle.warg_witness.specs.Parting.{HaveOneDigest, IsParting, PartsAtBranch, pair_of}
-use Rattle.warg_witness.specs.Meeting.{IsConsistencyMeeting, LeadsToBoth}
+use Rattle.warg_witness.specs.Private.Parting.{HaveOneDigest, IsParting, PartsAtBranch, pair_of}
+use Rattle.warg_witness.specs.Private.Meeting.{IsConsistencyMeeting, LeadsToBoth}
 use Rattle.warg_witness.specs.declared.descent.Parting.{Parting}
 use Rattle.warg_witness.specs.declared.descent.Parting.TheVariants.{Target, Branch}
 use Rattle.warg_witness.proofs.RangeLemmas.{IsPart-trans, wider}

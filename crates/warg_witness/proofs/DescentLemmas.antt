@@ -7,7 +7,7 @@ use Rattle.warg_witness.proofs.LogLemmas.{joined_both}
 use Rattle.warg_witness.specs.Ranges.{IsPart, IsAround, IsSide}
 use Rattle.warg_witness.specs.Ranges.IsPart.{whole}
 use Rattle.warg_witness.specs.Inputs.{branch_input}
-use Rattle.warg_witness.specs.Parting.{HaveOneDigest, MeetAt, PartsAt, IsParting}
+use Rattle.warg_witness.specs.Private.Parting.{HaveOneDigest, MeetAt, PartsAt, IsParting}
 use Rattle.warg_witness.specs.declared.descent.Parting.{Parting}
 use Rattle.warg_witness.specs.declared.descent.Parting.TheVariants.{Target, Branch}
 use Rattle.warg_witness.proofs.RangeLemmas.{cut_around, IsPart-trans}

@@ -5,8 +5,8 @@ use Rattle.warg_map.specs.Bits.{key_bits}
 use Rattle.warg_witness.specs.Laws.{GivesHashes, HoldsPeers, SomeCollision}
 use Rattle.warg_witness.specs.MapClaims.{IsKeyAgreement}
 use Rattle.warg_witness.specs.MapPlaced.{IsKeyAgreementPlaced}
-use Rattle.warg_witness.specs.MapPaths.{IsPathParting}
-use Rattle.warg_witness.specs.Parting.{Collides, pair_of}
+use Rattle.warg_witness.specs.Private.MapPaths.{IsPathParting}
+use Rattle.warg_witness.specs.Private.Parting.{Collides, pair_of}
 use Rattle.warg_witness.specs.declared.descent.Parting.{Parting}
 use Rattle.warg_witness.specs.declared.descent.Parting.TheVariants.{Target, Branch}
 use Rattle.warg_witness.proofs.PathLemmas.{parted_on_path}

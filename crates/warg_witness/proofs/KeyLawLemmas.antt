@@ -12,7 +12,7 @@ use Rattle.warg_map.specs.Last.{last_under}
 use Rattle.warg_witness.specs.Laws.{GivesHashes, GivesDigests, HoldsPeers, SomeCollision}
 use Rattle.warg_witness.specs.MapClaims.{value_in, IsLastValue, IsKeyMet, IsAbsenceMet}
 use Rattle.warg_witness.specs.MapPlaced.{IsKeyPlaced}
-use Rattle.warg_witness.specs.MapPaths.{plain_peers}
+use Rattle.warg_witness.specs.Private.MapPaths.{plain_peers}
 use Rattle.warg_witness.specs.declared.descent.Parting.TheVariants.{Target}
 use Rattle.warg_witness.proofs.PureLemmas.{Part, same_or_not}
 use Rattle.warg_witness.proofs.CollisionLemmas.{target_or_not}

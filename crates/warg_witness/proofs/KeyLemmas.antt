@@ -13,9 +13,9 @@ use Rattle.warg_map.specs.Last.{same_bits, last_under}
 use Rattle.warg_map.specs.ProofValue.{proof_value}
 use Rattle.warg_witness.specs.MapClaims.{value_in, IsLastValue, IsKeyMet}
 use Rattle.warg_witness.specs.MapPlaced.{IsKeyPlaced}
-use Rattle.warg_witness.specs.MapPaths.{IsPathParting, MeetsOnPath, IsLastPlace, plain_peers}
-use Rattle.warg_witness.specs.MapMeeting.{IsKeyMeeting}
-use Rattle.warg_witness.specs.Parting.{Collides, PartsAtBranch, pair_of}
+use Rattle.warg_witness.specs.Private.MapPaths.{IsPathParting, MeetsOnPath, IsLastPlace, plain_peers}
+use Rattle.warg_witness.specs.Private.MapMeeting.{IsKeyMeeting}
+use Rattle.warg_witness.specs.Private.Parting.{Collides, PartsAtBranch, pair_of}
 use Rattle.warg_witness.specs.declared.descent.Parting.{Parting}
 use Rattle.warg_witness.specs.declared.descent.Parting.TheVariants.{Target, Branch}
 use Rattle.warg_witness.proofs.LastLemmas.{last_with-passes, last_with-contains, same_bits-true, last_of_digest, none_of_digest, last_at, last_none}

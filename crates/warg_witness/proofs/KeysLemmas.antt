@@ -14,7 +14,7 @@ use Rattle.warg_crypto.specs.Digests.{IsDigest}
 use Rattle.warg_map.specs.Bits.{bit_at, bits_from, key_bits}
 use Rattle.warg_map.specs.Sparse.{bits_cmp}
 use Rattle.warg_witness.specs.Laws.{GivesDigests}
-use Rattle.warg_witness.specs.MapPaths.{key_at, entry_at, entry_cmp, IsKeyUnder, AreKeysUnder}
+use Rattle.warg_witness.specs.Private.MapPaths.{key_at, entry_at, entry_cmp, IsKeyUnder, AreKeysUnder}
 
 -- What the map's laws say.
 abbrev pub OrderOfBits : Type 0

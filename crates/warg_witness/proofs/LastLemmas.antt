@@ -11,7 +11,7 @@ use Rattle.warg_map.specs.Bits.{key_bits}
 use Rattle.warg_map.specs.Sparse.{pair_bytes}
 use Rattle.warg_map.specs.Last.{last_with, same_bits, last_under}
 use Rattle.warg_witness.specs.MapClaims.{same_bytes, last_insertion}
-use Rattle.warg_witness.specs.MapPaths.{IsLastPlace}
+use Rattle.warg_witness.specs.Private.MapPaths.{IsLastPlace}
 
 pub IfOk-then : {T E : Type 0} (r : Result T E) (P Q : T → Type 0) → ((x : T) → P x → Q x) → IfOk r P → IfOk r Q
 IfOk-then (Ok x) P Q f h = f x h

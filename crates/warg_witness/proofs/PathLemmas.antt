@@ -6,7 +6,7 @@ use Rattle.warg_map.specs.ProofValue.{peer_of, proof_value}
 use Rattle.warg_witness.specs.Inputs.{branch_input}
 use Rattle.warg_witness.specs.Laws.{GivesHashes, HoldsPeers}
 use Rattle.warg_witness.specs.MapInputs.{fork_input}
-use Rattle.warg_witness.specs.MapPaths.{IsPathParting, IsClimb}
+use Rattle.warg_witness.specs.Private.MapPaths.{IsPathParting, IsClimb}
 use Rattle.warg_witness.specs.declared.descent.Parting.{Parting}
 use Rattle.warg_witness.specs.declared.descent.Parting.TheVariants.{Target, Branch}
 use Rattle.warg_witness.proofs.DescentLemmas.{inputs_differ}

@@ -11,7 +11,7 @@ use Rattle.warg_map.specs.ProofValue.{peer_of, proof_value}
 use Rattle.warg_witness.specs.Inputs.{branch_input}
 use Rattle.warg_witness.specs.MapClaims.{value_in}
 use Rattle.warg_witness.specs.MapInputs.{fork_input, path_input, plain_input_at}
-use Rattle.warg_witness.specs.MapPaths.{plain_peers}
+use Rattle.warg_witness.specs.Private.MapPaths.{plain_peers}
 
 pub length-plain_peers : (H : List ℕ → List ℕ) (held : List Bool → Option (List ℕ)) (bits : List Bool) → length (plain_peers H held bits) ≡ length bits
 unfolding plain_peers

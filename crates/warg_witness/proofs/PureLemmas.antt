@@ -10,10 +10,10 @@ use Rattle.warg_log.specs.Cut.{joined, cut_over, IsFull}
 use Rattle.warg_witness.proofs.LogLemmas.{cut_len, front_is, pow_below_pow, cut_over-at, more_than_one}
 use Rattle.warg_witness.specs.Ranges.{IsAround, IsAligned, IsNodeRange, IsBalancedRoot, IsSide}
 use Rattle.warg_witness.specs.Inputs.{plain_input}
-use Rattle.warg_witness.specs.Compared.{DiffersFirst}
+use Rattle.warg_witness.specs.Private.Compared.{DiffersFirst}
 use Rattle.warg_witness.specs.Claims.{Begins}
 use Rattle.warg_witness.specs.Laws.{GivesHashes, HoldsHashes}
-use Rattle.warg_witness.specs.Parting.{HaveOneDigest, IsParting}
+use Rattle.warg_witness.specs.Private.Parting.{HaveOneDigest, IsParting}
 use Rattle.warg_witness.specs.declared.descent.Parting.{Parting}
 use Rattle.warg_witness.specs.declared.descent.Parting.TheVariants.{Target, Branch}
 use Rattle.warg_witness.proofs.RangeLemmas.{wider, cut_around, side_is_part, front_aligned, rest_aligned, front_around, rest_around}

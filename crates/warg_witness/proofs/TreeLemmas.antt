@@ -13,7 +13,7 @@ use Rattle.warg_map.specs.Bits.{bit_at, bits_from, key_bits, last_bits}
 use Rattle.warg_map.specs.Sparse.{SparseMap, bits_cmp, root_of_levels, leaf_digest, map_of, pair_bytes}
 use Rattle.warg_map.specs.Last.{same_bits, last_under}
 use Rattle.warg_witness.specs.Laws.{GivesDigests}
-use Rattle.warg_witness.specs.MapPaths.{key_at, entry_at, entry_cmp, AreKeysUnder, AreEmptyTrees, IsPlaceOfLast, IsLastPlace, plain_peers}
+use Rattle.warg_witness.specs.Private.MapPaths.{key_at, entry_at, entry_cmp, AreKeysUnder, AreEmptyTrees, IsPlaceOfLast, IsLastPlace, plain_peers}
 use Rattle.warg_witness.proofs.LastLemmas.{last_with-none, last_with-at, same_bits-true, same_bits-itself, pair_at, length-pair_bytes}
 use Rattle.warg_witness.proofs.KeysLemmas.{OrderOfBits, AllBits}
 use Rattle.warg_witness.proofs.KeyLawLemmas.{LastHeld}

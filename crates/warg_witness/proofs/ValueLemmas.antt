@@ -10,11 +10,11 @@ use Rattle.warg_witness.proofs.LogLemmas.{front_is, root_over-one, root_over-par
 use Rattle.warg_witness.specs.Ranges.{IsPart, IsAligned}
 use Rattle.warg_witness.specs.Ranges.IsPart.{whole, front, rest}
 use Rattle.warg_witness.specs.Claims.{IsEntry}
-use Rattle.warg_witness.specs.Compared.{IsAt}
+use Rattle.warg_witness.specs.Private.Compared.{IsAt}
 use Rattle.warg_witness.specs.Inputs.{plain_input, branch_input, cut_input}
-use Rattle.warg_witness.specs.Parting.{HaveOneDigest, Collides, PartsAtBranch, pair_of}
+use Rattle.warg_witness.specs.Private.Parting.{HaveOneDigest, Collides, PartsAtBranch, pair_of}
 use Rattle.warg_witness.specs.Placed.{IsValuePlaced, IsHashPlaced}
-use Rattle.warg_witness.specs.Meeting.{IsMeeting}
+use Rattle.warg_witness.specs.Private.Meeting.{IsMeeting}
 use Rattle.warg_witness.specs.declared.descent.Parting.{Parting}
 use Rattle.warg_witness.specs.declared.descent.Parting.TheVariants.{Target, Branch}
 use Rattle.warg_witness.proofs.RangeLemmas.{front_aligned, rest_aligned, wider}

@@ -2,13 +2,10 @@ pub mod Ranges
 pub mod Inputs
 pub mod Claims
 pub mod Placed
-pub mod Parting
-pub mod Compared
-pub mod Meeting
+pub mod Collisions
 pub mod Laws
 pub mod LogLaws
 pub mod MapClaims
 pub mod MapInputs
 pub mod MapPlaced
-pub mod MapPaths
-pub mod MapMeeting
+pub mod Private

@@ -31,7 +31,7 @@ impl<D: SupportedDigest, A: Allocator> PartialEq for Collision<D, A> {
     ghost use Rattle.std.specs.Prelude.{◌≡◌, ◌↔◌, IsTrue};
     ghost use Rattle.std.specs.Cmp.Rules.{comparing};
     ghost use Rattle.std.proofs.Common.{rules};
-    ghost use Rattle.warg_witness.specs.Compared.{same_pair};
+    ghost use Rattle.warg_witness.specs.Collisions.{same_pair};
 
     ghost eq = { same_pair };
 

@@ -1,7 +1,7 @@
 //! Values compared by their bytes, without a copy of them.
 
 ghost use Rattle.std.specs.Prelude.{◌≡◌, ℕ, ◌↔◌, length, IfOk, IsTrue};
-ghost use Rattle.warg_witness.specs.Compared.{StandsAt};
+ghost use Rattle.warg_witness.specs.Private.Compared.{StandsAt};
 
 use std::alloc::AllocError;
 use warg_crypto::{ByteVisitor, VisitBytes};
@@ -19,7 +19,7 @@ struct Window<'a> {
 
 impl ByteVisitor for Window<'_> {
     ghost use Rattle.std.specs.Prelude.{◌↔◌, ◌++◌, List, ℕ, IsTrue};
-    ghost use Rattle.warg_witness.specs.Compared.{StandsAt, IsFound};
+    ghost use Rattle.warg_witness.specs.Private.Compared.{StandsAt, IsFound};
 
     // Whatever comes next, the piece is found exactly where the bytes so far are the piece's and its rest follows.
     ghost stands_for = { λ w m. (more : List ℕ) → (IsTrue w.same × StandsAt w.skip w.rest.now more) ↔ IsFound (m ++ more) };
@@ -59,7 +59,7 @@ struct Front<'a, V> {
 
 impl<V: VisitBytes> ByteVisitor for Front<'_, V> {
     ghost use Rattle.std.specs.Prelude.{◌↔◌, ◌++◌, List, ℕ, IsTrue, IfSome};
-    ghost use Rattle.warg_witness.specs.Compared.{StandsAt, IsFront};
+    ghost use Rattle.warg_witness.specs.Private.Compared.{StandsAt, IsFront};
 
     // Whatever comes next, all is a front exactly where the bytes so far are one and the rest stands behind them.
     ghost stands_for = { λ f m. IfSome f.count (λ count. (more : List ℕ) → (IsTrue f.same × StandsAt count more (V.bytes f.of.now)) ↔ IsFront (m ++ more)) };

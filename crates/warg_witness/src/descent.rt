@@ -3,7 +3,7 @@
 ghost use Rattle.std.specs.Prelude.{◌≡◌, ℕ, ◌+◌, ◌-◌, ◌<◌, ◌≤◌, ◌↔◌, List, length, Some, IsSome, IsTrue};
 ghost use Rattle.warg_log.specs.Tree.{front_of};
 ghost use Rattle.warg_log.specs.Cut.{cut_over};
-ghost use Rattle.warg_witness.specs.Parting.{HaveOneDigest, IsParting};
+ghost use Rattle.warg_witness.specs.Private.Parting.{HaveOneDigest, IsParting};
 ghost use Rattle.warg_witness.specs.Ranges.{IsAround, IsAligned, IsNodeRange, IsSide};
 
 use crate::laws::log_laws;

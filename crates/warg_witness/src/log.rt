@@ -5,12 +5,12 @@ ghost use Rattle.warg_log.specs.Nodes.{ExistsAt};
 ghost use Rattle.warg_log.specs.Cut.{cut_root};
 ghost use Rattle.warg_log.specs.Tree.{leaves_of};
 ghost use Rattle.warg_witness.specs.Ranges.{IsNodeRange};
-ghost use Rattle.warg_witness.specs.Compared.{IsAt};
+ghost use Rattle.warg_witness.specs.Private.Compared.{IsAt};
 ghost use Rattle.warg_witness.specs.Inputs.{plain_input};
 ghost use Rattle.warg_witness.specs.Claims.{IsMet, IsEntry, IsRootBelow, IsAgreement};
 ghost use Rattle.warg_witness.specs.Placed.{IsValuePlaced, IsHashPlaced, IsAgreementPlaced};
-ghost use Rattle.warg_witness.specs.Parting.{Collides, PartsAtBranch, pair_of};
-ghost use Rattle.warg_witness.specs.Meeting.{IsMeeting};
+ghost use Rattle.warg_witness.specs.Private.Parting.{Collides, PartsAtBranch, pair_of};
+ghost use Rattle.warg_witness.specs.Private.Meeting.{IsMeeting};
 
 mod consistency;
 
@@ -240,8 +240,8 @@ pub fn agree_value<
     if have_same_bytes(first_value, second_value)? {
         return Ok(Finding::Holds);
     }
-    let target = proof.leaf().interval();
     let whole = Interval::new(0, proof.log_length());
+    let target = proof.leaf().interval();
     let parting = descend(
         first_hashes,
         &first_hash,

@@ -5,9 +5,9 @@ ghost use Rattle.warg_map.specs.Last.{last_under};
 ghost use Rattle.warg_map.specs.Sparse.{leaf_digest, pair_bytes};
 ghost use Rattle.warg_witness.specs.MapClaims.{value_in, IsKeyMet, IsAbsenceMet, IsKeyAgreement, IsLastValue};
 ghost use Rattle.warg_witness.specs.MapPlaced.{IsKeyPlaced, IsKeyAgreementPlaced};
-ghost use Rattle.warg_witness.specs.MapMeeting.{IsKeyMeeting};
-ghost use Rattle.warg_witness.specs.MapPaths.{IsLastPlace};
-ghost use Rattle.warg_witness.specs.Parting.{Collides};
+ghost use Rattle.warg_witness.specs.Private.MapMeeting.{IsKeyMeeting};
+ghost use Rattle.warg_witness.specs.Private.MapPaths.{IsLastPlace};
+ghost use Rattle.warg_witness.specs.Private.Parting.{Collides};
 
 mod empty;
 mod keys;

@@ -1,7 +1,7 @@
 //! The collision that two evaluations show where they part.
 
 ghost use Rattle.std.specs.Prelude.{◌≡◌, [], ◌∷◌, IfOk};
-ghost use Rattle.warg_witness.specs.Parting.{Collides, PartsAtBranch, pair_of};
+ghost use Rattle.warg_witness.specs.Private.Parting.{Collides, PartsAtBranch, pair_of};
 
 use crate::collision::{Collision, branch_bytes, leaf_bytes};
 use crate::descent::Parting;

@@ -1,7 +1,7 @@
 //! The commands, and the lines that spell them.
 
 ghost use Rattle.warg_check.specs.Words.{words_of};
-ghost use Rattle.warg_check.specs.Says.{Says};
+ghost use Rattle.warg_check.specs.Private.Says.{Says};
 ghost use Rattle.warg_check.specs.Orders.{order_of, push_in, log_in, include_in, consistent_in, bundle_in, verify_in, insert_in, map_in, prove_in, absent_in};
 
 use crate::program::word::LogLength;
@@ -58,7 +58,7 @@ impl<A: Allocator> Model for Command<A> {
 
     ghost Value = { Order };
 
-    ghost use Rattle.warg_check.specs.Commands.{order_seen};
+    ghost use Rattle.warg_check.specs.Private.Commands.{order_seen};
 
     ghost view = { λ c. order_seen c.kind };
 }

@@ -5,7 +5,7 @@ ghost use Rattle.warg_log.specs.Bundles.{bundle_message};
 ghost use Rattle.warg_check.specs.Words.{lines_of};
 ghost use Rattle.warg_check.specs.Orders.{line_of, push, log, include, consistent, bundle, verify, insert, map, prove, absent};
 ghost use Rattle.warg_check.specs.States.{start};
-ghost use Rattle.warg_check.specs.Errors.{IsRefusal};
+ghost use Rattle.warg_check.specs.Private.Errors.{IsRefusal};
 ghost use Rattle.warg_check.specs.Text.{is_not_bad, refusal, bytes_or_refusal, text_of, all_good, MeetsFull};
 
 use crate::program::RunError;
@@ -34,7 +34,7 @@ struct Session<A: Allocator> {
 }
 
 impl<A: Allocator + Copy> Session<A> {
-    ghost use Rattle.warg_check.specs.Sessions.{StandsAt, AnswersOrder, Takes, Refuses, RefusesLine, Adds};
+    ghost use Rattle.warg_check.specs.Private.Sessions.{StandsAt, AnswersOrder, Takes, Refuses, RefusesLine, Adds};
 
     fn new(alloc: A) -> Result<Session<A>, AllocError>
         ensures state { IfOk result (λ session. StandsAt session start) }

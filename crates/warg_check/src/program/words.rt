@@ -3,7 +3,7 @@
 ghost use Rattle.std.specs.Prelude.{◌≡◌, [], ◌∷◌, Some, None, Err, IfOk, MatchOption};
 ghost use Rattle.warg_check.specs.Words.{words_of, number_of, length_of, bytes_of, root_in};
 ghost use Rattle.warg_check.specs.Orders.{first_says, none_left};
-ghost use Rattle.warg_check.specs.Says.{Says};
+ghost use Rattle.warg_check.specs.Private.Says.{Says};
 
 use crate::program::word::{LogLength, bytes, log_length, number, root, split_first};
 use std::alloc::{AllocError, Allocator};

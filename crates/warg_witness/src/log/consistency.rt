@@ -8,9 +8,9 @@ ghost use Rattle.warg_log.specs.declared.consistency.ConsistencyProofError.{Cons
 ghost use Rattle.warg_witness.specs.Ranges.{IsAround, IsNodeRange, IsBalancedRoot};
 ghost use Rattle.warg_witness.specs.Claims.{Begins, IsConsistencyMet};
 ghost use Rattle.warg_witness.specs.Placed.{IsConsistencyPlaced};
-ghost use Rattle.warg_witness.specs.Compared.{DiffersFirst, IsFirstDifference};
-ghost use Rattle.warg_witness.specs.Parting.{IsParting};
-ghost use Rattle.warg_witness.specs.Meeting.{IsConsistencyMeeting, LeadsToBoth};
+ghost use Rattle.warg_witness.specs.Private.Compared.{DiffersFirst, IsFirstDifference};
+ghost use Rattle.warg_witness.specs.Private.Parting.{IsParting};
+ghost use Rattle.warg_witness.specs.Private.Meeting.{IsConsistencyMeeting, LeadsToBoth};
 
 use crate::collision::{Collision, Finding, leaf_bytes};
 use crate::compare::have_same_bytes;
@@ -31,9 +31,13 @@ pub(crate) struct Trees<D: SupportedDigest, V: VisitBytes, A: Allocator> {
 
 // Whether the entries are as many as the proof's lengths say.
 fn have_lengths<D, V>(proof: &ConsistencyProof<D, V>, old: &[V], new: &[V]) -> bool
-    ensures { IsTrue result ↔ ((length old.now ≡ proof.now.old_length) × (length new.now ≡ proof.now.new_length)) }
+    ensures same { IsTrue result ↔ ((length old.now ≡ proof.now.old_length) × (length new.now ≡ proof.now.new_length)) }
+    ensures old_most { proof.now.old_length ≤ 2 ^ 63 }
+    ensures new_most { proof.now.new_length ≤ 2 ^ 63 }
 {
-    old.len() == proof.old_length() && new.len() == proof.new_length()
+    let old_length = proof.old_length();
+    let new_length = proof.new_length();
+    old.len() == old_length && new.len() == new_length
 }
 
 // The trees over the entries, or None where the proof doesn't lead to their roots.

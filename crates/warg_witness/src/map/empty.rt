@@ -1,7 +1,7 @@
 //! The digests of empty trees, each computed once.
 
 ghost use Rattle.std.specs.Prelude.{IfOk};
-ghost use Rattle.warg_witness.specs.MapPaths.{AreEmptyTrees};
+ghost use Rattle.warg_witness.specs.Private.MapPaths.{AreEmptyTrees};
 
 use std::alloc::{AllocError, Allocator};
 use warg_crypto::{Hash, SupportedDigest, empty_tree_hash};

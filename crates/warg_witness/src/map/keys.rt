@@ -2,7 +2,7 @@
 
 ghost use Rattle.std.specs.Prelude.{◌≡◌, ℕ, ◌+◌, ◌<◌, ◌≤◌, Bool, true, false, not, List, [], ◌∷◌, ◌++◌, length, IfOk, MatchOption};
 ghost use Rattle.warg_map.specs.Sparse.{pair_bytes};
-ghost use Rattle.warg_witness.specs.MapPaths.{AreKeysUnder, IsPlaceOfLast};
+ghost use Rattle.warg_witness.specs.Private.MapPaths.{AreKeysUnder, IsPlaceOfLast};
 
 use crate::map::path::bit;
 use std::alloc::{AllocError, Allocator};

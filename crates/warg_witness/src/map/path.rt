@@ -4,7 +4,7 @@ ghost use Rattle.std.specs.Prelude.{◌≡◌, ℕ, ◌<◌, ◌≤◌, Bool, Li
 ghost use Rattle.warg_crypto.specs.EmptyTrees.{empty_root};
 ghost use Rattle.warg_map.specs.Bits.{bit_at, last_bits};
 ghost use Rattle.warg_map.specs.ProofValue.{peer_of, proof_value};
-ghost use Rattle.warg_witness.specs.MapPaths.{IsClimb, MeetsOnPath};
+ghost use Rattle.warg_witness.specs.Private.MapPaths.{IsClimb, MeetsOnPath};
 
 use crate::descent::{Parting, is_same};
 use warg_crypto::{Hash, SupportedDigest, empty_tree_hash};

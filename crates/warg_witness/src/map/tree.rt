@@ -4,7 +4,7 @@ ghost use Rattle.std.specs.Prelude.{◌≡◌, ℕ, ◌+◌, ◌-◌, ◌<◌, �
 ghost use Rattle.std.specs.FinMap.{get};
 ghost use Rattle.warg_map.specs.Bits.{last_bits};
 ghost use Rattle.warg_map.specs.Sparse.{root_of_levels, map_of, pair_bytes};
-ghost use Rattle.warg_witness.specs.MapPaths.{AreEmptyTrees, AreKeysUnder, IsLastPlace, plain_peers};
+ghost use Rattle.warg_witness.specs.Private.MapPaths.{AreEmptyTrees, AreKeysUnder, IsLastPlace, plain_peers};
 
 use crate::map::keys::{halves, last_place, sides, sorted_keys};
 use crate::map::path::bit;

@@ -1,7 +1,7 @@
 use Rattle.std.proofs.Common.{◌≡◌, ◌+◌, ◌-◌, cond, ◌++◌, ◌∷◌, ap, ◌∙◌, sym, arith}
 use Rattle.warg_crypto.specs.EmptyTrees.{empty_root}
 use Rattle.warg_map.specs.Bits.{bit_at, bits_from}
-use Rattle.warg_map.specs.Under.{lift}
+use Rattle.warg_map.specs.Private.Under.{lift}
 use Rattle.warg_map.proofs.Under.{lift-none, lift-more}
 use Rattle.warg_map.proofs.stem.lifted.Goals as goal
 

@@ -1,7 +1,7 @@
 use Rattle.std.proofs.Common.{◌≡◌, ◌+◌, ◌-◌}
 use Rattle.warg_crypto.specs.EmptyTrees.{empty_root}
 use Rattle.warg_map.specs.Bits.{bits_from}
-use Rattle.warg_map.specs.Under.{lift}
+use Rattle.warg_map.specs.Private.Under.{lift}
 use Rattle.warg_map.proofs.stem.lifted.Given as goal
 
 abbrev pub invariant-loop-above : goal.invariant-loop-above

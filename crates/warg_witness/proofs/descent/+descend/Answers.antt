@@ -1,5 +1,5 @@
 use Rattle.std.proofs.Common.{rules, ◌≡◌, sym, ◌∙◌, refl, arith, false, true}
-use Rattle.warg_witness.specs.Parting.{HaveOneDigest}
+use Rattle.warg_witness.specs.Private.Parting.{HaveOneDigest}
 use Rattle.warg_witness.proofs.LogLemmas.{cut_over-at}
 use Rattle.warg_witness.proofs.RangeLemmas.{wider, side_is_part}
 use Rattle.warg_witness.proofs.DescentLemmas.{some_eq, parts_at, same_at_side, widened, met_here}

@@ -1,6 +1,6 @@
 use Rattle.std.proofs.Common.{◌≡◌, ap, sym, ◌∙◌, ◌+◌, ◌-◌, subst, arith}
 use Rattle.std.specs.FinMap.{len}
-use Rattle.warg_map.specs.Seen.{held_by}
+use Rattle.warg_map.specs.Private.Seen.{held_by}
 use Rattle.warg_map.specs.Sparse.{SparseMap, HasLevels}
 use Rattle.warg_map.proofs.Sparse.{length-last_bits}
 use Rattle.warg_map.proofs.Len.{len-insert_fresh, levels-insert}

@@ -1,5 +1,5 @@
 use Rattle.std.proofs.Common.{◌≡◌, ◌≤◌, length, ap, ◌∙◌, arith, rules}
-use Rattle.warg_map.specs.Seen.{tree_height}
+use Rattle.warg_map.specs.Private.Seen.{tree_height}
 use Rattle.warg_map.proofs.Sparse.{length-last_bits}
 use Rattle.warg_map.proofs.Honest.{honest_held, honest_absent}
 use Rattle.warg_map.proofs.map.Map.prove_absence.Goals as goal

@@ -2,8 +2,8 @@ use Rattle.std.proofs.Common.{ℕ, List, ap, sym, ◌∙◌, arith, rules, inl, 
 use Rattle.std.specs.FinMap.{len, len-empty}
 use Rattle.warg_map.specs.Bits.{bits_from}
 use Rattle.warg_map.specs.Sparse.{SparseMap, bits_cmp}
-use Rattle.warg_map.specs.Under.{Splits}
-use Rattle.warg_map.specs.Seen.{held_by}
+use Rattle.warg_map.specs.Private.Under.{Splits}
+use Rattle.warg_map.specs.Private.Seen.{held_by}
 use Rattle.warg_map.proofs.Form.{lone_no_split, is_fork, is_stem}
 use Rattle.warg_map.proofs.Counts.{left_child, right_child, below_child, below_splits, count_fork, count_stem, len-join, len-under, len-lone, nodes-lone, stem_is_no_split}
 use Rattle.warg_map.proofs.node.Node.+count.Goals as goal

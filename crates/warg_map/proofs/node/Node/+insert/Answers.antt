@@ -1,8 +1,8 @@
 use Rattle.std.proofs.Common.{◌≡◌, ◌+◌, ◌-◌, ap, sym, ◌∙◌, refl, arith, rules}
-use Rattle.warg_map.specs.Side.{side_bit}
+use Rattle.warg_map.specs.Private.Side.{side_bit}
 use Rattle.warg_map.specs.Bits.{last_bits, bits_from, bit_at}
-use Rattle.warg_map.specs.Seen.{tree_height}
-use Rattle.warg_map.specs.Lone.{Lone}
+use Rattle.warg_map.specs.Private.Seen.{tree_height}
+use Rattle.warg_map.specs.Private.Lone.{Lone}
 use Rattle.warg_map.proofs.Sparse.{last_bits-end}
 use Rattle.warg_map.proofs.Form.{after_carries, rest_holds, lone_has, lone_seen, is_fork, is_stem}
 use Rattle.warg_map.proofs.Inserts.{inserts_into_fork, inserts_leaf, inserts_low_lone, inserts_first, inserts_below, has_inserted, stem_parted}

@@ -1,7 +1,7 @@
 use Rattle.std.proofs.Common.{◌≡◌, ◌+◌, ◌-◌, ◌<◌, cond, length, true, false, is_some, ap, sym, ◌∙◌, refl, arith, rules}
-use Rattle.warg_map.specs.Side.{side_bit}
+use Rattle.warg_map.specs.Private.Side.{side_bit}
 use Rattle.warg_map.specs.Bits.{last_bits}
-use Rattle.warg_map.specs.Seen.{tree_height}
+use Rattle.warg_map.specs.Private.Seen.{tree_height}
 use Rattle.warg_map.proofs.Form.{is_fork, is_lone, is_stem}
 use Rattle.warg_map.proofs.Sparse.{contains_key-empty, length-last_bits, last_bits-end}
 use Rattle.warg_map.proofs.Finds.{finds_leaf, finds_lone, finds_none_lone, finds_none_stem, lone_same, all_shared, held_below, held_in_fork}

@@ -1,9 +1,9 @@
 use Rattle.std.proofs.Common.{◌≡◌, ℕ, ◌-◌, cond, length, List, Option, None, true, false, is_some, ap, ◌∙◌, refl, arith, rules}
 use Rattle.std.proofs.lemmas.List.{length-replicate}
-use Rattle.warg_map.specs.Side.{side_bit}
+use Rattle.warg_map.specs.Private.Side.{side_bit}
 use Rattle.warg_map.specs.Bits.{last_bits}
 use Rattle.warg_map.specs.Sparse.{sparse_root}
-use Rattle.warg_map.specs.Seen.{tree_height}
+use Rattle.warg_map.specs.Private.Seen.{tree_height}
 use Rattle.warg_map.proofs.Sparse.{length-last_bits, last_bits-end}
 use Rattle.warg_map.proofs.Form.{lone_seen, is_fork, is_lone, is_stem}
 use Rattle.warg_map.proofs.Finds.{finds_leaf, all_shared, held_below, held_in_fork}

@@ -1,7 +1,7 @@
 use Rattle.std.proofs.Common.{◌≡◌, ◌∙◌, ap, sym, ◌+◌, ◌-◌, arith}
-use Rattle.warg_map.specs.Side.{side_bit}
+use Rattle.warg_map.specs.Private.Side.{side_bit}
 use Rattle.warg_map.specs.Bits.{bit_at}
-use Rattle.warg_map.specs.Lone.{Lone, held_alone}
+use Rattle.warg_map.specs.Private.Lone.{Lone, held_alone}
 use Rattle.warg_map.proofs.Form.{fork_formed, fork_has, lone_seen, lone_holds, lone_has}
 use Rattle.warg_map.proofs.node.Node.parted.Goals as goal
 

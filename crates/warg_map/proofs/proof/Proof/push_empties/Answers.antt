@@ -1,6 +1,6 @@
 use Rattle.std.proofs.Common.{◌≡◌, ◌∙◌, ap, sym, ◌+◌, ◌++◌, ◌∷◌, [], length, arith, Some}
 use Rattle.warg_crypto.specs.EmptyTrees.{empty_root}
-use Rattle.warg_map.specs.Under.{empty_peers}
+use Rattle.warg_map.specs.Private.Under.{empty_peers}
 use Rattle.warg_map.proofs.Peers.{pushed_none, pushed_more, length_peers, length-empty_peers}
 use Rattle.warg_map.proofs.proof.Proof.push_empties.Goals as goal
 

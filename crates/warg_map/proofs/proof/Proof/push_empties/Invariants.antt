@@ -1,6 +1,6 @@
 use Rattle.std.proofs.Common.{◌≡◌, ◌+◌, ◌++◌}
 use Rattle.warg_crypto.specs.EmptyTrees.{empty_root}
-use Rattle.warg_map.specs.Under.{empty_peers}
+use Rattle.warg_map.specs.Private.Under.{empty_peers}
 use Rattle.warg_map.proofs.proof.Proof.push_empties.Given as goal
 
 abbrev pub invariant-loop-pushed : goal.invariant-loop-pushed

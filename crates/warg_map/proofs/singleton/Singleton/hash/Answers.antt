@@ -1,5 +1,5 @@
 use Rattle.std.proofs.Common.{◌≡◌, ◌∙◌, ap, ◌+◌, ◌-◌, ◌≤◌, arith}
-use Rattle.warg_map.specs.Lone.{Lone, held_alone}
+use Rattle.warg_map.specs.Private.Lone.{Lone, held_alone}
 use Rattle.warg_map.specs.Sparse.{sparse_root}
 use Rattle.warg_map.proofs.Roots.{root-lone, root-kept}
 use Rattle.warg_map.proofs.singleton.Singleton.hash.Goals as goal

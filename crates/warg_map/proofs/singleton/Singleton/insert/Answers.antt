@@ -1,7 +1,7 @@
 use Rattle.std.proofs.Common.{◌≡◌, ◌∙◌, ap, sym, ◌+◌, ◌-◌, ◌<◌, arith}
-use Rattle.warg_map.specs.Side.{side_bit}
+use Rattle.warg_map.specs.Private.Side.{side_bit}
 use Rattle.warg_map.specs.Bits.{bit_at, last_bits, bits_from}
-use Rattle.warg_map.specs.Lone.{Lone, held_alone}
+use Rattle.warg_map.specs.Private.Lone.{Lone, held_alone}
 use Rattle.warg_map.proofs.Under.{last_bits-at}
 use Rattle.warg_map.proofs.Form.{lone_seen, lone_holds}
 use Rattle.warg_map.proofs.Inserts.{inserts_same, bits_whole, lone_parted}

@@ -1,7 +1,7 @@
 use Rattle.std.proofs.Common.{◌≡◌, ◌∙◌, ap, ◌+◌, ◌-◌, arith}
 use Rattle.warg_map.specs.Bits.{bits_from}
 use Rattle.warg_map.specs.Sparse.{sparse_root}
-use Rattle.warg_map.specs.Under.{under}
+use Rattle.warg_map.specs.Private.Under.{under}
 use Rattle.warg_map.proofs.stem.Stem.hash.Goals as goal
 
 pub returns : goal.returns

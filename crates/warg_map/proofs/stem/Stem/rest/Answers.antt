@@ -1,6 +1,6 @@
 use Rattle.std.proofs.Common.{◌≡◌, ◌∙◌, ap, sym, ◌+◌, ◌-◌, arith}
 use Rattle.warg_map.specs.Bits.{bits_from}
-use Rattle.warg_map.specs.Under.{under}
+use Rattle.warg_map.specs.Private.Under.{under}
 use Rattle.warg_map.proofs.Under.{under-none, bits_from-none}
 use Rattle.warg_map.proofs.stem.Stem.rest.Goals as goal
 

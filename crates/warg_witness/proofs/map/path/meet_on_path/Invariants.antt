@@ -1,7 +1,7 @@
 use Rattle.std.proofs.Common.{◌≡◌}
 use Rattle.warg_crypto.specs.EmptyTrees.{empty_root}
 use Rattle.warg_map.specs.Bits.{last_bits}
-use Rattle.warg_witness.specs.MapPaths.{IsClimb}
+use Rattle.warg_witness.specs.Private.MapPaths.{IsClimb}
 use Rattle.warg_witness.proofs.map.path.meet_on_path.Given as goal
 
 abbrev pub invariant-loop-height : goal.invariant-loop-height

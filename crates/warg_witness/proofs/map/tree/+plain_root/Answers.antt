@@ -1,6 +1,6 @@
 use Rattle.std.proofs.Common.{rules, ◌≡◌, ◌+◌, ◌-◌, ◌<◌, Bool, true, false, List, [], ◌∷◌, ◌++◌, length, ◌∙◌, arith}
 use Rattle.warg_map.specs.Sparse.{pair_bytes}
-use Rattle.warg_witness.specs.MapPaths.{AreKeysUnder}
+use Rattle.warg_witness.specs.Private.MapPaths.{AreKeysUnder}
 use Rattle.warg_witness.proofs.TreeLemmas.{empty_is, place_within, leaf_root, root_branch, length-push_bit}
 use Rattle.warg_witness.proofs.map.tree.+plain_root.Goals as goal
 

@@ -1,6 +1,6 @@
 use Rattle.std.proofs.Common.{rules, ◌≡◌, ◌+◌, ◌<◌, Bool, not, List, [], ◌∷◌, ◌++◌, length, arith}
 use Rattle.warg_map.specs.Sparse.{pair_bytes}
-use Rattle.warg_witness.specs.MapPaths.{AreKeysUnder}
+use Rattle.warg_witness.specs.Private.MapPaths.{AreKeysUnder}
 use Rattle.warg_witness.proofs.TreeLemmas.{last_place_is, peers_none, peers_more, place_more, length-push_bit}
 use Rattle.warg_witness.proofs.map.tree.+push_peers.Goals as goal
 

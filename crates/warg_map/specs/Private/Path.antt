@@ -1,11 +1,11 @@
--- The bits that a path has left. Clauses of private functions alone cite what stands here.
+-- The bits that a path has left.
 use Rattle.std.specs.Prelude.{◌≡◌, ◌+◌, ◌-◌, Bool, List, Option, MatchOption, IfSome, reverse}
 use Rattle.std.specs.Iterator.{YieldsFirstBy}
 use Rattle.warg_map.specs.declared.path.Path.{Path}
 use Rattle.warg_map.specs.declared.path.ReversePath.{ReversePath}
 use Rattle.warg_map.specs.declared.path.Side.{Side}
 use Rattle.warg_map.specs.Bits.{last_bits, bits_from, bit_at}
-use Rattle.warg_map.specs.Side.{side_bit}
+use Rattle.warg_map.specs.Private.Side.{side_bit}
 
 -- The bits that a path has left, from the top.
 abbrev pub bits_left : {D : _} → Path D → List Bool

@@ -1,12 +1,6 @@
 -- Values compared by their bytes.
-use Rattle.std.specs.Prelude.{◌≡◌, ℕ, ◌<◌, Bool, nat_eq, List, [], ◌∷◌, length, take, drop, Option, Some, None, slice_index_or}
-use Rattle.std.specs.Ordering.{on, eq_of_both}
-use Rattle.std.specs.Cmp.Lexicographic.{pointwise}
+use Rattle.std.specs.Prelude.{◌≡◌, ℕ, ◌<◌, List, [], ◌∷◌, length, take, drop, Option, Some, None, slice_index_or}
 use Rattle.warg_witness.specs.Claims.{Begins}
-
--- Whether two pairs of byte strings are one: the first with the first, and the second with the second.
-abbrev pub same_pair : List ℕ × List ℕ → List ℕ × List ℕ → Bool
-same_pair = eq_of_both (on (λ (p : List ℕ × List ℕ). p.0) (pointwise nat_eq)) (on (λ (p : List ℕ × List ℕ). p.1) (pointwise nat_eq))
 
 -- A piece stands at a place of some bytes.
 abbrev pub StandsAt : ℕ → List ℕ → List ℕ → Type 0

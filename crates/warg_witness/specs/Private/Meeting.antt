@@ -5,7 +5,7 @@ use Rattle.warg_log.specs.Tree.{leaves_of, root_of, root_over, own_digest}
 use Rattle.warg_log.specs.Cut.{cut_over}
 use Rattle.warg_witness.specs.Ranges.{IsNodeRange, IsBalancedRoot}
 use Rattle.warg_witness.specs.Claims.{IsMet, IsConsistencyMet}
-use Rattle.warg_witness.specs.Parting.{IsParting}
+use Rattle.warg_witness.specs.Private.Parting.{IsParting}
 use Rattle.warg_witness.specs.declared.descent.Parting.{Parting}
 
 -- The claim with a digest at the node is met; the tree is the one over the entries, the target the node's

@@ -1,4 +1,4 @@
--- The bit that a side stands for. Clauses of private functions alone cite what stands here.
+-- The bit that a side stands for.
 use Rattle.std.specs.Prelude.{Bool, true, false}
 use Rattle.warg_map.specs.declared.path.Side.{Side}
 use Rattle.warg_map.specs.declared.path.Side.TheVariants.{Left, Right}

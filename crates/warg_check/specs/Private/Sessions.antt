@@ -3,7 +3,7 @@ use Rattle.std.specs.Prelude.{◌≡◌, ℕ, List, [], ◌∷◌, ◌++◌, str
 use Rattle.warg_check.specs.Orders.{Order, Line}
 use Rattle.warg_check.specs.States.{State, log_at, map_at, after, after_line, FindsFull}
 use Rattle.warg_check.specs.Text.{answer, said}
-use Rattle.warg_check.specs.Errors.{IsRefusal, LineFindsFull}
+use Rattle.warg_check.specs.Private.Errors.{IsRefusal, LineFindsFull}
 use Rattle.warg_check.specs.declared.program.RunError.{RunError}
 use Rattle.warg_check.specs.declared.program.session.Session.{Session}
 

@@ -1,4 +1,4 @@
--- What a node of the tree stands for. Clauses of private functions alone cite what stands here.
+-- What a node of the tree stands for.
 use Rattle.std.specs.Prelude.{◌≡◌, ℕ, ◌+◌, ◌≤◌, ◌<◌, Bool, not, if◌then◌else◌, List, [], ◌⊎◌}
 use Rattle.std.specs.FinMap.{insert, empty, contains_key}
 use Rattle.warg_map.specs.declared.node.Node.{Node}
@@ -6,8 +6,8 @@ use Rattle.warg_map.specs.declared.node.Node.TheVariants.{Leaf, Fork, Singleton,
 use Rattle.warg_map.specs.declared.fork.Fork.{Fork as Fork'}
 use Rattle.warg_map.specs.Bits.{bits_from}
 use Rattle.warg_map.specs.Sparse.{SparseMap}
-use Rattle.warg_map.specs.Lone.{held_alone}
-use Rattle.warg_map.specs.Under.{join, under, HoldsKey, Splits, IsLone}
+use Rattle.warg_map.specs.Private.Lone.{held_alone}
+use Rattle.warg_map.specs.Private.Under.{join, under, HoldsKey, Splits, IsLone}
 
 -- The height of a node: the number of levels of its tree.
 abbrev pub tree_height : {D A : _} → Node D A → ℕ

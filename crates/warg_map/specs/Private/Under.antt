@@ -1,5 +1,4 @@
--- Maps built of smaller ones: two below a fork, and one below the bits of a stem. Clauses of private functions alone
--- cite what stands here.
+-- Maps built of smaller ones: two below a fork, and one below the bits of a stem.
 use Rattle.std.specs.Prelude.{◌≡◌, ℕ, zero, suc, ◌+◌, Bool, true, false, cond, Option, Some, List, [], ◌∷◌, ◌++◌, map, length, IsTrue}
 use Rattle.std.specs.FinMap.{from_entries, entries, contains_key, insert, empty}
 use Rattle.warg_crypto.specs.EmptyTrees.{empty_root}

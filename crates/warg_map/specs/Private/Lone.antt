@@ -1,4 +1,4 @@
--- A lone key, as a contract sees it. Clauses of private functions alone cite what stands here.
+-- A lone key, as a contract sees it.
 use Rattle.std.specs.Prelude.{◌≡◌, ℕ, ◌≤◌, List}
 use Rattle.std.specs.FinMap.{insert, empty}
 use Rattle.warg_map.specs.Bits.{last_bits}

@@ -5,7 +5,7 @@ use Rattle.warg_map.specs.Bits.{key_bits}
 use Rattle.warg_map.specs.Sparse.{leaf_digest, map_of}
 use Rattle.warg_map.specs.Last.{last_under}
 use Rattle.warg_witness.specs.MapClaims.{value_in, IsKeyMet}
-use Rattle.warg_witness.specs.MapPaths.{IsPathParting, IsLastPlace, plain_peers}
+use Rattle.warg_witness.specs.Private.MapPaths.{IsPathParting, IsLastPlace, plain_peers}
 use Rattle.warg_witness.specs.declared.descent.Parting.{Parting}
 
 -- The claim of a key is met; the evaluation parts from the plain tree as said on the way to the key's leaf; and

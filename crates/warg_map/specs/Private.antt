@@ -1,0 +1,6 @@
+-- What only clauses of private functions name; no public clause or law rests on it.
+pub mod Lone
+pub mod Path
+pub mod Seen
+pub mod Side
+pub mod Under
