@@ -54,6 +54,15 @@ impl<B: Allocator> Refusing<B> {
             refused: counted.refused,
         });
     }
+
+    /// Takes all growths that are left, so that each further one is refused until more are granted.
+    pub fn exhaust(&self) {
+        let counted = self.growths.get();
+        self.growths.set(Growths {
+            left: 0,
+            refused: counted.refused,
+        });
+    }
 }
 
 impl<B: Allocator> Drop for Refusing<B> {

@@ -1,6 +1,5 @@
 //! Maps compared and hashed, and what stands after a refusal.
 
-use crate::digests::{all, exhaust};
 use refusing::Refusing;
 use std::alloc::{Allocator, Global};
 use std::cell::Cell;
@@ -9,6 +8,11 @@ use std::test::Fail;
 use warg_crypto::Sha256;
 use warg_crypto::weak::Sum;
 use warg_map::{Map, MapError, MapProofBundle, Proof};
+
+// Whether all of these are true. Each of them is looked at.
+fn all(kept: &[bool]) -> bool {
+    !kept.contains(&false)
+}
 
 type Text = &'static str;
 
@@ -126,7 +130,7 @@ fn calls_without_memory(rt: HostRuntime) -> Result<(), Fail> {
     let map = foo(&memory)?;
     let proof = map.prove("foo")?.ok_or("held")?;
     let absence = map.prove_absence("qux")?.ok_or("absent")?;
-    exhaust(&memory);
+    memory.exhaust();
     let same = map.clone()?;
     assert!(rt;
         all(&[
@@ -214,7 +218,7 @@ fn an_extension_with_each_growth_refused(rt: HostRuntime) -> Result<(), Fail> {
     for growths in 0..60u64 {
         let memory = Refusing::after(rt.alloc(), 99);
         let map = foo(&memory)?;
-        exhaust(&memory);
+        memory.exhaust();
         memory.grant(growths);
         if !is_refused(&map, &memory)? {
             break;

@@ -1,11 +1,10 @@
 //! Witnesses: values in other pieces, a log's own proofs at all lengths, and counts that are looked at first.
 
-use crate::digests::hash_ending_in;
 use refusing::Refusing;
 use std::alloc::{Allocator, Global};
 use std::test::Fail;
 use warg_crypto::weak::{Flat, Sum};
-use warg_crypto::{Sha256, SupportedDigest};
+use warg_crypto::{Hash, Sha256, SupportedDigest};
 use warg_log::{LogData, Node, SparseLogData, VecLog, push_all};
 use warg_witness::{Finding, witness_consistency, witness_hash, witness_value};
 
@@ -130,7 +129,7 @@ fn other_counts_without_memory(rt: HostRuntime) -> Result<(), Fail> {
             Ok(Finding::NotMet)
         )
     );
-    let hash = hash_ending_in(1);
+    let hash = Hash::from_array([1; 32]);
     assert!(rt;
         matches!(
             witness_hash(&none, &proof, &data, hash, &[1]),

@@ -1,6 +1,6 @@
 //! Images of logs at the ends of what a message can hold.
 
-use crate::digests::{all, bytes_of, exhaust};
+use crate::digests::{all, bytes_of};
 use refusing::Refusing;
 use std::alloc::Global;
 use std::test::Fail;
@@ -40,7 +40,7 @@ fn the_greatest_stack_log(rt: HostRuntime) -> Result<(), Fail> {
     );
     let root = log.checkpoint().root();
     log.push(&0)?;
-    exhaust(&memory);
+    memory.exhaust();
     let before = log.checkpoint();
     assert!(rt; matches!(log.to_protobuf(), Err(EncodeError::TooLarge)));
     assert!(rt;

@@ -1,6 +1,6 @@
 //! The log: its own proofs at all lengths, what it holds, clones, comparison, and calls without memory.
 
-use crate::digests::{all, exhaust, hash_ending_in, hash_of};
+use crate::digests::{all, hash_ending_in, hash_of};
 use refusing::Refusing;
 use std::alloc::Global;
 use std::test::Fail;
@@ -259,7 +259,7 @@ fn a_log_s_calls_without_memory(rt: HostRuntime) -> Result<(), Fail> {
     let mut log: ByteLog<Scarce<'_>> = VecLog::default(&memory);
     push_all(&mut log, &[1, 2, 3])?;
     let walk = log.prove_inclusion(Node(2), 3).walk(&memory)?;
-    exhaust(&memory);
+    memory.exhaust();
     assert!(rt; all(&[memory.left() == 0, answers_alone(&log)]));
     assert!(rt; [walk.initial_walk_len(), walk.lower_broots()] == [1, 1]);
     assert!(rt;
@@ -277,7 +277,7 @@ fn a_log_s_calls_without_memory(rt: HostRuntime) -> Result<(), Fail> {
 fn given_digests_without_memory(rt: HostRuntime) -> Result<(), Fail> {
     let memory = Refusing::after(rt.alloc(), 99);
     let pairs = vec![in &memory; (Node(1), hash_ending_in(5)), (Node(4), hash_ending_in(7))]?;
-    exhaust(&memory);
+    memory.exhaust();
     let data: SparseLogData<Sum, u8, Scarce<'_>> = SparseLogData::from(pairs);
     assert!(rt;
         all(&[

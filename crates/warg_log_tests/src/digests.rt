@@ -1,6 +1,5 @@
 //! Digests and bytes that several subjects speak of. Those of SHA-256 are computed by Python's hashlib.
 
-use refusing::Refusing;
 use std::alloc::Global;
 use std::test::Fail;
 use warg_crypto::{Hash, Sha256};
@@ -59,12 +58,4 @@ pub(crate) fn hash_ending_in<D>(byte: u8) -> Hash<D> {
 /// Whether all of these are true. Each of them is looked at.
 pub(crate) fn all(kept: &[bool]) -> bool {
     !kept.contains(&false)
-}
-
-/// Takes all growths that are left, so that each further one is refused.
-pub(crate) fn exhaust(memory: &Refusing<Global>) {
-    for _ in 0..memory.left() {
-        let taken: Result<Vec<u8, _>, _> = Vec::with_capacity(memory, 1);
-        let _ = taken.is_ok();
-    }
 }

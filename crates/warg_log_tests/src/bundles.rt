@@ -1,6 +1,6 @@
 //! Bundles of a log's proofs: their parts, and refusals that come before any growth.
 
-use crate::digests::{all, bytes_of, exhaust, hash_of};
+use crate::digests::{all, bytes_of, hash_of};
 use refusing::Refusing;
 use std::alloc::Global;
 use std::test::Fail;
@@ -32,7 +32,7 @@ fn has_proofs(bundle: &Bundle<'_>, data: &Data) -> bool {
 fn readers_without_memory(rt: HostRuntime) -> Result<(), Fail> {
     let memory = Refusing::after(rt.alloc(), 99);
     let bundle: Bundle<'_> = ProofBundle::decode(&memory, &bytes_of(rt.alloc(), BOTH)?)?;
-    exhaust(&memory);
+    memory.exhaust();
     let none: Data = SparseLogData::from(Vec::new(rt.alloc()));
     assert!(rt; has_proofs(&bundle, &none));
     let hashes = bundle.hashes();
@@ -89,7 +89,7 @@ fn refusal(
     let data: Data = SparseLogData::from(Vec::new(rt.alloc()));
     let consistencies = Vec::from_slice(&memory, consistencies)?;
     let inclusions = Vec::from_slice(&memory, inclusions)?;
-    exhaust(&memory);
+    memory.exhaust();
     match ProofBundle::bundle(&memory, consistencies, inclusions, &data) {
         Ok(_) => Ok(None),
         Err(fault) => Ok(Some(fault)),
@@ -145,7 +145,7 @@ fn too_large_to_write_without_memory(rt: HostRuntime) -> Result<(), Fail> {
     let proof = data.prove_inclusion(Node(1 << 32), (1 << 31) + 1);
     let proofs = vec![in &memory; proof]?;
     let bundle: Bundle<'_> = ProofBundle::bundle(&memory, Vec::new(&memory), proofs, &data)?;
-    exhaust(&memory);
+    memory.exhaust();
     assert!(rt; bundle.encode(&memory) == Err(EncodeError::TooLarge));
     assert!(rt; matches!(bundle.to_message(&memory), Err(EncodeError::TooLarge)));
     assert!(rt;

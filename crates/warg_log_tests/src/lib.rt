@@ -1,0 +1,16 @@
+//! What the vectors can't say of digests, messages and logs: types compared, ordered and hashed, calls that take no
+//! memory, and what stands after a refusal.
+#![tactic(auto)]
+
+#[cfg(test)]
+mod bundles;
+#[cfg(test)]
+mod crypto;
+#[cfg(test)]
+mod digests;
+#[cfg(test)]
+mod images;
+#[cfg(test)]
+mod log;
+#[cfg(test)]
+mod messages;
