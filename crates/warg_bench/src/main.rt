@@ -1,9 +1,11 @@
-//! Measures the calls that matter, beside one hash of a branch in the same run. With no argument it
-//! measures nothing and prints nothing.
+//! Measures the calls that matter, beside one hash of a branch in the same run. With the argument `growth` it
+//! measures how they grow; with none it measures nothing and prints nothing.
 #![tactic(auto)]
 
+mod growth;
 mod slow;
 
+use crate::growth::measure_growth;
 use crate::slow::Slow;
 use anyhow::Result;
 use std::env;
@@ -20,23 +22,29 @@ type Entry = [u8; 32];
 const ENTRIES: usize = 100_000;
 
 fn main(rt: HostRuntime) -> Result<()> {
-    if env::args(&rt)?.count() < 2 {
-        return Ok(());
+    match env::args(&rt)?.nth(1) {
+        None => Ok(()),
+        Some(word) if word.as_str() == "growth" => measure_growth(&rt),
+        Some(_) => measure(&rt),
     }
-    let branch = branch_time(&rt)?;
+}
+
+// Measures each call, one part after the other.
+fn measure(rt: &HostRuntime) -> Result<()> {
+    let branch = branch_time(rt)?;
     println!(rt; "one hash of a branch: {branch} ns")?;
-    counts(&rt)?;
-    logs(&rt)?;
-    log_images(&rt, branch)?;
-    maps(&rt, 1_000)?;
-    maps(&rt, 10_000)?;
-    log_bundles(&rt)?;
-    map_bundles(&rt)?;
-    verdicts(&rt)?;
-    map_lines(&rt)?;
-    witnesses(&rt)?;
-    map_witnesses(&rt, 1_000, branch)?;
-    map_witnesses(&rt, 10_000, branch)?;
+    counts(rt)?;
+    logs(rt)?;
+    log_images(rt, branch)?;
+    maps(rt, 1_000)?;
+    maps(rt, 10_000)?;
+    log_bundles(rt)?;
+    map_bundles(rt)?;
+    verdicts(rt)?;
+    map_lines(rt)?;
+    witnesses(rt)?;
+    map_witnesses(rt, 1_000, branch)?;
+    map_witnesses(rt, 10_000, branch)?;
     Ok(())
 }
 
