@@ -10,7 +10,7 @@ use Rattle.warg_check.specs.Words.{lines_of}
 use Rattle.warg_check.specs.Orders.{line_of, consistent}
 use Rattle.warg_check.specs.States.{State, start, log_at, map_at, after_line}
 use Rattle.warg_check.specs.Text.{said, is_not_bad, text_from, text_of, all_good, after_lines, answer, refusal, roots_or_refusal, verdict_or_refusal}
-use Rattle.warg_check.specs.Private.Sessions.{StandsAt, Takes}
+use Rattle.warg_check.specs.Private.Sessions.{IsInState, Takes}
 use Rattle.warg_check.specs.declared.program.session.Session.{Session}
 use Rattle.warg_check.specs.declared.verdict.CheckError.{CheckError}
 use Rattle.warg_check.specs.declared.verdict.CheckError.TheVariants as check
@@ -20,7 +20,7 @@ pub record Stands {A : Type 0} (input rest : List ℕ) (session : Session A) (nu
   pub before : List (List ℕ)
   pub parts : lines_of input ≡ before ++ lines_of rest
   pub good : all_good before ≡ true
-  pub state_is : StandsAt session (after_lines start before)
+  pub state_is : IsInState session (after_lines start before)
   pub text_is : string_bytes session.text ≡ text_from 1 start before
   pub number_is : number ≡ length before
 
@@ -55,7 +55,7 @@ all_good-append (line ∷ before) behind fine =
     rw both.0 (all_good-append before behind both.1)
 
 -- before the first line
-pub starts : {A : Type 0} (input : List ℕ) (session : Session A) → StandsAt session start → string_bytes session.text ≡ [] → Stands input input session 0
+pub starts : {A : Type 0} (input : List ℕ) (session : Session A) → IsInState session start → string_bytes session.text ≡ [] → Stands input input session 0
 unfolding text_from all_good after_lines
 starts input session stands no_text = record {
   before = [];

@@ -3,7 +3,7 @@ use Rattle.std.proofs.Common.{◌≡◌, ◌≢◌, ℕ, suc, ◌+◌, ◌-◌, 
 use Rattle.std.proofs.Math.Seq.{take-suc, drop-cons}
 use Rattle.std.specs.List.{list_all}
 use Rattle.std.specs.Char.{is_ascii_digit}
-use Rattle.warg_check.specs.Words.{Lacks, IsFirstPart, lines_of, words_of, words_left, is_number, number_of, value_from}
+use Rattle.warg_check.specs.Words.{Lacks, IsFirstPart, lines_of, words_of, words_left, is_number, number_in, value_from}
 
 Lacks-append : (b : ℕ) (xs ys : List ℕ) → Lacks b xs → Lacks b ys → Lacks b (xs ++ ys)
 Lacks-append b [] ys p q = q
@@ -29,16 +29,16 @@ last_false false b p = refl
 
 -- a word of digits with a value that fits is the number
 pub number : (word : List ℕ) (n : ℕ) → 0 < length word → length word ≤ 20 → list_all is_ascii_digit word ≡ true → value_from 0 word ≡ n → n < 2 ^ 64
-    → number_of word ≡ Some n
-unfolding number_of
+    → number_in word ≡ Some n
+unfolding number_in
 number word n some few digits is fits =
     let test : is_number word ≡ true = all_four _ _ _ _ (le-leb 1 (length word) some) (le-leb (length word) 20 few) digits (rw is (lt-ltb n (2 ^ 64) fits)) in
     rw (test, is) refl
 
 -- a word whose value doesn't fit is none
 pub too_great : (word : List ℕ) (n i : ℕ) → value_from 0 word ≡ value_from n (drop i word) → i < length word → 2 ^ 64 ≤ 10 * n + (get_or word i 0 - 48)
-    → number_of word ≡ None
-unfolding number_of value_from
+    → number_in word ≡ None
+unfolding number_in value_from
 too_great word n i is within great =
     let more = value_from-le (10 * n + (get_or word i 0 - 48)) (drop (suc i) word) in
     let whole : value_from 0 word ≡ value_from (10 * n + (get_or word i 0 - 48)) (drop (suc i) word) = is ∙ rw (drop-cons word i 0 within) refl in

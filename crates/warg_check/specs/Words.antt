@@ -44,8 +44,8 @@ is_number word =
     && nat_lt (value_from 0 word) (2 ^ 64)
 
 -- The number that a word says.
-unfoldable pub number_of : List ℕ → Option ℕ
-number_of word = if is_number word then Some (value_from 0 word) else None
+unfoldable pub number_in : List ℕ → Option ℕ
+number_in word = if is_number word then Some (value_from 0 word) else None
 
 -- The same, where it is at most 2 ^ 63.
 abbrev pub at_most_2^63 : Option ℕ → Option ℕ
@@ -53,8 +53,8 @@ at_most_2^63 (Some n) = if nat_le n (2 ^ 63) then Some n else None
 at_most_2^63 None = None
 
 -- The length that a word says: a number up to 2 ^ 63.
-unfoldable pub length_of : List ℕ → Option ℕ
-length_of word = at_most_2^63 (number_of word)
+unfoldable pub length_in : List ℕ → Option ℕ
+length_in word = at_most_2^63 (number_in word)
 
 -- What was decoded, if anything was.
 abbrev pub decoded : Result (List ℕ) FromHexError → Option (List ℕ)
@@ -63,8 +63,8 @@ decoded (Err _) = None
 
 -- The bytes that a word says: none for `-`, else those of its hexadecimal digits, of which there are an
 -- even, positive number, in either case.
-unfoldable pub bytes_of : List ℕ → Option (List ℕ)
-bytes_of word = if is_word word (codes "-") then Some [] else if length word == 0 then None else decoded (decode_of word)
+unfoldable pub bytes_in : List ℕ → Option (List ℕ)
+bytes_in word = if is_word word (codes "-") then Some [] else if length word == 0 then None else decoded (decode_of word)
 
 -- The root that a word says: the 32 bytes of 64 hexadecimal digits, in either case.
 abbrev pub root_in : List ℕ → Option (List ℕ)

@@ -31,17 +31,17 @@ decode_number decoding.TooManyPeers = TOO_MANY_PEERS
 decode_number decoding.Memory = OUT_OF_MEMORY
 
 -- The number of a verdict.
-abbrev pub number_of : Result Bool CheckError → ℤ
-number_of (Ok true) = TRUE
-number_of (Ok false) = FALSE
-number_of (Err (fault.Decode e)) = decode_number e
-number_of (Err fault.NoSuchProof) = NO_SUCH_PROOF
-number_of (Err fault.Memory) = OUT_OF_MEMORY
+abbrev pub verdict_number : Result Bool CheckError → ℤ
+verdict_number (Ok true) = TRUE
+verdict_number (Ok false) = FALSE
+verdict_number (Err (fault.Decode e)) = decode_number e
+verdict_number (Err fault.NoSuchProof) = NO_SUCH_PROOF
+verdict_number (Err fault.Memory) = OUT_OF_MEMORY
 
 -- The number of a verdict under these roots, of which each has to be 32 bytes.
 abbrev pub number_under : List (List ℕ) → Result Bool CheckError → ℤ
-number_under roots verdict = if list_all (λ root. length root == 32) roots then number_of verdict else ROOT_LENGTH
+number_under roots verdict = if list_all (λ root. length root == 32) roots then verdict_number verdict else ROOT_LENGTH
 
 -- A call answered this number, or that memory was refused.
-abbrev pub Gives : ℤ → ℤ → Type 0
-Gives answered number = (answered ≡ number) ⊎ (answered ≡ OUT_OF_MEMORY)
+abbrev pub GivesNumber : ℤ → ℤ → Type 0
+GivesNumber answered number = (answered ≡ number) ⊎ (answered ≡ OUT_OF_MEMORY)

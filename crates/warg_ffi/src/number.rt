@@ -1,7 +1,7 @@
 //! Verdicts as the numbers that C sees. `ffi/warg.h` names them again.
 
 ghost use Rattle.std.specs.Prelude.{◌≡◌};
-ghost use Rattle.warg_ffi.specs.Numbers.{number_of, decode_number, wire_number};
+ghost use Rattle.warg_ffi.specs.Numbers.{verdict_number, decode_number, wire_number};
 
 use warg_check::CheckError;
 use warg_log::DecodeError;
@@ -43,7 +43,7 @@ pub const NOT_A_STACK: i32 = -25;
 
 // The number of a verdict.
 pub fn number(verdict: Result<bool, CheckError>) -> i32
-    ensures { result ≡ number_of verdict }
+    ensures { result ≡ verdict_number verdict }
 {
     match verdict {
         Ok(true) => TRUE,

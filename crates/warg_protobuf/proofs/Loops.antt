@@ -7,7 +7,8 @@ use Rattle.warg_protobuf.specs.declared.error.WireError.TheVariants as errors
 use Rattle.warg_protobuf.specs.Reading.{◌>>=◌, Fails, outcome, values_read, all_in, all_of, Reader, Check}
 use Rattle.warg_protobuf.specs.Varint.{varint_at}
 use Rattle.warg_protobuf.specs.Field.{Field, field_at}
-use Rattle.warg_protobuf.specs.Schema.{Schema, as_uint32, packed_uint32s, check_by, fields_of, message_of, Adds, is_uint32}
+use Rattle.warg_protobuf.specs.Schema.{Schema, as_uint32, packed_uint32s, check_by, fields_of, message_of, is_uint32}
+use Rattle.warg_protobuf.specs.Private.Taking.{Adds}
 use Rattle.warg_protobuf.proofs.Steps.{chosen, ok_is, Fails-then, Fails-outcome}
 use Rattle.warg_protobuf.proofs.Sequences.{Shrinks, all_more, varints_shrink, fields_shrink}
 

@@ -1,9 +1,6 @@
 -- Fields one after the other: each is a tag and a payload (proto3 encoding, "Message Structure").
 use Rattle.std.specs.Prelude.{◌≡◌, ℕ, ◌+◌, ◌*◌, ◌/◌, ◌%◌, ◌^◌, ◌<◌, List, [], ◌∷◌, ◌++◌, length, take, drop, Ok, Err, nat_lt, nat_le, ◌==◌, ◌||◌, if◌then◌else◌}
 use Rattle.warg_protobuf.specs.declared.error.WireError.TheVariants.{Truncated, BadTag, Group, BadWireType}
-use Rattle.warg_protobuf.specs.declared.field.Field.{Field as LentField}
-use Rattle.warg_protobuf.specs.declared.field.Payload.{Payload as LentPayload}
-use Rattle.warg_protobuf.specs.declared.field.Payload.TheVariants as lent
 use Rattle.warg_protobuf.specs.Reading.{◌>>=◌, Reader}
 use Rattle.warg_protobuf.specs.Varint.{IsVarint, varint_at}
 
@@ -47,17 +44,6 @@ pub record SpellsField (bytes : List ℕ) (f : Field) : Type 0 where
 abbrev pub SpellsAll : {X : Type 0} → (List ℕ → X → Type 0) → List ℕ → List X → Type 0
 SpellsAll Spells bytes [] = bytes ≡ []
 SpellsAll Spells bytes (x ∷ xs) = (first : List ℕ) × (rest : List ℕ) × Spells first x × SpellsAll Spells rest xs × (bytes ≡ first ++ rest)
-
--- A payload that the program lends, without where its bytes lie.
-abbrev pub payload_view : LentPayload → Payload
-payload_view (lent.Varint n) = varint n
-payload_view (lent.Fixed64 bytes) = fixed64 bytes.now
-payload_view (lent.Delimited bytes) = delimited bytes.now
-payload_view (lent.Fixed32 bytes) = fixed32 bytes.now
-
--- A field that the program lends, without where its bytes lie.
-abbrev pub field_view : LentField → Field
-field_view f = record { number = f.number; payload = payload_view f.payload }
 
 -- So many bytes at the front, and the bytes after them.
 abbrev pub bytes_at : ℕ → Reader (List ℕ)

@@ -5,9 +5,14 @@ use Rattle.warg_protobuf.specs.declared.error.WireError.TheVariants.{Memory}
 
 -- `r >>= f` goes on with the value of `r`, or keeps its fault.
 infixl 10 ◌>>=◌
-abbrev pub ◌>>=◌ : {A B : Type 0} → Result A WireError → (A → Result B WireError) → Result B WireError
+abbrev pub ◌>>=◌ : {A B E : Type 0} → Result A E → (A → Result B E) → Result B E
 (Ok x) >>= f = f x
 (Err e) >>= f = Err e
+
+-- What a call answered is the value, or the fault that stands in its place, or that memory was refused.
+abbrev pub Answers : {X E : Type 0} → E → Result X E → Result X E → Type 0
+Answers refusal (Ok x) value = value ≡ Ok x
+Answers refusal (Err e) value = (e ≡ refusal) ⊎ (value ≡ Err e)
 
 -- Memory ran out, or reading meets this fault.
 abbrev pub Fails : {Y : Type 0} → WireError → Result Y WireError → Type 0

@@ -109,11 +109,3 @@ each read p = as_list (read p)
 unfoldable pub last_of : {A : Type 0} → A → List A → A
 last_of default [] = default
 last_of default (x ∷ xs) = last_of x xs
-
--- What a call did that takes one thing in, in place: it added it, or named the fault of its check.
-abbrev pub Puts : {M : Type 0} → Result (Unit {0}) WireError → Result (Unit {0}) WireError → M → M → Type 0
-Puts result check added new = MatchResult result (λ _. (check ≡ Ok tt) × (new ≡ added)) (λ e. Fails e check)
-
--- Taking one more thing in is adding it.
-pub record Adds {X M : Type 0} (say : List X → M) (add : M → X → M) : Type 0 where
-  pub push : (xs : List X) (x : X) → say (xs ++ x ∷ []) ≡ add (say xs) x

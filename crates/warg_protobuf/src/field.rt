@@ -1,6 +1,7 @@
 //! Fields, split off the front of a message's bytes.
 ghost use Rattle.warg_protobuf.specs.Reading.{Gives};
-ghost use Rattle.warg_protobuf.specs.Field.{bytes_at, field_at, payload_at, field_view, payload_view};
+ghost use Rattle.warg_protobuf.specs.Field.{bytes_at, field_at, payload_at};
+ghost use Rattle.warg_protobuf.specs.Private.Lent.{field_view, payload_view};
 
 use crate::error::WireError;
 use crate::varint::read_varint;

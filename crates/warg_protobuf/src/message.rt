@@ -3,8 +3,10 @@ ghost use Rattle.std.specs.Prelude.{◌≡◌, ◌⊎◌, ◌++◌, ◌<◌, ◌
 ghost use Rattle.warg_protobuf.specs.declared.error.WireError.{WireError};
 ghost use Rattle.warg_protobuf.specs.declared.error.WireError.TheVariants.{Memory};
 ghost use Rattle.warg_protobuf.specs.Reading.{Gives, outcome, values_read, as_list};
-ghost use Rattle.warg_protobuf.specs.Field.{Field as AnyField, field_view, payload_view};
-ghost use Rattle.warg_protobuf.specs.Schema.{Schema, Puts, Adds, check_by, message_of, message_in};
+ghost use Rattle.warg_protobuf.specs.Field.{Field as AnyField};
+ghost use Rattle.warg_protobuf.specs.Schema.{Schema, check_by, message_of, message_in};
+ghost use Rattle.warg_protobuf.specs.Private.Lent.{field_view, payload_view};
+ghost use Rattle.warg_protobuf.specs.Private.Taking.{Puts, Adds};
 ghost use Rattle.warg_protobuf.specs.Spelled.{IsSpelled, FaultStands};
 ghost use Rattle.warg_protobuf.specs.Written.{fields_bytes, message_fields};
 

@@ -1,8 +1,9 @@
 //! Numbers and bytes out of payloads.
 ghost use Rattle.std.specs.Prelude.{◌++◌};
 ghost use Rattle.warg_protobuf.specs.Reading.{Gives, outcome, values_read};
-ghost use Rattle.warg_protobuf.specs.Field.{payload_view};
-ghost use Rattle.warg_protobuf.specs.Schema.{as_uint32, uint32_in, bytes_in, uint32s_in, packed_uint32s, Puts};
+ghost use Rattle.warg_protobuf.specs.Private.Lent.{payload_view};
+ghost use Rattle.warg_protobuf.specs.Private.Taking.{Puts};
+ghost use Rattle.warg_protobuf.specs.Schema.{as_uint32, uint32_in, bytes_in, uint32s_in, packed_uint32s};
 
 use crate::error::WireError;
 use crate::field::Payload;

@@ -3,7 +3,7 @@ use Rattle.std.proofs.Common.{◌≡◌, ℕ, ◌^◌, List, ◌∷◌, Option, 
 use Rattle.warg_log.specs.Nodes.{height_of, start_of}
 use Rattle.warg_log.specs.Cut.{cut_root}
 use Rattle.warg_witness.proofs.LogLemmas.{target_true, target_false}
-use Rattle.warg_witness.specs.Private.Parting.{HaveOneDigest, IsParting, Collides, pair_of}
+use Rattle.warg_witness.specs.Private.Parting.{HaveOneDigest, IsParting, Collides, inputs_of}
 use Rattle.warg_witness.specs.Placed.{IsAgreementPlaced}
 use Rattle.warg_witness.specs.declared.descent.Parting.{Parting}
 use Rattle.warg_witness.specs.declared.descent.Parting.TheVariants.{Target, Branch}
@@ -24,7 +24,7 @@ pub record ShowsAgreement (H : List ℕ → List ℕ) (F : ℕ → Option (List 
 
 pub agreement_shown : {D : Type 0} (H : List ℕ → List ℕ) (F : ℕ → Option (List ℕ)) (v : List ℕ) (G : ℕ → Option (List ℕ)) (u : List ℕ) (node n s w : ℕ) (first second : List ℕ) (p : Parting D)
     → s ≡ start_of node → w ≡ 2 ^ height_of node → IsParting H F (H (0 ∷ v)) G (H (0 ∷ u)) s w 0 n p
-    → (first ≡ 0 ∷ v) × (second ≡ 0 ∷ u) × (v ≡ u → ⊥) → ShowsAgreement H F v G u node n (pair_of p first second)
+    → (first ≡ 0 ∷ v) × (second ≡ 0 ∷ u) × (v ≡ u → ⊥) → ShowsAgreement H F v G u node n (inputs_of p first second)
 agreement_shown H F v G u node n s w first second Target start width is inputs = record {
   collides = record {
     differ = rw (inputs.0, inputs.1) (λ e. inputs.2 (tail_eq v u e));

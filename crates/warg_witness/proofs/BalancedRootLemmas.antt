@@ -9,12 +9,13 @@ use Rattle.warg_log.specs.Nodes.{height_of, start_of, node_over, balanced_over}
 use Rattle.warg_log.specs.Tree.{front_of}
 use Rattle.warg_log.specs.Cut.{cut_over, old_over, IsFull, IsBeside}
 use Rattle.warg_witness.proofs.LogLemmas.{balanced_cut, cut_over-old, node_at, front_is, balanced_full, number_over, old_over-power, more_than_one, cut_over-at, cut_over-parts, old_over-parts}
-use Rattle.warg_witness.specs.Ranges.{IsPart, IsAround, IsAligned, IsNodeRange, IsBalancedRoot}
+use Rattle.warg_witness.specs.Ranges.{IsPart, IsAround}
+use Rattle.warg_witness.specs.Private.Ranges.{IsAligned, IsNodeRange, IsBalancedRoot}
 use Rattle.warg_witness.specs.Ranges.IsPart.{whole as whole_part, front as front_part, rest as rest_part}
-use Rattle.warg_witness.specs.Ranges.IsBalancedRoot.{full, front, rest}
+use Rattle.warg_witness.specs.Private.Ranges.IsBalancedRoot.{full, front, rest}
 use Rattle.warg_witness.specs.Inputs.{old_input, cut_input}
 use Rattle.warg_witness.proofs.RangeLemmas.{IsPart-trans, front_aligned, rest_aligned}
-use Rattle.warg_witness.specs.LogLaws.{LogLaws}
+use Rattle.warg_witness.specs.Private.LogLaws.{LogLaws}
 
 -- a power of two is at least one
 full_some : (n : ℕ) → IsFull n → 0 < n

@@ -4,13 +4,14 @@ use Rattle.std.proofs.lemmas.Nat.{pow_pos}
 use Rattle.warg_log.specs.Nodes.{height_of, place_of, start_of, node_over, ExistsAt}
 use Rattle.warg_log.specs.Tree.{leaves_of, root_of, root_over, own_digest}
 use Rattle.warg_log.specs.Cut.{cut_over}
-use Rattle.warg_witness.specs.Ranges.{IsAround, IsNodeRange}
+use Rattle.warg_witness.specs.Ranges.{IsAround}
+use Rattle.warg_witness.specs.Private.Ranges.{IsNodeRange}
 use Rattle.warg_witness.specs.Claims.{IsMet, IsEntry, IsRootBelow, IsAgreement, IsConsistencyMet, Begins}
 use Rattle.warg_witness.specs.Private.Compared.{DiffersFirst}
 use Rattle.warg_witness.specs.Inputs.{plain_input}
 use Rattle.warg_witness.specs.Placed.{IsValuePlaced, IsHashPlaced, IsAgreementPlaced, IsConsistencyPlaced}
 use Rattle.warg_witness.specs.Laws.{GivesHashes, HoldsHashes, SomeCollision}
-use Rattle.warg_witness.specs.Private.Parting.{IsParting, Collides, PartsAtBranch, pair_of}
+use Rattle.warg_witness.specs.Private.Parting.{IsParting, Collides, PartsAtBranch, inputs_of}
 use Rattle.warg_witness.specs.Private.Meeting.{IsMeeting, IsConsistencyMeeting, LeadsToBoth}
 use Rattle.warg_witness.specs.declared.descent.Parting.TheVariants.{Target, Branch}
 use Rattle.warg_witness.proofs.PlainLemmas.{whole_aligned}
@@ -19,7 +20,7 @@ use Rattle.warg_witness.proofs.AgreementLemmas.{have_both, agreement_shown}
 use Rattle.warg_witness.proofs.ConsistencyLemmas.{leaf_node, node_aligned, have_tree_root, have_node, trees_consistent, root_leads, ShowsConsistency, old_shown, new_shown, below_shown, leaves_shown, target_meets}
 use Rattle.warg_witness.proofs.BalancedRootLemmas.{root_bounds}
 use Rattle.warg_witness.proofs.PureLemmas.{Part, parted, root_over-len, own_holds, difference, root_found}
-use Rattle.warg_witness.specs.LogLaws.{LogLaws}
+use Rattle.warg_witness.specs.Private.LogLaws.{LogLaws}
 
 -- a node's leaves are a node's range
 node_range : (node : ℕ) → IsNodeRange (start_of node) (2 ^ height_of node)
@@ -30,7 +31,7 @@ whole_around : (node n : ℕ) → ExistsAt node n → IsAround (start_of node) (
 whole_around node n exists = record { starts = omega arith; ends = omega (arith, exists) }
 
 -- what parts at a branch collides
-branch_collides : (H : List ℕ → List ℕ) (p : Part) → PartsAtBranch H p → Collides H (pair_of p [] [])
+branch_collides : (H : List ℕ → List ℕ) (p : Part) → PartsAtBranch H p → Collides H (inputs_of p [] [])
 branch_collides H Target parts = absurd parts
 branch_collides H (Branch l r l' r') parts = parts
 
@@ -43,7 +44,7 @@ target_or_not (Branch l r l' r') = inr (λ e. cc)
 shown_collides : (H : List ℕ → List ℕ) (F : ℕ → Option (List ℕ)) (old new : List (List ℕ)) (p : Part) → ShowsConsistency H F old new p → SomeCollision H (IsConsistencyPlaced H F old new)
 shown_collides H F old new p shown =
     let collides = branch_collides H p shown.at_branch in
-    record { first = (pair_of p [] []).0; second = (pair_of p [] []).1; differ = collides.differ; same = collides.same; placed = shown.placed }
+    record { first = (inputs_of p [] []).0; second = (inputs_of p [] []).1; differ = collides.differ; same = collides.same; placed = shown.placed }
 
 module _ (laws : LogLaws) where
   -- a claim that is met has the evaluation and the tree part somewhere on the way to the node, or nowhere
@@ -72,7 +73,7 @@ module _ (laws : LogLaws) where
       let meets = meeting H F (H (0 ∷ value)) node n entries gives holds (gives (0 ∷ value)) met in
       let shown = value_shown laws H F value node n entries (leaves_of H entries) s w _ (0 ∷ value) (plain_input H entries s w) meets.0 some (some_leaves node n met.exists) meets.1
       (refl, refl, λ at. false_claim (entry_from value entries node s w refl refl at)) in
-      record { first = (pair_of meets.0 (0 ∷ value) (plain_input H entries s w)).0; second = (pair_of meets.0 (0 ∷ value) (plain_input H entries s w)).1; differ = shown.collides.differ; same = shown.collides.same; placed = shown.placed }
+      record { first = (inputs_of meets.0 (0 ∷ value) (plain_input H entries s w)).0; second = (inputs_of meets.0 (0 ∷ value) (plain_input H entries s w)).1; differ = shown.collides.differ; same = shown.collides.same; placed = shown.placed }
 
   pub hash_collides : (H : List ℕ → List ℕ) (F : ℕ → Option (List ℕ)) (hash : List ℕ) (node n : ℕ) (entries : List (List ℕ)) → GivesHashes H → HoldsHashes F → length hash ≡ 32
       → IsMet H F hash node n entries → (IsRootBelow H hash node entries → ⊥) → SomeCollision H (IsHashPlaced H F hash node entries)
@@ -80,7 +81,7 @@ module _ (laws : LogLaws) where
       let meets = meeting H F hash node n entries gives holds size met in
       let shown = hash_shown laws H F hash node n entries (leaves_of H entries) (start_of node) (2 ^ height_of node) _ meets.0 (pow_pos (height_of node)) (some_leaves node n met.exists) meets.1 false_claim in
       let collides = branch_collides H meets.0 shown.at_branch in
-      record { first = (pair_of meets.0 [] []).0; second = (pair_of meets.0 [] []).1; differ = collides.differ; same = collides.same; placed = shown.placed }
+      record { first = (inputs_of meets.0 [] []).0; second = (inputs_of meets.0 [] []).1; differ = collides.differ; same = collides.same; placed = shown.placed }
 
   pub agreement_collides : (H : List ℕ → List ℕ) (F : ℕ → Option (List ℕ)) (value : List ℕ) (G : ℕ → Option (List ℕ)) (other : List ℕ) (node n : ℕ) → GivesHashes H → HoldsHashes F → HoldsHashes G
       → IsAgreement H F (H (0 ∷ value)) G (H (0 ∷ other)) node n → (value ≡ other → ⊥) → SomeCollision H (IsAgreementPlaced H F value G other node n)
@@ -91,7 +92,7 @@ module _ (laws : LogLaws) where
       let found = parted laws H F (H (0 ∷ value)) G (H (0 ∷ other)) s w gives holds holds' (gives (0 ∷ value)) (gives (0 ∷ other)) (node_range node) (pow_pos (height_of node)) n 0 n
       (let le : n ≤ n = omega arith in le) (whole_aligned 0 n n refl refl) (whole_around node n met.exists) one in
       let shown = agreement_shown H F value G other node n s w (0 ∷ value) (0 ∷ other) found.0 refl refl found.1 (refl, refl, false_claim) in
-      record { first = (pair_of found.0 (0 ∷ value) (0 ∷ other)).0; second = (pair_of found.0 (0 ∷ value) (0 ∷ other)).1; differ = shown.collides.differ; same = shown.collides.same; placed = shown.placed }
+      record { first = (inputs_of found.0 (0 ∷ value) (0 ∷ other)).0; second = (inputs_of found.0 (0 ∷ value) (0 ∷ other)).1; differ = shown.collides.differ; same = shown.collides.same; placed = shown.placed }
 
   -- the evaluation with a balanced root's digest and a tree to whose root it leads
   from_tree : (H : List ℕ → List ℕ) (F : ℕ → Option (List ℕ)) (x : List ℕ) (entries : List (List ℕ)) (s w : ℕ) → GivesHashes H → HoldsHashes F → length x ≡ 32 → IsNodeRange s w → 0 < w

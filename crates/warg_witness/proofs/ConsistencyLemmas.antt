@@ -7,12 +7,13 @@ use Rattle.warg_log.specs.Tree.{leaves_of, root_of, root_over, own_digest}
 use Rattle.warg_log.specs.Cut.{cut_over}
 use Rattle.warg_log.specs.Consistency.{consistency, LeadsTo, IsConsistent}
 use Rattle.warg_witness.proofs.LogLemmas.{root_over-one, consistency-only, consistency-then}
-use Rattle.warg_witness.specs.Ranges.{IsPart, IsAligned, IsNodeRange, IsBalancedRoot}
+use Rattle.warg_witness.specs.Ranges.{IsPart}
+use Rattle.warg_witness.specs.Private.Ranges.{IsAligned, IsNodeRange, IsBalancedRoot}
 use Rattle.warg_witness.specs.Claims.{IsConsistencyMet}
 use Rattle.warg_witness.specs.Private.Compared.{DiffersFirst}
 use Rattle.warg_witness.specs.Inputs.{branch_input}
 use Rattle.warg_witness.specs.Placed.{IsConsistencyPlaced}
-use Rattle.warg_witness.specs.Private.Parting.{HaveOneDigest, IsParting, PartsAtBranch, pair_of}
+use Rattle.warg_witness.specs.Private.Parting.{HaveOneDigest, IsParting, PartsAtBranch, inputs_of}
 use Rattle.warg_witness.specs.Private.Meeting.{IsConsistencyMeeting, LeadsToBoth}
 use Rattle.warg_witness.specs.declared.descent.Parting.{Parting}
 use Rattle.warg_witness.specs.declared.descent.Parting.TheVariants.{Target, Branch}
@@ -22,7 +23,7 @@ use Rattle.warg_witness.proofs.DescentLemmas.{some_eq}
 use Rattle.warg_witness.proofs.ValueLemmas.{plain_digest_is, own_input, length-leaves, part_aligned, part_within}
 use Rattle.warg_witness.proofs.EntryLemmas.{entry_at}
 use Rattle.warg_witness.proofs.BalancedRootLemmas.{root_bounds, root_is_part, root_is_node, node_bounds, at_root, root_contained, root_splits, root_at_part, old_is_cut_around, old_input_is_cut}
-use Rattle.warg_witness.specs.LogLaws.{LogLaws}
+use Rattle.warg_witness.specs.Private.LogLaws.{LogLaws}
 
 -- one leaf is a range of the recursion, and a node's
 pub leaf_aligned : (a n : ℕ) → n ≡ 1 → IsAligned a n
@@ -61,7 +62,7 @@ trees_consistent H F m n old new old_tree new_tree is =
 -- What a parting shows of false consistency: its inputs collide, at their place.
 pub record ShowsConsistency {D : Type 0} (H : List ℕ → List ℕ) (F : ℕ → Option (List ℕ)) (old new : List (List ℕ)) (p : Parting D) : Type 0 where
   pub at_branch : PartsAtBranch H p
-  pub placed : IsConsistencyPlaced H F old new (pair_of p [] []).0 (pair_of p [] []).1
+  pub placed : IsConsistencyPlaced H F old new (inputs_of p [] []).0 (inputs_of p [] []).1
 
 -- What two leaves of one digest show, where their entries differ.
 pub record ShowsLeaves (H : List ℕ → List ℕ) (F : ℕ → Option (List ℕ)) (old new : List (List ℕ)) (first second : List ℕ) : Type 0 where

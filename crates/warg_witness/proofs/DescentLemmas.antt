@@ -4,14 +4,15 @@ use Rattle.std.proofs.lemmas.List.{take_at, drop_at}
 use Rattle.warg_log.specs.Tree.{front_of}
 use Rattle.warg_log.specs.Cut.{cut_over}
 use Rattle.warg_witness.proofs.LogLemmas.{joined_both}
-use Rattle.warg_witness.specs.Ranges.{IsPart, IsAround, IsSide}
+use Rattle.warg_witness.specs.Ranges.{IsPart, IsAround}
+use Rattle.warg_witness.specs.Private.Ranges.{IsSide}
 use Rattle.warg_witness.specs.Ranges.IsPart.{whole}
 use Rattle.warg_witness.specs.Inputs.{branch_input}
 use Rattle.warg_witness.specs.Private.Parting.{HaveOneDigest, MeetAt, PartsAt, IsParting}
 use Rattle.warg_witness.specs.declared.descent.Parting.{Parting}
 use Rattle.warg_witness.specs.declared.descent.Parting.TheVariants.{Target, Branch}
 use Rattle.warg_witness.proofs.RangeLemmas.{cut_around, IsPart-trans}
-use Rattle.warg_witness.specs.LogLaws.{LogLaws}
+use Rattle.warg_witness.specs.Private.LogLaws.{LogLaws}
 
 -- the inputs of two branches are equal only part by part
 pub append_parts : (a b c d : List ℕ) → length a ≡ length c → a ++ b ≡ c ++ d → (a ≡ c) × (b ≡ d)

@@ -15,7 +15,7 @@ use Rattle.warg_witness.specs.MapClaims.{value_in, IsLastValue, IsKeyMet}
 use Rattle.warg_witness.specs.MapPlaced.{IsKeyPlaced}
 use Rattle.warg_witness.specs.Private.MapPaths.{IsPathParting, MeetsOnPath, IsLastPlace, plain_peers}
 use Rattle.warg_witness.specs.Private.MapMeeting.{IsKeyMeeting}
-use Rattle.warg_witness.specs.Private.Parting.{Collides, PartsAtBranch, pair_of}
+use Rattle.warg_witness.specs.Private.Parting.{Collides, PartsAtBranch, inputs_of}
 use Rattle.warg_witness.specs.declared.descent.Parting.{Parting}
 use Rattle.warg_witness.specs.declared.descent.Parting.TheVariants.{Target, Branch}
 use Rattle.warg_witness.proofs.LastLemmas.{last_with-passes, last_with-contains, same_bits-true, last_of_digest, none_of_digest, last_at, last_none}
@@ -50,7 +50,7 @@ parts_at_branch H P x Q y bits Target other is = absurd (other refl)
 parts_at_branch H P x Q y bits (Branch l r l' r') other is = record { differ = is.differ; same = is.same }
 
 pub branch_shown : {D : Type 0} (H : List ℕ → List ℕ) (peers : List (Option (List ℕ))) (key value : List ℕ) (insertions : List (List ℕ × List ℕ)) (p : Parting D) → length (key_bits H key) ≡ 256
-    → IsHeld H insertions (key_bits H key) → PartsFromPlain H peers key value insertions p → (p ≡ Target → ⊥) → ShowsKey H peers key value insertions (pair_of p [] [])
+    → IsHeld H insertions (key_bits H key) → PartsFromPlain H peers key value insertions p → (p ≡ Target → ⊥) → ShowsKey H peers key value insertions (inputs_of p [] [])
 branch_shown H peers key value insertions Target long held is other = absurd (other refl)
 branch_shown H peers key value insertions (Branch l r l' r') long held is other = record {
   collides = record { differ = is.differ; same = is.same };
@@ -66,7 +66,7 @@ branch_shown H peers key value insertions (Branch l r l' r') long held is other 
 -- where it parts nowhere, and the plain leaf has another value
 pub leaf_shown : {D : Type 0} (H : List ℕ → List ℕ) (peers : List (Option (List ℕ))) (key value : List ℕ) (insertions : List (List ℕ × List ℕ)) (p : Parting D) (last : List ℕ)
     → PartsFromPlain H peers key value insertions p → p ≡ Target → value_in (last_under H (key_bits H key) insertions) ≡ last → (value ≡ last → ⊥)
-    → ShowsKey H peers key value insertions (pair_of p (0 ∷ value) (0 ∷ last))
+    → ShowsKey H peers key value insertions (inputs_of p (0 ∷ value) (0 ∷ last))
 leaf_shown H peers key value insertions Target last is target plain other = record {
   collides = record { differ = λ e. other (tail_eq value last e); same = is ∙ ap (leaf_digest H) plain };
   placed = inl (record { prefix = key_bits H key; rest = []; bits = sym (append-nil (key_bits H key)); evaluation = refl; plain = ap (λ w. 0 ∷ w) (sym plain) });
@@ -111,19 +111,19 @@ collided H key value insertions parting last pair (Err e) shown same = same
 -- the same by what a witness knows
 pub branch_met : {D : Type 0} (H : List ℕ → List ℕ) (peers : List (Option (List ℕ))) (key value : List ℕ) (insertions : List (List ℕ × List ℕ)) (parting : Parting D) (last : Option ℕ)
     → IsKeyMeeting {D = D} H peers key value insertions parting last → length (key_bits H key) ≡ 256 → IsHeld H insertions (key_bits H key) → (parting ≡ Target → ⊥)
-    → ShowsKey H peers key value insertions (pair_of parting [] [])
+    → ShowsKey H peers key value insertions (inputs_of parting [] [])
 branch_met H peers key value insertions parting last met long held other = branch_shown H peers key value insertions parting long held met.parts other
 
 pub none_met : {D : Type 0} (H : List ℕ → List ℕ) (peers : List (Option (List ℕ))) (key value : List ℕ) (insertions : List (List ℕ × List ℕ)) (parting : Parting D) (last : Option ℕ)
     → IsKeyMeeting {D = D} H peers key value insertions parting last → parting ≡ Target → last ≡ None → (IsLastValue key value insertions → ⊥)
-    → ShowsKey H peers key value insertions (pair_of parting (0 ∷ value) (0 ∷ []))
+    → ShowsKey H peers key value insertions (inputs_of parting (0 ∷ value) (0 ∷ []))
 none_met H peers key value insertions parting last met target is untrue =
     let none = last_none H insertions (key_bits H key) last met.last_is is in
     leaf_shown H peers key value insertions parting [] met.parts target (ap value_in none) (none_differs H key value insertions none untrue)
 
 pub leaf_met : {D K V : Type 0} (H : List ℕ → List ℕ) (kb : K → List ℕ) (vb : V → List ℕ) (peers : List (Option (List ℕ))) (key value : List ℕ) (es : List (K × V)) (parting : Parting D) (last : Option ℕ) (place : ℕ) (e : K × V)
     → IsKeyMeeting {D = D} H peers key value (pair_bytes kb vb es) parting last → parting ≡ Target → last ≡ Some place → e ≡ get_or es place e → (value ≡ vb e.1 → ⊥)
-    → ShowsKey H peers key value (pair_bytes kb vb es) (pair_of parting (0 ∷ value) (0 ∷ vb e.1))
+    → ShowsKey H peers key value (pair_bytes kb vb es) (inputs_of parting (0 ∷ value) (0 ∷ vb e.1))
 leaf_met H kb vb peers key value es parting last place e met target is at other =
     leaf_shown H peers key value (pair_bytes kb vb es) parting (vb e.1) met.parts target (ap value_in (last_at H kb vb es (key_bits H key) last place e met.last_is is at)) other
 

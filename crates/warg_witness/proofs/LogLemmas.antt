@@ -8,7 +8,7 @@ use Rattle.warg_log.specs.Tree.{branch, front_of, root_over, own_digest}
 use Rattle.warg_log.specs.Cut.{joined, is_target, cut_over, old_over, IsFull, IsBeside}
 use Rattle.warg_log.specs.Consistency.{consistency, IsConsistent}
 use Rattle.warg_witness.specs.Laws.{GivesHashes, HoldsHashes}
-use Rattle.warg_witness.specs.LogLaws.{Known, LogLaws}
+use Rattle.warg_witness.specs.Private.LogLaws.{Known, LogLaws}
 
 -- powers of two
 pub below_pow : (n : ℕ) → n < 2 ^ n

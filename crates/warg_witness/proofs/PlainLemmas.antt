@@ -4,8 +4,8 @@ use Rattle.std.proofs.Math.Seq.{take-length}
 use Rattle.warg_log.specs.Tree.{root_of, root_over, own_digest}
 use Rattle.warg_log.specs.Cut.{cut_over, old_over}
 use Rattle.warg_witness.proofs.LogLemmas.{below_pow, cut_over-own, old_over-own}
-use Rattle.warg_witness.specs.Ranges.{IsAligned}
-use Rattle.warg_witness.specs.LogLaws.{LogLaws}
+use Rattle.warg_witness.specs.Private.Ranges.{IsAligned}
+use Rattle.warg_witness.specs.Private.LogLaws.{LogLaws}
 
 -- the whole of a log is aligned
 pub whole_aligned : (a n m : ℕ) → a ≡ 0 → m ≡ n → IsAligned a m

@@ -8,7 +8,8 @@ use Rattle.warg_log.specs.Nodes.{height_of, start_of, end_of}
 use Rattle.warg_log.specs.Tree.{branch, front_of, leaves_of, root_over, own_digest}
 use Rattle.warg_log.specs.Cut.{joined, cut_over, IsFull}
 use Rattle.warg_witness.proofs.LogLemmas.{cut_len, front_is, pow_below_pow, cut_over-at, more_than_one}
-use Rattle.warg_witness.specs.Ranges.{IsAround, IsAligned, IsNodeRange, IsBalancedRoot, IsSide}
+use Rattle.warg_witness.specs.Ranges.{IsAround}
+use Rattle.warg_witness.specs.Private.Ranges.{IsAligned, IsNodeRange, IsBalancedRoot, IsSide}
 use Rattle.warg_witness.specs.Inputs.{plain_input}
 use Rattle.warg_witness.specs.Private.Compared.{DiffersFirst}
 use Rattle.warg_witness.specs.Claims.{Begins}
@@ -20,7 +21,7 @@ use Rattle.warg_witness.proofs.RangeLemmas.{wider, cut_around, side_is_part, fro
 use Rattle.warg_witness.proofs.DescentLemmas.{some_eq, parts_at, same_at_side, widened, met_here}
 use Rattle.warg_witness.proofs.ValueLemmas.{plain_digest_is}
 use Rattle.warg_witness.proofs.BalancedRootLemmas.{root_of_full, root_of_front, root_of_rest}
-use Rattle.warg_witness.specs.LogLaws.{LogLaws}
+use Rattle.warg_witness.specs.Private.LogLaws.{LogLaws}
 
 -- lists of numbers are the same or not
 pub same_or_not : (xs ys : List ℕ) → (xs ≡ ys) ⊎ (xs ≡ ys → ⊥)

@@ -6,9 +6,10 @@ use Rattle.std.proofs.lemmas.Bool.{cases_lt}
 use Rattle.warg_log.specs.Tree.{front_of}
 use Rattle.warg_log.specs.Cut.{joined, cut_over}
 use Rattle.warg_witness.proofs.LogLemmas.{front_is, pow_below_pow, cut_over-parts, no_straddle}
-use Rattle.warg_witness.specs.Ranges.{IsPart, IsAround, IsAligned, IsNodeRange, IsSide}
+use Rattle.warg_witness.specs.Ranges.{IsPart, IsAround}
+use Rattle.warg_witness.specs.Private.Ranges.{IsAligned, IsNodeRange, IsSide}
 use Rattle.warg_witness.specs.Ranges.IsPart.{whole, front, rest}
-use Rattle.warg_witness.specs.LogLaws.{LogLaws}
+use Rattle.warg_witness.specs.Private.LogLaws.{LogLaws}
 
 -- a range around a target that is not the target's own has more leaves
 pub wider : (s w a n : ℕ) → IsAround s w a n → (a ≡ s → n ≡ w → ⊥) → w < n

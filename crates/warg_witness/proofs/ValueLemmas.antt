@@ -7,12 +7,13 @@ use Rattle.std.proofs.lemmas.Nat.{pow_pos}
 use Rattle.warg_log.specs.Nodes.{height_of, start_of, ExistsAt}
 use Rattle.warg_log.specs.Cut.{cut_root}
 use Rattle.warg_witness.proofs.LogLemmas.{front_is, root_over-one, root_over-parts, target_true, target_false, pow_below_pow}
-use Rattle.warg_witness.specs.Ranges.{IsPart, IsAligned}
+use Rattle.warg_witness.specs.Ranges.{IsPart}
+use Rattle.warg_witness.specs.Private.Ranges.{IsAligned}
 use Rattle.warg_witness.specs.Ranges.IsPart.{whole, front, rest}
 use Rattle.warg_witness.specs.Claims.{IsEntry}
 use Rattle.warg_witness.specs.Private.Compared.{IsAt}
 use Rattle.warg_witness.specs.Inputs.{plain_input, branch_input, cut_input}
-use Rattle.warg_witness.specs.Private.Parting.{HaveOneDigest, Collides, PartsAtBranch, pair_of}
+use Rattle.warg_witness.specs.Private.Parting.{HaveOneDigest, Collides, PartsAtBranch, inputs_of}
 use Rattle.warg_witness.specs.Placed.{IsValuePlaced, IsHashPlaced}
 use Rattle.warg_witness.specs.Private.Meeting.{IsMeeting}
 use Rattle.warg_witness.specs.declared.descent.Parting.{Parting}
@@ -20,7 +21,7 @@ use Rattle.warg_witness.specs.declared.descent.Parting.TheVariants.{Target, Bran
 use Rattle.warg_witness.proofs.RangeLemmas.{front_aligned, rest_aligned, wider}
 use Rattle.warg_witness.proofs.PlainLemmas.{cut_part, whole_aligned, root_over-whole}
 use Rattle.warg_witness.proofs.DescentLemmas.{some_eq}
-use Rattle.warg_witness.specs.LogLaws.{LogLaws}
+use Rattle.warg_witness.specs.Private.LogLaws.{LogLaws}
 
 -- the leaves are as many as the entries
 pub length-leaves : (H : List ℕ → List ℕ) (entries tree : List (List ℕ)) → tree ≡ leaves_of H entries → length tree ≡ length entries
@@ -74,7 +75,7 @@ value_placed_as H F value node entries p q e placed = rw e placed
 -- What a meeting with a hash shows where its claim is false.
 pub record ShowsHash {D : Type 0} (H : List ℕ → List ℕ) (F : ℕ → Option (List ℕ)) (hash : List ℕ) (node : ℕ) (entries : List (List ℕ)) (p : Parting D) : Type 0 where
   pub at_branch : PartsAtBranch H p
-  pub placed : IsHashPlaced H F hash node entries (pair_of p [] []).0 (pair_of p [] []).1
+  pub placed : IsHashPlaced H F hash node entries (inputs_of p [] []).0 (inputs_of p [] []).1
 
 pub hash_placed_as : (H : List ℕ → List ℕ) (F : ℕ → Option (List ℕ)) (hash : List ℕ) (node : ℕ) (entries : List (List ℕ)) (p q : List ℕ × List ℕ)
     → q ≡ p → IsHashPlaced H F hash node entries p.0 p.1 → IsHashPlaced H F hash node entries q.0 q.1
@@ -135,7 +136,7 @@ module _ (laws : LogLaws) where
   pub value_shown : {D : Type 0} (H : List ℕ → List ℕ) (F : ℕ → Option (List ℕ)) (value : List ℕ) (node n : ℕ) (entries tree : List (List ℕ)) (s w : ℕ) (plain first second : List ℕ) (p : Parting D)
       → 0 < w → 0 < n → IsMeeting H F (H (0 ∷ value)) node n entries tree s w plain p
       → (first ≡ 0 ∷ value) × (second ≡ plain_input H entries s w) × (IsAt value entries s w → ⊥)
-      → ShowsValue H F value node entries (pair_of p first second)
+      → ShowsValue H F value node entries (inputs_of p first second)
   value_shown H F value node n entries tree s w plain first second Target some leaves met claimed =
       let within = part_within n s w met.parts.part leaves in
       let count = met.met.count in

@@ -4,7 +4,6 @@ pub mod Claims
 pub mod Placed
 pub mod Collisions
 pub mod Laws
-pub mod LogLaws
 pub mod MapClaims
 pub mod MapInputs
 pub mod MapPlaced

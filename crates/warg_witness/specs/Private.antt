@@ -1,4 +1,6 @@
 -- What only clauses of private functions name; no public clause or law rests on it.
+pub mod LogLaws
+pub mod Ranges
 pub mod MapMeeting
 pub mod MapPaths
 pub mod Meeting

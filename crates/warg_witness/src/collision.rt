@@ -31,14 +31,14 @@ impl<D: SupportedDigest, A: Allocator> PartialEq for Collision<D, A> {
     ghost use Rattle.std.specs.Prelude.{◌≡◌, ◌↔◌, IsTrue};
     ghost use Rattle.std.specs.Cmp.Rules.{comparing};
     ghost use Rattle.std.proofs.Common.{rules};
-    ghost use Rattle.warg_witness.specs.Collisions.{same_pair};
+    ghost use Rattle.warg_witness.specs.Collisions.{same_collision};
 
-    ghost eq = { same_pair };
+    ghost eq = { same_collision };
 
     ghost laws = { Prim.search (comparing, rules) };
 
     fn eq(&self, other: &Collision<D, A>) -> bool
-        ensures value { result ≡ same_pair self.now other.now }
+        ensures value { result ≡ same_collision self.now other.now }
         ensures exact { IsTrue result ↔ (self.now ≡ other.now) }
     {
         self.first == other.first && self.second == other.second

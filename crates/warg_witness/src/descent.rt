@@ -4,7 +4,8 @@ ghost use Rattle.std.specs.Prelude.{◌≡◌, ℕ, ◌+◌, ◌-◌, ◌<◌, �
 ghost use Rattle.warg_log.specs.Tree.{front_of};
 ghost use Rattle.warg_log.specs.Cut.{cut_over};
 ghost use Rattle.warg_witness.specs.Private.Parting.{HaveOneDigest, IsParting};
-ghost use Rattle.warg_witness.specs.Ranges.{IsAround, IsAligned, IsNodeRange, IsSide};
+ghost use Rattle.warg_witness.specs.Ranges.{IsAround};
+ghost use Rattle.warg_witness.specs.Private.Ranges.{IsAligned, IsNodeRange, IsSide};
 
 use crate::laws::log_laws;
 use warg_crypto::{Hash, SupportedDigest, VisitBytes};

@@ -14,7 +14,7 @@ ghost use Rattle.warg_map.specs.Peers.{Proves};
 ghost use Rattle.warg_map.specs.Sparse.{sparse_root, map_of};
 ghost use Rattle.warg_witness.specs.MapClaims.{IsKeyMet, IsAbsenceMet, IsKeyAgreement, IsLastValue};
 ghost use Rattle.warg_witness.specs.MapPlaced.{IsKeyPlaced, IsKeyAgreementPlaced};
-ghost use Rattle.warg_witness.specs.LogLaws.{LogLaws};
+ghost use Rattle.warg_witness.specs.Private.LogLaws.{LogLaws};
 ghost use Rattle.warg_witness.specs.Laws.{GivesHashes, GivesDigests, HoldsHashes, HoldsPeers, SomeCollision};
 
 use crate::collision::Finding;

@@ -4,12 +4,12 @@ ghost use Rattle.std.specs.Prelude.{◌≡◌, ℕ, ◌+◌, ◌^◌, ◌≤◌,
 ghost use Rattle.warg_log.specs.Nodes.{ExistsAt};
 ghost use Rattle.warg_log.specs.Cut.{cut_root};
 ghost use Rattle.warg_log.specs.Tree.{leaves_of};
-ghost use Rattle.warg_witness.specs.Ranges.{IsNodeRange};
+ghost use Rattle.warg_witness.specs.Private.Ranges.{IsNodeRange};
 ghost use Rattle.warg_witness.specs.Private.Compared.{IsAt};
 ghost use Rattle.warg_witness.specs.Inputs.{plain_input};
 ghost use Rattle.warg_witness.specs.Claims.{IsMet, IsEntry, IsRootBelow, IsAgreement};
 ghost use Rattle.warg_witness.specs.Placed.{IsValuePlaced, IsHashPlaced, IsAgreementPlaced};
-ghost use Rattle.warg_witness.specs.Private.Parting.{Collides, PartsAtBranch, pair_of};
+ghost use Rattle.warg_witness.specs.Private.Parting.{Collides, PartsAtBranch, inputs_of};
 ghost use Rattle.warg_witness.specs.Private.Meeting.{IsMeeting};
 
 mod consistency;
@@ -100,8 +100,8 @@ fn collide<D: SupportedDigest, V: VisitBytes, A: Allocator + Copy>(
     requires tree { met.now.tree ≡ leaves_of D.digest (map (λ e. V.bytes e) entries.now) }
     requires node { IsNodeRange met.now.target.start met.now.target.count }
     requires within { met.now.target.start + met.now.target.count ≤ length entries.now }
-    requires collides { Collides D.digest (pair_of met.now.parting (0 ∷ V.bytes value.now) (plain_input D.digest (map (λ e. V.bytes e) entries.now) met.now.target.start met.now.target.count)) }
-    ensures { IfOk result (λ c. c ≡ pair_of met.now.parting (0 ∷ V.bytes value.now) (plain_input D.digest (map (λ e. V.bytes e) entries.now) met.now.target.start met.now.target.count)) }
+    requires collides { Collides D.digest (inputs_of met.now.parting (0 ∷ V.bytes value.now) (plain_input D.digest (map (λ e. V.bytes e) entries.now) met.now.target.start met.now.target.count)) }
+    ensures { IfOk result (λ c. c ≡ inputs_of met.now.parting (0 ∷ V.bytes value.now) (plain_input D.digest (map (λ e. V.bytes e) entries.now) met.now.target.start met.now.target.count)) }
 {
     if !met.parting.is_target() {
         return part(alloc, &met.parting);

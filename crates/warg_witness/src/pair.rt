@@ -1,7 +1,7 @@
 //! The collision that two evaluations show where they part.
 
 ghost use Rattle.std.specs.Prelude.{◌≡◌, [], ◌∷◌, IfOk};
-ghost use Rattle.warg_witness.specs.Private.Parting.{Collides, PartsAtBranch, pair_of};
+ghost use Rattle.warg_witness.specs.Private.Parting.{Collides, PartsAtBranch, inputs_of};
 
 use crate::collision::{Collision, branch_bytes, leaf_bytes};
 use crate::descent::Parting;
@@ -15,8 +15,8 @@ pub(crate) fn collide_values<D: SupportedDigest, V: VisitBytes, W: VisitBytes, A
     first: &V,
     second: &W,
 ) -> Result<Collision<D, A>, AllocError>
-    requires { Collides D.digest (pair_of parting.now (0 ∷ V.bytes first.now) (0 ∷ W.bytes second.now)) }
-    ensures { IfOk result (λ c. c ≡ pair_of parting.now (0 ∷ V.bytes first.now) (0 ∷ W.bytes second.now)) }
+    requires { Collides D.digest (inputs_of parting.now (0 ∷ V.bytes first.now) (0 ∷ W.bytes second.now)) }
+    ensures { IfOk result (λ c. c ≡ inputs_of parting.now (0 ∷ V.bytes first.now) (0 ∷ W.bytes second.now)) }
 {
     if !parting.is_target() {
         return part(alloc, parting);
@@ -32,7 +32,7 @@ pub(crate) fn part<D: SupportedDigest, A: Allocator + Copy>(
     parting: &Parting<D>,
 ) -> Result<Collision<D, A>, AllocError>
     requires { PartsAtBranch D.digest parting.now }
-    ensures { IfOk result (λ c. c ≡ pair_of parting.now [] []) }
+    ensures { IfOk result (λ c. c ≡ inputs_of parting.now [] []) }
 {
     match parting {
         Parting::Target => unreachable!(),

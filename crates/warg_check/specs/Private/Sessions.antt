@@ -8,7 +8,7 @@ use Rattle.warg_check.specs.declared.program.RunError.{RunError}
 use Rattle.warg_check.specs.declared.program.session.Session.{Session}
 
 -- The session's log and map are those of a state.
-pub record StandsAt {A : Type 0} (session : Session A) (s : State) : Type 0 where
+pub record IsInState {A : Type 0} (session : Session A) (s : State) : Type 0 where
   pub log_is : session.log ≡ log_at s
   pub map_is : session.map ≡ map_at s
 
@@ -20,20 +20,20 @@ pub record GoesOn {A : Type 0} (old new : Session A) (s : State) (added : List �
 
 -- The session answered an order, at whatever state it stood.
 abbrev pub AnswersOrder : {A : Type 0} → Session A → Session A → Order → Type 0
-AnswersOrder old new order = (s : State) → StandsAt old s → GoesOn old new (after s order) (answer s order ++ 10 ∷ [])
+AnswersOrder old new order = (s : State) → IsInState old s → GoesOn old new (after s order) (answer s order ++ 10 ∷ [])
 
 -- The session took the line of a number, at whatever state it stood.
 abbrev pub Takes : {A : Type 0} → Session A → Session A → ℕ → Line → Type 0
-Takes old new number line = (s : State) → StandsAt old s → GoesOn old new (after_line s line) (said number s line)
+Takes old new number line = (s : State) → IsInState old s → GoesOn old new (after_line s line) (said number s line)
 
 -- The order was refused, at whatever state the session stood.
 abbrev pub Refuses : {A : Type 0} → Session A → Order → RunError → Type 0
-Refuses old order error = (s : State) → StandsAt old s → IsRefusal (FindsFull s order) error
+Refuses old order error = (s : State) → IsInState old s → IsRefusal (FindsFull s order) error
 
 -- The line was refused, at whatever state the session stood.
 abbrev pub RefusesLine : {A : Type 0} → Session A → Line → RunError → Type 0
-RefusesLine old line error = (s : State) → StandsAt old s → IsRefusal (LineFindsFull s line) error
+RefusesLine old line error = (s : State) → IsInState old s → IsRefusal (LineFindsFull s line) error
 
 -- The session only added text.
-abbrev pub Adds : {A : Type 0} → Session A → Session A → List ℕ → Type 0
-Adds old new added = (new.log ≡ old.log) × (new.map ≡ old.map) × (string_bytes new.text ≡ string_bytes old.text ++ added)
+abbrev pub AddsText : {A : Type 0} → Session A → Session A → List ℕ → Type 0
+AddsText old new added = (new.log ≡ old.log) × (new.map ≡ old.map) × (string_bytes new.text ≡ string_bytes old.text ++ added)

@@ -34,10 +34,10 @@ struct Session<A: Allocator> {
 }
 
 impl<A: Allocator + Copy> Session<A> {
-    ghost use Rattle.warg_check.specs.Private.Sessions.{StandsAt, AnswersOrder, Takes, Refuses, RefusesLine, Adds};
+    ghost use Rattle.warg_check.specs.Private.Sessions.{IsInState, AnswersOrder, Takes, Refuses, RefusesLine, AddsText};
 
     fn new(alloc: A) -> Result<Session<A>, AllocError>
-        ensures state { IfOk result (λ session. StandsAt session start) }
+        ensures state { IfOk result (λ session. IsInState session start) }
         ensures text { IfOk result (λ session. string_bytes session.text ≡ []) }
     {
         Ok(Session {
@@ -191,7 +191,7 @@ impl<A: Allocator + Copy> Session<A> {
 
     // Answers a bundle by its bytes.
     fn encode(&mut self, bundle: &ProofBundle<Sha256, Vec<u8, A>, A>) -> Result<(), RunError>
-        ensures ok { OnOk result (Adds self.old self.new (bytes_or_refusal (bundle_message bundle.now) ++ 10 ∷ [])) }
+        ensures ok { OnOk result (AddsText self.old self.new (bytes_or_refusal (bundle_message bundle.now) ++ 10 ∷ [])) }
         ensures errors { IfErr result (λ error. error ≡ RunError.Memory) }
     {
         match bundle.encode(self.alloc) {
@@ -283,7 +283,7 @@ impl<A: Allocator + Copy> Session<A> {
     }
 
     fn refuse(&mut self, fault: ConsistencyProofError) -> Result<(), RunError>
-        ensures ok { OnOk result (Adds self.old self.new (refusal fault ++ 10 ∷ [])) }
+        ensures ok { OnOk result (AddsText self.old self.new (refusal fault ++ 10 ∷ [])) }
         ensures errors { IfErr result (λ error. error ≡ RunError.Memory) }
     {
         match fault {

@@ -2,7 +2,7 @@
 
 ghost use Rattle.std.specs.Prelude.{◌≡◌, ℕ, ◌^◌, ◌<◌, ◌≤◌, ◌∷◌, List, length, IfOk, Option};
 ghost use Rattle.std.specs.Option.{option_map};
-ghost use Rattle.warg_check.specs.Words.{IsFirstPart, lines_of, number_of, length_of, bytes_of, root_in};
+ghost use Rattle.warg_check.specs.Words.{IsFirstPart, lines_of, number_in, length_in, bytes_in, root_in};
 
 use std::alloc::{AllocError, Allocator};
 use warg_crypto::{Hash, Sha256};
@@ -34,9 +34,9 @@ pub(super) fn next_line(bytes: &[u8]) -> (&[u8], &[u8])
 }
 
 /// The number that a word says: one to twenty decimal digits, of a value below 2^64.
-#[tactic(auto, unfolding(crate::specs::Words::number_of, crate::specs::Words::value_from))]
+#[tactic(auto, unfolding(crate::specs::Words::number_in, crate::specs::Words::value_from))]
 pub(super) fn number(word: &[u8]) -> Option<usize>
-    ensures { result ≡ number_of word.now }
+    ensures { result ≡ number_in word.now }
 {
     if word.is_empty() || word.len() > 20 {
         return None;
@@ -61,9 +61,9 @@ pub(super) struct LogLength {
 }
 
 /// The length that a word says: a number up to 2^63.
-#[tactic(auto, unfolding(crate::specs::Words::length_of))]
+#[tactic(auto, unfolding(crate::specs::Words::length_in))]
 pub(super) fn log_length(word: &[u8]) -> Option<LogLength>
-    ensures { option_map (λ length. length.value) result ≡ length_of word.now }
+    ensures { option_map (λ length. length.value) result ≡ length_in word.now }
 {
     let value = number(word)?;
     if value > 1 << 63 {
@@ -85,9 +85,9 @@ pub(super) fn root(word: &[u8]) -> Option<Hash<Sha256>>
 
 /// The bytes that a word says: none for `-`, else those of an even, positive number of hexadecimal
 /// digits of either case.
-#[tactic(auto, unfolding(crate::specs::Words::bytes_of))]
+#[tactic(auto, unfolding(crate::specs::Words::bytes_in))]
 pub(super) fn bytes<A: Allocator>(alloc: A, word: &[u8]) -> Result<Option<Vec<u8, A>>, AllocError>
-    ensures { IfOk result (λ bytes. option_map (λ v. v.items) bytes ≡ bytes_of word.now) }
+    ensures { IfOk result (λ bytes. option_map (λ v. v.items) bytes ≡ bytes_in word.now) }
 {
     if word == b"-".as_slice() {
         return Ok(Some(Vec::new(alloc)));

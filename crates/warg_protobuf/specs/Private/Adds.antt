@@ -5,7 +5,8 @@ use Rattle.std.proofs.lemmas.List.{append-nil, map-append}
 use Rattle.std.proofs.lemmas.List.Concat.{flat_map-append}
 use Rattle.warg_protobuf.specs.declared.error.WireError.{WireError}
 use Rattle.warg_protobuf.specs.Field.{Payload, Field}
-use Rattle.warg_protobuf.specs.Schema.{Adds, value, values, last_of}
+use Rattle.warg_protobuf.specs.Schema.{value, values, last_of}
+use Rattle.warg_protobuf.specs.Private.Taking.{Adds}
 use Rattle.warg_protobuf.specs.HashEntry.{entry_schema, entry_add}
 use Rattle.warg_protobuf.specs.LogProofBundle.{log_schema, log_add}
 use Rattle.warg_protobuf.specs.OptionalHash.{hash_schema, hash_add}

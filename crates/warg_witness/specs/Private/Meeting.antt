@@ -3,7 +3,7 @@ use Rattle.std.specs.Prelude.{◌≡◌, ℕ, ◌+◌, ◌^◌, ◌≤◌, List,
 use Rattle.warg_log.specs.Nodes.{height_of, start_of, node_over}
 use Rattle.warg_log.specs.Tree.{leaves_of, root_of, root_over, own_digest}
 use Rattle.warg_log.specs.Cut.{cut_over}
-use Rattle.warg_witness.specs.Ranges.{IsNodeRange, IsBalancedRoot}
+use Rattle.warg_witness.specs.Private.Ranges.{IsNodeRange, IsBalancedRoot}
 use Rattle.warg_witness.specs.Claims.{IsMet, IsConsistencyMet}
 use Rattle.warg_witness.specs.Private.Parting.{IsParting}
 use Rattle.warg_witness.specs.declared.descent.Parting.{Parting}

@@ -36,9 +36,9 @@ IsParting H F x G y s w a₀ n₀ (Branch first_left first_right second_left sec
     PartsAt H F x G y s w a₀ n₀ (branch_input first_left first_right) (branch_input second_left second_right)
 
 -- The two byte lists that a parting shows: the branch's inputs, or at the target those that are given.
-abbrev pub pair_of : {D : _} → Parting D → List ℕ → List ℕ → List ℕ × List ℕ
-pair_of Target first second = (first, second)
-pair_of (Branch first_left first_right second_left second_right) first second = (branch_input first_left first_right, branch_input second_left second_right)
+abbrev pub inputs_of : {D : _} → Parting D → List ℕ → List ℕ → List ℕ × List ℕ
+inputs_of Target first second = (first, second)
+inputs_of (Branch first_left first_right second_left second_right) first second = (branch_input first_left first_right, branch_input second_left second_right)
 
 -- Two byte lists that differ and have one digest.
 pub record Collides (H : List ℕ → List ℕ) (pair : List ℕ × List ℕ) : Type 0 where

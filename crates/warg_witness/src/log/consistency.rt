@@ -5,7 +5,8 @@ ghost use Rattle.warg_log.specs.Tree.{leaves_of, root_of, root_over, own_digest}
 ghost use Rattle.warg_log.specs.Cut.{cut_over};
 ghost use Rattle.warg_log.specs.Consistency.{IsConsistent, consistency};
 ghost use Rattle.warg_log.specs.declared.consistency.ConsistencyProofError.{ConsistencyProofError};
-ghost use Rattle.warg_witness.specs.Ranges.{IsAround, IsNodeRange, IsBalancedRoot};
+ghost use Rattle.warg_witness.specs.Ranges.{IsAround};
+ghost use Rattle.warg_witness.specs.Private.Ranges.{IsNodeRange, IsBalancedRoot};
 ghost use Rattle.warg_witness.specs.Claims.{Begins, IsConsistencyMet};
 ghost use Rattle.warg_witness.specs.Placed.{IsConsistencyPlaced};
 ghost use Rattle.warg_witness.specs.Private.Compared.{DiffersFirst, IsFirstDifference};

@@ -1,6 +1,7 @@
 use Rattle.std.proofs.Common.{arith}
 use Rattle.std.proofs.lemmas.Result.{err_from_is_err_and}
-use Rattle.warg_protobuf.specs.Field.{field_at, field_view}
+use Rattle.warg_protobuf.specs.Field.{field_at}
+use Rattle.warg_protobuf.specs.Private.Lent.{field_view}
 use Rattle.warg_protobuf.specs.Schema.{check_by}
 use Rattle.warg_protobuf.proofs.Sequences.{fields_shrink}
 use Rattle.warg_protobuf.proofs.Loops.{Collects-start, Collects-next, fields_done, fields_unsplit, fields_unchecked, not_empty, is_empty}

@@ -1,4 +1,4 @@
-use Rattle.warg_witness.specs.LogLaws.{LogLaws}
+use Rattle.warg_witness.specs.Private.LogLaws.{LogLaws}
 use Rattle.warg_witness.proofs.laws.log_laws.Goals as goal
 
 pub returns : goal.returns
