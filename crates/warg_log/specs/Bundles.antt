@@ -9,6 +9,7 @@ use Rattle.warg_protobuf.specs.Schema.{message_of}
 use Rattle.warg_log.specs.declared.node.Node.{Node}
 use Rattle.warg_log.specs.declared.error.DecodeError.{DecodeError}
 use Rattle.warg_log.specs.declared.error.DecodeError.TheVariants.{NotAscending}
+use Rattle.warg_log.specs.Claims.{same_node}
 use Rattle.warg_log.specs.Sparse.{Pairs}
 use Rattle.warg_log.specs.Decoding.{held_in, unless, earlier, digest_fault}
 
@@ -64,10 +65,6 @@ bundle_in m = unless (entries_fault 0 m.hashes) (record {
 -- of its contents.
 abbrev pub bundle_of : List ℕ → Result Bundle DecodeError
 bundle_of bytes = held_in bundle_in (message_of log_schema bytes)
-
--- Whether two nodes have one number.
-abbrev pub same_node : Node → Node → Bool
-same_node = on (λ (node : Node). node.0) nat_eq
 
 -- Whether two pairs have one node and one digest.
 abbrev pub same_pair : Node × List ℕ → Node × List ℕ → Bool

@@ -3,6 +3,7 @@ pub mod Tree
 pub mod Cut
 pub mod Walks
 pub mod Consistency
+pub mod Claims
 pub mod Sparse
 pub mod Blocks
 pub mod Decoding

@@ -11,7 +11,7 @@ use crate::join::{Branches, Join, same};
 use crate::log::LogData;
 use crate::proof::{InclusionProof, InclusionProofError, range_root_by, stored_root};
 use std::alloc::{AllocError, Allocator};
-use std::marker::PhantomData;
+use std::marker::{Model, PhantomData};
 use thiserror::Error;
 use warg_crypto::{Hash, SupportedDigest, VisitBytes};
 
@@ -58,8 +58,20 @@ pub struct ConsistencyProof<D, V> {
     old_length: usize,
     new_length: usize,
     of: PhantomData<(D, V)>,
-    ghost old_fits: { old_length ≤ 2 ^ 63 },
-    ghost new_fits: { new_length ≤ 2 ^ 63 },
+}
+
+// Contracts see the proof as its two lengths.
+impl<D, V> Model for ConsistencyProof<D, V> {
+    ghost use Rattle.std.specs.Prelude.{◌≤◌, ◌^◌};
+    ghost use Rattle.warg_log.specs.Claims.{ConsistencyClaim};
+
+    ghost Value = { ConsistencyClaim };
+
+    ghost view = { λ p. record { old_length = p.old_length; new_length = p.new_length } };
+
+    ghost invariant = { λ p. (p.old_length ≤ 2 ^ 63) × (p.new_length ≤ 2 ^ 63) };
+
+    ghost inverse = { λ p. record { old_length = p.old_length; new_length = p.new_length; of = record {} } };
 }
 
 impl<D, V> Copy for ConsistencyProof<D, V> {}
@@ -71,7 +83,7 @@ impl<D, V> Clone for ConsistencyProof<D, V> {
     ghost is_infallible = { λ _. ⊤ };
 
     fn clone(&self) -> Result<Self, AllocError> {
-        Ok(*self)
+        Ok(ConsistencyProof::new(self.old_length, self.new_length))
     }
 }
 

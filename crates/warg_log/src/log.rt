@@ -7,6 +7,7 @@ use crate::consistency::ConsistencyProof;
 use crate::node::Node;
 use crate::proof::InclusionProof;
 use std::alloc::AllocError;
+use std::marker::Model;
 use warg_crypto::{ByteVisitor, Hash, SupportedDigest, VisitBytes};
 
 /// The greatest length of a log: 2^63 entries.
@@ -49,6 +50,17 @@ pub fn hash_branch<D: SupportedDigest>(left: &Hash<D>, right: &Hash<D>) -> Hash<
 pub struct Checkpoint<D> {
     root: Hash<D>,
     length: usize,
+}
+
+// Contracts see a checkpoint as its root and its length.
+impl<D> Model for Checkpoint<D> {
+    ghost use Rattle.warg_log.specs.Claims.{RootAndLength};
+
+    ghost Value = { RootAndLength };
+
+    ghost view = { λ c. record { root = c.root; length = c.length } };
+
+    ghost inverse = { λ c. record { root = c.root; length = c.length } };
 }
 
 impl<D> Checkpoint<D> {

@@ -5,13 +5,14 @@ ghost use Rattle.std.specs.List.{IsDistinct};
 ghost use Rattle.warg_log.specs.Nodes.{ExistsAt, height_of, place_of, start_of, end_of, balanced_over};
 ghost use Rattle.warg_log.specs.Cut.{cut_root, cut_over, old_over};
 ghost use Rattle.warg_log.specs.Walks.{needed, needed_over, siblings_up, IsWalk, IsWalkOver};
+ghost use Rattle.warg_log.specs.Claims.{same_walk};
 
 use crate::interval::Interval;
 use crate::join::{Hashing, Join};
 use crate::log::{LogData, hash_branch, hash_leaf};
 use crate::node::Node;
 use std::alloc::{AllocError, Allocator, Global};
-use std::marker::PhantomData;
+use std::marker::{Model, PhantomData};
 use thiserror::Error;
 use warg_crypto::{Hash, SupportedDigest, VisitBytes};
 
@@ -39,7 +40,20 @@ pub struct InclusionProof<D, V> {
     leaf: Node,
     log_length: usize,
     of: PhantomData<(D, V)>,
-    ghost fits: { log_length ≤ 2 ^ 63 },
+}
+
+// Contracts see the proof as its node and its length.
+impl<D, V> Model for InclusionProof<D, V> {
+    ghost use Rattle.std.specs.Prelude.{◌≤◌, ◌^◌};
+    ghost use Rattle.warg_log.specs.Claims.{InclusionClaim};
+
+    ghost Value = { InclusionClaim };
+
+    ghost view = { λ p. record { leaf = p.leaf; log_length = p.log_length } };
+
+    ghost invariant = { λ p. p.log_length ≤ 2 ^ 63 };
+
+    ghost inverse = { λ p. record { leaf = p.leaf; log_length = p.log_length; of = record {} } };
 }
 
 impl<D, V> Copy for InclusionProof<D, V> {}
@@ -51,7 +65,7 @@ impl<D, V> Clone for InclusionProof<D, V> {
     ghost is_infallible = { λ _. ⊤ };
 
     fn clone(&self) -> Result<Self, AllocError> {
-        Ok(*self)
+        Ok(InclusionProof::new(self.leaf, self.log_length))
     }
 }
 
@@ -95,10 +109,10 @@ impl<D: SupportedDigest, V: VisitBytes> InclusionProof<D, V> {
         ensures too_new { (result ≡ Err InclusionProofError.LeafTooNew) ↔ ¬ ExistsAt self.now.leaf.0 self.now.log_length }
         ensures exists { OnOk result (ExistsAt self.now.leaf.0 self.now.log_length) }
         ensures not_known { result ≢ Err InclusionProofError.HashNotKnown }
-        ensures needed { IfOk result (λ walk. map (λ x. x.0) walk.nodes.items ≡ needed self.now.leaf.0 self.now.log_length) }
-        ensures order { IfOk result (λ walk. IsWalk self.now.leaf.0 self.now.log_length (map (λ x. x.0) walk.nodes.items) walk.initial_walk_len walk.lower_broots walk.upper_broots) }
-        ensures once { IfOk result (λ walk. IsDistinct nat_eq (map (λ x. x.0) walk.nodes.items)) }
-        ensures most { IfOk result (λ walk. (b : ℕ) → self.now.log_length < 2 ^ b → length walk.nodes.items ≤ 2 * (b - 1)) }
+        ensures needed { IfOk result (λ walk. map (λ x. x.0) walk.nodes ≡ needed self.now.leaf.0 self.now.log_length) }
+        ensures order { IfOk result (λ walk. IsWalk self.now.leaf.0 self.now.log_length (map (λ x. x.0) walk.nodes) walk.initial_walk_len walk.lower_broots walk.upper_broots) }
+        ensures once { IfOk result (λ walk. IsDistinct nat_eq (map (λ x. x.0) walk.nodes)) }
+        ensures most { IfOk result (λ walk. (b : ℕ) → self.now.log_length < 2 ^ b → length walk.nodes ≤ 2 * (b - 1)) }
     {
         if !self.leaf.exists_at_length(self.log_length) {
             return Err(InclusionProofError::LeafTooNew);
@@ -159,7 +173,7 @@ impl<D: SupportedDigest, V: VisitBytes> InclusionProof<D, V> {
 
 /// The nodes whose digests an inclusion proof's evaluation reads, in the order of
 /// [`InclusionProof::walk`], and how many of them each of the three parts has.
-#[derive_where(Debug, PartialEq, Eq)]
+#[derive_where(Debug)]
 #[derive(Drop)]
 pub struct InclusionProofWalk<A: Allocator = Global> {
     nodes: Vec<Node, A>,
@@ -168,10 +182,55 @@ pub struct InclusionProofWalk<A: Allocator = Global> {
     upper_broots: usize,
 }
 
+// Contracts see the walk as its nodes and the counts of its parts.
+impl<A: Allocator> Model for InclusionProofWalk<A> {
+    ghost use Rattle.warg_log.specs.Claims.{Walk};
+
+    ghost Value = { Walk };
+
+    ghost view = { λ w. record { nodes = w.nodes.items; initial_walk_len = w.initial_walk_len; lower_broots = w.lower_broots; upper_broots = w.upper_broots } };
+}
+
+/// By the nodes, in order, and the counts.
+impl<A: Allocator> PartialEq for InclusionProofWalk<A> {
+    ghost use Rattle.std.specs.Prelude.{◌≡◌, ◌↔◌, IsTrue};
+    ghost use Rattle.std.specs.Cmp.Rules.{comparing};
+    ghost use Rattle.std.proofs.Common.{rules};
+    ghost use Rattle.warg_log.specs.Claims.{same_walk};
+
+    ghost eq = { same_walk };
+
+    ghost laws = { Prim.search (comparing, rules) depth 9 };
+
+    fn eq(&self, other: &InclusionProofWalk<A>) -> bool
+        ensures value { result ≡ same_walk self.now other.now }
+        ensures exact { IsTrue result ↔ (self.now ≡ other.now) }
+    {
+        same_walks(self, other)
+    }
+}
+
+impl<A: Allocator> Eq for InclusionProofWalk<A> {
+    ghost use Rattle.std.specs.Cmp.Rules.{comparing};
+    ghost use Rattle.std.proofs.Common.{rules};
+
+    ghost laws = { Prim.search (comparing, rules) depth 9 };
+}
+
+// Whether two walks have the same nodes and counts.
+fn same_walks<A: Allocator>(first: &InclusionProofWalk<A>, second: &InclusionProofWalk<A>) -> bool
+    ensures { result ≡ same_walk first.now second.now }
+{
+    first.nodes == second.nodes
+        && first.initial_walk_len == second.initial_walk_len
+        && first.lower_broots == second.lower_broots
+        && first.upper_broots == second.upper_broots
+}
+
 impl<A: Allocator> InclusionProofWalk<A> {
     /// The nodes, in order.
     pub fn nodes(&self) -> &[Node]
-        ensures { result.now ≡ self.now.nodes.items }
+        ensures { result.now ≡ self.now.nodes }
     {
         self.nodes.as_slice()
     }

@@ -8,28 +8,28 @@ use Rattle.warg_log.proofs.proof.InclusionProof.walk.Goals as goal
 
 pub add_walk-requires-clause-aligned : goal.add_walk-requires-clause-aligned
 add_walk-requires-clause-aligned g c =
-    let fits : c.args.self.now.log_length ≤ 2 ^ 63 = c.args.self.now.fits in
+    let fits : c.self.inside.log_length ≤ 2 ^ 63 = c.self.invariant in
     (64, 0, let e : 0 ≡ 0 * 2 ^ 64 = omega arith in e, omega (arith, fits))
 
 pub overflow_sub-result : goal.overflow_sub-result
-overflow_sub-result g c = (walk_whole c.args.self.now.leaf.0 c.args.self.now.log_length _ _ c.len.result c.add_walk.new.nodes.items c.in-Ok.ensures.order (c.len.ensures ∙ c.add_walk.new.nodes.ok.0)).0
+overflow_sub-result g c = (walk_whole c.self.inside.leaf.0 c.self.inside.log_length _ _ c.len.result c.add_walk.new.nodes.items c.in-Ok.ensures.order (c.len.ensures ∙ c.add_walk.new.nodes.ok.0)).0
 
 pub overflow_sub-result-in-Ok : goal.overflow_sub-result-in-Ok
-overflow_sub-result-in-Ok g c = (walk_whole c.args.self.now.leaf.0 c.args.self.now.log_length _ _ c.len.result c.add_walk.new.nodes.items c.in-Ok.ensures.order (c.len.ensures ∙ c.add_walk.new.nodes.ok.0)).1
+overflow_sub-result-in-Ok g c = (walk_whole c.self.inside.leaf.0 c.self.inside.log_length _ _ c.len.result c.add_walk.new.nodes.items c.in-Ok.ensures.order (c.len.ensures ∙ c.add_walk.new.nodes.ok.0)).1
 
 pub returns-in-Ok-clause-order : goal.returns-in-Ok-clause-order
-returns-in-Ok-clause-order g c = (walk_whole c.args.self.now.leaf.0 c.args.self.now.log_length _ _ c.len.result c.add_walk.new.nodes.items c.in-Ok.ensures.order (c.len.ensures ∙ c.add_walk.new.nodes.ok.0)).2
+returns-in-Ok-clause-order g c = rw (← c.self.view_is) (walk_whole c.self.inside.leaf.0 c.self.inside.log_length _ _ c.len.result c.add_walk.new.nodes.items c.in-Ok.ensures.order (c.len.ensures ∙ c.add_walk.new.nodes.ok.0)).2
 
 pub returns-in-Ok-clause-once : goal.returns-in-Ok-clause-once
 returns-in-Ok-clause-once g c =
-    let exists : ExistsAt c.args.self.now.leaf.0 c.args.self.now.log_length = c.exists_at_length.ensures.0 c.if-not-exists_at_length.false in
-    let all : c.args.self.now.log_length - 0 ≡ c.args.self.now.log_length = omega arith in
-    rw (rw all at c.in-Ok.ensures.needed) (needed_once c.args.self.now.leaf.0 c.args.self.now.log_length exists)
+    let exists : ExistsAt c.self.inside.leaf.0 c.self.inside.log_length = c.exists_at_length.ensures.0 c.if-not-exists_at_length.false in
+    let all : c.self.inside.log_length - 0 ≡ c.self.inside.log_length = omega arith in
+    rw (rw all at c.in-Ok.ensures.needed) (needed_once c.self.inside.leaf.0 c.self.inside.log_length exists)
 
 pub returns-in-Ok-clause-most : goal.returns-in-Ok-clause-most
-returns-in-Ok-clause-most g c = λ b lt.
-    let exists : ExistsAt c.args.self.now.leaf.0 c.args.self.now.log_length = c.exists_at_length.ensures.0 c.if-not-exists_at_length.false in
-    let all : c.args.self.now.log_length - 0 ≡ c.args.self.now.log_length = omega arith in
-    let count : length c.add_walk.new.nodes.items ≡ length (needed c.args.self.now.leaf.0 c.args.self.now.log_length) =
+returns-in-Ok-clause-most g c = rw (← c.self.view_is) (λ b lt.
+    let exists : ExistsAt c.self.inside.leaf.0 c.self.inside.log_length = c.exists_at_length.ensures.0 c.if-not-exists_at_length.false in
+    let all : c.self.inside.log_length - 0 ≡ c.self.inside.log_length = omega arith in
+    let count : length c.add_walk.new.nodes.items ≡ length (needed c.self.inside.leaf.0 c.self.inside.log_length) =
     sym (length-map c.add_walk.new.nodes.items (λ (m : Node). m.0)) ∙ ap length (rw all at c.in-Ok.ensures.needed) in
-    rw count (needed_most c.args.self.now.leaf.0 c.args.self.now.log_length b exists lt)
+    rw count (needed_most c.self.inside.leaf.0 c.self.inside.log_length b exists lt))
