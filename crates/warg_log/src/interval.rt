@@ -5,7 +5,7 @@ ghost use Rattle.warg_log.specs.Nodes.{node_over};
 ghost use Rattle.warg_log.specs.Tree.{front_of};
 ghost use Rattle.warg_log.specs.Cut.{IsBeside, IsFull};
 
-use crate::node::Node;
+use crate::node::{Node, power_of_two};
 
 /// Leaves in a row, at least one: a range of the recursion of RFC 6962, section 2.1, which splits the
 /// leaves of a log at the greatest power of two below their count.
@@ -39,7 +39,7 @@ impl Interval {
         ensures start { result.start ≡ start }
         ensures count { (h : ℕ) × (result.count ≡ 2 ^ h) × (2 ^ h ≤ length - start) × (length - start < 2 ^ (h + 1)) }
     {
-        Interval::new(start, 2usize.pow((length - start).ilog2()))
+        Interval::new(start, power_of_two((length - start).ilog2()))
     }
 
     /// The leaf after the last one.
@@ -61,7 +61,7 @@ impl Interval {
     pub fn is_full(&self) -> bool
         ensures { IsTrue result ↔ IsFull self.now.count }
     {
-        self.count == 2usize.pow(self.count.ilog2())
+        self.count == power_of_two(self.count.ilog2())
     }
 
     /// Whether both are the same leaves.
@@ -94,7 +94,7 @@ impl Interval {
         ensures rest { (result.1.start ≡ self.now.start + front_of self.now.count) × (result.1.count ≡ self.now.count - front_of self.now.count) }
         ensures smaller { (result.0.count < self.now.count) × (result.1.count < self.now.count) }
     {
-        let count = 2usize.pow((self.count - 1).ilog2());
+        let count = power_of_two((self.count - 1).ilog2());
         (
             Interval::new(self.start, count),
             Interval::new(self.start + count, self.count - count),

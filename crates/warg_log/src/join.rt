@@ -4,17 +4,19 @@ ghost use Rattle.std.specs.Prelude.{◌≡◌, ⊤, ℕ, ◌<◌, ◌∷◌, ◌
 ghost use Rattle.std.specs.List.{AllByRecursion};
 ghost use Rattle.warg_log.specs.Tree.{branch};
 
+use crate::interval::Interval;
 use crate::log::hash_branch;
 use arrayvec::ArrayVec;
 use warg_crypto::{Hash, SupportedDigest};
 
-// Gives the digest of a branch.
+// Gives the digest of the branch of a range's two parts.
 pub(crate) trait Join<D: SupportedDigest> {
     // What it remembers is true.
     ghost is_true: { Self → Type 0 };
 
-    fn join(&mut self, left: &Hash<D>, right: &Hash<D>) -> Hash<D>
-        requires { is_true self.old }
+    fn join(&mut self, range: &Interval, left: &Hash<D>, right: &Hash<D>) -> Hash<D>
+        requires true_so_far { is_true self.old }
+        requires parts { 1 < range.now.count }
         ensures value { result ≡ branch D.digest left.now right.now }
         ensures kept { is_true self.new };
 }
@@ -26,7 +28,7 @@ pub(crate) struct Hashing;
 impl<D: SupportedDigest> Join<D> for Hashing {
     ghost is_true = { λ _. ⊤ };
 
-    fn join(&mut self, left: &Hash<D>, right: &Hash<D>) -> Hash<D> {
+    fn join(&mut self, _range: &Interval, left: &Hash<D>, right: &Hash<D>) -> Hash<D> {
         hash_branch(left, right)
     }
 }
@@ -49,13 +51,26 @@ impl<D> Default for Branch<D> {
     }
 }
 
-// How many branches are remembered: the paths of one consistency proof share most of theirs.
+// How many branches are remembered.
 const REMEMBERED: usize = 64;
 
-// Hashes each branch once: it remembers the first branches that it joined.
+// The number of slots: for each height, one for the ranges of a power of two of leaves, and one for the others.
+const SLOTS: usize = 128;
+
+// The slot of a range of this many leaves: 2 * h - 1 for 2^h of them, and 2 * h for more, below 2^(h + 1).
+fn slot_of(count: usize) -> usize
+    requires { 1 < count }
+    ensures { result < 128 }
+{
+    ((count - 1).ilog2() + count.ilog2()) as usize
+}
+
+// Hashes each branch once: it remembers the branches that it joined, and for each slot the last of them. The
+// ranges that the paths of one consistency proof share are the last ones of their slots.
 #[derive(Drop)]
 pub(crate) struct Branches<D> {
     joined: ArrayVec<Branch<D>, REMEMBERED>,
+    last: [usize; SLOTS],
 }
 
 impl<D: SupportedDigest> Branches<D> {
@@ -64,18 +79,19 @@ impl<D: SupportedDigest> Branches<D> {
     {
         Branches {
             joined: ArrayVec::new(),
+            last: [0; SLOTS],
         }
     }
 
-    // The digest of the branch, if it is remembered.
-    fn find(&self, left: &Hash<D>, right: &Hash<D>) -> Option<Hash<D>>
-        requires { AllByRecursion (λ b. b.digest ≡ branch D.digest b.left b.right) self.now.joined.items }
+    // The digest of the branch, if it is the last one of the slot.
+    fn find(&self, slot: usize, left: &Hash<D>, right: &Hash<D>) -> Option<Hash<D>>
+        requires slot { slot < 128 }
+        requires true_so_far { AllByRecursion (λ b. b.digest ≡ branch D.digest b.left b.right) self.now.joined.items }
         ensures { IfSome result (λ digest. digest ≡ branch D.digest left.now right.now) }
     {
-        for branch in self.joined.as_slice() {
-            if same(&branch.left, left) && same(&branch.right, right) {
-                return Some(branch.digest.copied());
-            }
+        let branch = self.joined.as_slice().get(self.last[slot])?;
+        if same(&branch.left, left) && same(&branch.right, right) {
+            return Some(branch.digest.copied());
         }
         None
     }
@@ -84,12 +100,14 @@ impl<D: SupportedDigest> Branches<D> {
 impl<D: SupportedDigest> Join<D> for Branches<D> {
     ghost is_true = { λ s. AllByRecursion (λ b. b.digest ≡ branch D.digest b.left b.right) s.joined.items };
 
-    fn join(&mut self, left: &Hash<D>, right: &Hash<D>) -> Hash<D> {
-        if let Some(digest) = self.find(left, right) {
+    fn join(&mut self, range: &Interval, left: &Hash<D>, right: &Hash<D>) -> Hash<D> {
+        let slot = slot_of(range.count);
+        if let Some(digest) = self.find(slot, left, right) {
             return digest;
         }
         let digest = hash_branch(left, right);
         if !self.joined.is_full() {
+            self.last[slot] = self.joined.len();
             self.joined.push(Branch {
                 left: left.copied(),
                 right: right.copied(),

@@ -31,6 +31,14 @@ pub enum Side {
     Right,
 }
 
+// The power of two with this exponent.
+pub(crate) fn power_of_two(exponent: u32) -> usize
+    requires { exponent < 64 }
+    ensures { result ≡ 2 ^ exponent }
+{
+    1 << exponent
+}
+
 impl Node {
     /// The node of the leaf at an index, from 0.
     pub fn leaf(index: usize) -> Node
@@ -72,7 +80,7 @@ impl Node {
         requires { height_of self.now.0 < 64 }
         ensures { result ≡ 2 ^ height_of self.now.0 }
     {
-        2usize.pow(self.height())
+        power_of_two(self.height())
     }
 
     /// The side of its parent on which the node stands: left where its place among the nodes of its
@@ -138,7 +146,7 @@ impl Node {
         ensures left { IsNode result.0.0 (height_of self.now.0 - 1) (2 * place_of self.now.0) }
         ensures right { IsNode result.1.0 (height_of self.now.0 - 1) (2 * place_of self.now.0 + 1) }
     {
-        let distance = 2usize.pow(self.height() - 1);
+        let distance = power_of_two(self.height() - 1);
         (Node(self.0 - distance), Node(self.0 + distance))
     }
 
@@ -173,7 +181,7 @@ impl Node {
         ensures height { height_of result.0 ≡ height }
         ensures start { start_of result.0 ≡ end_of self.now.0 }
     {
-        Node(self.rightmost_descendent().0 + 2 + (2usize.pow(height) - 1))
+        Node(self.rightmost_descendent().0 + 2 + (power_of_two(height) - 1))
     }
 
     /// The node of a height that stands for the first leaves of all, `2^height` of them.
@@ -181,7 +189,7 @@ impl Node {
         requires { height < 64 }
         ensures { IsNode result.0 height 0 }
     {
-        Node(2usize.pow(height) - 1)
+        Node(power_of_two(height) - 1)
     }
 
     /// The balanced roots of a length: the nodes that its binary digits cut from the left, greatest

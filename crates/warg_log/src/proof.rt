@@ -365,7 +365,7 @@ pub(crate) fn range_root_by<D: SupportedDigest, V: VisitBytes, L: LogData<D, V>,
     let (front, rest) = range.split();
     let left = range_root_by(joins, hashes, target, hash, &front)?;
     let right = range_root_by(joins, hashes, target, hash, &rest)?;
-    Some(joins.join(&left, &right))
+    Some(joins.join(range, &left, &right))
 }
 
 /// The old root of one range: the root of the range's leaves by the digests that the data holds for the

@@ -3,12 +3,12 @@ use Rattle.warg_log.specs.Nodes.{height_of, place_of, end_of}
 use Rattle.warg_log.proofs.NodeLemmas.{node_at, end_some, next_node, next_start}
 use Rattle.warg_log.proofs.node.Node.next_node_with_height.Goals as goal
 
-number : (c : goal.After-pow) → c.rightmost_descendent.result.0 + 2 + (c.pow.result - 1) ≡ 2 * end_of c.args.self.now.0 + (2 ^ c.args.height - 1)
+number : (c : goal.After-power_of_two) → c.rightmost_descendent.result.0 + 2 + (c.power_of_two.result - 1) ≡ 2 * end_of c.args.self.now.0 + (2 ^ c.args.height - 1)
 number c =
     let x = c.args.self.now.0 in
     let some : 0 < end_of x = end_some (height_of x) (place_of x) in
     let last : c.rightmost_descendent.result.0 + 2 ≡ 2 * end_of x = omega (arith, c.rightmost_descendent.ensures, some) in
-    rw (last, c.pow.ensures) refl
+    rw (last, c.power_of_two.ensures) refl
 
 pub returns-clause-height : goal.returns-clause-height
 returns-clause-height c =
