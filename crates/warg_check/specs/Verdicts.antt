@@ -1,5 +1,5 @@
 -- Verdicts on the proofs in the bytes of a log bundle or a map bundle.
-use Rattle.std.specs.Prelude.{◌≡◌, ◌⊎◌, ℕ, Bool, false, ◌&&◌, nat_eq, nat_le, List, ◌∷◌, Option, Some, None, Result, Ok, Err, slice_get}
+use Rattle.std.specs.Prelude.{ℕ, Bool, false, ◌&&◌, nat_eq, nat_le, List, ◌∷◌, Option, Some, None, Result, Ok, Err, slice_get}
 use Rattle.std.specs.Cmp.Lexicographic.{pointwise}
 use Rattle.warg_log.specs.declared.node.Node.{Node}
 use Rattle.warg_log.specs.declared.error.DecodeError.{DecodeError}
@@ -19,11 +19,6 @@ use Rattle.warg_map.specs.Bundles.{Peers}
 use Rattle.warg_map.specs.Bundles.{map_bundle_of}
 use Rattle.warg_check.specs.declared.verdict.CheckError.{CheckError}
 use Rattle.warg_check.specs.declared.verdict.CheckError.TheVariants as fault
-
--- What a call answered is the verdict, or memory was refused.
-abbrev pub Answers : Result Bool CheckError → Result Bool CheckError → Type 0
-Answers (Ok holds) verdict = verdict ≡ Ok holds
-Answers (Err e) verdict = (e ≡ fault.Memory) ⊎ (verdict ≡ Err e)
 
 -- A fault of bytes, or out of memory, as what a check answers.
 abbrev pub check_fault : DecodeError → CheckError

@@ -3,7 +3,7 @@
 ghost use Rattle.std.specs.Prelude.{◌≡◌, ◌≢◌, Err};
 ghost use Rattle.warg_protobuf.specs.declared.error.WireError.TheVariants as wire;
 ghost use Rattle.warg_log.specs.declared.error.DecodeError.TheVariants as decoding;
-ghost use Rattle.warg_check.specs.Verdicts.{Answers};
+ghost use Rattle.warg_protobuf.specs.Reading.{Answers};
 ghost use Rattle.warg_check.specs.CheckpointVerdicts.{is_leaf_at, shows_entry, entry_verdict, shows_growth, growth_verdict};
 
 use crate::verdict::{CheckError, is_extended, is_included};
@@ -29,7 +29,7 @@ pub fn check_entry<D: SupportedDigest, V: VisitBytes, A: Allocator + Copy>(
     value: &V,
     checkpoint: &Checkpoint<D>,
 ) -> Result<bool, CheckError>
-    ensures verdict { Answers result (entry_verdict D.digest bytes.now at index (V.bytes value.now) checkpoint.now.length checkpoint.now.root) }
+    ensures verdict { Answers CheckError.Memory result (entry_verdict D.digest bytes.now at index (V.bytes value.now) checkpoint.now.length checkpoint.now.root) }
     ensures memory { result ≢ Err (CheckError.Decode decoding.Memory) }
     ensures wire { result ≢ Err (CheckError.Decode (decoding.Wire wire.Memory)) }
 {
@@ -80,7 +80,7 @@ pub fn check_growth<D: SupportedDigest, A: Allocator + Copy>(
     old: &Checkpoint<D>,
     new: &Checkpoint<D>,
 ) -> Result<bool, CheckError>
-    ensures verdict { Answers result (growth_verdict D.digest bytes.now at old.now.length old.now.root new.now.length new.now.root) }
+    ensures verdict { Answers CheckError.Memory result (growth_verdict D.digest bytes.now at old.now.length old.now.root new.now.length new.now.root) }
     ensures memory { result ≢ Err (CheckError.Decode decoding.Memory) }
     ensures wire { result ≢ Err (CheckError.Decode (decoding.Wire wire.Memory)) }
 {

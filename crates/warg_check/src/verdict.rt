@@ -3,7 +3,8 @@
 ghost use Rattle.std.specs.Prelude.{◌≡◌, ◌≢◌, Err};
 ghost use Rattle.warg_protobuf.specs.declared.error.WireError.TheVariants as wire;
 ghost use Rattle.warg_log.specs.declared.error.DecodeError.TheVariants as decoding;
-ghost use Rattle.warg_check.specs.Verdicts.{Answers, check_fault, includes, inclusion_verdict, extends, consistency_verdict, key_verdict, absent_verdict};
+ghost use Rattle.warg_protobuf.specs.Reading.{Answers};
+ghost use Rattle.warg_check.specs.Verdicts.{check_fault, includes, inclusion_verdict, extends, consistency_verdict, key_verdict, absent_verdict};
 
 use std::alloc::Allocator;
 use thiserror::Error;
@@ -48,7 +49,7 @@ pub fn check_inclusion<D: SupportedDigest, V: VisitBytes, A: Allocator + Copy>(
     value: &V,
     root: &Hash<D>,
 ) -> Result<bool, CheckError>
-    ensures verdict { Answers result (inclusion_verdict D.digest bytes.now at (V.bytes value.now) root.now) }
+    ensures verdict { Answers CheckError.Memory result (inclusion_verdict D.digest bytes.now at (V.bytes value.now) root.now) }
     ensures memory { result ≢ Err (CheckError.Decode decoding.Memory) }
     ensures wire { result ≢ Err (CheckError.Decode (decoding.Wire wire.Memory)) }
 {
@@ -87,7 +88,7 @@ pub fn check_consistency<D: SupportedDigest, A: Allocator + Copy>(
     old: &Hash<D>,
     new: &Hash<D>,
 ) -> Result<bool, CheckError>
-    ensures verdict { Answers result (consistency_verdict D.digest bytes.now at old.now new.now) }
+    ensures verdict { Answers CheckError.Memory result (consistency_verdict D.digest bytes.now at old.now new.now) }
     ensures memory { result ≢ Err (CheckError.Decode decoding.Memory) }
     ensures wire { result ≢ Err (CheckError.Decode (decoding.Wire wire.Memory)) }
 {
@@ -126,7 +127,7 @@ pub fn check_key<D: SupportedDigest, K: VisitBytes, V: VisitBytes, A: Allocator 
     value: &V,
     root: &Hash<D>,
 ) -> Result<bool, CheckError>
-    ensures verdict { Answers result (key_verdict D.digest bytes.now at (K.bytes key.now) (V.bytes value.now) root.now) }
+    ensures verdict { Answers CheckError.Memory result (key_verdict D.digest bytes.now at (K.bytes key.now) (V.bytes value.now) root.now) }
     ensures memory { result ≢ Err (CheckError.Decode decoding.Memory) }
     ensures wire { result ≢ Err (CheckError.Decode (decoding.Wire wire.Memory)) }
 {
@@ -149,7 +150,7 @@ pub fn check_absent<D: SupportedDigest, K: VisitBytes, A: Allocator + Copy>(
     key: &K,
     root: &Hash<D>,
 ) -> Result<bool, CheckError>
-    ensures verdict { Answers result (absent_verdict D.digest bytes.now at (K.bytes key.now) root.now) }
+    ensures verdict { Answers CheckError.Memory result (absent_verdict D.digest bytes.now at (K.bytes key.now) root.now) }
     ensures memory { result ≢ Err (CheckError.Decode decoding.Memory) }
     ensures wire { result ≢ Err (CheckError.Decode (decoding.Wire wire.Memory)) }
 {

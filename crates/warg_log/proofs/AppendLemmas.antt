@@ -6,7 +6,8 @@ use Rattle.std.proofs.lemmas.List.{take-append-le, drop-append-le, length-drop}
 use Rattle.std.proofs.lemmas.Bool.{le-leb, lt-leb, cases_lt}
 use Rattle.std.proofs.lemmas.Nat.{pow_pos}
 use Rattle.warg_log.specs.Nodes.{height_of, place_of, start_of, end_of}
-use Rattle.warg_log.specs.Tree.{root_of, leaves_below, leaves_in, IsSlice, IsSliceUpTo, digest_or_spacer}
+use Rattle.warg_log.specs.Tree.{root_of, leaves_below, leaves_in, IsSlice, digest_or_spacer}
+use Rattle.warg_log.specs.Private.Slices.{IsSliceUpTo}
 use Rattle.warg_log.proofs.NodeLemmas.{node_is, node_at, last_leaf}
 use Rattle.warg_log.proofs.RootLemmas.{root_of-one}
 

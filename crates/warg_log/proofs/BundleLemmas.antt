@@ -8,7 +8,7 @@ use Rattle.std.proofs.lemmas.Bool.{eq-eqb, le-leb}
 use Rattle.warg_protobuf.specs.HashEntry.{Entry}
 use Rattle.warg_log.specs.declared.node.Node.{Node}
 use Rattle.warg_log.specs.Sparse.{Pairs, IsAscending}
-use Rattle.warg_log.specs.Bundles.{Bundle, entry_of, pair_of, entries_fault, bundle_in, bundle_message}
+use Rattle.warg_log.specs.Bundles.{Bundle, entry_of, pair_of, entries_fault, log_bundle_in, bundle_message}
 
 -- one more pair
 below_more : (a b : ℕ) (ps : Pairs) → a ≤ b → AllByRecursion (λ (q : Node × List ℕ). q.0.0 < a) ps → AllByRecursion (λ (q : Node × List ℕ). q.0.0 < b) ps
@@ -77,5 +77,5 @@ pairs_again : (ps : Pairs) → map pair_of (map entry_of ps) ≡ ps
 pairs_again [] = refl
 pairs_again (p ∷ ps) = ap (λ l. p ∷ l) (pairs_again ps)
 
-pub bundle_again : (b : Bundle) → IsAscending b.hashes → AllByRecursion (λ (p : Node × List ℕ). length p.1 ≡ 32) b.hashes → bundle_in (bundle_message b) ≡ Ok b
+pub bundle_again : (b : Bundle) → IsAscending b.hashes → AllByRecursion (λ (p : Node × List ℕ). length p.1 ≡ 32) b.hashes → log_bundle_in (bundle_message b) ≡ Ok b
 bundle_again b up lens = rw (no_fault 0 b.hashes up (at_least_0 b.hashes) lens, nodes_again b.included_nodes, pairs_again b.hashes) refl

@@ -7,7 +7,8 @@ use Rattle.std.proofs.Math.Nat.{mul-le-mul_right, pow-le-pow_right}
 use Rattle.std.proofs.lemmas.Nat.{pow_pos, pow-add}
 use Rattle.std.proofs.Math.ListN.{get_or}
 use Rattle.warg_log.specs.Nodes.{IsNode, height_of, place_of, start_of, end_of}
-use Rattle.warg_log.specs.Tree.{branch, root_of, leaves_below, leaves_in, IsSlice, IsSliceUpTo, own_digest, digest_or_spacer}
+use Rattle.warg_log.specs.Tree.{branch, root_of, leaves_below, leaves_in, IsSlice, own_digest, digest_or_spacer}
+use Rattle.warg_log.specs.Private.Slices.{IsSliceUpTo}
 use Rattle.warg_log.proofs.NodeLemmas.{node_is, node_at, last_leaf, cancel_eq}
 use Rattle.warg_log.proofs.RootLemmas.{root_of-halves}
 

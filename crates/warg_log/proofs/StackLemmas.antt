@@ -7,7 +7,8 @@ use Rattle.std.proofs.lemmas.Bool.{le-leb, lt-leb, eq-eqb, ne_eqb, cases_lt, cas
 use Rattle.warg_log.specs.Nodes.{height_of, place_of, start_of, end_of, node_over, balanced_within, balanced_over, balanced_roots}
 use Rattle.warg_log.specs.Tree.{branch, front_of, root_of, root_over, leaves_below, own_digest}
 use Rattle.warg_log.specs.Cut.{joined, IsFull, old_over, old_root}
-use Rattle.warg_log.specs.Blocks.{Blocks, Grows, StandsFor, digest_beside, block_at, block_over, joined_blocks, pushed}
+use Rattle.warg_log.specs.Blocks.{Blocks, StandsFor, digest_beside, block_at, block_over, joined_blocks, pushed}
+use Rattle.warg_log.specs.Private.Growth.{Grows}
 use Rattle.warg_log.proofs.NodeLemmas.{node_is, node_at, pow_below_pow}
 use Rattle.warg_log.proofs.RootLemmas.{below_pow, front_of-is}
 use Rattle.warg_log.proofs.CutLemmas.{root_over-split, old_over-full, old_over-parts, old_root-own}

@@ -13,7 +13,8 @@ use Rattle.warg_log.specs.declared.error.DecodeError.TheVariants.{HashLength, No
 use Rattle.warg_log.specs.Nodes.{IsNode, height_of, place_of, end_of, number_of}
 use Rattle.warg_log.specs.Tree.{branch, root_of, leaves_in, IsSlice, digest_or_spacer}
 use Rattle.warg_log.specs.Decoding.{first_fault, digest_fault}
-use Rattle.warg_log.specs.Images.{IsHeld, slice_of, vec_message, is_slice_of_length, vec_in}
+use Rattle.warg_log.specs.Images.{slice_of, vec_message, is_slice_of_length, vec_in}
+use Rattle.warg_log.specs.Private.Slices.{IsHeld}
 use Rattle.warg_log.proofs.ImageLemmas.{all_good}
 use Rattle.warg_log.proofs.NodeLemmas.{node_is, node_at}
 use Rattle.warg_log.proofs.SliceLemmas.{root_below_parent}

@@ -53,8 +53,8 @@ entries_fault least [] = None
 entries_fault least (e ∷ es) = earlier (entry_fault least e) (entries_fault (suc e.index) es)
 
 -- The bundle that a message holds, or the first fault of its contents.
-abbrev pub bundle_in : LogBundle → Result Bundle DecodeError
-bundle_in m = unless (entries_fault 0 m.hashes) (record {
+abbrev pub log_bundle_in : LogBundle → Result Bundle DecodeError
+log_bundle_in m = unless (entries_fault 0 m.hashes) (record {
   log_length = m.log_length;
   consistent_lengths = m.consistent_lengths;
   included_nodes = map (λ n. record { 0 = n }) m.included_indices;
@@ -64,7 +64,7 @@ bundle_in m = unless (entries_fault 0 m.hashes) (record {
 -- The bundle that bytes spell, or their first fault: that of the message (proto3 encoding), and then that
 -- of its contents.
 abbrev pub bundle_of : List ℕ → Result Bundle DecodeError
-bundle_of bytes = held_in bundle_in (message_of log_schema bytes)
+bundle_of bytes = held_in log_bundle_in (message_of log_schema bytes)
 
 -- Whether two pairs have one node and one digest.
 abbrev pub same_pair : Node × List ℕ → Node × List ℕ → Bool

@@ -1,5 +1,5 @@
 -- What reading a message or bytes gives: the value that they hold, or their first fault.
-use Rattle.std.specs.Prelude.{◌≡◌, ◌⊎◌, ℕ, ◌==◌, if◌then◌else◌, List, [], ◌∷◌, length, Option, Some, None, Result, Ok, Err}
+use Rattle.std.specs.Prelude.{ℕ, ◌==◌, if◌then◌else◌, List, [], ◌∷◌, length, Option, Some, None, Result, Ok, Err}
 use Rattle.warg_protobuf.specs.declared.error.WireError.{WireError}
 use Rattle.warg_protobuf.specs.declared.error.WireError.TheVariants as wire
 use Rattle.warg_log.specs.declared.error.DecodeError.{DecodeError}
@@ -9,11 +9,6 @@ use Rattle.warg_log.specs.declared.error.DecodeError.TheVariants as fault
 abbrev pub wire_fault : WireError → DecodeError
 wire_fault wire.Memory = fault.Memory
 wire_fault e = fault.Wire e
-
--- What a call answered is what reading gives, or memory was refused.
-abbrev pub Reads : {X : Type 0} → Result X DecodeError → Result X DecodeError → Type 0
-Reads (Ok x) read = read ≡ Ok x
-Reads (Err e) read = (e ≡ fault.Memory) ⊎ (read ≡ Err e)
 
 -- What a message holds, in what bytes were read as: the first fault of the bytes goes before those of the
 -- message's contents.

@@ -72,9 +72,3 @@ vec_in H m = unless (earlier (first_fault digest_fault m.tree) (tree_fault H m))
 -- its contents.
 abbrev pub vec_of : (List ℕ → List ℕ) → List ℕ → Result (List (List ℕ)) DecodeError
 vec_of H bytes = held_in (vec_in H) (message_of vec_schema bytes)
-
--- What a branch's place holds in a tree of n leaves: the digest of its two children's, or that of no bytes
--- where the branch doesn't exist yet.
-pub record IsHeld (H : List ℕ → List ℕ) (n : ℕ) (tree : List (List ℕ)) (x : ℕ) : Type 0 where
-  pub exists : end_of x ≤ n → slice_index_or tree x [] ≡ branch H (slice_index_or tree (number_of (height_of x - 1) (2 * place_of x)) []) (slice_index_or tree (number_of (height_of x - 1) (2 * place_of x + 1)) [])
-  pub lacks : n < end_of x → slice_index_or tree x [] ≡ H []

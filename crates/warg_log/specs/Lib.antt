@@ -10,3 +10,4 @@ pub mod Decoding
 pub mod Bundles
 pub mod Bundling
 pub mod Images
+pub mod Private

@@ -63,11 +63,6 @@ pub record IsSlice (H : List ℕ → List ℕ) (ds tree : List (List ℕ)) : Typ
   pub len : length tree ≡ 2 * length ds - 1
   pub holds : (x : ℕ) → x < length tree → slice_index_or tree x [] ≡ digest_or_spacer H ds x
 
--- As IsSlice, but for the nodes above height k whose last leaf is the last of all.
-pub record IsSliceUpTo (H : List ℕ → List ℕ) (ds tree : List (List ℕ)) (k : ℕ) : Type 0 where
-  pub len : length tree ≡ 2 * length ds - 1
-  pub holds : (x : ℕ) → x < length tree → (end_of x ≡ length ds → height_of x ≤ k) → slice_index_or tree x [] ≡ digest_or_spacer H ds x
-
 -- The leaf digests of a slice: those at its even places.
 abbrev pub leaves_in : List (List ℕ) → List (List ℕ)
 leaves_in [] = []

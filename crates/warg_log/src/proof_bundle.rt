@@ -3,14 +3,14 @@
 ghost use Rattle.std.specs.Prelude.{◌≡◌, ◌≢◌, ℕ, ◌^◌, ◌<◌, ◌≤◌, ◌↔◌, ◌⊎◌, List, None, Some, Ok, Err, IfOk, IfErr, OnSome, IfSome, IsTrue, IsNone, length, map, slice_get, nat_eq, OnOk};
 ghost use Rattle.std.specs.List.{AllByRecursion, list_any};
 ghost use Rattle.warg_protobuf.specs.declared.error.WireError.TheVariants as wire;
+ghost use Rattle.warg_protobuf.specs.Reading.{Answers};
 ghost use Rattle.warg_protobuf.specs.HashEntry.{entry_view};
 ghost use Rattle.warg_protobuf.specs.LogProofBundle.{log_view, log_bytes};
 ghost use Rattle.warg_log.specs.Sparse.{IsAscending, held_digest};
 ghost use Rattle.warg_log.specs.Cut.{cut_root};
 ghost use Rattle.warg_log.specs.Consistency.{consistency};
-ghost use Rattle.warg_log.specs.Decoding.{Reads};
 ghost use Rattle.warg_log.specs.Bundling.{bundle_length, needed_by, LacksNeeded};
-ghost use Rattle.warg_log.specs.Bundles.{bundle_message, bundle_in, bundle_of, NodesFit, entry_of, pair_of, entries_fault, same_bundle};
+ghost use Rattle.warg_log.specs.Bundles.{bundle_message, log_bundle_in, bundle_of, NodesFit, entry_of, pair_of, entries_fault, same_bundle};
 
 use crate::consistency::ConsistencyProof;
 use crate::error::{BundleError, DecodeError, EncodeError};
@@ -214,7 +214,7 @@ impl<D: SupportedDigest, V: VisitBytes, A: Allocator + Copy> ProofBundle<D, V, A
     /// The faults are looked for entry by entry, at each first `HashLength`, and then `NotAscending` where
     /// its number isn't above the one before. Lengths and nodes are free.
     pub fn from_message(alloc: A, message: Message<A>) -> Result<Self, DecodeError>
-        ensures exact { Reads result (bundle_in (log_view message)) }
+        ensures exact { Answers DecodeError.Memory result (log_bundle_in (log_view message)) }
         ensures message { IfOk result (λ bundle. bundle_message bundle ≡ log_view message) }
         ensures wire { (e : _) → result ≢ Err (DecodeError.Wire e) }
     {
@@ -231,7 +231,7 @@ impl<D: SupportedDigest, V: VisitBytes, A: Allocator + Copy> ProofBundle<D, V, A
     /// Reads a bundle from the bytes of its message: the first fault of the message, and then that of
     /// [`ProofBundle::from_message`], is the error.
     pub fn decode(alloc: A, bytes: &[u8]) -> Result<Self, DecodeError>
-        ensures exact { Reads result (bundle_of bytes.now) }
+        ensures exact { Answers DecodeError.Memory result (bundle_of bytes.now) }
         ensures wire { result ≢ Err (DecodeError.Wire wire.Memory) }
     {
         let message = match Message::decode(alloc, bytes) {
@@ -245,7 +245,7 @@ impl<D: SupportedDigest, V: VisitBytes, A: Allocator + Copy> ProofBundle<D, V, A
     /// `u32::MAX`, before any growth.
     pub fn to_message(&self, alloc: A) -> Result<Message<A>, EncodeError>
         ensures ok { IfOk result (λ message. log_view message ≡ bundle_message self.now) }
-        ensures again { IfOk result (λ message. bundle_in (log_view message) ≡ Ok self.now) }
+        ensures again { IfOk result (λ message. log_bundle_in (log_view message) ≡ Ok self.now) }
         ensures too_large { (result ≡ Err EncodeError.TooLarge) ↔ ¬ NodesFit self.now }
         ensures fits { OnOk result (NodesFit self.now) }
     {

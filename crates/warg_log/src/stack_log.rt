@@ -4,7 +4,8 @@ ghost use Rattle.std.specs.Prelude.{◌≡◌, ℕ, ◌+◌, ◌*◌, ◌^◌, �
 ghost use Rattle.warg_log.specs.Nodes.{height_of, start_of, balanced_roots};
 ghost use Rattle.warg_log.specs.Tree.{branch, root_of};
 ghost use Rattle.warg_log.specs.Cut.{old_root};
-ghost use Rattle.warg_log.specs.Blocks.{Blocks, StandsFor, Grows, block_at, joined_blocks, pushed};
+ghost use Rattle.warg_log.specs.Blocks.{Blocks, StandsFor, block_at, joined_blocks, pushed};
+ghost use Rattle.warg_log.specs.Private.Growth.{Grows};
 
 mod image;
 

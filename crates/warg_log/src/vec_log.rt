@@ -3,7 +3,8 @@
 ghost use Rattle.std.specs.Prelude.{◌≡◌, ℕ, ◌+◌, ◌*◌, ◌^◌, ◌<◌, ◌≤◌, List, [], ◌∷◌, ◌++◌, length, IfOk, OnOk, OnErr};
 ghost use Rattle.std.proofs.Common.{ap, sym};
 ghost use Rattle.warg_log.specs.Nodes.{height_of, end_of};
-ghost use Rattle.warg_log.specs.Tree.{IsSlice, IsSliceUpTo, root_of, leaves_below, leaves_in, own_digest};
+ghost use Rattle.warg_log.specs.Tree.{IsSlice, root_of, leaves_below, leaves_in, own_digest};
+ghost use Rattle.warg_log.specs.Private.Slices.{IsSliceUpTo};
 
 mod image;
 

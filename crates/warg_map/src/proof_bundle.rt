@@ -4,7 +4,8 @@ ghost use Rattle.std.specs.Prelude.{◌≡◌, ◌≢◌, ◌⊎◌, [], None, S
 ghost use Rattle.warg_protobuf.specs.declared.error.WireError.TheVariants as wire;
 ghost use Rattle.warg_protobuf.specs.MapInclusionProof.{proof_view};
 ghost use Rattle.warg_protobuf.specs.MapProofBundle.{map_view, map_bytes};
-ghost use Rattle.warg_log.specs.Decoding.{Reads, first_fault};
+ghost use Rattle.warg_protobuf.specs.Reading.{Answers};
+ghost use Rattle.warg_log.specs.Decoding.{first_fault};
 ghost use Rattle.warg_map.specs.Bundles.{proof_fault, map_bundle_in, map_bundle_of, same_map_bundle};
 
 use crate::proof::Proof;
@@ -106,7 +107,7 @@ impl<D, K, V, A: Allocator + Copy> ProofBundle<D, K, V, A> {
     /// The faults are looked for proof by proof, and then absence by absence: at each the errors of
     /// [`Proof::from_message`].
     pub fn from_message(alloc: A, message: Message<A>) -> Result<Self, DecodeError>
-        ensures exact { Reads result (map_bundle_in (map_view message)) }
+        ensures exact { Answers DecodeError.Memory result (map_bundle_in (map_view message)) }
         ensures message { IfOk result (λ bundle. bundle ≡ map_view message) }
         ensures wire { (e : _) → result ≢ Err (DecodeError.Wire e) }
     {
@@ -118,7 +119,7 @@ impl<D, K, V, A: Allocator + Copy> ProofBundle<D, K, V, A> {
     /// Reads a bundle from the bytes of its message: the first fault of the message, and then that of
     /// [`ProofBundle::from_message`], is the error.
     pub fn decode(alloc: A, bytes: &[u8]) -> Result<Self, DecodeError>
-        ensures exact { Reads result (map_bundle_of bytes.now) }
+        ensures exact { Answers DecodeError.Memory result (map_bundle_of bytes.now) }
         ensures wire { result ≢ Err (DecodeError.Wire wire.Memory) }
     {
         let message = Message::decode(alloc, bytes)?;

@@ -8,7 +8,8 @@ ghost use Rattle.warg_protobuf.specs.HashEntry.{entry_view};
 ghost use Rattle.warg_protobuf.specs.StackLog.{stack_view, stack_bytes};
 ghost use Rattle.warg_log.specs.Nodes.{balanced_roots};
 ghost use Rattle.warg_log.specs.Blocks.{Blocks};
-ghost use Rattle.warg_log.specs.Decoding.{Reads, first_fault, digest_fault};
+ghost use Rattle.warg_protobuf.specs.Reading.{Answers};
+ghost use Rattle.warg_log.specs.Decoding.{first_fault, digest_fault};
 ghost use Rattle.warg_log.specs.Images.{root_entry, RootsFit, stack_message, stack_in, stack_of};
 
 use crate::error::{DecodeError, EncodeError};
@@ -30,7 +31,7 @@ impl<D: SupportedDigest, V: VisitBytes, A: Allocator + Copy> StackLog<D, V, A> {
     /// entries' numbers aren't the balanced roots of the length, in order. Memory grows with the entries that
     /// are there, and never by the length.
     pub fn from_message(alloc: A, message: Message<A>) -> Result<Self, DecodeError>
-        ensures exact { Reads result (stack_in (stack_view message)) }
+        ensures exact { Answers DecodeError.Memory result (stack_in (stack_view message)) }
         ensures message { IfOk result (λ log. stack_message log ≡ stack_view message) }
         ensures none { result ≡ Err DecodeError.NotAStack → (b : Blocks) → length b.digests ≡ length (balanced_roots b.len) → stack_message b ≢ stack_view message }
         ensures wire { (e : _) → result ≢ Err (DecodeError.Wire e) }
@@ -50,7 +51,7 @@ impl<D: SupportedDigest, V: VisitBytes, A: Allocator + Copy> StackLog<D, V, A> {
     /// Reads a log from the bytes of its message: the first fault of the message, and then that of
     /// [`StackLog::from_message`], is the error.
     pub fn from_protobuf(alloc: A, bytes: &[u8]) -> Result<Self, DecodeError>
-        ensures exact { Reads result (stack_of bytes.now) }
+        ensures exact { Answers DecodeError.Memory result (stack_of bytes.now) }
         ensures wire { result ≢ Err (DecodeError.Wire wire.Memory) }
     {
         let message = match Message::decode(alloc, bytes) {

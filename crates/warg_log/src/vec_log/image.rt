@@ -5,8 +5,10 @@ ghost use Rattle.std.specs.List.{AllByRecursion};
 ghost use Rattle.warg_protobuf.specs.declared.error.WireError.TheVariants as wire;
 ghost use Rattle.warg_protobuf.specs.VecLog.{vec_view, vec_bytes};
 ghost use Rattle.warg_log.specs.Tree.{IsSlice};
-ghost use Rattle.warg_log.specs.Decoding.{Reads, first_fault, digest_fault};
-ghost use Rattle.warg_log.specs.Images.{is_slice_of_length, IsHeld, vec_message, vec_in, vec_of};
+ghost use Rattle.warg_protobuf.specs.Reading.{Answers};
+ghost use Rattle.warg_log.specs.Decoding.{first_fault, digest_fault};
+ghost use Rattle.warg_log.specs.Images.{is_slice_of_length, vec_message, vec_in, vec_of};
+ghost use Rattle.warg_log.specs.Private.Slices.{IsHeld};
 
 use crate::error::{DecodeError, EncodeError};
 use crate::join::same;
@@ -28,7 +30,7 @@ impl<D: SupportedDigest, V: VisitBytes, A: Allocator + Copy> VecLog<D, V, A> {
     /// other one that of no bytes. Memory grows with the digests that are there, and never by the length. Each
     /// branch is hashed once.
     pub fn from_message(alloc: A, message: Message<A>) -> Result<Self, DecodeError>
-        ensures exact { Reads result (vec_in D.digest (vec_view message)) }
+        ensures exact { Answers DecodeError.Memory result (vec_in D.digest (vec_view message)) }
         ensures message { IfOk result (λ log. vec_message D.digest log ≡ vec_view message) }
         ensures none { result ≡ Err DecodeError.NotALog → (ds : List (List ℕ)) → vec_message D.digest ds ≢ vec_view message }
         ensures wire { (e : _) → result ≢ Err (DecodeError.Wire e) }
@@ -50,7 +52,7 @@ impl<D: SupportedDigest, V: VisitBytes, A: Allocator + Copy> VecLog<D, V, A> {
     /// Reads a log from the bytes of its message: the first fault of the message, and then that of
     /// [`VecLog::from_message`], is the error.
     pub fn from_protobuf(alloc: A, bytes: &[u8]) -> Result<Self, DecodeError>
-        ensures exact { Reads result (vec_of D.digest bytes.now) }
+        ensures exact { Answers DecodeError.Memory result (vec_of D.digest bytes.now) }
         ensures wire { result ≢ Err (DecodeError.Wire wire.Memory) }
     {
         let message = match Message::decode(alloc, bytes) {

@@ -3,7 +3,8 @@
 ghost use Rattle.std.specs.Prelude.{◌≡◌, ◌≢◌, ◌<◌, ◌⊎◌, length, None, Some, Ok, Err, IfOk, IfErr, map};
 ghost use Rattle.warg_protobuf.specs.OptionalHash.{hash_view};
 ghost use Rattle.warg_protobuf.specs.MapInclusionProof.{proof_view};
-ghost use Rattle.warg_log.specs.Decoding.{Reads, first_fault};
+ghost use Rattle.warg_protobuf.specs.Reading.{Answers};
+ghost use Rattle.warg_log.specs.Decoding.{first_fault};
 ghost use Rattle.warg_map.specs.Bundles.{peer_fault, proof_in};
 
 use crate::proof::Proof;
@@ -21,7 +22,7 @@ impl<D, K, V, A: Allocator + Copy> Proof<D, K, V, A> {
     /// The errors: `TooManyPeers` where there are more than 256 peers, before any growth; then `HashLength` where one of
     /// them is there and doesn't have 32 bytes.
     pub fn from_message(alloc: A, message: Message<A>) -> Result<Self, DecodeError>
-        ensures exact { Reads result (proof_in (proof_view message)) }
+        ensures exact { Answers DecodeError.Memory result (proof_in (proof_view message)) }
         ensures most { 256 < length (proof_view message) → result ≡ Err DecodeError.TooManyPeers }
         ensures message { IfOk result (λ proof. proof ≡ proof_view message) }
         ensures wire { (e : _) → result ≢ Err (DecodeError.Wire e) }

@@ -1,6 +1,7 @@
 use Rattle.std.proofs.Common.{◌≡◌, ◌-◌, ◌^◌, ◌<◌, length}
 use Rattle.warg_log.specs.Nodes.{height_of, end_of}
-use Rattle.warg_log.specs.Tree.{IsSliceUpTo, root_of, leaves_below, leaves_in}
+use Rattle.warg_log.specs.Tree.{root_of, leaves_below, leaves_in}
+use Rattle.warg_log.specs.Private.Slices.{IsSliceUpTo}
 use Rattle.warg_log.proofs.vec_log.join_up.Given as goal
 
 abbrev pub invariant-up : goal.invariant-up

@@ -1,6 +1,7 @@
 use Rattle.std.proofs.Common.{◌≡◌, ℕ, ◌+◌, List, ◌∷◌, map, refl, ap}
 use Rattle.warg_log.specs.Nodes.{height_of, start_of, balanced_roots}
-use Rattle.warg_log.specs.Blocks.{Blocks, StandsFor, Grows, block_over, block_at}
+use Rattle.warg_log.specs.Blocks.{Blocks, StandsFor, block_over, block_at}
+use Rattle.warg_log.specs.Private.Growth.{Grows}
 use Rattle.warg_log.proofs.StackLemmas.{grows_over, stands_after}
 use Rattle.warg_log.proofs.stack_log.StackLogLogBuilder.push.Goals as goal
 

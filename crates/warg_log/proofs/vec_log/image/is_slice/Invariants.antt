@@ -1,5 +1,5 @@
 use Rattle.std.proofs.Common.{◌≡◌, ℕ, ◌-◌, ◌*◌, ◌%◌, ◌<◌}
-use Rattle.warg_log.specs.Images.{IsHeld}
+use Rattle.warg_log.specs.Private.Slices.{IsHeld}
 use Rattle.warg_log.proofs.vec_log.image.is_slice.Given as goal
 
 abbrev pub invariant-branches : goal.invariant-branches
