@@ -35,7 +35,7 @@ fn is_other(met: Option<usize>, length: usize) -> bool
 pub(crate) fn length_of_consistencies<D, V>(
     proofs: &[ConsistencyProof<D, V>],
 ) -> Result<Option<usize>, BundleError>
-    ensures value { result ≡ consistency_length None (map (λ p. (p.old_length, p.new_length)) proofs.now) }
+    ensures value { result ≡ consistency_length None proofs.now }
     ensures checked { IfOk result (λ met. AllByRecursion (λ p. (p.old_length ≤ p.new_length) × (met ≡ Some p.new_length)) proofs.now) }
 {
     let mut met = None;
@@ -57,7 +57,7 @@ pub(crate) fn length_of_inclusions<D, V>(
     before: Option<usize>,
     proofs: &[InclusionProof<D, V>],
 ) -> Result<Option<usize>, BundleError>
-    ensures value { result ≡ inclusion_length before (map (λ p. (p.leaf, p.log_length)) proofs.now) }
+    ensures value { result ≡ inclusion_length before proofs.now }
     ensures checked { IfOk result (λ met. AllByRecursion (λ p. ExistsAt p.leaf.0 p.log_length × (met ≡ Some p.log_length)) proofs.now) }
     ensures kept { IfOk result (λ met. (n : ℕ) → before ≡ Some n → met ≡ Some n) }
 {
@@ -140,7 +140,7 @@ pub(crate) fn one_length<D, V>(
     consistencies: &[ConsistencyProof<D, V>],
     inclusions: &[InclusionProof<D, V>],
 ) -> Result<u32, BundleError>
-    ensures value { result ≡ bundle_length (map (λ p. (p.old_length, p.new_length)) consistencies.now) (map (λ p. (p.leaf, p.log_length)) inclusions.now) }
+    ensures value { result ≡ bundle_length consistencies.now inclusions.now }
     ensures fits { IfOk result (λ n. n < 2 ^ 32) }
     ensures consistencies { IfOk result (λ n. AllByRecursion (λ p. (p.old_length ≤ p.new_length) × (p.new_length ≡ n)) consistencies.now) }
     ensures inclusions { IfOk result (λ n. AllByRecursion (λ p. ExistsAt p.leaf.0 p.log_length × (p.log_length ≡ n)) inclusions.now) }
