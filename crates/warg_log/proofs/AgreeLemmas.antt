@@ -1,12 +1,14 @@
 -- What the balanced roots of an old length lead to.
-use Rattle.std.proofs.Common.{◌≡◌, ℕ, ◌+◌, ◌-◌, ◌*◌, ◌^◌, ◌<◌, ◌≤◌, true, false, nat_eq, List, [], ◌∷◌, Option, Some, None, Result, Ok, Err, refl, sym, ap, ◌∙◌, arith}
+use Rattle.std.proofs.Common.{◌≡◌, ℕ, ◌+◌, ◌-◌, ◌*◌, ◌^◌, ◌<◌, ◌≤◌, true, false, nat_eq, List, [], ◌∷◌, Option, Some, None, Result, Ok, Err, if◌then◌else◌, refl, sym, ap, ◌∙◌, arith}
+use Rattle.std.specs.Option.{ok_or}
 use Rattle.std.specs.Cmp.Lexicographic.{pointwise}
 use Rattle.warg_log.specs.declared.consistency.ConsistencyProofError.{ConsistencyProofError}
 use Rattle.warg_log.specs.declared.consistency.ConsistencyProofError.TheVariants as Consistency
 use Rattle.warg_log.specs.declared.proof.InclusionProofError.TheVariants as Inclusion
 use Rattle.warg_log.specs.Nodes.{height_of, place_of, start_of, node_over, balanced_over}
 use Rattle.warg_log.specs.Cut.{cut_over, cut_root}
-use Rattle.warg_log.specs.Consistency.{root_or_fault, root_given, root_to, agreeing, agreed_root, agreed_after, new_root_of}
+use Rattle.warg_protobuf.specs.Reading.{◌>>=◌}
+use Rattle.warg_log.specs.Consistency.{root_to, agreed_root, new_root_of}
 use Rattle.warg_log.proofs.NodeLemmas.{node_at}
 use Rattle.warg_log.proofs.LawLemmas.{number_over}
 use Rattle.warg_log.proofs.OrderLemmas.{balanced_none}
@@ -23,19 +25,30 @@ node_range t a w h c is start width =
     let j : place_of t ≡ c = ap place_of number ∙ at.1 in
     (rw (k, j) (sym start), rw k (sym width))
 
+-- what a node with a digest, or with none, leads to
+abbrev from_held : (List ℕ → List ℕ) → (ℕ → Option (List ℕ)) → ℕ → ℕ → Option (List ℕ) → Result (List ℕ) ConsistencyProofError
+from_held H F n t held = ◌>>=◌ (ok_or held Consistency.HashNotKnown) (λ x. ok_or (cut_root H F t x n) (Consistency.InclusionError Inclusion.HashNotKnown))
+
+abbrev from_cut : Option (List ℕ) → Result (List ℕ) ConsistencyProofError
+from_cut p = ok_or p (Consistency.InclusionError Inclusion.HashNotKnown)
+
+-- what comes after one more balanced root
+abbrev agreeing : (List ℕ → List ℕ) → (ℕ → Option (List ℕ)) → ℕ → List ℕ → List ℕ → Result (List ℕ) ConsistencyProofError → Result (List ℕ) ConsistencyProofError
+agreeing H F n agreed ts q = ◌>>=◌ q (λ r. if pointwise nat_eq r agreed then agreed_root H F n agreed ts else Err Consistency.DivergingRoots)
+
 pub given_found : (H : List ℕ → List ℕ) (F : ℕ → Option (List ℕ)) (n t a w z h c : ℕ) (x r : List ℕ) → t ≡ node_over a w → a ≡ c * 2 ^ h → w ≡ 2 ^ h
     → F t ≡ Some x → z ≡ 0 → Some r ≡ cut_over H F x a w z n → Ok r ≡ root_to H F n (node_over a w)
 given_found H F n t a w z h c x r is start width held zero_start found =
     let at = node_range t a w h c is start width in
     let cut : cut_root H F t x n ≡ Some r = rw (at.0, at.1) (sym (found ∙ ap (λ i. cut_over H F x a w i n) zero_start)) in
-    sym (ap (root_to H F n) (sym is) ∙ ap (root_given H F n t) held ∙ ap root_or_fault cut)
+    sym (ap (root_to H F n) (sym is) ∙ ap (from_held H F n t) held ∙ ap from_cut cut)
 
 pub given_lacking : (H : List ℕ → List ℕ) (F : ℕ → Option (List ℕ)) (n t a w z h c : ℕ) (x : List ℕ) → t ≡ node_over a w → a ≡ c * 2 ^ h → w ≡ 2 ^ h
     → F t ≡ Some x → z ≡ 0 → None ≡ cut_over H F x a w z n → Err (Consistency.InclusionError Inclusion.HashNotKnown) ≡ root_to H F n (node_over a w)
 given_lacking H F n t a w z h c x is start width held zero_start lacking =
     let at = node_range t a w h c is start width in
     let cut : cut_root H F t x n ≡ None = rw (at.0, at.1) (sym (lacking ∙ ap (λ i. cut_over H F x a w i n) zero_start)) in
-    sym (ap (root_to H F n) (sym is) ∙ ap (root_given H F n t) held ∙ ap root_or_fault cut)
+    sym (ap (root_to H F n) (sym is) ∙ ap (from_held H F n t) held ∙ ap from_cut cut)
 
 -- equal lists of bytes
 same_refl : (xs : List ℕ) → pointwise nat_eq xs xs ≡ true
@@ -60,27 +73,27 @@ same_false xs ys other = false_from_ne_true (pointwise nat_eq xs ys) (λ e. othe
 -- the first balanced root
 pub first_fault : (H : List ℕ → List ℕ) (F : ℕ → Option (List ℕ)) (n t : ℕ) (roots ts : List ℕ) (fault : ConsistencyProofError) → roots ≡ t ∷ ts
     → Err fault ≡ root_to H F n t → Err fault ≡ new_root_of H F n roots
-first_fault H F n t roots ts fault is at = sym (ap (new_root_of H F n) is ∙ ap (λ r. agreed_after H F n r ts) (sym at))
+first_fault H F n t roots ts fault is at = sym (ap (new_root_of H F n) is ∙ ap (λ (r : Result (List ℕ) ConsistencyProofError). ◌>>=◌ r (λ s. agreed_root H F n s ts)) (sym at))
 
 pub first_agreed : (H : List ℕ → List ℕ) (F : ℕ → Option (List ℕ)) (n t : ℕ) (roots ts : List ℕ) (r : List ℕ) → roots ≡ t ∷ ts
     → Ok r ≡ root_to H F n t → agreed_root H F n r ts ≡ new_root_of H F n roots
-first_agreed H F n t roots ts r is at = sym (ap (new_root_of H F n) is ∙ ap (λ q. agreed_after H F n q ts) (sym at))
+first_agreed H F n t roots ts r is at = sym (ap (new_root_of H F n) is ∙ ap (λ (q : Result (List ℕ) ConsistencyProofError). ◌>>=◌ q (λ s. agreed_root H F n s ts)) (sym at))
 
 -- a later one
 pub later_fault : (H : List ℕ → List ℕ) (F : ℕ → Option (List ℕ)) (n t : ℕ) (roots ts agreed : List ℕ) (fault : ConsistencyProofError) (all : Result (List ℕ) ConsistencyProofError) → roots ≡ t ∷ ts
     → agreed_root H F n agreed roots ≡ all → Err fault ≡ root_to H F n t → Err fault ≡ all
 later_fault H F n t roots ts agreed fault all is so_far at =
-    sym (ap (agreed_root H F n agreed) is ∙ ap (λ r. agreeing agreed r (agreed_root H F n agreed ts)) (sym at)) ∙ so_far
+    sym (ap (agreed_root H F n agreed) is ∙ ap (agreeing H F n agreed ts) (sym at)) ∙ so_far
 
 pub later_diverges : (H : List ℕ → List ℕ) (F : ℕ → Option (List ℕ)) (n t : ℕ) (roots ts agreed r : List ℕ) (all : Result (List ℕ) ConsistencyProofError) → roots ≡ t ∷ ts
     → agreed_root H F n agreed roots ≡ all → Ok r ≡ root_to H F n t → (r ≡ agreed → ⊥) → Err Consistency.DivergingRoots ≡ all
 later_diverges H F n t roots ts agreed r all is so_far at other =
-    sym (ap (agreed_root H F n agreed) is ∙ ap (λ q. agreeing agreed q (agreed_root H F n agreed ts)) (sym at) ∙ rw (same_false r agreed other) refl) ∙ so_far
+    sym (ap (agreed_root H F n agreed) is ∙ ap (agreeing H F n agreed ts) (sym at) ∙ rw (same_false r agreed other) refl) ∙ so_far
 
 pub later_agreed : (H : List ℕ → List ℕ) (F : ℕ → Option (List ℕ)) (n t : ℕ) (roots ts agreed r : List ℕ) (all : Result (List ℕ) ConsistencyProofError) → roots ≡ t ∷ ts
     → agreed_root H F n agreed roots ≡ all → Ok r ≡ root_to H F n t → r ≡ agreed → agreed_root H F n agreed ts ≡ all
 later_agreed H F n t roots ts agreed r all is so_far at same =
-    sym (ap (agreed_root H F n agreed) is ∙ ap (λ q. agreeing agreed q (agreed_root H F n agreed ts)) (sym at) ∙ rw (same_true r agreed same) refl) ∙ so_far
+    sym (ap (agreed_root H F n agreed) is ∙ ap (agreeing H F n agreed ts) (sym at) ∙ rw (same_true r agreed same) refl) ∙ so_far
 
 pub none_left : (H : List ℕ → List ℕ) (F : ℕ → Option (List ℕ)) (n a e : ℕ) (agreed : List ℕ) (all : Result (List ℕ) ConsistencyProofError) → e ≤ a
     → agreed_root H F n agreed (balanced_over a (e - a)) ≡ all → Ok agreed ≡ all

@@ -1,14 +1,18 @@
 -- What a consistency proof's evaluation says.
-use Rattle.std.proofs.Common.{◌≡◌, ℕ, zero, suc, ◌+◌, ◌-◌, ◌*◌, ◌^◌, ◌<◌, ◌≤◌, true, false, nat_eq, nat_lt, List, [], ◌∷◌, length, take, Option, Some, None, Result, Ok, Err, refl, ap, ◌∙◌, arith, subst, ⊎_elim}
+use Rattle.std.proofs.Common.{◌≡◌, ℕ, zero, suc, ◌+◌, ◌-◌, ◌*◌, ◌^◌, ◌<◌, ◌≤◌, true, false, nat_eq, nat_lt, List, [], ◌∷◌, length, take, Option, Some, None, Result, Ok, Err, if◌then◌else◌, refl, ap, ◌∙◌, arith, subst, ⊎_elim}
+use Rattle.std.specs.Option.{ok_or}
 use Rattle.std.specs.Cmp.Lexicographic.{pointwise}
 use Rattle.std.specs.List.{AllByRecursion}
 use Rattle.std.proofs.Math.Nat.{pow-suc}
 use Rattle.std.proofs.lemmas.Bool.{le-leb, lt-leb, eq-eqb, ne_eqb, ltb-false, le-ltb, cases_Bool, cases_lt, cases_eq}
+use Rattle.warg_log.specs.declared.proof.InclusionProofError.TheVariants as Inclusion
 use Rattle.warg_log.specs.declared.consistency.ConsistencyProofError.{ConsistencyProofError}
+use Rattle.warg_log.specs.declared.consistency.ConsistencyProofError.TheVariants as Consistency
 use Rattle.warg_log.specs.Nodes.{end_of, node_over, balanced_within, balanced_over, balanced_roots}
 use Rattle.warg_log.specs.Tree.{root_of, leaves_below, own_digest}
 use Rattle.warg_log.specs.Cut.{cut_root, old_root}
-use Rattle.warg_log.specs.Consistency.{root_or_fault, root_given, root_to, agreeing, agreed_root, agreed_after, new_root_of, both_roots, consistency, LeadsTo, IsConsistent}
+use Rattle.warg_protobuf.specs.Reading.{◌>>=◌}
+use Rattle.warg_log.specs.Consistency.{root_to, agreed_root, new_root_of, consistency, LeadsTo, IsConsistent}
 use Rattle.warg_log.proofs.NodeLemmas.{node_at}
 use Rattle.warg_log.proofs.RootLemmas.{below_pow}
 use Rattle.warg_log.proofs.CutLemmas.{cut_root-own, old_root-own}
@@ -17,43 +21,44 @@ use Rattle.warg_log.proofs.AgreeLemmas.{same_true, same_equal}
 use Rattle.warg_log.proofs.BalancedLemmas.{balanced_first}
 
 -- an evaluation that is Ok
-fault_ok : (p : Option (List ℕ)) (r : List ℕ) → root_or_fault p ≡ Ok r → p ≡ Some r
-fault_ok (Some s) r e = cc
-fault_ok None r e = absurd (cc)
+held_ok : {A : Type 0} (p : Option A) (fault : ConsistencyProofError) (r : A) → ok_or p fault ≡ Ok r → p ≡ Some r
+held_ok (Some s) fault r e = cc
+held_ok None fault r e = absurd (cc)
 
-given_ok : (H : List ℕ → List ℕ) (F : ℕ → Option (List ℕ)) (n t : ℕ) (p : Option (List ℕ)) (r : List ℕ) → root_given H F n t p ≡ Ok r
-    → (x : List ℕ) × (p ≡ Some x) × (cut_root H F t x n ≡ Some r)
-given_ok H F n t (Some x) r e = (x, refl, fault_ok (cut_root H F t x n) r e)
-given_ok H F n t None r e = absurd (cc)
+gone_on : {A B : Type 0} (q : Result A ConsistencyProofError) (f : A → Result B ConsistencyProofError) (r : B) → ◌>>=◌ q f ≡ Ok r → (x : A) × (q ≡ Ok x) × (f x ≡ Ok r)
+gone_on (Ok x) f r e = (x, refl, e)
+gone_on (Err fault) f r e = absurd (cc)
 
-agreeing_ok : (a r : List ℕ) (q rest : Result (List ℕ) ConsistencyProofError) → agreeing a q rest ≡ Ok r → (q ≡ Ok a) × (rest ≡ Ok r)
-agreeing_ok a r (Ok s) rest e = ⊎_elim
-    (λ (t : pointwise nat_eq s a ≡ true). (ap Ok (same_equal s a t), rw t at e))
-    (λ (t : pointwise nat_eq s a ≡ false). absurd (let f = rw t at e in cc))
-    (cases_Bool (pointwise nat_eq s a))
-agreeing_ok a r (Err fault) rest e = absurd (cc)
+root_ok : (H : List ℕ → List ℕ) (F : ℕ → Option (List ℕ)) (n t : ℕ) (r : List ℕ) → root_to H F n t ≡ Ok r → LeadsTo H F n r t
+root_ok H F n t r e =
+    let at = gone_on (ok_or (F t) Consistency.HashNotKnown) (λ x. ok_or (cut_root H F t x n) (Consistency.InclusionError Inclusion.HashNotKnown)) r e in
+    (at.0, held_ok (F t) Consistency.HashNotKnown at.0 at.1, held_ok (cut_root H F t at.0 n) (Consistency.InclusionError Inclusion.HashNotKnown) r at.2)
+
+agreeing_ok : (agreed s r : List ℕ) (rest : Result (List ℕ) ConsistencyProofError) → (if pointwise nat_eq s agreed then rest else Err Consistency.DivergingRoots) ≡ Ok r → (s ≡ agreed) × (rest ≡ Ok r)
+agreeing_ok agreed s r rest e = ⊎_elim
+    (λ (t : pointwise nat_eq s agreed ≡ true). (same_equal s agreed t, rw t at e))
+    (λ (t : pointwise nat_eq s agreed ≡ false). absurd (let f = rw t at e in cc))
+    (cases_Bool (pointwise nat_eq s agreed))
 
 agreed_ok : (H : List ℕ → List ℕ) (F : ℕ → Option (List ℕ)) (n : ℕ) (a r : List ℕ) (ts : List ℕ) → agreed_root H F n a ts ≡ Ok r
     → (a ≡ r) × AllByRecursion (LeadsTo H F n a) ts
 agreed_ok H F n a r [] e = (cc, tt)
 agreed_ok H F n a r (t ∷ ts) e =
-    let p = agreeing_ok a r (root_to H F n t) (agreed_root H F n a ts) e in
+    let at = gone_on (root_to H F n t) (λ s. if pointwise nat_eq s a then agreed_root H F n a ts else Err Consistency.DivergingRoots) r e in
+    let p = agreeing_ok a at.0 r (agreed_root H F n a ts) at.2 in
     let q = agreed_ok H F n a r ts p.1 in
-    (q.0, (given_ok H F n t (F t) a p.0, q.1))
-
-after_ok : (H : List ℕ → List ℕ) (F : ℕ → Option (List ℕ)) (n t : ℕ) (q : Result (List ℕ) ConsistencyProofError) (r : List ℕ) (ts : List ℕ) → root_to H F n t ≡ q → agreed_after H F n q ts ≡ Ok r
-    → AllByRecursion (LeadsTo H F n r) (t ∷ ts)
-after_ok H F n t (Ok s) r ts is e =
-    let p = agreed_ok H F n s r ts e in
-    let P : List ℕ → Type 0 = λ v. AllByRecursion (LeadsTo H F n v) (t ∷ ts) in
-    subst P p.0 (given_ok H F n t (F t) s is, p.1)
-after_ok H F n t (Err fault) r ts is e = absurd (cc)
+    (q.0, (root_ok H F n t a (at.1 ∙ ap Ok p.0), q.1))
 
 new_ok : (H : List ℕ → List ℕ) (F : ℕ → Option (List ℕ)) (n : ℕ) (r : List ℕ) (ts : List ℕ) → new_root_of H F n ts ≡ Ok r → AllByRecursion (LeadsTo H F n r) ts
 new_ok H F n r [] e = absurd (cc)
-new_ok H F n r (t ∷ ts) e = after_ok H F n t (root_to H F n t) r ts refl e
+new_ok H F n r (t ∷ ts) e =
+    let at = gone_on (root_to H F n t) (λ s. agreed_root H F n s ts) r e in
+    let p = agreed_ok H F n at.0 r ts at.2 in
+    let P : List ℕ → Type 0 = λ v. AllByRecursion (LeadsTo H F n v) (t ∷ ts) in
+    subst P p.0 (root_ok H F n t at.0 at.1, p.1)
 
-both_ok : (p : Option (List ℕ)) (q : Result (List ℕ) ConsistencyProofError) (o r : List ℕ) → both_roots p q ≡ Ok (o, r) → (p ≡ Some o) × (q ≡ Ok r)
+both_ok : (p : Option (List ℕ)) (q : Result (List ℕ) ConsistencyProofError) (o r : List ℕ)
+    → ◌>>=◌ {B = List ℕ × List ℕ} q (λ new. ◌>>=◌ (ok_or p Consistency.HashNotKnown) (λ old. Ok (old, new))) ≡ Ok (o, r) → (p ≡ Some o) × (q ≡ Ok r)
 both_ok (Some s) (Ok t) o r e =
     let f : ◌≡◌ {A = List ℕ × List ℕ} (s, t) (o, r) = cc in
     (ap (λ (p : List ℕ × List ℕ). Some p.0) f, ap (λ (p : List ℕ × List ℕ). Ok p.1) f)
@@ -66,7 +71,7 @@ consistency-only H F m n old new e = ⊎_elim
     (λ (some : m ≡ 0 → ⊥). ⊎_elim
     (λ (t : nat_lt n m ≡ true). absurd (let f = rw (ne_eqb m 0 some, t) at e in cc))
     (λ (t : nat_lt n m ≡ false).
-    let f : both_roots (old_root H F m) (new_root_of H F n (balanced_roots m)) ≡ Ok (old, new) = rw (ne_eqb m 0 some, t) at e in
+    let f : ◌>>=◌ {B = List ℕ × List ℕ} (new_root_of H F n (balanced_roots m)) (λ new'. ◌>>=◌ (ok_or (old_root H F m) Consistency.HashNotKnown) (λ old'. Ok (old', new'))) ≡ Ok (old, new) = rw (ne_eqb m 0 some, t) at e in
     let p = both_ok (old_root H F m) (new_root_of H F n (balanced_roots m)) old new f in
     record { some = omega arith; order = ltb_false n m t; old_root_is = p.0; new_root_is = new_ok H F n new (balanced_roots m) p.1 })
     (cases_Bool (nat_lt n m)))
@@ -77,7 +82,7 @@ consistency-only H F m n old new e = ⊎_elim
 
 -- roots that meet it
 pub leads_to : (H : List ℕ → List ℕ) (F : ℕ → Option (List ℕ)) (n t : ℕ) (r : List ℕ) → LeadsTo H F n r t → root_to H F n t ≡ Ok r
-leads_to H F n t r leads = rw leads.1 (ap root_or_fault leads.2)
+leads_to H F n t r leads = rw (leads.1, leads.2) refl
 
 agreed_all : (H : List ℕ → List ℕ) (F : ℕ → Option (List ℕ)) (n : ℕ) (r : List ℕ) (ts : List ℕ) → AllByRecursion (LeadsTo H F n r) ts → agreed_root H F n r ts ≡ Ok r
 agreed_all H F n r [] all = refl
@@ -106,7 +111,7 @@ pub consistency-then : (H : List ℕ → List ℕ) (F : ℕ → Option (List ℕ
 consistency-then H F m n old new is =
     let first = has_first m is.some in
     let some : m ≡ 0 → ⊥ = λ e. let s = is.some in omega (arith, s) in
-    rw (ne_eqb m 0 some, ltb_no n m is.order, is.old_root_is, new_all H F n m first.0 new first.1 (balanced_roots m) first.2 is.new_root_is) refl
+    rw (ne_eqb m 0 some, ltb_no n m is.order, new_all H F n m first.0 new first.1 (balanced_roots m) first.2 is.new_root_is, is.old_root_is) refl
   where
     ltb_no : (n m : ℕ) → m ≤ n → nat_lt n m ≡ false
     ltb_no n m le = le-ltb n m le

@@ -1,5 +1,5 @@
 -- The one length of proofs, and the nodes that they need.
-use Rattle.std.proofs.Common.{◌≡◌, ℕ, zero, suc, ◌+◌, ◌<◌, ◌≤◌, ◌==◌, ◌||◌, Bool, true, false, not, nat_eq, List, [], ◌∷◌, ◌++◌, length, map, take, drop, get_or, add-one, Option, Some, None, Result, Ok, Err, refl, sym, ap, ◌∙◌, arith, ⊎_elim, ◌⊎◌, inl, inr, subst}
+use Rattle.std.proofs.Common.{◌≡◌, ℕ, zero, suc, ◌+◌, ◌<◌, ◌≤◌, ◌==◌, ◌||◌, Bool, true, false, not, nat_eq, List, [], ◌∷◌, ◌++◌, length, map, take, drop, get_or, add-one, Option, Some, None, Result, Ok, refl, sym, ap, ◌∙◌, arith, ⊎_elim, ◌⊎◌, inl, inr}
 use Rattle.std.specs.List.{AllByRecursion, IsDistinct, flat_map, list_any}
 use Rattle.std.specs.List.Sorted.{IsSorted}
 use Rattle.std.specs.Ordering.{nat_cmp, is_lt}
@@ -18,7 +18,8 @@ use Rattle.warg_log.specs.declared.error.BundleError.{BundleError}
 use Rattle.warg_log.specs.declared.error.BundleError.TheVariants.{Memory, HashNotFound}
 use Rattle.warg_log.specs.Nodes.{ExistsAt, end_of, balanced_roots}
 use Rattle.warg_log.specs.Walks.{needed}
-use Rattle.warg_log.specs.Bundling.{needed_between, needed_by, differs, consistency_length, inclusion_length, bundle_length, LacksNeeded, Adds}
+use Rattle.warg_log.specs.Claims.{InclusionClaim, ConsistencyClaim}
+use Rattle.warg_log.specs.Bundling.{needed_between, needed_by, differs, consistency_length, inclusion_length, bundle_length, LacksNeeded, IsBundleFault, IsUnion}
 use Rattle.warg_log.proofs.BalancedLemmas.{all_push}
 use Rattle.warg_log.proofs.StackLemmas.{roots_exist}
 
@@ -48,15 +49,15 @@ pub checked_next : {X : Type 0} (P : X → Type 0) (f : X → ℕ) (xs : List X)
     → AllByRecursion (λ p. P p × (met ≡ Some (f p))) (take i xs) → AllByRecursion (λ p. P p × (Some n ≡ Some (f p))) (take (i + 1) xs)
 checked_next P f xs i x met n lt is d holds length_is all = rw (taken_next xs i x lt is) (all_push (λ p. P p × (Some n ≡ Some (f p))) (take i xs) x (all_moved P f met n (take i xs) d all) (holds, ap Some length_is))
 
-pub consistency_next : {X : Type 0} (f : X → ℕ × ℕ) (xs : List X) (i : ℕ) (x : X) (met : Option ℕ) (n : ℕ) (all : Result (Option ℕ) BundleError) → i < length xs → x ≡ get_or xs i x → n ≡ (f x).1 → (f x).0 ≤ (f x).1 → differs met n ≡ false
-    → all ≡ consistency_length met (map f (drop i xs)) → all ≡ consistency_length (Some n) (map f (drop (i + 1) xs))
-consistency_next f xs i x met n all lt is length_is le d before =
-    before ∙ ap (λ l. consistency_length met (map f l)) (dropped_next xs i x lt is) ∙ rw (le-ltb (f x).1 (f x).0 le, ← length_is, d) refl
+pub consistency_next : (xs : List ConsistencyClaim) (i : ℕ) (x : ConsistencyClaim) (met : Option ℕ) (n : ℕ) (all : Result (Option ℕ) BundleError) → i < length xs → x ≡ get_or xs i x → n ≡ x.new_length → x.old_length ≤ x.new_length → differs met n ≡ false
+    → all ≡ consistency_length met (drop i xs) → all ≡ consistency_length (Some n) (drop (i + 1) xs)
+consistency_next xs i x met n all lt is length_is le d before =
+    before ∙ ap (consistency_length met) (dropped_next xs i x lt is) ∙ rw (le-ltb x.new_length x.old_length le, ← length_is, d) refl
 
-pub inclusion_next : {X : Type 0} (f : X → Node × ℕ) (xs : List X) (i : ℕ) (x : X) (met : Option ℕ) (n : ℕ) (all : Result (Option ℕ) BundleError) → i < length xs → x ≡ get_or xs i x → n ≡ (f x).1 → ExistsAt (f x).0.0 (f x).1 → differs met n ≡ false
-    → all ≡ inclusion_length met (map f (drop i xs)) → all ≡ inclusion_length (Some n) (map f (drop (i + 1) xs))
-inclusion_next f xs i x met n all lt is length_is exists d before =
-    before ∙ ap (λ l. inclusion_length met (map f l)) (dropped_next xs i x lt is) ∙ rw (le-leb (end_of (f x).0.0) (f x).1 exists, ← length_is, d) refl
+pub inclusion_next : (xs : List InclusionClaim) (i : ℕ) (x : InclusionClaim) (met : Option ℕ) (n : ℕ) (all : Result (Option ℕ) BundleError) → i < length xs → x ≡ get_or xs i x → n ≡ x.log_length → ExistsAt x.leaf.0 x.log_length → differs met n ≡ false
+    → all ≡ inclusion_length met (drop i xs) → all ≡ inclusion_length (Some n) (drop (i + 1) xs)
+inclusion_next xs i x met n all lt is length_is exists d before =
+    before ∙ ap (inclusion_length met) (dropped_next xs i x lt is) ∙ rw (le-leb (end_of x.leaf.0) x.log_length exists, ← length_is, d) refl
 
 pub kept_next : (before met : Option ℕ) (n : ℕ) → differs met n ≡ false → ((m : ℕ) → before ≡ Some m → met ≡ Some m) → (m : ℕ) → before ≡ Some m → Some n ≡ Some m
 kept_next before met n d kept m e = moved met n m d (kept m e)
@@ -77,18 +78,18 @@ take_all [] (suc i) le = refl
 take_all (x ∷ xs) zero le = absurd (omega arith)
 take_all (x ∷ xs) (suc i) le = ap (λ l. x ∷ l) (take_all xs i (omega arith))
 
-pub adds_is : (a b xs ys : List ℕ) → Adds a b xs → xs ≡ ys → Adds a b ys
+pub adds_is : (a b xs ys : List ℕ) → IsUnion a b xs → xs ≡ ys → IsUnion a b ys
 adds_is a b xs ys p e x = p x ∙ ap (λ l. list_any (nat_eq x) a || list_any (nat_eq x) l) e
 
-pub adds_none : (a : List ℕ) → Adds a a []
+pub adds_none : (a : List ℕ) → IsUnion a a []
 adds_none a x = sym (or_false (list_any (nat_eq x) a))
 
-pub adds_both : (a b c xs ys : List ℕ) → Adds a b xs → Adds b c ys → Adds a c (xs ++ ys)
+pub adds_both : (a b c xs ys : List ℕ) → IsUnion a b xs → IsUnion b c ys → IsUnion a c (xs ++ ys)
 adds_both a b c xs ys p q x =
     q x ∙ ap (λ v. v || list_any (nat_eq x) ys) (p x) ∙ or_assoc (list_any (nat_eq x) a) (list_any (nat_eq x) xs) (list_any (nat_eq x) ys)
     ∙ ap (λ v. list_any (nat_eq x) a || v) (sym (list_any-append (nat_eq x) xs ys))
 
-pub adds_one : (a b : List ℕ) (v : ℕ) → b ≡ insert_key nat_eq a v → Adds a b (v ∷ [])
+pub adds_one : (a b : List ℕ) (v : ℕ) → b ≡ insert_key nat_eq a v → IsUnion a b (v ∷ [])
 adds_one a b v e x = ap (list_any (nat_eq x)) e ∙ ⊎_elim
     (λ (t : list_any (nat_eq v) a ≡ true). rw t (⊎_elim
     (λ (same : x ≡ v). let here : list_any (nat_eq x) a ≡ true = rw same t in rw here refl)
@@ -102,7 +103,7 @@ flat_map-append f [] ys = refl
 flat_map-append f (x ∷ xs) ys = ap (λ l. f x ++ l) (flat_map-append f xs ys) ∙ sym (append_assoc (f x) (flat_map f xs) (flat_map f ys))
 
 pub adds_next : {X : Type 0} (f : X → List ℕ) (xs : List X) (i : ℕ) (x : X) (a b c : List ℕ) → i < length xs → x ≡ get_or xs i x
-    → Adds a b (flat_map f (take i xs)) → Adds b c (f x) → Adds a c (flat_map f (take (i + 1) xs))
+    → IsUnion a b (flat_map f (take i xs)) → IsUnion b c (f x) → IsUnion a c (flat_map f (take (i + 1) xs))
 adds_next f xs i x a b c lt is p q =
     let last : flat_map f (take (i + 1) xs) ≡ flat_map f (take i xs) ++ f x = ap (flat_map f) (taken_next xs i x lt is) ∙ flat_map-append f (take i xs) (x ∷ []) ∙ ap (λ l. flat_map f (take i xs) ++ l) (append-nil (f x)) in
     rw last (adds_both a b c (flat_map f (take i xs)) (f x) p q)
@@ -206,22 +207,27 @@ any_at (x ∷ xs) (suc i) d lt = ⊎_elim
     (cases_Bool (nat_eq (get_or xs i d) x))
 
 pub needed_exactly_by : {X Y : Type 0} (P : X → Type 0) (Q : Y → Type 0) (old new : X → ℕ) (leaf : Y → Node) (len : Y → ℕ) (n : ℕ) (xs : List X) (ys : List Y) (keys : List ℕ)
-    → Adds [] keys (flat_map (λ p. needed_between (old p) (new p)) xs ++ flat_map (λ p. needed (leaf p).0 (len p)) ys)
+    → IsUnion [] keys (flat_map (λ p. needed_between (old p) (new p)) xs ++ flat_map (λ p. needed (leaf p).0 (len p)) ys)
     → AllByRecursion (λ p. P p × (new p ≡ n)) xs → AllByRecursion (λ p. Q p × (len p ≡ n)) ys
     → (x : ℕ) → list_any (nat_eq x) keys ≡ list_any (nat_eq x) (needed_by (map old xs) (map leaf ys) n)
 needed_exactly_by P Q old new leaf len n xs ys keys adds all_x all_y x =
     adds x ∙ ap (list_any (nat_eq x)) (rw (between_all P old new n xs all_x, needed_of_all Q leaf len n ys all_y) refl)
 
-pub lacking : (F : ℕ → Option (List ℕ)) (fault : BundleError) (old_lengths : List ℕ) (nodes : List Node) (cs : List (ℕ × ℕ)) (is : List (Node × ℕ)) (n : ℕ) (numbers : List ℕ)
-    → bundle_length cs is ≡ Ok n
-    → ((x : ℕ) → list_any (nat_eq x) numbers ≡ list_any (nat_eq x) (needed_by old_lengths nodes n))
+pub lacking : (F : ℕ → Option (List ℕ)) (fault : BundleError) (cs : List ConsistencyClaim) (ps : List InclusionClaim) (n : ℕ) (numbers : List ℕ)
+    → bundle_length cs ps ≡ Ok n
+    → ((x : ℕ) → list_any (nat_eq x) numbers ≡ list_any (nat_eq x) (needed_by (map (λ (p : ConsistencyClaim). p.old_length) cs) (map (λ (p : InclusionClaim). p.leaf) ps) n))
     → (fault ≡ Memory) ⊎ ((fault ≡ HashNotFound) × ((i : ℕ) × (i < length numbers) × ((d : ℕ) → F (get_or numbers i d) ≡ None)))
-    → (fault ≡ Memory) ⊎ ((bundle_length cs is ≡ Err fault) ⊎ ((fault ≡ HashNotFound) × LacksNeeded F old_lengths nodes (bundle_length cs is)))
-lacking F fault old_lengths nodes cs is n numbers length_is exactly why = ⊎_elim
+    → IsBundleFault F cs ps fault
+lacking F fault cs ps n numbers length_is exactly why = ⊎_elim
     (λ (m : fault ≡ Memory). inl m)
     (λ (h : (fault ≡ HashNotFound) × ((i : ℕ) × (i < length numbers) × ((d : ℕ) → F (get_or numbers i d) ≡ None))).
     let at = h.1 in
-    let lacks : LacksNeeded F old_lengths nodes (Ok n) = (get_or numbers at.0 0, sym (exactly (get_or numbers at.0 0)) ∙ any_at numbers at.0 0 at.1, at.2 0) in
-    let P : Result ℕ BundleError → Type 0 = LacksNeeded F old_lengths nodes in
-    inr (inr (h.0, subst P (sym length_is) lacks)))
+    let lacks : LacksNeeded F cs ps = record {
+      log_length = n;
+      node = get_or numbers at.0 0;
+      length_is = length_is;
+      is_needed = sym (exactly (get_or numbers at.0 0)) ∙ any_at numbers at.0 0 at.1;
+      is_lacking = at.2 0;
+    } in
+    inr (inr (h.0, lacks)))
     why

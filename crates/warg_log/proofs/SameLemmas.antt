@@ -1,16 +1,20 @@
 -- Evaluations over data that agree where they are read.
 use Rattle.std.proofs.Common.{◌≡◌, ℕ, zero, suc, ◌+◌, ◌-◌, ◌^◌, ◌<◌, ◌≤◌, ◌==◌, ◌&&◌, ◌||◌, Bool, nat_eq, nat_le, true, false, List, [], ◌∷◌, ◌++◌, map, Option, Some, None, Result, Ok, Err, refl, sym, ap, ◌∙◌, arith, ⊎_elim}
+use Rattle.std.specs.Option.{ok_or}
 use Rattle.std.specs.List.{AllByRecursion, flat_map, list_any}
 use Rattle.std.proofs.lemmas.List.Folds.{list_any-append}
 use Rattle.std.proofs.lemmas.Bool.{eqb-true, eq-eqb, le-leb, lt-leb, cases_Bool, cases_eq, cases_lt, ne_eqb}
 use Rattle.std.proofs.lemmas.Nat.{pow_pos}
 use Rattle.warg_log.specs.declared.node.Node.{Node}
+use Rattle.warg_log.specs.declared.proof.InclusionProofError.TheVariants as Inclusion
 use Rattle.warg_log.specs.declared.consistency.ConsistencyProofError.{ConsistencyProofError}
+use Rattle.warg_log.specs.declared.consistency.ConsistencyProofError.TheVariants as Consistency
 use Rattle.warg_log.specs.Nodes.{node_over, balanced_over, balanced_roots}
 use Rattle.warg_log.specs.Sparse.{Pairs, held_digest}
 use Rattle.warg_log.specs.Cut.{joined, is_target, is_beside, cut_within, cut_root, old_within, old_root}
 use Rattle.warg_log.specs.Walks.{needed_within, needed}
-use Rattle.warg_log.specs.Consistency.{root_or_fault, root_given, root_to, agreed_root, agreed_after, new_root_of, consistency}
+use Rattle.warg_protobuf.specs.Reading.{◌>>=◌}
+use Rattle.warg_log.specs.Consistency.{root_to, agreed_root, new_root_of, consistency}
 use Rattle.warg_log.specs.Bundling.{needed_by, needed_between}
 use Rattle.warg_log.proofs.RootLemmas.{below_pow}
 use Rattle.warg_log.proofs.BalancedLemmas.{balanced_first}
@@ -120,12 +124,16 @@ same_old H F G (suc h) a n some fits all = ⊎_elim
     (λ (low : n ≤ 2 ^ h). rw (le-leb n (2 ^ h) low) (same_old H F G h a n some low all))
     (cases_lt (2 ^ h) n)
 
-same_given : (H : List ℕ → List ℕ) (F G : ℕ → Option (List ℕ)) (n t : ℕ) (held : Option (List ℕ)) → AllByRecursion (λ y. F y ≡ G y) (needed t n) → root_given H F n t held ≡ root_given H G n t held
-same_given H F G n t None all = refl
-same_given H F G n t (Some x) all = ap root_or_fault (same_within H F G x _ _ n 0 n all)
+-- what a node with a digest, or with none, leads to
+abbrev from_held : (List ℕ → List ℕ) → (ℕ → Option (List ℕ)) → ℕ → ℕ → Option (List ℕ) → Result (List ℕ) ConsistencyProofError
+from_held H F n t held = ◌>>=◌ (ok_or held Consistency.HashNotKnown) (λ x. ok_or (cut_root H F t x n) (Consistency.InclusionError Inclusion.HashNotKnown))
+
+same_held : (H : List ℕ → List ℕ) (F G : ℕ → Option (List ℕ)) (n t : ℕ) (held : Option (List ℕ)) → AllByRecursion (λ y. F y ≡ G y) (needed t n) → from_held H F n t held ≡ from_held H G n t held
+same_held H F G n t None all = refl
+same_held H F G n t (Some x) all = ap (λ (p : Option (List ℕ)). ok_or p (Consistency.InclusionError Inclusion.HashNotKnown)) (same_within H F G x _ _ n 0 n all)
 
 same_to : (H : List ℕ → List ℕ) (F G : ℕ → Option (List ℕ)) (n t : ℕ) → AllByRecursion (λ y. F y ≡ G y) (t ∷ needed t n) → root_to H F n t ≡ root_to H G n t
-same_to H F G n t all = ap (root_given H F n t) all.0 ∙ same_given H F G n t (G t) all.1
+same_to H F G n t all = ap (from_held H F n t) all.0 ∙ same_held H F G n t (G t) all.1
 
 same_agreed : (H : List ℕ → List ℕ) (F G : ℕ → Option (List ℕ)) (n : ℕ) (agreed : List ℕ) (ts : List ℕ) → AllByRecursion (λ y. F y ≡ G y) (flat_map (λ t. t ∷ needed t n) ts) → agreed_root H F n agreed ts ≡ agreed_root H G n agreed ts
 same_agreed H F G n agreed [] all = refl
@@ -133,7 +141,8 @@ same_agreed H F G n agreed (t ∷ ts) all =
     let parts = all_parts (λ y. F y ≡ G y) (t ∷ needed t n) (flat_map (λ u. u ∷ needed u n) ts) all in
     rw (same_to H F G n t parts.0, same_agreed H F G n agreed ts parts.1) refl
 
-same_after : (H : List ℕ → List ℕ) (F G : ℕ → Option (List ℕ)) (n : ℕ) (first : Result (List ℕ) ConsistencyProofError) (ts : List ℕ) → AllByRecursion (λ y. F y ≡ G y) (flat_map (λ t. t ∷ needed t n) ts) → agreed_after H F n first ts ≡ agreed_after H G n first ts
+same_after : (H : List ℕ → List ℕ) (F G : ℕ → Option (List ℕ)) (n : ℕ) (first : Result (List ℕ) ConsistencyProofError) (ts : List ℕ) → AllByRecursion (λ y. F y ≡ G y) (flat_map (λ t. t ∷ needed t n) ts)
+    → ◌>>=◌ first (λ r. agreed_root H F n r ts) ≡ ◌>>=◌ first (λ r. agreed_root H G n r ts)
 same_after H F G n (Ok r) ts all = same_agreed H F G n r ts all
 same_after H F G n (Err fault) ts all = refl
 
@@ -141,7 +150,7 @@ same_new : (H : List ℕ → List ℕ) (F G : ℕ → Option (List ℕ)) (n : �
 same_new H F G n [] all = refl
 same_new H F G n (t ∷ ts) all =
     let parts = all_parts (λ y. F y ≡ G y) (t ∷ needed t n) (flat_map (λ u. u ∷ needed u n) ts) all in
-    ap (λ first. agreed_after H F n first ts) (same_to H F G n t parts.0) ∙ same_after H F G n (root_to H G n t) ts parts.1
+    ap (λ (first : Result (List ℕ) ConsistencyProofError). ◌>>=◌ first (λ r. agreed_root H F n r ts)) (same_to H F G n t parts.0) ∙ same_after H F G n (root_to H G n t) ts parts.1
 
 all_roots : (P : ℕ → Type 0) (n : ℕ) (ts : List ℕ) → AllByRecursion P (flat_map (λ t. t ∷ needed t n) ts) → AllByRecursion P ts
 all_roots P n [] all = tt
@@ -152,7 +161,7 @@ same_consistency H F G m n all = ⊎_elim
     (λ (none : m ≡ 0). rw (eq-eqb m 0 none) refl)
     (λ (some : m ≡ 0 → ⊥).
     let old : old_root H F m ≡ old_root H G m = same_old H F G m 0 m (omega arith) (let le : m < 2 ^ m = below_pow m in omega arith) (all_roots (λ y. F y ≡ G y) n (balanced_roots m) all) in
-    rw (old, same_new H F G n (balanced_roots m) all) refl)
+    rw (same_new H F G n (balanced_roots m) all, old) refl)
     (cases_eq m 0)
 
 consistencies_same : (H : List ℕ → List ℕ) (F : ℕ → Option (List ℕ)) (ps : Pairs) (n : ℕ) (lengths : List ℕ) → AllByRecursion (λ (p : Node × List ℕ). F p.0.0 ≡ Some p.1) ps

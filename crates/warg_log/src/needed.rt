@@ -6,7 +6,7 @@ ghost use Rattle.std.specs.List.Sorted.{IsSorted};
 ghost use Rattle.std.specs.Ordering.{nat_cmp};
 ghost use Rattle.warg_log.specs.Nodes.{ExistsAt};
 ghost use Rattle.warg_log.specs.Walks.{needed};
-ghost use Rattle.warg_log.specs.Bundling.{needed_between, consistency_length, inclusion_length, fitting_length, bundle_length, differs, Adds};
+ghost use Rattle.warg_log.specs.Bundling.{needed_between, consistency_length, inclusion_length, fitting_length, bundle_length, differs, IsUnion};
 
 use crate::consistency::{ConsistencyProof, ConsistencyProofError};
 use crate::error::BundleError;
@@ -35,7 +35,7 @@ fn is_other(met: Option<usize>, length: usize) -> bool
 pub(crate) fn length_of_consistencies<D, V>(
     proofs: &[ConsistencyProof<D, V>],
 ) -> Result<Option<usize>, BundleError>
-    ensures value { result ≡ consistency_length None (map (λ p. (p.old_length, p.new_length)) proofs.now) }
+    ensures value { result ≡ consistency_length None proofs.now }
     ensures checked { IfOk result (λ met. AllByRecursion (λ p. (p.old_length ≤ p.new_length) × (met ≡ Some p.new_length)) proofs.now) }
 {
     let mut met = None;
@@ -57,7 +57,7 @@ pub(crate) fn length_of_inclusions<D, V>(
     before: Option<usize>,
     proofs: &[InclusionProof<D, V>],
 ) -> Result<Option<usize>, BundleError>
-    ensures value { result ≡ inclusion_length before (map (λ p. (p.leaf, p.log_length)) proofs.now) }
+    ensures value { result ≡ inclusion_length before proofs.now }
     ensures checked { IfOk result (λ met. AllByRecursion (λ p. ExistsAt p.leaf.0 p.log_length × (met ≡ Some p.log_length)) proofs.now) }
     ensures kept { IfOk result (λ met. (n : ℕ) → before ≡ Some n → met ≡ Some n) }
 {
@@ -82,7 +82,7 @@ pub(crate) fn add_inclusion<D: SupportedDigest, V: VisitBytes, A: Allocator + Co
     proof: &InclusionProof<D, V>,
 ) -> Result<(), AllocError>
     requires { ExistsAt proof.now.leaf.0 proof.now.log_length }
-    ensures { OnOk result (Adds numbers.old.keys numbers.new.keys (needed proof.now.leaf.0 proof.now.log_length)) }
+    ensures { OnOk result (IsUnion numbers.old.keys numbers.new.keys (needed proof.now.leaf.0 proof.now.log_length)) }
 {
     let walk = match proof.walk(alloc) {
         Ok(walk) => walk,
@@ -101,7 +101,7 @@ pub(crate) fn add_consistency<D: SupportedDigest, V: VisitBytes, A: Allocator + 
     proof: &ConsistencyProof<D, V>,
 ) -> Result<(), AllocError>
     requires { proof.now.old_length ≤ proof.now.new_length }
-    ensures { OnOk result (Adds numbers.old.keys numbers.new.keys (needed_between proof.now.old_length proof.now.new_length)) }
+    ensures { OnOk result (IsUnion numbers.old.keys numbers.new.keys (needed_between proof.now.old_length proof.now.new_length)) }
 {
     let inclusions = match proof.inclusions(alloc) {
         Ok(inclusions) => inclusions,
@@ -140,7 +140,7 @@ pub(crate) fn one_length<D, V>(
     consistencies: &[ConsistencyProof<D, V>],
     inclusions: &[InclusionProof<D, V>],
 ) -> Result<u32, BundleError>
-    ensures value { result ≡ bundle_length (map (λ p. (p.old_length, p.new_length)) consistencies.now) (map (λ p. (p.leaf, p.log_length)) inclusions.now) }
+    ensures value { result ≡ bundle_length consistencies.now inclusions.now }
     ensures fits { IfOk result (λ n. n < 2 ^ 32) }
     ensures consistencies { IfOk result (λ n. AllByRecursion (λ p. (p.old_length ≤ p.new_length) × (p.new_length ≡ n)) consistencies.now) }
     ensures inclusions { IfOk result (λ n. AllByRecursion (λ p. ExistsAt p.leaf.0 p.log_length × (p.log_length ≡ n)) inclusions.now) }
@@ -162,7 +162,7 @@ pub(crate) fn needed_nodes<D: SupportedDigest, V: VisitBytes, A: Allocator + Cop
 ) -> Result<Numbers<A>, AllocError>
     requires consistencies { AllByRecursion (λ p. p.old_length ≤ p.new_length) consistencies.now }
     requires inclusions { AllByRecursion (λ p. ExistsAt p.leaf.0 p.log_length) inclusions.now }
-    ensures needed { IfOk result (λ numbers. Adds [] numbers.keys (flat_map (λ p. needed_between p.old_length p.new_length) consistencies.now ++ flat_map (λ p. needed p.leaf.0 p.log_length) inclusions.now)) }
+    ensures needed { IfOk result (λ numbers. IsUnion [] numbers.keys (flat_map (λ p. needed_between p.old_length p.new_length) consistencies.now ++ flat_map (λ p. needed p.leaf.0 p.log_length) inclusions.now)) }
     ensures sorted { IfOk result (λ numbers. IsSorted nat_cmp numbers.keys) }
     ensures once { IfOk result (λ numbers. IsDistinct nat_eq numbers.keys) }
 {
@@ -179,7 +179,7 @@ fn add_consistencies<D: SupportedDigest, V: VisitBytes, A: Allocator + Copy>(
     proofs: &[ConsistencyProof<D, V>],
 ) -> Result<(), AllocError>
     requires { AllByRecursion (λ p. p.old_length ≤ p.new_length) proofs.now }
-    ensures { OnOk result (Adds numbers.old.keys numbers.new.keys (flat_map (λ p. needed_between p.old_length p.new_length) proofs.now)) }
+    ensures { OnOk result (IsUnion numbers.old.keys numbers.new.keys (flat_map (λ p. needed_between p.old_length p.new_length) proofs.now)) }
 {
     'proofs: for proof in proofs {
         add_consistency(numbers, alloc, proof)?;
@@ -193,7 +193,7 @@ fn add_inclusions<D: SupportedDigest, V: VisitBytes, A: Allocator + Copy>(
     proofs: &[InclusionProof<D, V>],
 ) -> Result<(), AllocError>
     requires { AllByRecursion (λ p. ExistsAt p.leaf.0 p.log_length) proofs.now }
-    ensures { OnOk result (Adds numbers.old.keys numbers.new.keys (flat_map (λ p. needed p.leaf.0 p.log_length) proofs.now)) }
+    ensures { OnOk result (IsUnion numbers.old.keys numbers.new.keys (flat_map (λ p. needed p.leaf.0 p.log_length) proofs.now)) }
 {
     'proofs: for proof in proofs {
         add_inclusion(numbers, alloc, proof)?;

@@ -1,15 +1,13 @@
 //! Proofs of a log together with the digests that they need.
 
-ghost use Rattle.std.specs.Prelude.{◌≡◌, ◌≢◌, ℕ, ◌^◌, ◌<◌, ◌≤◌, ◌↔◌, ◌⊎◌, List, None, Some, Ok, Err, IfOk, IfErr, OnSome, IfSome, IsTrue, IsNone, length, map, slice_get, nat_eq, OnOk};
-ghost use Rattle.std.specs.List.{AllByRecursion, list_any};
+ghost use Rattle.std.specs.Prelude.{◌≡◌, ◌≢◌, ℕ, ◌^◌, ◌<◌, ◌≤◌, ◌↔◌, ◌⊎◌, List, None, Some, Ok, Err, IfOk, IfErr, OnSome, IfSome, IsTrue, IsNone, length, map, slice_get, OnOk};
+ghost use Rattle.std.specs.List.{AllByRecursion};
 ghost use Rattle.warg_protobuf.specs.declared.error.WireError.TheVariants as wire;
 ghost use Rattle.warg_protobuf.specs.Reading.{Answers};
 ghost use Rattle.warg_protobuf.specs.HashEntry.{entry_view};
 ghost use Rattle.warg_protobuf.specs.LogProofBundle.{log_view, log_bytes};
-ghost use Rattle.warg_log.specs.Sparse.{IsAscending, held_digest};
-ghost use Rattle.warg_log.specs.Cut.{cut_root};
-ghost use Rattle.warg_log.specs.Consistency.{consistency};
-ghost use Rattle.warg_log.specs.Bundling.{bundle_length, needed_by, LacksNeeded};
+ghost use Rattle.warg_log.specs.Sparse.{IsAscending};
+ghost use Rattle.warg_log.specs.Bundling.{bundle_length, IsBundleFault, HoldsNeeded, IncludesAs, IsConsistentAs};
 ghost use Rattle.warg_log.specs.Bundles.{bundle_message, log_bundle_in, bundle_of, NodesFit, entry_of, pair_of, entries_fault, same_bundle};
 
 use crate::consistency::ConsistencyProof;
@@ -157,16 +155,16 @@ impl<D: SupportedDigest, V: VisitBytes, A: Allocator + Copy> ProofBundle<D, V, A
         inclusion_proofs: Vec<InclusionProof<D, V>, A>,
         hashes: &L,
     ) -> Result<Self, BundleError>
-        ensures refused { (e : _) → bundle_length (map (λ p. (p.old_length, p.new_length)) consistency_proofs.items) (map (λ p. (p.leaf, p.log_length)) inclusion_proofs.items) ≡ Err e → result ≡ Err e }
-        ensures length { IfOk result (λ bundle. bundle_length (map (λ p. (p.old_length, p.new_length)) consistency_proofs.items) (map (λ p. (p.leaf, p.log_length)) inclusion_proofs.items) ≡ Ok bundle.log_length) }
+        ensures refused { (e : _) → bundle_length consistency_proofs.items inclusion_proofs.items ≡ Err e → result ≡ Err e }
+        ensures length { IfOk result (λ bundle. bundle_length consistency_proofs.items inclusion_proofs.items ≡ Ok bundle.log_length) }
         ensures old_lengths { IfOk result (λ bundle. bundle.consistent_lengths ≡ map (λ p. p.old_length) consistency_proofs.items) }
         ensures nodes { IfOk result (λ bundle. bundle.included_nodes ≡ map (λ p. p.leaf) inclusion_proofs.items) }
         ensures ascending { IfOk result (λ bundle. IsAscending bundle.hashes) }
-        ensures exactly { IfOk result (λ bundle. (x : ℕ) → list_any (nat_eq x) (map (λ p. p.0.0) bundle.hashes) ≡ list_any (nat_eq x) (needed_by bundle.consistent_lengths bundle.included_nodes bundle.log_length)) }
+        ensures exactly { IfOk result HoldsNeeded }
         ensures source { IfOk result (λ bundle. AllByRecursion (λ p. L.digest_at hashes.now p.0.0 ≡ Some p.1) bundle.hashes) }
-        ensures inclusions_as_source { IfOk result (λ bundle. (x : List ℕ) → AllByRecursion (λ node. cut_root D.digest (held_digest bundle.hashes) node.0 x bundle.log_length ≡ cut_root D.digest (L.digest_at hashes.now) node.0 x bundle.log_length) bundle.included_nodes) }
-        ensures consistencies_as_source { IfOk result (λ bundle. AllByRecursion (λ m. consistency D.digest (held_digest bundle.hashes) m bundle.log_length ≡ consistency D.digest (L.digest_at hashes.now) m bundle.log_length) bundle.consistent_lengths) }
-        ensures fault { IfErr result (λ e. (e ≡ BundleError.Memory) ⊎ (bundle_length (map (λ p. (p.old_length, p.new_length)) consistency_proofs.items) (map (λ p. (p.leaf, p.log_length)) inclusion_proofs.items) ≡ Err e) ⊎ ((e ≡ BundleError.HashNotFound) × LacksNeeded (L.digest_at hashes.now) (map (λ p. p.old_length) consistency_proofs.items) (map (λ p. p.leaf) inclusion_proofs.items) (bundle_length (map (λ p. (p.old_length, p.new_length)) consistency_proofs.items) (map (λ p. (p.leaf, p.log_length)) inclusion_proofs.items)))) }
+        ensures inclusions_as_source { IfOk result (IncludesAs D.digest (L.digest_at hashes.now)) }
+        ensures consistencies_as_source { IfOk result (IsConsistentAs D.digest (L.digest_at hashes.now)) }
+        ensures fault { IfErr result (IsBundleFault (L.digest_at hashes.now) consistency_proofs.items inclusion_proofs.items) }
     {
         let log_length = one_length(&consistency_proofs, &inclusion_proofs)?;
         let nodes = needed_nodes(alloc, &consistency_proofs, &inclusion_proofs)?;

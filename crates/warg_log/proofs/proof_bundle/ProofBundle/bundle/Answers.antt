@@ -1,4 +1,4 @@
-use Rattle.std.proofs.Common.{◌∙◌, ◌≤◌, ◌^◌, map, sym}
+use Rattle.std.proofs.Common.{◌∙◌, ◌≤◌, ◌^◌, sym}
 use Rattle.warg_log.specs.Nodes.{ExistsAt}
 use Rattle.warg_log.proofs.NeededLemmas.{ascending_pairs, old_fit, needed_exactly_by, lacking}
 use Rattle.warg_log.proofs.SameLemmas.{included_same, consistent_same}
@@ -22,7 +22,7 @@ returns-clause-exactly g c = rw (c.from.ensures, c.in-Ok.ensures.numbers, c.as_s
     (rw c.deref-2.ensures.value at c.in_ok-log_length.ensures.inclusions))
 
 pub returns-in-Err-clause-fault : goal.returns-in-Err-clause-fault
-returns-in-Err-clause-fault g c = lacking (g.L.LogData.digest_at c.args.hashes.now) c.in-Err.fault (map (λ p. p.old_length) c.args.consistency_proofs.items) (map (λ p. p.leaf) c.args.inclusion_proofs.items) (map (λ p. (p.old_length, p.new_length)) c.args.consistency_proofs.items) (map (λ p. (p.leaf, p.log_length)) c.args.inclusion_proofs.items) c.in_ok-log_length.log_length c.as_slice.result.now
+returns-in-Err-clause-fault g c = lacking (g.L.LogData.digest_at c.args.hashes.now) c.in-Err.fault c.args.consistency_proofs.items c.args.inclusion_proofs.items c.in_ok-log_length.log_length c.as_slice.result.now
     (rw (c.deref.ensures.value, c.deref-2.ensures.value) at (sym c.in_ok-log_length.ensures.value))
     (rw c.as_slice.ensures.keys
     (needed_exactly_by (λ p. p.old_length ≤ p.new_length) (λ p. ExistsAt p.leaf.0 p.log_length) (λ p. p.old_length) (λ p. p.new_length) (λ p. p.leaf) (λ p. p.log_length) c.in_ok-log_length.log_length c.args.consistency_proofs.items c.args.inclusion_proofs.items c.in_ok-nodes.nodes.keys
