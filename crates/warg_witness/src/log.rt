@@ -240,8 +240,8 @@ pub fn agree_value<
     if have_same_bytes(first_value, second_value)? {
         return Ok(Finding::Holds);
     }
-    let target = proof.leaf().interval();
     let whole = Interval::new(0, proof.log_length());
+    let target = proof.leaf().interval();
     let parting = descend(
         first_hashes,
         &first_hash,

@@ -32,9 +32,13 @@ pub(crate) struct Trees<D: SupportedDigest, V: VisitBytes, A: Allocator> {
 
 // Whether the entries are as many as the proof's lengths say.
 fn have_lengths<D, V>(proof: &ConsistencyProof<D, V>, old: &[V], new: &[V]) -> bool
-    ensures { IsTrue result ↔ ((length old.now ≡ proof.now.old_length) × (length new.now ≡ proof.now.new_length)) }
+    ensures same { IsTrue result ↔ ((length old.now ≡ proof.now.old_length) × (length new.now ≡ proof.now.new_length)) }
+    ensures old_most { proof.now.old_length ≤ 2 ^ 63 }
+    ensures new_most { proof.now.new_length ≤ 2 ^ 63 }
 {
-    old.len() == proof.old_length() && new.len() == proof.new_length()
+    let old_length = proof.old_length();
+    let new_length = proof.new_length();
+    old.len() == old_length && new.len() == new_length
 }
 
 // The trees over the entries, or None where the proof doesn't lead to their roots.

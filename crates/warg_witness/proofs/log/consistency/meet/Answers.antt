@@ -16,7 +16,7 @@ returns-then-ne-2-clause-met g c met =
 
 pub returns-clause-met : goal.returns-clause-met
 returns-clause-met g c =
-    let lengths = c.if-not-have_lengths.ensures.0 refl in
+    let lengths = c.if-not-have_lengths.ensures.same.0 refl in
     consistency_meets c.log_laws.ensures _ _ _ _ _ _ _ _ (c.in-Ok.old_root, c.in-Ok.new_root) _ _
     (length-map c.args.old.now (λ e. g.V.VisitBytes.bytes e) ∙ lengths.0) (length-map c.args.new.now (λ e. g.V.VisitBytes.bytes e) ∙ lengths.1)
     (sym c.in-Ok.is ∙ c.evaluate.ensures) c.in_ok-old_tree.ensures c.in_ok-new_tree.ensures
