@@ -1,5 +1,5 @@
 -- A log that holds the digests of its balanced roots alone.
-use Rattle.std.specs.Prelude.{◌≡◌, ℕ, zero, suc, ◌+◌, ◌*◌, ◌^◌, ◌==◌, if◌then◌else◌, List, [], ◌∷◌, length, map, Option, Some, None, unwrap_or}
+use Rattle.std.specs.Prelude.{◌≡◌, ℕ, zero, suc, ◌+◌, ◌^◌, ◌==◌, if◌then◌else◌, List, [], ◌∷◌, length, map, Option, Some, None, unwrap_or}
 use Rattle.warg_log.specs.Nodes.{height_of, start_of, node_over, balanced_roots}
 use Rattle.warg_log.specs.Tree.{branch, root_of, leaves_below}
 

@@ -1,5 +1,5 @@
 -- Images of the two logs: their messages, and what messages and bytes are read as.
-use Rattle.std.specs.Prelude.{◌≡◌, ℕ, ◌+◌, ◌-◌, ◌*◌, ◌^◌, ◌<◌, ◌≤◌, ◌&&◌, Bool, ◌==◌, nat_eq, if◌then◌else◌, List, length, map, Option, Some, None, Result, slice_index_or, []}
+use Rattle.std.specs.Prelude.{ℕ, ◌-◌, ◌*◌, ◌^◌, ◌<◌, ◌&&◌, Bool, ◌==◌, nat_eq, if◌then◌else◌, List, length, map, Option, Some, None, Result}
 use Rattle.std.specs.List.{AllByRecursion, zip, range_with_len}
 use Rattle.std.specs.Cmp.Lexicographic.{pointwise}
 use Rattle.warg_protobuf.specs.HashEntry.{Entry}
@@ -8,8 +8,8 @@ use Rattle.warg_protobuf.specs.VecLog.{VecImage, vec_schema}
 use Rattle.warg_protobuf.specs.Schema.{message_of}
 use Rattle.warg_log.specs.declared.error.DecodeError.{DecodeError}
 use Rattle.warg_log.specs.declared.error.DecodeError.TheVariants.{NotALog, NotAStack}
-use Rattle.warg_log.specs.Nodes.{height_of, place_of, end_of, number_of, balanced_roots}
-use Rattle.warg_log.specs.Tree.{branch, digest_or_spacer, leaves_in}
+use Rattle.warg_log.specs.Nodes.{balanced_roots}
+use Rattle.warg_log.specs.Tree.{digest_or_spacer, leaves_in}
 use Rattle.warg_log.specs.Blocks.{Blocks}
 use Rattle.warg_log.specs.Decoding.{held_in, unless, earlier, first_fault, digest_fault}
 

@@ -1,9 +1,9 @@
 -- Messages: which types their fields have, and what the fields together say (proto3 encoding).
-use Rattle.std.specs.Prelude.{◌≡◌, ℕ, ◌^◌, List, [], ◌∷◌, ◌++◌, Result, Ok, Err, MatchResult, nat_lt, ◌==◌, if◌then◌else◌}
+use Rattle.std.specs.Prelude.{ℕ, ◌^◌, List, [], ◌∷◌, Result, Ok, Err, nat_lt, ◌==◌, if◌then◌else◌}
 use Rattle.std.specs.List.{flat_map}
 use Rattle.warg_protobuf.specs.declared.error.WireError.{WireError}
 use Rattle.warg_protobuf.specs.declared.error.WireError.TheVariants.{WrongWireType, NumberTooLarge}
-use Rattle.warg_protobuf.specs.Reading.{◌>>=◌, Fails, Check, outcome, values_read, as_list, all_of}
+use Rattle.warg_protobuf.specs.Reading.{◌>>=◌, Check, outcome, values_read, as_list, all_of}
 use Rattle.warg_protobuf.specs.Varint.{varint_at}
 use Rattle.warg_protobuf.specs.Field.{Payload, varint, fixed64, delimited, fixed32, Field, field_at}
 
