@@ -20,7 +20,8 @@ use Rattle.warg_log.specs.Nodes.{ExistsAt, end_of, height_of, place_of}
 use Rattle.warg_log.specs.Tree.{own_digest}
 use Rattle.warg_log.specs.Walks.{needed}
 use Rattle.warg_log.specs.Sparse.{Pairs, IsAscending}
-use Rattle.warg_log.specs.Bundling.{needed_by, bundle_length, LacksNeeded}
+use Rattle.warg_log.specs.Claims.{InclusionClaim}
+use Rattle.warg_log.specs.Bundling.{needed_by, bundle_length, LacksNeeded, IsBundleFault}
 use Rattle.warg_log.specs.Bundles.{Bundle, bundle_message, entry_of, NodesFit}
 use Rattle.warg_check.specs.Orders.{bundle}
 use Rattle.warg_check.specs.Bundled.{needed_ascending, entry_before, entries_for, proof_message, numbers_fit}
@@ -152,10 +153,17 @@ too_large_shown b P too_large is = ⊎_elim
 
 -- ---- the length
 
+-- the one proof
+abbrev pub claim : Node → ℕ → InclusionClaim
+claim node n = record { leaf = node; log_length = n }
+
+pub claim_is : (p : InclusionClaim) (node : Node) (n : ℕ) → p.leaf ≡ node → p.log_length ≡ n → p ≡ claim node n
+claim_is p node n e f = λ i. record { leaf = e i; log_length = f i }
+
 length_cases : (node : Node) (n : ℕ) (P : Type 0)
-    → (nat_lt n (end_of node.0) ≡ true → bundle_length [] ((node, n) ∷ []) ≡ Err (Inclusion inclusion.LeafTooNew) → P)
-    → (nat_lt n (end_of node.0) ≡ false → nat_le (2 ^ 32) n ≡ true → bundle_length [] ((node, n) ∷ []) ≡ Err TooLarge → P)
-    → (nat_lt n (end_of node.0) ≡ false → nat_le (2 ^ 32) n ≡ false → bundle_length [] ((node, n) ∷ []) ≡ Ok n → P)
+    → (nat_lt n (end_of node.0) ≡ true → bundle_length [] (claim node n ∷ []) ≡ Err (Inclusion inclusion.LeafTooNew) → P)
+    → (nat_lt n (end_of node.0) ≡ false → nat_le (2 ^ 32) n ≡ true → bundle_length [] (claim node n ∷ []) ≡ Err TooLarge → P)
+    → (nat_lt n (end_of node.0) ≡ false → nat_le (2 ^ 32) n ≡ false → bundle_length [] (claim node n ∷ []) ≡ Ok n → P)
     → P
 length_cases node n P new large fits = ⊎_elim
     (λ (late : n < end_of node.0). new (lt-ltb n (end_of node.0) late) (rw (lt-leb (end_of node.0) n late) refl))
@@ -169,14 +177,14 @@ length_cases node n P new large fits = ⊎_elim
 
 -- what a refused bundle of one proof says
 abbrev pub Told : (ℕ → Option (List ℕ)) → Node → ℕ → BundleError → Type 0
-Told F node n e = (e ≡ Memory) ⊎ (bundle_length [] ((node, n) ∷ []) ≡ Err e) ⊎ ((e ≡ HashNotFound) × LacksNeeded F [] (node ∷ []) (bundle_length [] ((node, n) ∷ [])))
+Told F node n e = IsBundleFault F [] (claim node n ∷ []) e
 
-length_refused : (F : ℕ → Option (List ℕ)) (node : Node) (n : ℕ) (e : BundleError) → (e ≡ Memory → ⊥) → (e ≡ HashNotFound → ⊥) → Told F node n e → bundle_length [] ((node, n) ∷ []) ≡ Err e
+length_refused : (F : ℕ → Option (List ℕ)) (node : Node) (n : ℕ) (e : BundleError) → (e ≡ Memory → ⊥) → (e ≡ HashNotFound → ⊥) → Told F node n e → bundle_length [] (claim node n ∷ []) ≡ Err e
 length_refused F node n e memory found told = ⊎_elim
     (λ (m : e ≡ Memory). absurd (memory m))
-    (λ (rest : (bundle_length [] ((node, n) ∷ []) ≡ Err e) ⊎ ((e ≡ HashNotFound) × LacksNeeded F [] (node ∷ []) (bundle_length [] ((node, n) ∷ [])))). ⊎_elim
-    (λ (is : bundle_length [] ((node, n) ∷ []) ≡ Err e). is)
-    (λ (lacks : (e ≡ HashNotFound) × LacksNeeded F [] (node ∷ []) (bundle_length [] ((node, n) ∷ []))). absurd (found lacks.0))
+    (λ (rest : (bundle_length [] (claim node n ∷ []) ≡ Err e) ⊎ ((e ≡ HashNotFound) × LacksNeeded F [] (claim node n ∷ []))). ⊎_elim
+    (λ (is : bundle_length [] (claim node n ∷ []) ≡ Err e). is)
+    (λ (lacks : (e ≡ HashNotFound) × LacksNeeded F [] (claim node n ∷ [])). absurd (found lacks.0))
     rest)
     told
 
@@ -211,22 +219,24 @@ pub not_known_answer : NeededExist → ExistingNumber → (log : List (List ℕ)
 unfolding answer
 not_known_answer exist number log s node n is told = ⊎_elim
     (λ (m : HashNotFound ≡ Memory). absurd (cc (m)))
-    (λ (rest : (bundle_length [] ((node, n) ∷ []) ≡ Err HashNotFound) ⊎ ((HashNotFound ≡ HashNotFound) × LacksNeeded (own_digest sha256 log) [] (node ∷ []) (bundle_length [] ((node, n) ∷ [])))). ⊎_elim
-    (λ (other : bundle_length [] ((node, n) ∷ []) ≡ Err HashNotFound). length_cases node n _ (λ late at. absurd (cc (other, at))) (λ exists great at. absurd (cc (other, at))) (λ exists small at. absurd (cc (other, at))))
-    (λ (lacks : (HashNotFound ≡ HashNotFound) × LacksNeeded (own_digest sha256 log) [] (node ∷ []) (bundle_length [] ((node, n) ∷ []))). length_cases node n _
-    (λ late at. absurd (rw at at lacks.1))
-    (λ exists great at. absurd (rw at at lacks.1))
+    (λ (rest : (bundle_length [] (claim node n ∷ []) ≡ Err HashNotFound) ⊎ ((HashNotFound ≡ HashNotFound) × LacksNeeded (own_digest sha256 log) [] (claim node n ∷ []))). ⊎_elim
+    (λ (other : bundle_length [] (claim node n ∷ []) ≡ Err HashNotFound). length_cases node n _ (λ late at. absurd (cc (other, at))) (λ exists great at. absurd (cc (other, at))) (λ exists small at. absurd (cc (other, at))))
+    (λ (lacks : (HashNotFound ≡ HashNotFound) × LacksNeeded (own_digest sha256 log) [] (claim node n ∷ [])). length_cases node n _
+    (λ late at. let length_is = lacks.1.length_is in absurd (cc (length_is, at)))
+    (λ exists great at. let length_is = lacks.1.length_is in absurd (cc (length_is, at)))
     (λ exists small at.
-    let one : LacksNeeded (own_digest sha256 log) [] (node ∷ []) (Ok n) = rw at at lacks.1 in
-    let there : list_any (nat_eq one.0) (needed node.0 n) ≡ true = rw append-nil at one.1 in
-    let none : own_digest sha256 (log_at s) one.0 ≡ None = rw is at one.2 in
-    rw (exists, small, entries_lack (own_digest sha256 (log_at s)) one.0 (needed_ascending node.0 n) (needed_stands node.0 n one.0 (needed_below exist number node.0 n (some_length node.0 n exists)) there) none) refl))
+    let x = lacks.1.node in
+    let length_is = lacks.1.length_is in
+    let count : lacks.1.log_length ≡ n = cc (length_is, at) in
+    let there : list_any (nat_eq x) (needed node.0 n) ≡ true = rw append-nil at (rw count at lacks.1.is_needed) in
+    let none : own_digest sha256 (log_at s) x ≡ None = rw is at lacks.1.is_lacking in
+    rw (exists, small, entries_lack (own_digest sha256 (log_at s)) x (needed_ascending node.0 n) (needed_stands node.0 n x (needed_below exist number node.0 n (some_length node.0 n exists)) there) none) refl))
     rest)
     told
 
 -- the digests that are held stand in the message
 pub bundle_answer : NeededExist → ExistingNumber → (log : List (List ℕ)) (s : State) (b : Bundle) (node : Node) (n : ℕ) → log ≡ log_at s
-    → bundle_length [] ((node, n) ∷ []) ≡ Ok b.log_length → b.consistent_lengths ≡ [] → b.included_nodes ≡ node ∷ [] → IsAscending b.hashes
+    → bundle_length [] (claim node n ∷ []) ≡ Ok b.log_length → b.consistent_lengths ≡ [] → b.included_nodes ≡ node ∷ [] → IsAscending b.hashes
     → ((x : ℕ) → list_any (nat_eq x) (map (λ (p : Node × List ℕ). p.0.0) b.hashes) ≡ list_any (nat_eq x) (needed_by b.consistent_lengths b.included_nodes b.log_length))
     → AllByRecursion (λ (p : Node × List ℕ). own_digest sha256 log p.0.0 ≡ Some p.1) b.hashes
     → answer s (bundle node.0 n) ≡ bytes_or_refusal (bundle_message b)
