@@ -1,18 +1,47 @@
 -- Lemmas on lines, words and numbers.
-use Rattle.std.proofs.Common.{◌≡◌, ◌≢◌, ℕ, suc, ◌+◌, ◌-◌, ◌*◌, ◌^◌, ◌<◌, ◌≤◌, ◌&&◌, Bool, true, false, List, [], ◌∷◌, ◌++◌, length, take, drop, get_or, Option, Some, None, refl, sym, ◌∙◌, ap, arith, add-one, le-leb, lt-ltb, le-ltb, ne_eqb, option_map, Bor}
+use Rattle.std.proofs.Common.{◌≡◌, ◌≢◌, ℕ, zero, suc, ◌+◌, ◌-◌, ◌*◌, ◌^◌, ◌<◌, ◌≤◌, ◌&&◌, Bool, true, false, List, [], ◌∷◌, ◌++◌, length, take, drop, get_or, Option, Some, None, refl, sym, ◌∙◌, ap, arith, add-one, le-leb, lt-ltb, le-ltb, ne_eqb, option_map, Bor, take_all, le_refl, length-drop}
 use Rattle.std.proofs.Math.Seq.{take-suc, drop-cons}
+use Rattle.std.proofs.lemmas.Bool.{eq-eqb, eqb-true}
+use Rattle.std.proofs.lemmas.List.{take-append-drop}
 use Rattle.std.specs.List.{list_all}
 use Rattle.std.specs.Char.{is_ascii_digit}
-use Rattle.warg_check.specs.Words.{Lacks, IsFirstPart, lines_of, words_of, words_left, is_number, number_in, value_from}
+use Rattle.memchr.specs.Find.{IsFirstByte, is_byte}
+use Rattle.warg_check.specs.Words.{lines_of, words_of, words_left, is_number, number_in, value_from}
+use Rattle.warg_check.specs.Private.Parts.{Lacks, IsFirstPart}
 
 Lacks-append : (b : ℕ) (xs ys : List ℕ) → Lacks b xs → Lacks b ys → Lacks b (xs ++ ys)
 Lacks-append b [] ys p q = q
 Lacks-append b (x ∷ xs) ys p q = (p.0, Lacks-append b xs ys p.1 q)
 
 -- one more byte that isn't the separator
-pub lacks_more : (b : ℕ) (bytes : List ℕ) (i : ℕ) → i < length bytes → Lacks b (take i bytes) → get_or bytes i 0 ≢ b → Lacks b (take (i + 1) bytes)
+lacks_more : (b : ℕ) (bytes : List ℕ) (i : ℕ) → i < length bytes → Lacks b (take i bytes) → get_or bytes i 0 ≢ b → Lacks b (take (i + 1) bytes)
 lacks_more b bytes i within before here =
     rw (add-one, take-suc bytes i 0 within) (Lacks-append b (take i bytes) (get_or bytes i 0 ∷ []) before (here, tt))
+
+-- a front whose bytes each aren't the separator
+lacks_before : (b : ℕ) (bytes : List ℕ) (i : ℕ) → i ≤ length bytes → ((k : ℕ) → k < i → get_or bytes k 0 ≢ b) → Lacks b (take i bytes)
+lacks_before b bytes zero within lacks = tt
+lacks_before b bytes (suc i) within lacks =
+    rw (← add-one i) (lacks_more b bytes i (omega arith) (lacks_before b bytes i (omega arith) (λ k below. lacks k (omega arith))) (lacks i (omega arith)))
+
+-- what stands before and behind the first separator
+pub found_parts : (b : ℕ) (bytes : List ℕ) (i : ℕ) → IsFirstByte (is_byte b) bytes (Some i)
+    → (bytes ≡ take i bytes ++ b ∷ take (length bytes - (i + 1)) (drop (i + 1) bytes)) × Lacks b (take i bytes)
+found_parts b bytes i found =
+    let within : i < length bytes = found.0.high in
+    let short : length (drop (i + 1) bytes) ≤ length bytes - (i + 1) = omega (arith, length-drop (i + 1) bytes) in
+    let rest : take (length bytes - (i + 1)) (drop (i + 1) bytes) ≡ drop (i + 1) bytes = take_all _ _ short in
+    let here : get_or bytes i 0 ≡ b = eqb-true _ _ found.1 in
+    let front : drop i bytes ≡ b ∷ drop (i + 1) bytes = drop-cons bytes i 0 within ∙ rw (here, add-one) refl in (
+      rw rest (sym (take-append-drop i bytes) ∙ ap (λ l. take i bytes ++ l) front),
+      lacks_before b bytes i (omega arith) (λ k below same. found.0.before k (omega arith) below (eq-eqb _ _ same)),
+    )
+
+-- bytes with no separator
+pub none_lacks : (b : ℕ) (bytes : List ℕ) → IsFirstByte (is_byte b) bytes None → Lacks b bytes
+none_lacks b bytes none =
+    let whole : take (length bytes) bytes ≡ bytes = take_all _ _ (le_refl (length bytes)) in
+    rw whole at (lacks_before b bytes (length bytes) (le_refl (length bytes)) (λ k below same. none k (omega arith) below (eq-eqb _ _ same)))
 
 -- the value only grows with further digits
 value_from-le : (n : ℕ) (digits : List ℕ) → n ≤ value_from n digits

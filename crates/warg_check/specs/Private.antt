@@ -3,3 +3,4 @@ pub mod Commands
 pub mod Errors
 pub mod Says
 pub mod Sessions
+pub mod Parts

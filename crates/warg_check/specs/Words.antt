@@ -1,5 +1,5 @@
 -- Lines, the words of a line, and what a word says.
-use Rattle.std.specs.Prelude.{◌≡◌, ◌≢◌, ℕ, ◌+◌, ◌-◌, ◌*◌, ◌^◌, ◌==◌, ◌&&◌, nat_eq, nat_le, nat_lt, Bool, if◌then◌else◌, List, [], ◌∷◌, ◌++◌, length, codes, Option, Some, None, Result, Ok, Err}
+use Rattle.std.specs.Prelude.{ℕ, ◌+◌, ◌-◌, ◌*◌, ◌^◌, ◌==◌, ◌&&◌, nat_eq, nat_le, nat_lt, Bool, if◌then◌else◌, List, [], ◌∷◌, ◌++◌, length, codes, Option, Some, None, Result, Ok, Err}
 use Rattle.std.specs.List.{list_all}
 use Rattle.std.specs.Char.{is_ascii_digit}
 use Rattle.std.specs.Cmp.Lexicographic.{pointwise}
@@ -69,13 +69,3 @@ bytes_in word = if is_word word (codes "-") then Some [] else if length word == 
 -- The root that a word says: the 32 bytes of 64 hexadecimal digits, in either case.
 abbrev pub root_in : List ℕ → Option (List ℕ)
 root_in word = decoded (decode_sized word 32)
-
--- The byte is not among these.
-abbrev pub Lacks : ℕ → List ℕ → Type 0
-Lacks b [] = Unit {0}
-Lacks b (c ∷ bytes) = (c ≢ b) × Lacks b bytes
-
--- The front is what stands before the first separator, and the rest what stands behind it.
-abbrev pub IsFirstPart : ℕ → List ℕ → List ℕ → Option (List ℕ) → Type 0
-IsFirstPart separator bytes front (Some rest) = (bytes ≡ front ++ separator ∷ rest) × Lacks separator front
-IsFirstPart separator bytes front None = (bytes ≡ front) × Lacks separator front

@@ -2,22 +2,22 @@
 
 ghost use Rattle.std.specs.Prelude.{◌≡◌, ℕ, ◌^◌, ◌<◌, ◌≤◌, ◌∷◌, List, length, IfOk, Option};
 ghost use Rattle.std.specs.Option.{option_map};
-ghost use Rattle.warg_check.specs.Words.{IsFirstPart, lines_of, number_in, length_in, bytes_in, root_in};
+ghost use Rattle.warg_check.specs.Private.Parts.{IsFirstPart};
+ghost use Rattle.warg_check.specs.Words.{lines_of, number_in, length_in, bytes_in, root_in};
 
+use memchr::memchr;
 use std::alloc::{AllocError, Allocator};
 use warg_crypto::{Hash, Sha256};
 
 /// What stands before the first `separator`, and what stands behind it, if there is one.
-#[tactic(auto, using(crate::proofs::WordLemmas::lacks_more))]
+#[tactic(auto, using(crate::proofs::WordLemmas::none_lacks))]
 pub(super) fn split_first(bytes: &[u8], separator: u8) -> (&[u8], Option<&[u8]>)
     ensures { IsFirstPart separator bytes.now result.0.now (option_map (λ rest. rest.now) result.1) }
 {
-    for (i, byte) in bytes.iter().enumerate() {
-        if *byte == separator {
-            return (&bytes[..i], Some(&bytes[i + 1..]));
-        }
+    match memchr(separator, bytes) {
+        Some(i) => (&bytes[..i], Some(&bytes[i + 1..])),
+        None => (bytes, None),
     }
-    (bytes, None)
 }
 
 /// The first line of some bytes, and what stands behind it.
