@@ -4,6 +4,7 @@ pub mod Side
 pub mod Roots
 pub mod Form
 pub mod Inserts
+pub mod Leaves
 pub mod Finds
 pub mod Len
 pub mod ProofValue

@@ -1,4 +1,5 @@
 -- What only clauses of private functions name; no public clause or law rests on it.
+pub mod Grown
 pub mod Lone
 pub mod Path
 pub mod Seen

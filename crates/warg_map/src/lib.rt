@@ -14,10 +14,12 @@
 //! ```
 //!
 //! The modules stand on one another in this order: `path` (bits of a digest), `singleton`, `fork`, `stem`, `link` (a
-//! node with its digest), `node`, `proof`, `map`, `proof_bundle`, and `laws` (what follows from the definitions alone).
+//! node with its digest), `node`, `grown` (many leaves at once), `proof`, `map`, `proof_bundle`, and `laws` (what
+//! follows from the definitions alone).
 #![tactic(auto)]
 
 mod fork;
+mod grown;
 pub mod laws;
 mod link;
 mod map;

@@ -1,6 +1,6 @@
 //! The map.
 
-ghost use Rattle.std.specs.Prelude.{◌≡◌, ◌≢◌, ℕ, List, Option, ◌+◌, ◌*◌, ◌<◌, ◌≤◌, ◌↔◌, ◌∷◌, ◌++◌, [], IfOk, IsOk, IfSome, IsSome, IsTrue, MatchOption, Some, None, Ok, Err, false};
+ghost use Rattle.std.specs.Prelude.{◌≡◌, ◌≢◌, ℕ, List, Option, ◌+◌, ◌*◌, ◌/◌, ◌<◌, ◌≤◌, ◌↔◌, ◌∷◌, ◌++◌, [], IfOk, IsOk, IfSome, IsSome, IsTrue, MatchOption, Some, None, Ok, Err, false};
 ghost use Rattle.std.specs.FinMap as map;
 ghost use Rattle.std.specs.Iterator.{IsFinite, Drains, Yields};
 ghost use Rattle.warg_map.specs.Bits.{key_bits};
@@ -10,6 +10,7 @@ ghost use Rattle.warg_map.specs.ProofValue.{proof_value};
 ghost use Rattle.warg_map.specs.Peers.{Proves, ProvesAbsent};
 ghost use Rattle.warg_map.specs.Count.{node_count};
 
+use crate::grown::spread;
 use crate::link::Link;
 use crate::node::Node;
 use crate::path::Path;
@@ -314,6 +315,8 @@ impl<D: SupportedDigest, K: VisitBytes + Drop, V: VisitBytes + Drop, A: Allocato
 
     /// The map with all the pairs of an iterator inserted, in order.
     ///
+    /// It first takes all of them, as two digests each, and then hashes each branch above several of them once.
+    ///
     /// `Full` comes where one of them is a new key digest at a `len` of `usize::MAX`: before anything grows where it is
     /// the first. After a refusal the rest of the iterator is dropped.
     pub fn extend<I: Iterator<Item = (K, V)> + Drop>(
@@ -336,10 +339,40 @@ impl<D: SupportedDigest, K: VisitBytes + Drop, V: VisitBytes + Drop, A: Allocato
             → result ≡ Err MapError.Full }
     {
         let _len = self.len();
+        if self.len() <= usize::MAX / 2 {
+            return Ok(self.extended_at_once(iter)?);
+        }
         let Some((key, val)) = iter.next() else {
             return Ok(self.clone()?);
         };
         self.insert(key, val)?.extended(iter)
+    }
+
+    // This map with all the pairs of an iterator inserted, in order, after all are taken. A branch above many is hashed
+    // once.
+    fn extended_at_once<I: Iterator<Item = (K, V)> + Drop>(
+        &self,
+        iter: I,
+    ) -> Result<Map<D, K, V, A>, AllocError>
+        requires few { map.len self.now ≤ usize.MAX / 2 }
+        requires can { I.can_next iter }
+        requires ends { IsFinite (I.remaining iter) }
+        ensures ok { IfOk result (λ m. ((es : List (K × V)) × Drains I.next_gives iter es
+            × (m ≡ inserted D.digest self.now (pair_bytes K.bytes V.bytes es)))) }
+        ensures fits { IfOk result (λ m. map.len m ≤ usize.MAX) }
+    {
+        let mut leaves = Vec::new(self.alloc);
+        for (key, value) in iter {
+            leaves.push((Hash::of(&key), hash_leaf(&value)))?;
+        }
+        let (link, fresh) = spread(self.alloc, &self.link, leaves, 0)?;
+        Ok(Map {
+            link,
+            count: self.len() + fresh,
+            alloc: self.alloc,
+            key: PhantomData,
+            value: PhantomData,
+        })
     }
 
     // This map with all the pairs of an iterator inserted, in order.

@@ -60,7 +60,7 @@ impl<D: SupportedDigest, A: Allocator + Copy> Node<D, A> {
     ghost use Rattle.warg_map.specs.Private.Seen.{seen, tree_height, held_by, IsWellFormed, Inserts, Carries, IsSeen};
 
     /// The node below `len` bits of `key`, from bit `from` on. The node holds the key, so a stem becomes longer.
-    fn raised(
+    pub(crate) fn raised(
         alloc: A,
         key: &Hash<D>,
         from: usize,

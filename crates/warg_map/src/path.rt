@@ -62,6 +62,9 @@ pub(crate) fn shared_bits<D>(a: &Hash<D>, b: &Hash<D>, from: usize, len: usize) 
     ensures same { bits_from a.now from result ≡ bits_from b.now from result }
     ensures apart { result < len → ¬ (bit_at a.now (from + result) ≡ bit_at b.now (from + result)) }
 {
+    if a == b {
+        return len;
+    }
     for shared in 0..len {
         if side_at(a, from + shared) != side_at(b, from + shared) {
             return shared;
