@@ -117,6 +117,24 @@ fn a_log_s_own_consistency_proofs_hold(rt: HostRuntime) -> Result<(), Fail> {
     Ok(())
 }
 
+// The way down is as deep as the tree is high, and each entry is hashed once.
+#[test]
+fn a_witness_over_a_million_entries(rt: HostRuntime) -> Result<(), Fail> {
+    let mut entries = Vec::new(rt.alloc());
+    for number in 0..1_000_000u32 {
+        entries.push(number.to_be_bytes())?;
+    }
+    let mut log: VecLog<Sha256, [u8; 4]> = VecLog::default(rt.alloc());
+    push_all(&mut log, entries.as_slice())?;
+    let proof = log.prove_inclusion(Node(1_400_000), log.length());
+    let value = 700_000u32.to_be_bytes();
+    let finding = witness_value(rt.alloc(), &proof, &log, &value, entries.as_slice())?;
+    assert!(rt; matches!(finding, Finding::Holds));
+    let finding = witness_value(rt.alloc(), &proof, &log, &[0; 4], entries.as_slice())?;
+    assert!(rt; matches!(finding, Finding::NotMet));
+    Ok(())
+}
+
 // Other counts of entries are looked at before anything grows.
 #[test]
 fn other_counts_without_memory(rt: HostRuntime) -> Result<(), Fail> {
