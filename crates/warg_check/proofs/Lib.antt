@@ -2,4 +2,5 @@ pub mod WordLemmas
 pub mod TextLemmas
 pub mod VerdictLemmas
 pub mod BundledLemmas
+pub mod DigitLemmas
 pub mod MapLemmas

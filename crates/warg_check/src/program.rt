@@ -7,6 +7,7 @@ ghost use Rattle.warg_check.specs.Text.{text_of, all_good, MeetsFull};
 ghost use Rattle.warg_check.specs.declared.program.RunError.TheVariants.{Memory};
 
 mod command;
+mod digits;
 mod session;
 mod status;
 mod word;
