@@ -40,31 +40,20 @@ fn log_times(rt: &HostRuntime, list: &[Entry]) -> Result<()> {
 
 fn inclusion_time(rt: &HostRuntime, log: &Log, list: &[Entry]) -> Result<u128> {
     let length = log.length();
-    let mut good = 0usize;
-    let start = Instant::now(rt)?;
-    for i in 0..CALLS {
-        let index = spread(i, list.len());
+    time(rt, |call| {
+        let index = spread(call, list.len());
         let proof = log.prove_inclusion(Node(index.saturating_mul(2)), length);
-        if let Some(entry) = list.get(index) {
-            if proof.evaluate_value(log, entry).is_ok() {
-                good = good.saturating_add(1);
-            }
-        }
-    }
-    each(rt, start, rounds(good))
+        list.get(index)
+            .is_some_and(|entry| proof.evaluate_value(log, entry).is_ok())
+    })
 }
 
 fn consistency_time(rt: &HostRuntime, log: &Log) -> Result<u128> {
     let length = log.length();
-    let mut good = 0usize;
-    let start = Instant::now(rt)?;
-    for i in 0..CALLS {
-        let old = spread(i, length).saturating_add(1).min(length);
-        if log.prove_consistency(old, length).evaluate(log).is_ok() {
-            good = good.saturating_add(1);
-        }
-    }
-    each(rt, start, rounds(good))
+    time(rt, |call| {
+        let old = spread(call, length).saturating_add(1).min(length);
+        log.prove_consistency(old, length).evaluate(log).is_ok()
+    })
 }
 
 fn map_times(rt: &HostRuntime, list: &[Entry]) -> Result<()> {
@@ -86,31 +75,34 @@ fn map_times(rt: &HostRuntime, list: &[Entry]) -> Result<()> {
 }
 
 fn prove_time(rt: &HostRuntime, map: &Keys, list: &[Entry]) -> Result<u128> {
-    let mut good = 0usize;
-    let start = Instant::now(rt)?;
-    for i in 0..CALLS {
-        if let Some(key) = list.get(spread(i, list.len())) {
-            if map.prove(*key)?.is_some() {
-                good = good.saturating_add(1);
-            }
-        }
-    }
-    each(rt, start, rounds(good))
+    time(rt, |call| match list.get(spread(call, list.len())) {
+        Some(key) => map.prove(*key).is_ok_and(|proof| proof.is_some()),
+        None => false,
+    })
 }
 
 fn evaluate_time(rt: &HostRuntime, map: &Keys, list: &[Entry]) -> Result<u128> {
-    let mut good = 0usize;
+    time(rt, |call| match list.get(spread(call, list.len())) {
+        Some(key) => match map.prove(*key) {
+            Ok(Some(proof)) => proof.evaluate(key, key) == *map.root(),
+            _ => false,
+        },
+        None => false,
+    })
+}
+
+// The nanoseconds that a call takes, of those calls that answer true.
+fn time<F: Fn(usize) -> bool>(rt: &HostRuntime, call: F) -> Result<u128>
+    requires { F.IsAlwaysCallable call }
+{
+    let mut good = 0u128;
     let start = Instant::now(rt)?;
-    for i in 0..CALLS {
-        if let Some(key) = list.get(spread(i, list.len())) {
-            if let Some(proof) = map.prove(*key)? {
-                if proof.evaluate(key, key) == *map.root() {
-                    good = good.saturating_add(1);
-                }
-            }
+    for number in 0..CALLS {
+        if call(number) {
+            good = good.saturating_add(1);
         }
     }
-    each(rt, start, rounds(good))
+    each(rt, start, good)
 }
 
 // The place of the call of this number among so many things.
