@@ -1,7 +1,7 @@
 -- The program's commands: which lines are which, and no other line is good.
 use Rattle.std.specs.Prelude.{ℕ, if◌then◌else◌, List, [], ◌∷◌, codes, Option, Some, None, option_and_then}
 use Rattle.std.specs.Option.{option_map}
-use Rattle.warg_check.specs.Words.{is_word, number_in, length_in, bytes_in, root_in, words_of}
+use Rattle.warg_check.specs.Words.{is_word, number_in, length_in, hex_bytes_in, root_in, words_of}
 
 -- What a good line orders.
 pub data Order : Type 0 where
@@ -40,7 +40,7 @@ done order words = option_map (λ _. order) (none_left words)
 
 -- push BYTES
 abbrev pub push_in : List (List ℕ) → Option Order
-push_in words = next bytes_in (λ entry. done (push entry)) words
+push_in words = next hex_bytes_in (λ entry. done (push entry)) words
 
 -- log
 abbrev pub log_in : List (List ℕ) → Option Order
@@ -48,7 +48,7 @@ log_in words = done log words
 
 -- include NODE LENGTH BYTES
 abbrev pub include_in : List (List ℕ) → Option Order
-include_in words = next number_in (λ node. next length_in (λ length. next bytes_in (λ value. done (include node length value)))) words
+include_in words = next number_in (λ node. next length_in (λ length. next hex_bytes_in (λ value. done (include node length value)))) words
 
 -- consistent OLD NEW
 abbrev pub consistent_in : List (List ℕ) → Option Order
@@ -60,11 +60,11 @@ bundle_in words = next number_in (λ node. next length_in (λ length. done (bund
 
 -- verify ROOT VALUE BUNDLE
 abbrev pub verify_in : List (List ℕ) → Option Order
-verify_in words = next root_in (λ root. next bytes_in (λ value. next bytes_in (λ bytes. done (verify root value bytes)))) words
+verify_in words = next root_in (λ root. next hex_bytes_in (λ value. next hex_bytes_in (λ bytes. done (verify root value bytes)))) words
 
 -- insert KEY VALUE
 abbrev pub insert_in : List (List ℕ) → Option Order
-insert_in words = next bytes_in (λ key. next bytes_in (λ value. done (insert key value))) words
+insert_in words = next hex_bytes_in (λ key. next hex_bytes_in (λ value. done (insert key value))) words
 
 -- map
 abbrev pub map_in : List (List ℕ) → Option Order
@@ -72,11 +72,11 @@ map_in words = done map words
 
 -- prove KEY VALUE
 abbrev pub prove_in : List (List ℕ) → Option Order
-prove_in words = next bytes_in (λ key. next bytes_in (λ value. done (prove key value))) words
+prove_in words = next hex_bytes_in (λ key. next hex_bytes_in (λ value. done (prove key value))) words
 
 -- absent KEY
 abbrev pub absent_in : List (List ℕ) → Option Order
-absent_in words = next bytes_in (λ key. done (absent key)) words
+absent_in words = next hex_bytes_in (λ key. done (absent key)) words
 
 -- ---- lines
 

@@ -63,8 +63,8 @@ decoded (Err _) = None
 
 -- The bytes that a word says: none for `-`, else those of its hexadecimal digits, of which there are an
 -- even, positive number, in either case.
-unfoldable pub bytes_in : List ℕ → Option (List ℕ)
-bytes_in word = if is_word word (codes "-") then Some [] else if length word == 0 then None else decoded (decode_of word)
+unfoldable pub hex_bytes_in : List ℕ → Option (List ℕ)
+hex_bytes_in word = if is_word word (codes "-") then Some [] else if length word == 0 then None else decoded (decode_of word)
 
 -- The root that a word says: the 32 bytes of 64 hexadecimal digits, in either case.
 abbrev pub root_in : List ℕ → Option (List ℕ)

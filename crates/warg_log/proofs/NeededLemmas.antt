@@ -19,7 +19,8 @@ use Rattle.warg_log.specs.declared.error.BundleError.TheVariants.{Memory, HashNo
 use Rattle.warg_log.specs.Nodes.{ExistsAt, end_of, balanced_roots}
 use Rattle.warg_log.specs.Walks.{needed}
 use Rattle.warg_log.specs.Claims.{InclusionClaim, ConsistencyClaim}
-use Rattle.warg_log.specs.Bundling.{needed_between, needed_by, differs, consistency_length, inclusion_length, bundle_length, LacksNeeded, IsBundleFault, IsUnion}
+use Rattle.warg_log.specs.Bundling.{needed_between, needed_by, differs, consistency_length, inclusion_length, bundle_length, LacksNeeded, IsBundleFault}
+use Rattle.warg_log.specs.Private.Unions.{IsUnion}
 use Rattle.warg_log.proofs.BalancedLemmas.{all_push}
 use Rattle.warg_log.proofs.StackLemmas.{roots_exist}
 

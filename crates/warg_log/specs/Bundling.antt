@@ -1,5 +1,5 @@
 -- Which proofs go into one bundle, and which nodes' digests they need.
-use Rattle.std.specs.Prelude.{◌≡◌, ◌⊎◌, ℕ, ◌^◌, ◌||◌, Bool, true, false, not, ◌==◌, nat_eq, nat_lt, nat_le, if◌then◌else◌, List, [], ◌∷◌, ◌++◌, map, Option, Some, None, Result, Ok, Err}
+use Rattle.std.specs.Prelude.{◌≡◌, ◌⊎◌, ℕ, ◌^◌, Bool, true, false, not, ◌==◌, nat_eq, nat_lt, nat_le, if◌then◌else◌, List, [], ◌∷◌, ◌++◌, map, Option, Some, None, Result, Ok, Err}
 use Rattle.std.specs.List.{AllByRecursion, flat_map, list_any}
 use Rattle.warg_protobuf.specs.Reading.{◌>>=◌}
 use Rattle.warg_log.specs.declared.node.Node.{Node}
@@ -59,10 +59,6 @@ fitting_length (Some n) = if nat_lt n (2 ^ 32) then Ok n else Err TooLarge
 -- proofs in turn, that there are none, that the length is too large.
 abbrev pub bundle_length : List ConsistencyClaim → List InclusionClaim → Result ℕ BundleError
 bundle_length cs ps = consistency_length None cs >>= (λ met. inclusion_length met ps) >>= fitting_length
-
--- The elements of `new` are those of `old` and of `more`.
-abbrev pub IsUnion : List ℕ → List ℕ → List ℕ → Type 0
-IsUnion old new more = (x : ℕ) → list_any (nat_eq x) new ≡ (list_any (nat_eq x) old || list_any (nat_eq x) more)
 
 -- A digest that the proofs need at their one length isn't held.
 pub record LacksNeeded (F : ℕ → Option (List ℕ)) (cs : List ConsistencyClaim) (ps : List InclusionClaim) : Type 0 where

@@ -6,7 +6,8 @@ ghost use Rattle.std.specs.List.Sorted.{IsSorted};
 ghost use Rattle.std.specs.Ordering.{nat_cmp};
 ghost use Rattle.warg_log.specs.Nodes.{ExistsAt};
 ghost use Rattle.warg_log.specs.Walks.{needed};
-ghost use Rattle.warg_log.specs.Bundling.{needed_between, consistency_length, inclusion_length, fitting_length, bundle_length, differs, IsUnion};
+ghost use Rattle.warg_log.specs.Bundling.{needed_between, consistency_length, inclusion_length, fitting_length, bundle_length, differs};
+ghost use Rattle.warg_log.specs.Private.Unions.{IsUnion};
 
 use crate::consistency::{ConsistencyProof, ConsistencyProofError};
 use crate::error::BundleError;

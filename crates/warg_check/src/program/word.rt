@@ -3,7 +3,7 @@
 ghost use Rattle.std.specs.Prelude.{◌≡◌, ℕ, ◌^◌, ◌<◌, ◌≤◌, ◌∷◌, List, length, IfOk, Option};
 ghost use Rattle.std.specs.Option.{option_map};
 ghost use Rattle.warg_check.specs.Private.Parts.{IsFirstPart};
-ghost use Rattle.warg_check.specs.Words.{lines_of, number_in, length_in, bytes_in, root_in};
+ghost use Rattle.warg_check.specs.Words.{lines_of, number_in, length_in, hex_bytes_in, root_in};
 
 use crate::program::digits::decode;
 use memchr::memchr;
@@ -86,9 +86,9 @@ pub(super) fn root(word: &[u8]) -> Option<Hash<Sha256>>
 
 /// The bytes that a word says: none for `-`, else those of an even, positive number of hexadecimal
 /// digits of either case.
-#[tactic(auto, unfolding(crate::specs::Words::bytes_in))]
+#[tactic(auto, unfolding(crate::specs::Words::hex_bytes_in))]
 pub(super) fn bytes<A: Allocator>(alloc: A, word: &[u8]) -> Result<Option<Vec<u8, A>>, AllocError>
-    ensures { IfOk result (λ bytes. option_map (λ v. v.items) bytes ≡ bytes_in word.now) }
+    ensures { IfOk result (λ bytes. option_map (λ v. v.items) bytes ≡ hex_bytes_in word.now) }
 {
     if word == b"-".as_slice() {
         return Ok(Some(Vec::new(alloc)));

@@ -1,7 +1,7 @@
 //! The words of a line, read one after the other by what they say.
 
 ghost use Rattle.std.specs.Prelude.{◌≡◌, [], ◌∷◌, Some, None, Err, IfOk, MatchOption};
-ghost use Rattle.warg_check.specs.Words.{words_of, number_in, length_in, bytes_in, root_in};
+ghost use Rattle.warg_check.specs.Words.{words_of, number_in, length_in, hex_bytes_in, root_in};
 ghost use Rattle.warg_check.specs.Orders.{first_says, none_left};
 ghost use Rattle.warg_check.specs.Private.Says.{Says};
 
@@ -105,8 +105,8 @@ impl<'a> Words<'a> {
     #[tactic(auto, unfolding(crate::specs::Orders::first_says))]
     /// The bytes that the next word says.
     pub(super) fn bytes<A: Allocator>(&mut self, alloc: A) -> Result<Vec<u8, A>, Unread>
-        ensures ok { IfOk result (λ bytes. first_says bytes_in self.old ≡ Some (bytes.items, self.new)) }
-        ensures bad { result ≡ Err Unread.BadLine → first_says bytes_in self.old ≡ None }
+        ensures ok { IfOk result (λ bytes. first_says hex_bytes_in self.old ≡ Some (bytes.items, self.new)) }
+        ensures bad { result ≡ Err Unread.BadLine → first_says hex_bytes_in self.old ≡ None }
     {
         let word = self.word()?;
         bytes(alloc, word)?.ok_or(Unread::BadLine)

@@ -1,6 +1,7 @@
 use Rattle.std.proofs.Common.{take}
 use Rattle.std.specs.List.{flat_map}
-use Rattle.warg_log.specs.Bundling.{IsUnion, needed_between}
+use Rattle.warg_log.specs.Bundling.{needed_between}
+use Rattle.warg_log.specs.Private.Unions.{IsUnion}
 use Rattle.warg_log.proofs.needed.add_consistencies.Given as goal
 
 abbrev pub invariant-proofs : goal.invariant-proofs

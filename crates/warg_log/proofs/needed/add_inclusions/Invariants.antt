@@ -1,7 +1,7 @@
 use Rattle.std.proofs.Common.{take}
 use Rattle.std.specs.List.{flat_map}
 use Rattle.warg_log.specs.Walks.{needed}
-use Rattle.warg_log.specs.Bundling.{IsUnion}
+use Rattle.warg_log.specs.Private.Unions.{IsUnion}
 use Rattle.warg_log.proofs.needed.add_inclusions.Given as goal
 
 abbrev pub invariant-proofs : goal.invariant-proofs
