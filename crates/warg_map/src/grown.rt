@@ -1,4 +1,4 @@
-//! Trees grown of many leaves at once, so that each branch is hashed once.
+//! Trees that many leaves are put into at once, so that a branch above several of them is hashed once.
 
 ghost use Rattle.std.specs.Prelude.{◌≡◌, ℕ, List, ◌+◌, ◌-◌, ◌<◌, ◌≤◌, ◌∷◌, ◌++◌, [], true, false, not, length, IfOk};
 ghost use Rattle.std.specs.FinMap as map;
@@ -121,8 +121,8 @@ fn one_by_one<D: SupportedDigest, A: Allocator + Copy>(
     Ok((grown, fresh))
 }
 
-/// The link after leaf digests are put under their key digests, in order, and how many of these are new. Each branch
-/// above several of them is hashed once.
+/// The link after leaf digests are put under their key digests, in order, and how many of these are new. A fork or an
+/// empty tree above several of them is hashed once; a lone key or a stem takes them one by one.
 pub(crate) fn spread<D: SupportedDigest, A: Allocator + Copy>(
     alloc: A,
     link: &Link<D, A>,

@@ -315,7 +315,8 @@ impl<D: SupportedDigest, K: VisitBytes + Drop, V: VisitBytes + Drop, A: Allocato
 
     /// The map with all the pairs of an iterator inserted, in order.
     ///
-    /// It first takes all of them, as two digests each, and then hashes each branch above several of them once.
+    /// It first takes all of them, as two digests each. Then it hashes once each branch above several of them, but
+    /// where they meet a lone key or a stem, which take them one by one, as a map more than half full does.
     ///
     /// `Full` comes where one of them is a new key digest at a `len` of `usize::MAX`: before anything grows where it is
     /// the first. After a refusal the rest of the iterator is dropped.
@@ -348,8 +349,7 @@ impl<D: SupportedDigest, K: VisitBytes + Drop, V: VisitBytes + Drop, A: Allocato
         self.insert(key, val)?.extended(iter)
     }
 
-    // This map with all the pairs of an iterator inserted, in order, after all are taken. A branch above many is hashed
-    // once.
+    // This map with all the pairs of an iterator inserted, in order, after all are taken.
     fn extended_at_once<I: Iterator<Item = (K, V)> + Drop>(
         &self,
         iter: I,
