@@ -93,10 +93,7 @@ pub(super) fn bytes<A: Allocator>(alloc: A, word: &[u8]) -> Result<Option<Vec<u8
     if word == b"-".as_slice() {
         return Ok(Some(Vec::new(alloc)));
     }
-    if word.is_empty() {
-        return Ok(None);
-    }
-    if word.len() % 2 == 1 {
+    if word.is_empty() || word.len() % 2 == 1 {
         return Ok(None);
     }
     let mut bytes = vec![in alloc; 0u8; word.len() / 2]?;
