@@ -120,7 +120,8 @@ fn collide<D: SupportedDigest, V: VisitBytes, A: Allocator + Copy>(
 /// takes in the evaluation (first) and in the tree over the entries (second) at one range around the node.
 ///
 /// It hashes each leaf and branch of the tree over the entries once, and few digests on one path beside
-/// them. Out of memory is the only error.
+/// them. Out of memory is the only error. A value or an entry of more than `usize::MAX` bytes counts as that:
+/// no copy of it could be had.
 ///
 /// ```rust
 /// match witness_value(alloc, &proof, &data, &"left-pad 6.6.6", &["left-pad 1.0.0"])? {
@@ -201,7 +202,7 @@ pub fn witness_hash<D: SupportedDigest, V: VisitBytes, L: LogData<D, V>, A: Allo
 /// `NotMet` exactly where one evaluation isn't Ok or both lead to different roots, which takes no memory.
 /// `Holds` exactly where both are Ok with one root, and the values have the same bytes. Else a collision: what
 /// the digest function takes in the first and in the second evaluation at one range around the node. Out of
-/// memory is the only error.
+/// memory is the only error. A value of more than `usize::MAX` bytes counts as that.
 pub fn agree_value<
     D: SupportedDigest,
     V: VisitBytes,

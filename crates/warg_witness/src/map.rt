@@ -169,7 +169,8 @@ fn find<D: SupportedDigest, K: VisitBytes, V: VisitBytes, W: VisitBytes, A: Allo
 ///
 /// It hashes each inserted key, each last value under a key digest, and each branch of the plain tree over a key once,
 /// and beside them 256 branches of the proof. It keeps the keys' digests with their places, which it sorts once, and 513
-/// digests more, and copies no key and no value but into a collision. Out of memory is the only error.
+/// digests more, and copies no key and no value but into a collision. Out of memory is the only error. A key or a value
+/// of more than `usize::MAX` bytes counts as that: no copy of it could be had.
 pub fn witness_key<
     D: SupportedDigest,
     K: VisitBytes,
@@ -200,7 +201,7 @@ pub fn witness_key<
 ///
 /// `NotMet` exactly where the proof doesn't lead from an empty leaf to the root of the map of the insertions. `Holds`
 /// exactly where it does, and the claim is true. Else a collision, as that of [`witness_key`] for a value without
-/// bytes, and at the same cost. Out of memory is the only error.
+/// bytes, and at the same cost. Out of memory is the only error, as there.
 pub fn witness_absent<
     D: SupportedDigest,
     K: VisitBytes,
@@ -229,7 +230,8 @@ pub fn witness_absent<
 ///
 /// `NotMet` exactly where the two don't lead to one root, which takes no memory. `Holds` exactly where they do, and the
 /// values have the same bytes. Else a collision: what the digest function takes in the first and in the second
-/// evaluation at one prefix of the key's bits. Out of memory is the only error.
+/// evaluation at one prefix of the key's bits. Out of memory is the only error. A value of more than `usize::MAX` bytes
+/// counts as that.
 pub fn agree_key<
     D: SupportedDigest,
     K: VisitBytes,

@@ -244,7 +244,7 @@ fn collide_at<D: SupportedDigest, V: VisitBytes, L: LogData<D, V>, A: Allocator 
 /// (first) and in the new one (second) at one range of both.
 ///
 /// It hashes each leaf and branch of both trees once, and few digests on three paths beside them. Out of
-/// memory is the only error.
+/// memory is the only error. An entry of more than `usize::MAX` bytes counts as that.
 pub fn witness_consistency<
     D: SupportedDigest,
     V: VisitBytes,
