@@ -1,74 +1,113 @@
 -- Balanced roots.
-use Rattle.std.proofs.Common.{◌≡◌, ℕ, zero, suc, ◌+◌, ◌-◌, ◌*◌, ◌^◌, ◌<◌, ◌≤◌, List, [], ◌∷◌, ◌++◌, map, refl, sym, ap, ◌∙◌, arith, lit≤, add-zero, append_assoc}
-use Rattle.std.proofs.Math.Nat.{pow-suc, pow-le-pow_right}
-use Rattle.std.proofs.lemmas.List.{map-append, append-nil}
-use Rattle.std.proofs.lemmas.Bool.{le-leb, lt-leb}
+use Rattle.std.proofs.Common.{◌≡◌, ℕ, zero, suc, ◌+◌, ◌-◌, ◌*◌, ◌^◌, ◌<◌, ◌≤◌, List, [], ◌∷◌, ◌++◌, map, add-one, refl, sym, ◌∙◌, arith, append_assoc, ⊎_elim}
+use Rattle.std.proofs.Math.Nat.{pow-suc}
+use Rattle.std.proofs.lemmas.List.{map_push, append-nil}
+use Rattle.std.proofs.lemmas.Bool.{le-leb, lt-leb, cases_lt}
+use Rattle.std.proofs.lemmas.Nat.{pow_pos}
 use Rattle.std.specs.List.{AllByRecursion}
 use Rattle.warg_log.specs.declared.node.Node.{Node}
-use Rattle.warg_log.specs.Nodes.{node_over, balanced_within, balanced_over, balanced_roots}
-use Rattle.warg_log.proofs.RootLemmas.{below_pow}
+use Rattle.warg_log.specs.Nodes.{height_of, start_of, end_of, node_over, balanced_within, balanced_over, balanced_roots, Follow, Fall}
+use Rattle.warg_log.proofs.AllLemmas.{all_append}
+use Rattle.warg_log.proofs.NodeLemmas.{over_at, over_ends, pow_below_pow}
+use Rattle.warg_log.proofs.RootLemmas.{below_pow, settled_at, exponent_below}
+
+-- a node ends its width behind its start
+pub end_is : (r : ℕ) → end_of r ≡ start_of r + 2 ^ height_of r
+end_is r = omega arith
+
+pub all_push : {X : Type 0} (P : X → Type 0) (xs : List X) (x : X) → AllByRecursion P xs → P x → AllByRecursion P (xs ++ x ∷ [])
+all_push P xs x all last = all_append P xs (x ∷ []) all (last, tt)
+
+-- functions that agree on each element
+pub map_same : {X Y : Type 0} (f g : X → Y) (xs : List X) → AllByRecursion (λ x. f x ≡ g x) xs → map f xs ≡ map g xs
+map_same f g [] all = refl
+map_same f g (x ∷ xs) all = rw (all.0, map_same f g xs all.1) refl
+
+-- no leaves have no balanced root
+pub balanced_none : (a : ℕ) → balanced_over a 0 ≡ []
+unfolding balanced_within
+balanced_none a = refl
+
+pub none_left : (a e : ℕ) → e ≤ a → balanced_over a (e - a) ≡ []
+none_left a e le = grind (arith, balanced_none a)
 
 -- any number of digits that is enough
-pub balanced_low : (h a n : ℕ) → n < 2 ^ h → balanced_within (suc h) a n ≡ balanced_within h a n
-unfolding balanced_within
-balanced_low h a n lt = rw (lt-leb (2 ^ h) n lt) refl
-
-pub balanced_any : (h d a n : ℕ) → n < 2 ^ h → balanced_within (h + d) a n ≡ balanced_within h a n
-balanced_any h zero a n lt = rw add-zero refl
-balanced_any h (suc d) a n lt =
-    let next : h + suc d ≡ suc (h + d) = omega arith in
-    let grows : 2 ^ h ≤ 2 ^ (h + d) = pow-le-pow_right (lit≤ tt) (let le' : h ≤ h + d = omega arith in le') in
-    let fits : n < 2 ^ (h + d) = omega arith in
-    rw next (balanced_low (h + d) a n fits ∙ balanced_any h d a n lt)
-
 pub balanced_at : (h k a n : ℕ) → n < 2 ^ h → n < 2 ^ k → balanced_within h a n ≡ balanced_within k a n
-balanced_at h k a n lh lk =
-    let swap : h + k ≡ k + h = omega arith in
-    sym (balanced_any h k a n lh) ∙ ap (λ m. balanced_within m a n) swap ∙ balanced_any k h a n lk
+unfolding balanced_within
+balanced_at h k a n lh lk = settled_at (λ m. balanced_within m a n) (suc n) h k (λ m lt. rw (lt-leb (2 ^ m) n lt) refl) lh lk
 
 -- the greatest comes first
 pub balanced_first : (h a n : ℕ) → 2 ^ h ≤ n → n < 2 ^ suc h
     → balanced_within n a n ≡ node_over a (2 ^ h) ∷ balanced_within (n - 2 ^ h) (a + 2 ^ h) (n - 2 ^ h)
 unfolding balanced_within
 balanced_first h a n low high =
-    let enough : n < 2 ^ n = below_pow n in
-    let twice : 2 ^ suc h ≡ 2 ^ h * 2 = pow-suc 2 h in
-    let rest_fits : n - 2 ^ h < 2 ^ h = omega arith in
-    let rest_enough : n - 2 ^ h < 2 ^ (n - 2 ^ h) = below_pow (n - 2 ^ h) in
-    balanced_at n (suc h) a n enough high
-    ∙ rw (le-leb (2 ^ h) n low) (ap (λ l. node_over a (2 ^ h) ∷ l) (balanced_at h (n - 2 ^ h) (a + 2 ^ h) (n - 2 ^ h) rest_fits rest_enough))
+    balanced_at n (suc h) a n (below_pow n) high
+    ∙ rw (le-leb (2 ^ h) n low, balanced_at h (n - 2 ^ h) (a + 2 ^ h) (n - 2 ^ h) (omega (arith, pow-suc)) (below_pow (n - 2 ^ h))) refl
 
--- one more root is cut off
-pub root_cut : (ns : List ℕ) (r start count length h : ℕ) → r ≡ node_over start count → count ≡ 2 ^ h → 2 ^ h ≤ length - start → length - start < 2 ^ (h + 1)
-    → ns ++ balanced_over start (length - start) ≡ balanced_roots length
-    → (ns ++ r ∷ []) ++ balanced_over (start + count) (length - (start + count)) ≡ balanced_roots length
-root_cut ns r start count length h number width low high so_far =
-    let next : h + 1 ≡ suc h = omega arith in
-    let high' : length - start < 2 ^ suc h = rw (← next) high in
-    let rest : length - start - 2 ^ h ≡ length - (start + 2 ^ h) = omega arith in
-    let first : balanced_over start (length - start) ≡ node_over start (2 ^ h) ∷ balanced_over (start + 2 ^ h) (length - (start + 2 ^ h)) =
-    balanced_first h start (length - start) low high' ∙ rw rest refl in
-    rw (number, width) (append_assoc ns (node_over start (2 ^ h) ∷ []) _ ∙ ap (λ l. ns ++ l) (sym first) ∙ so_far)
+pub balanced_more : (h a m : ℕ) → m < 2 ^ h → balanced_over a (2 ^ h + m) ≡ node_over a (2 ^ h) ∷ balanced_over (a + 2 ^ h) m
+balanced_more h a m lt = grind (arith, balanced_first h a (2 ^ h + m) (omega arith) (omega (arith, pow-suc)))
 
-pub map-push : {X : Type 0} (f : X → ℕ) (xs ys : List X) (x : X) → ys ≡ xs ++ x ∷ [] → map f ys ≡ map f xs ++ f x ∷ []
-map-push f xs ys x e = ap (λ l. map f l) e ∙ map-append f xs (x ∷ [])
+pub balanced_full : (h a : ℕ) → balanced_over a (2 ^ h) ≡ node_over a (2 ^ h) ∷ []
+balanced_full h a = grind (arith, balanced_more h a 0 (pow_pos h), balanced_none (a + 2 ^ h))
 
-pub all_push : {X : Type 0} (P : X → Type 0) (xs : List X) (x : X) → AllByRecursion P xs → P x → AllByRecursion P (xs ++ x ∷ [])
-all_push P [] x all last = (last, tt)
-all_push P (y ∷ xs) x all last = (all.0, all_push P xs x all.1 last)
+-- leaves above none have one
+pub has_first_over : (a n : ℕ) → 0 < n → (h : ℕ) × (2 ^ h ≤ n) × (balanced_over a n ≡ node_over a (2 ^ h) ∷ balanced_over (a + 2 ^ h) (n - 2 ^ h))
+has_first_over a n some = let e = exponent_below n (suc n) (omega arith) (below_pow n) in (e.0, omega arith, balanced_first e.0 a n (omega arith) e.2)
+
+-- the first balanced root of the leaves from a up to e has n leaves, and those behind it have fewer than its multiple
+abbrev pub IsFirst : ℕ → ℕ → ℕ → Type 0
+IsFirst a e n = (h : ℕ) × (n ≡ 2 ^ h) × (2 ^ h ≤ e - a) × (e - a < 2 ^ (h + 1))
+
+-- as a program cuts it off
+pub first_cut : (a e n : ℕ) → IsFirst a e n → balanced_over a (e - a) ≡ node_over a n ∷ balanced_over (a + n) (e - (a + n))
+first_cut a e n first = grind (arith, add-one, first, balanced_first first.0 a (e - a))
 
 -- one more root is pushed
 pub root_pushed : (xs ys : List Node) (r : Node) (start count length h : ℕ) → ys ≡ xs ++ r ∷ [] → r.0 ≡ node_over start count
     → count ≡ 2 ^ h → 2 ^ h ≤ length - start → length - start < 2 ^ (h + 1)
     → map (λ (m : Node). m.0) xs ++ balanced_over start (length - start) ≡ balanced_roots length
     → map (λ (m : Node). m.0) ys ++ balanced_over (start + count) (length - (start + count)) ≡ balanced_roots length
-root_pushed xs ys r start count length h pushed number width low high so_far =
-    ap (λ l. l ++ balanced_over (start + count) (length - (start + count))) (map-push (λ (m : Node). m.0) xs ys r pushed)
-    ∙ root_cut (map (λ (m : Node). m.0) xs) r.0 start count length h number width low high so_far
+root_pushed xs ys r start count length h pushed number width low high so_far = rw (pushed, map_push, append_assoc, number, ← first_cut start length count (h, width, low, high)) so_far
 
 pub no_more : (xs : List ℕ) (n a length : ℕ) → length ≤ a → xs ++ balanced_within (length - a) a (length - a) ≡ balanced_roots length → xs ≡ balanced_roots length
+no_more xs n a length le e = sym (append-nil xs) ∙ rw (none_left a length le) at e
+
+-- P holds of each range and its balanced roots where it holds of no leaves and, if it does of fewer than 2 ^ h leaves, of 2 ^ h more in front of them
+pub record Rule (P : ℕ → ℕ → List ℕ → Type 0) : Type 0 where
+  pub none : (a : ℕ) → P a 0 []
+  pub first : (h c m : ℕ) (ts : List ℕ) → m < 2 ^ h → P (c * 2 ^ h + 2 ^ h) m ts → P (c * 2 ^ h) (2 ^ h + m) (node_over (c * 2 ^ h) (2 ^ h) ∷ ts)
+
+roots_within : (P : ℕ → ℕ → List ℕ → Type 0) → Rule P → (h c n : ℕ) → n < 2 ^ h → P (c * 2 ^ h) n (balanced_within h (c * 2 ^ h) n)
 unfolding balanced_within
-no_more xs n a length le e =
-    let none : length - a ≡ 0 = omega arith in
-    let at_end : balanced_within (length - a) a (length - a) ≡ [] = rw none refl in
-    sym (append-nil xs) ∙ ap (λ l. xs ++ l) (sym at_end) ∙ e
+roots_within P R zero c n lt = let none : n ≡ 0 = omega arith in rw none (R.none (c * 2 ^ 0))
+roots_within P R (suc h) c n lt =
+    let start : c * 2 ^ suc h ≡ 2 * c * 2 ^ h = rw pow-suc (omega arith) in
+    let next : (2 * c + 1) * 2 ^ h ≡ 2 * c * 2 ^ h + 2 ^ h = omega arith in
+    rw start (⊎_elim
+    (λ (low : n < 2 ^ h). rw (lt-leb (2 ^ h) n low) (roots_within P R h (2 * c) n low))
+    (λ (high : 2 ^ h ≤ n).
+    let whole : 2 ^ h + (n - 2 ^ h) ≡ n = omega arith in
+    rw (le-leb (2 ^ h) n high) (rw whole at (R.first h (2 * c) (n - 2 ^ h) _ (omega (arith, pow-suc)) (rw next at (roots_within P R h (2 * c + 1) (n - 2 ^ h) (omega (arith, pow-suc)))))))
+    (cases_lt n (2 ^ h)))
+
+pub roots : (P : ℕ → ℕ → List ℕ → Type 0) → Rule P → (n : ℕ) → P 0 n (balanced_roots n)
+roots P R n = let start : 0 * 2 ^ n ≡ 0 = omega arith in rw start at (roots_within P R n 0 n (below_pow n))
+
+-- the balanced roots follow one another, and their heights fall
+pub balanced_roots-row : (n : ℕ) → Follow 0 n (balanced_roots n) × Fall n (balanced_roots n)
+balanced_roots-row n =
+    let row = roots (λ a n ts. Follow a (a + n) ts × ((k : ℕ) → n < 2 ^ k → Fall k ts)) (record {
+      none = λ a. (omega arith, λ k lt. tt);
+      first = λ h c m ts lt rest.
+          let whole : c * 2 ^ h + (2 ^ h + m) ≡ c * 2 ^ h + 2 ^ h + m = omega arith in
+          rw (whole, over_ends h c, (over_at h c).0, (over_at h c).1) ((refl, rest.0), (λ k fits. (pow_below_pow h k (omega arith), rest.1 h lt)));
+    }) n in
+    let all : 0 + n ≡ n = omega arith in
+    (rw all at row.0, row.1 n (below_pow n))
+
+-- each ends at or before the last leaf
+pub roots_end : (n e : ℕ) → n ≤ e → AllByRecursion (λ t. end_of t ≤ e) (balanced_roots n)
+roots_end n e fits = roots (λ a n ts. a + n ≤ e → AllByRecursion (λ t. end_of t ≤ e) ts) (record {
+  none = λ a fits. tt;
+  first = λ h c m ts lt rest fits. (rw (over_ends h c) (omega arith), rest (omega arith));
+}) n (omega arith)

@@ -1,15 +1,16 @@
 pub mod NodeLemmas
+pub mod AllLemmas
 pub mod RootLemmas
 pub mod BalancedLemmas
 pub mod AppendLemmas
 pub mod SideLemmas
 pub mod SliceLemmas
+pub mod WayLemmas
 pub mod CutLemmas
 pub mod WalkLemmas
 pub mod LawLemmas
 pub mod OrderLemmas
 pub mod StepLemmas
-pub mod PartLemmas
 pub mod ClimbLemmas
 pub mod AgreeLemmas
 pub mod MetLemmas

@@ -1,351 +1,169 @@
 -- The order in which the needed nodes stand, and how many they are.
-use Rattle.std.proofs.Common.{◌≡◌, ℕ, zero, suc, ◌+◌, ◌-◌, ◌*◌, ◌/◌, ◌%◌, ◌^◌, ◌<◌, ◌≤◌, ◌==◌, ◌&&◌, nat_le, true, false, List, [], ◌∷◌, ◌++◌, length, refl, sym, ap, ◌∙◌, arith, lit≤, lit<, subst, ⊎_elim, ◌⊎◌, inl, inr}
+use Rattle.std.proofs.Common.{◌≡◌, ℕ, zero, suc, ◌+◌, ◌-◌, ◌*◌, ◌/◌, ◌%◌, ◌^◌, ◌<◌, ◌≤◌, ◌==◌, if◌then◌else◌, nat_le, true, false, List, [], ◌∷◌, ◌++◌, length, refl, sym, ap, ◌∙◌, arith, lit≤, add-zero, add-one, ⊎_elim, inl, inr}
 use Rattle.std.specs.Prelude.{reverse, nat_eq}
 use Rattle.std.specs.List.{AllByRecursion, IsDistinct}
 use Rattle.std.proofs.lemmas.Grind.{reverse_onto}
-use Rattle.std.proofs.Math.Nat.{pow-suc, pow-le-pow_right, mul-le-mul_right}
+use Rattle.std.proofs.Math.Nat.{pow-suc, mul-le-mul_right}
 use Rattle.std.proofs.lemmas.List.{length-append, append-nil, length-reverse}
-use Rattle.std.proofs.lemmas.Bool.{le-leb, lt-leb, eq-eqb, eqb-true, ne_eqb, and_parts, false_from_ne_true, cases_Bool, cases_lt, cases_eq, false≢true}
-use Rattle.std.proofs.lemmas.Nat.{pow_pos, pow-add, div-mul-add}
-use Rattle.warg_log.specs.Nodes.{sibling_place, node_over, number_of, balanced_within, balanced_over}
-use Rattle.warg_log.specs.Cut.{is_target, is_beside, IsBeside}
-use Rattle.warg_log.specs.Walks.{needed_within, needed_over, siblings_up}
+use Rattle.std.proofs.lemmas.Bool.{ne_eqb, eq-eqb, cond_both, cases_lt, cases_eq}
+use Rattle.std.proofs.lemmas.Nat.{pow_pos, pow-add, shl-shr, shr-shr, le-div, div_below}
+use Rattle.warg_log.specs.Nodes.{sibling_place, node_over, number_of, balanced_within, balanced_over, balanced_roots}
+use Rattle.warg_log.specs.Cut.{Way, at_target, at_node, at_parts, way_over, is_beside, IsBeside}
+use Rattle.warg_log.specs.Walks.{read_on, needed_over, siblings_up}
+use Rattle.warg_log.proofs.AllLemmas.{all_append, all_weaken}
 use Rattle.warg_log.proofs.RootLemmas.{below_pow, same_power}
-use Rattle.warg_log.proofs.BalancedLemmas.{balanced_first, balanced_at}
-use Rattle.warg_log.proofs.CutLemmas.{target_true, target_false, beside_true, beside_false, beside_parts}
-use Rattle.warg_log.proofs.WalkLemmas.{needed_low, needed_at}
-use Rattle.warg_log.proofs.LawLemmas.{sibling_even, sibling_odd}
-use Rattle.warg_log.proofs.NodeLemmas.{cancel}
+use Rattle.warg_log.proofs.BalancedLemmas.{balanced_none, balanced_first, balanced_at, balanced_full, roots}
+use Rattle.warg_log.proofs.WayLemmas.{beside_decides, beside_false, cases_beside, missed, front_missed, rest_missed, way_over-target, way_over-read, way_over-split, ways_from}
+use Rattle.warg_log.proofs.NodeLemmas.{pow_below_pow}
 
 pub reverse-cons : (xs : List ℕ) (x : ℕ) → reverse (x ∷ xs) ≡ reverse xs ++ x ∷ []
 reverse-cons xs x = reverse_onto xs x []
 
--- the cases of a range of more than 2 ^ h leaves
-pub need_target : (s w h a n : ℕ) → 2 ^ h < n → a ≡ s → n ≡ w → needed_within s w (suc h) a n ≡ []
-unfolding needed_within
-need_target s w h a n more e f = rw (lt-leb n (2 ^ h) more, target_true s w a n e f) refl
+-- the way down a power of two of leaves that miss the target, which needs its own node
+way_over-beside : (s w h a : ℕ) → IsBeside s w a (2 ^ h) → way_over s w a (2 ^ h) ≡ at_node (node_over a (2 ^ h))
+way_over-beside s w h a beside = way_over-read s w a (2 ^ h) (missed s w a (2 ^ h) (pow_pos h) beside) (inr ((h, refl), beside))
 
-need_beside : (s w h a n : ℕ) → 2 ^ h < n → n ≡ 2 ^ suc h → (a ≡ s → n ≡ w → ⊥) → IsBeside s w a n → needed_within s w (suc h) a n ≡ node_over a n ∷ []
-unfolding needed_within
-need_beside s w h a n more width other beside = rw (lt-leb n (2 ^ h) more, target_false s w a n other, eq-eqb n (2 ^ suc h) width, beside_true s w a n beside) refl
-
-apart_false : (s w h a n : ℕ) → (n ≡ 2 ^ suc h → IsBeside s w a n → ⊥) → (n == 2 ^ suc h && is_beside s w a n) ≡ false
-apart_false s w h a n apart = false_from_ne_true (n == 2 ^ suc h && is_beside s w a n)
-    (λ e. let p = and_parts (n == 2 ^ suc h) (is_beside s w a n) e in apart (eqb-true n (2 ^ suc h) p.0) (beside_parts s w a n p.1))
-
-pub need_rest_first : (s w h a n : ℕ) → 2 ^ h < n → (a ≡ s → n ≡ w → ⊥) → (n ≡ 2 ^ suc h → IsBeside s w a n → ⊥) → IsBeside s w a (2 ^ h)
-    → needed_within s w (suc h) a n ≡ needed_within s w h (a + 2 ^ h) (n - 2 ^ h) ++ needed_within s w h a (2 ^ h)
-unfolding needed_within
-need_rest_first s w h a n more other apart front =
-    rw (lt-leb n (2 ^ h) more, target_false s w a n other, apart_false s w h a n apart, beside_true s w a (2 ^ h) front) refl
-
-pub need_front_first : (s w h a n : ℕ) → 2 ^ h < n → (a ≡ s → n ≡ w → ⊥) → (n ≡ 2 ^ suc h → IsBeside s w a n → ⊥) → (IsBeside s w a (2 ^ h) → ⊥)
-    → needed_within s w (suc h) a n ≡ needed_within s w h a (2 ^ h) ++ needed_within s w h (a + 2 ^ h) (n - 2 ^ h)
-unfolding needed_within
-need_front_first s w h a n more other apart front =
-    rw (lt-leb n (2 ^ h) more, target_false s w a n other, apart_false s w h a n apart, beside_false s w a (2 ^ h) front) refl
-
-need_one : (s w a : ℕ) → (a ≡ s → 1 ≡ w → ⊥) → needed_within s w 0 a 1 ≡ node_over a 1 ∷ []
-unfolding needed_within
-need_one s w a other = rw (target_false s w a 1 other) refl
-
-need_one_target : (s w a : ℕ) → a ≡ s → 1 ≡ w → needed_within s w 0 a 1 ≡ []
-unfolding needed_within
-need_one_target s w a e f = rw (target_true s w a 1 e f) refl
-
--- what misses the target isn't it
-pub missed : (s w a n : ℕ) → 0 < w → 0 < n → IsBeside s w a n → a ≡ s → n ≡ w → ⊥
-missed s w a n some leaves beside e f = ⊎_elim
-    (λ (le : a + n ≤ s). let no : ⊥ = omega arith in no)
-    (λ (le : s + w ≤ a). let no : ⊥ = omega arith in no) beside
-
--- a range of a power of two that misses the target
-pub need_full : (s w h a : ℕ) → 0 < w → IsBeside s w a (2 ^ h) → needed_within s w h a (2 ^ h) ≡ node_over a (2 ^ h) ∷ []
-need_full s w zero a some beside = need_one s w a (missed s w a 1 some (lit< tt) beside)
-need_full s w (suc h) a some beside =
-    let twice : 2 ^ suc h ≡ 2 ^ h * 2 = pow-suc 2 h in
-    let pos : 0 < 2 ^ h = pow_pos h in
-    need_beside s w h a (2 ^ suc h) (omega arith) refl (missed s w a (2 ^ suc h) some (omega arith) beside) beside
-
--- a part of what misses the target misses it too
-pub front_missed : (s w a n f : ℕ) → f ≤ n → IsBeside s w a n → IsBeside s w a f
-front_missed s w a n f le beside = ⊎_elim
-    (λ (e : a + n ≤ s). inl (let e' : a + f ≤ s = omega arith in e'))
-    (λ (e : s + w ≤ a). inr e) beside
-
-pub rest_missed : (s w a n f : ℕ) → f ≤ n → IsBeside s w a n → IsBeside s w (a + f) (n - f)
-rest_missed s w a n f le beside = ⊎_elim
-    (λ (e : a + n ≤ s). inl (let e' : a + f + (n - f) ≤ s = omega arith in e'))
-    (λ (e : s + w ≤ a). inr (let e' : s + w ≤ a + f = omega arith in e')) beside
+pub need_full : (s w h a : ℕ) → IsBeside s w a (2 ^ h) → needed_over s w a (2 ^ h) ≡ node_over a (2 ^ h) ∷ []
+unfolding read_on
+need_full s w h a beside = ap read_on (way_over-beside s w h a beside)
 
 -- of leaves that miss the target the balanced roots are needed, from right to left
-pub balanced_none : (a : ℕ) → balanced_over a 0 ≡ []
-unfolding balanced_within
-balanced_none a = refl
+pub need_beside_roots : (s w a n : ℕ) → 0 < n → IsBeside s w a n → needed_over s w a n ≡ reverse (balanced_over a n)
+unfolding read_on
+need_beside_roots s w a n some = ways_from s w a (λ a n way. IsBeside s w a n → read_on way ≡ reverse (balanced_over a n)) (record {
+  target = λ leaves beside. absurd (omega arith);
+  node = λ k c a _ _. sym (ap (λ l. reverse l) (balanced_full k a));
+  parts = λ h a n left right more most apart l r beside.
+      let part : n ≡ 2 ^ suc h → ⊥ = λ e. apart e beside in
+      let front = front_missed s w a n (2 ^ h) (omega arith) beside in
+      rw ((beside_decides s w a (2 ^ h)).1 front, l front, r (rest_missed s w a n (2 ^ h) (omega arith) beside), balanced_full h a, balanced_first h a n (omega arith) (omega arith))
+      (sym (reverse-cons (balanced_over (a + 2 ^ h) (n - 2 ^ h)) (node_over a (2 ^ h))));
+}) n some
 
-pub balanced_full : (h a : ℕ) → balanced_over a (2 ^ h) ≡ node_over a (2 ^ h) ∷ []
-balanced_full h a =
-    let twice : 2 ^ suc h ≡ 2 ^ h * 2 = pow-suc 2 h in
-    let pos : 0 < 2 ^ h = pow_pos h in
-    let none : 2 ^ h - 2 ^ h ≡ 0 = omega arith in
-    balanced_first h a (2 ^ h) (omega arith) (omega arith) ∙ ap (λ l. node_over a (2 ^ h) ∷ l) (rw none (balanced_none (a + 2 ^ h)))
+-- the range of the node that stands d heights above the j-th one of height k
+pub above : (d k j : ℕ) → (j / 2 ^ d * 2 ^ (k + d) ≤ j * 2 ^ k) × (j * 2 ^ k + 2 ^ k ≤ j / 2 ^ d * 2 ^ (k + d) + 2 ^ (k + d))
+above d k j =
+    let pos : 0 < 2 ^ d = pow_pos d in
+    let low : j / 2 ^ d * 2 ^ d * 2 ^ k ≤ j * 2 ^ k = mul-le-mul_right (2 ^ k) (let le : j / 2 ^ d * 2 ^ d ≤ j = omega arith in le) in
+    let high : (j + 1) * 2 ^ k ≤ (j / 2 ^ d * 2 ^ d + 2 ^ d) * 2 ^ k = mul-le-mul_right (2 ^ k) (let le : j + 1 ≤ j / 2 ^ d * 2 ^ d + 2 ^ d = omega arith in le) in
+    rw (pow-add 2 k d) (omega arith, omega arith)
 
-pub need_beside_roots : (s w h a n : ℕ) → 0 < w → 0 < n → n ≤ 2 ^ h → IsBeside s w a n → needed_within s w h a n ≡ reverse (balanced_over a n)
-need_beside_roots s w zero a n some leaves most beside =
-    let one : n ≡ 1 = omega arith in
-    let P : ℕ → Type 0 = λ m. IsBeside s w a m → needed_within s w 0 a m ≡ reverse (balanced_over a m) in
-    subst P (sym one) (λ b. need_one s w a (missed s w a 1 some (lit< tt) b) ∙ sym (ap (λ l. reverse l) (balanced_full 0 a))) beside
-need_beside_roots s w (suc h) a n some leaves most beside = ⊎_elim
-    (λ (more : 2 ^ h < n). ⊎_elim
-    (λ (full : n ≡ 2 ^ suc h).
-    let P : ℕ → Type 0 = λ m. IsBeside s w a m → needed_within s w (suc h) a m ≡ reverse (balanced_over a m) in
-    subst P (sym full) (λ b. need_full s w (suc h) a some b ∙ sym (ap (λ l. reverse l) (balanced_full (suc h) a))) beside)
-    (λ (part : n ≡ 2 ^ suc h → ⊥). cut s w h a n some leaves most more part beside
-    (let pos : 0 < n - 2 ^ h = omega arith in
-    let twice : 2 ^ suc h ≡ 2 ^ h * 2 = pow-suc 2 h in
-    need_beside_roots s w h (a + 2 ^ h) (n - 2 ^ h) some pos (omega arith) (rest_missed s w a n (2 ^ h) (omega arith) beside)))
-    (cases_eq n (2 ^ suc h)))
-    (λ (low : n ≤ 2 ^ h). needed_low s w h a n low ∙ need_beside_roots s w h a n some leaves low beside)
-    (cases_lt (2 ^ h) n)
-  where
-    cut : (s w h a n : ℕ) → 0 < w → 0 < n → n ≤ 2 ^ suc h → 2 ^ h < n → (n ≡ 2 ^ suc h → ⊥) → IsBeside s w a n
-        → needed_within s w h (a + 2 ^ h) (n - 2 ^ h) ≡ reverse (balanced_over (a + 2 ^ h) (n - 2 ^ h))
-        → needed_within s w (suc h) a n ≡ reverse (balanced_over a n)
-    cut s w h a n some leaves most more part beside rest =
-        let front : IsBeside s w a (2 ^ h) = front_missed s w a n (2 ^ h) (omega arith) beside in
-        let first : balanced_over a n ≡ node_over a (2 ^ h) ∷ balanced_over (a + 2 ^ h) (n - 2 ^ h) = balanced_first h a n (omega arith) (omega arith) in
-        need_rest_first s w h a n more (missed s w a n some leaves beside) (λ full _. part full) front
-        ∙ rw (rest, need_full s w h a some front, first) (sym (reverse-cons (balanced_over (a + 2 ^ h) (n - 2 ^ h)) (node_over a (2 ^ h))))
-
--- no node's leaves begin or end inside those of a lower one
-pub no_straddle : (k j h m : ℕ) → k ≤ h → (j * 2 ^ k + 2 ^ k ≤ m * 2 ^ h) ⊎ (m * 2 ^ h ≤ j * 2 ^ k)
-no_straddle k j h m le =
-    let d = h - k in
-    let sum : k + d ≡ h = omega arith in
-    let whole : 2 ^ h ≡ 2 ^ k * 2 ^ d = ap (λ i. 2 ^ i) (sym sum) ∙ pow-add 2 k d in
-    rw whole (at (2 ^ k) j m (2 ^ d))
-  where
-    at : (p j m q : ℕ) → (j * p + p ≤ m * (p * q)) ⊎ (m * (p * q) ≤ j * p)
-    at p j m q = ⊎_elim
-        (λ less. let more : (j + 1) * p ≤ m * q * p = mul-le-mul_right p (let le : j + 1 ≤ m * q = omega arith in le) in inl (omega arith))
-        (λ done. let more : m * q * p ≤ j * p = mul-le-mul_right p done in inr (omega arith)) (cases_lt j (m * q))
-
--- the node of height h above the j-th of height k
-pub ancestor_place : (k j h m : ℕ) → k ≤ h → m * 2 ^ h ≤ j * 2 ^ k → j * 2 ^ k + 2 ^ k ≤ m * 2 ^ h + 2 ^ h → j / 2 ^ (h - k) ≡ m
-ancestor_place k j h m le low high =
+-- it is a given one, where that begins at or before the j-th of height k, and doesn't miss it
+pub lies_in_first : (k j h c n : ℕ) → n < 2 ^ suc h → c * 2 ^ h ≤ j * 2 ^ k → j * 2 ^ k + 2 ^ k ≤ c * 2 ^ h + n
+    → (IsBeside (j * 2 ^ k) (2 ^ k) (c * 2 ^ h) (2 ^ h) → ⊥) → (k ≤ h) × (j / 2 ^ (h - k) ≡ c)
+lies_in_first k j h c n high starts ends inside =
+    let low = pow_below_pow k (suc h) (omega arith) in
     let sum : k + (h - k) ≡ h = omega arith in
-    let whole : 2 ^ h ≡ 2 ^ k * 2 ^ (h - k) = ap (λ i. 2 ^ i) (sym sum) ∙ pow-add 2 k (h - k) in
-    at (2 ^ k) (2 ^ (h - k)) (2 ^ h) j m (pow_pos k) (pow_pos (h - k)) whole low high
-  where
-    at : (p q r j m : ℕ) → 0 < p → 0 < q → r ≡ p * q → m * r ≤ j * p → j * p + p ≤ m * r + r → j / q ≡ m
-    at p q r j m pos some is low high =
-        let low' : p * (m * q) ≤ p * j = let e : m * (p * q) ≤ j * p = rw is at low in omega arith in
-        let high' : p * (j + 1) ≤ p * ((m + 1) * q) = let e : j * p + p ≤ m * (p * q) + p * q = rw is at high in omega arith in
-        let from : m * q ≤ j = cancel p j (m * q) pos low' in
-        let to : j + 1 ≤ (m + 1) * q = cancel p ((m + 1) * q) (j + 1) pos high' in
-        let parts : j ≡ m * q + (j - m * q) = omega arith in
-        let less : j - m * q < q = omega arith in
-        rw parts (div-mul-add m q (j - m * q) less)
+    let place : j / 2 ^ (h - k) ≡ j * 2 ^ k / 2 ^ h = rw (shl-shr, sum) at (shr-shr (j * 2 ^ k) k (h - k)) in
+    (omega (arith, low), grind (arith, inside, place, le-div c (j * 2 ^ k) (2 ^ h) (pow_pos h) starts, div_below (j * 2 ^ k) (2 ^ h) (c + 1) (pow_pos h)))
 
--- the target's own range
-need_at_target : (s w h a : ℕ) → a ≡ s → 2 ^ h ≡ w → needed_within s w h a (2 ^ h) ≡ []
-need_at_target s w zero a e f = need_one_target s w a e f
-need_at_target s w (suc h) a e f =
-    let twice : 2 ^ suc h ≡ 2 ^ h * 2 = pow-suc 2 h in
-    let pos : 0 < 2 ^ h = pow_pos h in
-    need_target s w h a (2 ^ suc h) (omega arith) e f
+-- the way down to a target in the range of the i-th node of height h, from the node above: by that range's way, beside the sibling's node
+abbrev pub up : ℕ → ℕ → Way → Way
+up h i way = if i % 2 == 0 then at_parts false way (at_node (number_of h (sibling_place i))) else at_parts true (at_node (number_of h (sibling_place i))) way
 
--- around the target, in a full range, the siblings on the way up are needed
-pub need_around : (k j h c : ℕ) → k ≤ h → c * 2 ^ h ≤ j * 2 ^ k → j * 2 ^ k + 2 ^ k ≤ c * 2 ^ h + 2 ^ h
-    → needed_within (j * 2 ^ k) (2 ^ k) h (c * 2 ^ h) (2 ^ h) ≡ siblings_up (h - k) k j
-need_around k j zero c le low high =
-    let none : k ≡ 0 = omega arith in
-    let at : c * 2 ^ 0 ≡ j * 2 ^ k = let low' : c * 1 ≤ j * 1 = rw none at low in let high' : j * 1 + 1 ≤ c * 1 + 1 = rw none at high in rw none (omega arith) in
-    let width : 2 ^ 0 ≡ 2 ^ k = rw none refl in
-    let up : 0 - k ≡ 0 = omega arith in
-    need_at_target (j * 2 ^ k) (2 ^ k) zero (c * 2 ^ 0) at width ∙ sym (rw up refl)
-need_around k j (suc h) c le low high = ⊎_elim (here k j h c low high) (λ (other : k ≡ suc h → ⊥). below k j h c (omega arith) low high (need_around k j h (2 * c)) (need_around k j h (2 * c + 1))) (cases_eq k (suc h))
-  where
-    here : (k j h c : ℕ) → c * 2 ^ suc h ≤ j * 2 ^ k → j * 2 ^ k + 2 ^ k ≤ c * 2 ^ suc h + 2 ^ suc h → k ≡ suc h
-        → needed_within (j * 2 ^ k) (2 ^ k) (suc h) (c * 2 ^ suc h) (2 ^ suc h) ≡ siblings_up (suc h - k) k j
-    here k j h c low high same =
-        let width : 2 ^ suc h ≡ 2 ^ k = rw same refl in
-        let at : c * 2 ^ suc h ≡ j * 2 ^ k = omega arith in
-        let up : suc h - k ≡ 0 = omega arith in
-        need_at_target (j * 2 ^ k) (2 ^ k) (suc h) (c * 2 ^ suc h) at width ∙ sym (rw up refl)
+way_up : (s w h i : ℕ) → 0 < w → i * 2 ^ h ≤ s → s + w ≤ i * 2 ^ h + 2 ^ h → way_over s w (i / 2 * 2 ^ suc h) (2 ^ suc h) ≡ up h i (way_over s w (i * 2 ^ h) (2 ^ h))
+way_up s w h i some low high =
+    let split = λ (a : ℕ). way_over-split s w h a (2 ^ suc h) (omega (arith, pow-suc, pow_pos)) (omega arith) (λ _ e. omega (arith, pow-suc)) in
+    let wide = ap (λ p. i / 2 * p) (pow-suc 2 h) in
+    ⊎_elim
+    (λ (even : i % 2 ≡ 0).
+    let half = ap (λ m. m * 2 ^ h) (let is : i ≡ 2 * (i / 2) = omega arith in is) in
+    let first = split (i * 2 ^ h) (λ _ b. omega (arith, pow-suc)) in
+    rw (eq-eqb (i % 2) 0 even) (grind (arith, half, wide, pow-suc 2 h, first, beside_false s w (i * 2 ^ h) (2 ^ h) (λ b. omega arith), way_over-beside s w h ((i + 1) * 2 ^ h) (inr (omega arith)))))
+    (λ (odd : i % 2 ≡ 0 → ⊥).
+    let less : i - 1 + 1 ≡ i = omega arith in
+    let half = ap (λ m. m * 2 ^ h) (let is : i ≡ 2 * (i / 2) + 1 = omega arith in is) in
+    let next : (i - 1) * 2 ^ h + 2 ^ h ≡ i * 2 ^ h = omega (arith, ap (λ m. m * 2 ^ h) less) in
+    let beside : IsBeside s w ((i - 1) * 2 ^ h) (2 ^ h) = inl (rw next low) in
+    let first = split ((i - 1) * 2 ^ h) (λ _ b. omega (arith, pow-suc, next)) in
+    rw (ne_eqb (i % 2) 0 odd) (grind (arith, half, next, wide, pow-suc 2 h, first, (beside_decides s w ((i - 1) * 2 ^ h) (2 ^ h)).1 beside, way_over-beside s w h ((i - 1) * 2 ^ h) beside)))
+    (cases_eq (i % 2) 0)
 
-    below : (k j h c : ℕ) → k ≤ h → c * 2 ^ suc h ≤ j * 2 ^ k → j * 2 ^ k + 2 ^ k ≤ c * 2 ^ suc h + 2 ^ suc h
-        → (k ≤ h → 2 * c * 2 ^ h ≤ j * 2 ^ k → j * 2 ^ k + 2 ^ k ≤ 2 * c * 2 ^ h + 2 ^ h → needed_within (j * 2 ^ k) (2 ^ k) h (2 * c * 2 ^ h) (2 ^ h) ≡ siblings_up (h - k) k j)
-        → (k ≤ h → (2 * c + 1) * 2 ^ h ≤ j * 2 ^ k → j * 2 ^ k + 2 ^ k ≤ (2 * c + 1) * 2 ^ h + 2 ^ h → needed_within (j * 2 ^ k) (2 ^ k) h ((2 * c + 1) * 2 ^ h) (2 ^ h) ≡ siblings_up (h - k) k j)
-        → needed_within (j * 2 ^ k) (2 ^ k) (suc h) (c * 2 ^ suc h) (2 ^ suc h) ≡ siblings_up (suc h - k) k j
-    below k j h c le low high left right =
-        let twice : 2 ^ suc h ≡ 2 ^ h * 2 = pow-suc 2 h in
-        let grows : 2 ^ k ≤ 2 ^ h = pow-le-pow_right (lit≤ tt) le in
-        let pos : 0 < 2 ^ k = pow_pos k in
-        let start : c * 2 ^ suc h ≡ 2 * c * 2 ^ h = rw twice (omega arith) in
-        let middle : c * 2 ^ suc h + 2 ^ h ≡ (2 * c + 1) * 2 ^ h = rw start (omega arith) in
-        let half : 2 ^ suc h - 2 ^ h ≡ 2 ^ h = omega arith in
-        let more : 2 ^ h < 2 ^ suc h = omega arith in
-        let wide : 2 ^ suc h ≡ 2 ^ k → ⊥ = λ e. omega arith in
-        let inside : IsBeside (j * 2 ^ k) (2 ^ k) (c * 2 ^ suc h) (2 ^ suc h) → ⊥ = λ b. ⊎_elim
-        (λ (e : c * 2 ^ suc h + 2 ^ suc h ≤ j * 2 ^ k). let no : ⊥ = omega arith in no)
-        (λ (e : j * 2 ^ k + 2 ^ k ≤ c * 2 ^ suc h). let no : ⊥ = omega arith in no) b in
-        let height : k + (h - k) ≡ h = omega arith in
-        let up : suc h - k ≡ suc (h - k) = omega arith in
-        ⊎_elim
-        (λ (before : j * 2 ^ k + 2 ^ k ≤ (2 * c + 1) * 2 ^ h).
-        let here_low : 2 * c * 2 ^ h ≤ j * 2 ^ k = omega arith in
-        let here_high : j * 2 ^ k + 2 ^ k ≤ 2 * c * 2 ^ h + 2 ^ h = omega arith in
-        let place : j / 2 ^ (h - k) ≡ 2 * c = ancestor_place k j h (2 * c) le here_low here_high in
-        let even : (2 * c) % 2 ≡ 0 = omega arith in
-        let not_beside : IsBeside (j * 2 ^ k) (2 ^ k) (c * 2 ^ suc h) (2 ^ h) → ⊥ = λ b. ⊎_elim
-        (λ (e : c * 2 ^ suc h + 2 ^ h ≤ j * 2 ^ k). let no : ⊥ = omega arith in no)
-        (λ (e : j * 2 ^ k + 2 ^ k ≤ c * 2 ^ suc h). let no : ⊥ = omega arith in no) b in
-        let beside : IsBeside (j * 2 ^ k) (2 ^ k) ((2 * c + 1) * 2 ^ h) (2 ^ h) = inr before in
-        let last : number_of (k + (h - k)) (sibling_place (j / 2 ^ (h - k))) ≡ node_over ((2 * c + 1) * 2 ^ h) (2 ^ h) = rw (height, place, sibling_even (2 * c) even) refl in
-        need_front_first (j * 2 ^ k) (2 ^ k) h (c * 2 ^ suc h) (2 ^ suc h) more (λ _ e. wide e) (λ _ b. inside b) not_beside
-        ∙ rw (middle, half, start, left le here_low here_high, need_full (j * 2 ^ k) (2 ^ k) h ((2 * c + 1) * 2 ^ h) pos beside, up, last) refl)
-        (λ (after : (2 * c + 1) * 2 ^ h ≤ j * 2 ^ k).
-        let here_high : j * 2 ^ k + 2 ^ k ≤ (2 * c + 1) * 2 ^ h + 2 ^ h = omega arith in
-        let place : j / 2 ^ (h - k) ≡ 2 * c + 1 = ancestor_place k j h (2 * c + 1) le after here_high in
-        let odd : (2 * c + 1) % 2 ≡ 1 = omega arith in
-        let less : 2 * c + 1 - 1 ≡ 2 * c = omega arith in
-        let beside : IsBeside (j * 2 ^ k) (2 ^ k) (2 * c * 2 ^ h) (2 ^ h) = inl (let e : 2 * c * 2 ^ h + 2 ^ h ≤ j * 2 ^ k = omega arith in e) in
-        let last : number_of (k + (h - k)) (sibling_place (j / 2 ^ (h - k))) ≡ node_over (2 * c * 2 ^ h) (2 ^ h) = rw (height, place, sibling_odd (2 * c + 1) odd, less) refl in
-        need_rest_first (j * 2 ^ k) (2 ^ k) h (c * 2 ^ suc h) (2 ^ suc h) more (λ _ e. wide e) (λ _ b. inside b) (rw start beside)
-        ∙ rw (middle, half, start, right le after here_high, need_full (j * 2 ^ k) (2 ^ k) h (2 * c * 2 ^ h) pos beside, up, last) refl)
-        (no_straddle k j h (2 * c + 1) le)
+-- P holds of the way to the j-th node of height k from each node above it where it holds at that node and, if it does at one, at the next
+pub climb : (k j : ℕ) (P : ℕ → Way → Type 0) → P 0 at_target → ((d : ℕ) (way : Way) → P d way → P (suc d) (up (k + d) (j / 2 ^ d) way))
+    → (d : ℕ) → P d (way_over (j * 2 ^ k) (2 ^ k) (j / 2 ^ d * 2 ^ (k + d)) (2 ^ (k + d)))
+climb k j P here step zero = let same : j / 2 ^ 0 ≡ j = omega arith in rw (same, add-zero, way_over-target) here
+climb k j P here step (suc d) =
+    let next : k + suc d ≡ suc (k + d) = omega arith in
+    let half : j / 2 ^ suc d ≡ j / 2 ^ d / 2 = let next : suc d ≡ d + 1 = omega arith in rw next (sym (shr-shr j d 1)) in
+    let at = above d k j in
+    rw (next, half, way_up (j * 2 ^ k) (2 ^ k) (k + d) (j / 2 ^ d) (pow_pos k) at.0 at.1) (step d _ (climb k j P here step d))
+
+-- around the target, in the range of the node above it, the siblings on the way up are needed
+need_around : (d k j : ℕ) → needed_over (j * 2 ^ k) (2 ^ k) (j / 2 ^ d * 2 ^ (k + d)) (2 ^ (k + d)) ≡ siblings_up d k j
+unfolding read_on
+need_around d k j = climb k j (λ d way. read_on way ≡ siblings_up d k j) refl
+    (λ d way is. cond_both (j / 2 ^ d % 2 == 0) _ _ (λ w. read_on w ≡ siblings_up (suc d) k j) (λ _. rw is refl) (λ _. rw is refl)) d
 
 -- a number strictly between two powers is none
 pub not_power : (h k n : ℕ) → 2 ^ h < n → n < 2 ^ suc h → n ≡ 2 ^ k → ⊥
-not_power h k n low high is =
-    let next : 2 ^ suc h ≡ 2 ^ h * 2 = pow-suc 2 h in
-    let same : n ≡ 2 ^ h = same_power n h k (omega arith) (omega arith) is in
-    omega arith
+not_power h k n low high is = let same : n ≡ 2 ^ h = same_power n h k (omega arith) (omega (arith, pow-suc)) is in omega arith
 
 -- the first balanced root misses the target: it comes last
 pub walk_beside : (k j h a n : ℕ) → 2 ^ h ≤ n → n < 2 ^ suc h → j * 2 ^ k + 2 ^ k ≤ a + n → a ≤ j * 2 ^ k → IsBeside (j * 2 ^ k) (2 ^ k) a (2 ^ h)
     → needed_over (j * 2 ^ k) (2 ^ k) a n ≡ needed_over (j * 2 ^ k) (2 ^ k) (a + 2 ^ h) (n - 2 ^ h) ++ node_over a (2 ^ h) ∷ []
+unfolding read_on
 walk_beside k j h a n low high ends starts front =
-    let twice : 2 ^ suc h ≡ 2 ^ h * 2 = pow-suc 2 h in
     let pos : 0 < 2 ^ k = pow_pos k in
-    let more : 2 ^ h < n = ⊎_elim
-    (λ (e : a + 2 ^ h ≤ j * 2 ^ k). let lt : 2 ^ h < n = omega arith in lt)
-    (λ (e : j * 2 ^ k + 2 ^ k ≤ a). absurd (omega arith)) front in
-    needed_at (j * 2 ^ k) (2 ^ k) (suc h) a n (omega arith)
-    ∙ need_rest_first (j * 2 ^ k) (2 ^ k) h a n more (λ _ e. not_power h k n more high e) (λ e _. omega arith) front
-    ∙ rw (sym (needed_at (j * 2 ^ k) (2 ^ k) h (a + 2 ^ h) (n - 2 ^ h) (omega arith)), need_full (j * 2 ^ k) (2 ^ k) h a pos front) refl
+    let more : 2 ^ h < n = omega arith in
+    ap read_on (way_over-split (j * 2 ^ k) (2 ^ k) h a n more (omega arith) (λ _ e. not_power h k n more high e) (λ e _. omega arith))
+    ∙ rw ((beside_decides (j * 2 ^ k) (2 ^ k) a (2 ^ h)).1 front, way_over-beside (j * 2 ^ k) (2 ^ k) h a front) refl
 
 -- the first balanced root holds the target: the siblings come first, and then the other roots
-pub walk_around : (k j h c n : ℕ) → k ≤ h → 2 ^ h ≤ n → n < 2 ^ suc h → c * 2 ^ h ≤ j * 2 ^ k → j * 2 ^ k + 2 ^ k ≤ c * 2 ^ h + 2 ^ h
-    → needed_over (j * 2 ^ k) (2 ^ k) (c * 2 ^ h) n ≡ siblings_up (h - k) k j ++ reverse (balanced_over (c * 2 ^ h + 2 ^ h) (n - 2 ^ h))
-walk_around k j h c n le low high starts ends = ⊎_elim
-    (λ (more : 2 ^ h < n). cut k j h c n le more high starts ends)
-    (λ (most : n ≤ 2 ^ h). whole k j h c n le (omega arith) starts ends)
-    (cases_lt (2 ^ h) n)
-  where
-    whole : (k j h c n : ℕ) → k ≤ h → n ≡ 2 ^ h → c * 2 ^ h ≤ j * 2 ^ k → j * 2 ^ k + 2 ^ k ≤ c * 2 ^ h + 2 ^ h
-        → needed_over (j * 2 ^ k) (2 ^ k) (c * 2 ^ h) n ≡ siblings_up (h - k) k j ++ reverse (balanced_over (c * 2 ^ h + 2 ^ h) (n - 2 ^ h))
-    whole k j h c n le full starts ends =
-        let none : n - 2 ^ h ≡ 0 = omega arith in
-        let rest : reverse (balanced_over (c * 2 ^ h + 2 ^ h) (n - 2 ^ h)) ≡ [] = ap (λ m. reverse (balanced_over (c * 2 ^ h + 2 ^ h) m)) none ∙ ap (λ l. reverse l) (balanced_none (c * 2 ^ h + 2 ^ h)) in
-        needed_at (j * 2 ^ k) (2 ^ k) h (c * 2 ^ h) n (omega arith)
-        ∙ ap (λ m. needed_within (j * 2 ^ k) (2 ^ k) h (c * 2 ^ h) m) full
-        ∙ need_around k j h c le starts ends ∙ sym (append-nil (siblings_up (h - k) k j)) ∙ ap (λ l. siblings_up (h - k) k j ++ l) (sym rest)
-
-    cut : (k j h c n : ℕ) → k ≤ h → 2 ^ h < n → n < 2 ^ suc h → c * 2 ^ h ≤ j * 2 ^ k → j * 2 ^ k + 2 ^ k ≤ c * 2 ^ h + 2 ^ h
-        → needed_over (j * 2 ^ k) (2 ^ k) (c * 2 ^ h) n ≡ siblings_up (h - k) k j ++ reverse (balanced_over (c * 2 ^ h + 2 ^ h) (n - 2 ^ h))
-    cut k j h c n le more high starts ends =
-        let twice : 2 ^ suc h ≡ 2 ^ h * 2 = pow-suc 2 h in
-        let pos : 0 < 2 ^ k = pow_pos k in
-        let inside : IsBeside (j * 2 ^ k) (2 ^ k) (c * 2 ^ h) (2 ^ h) → ⊥ = λ b. ⊎_elim
-        (λ (e : c * 2 ^ h + 2 ^ h ≤ j * 2 ^ k). let no : ⊥ = omega arith in no)
-        (λ (e : j * 2 ^ k + 2 ^ k ≤ c * 2 ^ h). let no : ⊥ = omega arith in no) b in
-        let beside : IsBeside (j * 2 ^ k) (2 ^ k) (c * 2 ^ h + 2 ^ h) (n - 2 ^ h) = inr ends in
-        needed_at (j * 2 ^ k) (2 ^ k) (suc h) (c * 2 ^ h) n (omega arith)
-        ∙ need_front_first (j * 2 ^ k) (2 ^ k) h (c * 2 ^ h) n more (λ _ e. not_power h k n more high e) (λ e _. omega arith) inside
-        ∙ rw (need_around k j h c le starts ends, need_beside_roots (j * 2 ^ k) (2 ^ k) h (c * 2 ^ h + 2 ^ h) (n - 2 ^ h) pos (omega arith) (omega arith) beside) refl
-
--- the target lies in the first balanced root, or that misses it
-pub lies_in_first : (k j h c n : ℕ) → n < 2 ^ suc h → c * 2 ^ h ≤ j * 2 ^ k → j * 2 ^ k + 2 ^ k ≤ c * 2 ^ h + n
-    → (IsBeside (j * 2 ^ k) (2 ^ k) (c * 2 ^ h) (2 ^ h) → ⊥) → (k ≤ h) × (j * 2 ^ k + 2 ^ k ≤ c * 2 ^ h + 2 ^ h)
-lies_in_first k j h c n high starts ends inside =
-    let low : k ≤ h = ⊎_elim
-    (λ (tall : h < k). let grows : 2 ^ suc h ≤ 2 ^ k = pow-le-pow_right (lit≤ tt) (let le : suc h ≤ k = omega arith in le) in absurd (omega arith))
-    (λ (le : k ≤ h). le) (cases_lt h k) in
-    let next : c * 2 ^ h + 2 ^ h ≡ (c + 1) * 2 ^ h = omega arith in (
-      low,
-      ⊎_elim
-          (λ (e : j * 2 ^ k + 2 ^ k ≤ (c + 1) * 2 ^ h). let le : j * 2 ^ k + 2 ^ k ≤ c * 2 ^ h + 2 ^ h = omega arith in le)
-          (λ (e : (c + 1) * 2 ^ h ≤ j * 2 ^ k). absurd (inside (inl (let le : c * 2 ^ h + 2 ^ h ≤ j * 2 ^ k = omega arith in le))))
-          (no_straddle k j h (c + 1) low),
-    )
+pub walk_around : (d k j n : ℕ) → 2 ^ (k + d) ≤ n → n < 2 ^ suc (k + d)
+    → needed_over (j * 2 ^ k) (2 ^ k) (j / 2 ^ d * 2 ^ (k + d)) n ≡ siblings_up d k j ++ reverse (balanced_over (j / 2 ^ d * 2 ^ (k + d) + 2 ^ (k + d)) (n - 2 ^ (k + d)))
+unfolding read_on
+walk_around d k j n low high = ⊎_elim
+    (λ (more : 2 ^ (k + d) < n).
+    let pos : 0 < 2 ^ k = pow_pos k in
+    let at = above d k j in
+    let inside = beside_false (j * 2 ^ k) (2 ^ k) (j / 2 ^ d * 2 ^ (k + d)) (2 ^ (k + d)) (λ b. omega (arith, at)) in
+    let rest = need_beside_roots (j * 2 ^ k) (2 ^ k) (j / 2 ^ d * 2 ^ (k + d) + 2 ^ (k + d)) (n - 2 ^ (k + d)) (omega arith) (inr at.1) in
+    ap read_on (way_over-split (j * 2 ^ k) (2 ^ k) (k + d) (j / 2 ^ d * 2 ^ (k + d)) n more (omega arith) (λ _ e. not_power (k + d) k n more high e) (λ e _. omega arith))
+    ∙ rw (inside, need_around d k j, rest) refl)
+    (λ (most : n ≤ 2 ^ (k + d)).
+    let full : n ≡ 2 ^ (k + d) = omega arith in
+    let none : 2 ^ (k + d) - 2 ^ (k + d) ≡ 0 = omega arith in
+    rw (full, none, balanced_none) (need_around d k j ∙ sym (append-nil (siblings_up d k j))))
+    (cases_lt (2 ^ (k + d)) n)
 
 -- how many the needed nodes are
 balanced_count : (h a n : ℕ) → length (balanced_within h a n) ≤ h
 unfolding balanced_within
 balanced_count zero a n = lit≤ tt
-balanced_count (suc h) a n = ⊎_elim
-    (λ (t : nat_le (2 ^ h) n ≡ true). rw t (let le : length (balanced_within h (a + 2 ^ h) (n - 2 ^ h)) ≤ h = balanced_count h (a + 2 ^ h) (n - 2 ^ h) in omega arith))
-    (λ (t : nat_le (2 ^ h) n ≡ false). rw t (let le : length (balanced_within h a n) ≤ h = balanced_count h a n in omega arith))
-    (cases_Bool (nat_le (2 ^ h) n))
+balanced_count (suc h) a n = cond_both (nat_le (2 ^ h) n) (node_over a (2 ^ h) ∷ balanced_within h (a + 2 ^ h) (n - 2 ^ h)) (balanced_within h a n) (λ l. length l ≤ suc h)
+    (λ _. omega (arith, balanced_count h (a + 2 ^ h) (n - 2 ^ h))) (λ _. omega (arith, balanced_count h a n))
 
 pub siblings_count : (c k j : ℕ) → length (siblings_up c k j) ≡ c
 siblings_count zero k j = refl
-siblings_count (suc c) k j = length-append (siblings_up c k j) _ ∙ rw (siblings_count c k j) (let e : c + 1 ≡ suc c = omega arith in e)
+siblings_count (suc c) k j = length-append (siblings_up c k j) _ ∙ rw (siblings_count c k j, add-one) refl
 
 pub needed_count : (k j b c n : ℕ) → n < 2 ^ b → c * 2 ^ b ≤ j * 2 ^ k → j * 2 ^ k + 2 ^ k ≤ c * 2 ^ b + n
     → length (needed_over (j * 2 ^ k) (2 ^ k) (c * 2 ^ b) n) ≤ 2 * (b - 1)
-needed_count k j zero c n lt starts ends = let pos : 0 < 2 ^ k = pow_pos k in absurd (omega arith)
+needed_count k j zero c n lt starts ends = absurd (omega (arith, pow_pos k))
 needed_count k j (suc b) c n lt starts ends =
-    let twice : 2 ^ suc b ≡ 2 ^ b * 2 = pow-suc 2 b in
-    let start : c * 2 ^ suc b ≡ 2 * c * 2 ^ b = rw twice (omega arith) in
-    let less : suc b - 1 ≡ b = omega arith in
-    rw (start, less) (⊎_elim
-    (λ (low : n < 2 ^ b). let le : length (needed_over (j * 2 ^ k) (2 ^ k) (2 * c * 2 ^ b) n) ≤ 2 * (b - 1) = needed_count k j b (2 * c) n low (omega arith) (omega arith) in omega arith)
-    (λ (high : 2 ^ b ≤ n). ⊎_elim
-    (λ (t : is_beside (j * 2 ^ k) (2 ^ k) (2 * c * 2 ^ b) (2 ^ b) ≡ true).
-    let beside : IsBeside (j * 2 ^ k) (2 ^ k) (2 * c * 2 ^ b) (2 ^ b) = beside_parts (j * 2 ^ k) (2 ^ k) (2 * c * 2 ^ b) (2 ^ b) t in
+    let start : c * 2 ^ suc b ≡ 2 * c * 2 ^ b = rw pow-suc (omega arith) in
     let middle : 2 * c * 2 ^ b + 2 ^ b ≡ (2 * c + 1) * 2 ^ b = omega arith in
-    let after : (2 * c + 1) * 2 ^ b ≤ j * 2 ^ k = later k j (2 * c * 2 ^ b) (2 ^ b) ((2 * c + 1) * 2 ^ b) middle (omega arith) beside in
-    let ends' : j * 2 ^ k + 2 ^ k ≤ (2 * c + 1) * 2 ^ b + (n - 2 ^ b) = omega arith in
-    let rest : length (needed_over (j * 2 ^ k) (2 ^ k) ((2 * c + 1) * 2 ^ b) (n - 2 ^ b)) ≤ 2 * (b - 1) = needed_count k j b (2 * c + 1) (n - 2 ^ b) (omega arith) after ends' in
-    let wide : 0 < b = let pos : 0 < 2 ^ k = pow_pos k in not_zero b n (omega arith) lt in
-    let whole = walk_beside k j b (2 * c * 2 ^ b) n high lt (omega arith) (omega arith) beside in
-    rw (whole, middle) (let len = length-append (needed_over (j * 2 ^ k) (2 ^ k) ((2 * c + 1) * 2 ^ b) (n - 2 ^ b)) (node_over (2 * c * 2 ^ b) (2 ^ b) ∷ []) in omega (arith, len, rest, wide)))
-    (λ (t : is_beside (j * 2 ^ k) (2 ^ k) (2 * c * 2 ^ b) (2 ^ b) ≡ false).
-    let inside : IsBeside (j * 2 ^ k) (2 ^ k) (2 * c * 2 ^ b) (2 ^ b) → ⊥ = λ e. false≢true (sym t ∙ beside_true (j * 2 ^ k) (2 ^ k) (2 * c * 2 ^ b) (2 ^ b) e) in
+    let pos : 0 < 2 ^ k = pow_pos k in
+    rw start (⊎_elim
+    (λ (low : n < 2 ^ b). omega (arith, needed_count k j b (2 * c) n low (omega arith) (omega arith)))
+    (λ (high : 2 ^ b ≤ n). ⊎_elim
+    (λ (beside : IsBeside (j * 2 ^ k) (2 ^ k) (2 * c * 2 ^ b) (2 ^ b)).
+    let rest = needed_count k j b (2 * c + 1) (n - 2 ^ b) (omega (arith, pow-suc)) (omega arith) (omega arith) in
+    let wide : 0 < b = pow_below_pow 0 b (omega (arith, pow-suc)) in
+    rw (walk_beside k j b (2 * c * 2 ^ b) n high lt (omega arith) (omega arith) beside, middle, length-append) (omega (arith, rest, wide)))
+    (λ (inside : IsBeside (j * 2 ^ k) (2 ^ k) (2 * c * 2 ^ b) (2 ^ b) → ⊥).
     let lies = lies_in_first k j b (2 * c) n lt (omega arith) (omega arith) inside in
-    let whole = walk_around k j b (2 * c) n lies.0 high lt (omega arith) lies.1 in
-    let roots : length (balanced_over (2 * c * 2 ^ b + 2 ^ b) (n - 2 ^ b)) ≤ b =
-    rw (balanced_at (n - 2 ^ b) b (2 * c * 2 ^ b + 2 ^ b) (n - 2 ^ b) (below_pow (n - 2 ^ b)) (omega arith)) (balanced_count b (2 * c * 2 ^ b + 2 ^ b) (n - 2 ^ b)) in
-    rw whole (let len = length-append (siblings_up (b - k) k j) (reverse (balanced_over (2 * c * 2 ^ b + 2 ^ b) (n - 2 ^ b))) in
-    let up = siblings_count (b - k) k j in
-    let back = length-reverse (balanced_over (2 * c * 2 ^ b + 2 ^ b) (n - 2 ^ b)) in
-    omega (arith, len, up, back, roots)))
-    (cases_Bool (is_beside (j * 2 ^ k) (2 ^ k) (2 * c * 2 ^ b) (2 ^ b))))
+    let sum : k + (b - k) ≡ b = let le = lies.0 in omega (arith, le) in
+    let whole = rw (sum, lies.1) at (walk_around (b - k) k j n (rw sum high) (rw sum lt)) in
+    let some = balanced_at (n - 2 ^ b) b (2 * c * 2 ^ b + 2 ^ b) (n - 2 ^ b) (below_pow (n - 2 ^ b)) (omega (arith, pow-suc)) in
+    rw (whole, length-append, siblings_count (b - k) k j, length-reverse, some) (omega (arith, balanced_count b (2 * c * 2 ^ b + 2 ^ b) (n - 2 ^ b))))
+    (cases_beside (j * 2 ^ k) (2 ^ k) (2 * c * 2 ^ b) (2 ^ b)))
     (cases_lt n (2 ^ b)))
-  where
-    later : (k j a f m : ℕ) → a + f ≡ m → a ≤ j * 2 ^ k → IsBeside (j * 2 ^ k) (2 ^ k) a f → m ≤ j * 2 ^ k
-    later k j a f m is starts beside = let pos : 0 < 2 ^ k = pow_pos k in ⊎_elim
-        (λ (e : a + f ≤ j * 2 ^ k). let le : m ≤ j * 2 ^ k = omega arith in le)
-        (λ (e : j * 2 ^ k + 2 ^ k ≤ a). absurd (omega arith)) beside
-
-    not_zero : (b n : ℕ) → 2 ^ b < n → n < 2 ^ suc b → 0 < b
-    not_zero zero n low high = absurd (omega arith)
-    not_zero (suc b) n low high = omega arith
 
 -- a node over a part of the leaves from a up to e
 abbrev pub Lies : ℕ → ℕ → ℕ → Type 0
 Lies a e x = (2 * a ≤ x) × (x + 2 ≤ 2 * e)
-
-all_append : (P : ℕ → Type 0) (xs ys : List ℕ) → AllByRecursion P xs → AllByRecursion P ys → AllByRecursion P (xs ++ ys)
-all_append P [] ys h i = i
-all_append P (x ∷ xs) ys h i = (h.0, all_append P xs ys h.1 i)
-
-all_weaken : (P Q : ℕ → Type 0) → ((x : ℕ) → P x → Q x) → (xs : List ℕ) → AllByRecursion P xs → AllByRecursion Q xs
-all_weaken P Q w [] h = tt
-all_weaken P Q w (x ∷ xs) h = (w x h.0, all_weaken P Q w xs h.1)
 
 distinct_append : (P Q : ℕ → Type 0) → ((x y : ℕ) → P x → Q y → x ≡ y → ⊥) → (xs ys : List ℕ) → AllByRecursion P xs → AllByRecursion Q ys
     → IsDistinct nat_eq xs → IsDistinct nat_eq ys → IsDistinct nat_eq (xs ++ ys)
@@ -361,58 +179,34 @@ pub record IsWithin (a e : ℕ) (xs : List ℕ) : Type 0 where
   pub lie : AllByRecursion (Lies a e) xs
   pub distinct : IsDistinct nat_eq xs
 
-pub within_none : (a e : ℕ) → IsWithin a e []
-unfolding IsDistinct
-within_none a e = record { lie = tt; distinct = tt }
-
-pub within_one : (a n : ℕ) → 0 < n → IsWithin a (a + n) (node_over a n ∷ [])
+within_one : (a n : ℕ) → 0 < n → IsWithin a (a + n) (node_over a n ∷ [])
 unfolding IsDistinct
 within_one a n some = record { lie = ((omega arith, omega arith), tt); distinct = (tt, tt) }
 
-pub within_both : (a m e : ℕ) (xs ys : List ℕ) → a ≤ m → m ≤ e → IsWithin a m xs → IsWithin m e ys → IsWithin a e (xs ++ ys) × IsWithin a e (ys ++ xs)
+within_both : (a m e : ℕ) (xs ys : List ℕ) → a ≤ m → m ≤ e → IsWithin a m xs → IsWithin m e ys → IsWithin a e (xs ++ ys) × IsWithin a e (ys ++ xs)
 within_both a m e xs ys low high left right =
-    let lx : AllByRecursion (Lies a e) xs = all_weaken (Lies a m) (Lies a e) (λ x p. (p.0, let q : x + 2 ≤ 2 * e = let r = p.1 in omega (arith, r) in q)) xs left.lie in
-    let ly : AllByRecursion (Lies a e) ys = all_weaken (Lies m e) (Lies a e) (λ x p. (let q : 2 * a ≤ x = let r = p.0 in omega (arith, r) in q, p.1)) ys right.lie in (
-      record {
-        lie = all_append (Lies a e) xs ys lx ly;
-        distinct = distinct_append (Lies a m) (Lies m e) (λ x y p q f. let r = p.1 in let t = q.0 in omega (arith, r, t, f)) xs ys left.lie right.lie left.distinct right.distinct;
-      },
-      record {
-        lie = all_append (Lies a e) ys xs ly lx;
-        distinct = distinct_append (Lies m e) (Lies a m) (λ x y q p f. let r = p.1 in let t = q.0 in omega (arith, r, t, f)) ys xs right.lie left.lie right.distinct left.distinct;
-      },
+    let lx : AllByRecursion (Lies a e) xs = all_weaken (Lies a m) (Lies a e) (λ x p. (p.0, omega (arith, p.1))) xs left.lie in
+    let ly : AllByRecursion (Lies a e) ys = all_weaken (Lies m e) (Lies a e) (λ x p. (omega (arith, p.0), p.1)) ys right.lie in (
+      record { lie = all_append (Lies a e) xs ys lx ly; distinct = distinct_append (Lies a m) (Lies m e) (λ x y p q f. omega (arith, p, q, f)) xs ys left.lie right.lie left.distinct right.distinct },
+      record { lie = all_append (Lies a e) ys xs ly lx; distinct = distinct_append (Lies m e) (Lies a m) (λ x y q p f. omega (arith, p, q, f)) ys xs right.lie left.lie right.distinct left.distinct },
     )
 
-needed_are_within : (s w h a n : ℕ) → 0 < n → IsWithin a (a + n) (needed_within s w h a n)
-unfolding needed_within
-needed_are_within s w zero a n some = ⊎_elim
-    (λ (t : is_target s w a n ≡ true). rw t (within_none a (a + n)))
-    (λ (t : is_target s w a n ≡ false). rw t (within_one a n some))
-    (cases_Bool (is_target s w a n))
-needed_are_within s w (suc h) a n some = ⊎_elim
-    (λ (low : n ≤ 2 ^ h). rw (le-leb n (2 ^ h) low) (needed_are_within s w h a n some))
-    (λ (more : 2 ^ h < n).
-    let end : a + 2 ^ h + (n - 2 ^ h) ≡ a + n = omega arith in
-    let left : IsWithin a (a + 2 ^ h) (needed_within s w h a (2 ^ h)) = needed_are_within s w h a (2 ^ h) (pow_pos h) in
-    let right : IsWithin (a + 2 ^ h) (a + n) (needed_within s w h (a + 2 ^ h) (n - 2 ^ h)) = rw end at (needed_are_within s w h (a + 2 ^ h) (n - 2 ^ h) (omega arith)) in
-    let both = within_both a (a + 2 ^ h) (a + n) _ _ (omega arith) (omega arith) left right in
-    rw (lt-leb n (2 ^ h) more) (⊎_elim
-    (λ (t : is_target s w a n ≡ true). rw t (within_none a (a + n)))
-    (λ (t : is_target s w a n ≡ false). rw t (⊎_elim
-    (λ (u : (n == 2 ^ suc h && is_beside s w a n) ≡ true). rw u (within_one a n some))
-    (λ (u : (n == 2 ^ suc h && is_beside s w a n) ≡ false). rw u (⊎_elim
-    (λ (v : is_beside s w a (2 ^ h) ≡ true). rw v both.1)
-    (λ (v : is_beside s w a (2 ^ h) ≡ false). rw v both.0)
-    (cases_Bool (is_beside s w a (2 ^ h)))))
-    (cases_Bool (n == 2 ^ suc h && is_beside s w a n))))
-    (cases_Bool (is_target s w a n))))
-    (cases_le n (2 ^ h))
-  where
-    cases_le : (m n : ℕ) → (m ≤ n) ⊎ (n < m)
-    cases_le m n = ⊎_elim (λ less. inr less) (λ le. inl le) (cases_lt n m)
+pub needed_distinct : (s w n : ℕ) → 0 < n → IsDistinct nat_eq (needed_over s w 0 n)
+unfolding read_on IsDistinct
+needed_distinct s w n some = (ways_from s w 0 (λ a n way. IsWithin a (a + n) (read_on way)) (record {
+  target = λ _. record { lie = tt; distinct = tt };
+  node = λ k c a _. within_one a (2 ^ k) (pow_pos k);
+  parts = λ h a n left right more most _ l r.
+      let end : a + 2 ^ h + (n - 2 ^ h) ≡ a + n = omega arith in
+      let both = within_both a (a + 2 ^ h) (a + n) (read_on left) (read_on right) (omega arith) (omega arith) l (rw end at r) in
+      cond_both (is_beside s w a (2 ^ h)) _ _ (IsWithin a (a + n)) (λ _. both.1) (λ _. both.0);
+}) n some).distinct
 
-pub needed_distinct : (s w a n : ℕ) → 0 < n → IsDistinct nat_eq (needed_over s w a n)
-needed_distinct s w a n some = (needed_are_within s w n a n some).distinct
-
-pub needed_below : (s w n : ℕ) → 0 < n → AllByRecursion (λ x. x < 2 * n) (needed_over s w 0 n)
-needed_below s w n some = all_weaken (Lies 0 (0 + n)) (λ x. x < 2 * n) (λ x p. let last = p.1 in omega (arith, last)) (needed_over s w 0 n) (needed_are_within s w n 0 n some).lie
+pub roots_distinct : (n : ℕ) → IsDistinct nat_eq (balanced_roots n)
+unfolding IsDistinct
+roots_distinct n = (roots (λ a n ts. IsWithin a (a + n) ts) (record {
+  none = λ a. record { lie = tt; distinct = tt };
+  first = λ h c m ts lt rest.
+      let end : c * 2 ^ h + 2 ^ h + m ≡ c * 2 ^ h + (2 ^ h + m) = omega arith in
+      (within_both (c * 2 ^ h) (c * 2 ^ h + 2 ^ h) (c * 2 ^ h + (2 ^ h + m)) (_ ∷ []) ts (omega arith) (omega arith) (within_one (c * 2 ^ h) (2 ^ h) (pow_pos h)) (rw end at rest)).0;
+}) n).distinct

@@ -1,222 +1,147 @@
 -- The steps of the walk's program.
-use Rattle.std.proofs.Common.{◌≡◌, ℕ, suc, ◌+◌, ◌-◌, ◌*◌, ◌/◌, ◌^◌, ◌<◌, ◌≤◌, List, [], ◌∷◌, ◌++◌, length, map, refl, sym, ap, ◌∙◌, arith, ⊎_elim, append_assoc}
+use Rattle.std.proofs.Common.{◌≡◌, ℕ, suc, ◌+◌, ◌-◌, ◌*◌, ◌/◌, ◌^◌, ◌<◌, ◌≤◌, List, [], ◌∷◌, ◌++◌, length, map, refl, sym, ap, ◌∙◌, arith, append_assoc, add-one}
 use Rattle.std.specs.Prelude.{reverse, nat_eq}
-use Rattle.std.proofs.Math.Nat.{pow-suc}
-use Rattle.std.proofs.lemmas.List.{map-append, append-nil, length-append, length-map, length-reverse}
+use Rattle.std.specs.List.{IsDistinct}
+use Rattle.std.proofs.Math.Nat.{pow-suc, add-sub_of_le, sub-add-eq, sub-eq-zero_of_le, sub-zero}
+use Rattle.std.proofs.lemmas.List.{map_push, append-nil, length-append, length-map, length-reverse}
 use Rattle.std.proofs.lemmas.Nat.{pow_pos, pow-add, shr-shr}
 use Rattle.warg_log.specs.declared.node.Node.{Node}
-use Rattle.std.specs.List.{IsDistinct}
 use Rattle.warg_log.specs.Nodes.{IsNode, ExistsAt, height_of, place_of, start_of, end_of, sibling_place, node_over, number_of, balanced_over}
 use Rattle.warg_log.specs.Cut.{IsBeside}
 use Rattle.warg_log.specs.Walks.{needed, needed_over, siblings_up, IsWalk, IsWalkOver}
-use Rattle.warg_log.proofs.NodeLemmas.{node_at, end_some, pow_below_pow}
+use Rattle.warg_log.proofs.NodeLemmas.{node_at, only_number, pow_below_pow, parts}
 use Rattle.warg_log.proofs.RootLemmas.{same_power}
-use Rattle.warg_log.proofs.LawLemmas.{only_number}
-use Rattle.warg_log.proofs.BalancedLemmas.{balanced_first}
-use Rattle.warg_log.proofs.OrderLemmas.{reverse-cons, balanced_none, siblings_count, ancestor_place, walk_beside, walk_around, lies_in_first, needed_distinct, needed_count}
+use Rattle.warg_log.proofs.BalancedLemmas.{balanced_none, IsFirst, first_cut}
+use Rattle.warg_log.proofs.OrderLemmas.{reverse-cons, siblings_count, walk_beside, walk_around, lies_in_first, needed_distinct, needed_count}
 
 -- the numbers of nodes
 abbrev pub numbers : List Node → List ℕ
 numbers xs = map (λ (m : Node). m.0) xs
 
-pub numbers-push : (xs ys : List Node) (n : Node) → ys ≡ xs ++ n ∷ [] → numbers ys ≡ numbers xs ++ n.0 ∷ []
-numbers-push xs ys n e = ap numbers e ∙ map-append (λ (m : Node). m.0) xs (n ∷ [])
-
--- no step up yet
-pub up_place : (k j : ℕ) → j ≡ j / 2 ^ (k - k)
-up_place k j = let none : k - k ≡ 0 = omega arith in rw none (let e : j ≡ j / 1 = omega arith in e)
-
-pub up_none : (xs : List ℕ) (k j : ℕ) → xs ≡ xs ++ siblings_up (k - k) k j
-up_none xs k j = let none : k - k ≡ 0 = omega arith in rw none (sym (append-nil xs))
-
 -- one step up
-pub step_height : (x p k : ℕ) → IsNode p (height_of x + 1) k → height_of p ≡ height_of x + 1
-step_height x p k is = (node_at p (height_of x + 1) k is).0
-
-pub step_place : (x p k j : ℕ) → k ≤ height_of x → place_of x ≡ j / 2 ^ (height_of x - k) → IsNode p (height_of x + 1) (place_of x / 2)
-    → place_of p ≡ j / 2 ^ (height_of p - k)
+pub step_place : (x p k j : ℕ) → k ≤ height_of x → place_of x ≡ j / 2 ^ (height_of x - k) → IsNode p (height_of x + 1) (place_of x / 2) → place_of p ≡ j / 2 ^ (height_of p - k)
 step_place x p k j le place is =
     let at = node_at p (height_of x + 1) (place_of x / 2) is in
-    let up : height_of p - k ≡ height_of x - k + 1 = let h = at.0 in omega (arith, h) in
-    let half : place_of x / 2 ≡ j / 2 ^ (height_of x - k) / 2 ^ 1 = ap (λ i. i / 2) place in
-    rw up (at.1 ∙ half ∙ shr-shr j (height_of x - k) 1)
+    let up : height_of p - k ≡ height_of x - k + 1 = omega arith in
+    rw up (at.1 ∙ ap (λ i. i / 2) place ∙ shr-shr j (height_of x - k) 1)
 
 pub step_pushed : (x p : ℕ) (xs ys : List Node) (y : Node) (old : List ℕ) (k j : ℕ) → k ≤ height_of x → place_of x ≡ j / 2 ^ (height_of x - k)
     → IsNode y.0 (height_of x) (sibling_place (place_of x)) → IsNode p (height_of x + 1) (place_of x / 2) → ys ≡ xs ++ y ∷ []
     → numbers xs ≡ old ++ siblings_up (height_of x - k) k j → numbers ys ≡ old ++ siblings_up (height_of p - k) k j
 step_pushed x p xs ys y old k j le place sib par pushed so_far =
-    let up : height_of p - k ≡ suc (height_of x - k) = let h = step_height x p (place_of x / 2) par in omega (arith, h) in
-    let height : k + (height_of x - k) ≡ height_of x = omega arith in
-    let number : y.0 ≡ number_of (k + (height_of x - k)) (sibling_place (j / 2 ^ (height_of x - k))) =
-    only_number y.0 (height_of x) (sibling_place (place_of x)) sib ∙ rw (height, place) refl in
-    numbers-push xs ys y pushed ∙ rw (so_far, number, up) (append_assoc old (siblings_up (height_of x - k) k j) _)
+    let up : height_of p - k ≡ suc (height_of x - k) = omega (arith, (node_at p (height_of x + 1) (place_of x / 2) par).0) in
+    let number : y.0 ≡ number_of (k + (height_of x - k)) (sibling_place (j / 2 ^ (height_of x - k))) = only_number y.0 _ _ sib ∙ rw (add-sub_of_le le, place) refl in
+    rw (pushed, map_push, so_far, number, up) (append_assoc old (siblings_up (height_of x - k) k j) _)
 
 -- the balanced roots, from right to left
 pub roots_none : (xs : List ℕ) (a e : ℕ) → e ≤ a → xs ≡ xs ++ reverse (balanced_over a (e - a))
-roots_none xs a e le = let none : e - a ≡ 0 = omega arith in
-    sym (append-nil xs) ∙ ap (λ l. xs ++ l) (sym (ap (λ m. reverse (balanced_over a m)) none ∙ ap (λ l. reverse l) (balanced_none a)))
+roots_none xs a e le = rw (sub-eq-zero_of_le le, balanced_none, append-nil) refl
 
-pub roots_first : (a e h : ℕ) → 2 ^ h ≤ e - a → e - a < 2 ^ (h + 1) → balanced_over a (e - a) ≡ node_over a (2 ^ h) ∷ balanced_over (a + 2 ^ h) (e - (a + 2 ^ h))
-roots_first a e h low high =
-    let next : h + 1 ≡ suc h = omega arith in
-    let high' : e - a < 2 ^ suc h = rw next at high in
-    let rest : e - a - 2 ^ h ≡ e - (a + 2 ^ h) = omega arith in
-    balanced_first h a (e - a) low high' ∙ rw rest refl
+-- the leaves from a up to e are fewer than a power of two, and begin at a multiple of it
+abbrev pub IsAligned : ℕ → ℕ → Type 0
+IsAligned a e = (h c : ℕ) × (a ≡ c * 2 ^ h) × (e - a < 2 ^ h)
 
-pub roots_more : (xs : List ℕ) (ys zs : List Node) (r : Node) (a e m n h : ℕ) → n ≡ 2 ^ h → 2 ^ h ≤ e - a → e - a < 2 ^ (h + 1) → m ≡ a + n → r.0 ≡ node_over a n
+pub roots_more : (xs : List ℕ) (ys zs : List Node) (r : Node) (a e m n : ℕ) → IsFirst a e n → m ≡ a + n → r.0 ≡ node_over a n
     → numbers ys ≡ xs ++ reverse (balanced_over m (e - m)) → zs ≡ ys ++ r ∷ [] → numbers zs ≡ xs ++ reverse (balanced_over a (e - a))
-roots_more xs ys zs r a e m n h width low high end number so_far pushed =
-    let last : m ≡ a + 2 ^ h = end ∙ ap (λ i. a + i) width in
-    numbers-push ys zs r pushed ∙ ap (λ l. l ++ r.0 ∷ []) so_far
-    ∙ append_assoc xs (reverse (balanced_over m (e - m))) (r.0 ∷ [])
-    ∙ ap (λ l. xs ++ l) (rw (number, width, last, roots_first a e h low high) (sym (reverse-cons (balanced_over (a + 2 ^ h) (e - (a + 2 ^ h))) (node_over a (2 ^ h)))))
+roots_more xs ys zs r a e m n first end number so_far pushed = rw (pushed, map_push, so_far, number, end, first_cut a e n first, reverse-cons, append_assoc) refl
 
--- where the first balanced root begins
-pub root_start : (d q a n h : ℕ) → a ≡ q * 2 ^ d → n < 2 ^ d → 2 ^ h ≤ n → (c : ℕ) × (a ≡ c * 2 ^ h)
-root_start d q a n h is most low =
-    let lt : h < d = pow_below_pow h d (omega arith) in
-    let sum : h + (d - h) ≡ d = omega arith in
-    let whole : 2 ^ d ≡ 2 ^ h * 2 ^ (d - h) = ap (λ i. 2 ^ i) (sym sum) ∙ pow-add 2 h (d - h) in
-    (q * 2 ^ (d - h), is ∙ rw whole (let e : q * (2 ^ h * 2 ^ (d - h)) ≡ q * 2 ^ (d - h) * 2 ^ h = omega arith in e))
+-- where the first balanced root begins, and the next one
+pub root_start : (a e n : ℕ) → IsAligned a e → (first : IsFirst a e n) → (c : ℕ) × (a ≡ c * 2 ^ first.0)
+root_start a e n aligned first =
+    let lt : first.0 < aligned.0 = pow_below_pow first.0 aligned.0 (omega arith) in
+    (aligned.1 * 2 ^ (aligned.0 - first.0), aligned.2 ∙ rw (parts first.0 aligned.0 (omega arith)) (omega arith))
 
--- the first balanced root of the leaves from a up to e misses the node x: it has the number r and ends at m
-pub record HasMissed (x a e m r : ℕ) : Type 0 where
-  pub aligned : (h c : ℕ) × (m ≡ c * 2 ^ h) × (e - m < 2 ^ h)
-  pub later : m ≤ start_of x
-  pub needs : needed_over (start_of x) (2 ^ height_of x) a (e - a) ≡ needed_over (start_of x) (2 ^ height_of x) m (e - m) ++ r ∷ []
-  pub roots : balanced_over a (e - a) ≡ r ∷ balanced_over m (e - m)
+pub aligned_next : (a e n : ℕ) → IsAligned a e → IsFirst a e n → IsAligned (a + n) e
+aligned_next a e n aligned first =
+    let c = root_start a e n aligned first in
+    let at = c.1 in
+    (first.0, c.0 + 1, omega arith, omega (arith, pow-add 2 first.0 1))
 
-pub missed_first : (x a e m r d q n h : ℕ) → a ≡ q * 2 ^ d → e - a < 2 ^ d → a ≤ start_of x → end_of x ≤ e → n ≡ 2 ^ h → 2 ^ h ≤ e - a → e - a < 2 ^ (h + 1)
-    → m ≡ a + n → r ≡ node_over a n → IsBeside (start_of x) (2 ^ height_of x) a n → HasMissed x a e m r
-missed_first x a e m r d q n h at most starts ends width low high end number beside =
-    let c = root_start d q a (e - a) h at most low in
-    let last : m ≡ a + 2 ^ h = end ∙ ap (λ i. a + i) width in
-    let next : h + 1 ≡ suc h = omega arith in
-    let high' : e - a < 2 ^ suc h = rw next at high in
-    let twice : 2 ^ suc h ≡ 2 ^ h * 2 = pow-suc 2 h in
-    let pos : 0 < 2 ^ height_of x = pow_pos (height_of x) in
-    let grown : end_of x ≡ start_of x + 2 ^ height_of x = ended (place_of x) (2 ^ height_of x) in
-    let beside' : IsBeside (start_of x) (2 ^ height_of x) a (2 ^ h) = rw width at beside in
-    let later : a + 2 ^ h ≤ start_of x = after (start_of x) (2 ^ height_of x) a (2 ^ h) pos starts beside' in
-    let rest : e - a - 2 ^ h ≡ e - (a + 2 ^ h) = omega arith in
-    let place : m ≡ (c.0 + 1) * 2 ^ h = last ∙ (let at' = c.1 in omega (arith, at')) in
-    let left : e - m < 2 ^ h = omega (arith, last, high', twice, low) in
-    record {
-      aligned = (h, c.0 + 1, place, left);
-      later = rw last later;
-      needs = rw (last, number, width)
-          (walk_beside (height_of x) (place_of x) h a (e - a) low high' (omega (arith, ends, grown, low)) starts beside'
-          ∙ ap (λ i. needed_over (start_of x) (2 ^ height_of x) (a + 2 ^ h) i ++ node_over a (2 ^ h) ∷ []) rest);
-      roots = rw (last, number, width) (roots_first a e h low high);
-    }
-  where
-    ended : (j w : ℕ) → (j + 1) * w ≡ j * w + w
-    ended j w = omega arith
+-- the first balanced root of the leaves from a up to e, of n leaves, misses the node x
+pub record HasMissed (x a e n : ℕ) : Type 0 where
+  pub later : a + n ≤ start_of x
+  pub needs : needed_over (start_of x) (2 ^ height_of x) a (e - a) ≡ needed_over (start_of x) (2 ^ height_of x) (a + n) (e - (a + n)) ++ node_over a n ∷ []
 
-    after : (s w a f : ℕ) → 0 < w → a ≤ s → IsBeside s w a f → a + f ≤ s
-    after s w a f pos starts beside = ⊎_elim (λ (le : a + f ≤ s). le) (λ (le : s + w ≤ a). absurd (omega arith)) beside
+pub missed_first : (x a e n : ℕ) → IsFirst a e n → a ≤ start_of x → end_of x ≤ e → IsBeside (start_of x) (2 ^ height_of x) a n → HasMissed x a e n
+missed_first x a e n first starts ends beside = record {
+  later = omega (arith, pow_pos);
+  needs = rw (first.1, sub-add-eq) (walk_beside (height_of x) (place_of x) first.0 a (e - a) first.2 (rw add-one at first.3) (omega arith) starts (rw first.1 at beside));
+}
 
 -- the walk over the rest, and then that root
-pub walk_grows : (x a e m r initial lower upper : ℕ) (xs ys : List ℕ) → HasMissed x a e m r → IsWalkOver x m (e - m) xs initial lower upper → ys ≡ xs ++ r ∷ []
+pub walk_grows : (x a e n initial lower upper : ℕ) (xs ys : List ℕ) → IsFirst a e n → IsWalkOver x (a + n) (e - (a + n)) xs initial lower upper → ys ≡ xs ++ node_over a n ∷ []
     → IsWalkOver x a (e - a) ys initial lower (suc upper)
-walk_grows x a e m r initial lower upper xs ys first walk pushed = record {
-  left = r ∷ walk.left;
+walk_grows x a e n initial lower upper xs ys first walk pushed = record {
+  left = node_over a n ∷ walk.left;
   right = walk.right;
-  roots = first.roots ∙ ap (λ l. r ∷ l) walk.roots;
-  order = pushed ∙ ap (λ l. l ++ r ∷ []) walk.order
-      ∙ append_assoc (siblings_up initial (height_of x) (place_of x) ++ reverse walk.right) (reverse walk.left) (r ∷ [])
-      ∙ ap (λ l. siblings_up initial (height_of x) (place_of x) ++ reverse walk.right ++ l) (sym (reverse-cons walk.left r));
+  roots = rw (first_cut a e n first, walk.roots) refl;
+  order = simp (pushed, walk.order, reverse-cons, append_assoc);
   lower_count = walk.lower_count;
   upper_count = ap suc walk.upper_count;
 }
 
--- the first balanced root of the leaves from a up to e holds the node x: it has height h and ends at m
-pub record HasFound (x a e m h : ℕ) : Type 0 where
+-- the first balanced root of the leaves from a up to e, of n leaves, holds the node x: it has height h
+pub record HasFound (x a e n h : ℕ) : Type 0 where
   pub low : height_of x ≤ h
-  pub needs : needed_over (start_of x) (2 ^ height_of x) a (e - a) ≡ siblings_up (h - height_of x) (height_of x) (place_of x) ++ reverse (balanced_over m (e - m))
-  pub roots : balanced_over a (e - a) ≡ number_of (height_of x + (h - height_of x)) (place_of x / 2 ^ (h - height_of x)) ∷ balanced_over m (e - m)
+  pub needs : needed_over (start_of x) (2 ^ height_of x) a (e - a) ≡ siblings_up (h - height_of x) (height_of x) (place_of x) ++ reverse (balanced_over (a + n) (e - (a + n)))
+  pub roots : balanced_over a (e - a) ≡ number_of (height_of x + (h - height_of x)) (place_of x / 2 ^ (h - height_of x)) ∷ balanced_over (a + n) (e - (a + n))
 
-pub found_first : (x a e m d q n h g : ℕ) → a ≡ q * 2 ^ d → e - a < 2 ^ d → a ≤ start_of x → end_of x ≤ e → n ≡ 2 ^ g → 2 ^ g ≤ e - a → e - a < 2 ^ (g + 1)
-    → 2 ^ h ≤ n → n < 2 * 2 ^ h → m ≡ a + n → (IsBeside (start_of x) (2 ^ height_of x) a n → ⊥) → HasFound x a e m h
-found_first x a e m d q n h g at most starts ends is low high below above end inside =
-    let width : n ≡ 2 ^ h = same_power n h g below above is in
-    let low' : 2 ^ h ≤ e - a = omega (arith, low, is, width) in
-    let c = root_start d q a (e - a) h at most low' in
-    let last : m ≡ a + 2 ^ h = end ∙ ap (λ i. a + i) width in
-    let more : 2 ^ (g + 1) ≡ 2 ^ g * 2 ^ 1 = pow-add 2 g 1 in
-    let twice : 2 ^ suc h ≡ 2 ^ h * 2 = pow-suc 2 h in
-    let next : 2 ^ (h + 1) ≡ 2 ^ h * 2 ^ 1 = pow-add 2 h 1 in
-    let high' : e - a < 2 ^ suc h = omega (arith, high, more, twice, is, width) in
-    let high'' : e - a < 2 ^ (h + 1) = omega (arith, high', twice, next) in
-    let grown : end_of x ≡ start_of x + 2 ^ height_of x = ended (place_of x) (2 ^ height_of x) in
-    let begins : c.0 * 2 ^ h ≤ start_of x = rw (← c.1) starts in
-    let inside' : IsBeside (start_of x) (2 ^ height_of x) (c.0 * 2 ^ h) (2 ^ h) → ⊥ = λ b. inside (carried (start_of x) (2 ^ height_of x) a (c.0 * 2 ^ h) n (2 ^ h) c.1 width b) in
-    let at' = c.1 in
-    let lies = lies_in_first (height_of x) (place_of x) h c.0 (e - a) high' begins (omega (arith, ends, grown, at', low')) inside' in
-    let le : height_of x ≤ h = lies.0 in
+pub found_first : (x a e n h : ℕ) → IsAligned a e → IsFirst a e n → a ≤ start_of x → end_of x ≤ e → 2 ^ h ≤ n → n < 2 * 2 ^ h
+    → (IsBeside (start_of x) (2 ^ height_of x) a n → ⊥) → HasFound x a e n h
+found_first x a e n h aligned first starts ends below above inside =
+    let width : n ≡ 2 ^ h = same_power n h first.0 below above first.1 in
+    let c = root_start a e n aligned first in
+    let at : a ≡ c.0 * 2 ^ h = c.1 ∙ ap (λ p. c.0 * p) (sym first.1 ∙ width) in
+    let low : 2 ^ h ≤ e - a = omega arith in
+    let high : e - a < 2 ^ suc h = omega (arith, pow-suc, pow-add 2 first.0 1) in
+    let lies = lies_in_first (height_of x) (place_of x) h c.0 (e - a) high (rw (← at) starts) (omega arith) (λ b. inside (rw (width, at) b)) in
     let sum : height_of x + (h - height_of x) ≡ h = omega arith in
-    let place : place_of x / 2 ^ (h - height_of x) ≡ c.0 = ancestor_place (height_of x) (place_of x) h c.0 le begins lies.1 in
-    let rest : e - a - 2 ^ h ≡ e - (a + 2 ^ h) = omega arith in
-    let whole : needed_over (start_of x) (2 ^ height_of x) a (e - a) ≡ siblings_up (h - height_of x) (height_of x) (place_of x) ++ reverse (balanced_over (a + 2 ^ h) (e - a - 2 ^ h)) =
-    rw c.1 (walk_around (height_of x) (place_of x) h c.0 (e - c.0 * 2 ^ h) le (rw (← c.1) low') (rw (← c.1) high') begins lies.1) in
     record {
-      low = le;
-      needs = rw last (whole ∙ ap (λ i. siblings_up (h - height_of x) (height_of x) (place_of x) ++ reverse (balanced_over (a + 2 ^ h) i)) rest);
-      roots = rw (last, sum, place) (roots_first a e h low' high'' ∙ ap (λ i. node_over i (2 ^ h) ∷ balanced_over (a + 2 ^ h) (e - (a + 2 ^ h))) c.1);
+      low = lies.0;
+      needs = rw (sum, lies.1, ← at, ← width, ← sub-add-eq e a n) at (walk_around (h - height_of x) (height_of x) (place_of x) (e - a) (rw sum low) (rw sum high));
+      roots = rw (sum, lies.1, ← at, ← width) (first_cut a e n first);
     }
-  where
-    ended : (j w : ℕ) → (j + 1) * w ≡ j * w + w
-    ended j w = omega arith
-
-    carried : (s w a b n p : ℕ) → a ≡ b → n ≡ p → IsBeside s w b p → IsBeside s w a n
-    carried s w a b n p e f beside = rw (e, f) beside
 
 -- the siblings, and then the roots right of them
-pub walk_begins : (x a e m h : ℕ) (xs ys zs : List Node) (i j : ℕ) → HasFound x a e m h → xs ≡ []
-    → numbers ys ≡ numbers xs ++ siblings_up (h - height_of x) (height_of x) (place_of x) → i ≡ length ys
-    → numbers zs ≡ numbers ys ++ reverse (balanced_over m (e - m)) → j ≡ length zs
-    → (numbers zs ≡ needed_over (start_of x) (2 ^ height_of x) a (e - a)) × (i ≤ j) × IsWalkOver x a (e - a) (numbers zs) i (j - i) 0
-walk_begins x a e m h xs ys zs i j found none up ups roots all =
-    let up' : numbers ys ≡ siblings_up (h - height_of x) (height_of x) (place_of x) = up ∙ ap (λ l. numbers l ++ siblings_up (h - height_of x) (height_of x) (place_of x)) none in
-    let count : i ≡ h - height_of x = ups ∙ sym (length-map ys (λ (m : Node). m.0)) ∙ ap length up' ∙ siblings_count (h - height_of x) (height_of x) (place_of x) in
-    let order : numbers zs ≡ siblings_up (h - height_of x) (height_of x) (place_of x) ++ reverse (balanced_over m (e - m)) = roots ∙ ap (λ l. l ++ reverse (balanced_over m (e - m))) up' in
-    let total : j ≡ i + length (balanced_over m (e - m)) = all ∙ sym (length-map zs (λ (m : Node). m.0)) ∙ ap length roots
-    ∙ length-append (numbers ys) (reverse (balanced_over m (e - m))) ∙ rw (length-map ys (λ (m : Node). m.0), length-reverse (balanced_over m (e - m)), ups) refl in (
-      order ∙ sym found.needs,
-      omega (arith, total),
-      record {
-        left = [];
-        right = balanced_over m (e - m);
-        roots = rw count found.roots;
-        order = rw count (order ∙ sym (append-nil (siblings_up (h - height_of x) (height_of x) (place_of x) ++ reverse (balanced_over m (e - m)))));
-        lower_count = omega (arith, total);
-        upper_count = refl;
-      },
-    )
+pub record HasBegun (x a m : ℕ) (nodes : List ℕ) (i j : ℕ) : Type 0 where
+  pub needs : nodes ≡ needed_over (start_of x) (2 ^ height_of x) a m
+  pub fits : i ≤ j
+  pub walk : IsWalkOver x a m nodes i (j - i) 0
 
--- a walk has the nodes of its three parts
-pub walk_length : (x a n initial lower upper : ℕ) (xs : List ℕ) → IsWalkOver x a n xs initial lower upper → length xs ≡ initial + lower + upper
-walk_length x a n initial lower upper xs walk =
-    ap length walk.order ∙ length-append (siblings_up initial (height_of x) (place_of x) ++ reverse walk.right) (reverse walk.left)
-    ∙ rw (length-append (siblings_up initial (height_of x) (place_of x)) (reverse walk.right), siblings_count initial (height_of x) (place_of x), length-reverse walk.right, length-reverse walk.left, walk.lower_count, walk.upper_count) refl
+pub walk_begins : (x a e n h : ℕ) (xs ys zs : List Node) (i j : ℕ) → HasFound x a e n h → xs ≡ []
+    → numbers ys ≡ numbers xs ++ siblings_up (h - height_of x) (height_of x) (place_of x) → i ≡ length ys
+    → numbers zs ≡ numbers ys ++ reverse (balanced_over (a + n) (e - (a + n))) → j ≡ length zs → HasBegun x a (e - a) (numbers zs) i j
+walk_begins x a e n h xs ys zs i j found none up ups roots all =
+    let right = balanced_over (a + n) (e - (a + n)) in
+    let siblings : numbers ys ≡ siblings_up (h - height_of x) (height_of x) (place_of x) = rw none at up in
+    let order : numbers zs ≡ siblings_up (h - height_of x) (height_of x) (place_of x) ++ reverse right = rw siblings at roots in
+    let count : i ≡ h - height_of x = ups ∙ sym (length-map ys (λ (m : Node). m.0)) ∙ ap length siblings ∙ siblings_count (h - height_of x) (height_of x) (place_of x) in
+    let total : j ≡ i + length right = all ∙ sym (length-map zs (λ (m : Node). m.0)) ∙ ap length order ∙ simp (length-append, length-reverse, siblings_count, count) in
+    record {
+      needs = order ∙ sym found.needs;
+      fits = omega arith;
+      walk = record {
+        left = [];
+        right = right;
+        roots = rw count found.roots;
+        order = rw (count, append-nil) order;
+        lower_count = omega arith;
+        upper_count = refl;
+      };
+    }
 
 -- the whole walk
 pub walk_whole : (x n i l j : ℕ) (zs : List Node) → (upper : ℕ) × IsWalkOver x 0 (n - 0) (numbers zs) i l upper → j ≡ length zs
     → (i ≤ j) × (l ≤ j - i) × IsWalk x n (numbers zs) i l (j - i - l)
 walk_whole x n i l j zs over count =
-    let len : j ≡ i + l + over.0 = count ∙ sym (length-map zs (λ (m : Node). m.0)) ∙ walk_length x 0 (n - 0) i l over.0 (numbers zs) over.1 in
+    let walk = over.1 in
+    let len : j ≡ i + l + over.0 = count ∙ sym (length-map zs (λ (m : Node). m.0)) ∙ ap length walk.order
+    ∙ simp (length-append, length-reverse, siblings_count, walk.lower_count, walk.upper_count) in
     let upper : over.0 ≡ j - i - l = omega arith in
-    let all : n - 0 ≡ n = omega arith in
-    (omega arith, omega arith, rw (← upper, ← all) over.1)
+    (omega arith, omega arith, rw (← upper) (rw sub-zero at walk))
 
 pub needed_once : (x n : ℕ) → ExistsAt x n → IsDistinct nat_eq (needed x n)
-needed_once x n exists = needed_distinct (start_of x) (2 ^ height_of x) 0 n (let some : 0 < end_of x = end_some (height_of x) (place_of x) in omega (arith, some, exists))
+needed_once x n exists = needed_distinct (start_of x) (2 ^ height_of x) n (omega (arith, pow_pos))
 
 pub needed_most : (x n b : ℕ) → ExistsAt x n → n < 2 ^ b → length (needed x n) ≤ 2 * (b - 1)
-needed_most x n b exists lt =
-    let zero_start : 0 * 2 ^ b ≡ 0 = omega arith in
-    let ends : place_of x * 2 ^ height_of x + 2 ^ height_of x ≤ 0 * 2 ^ b + n = omega (arith, ended (place_of x) (2 ^ height_of x), exists) in
-    rw zero_start at (needed_count (height_of x) (place_of x) b 0 n lt (omega arith) ends)
-  where
-    ended : (j w : ℕ) → (j + 1) * w ≡ j * w + w
-    ended j w = omega arith
+needed_most x n b exists lt = let none : 0 * 2 ^ b ≡ 0 = omega arith in rw none at (needed_count (height_of x) (place_of x) b 0 n lt (omega arith) (omega arith))

@@ -1,27 +1,18 @@
 -- The nodes that the cut root reads.
-use Rattle.std.specs.Prelude.{◌≡◌, ℕ, zero, suc, length, reverse, ◌/◌, ◌%◌, ◌+◌, ◌-◌, ◌^◌, ◌&&◌, ◌==◌, nat_le, if◌then◌else◌, List, [], ◌∷◌, ◌++◌, Option, None, IsSome}
-use Rattle.warg_log.specs.Nodes.{height_of, place_of, sibling_place, start_of, node_over, number_of, balanced_over}
-use Rattle.warg_log.specs.Cut.{joined, is_target, is_beside}
+use Rattle.std.specs.Prelude.{◌≡◌, ℕ, zero, suc, length, reverse, ◌/◌, ◌%◌, ◌+◌, ◌^◌, ◌==◌, if◌then◌else◌, List, [], ◌∷◌, ◌++◌, Option, None, IsSome}
+use Rattle.warg_log.specs.Nodes.{height_of, place_of, sibling_place, start_of, number_of, balanced_over}
+use Rattle.warg_log.specs.Cut.{joined, Way, at_target, at_node, at_parts, way_over}
 
--- The nodes at which cut_within reads in a range. Those of the part that holds the target come first;
--- where neither part does, those of the right part. `laws::needed_target`, `needed_beside` and
--- `needed_parts` state the recursion.
-unfoldable pub needed_within : ℕ → ℕ → ℕ → ℕ → ℕ → List ℕ
-needed_within s w zero a n = if is_target s w a n then [] else node_over a n ∷ []
-needed_within s w (suc h) a n =
-    if nat_le n (2 ^ h)
-    then needed_within s w h a n
-    else if is_target s w a n
-    then []
-    else if n == 2 ^ suc h && is_beside s w a n
-    then node_over a n ∷ []
-    else if is_beside s w a (2 ^ h)
-    then needed_within s w h (a + 2 ^ h) (n - 2 ^ h) ++ needed_within s w h a (2 ^ h)
-    else needed_within s w h a (2 ^ h) ++ needed_within s w h (a + 2 ^ h) (n - 2 ^ h)
+-- The nodes at which a way reads. Those of the part that holds the target come first; where neither does,
+-- those of the right part. `laws::needed_target`, `needed_beside` and `needed_parts` state the recursion.
+unfoldable pub read_on : Way → List ℕ
+read_on at_target = []
+read_on (at_node t) = t ∷ []
+read_on (at_parts misses left right) = if misses then read_on right ++ read_on left else read_on left ++ read_on right
 
 -- The nodes at which cut_over reads.
 abbrev pub needed_over : ℕ → ℕ → ℕ → ℕ → List ℕ
-needed_over s w a n = needed_within s w n a n
+needed_over s w a n = read_on (way_over s w a n)
 
 -- The needed nodes of the node t at length n: those at which cut_root reads.
 abbrev pub needed : ℕ → ℕ → List ℕ

@@ -65,7 +65,6 @@ impl<D: SupportedDigest, V: VisitBytes, A: Allocator> VecLog<D, V, A> {
         ensures value { result ≡ length self.now }
         ensures fits { length self.now ≤ 2 ^ 63 }
     {
-        let _digests = self.tree.len();
         self.count
     }
 

@@ -1,15 +1,18 @@
-use Rattle.std.proofs.Common.{sym}
-use Rattle.warg_log.proofs.AgreeLemmas.{given_found, given_lacking}
+use Rattle.std.proofs.Common.{◌≡◌, ℕ, ◌*◌, ◌^◌, refl}
+use Rattle.warg_log.specs.Nodes.{height_of, start_of, node_over}
+use Rattle.warg_log.proofs.NodeLemmas.{over_at}
 use Rattle.warg_log.proofs.consistency.root_from.Goals as goal
+
+-- the range of a balanced root
+root_range : (a w : ℕ) → (h c : ℕ) × (a ≡ c * 2 ^ h) × (w ≡ 2 ^ h) → (start_of (node_over a w) ≡ a) × (2 ^ height_of (node_over a w) ≡ w)
+root_range a w root = let at = over_at root.0 root.1 in rw (root.2, root.3, at.0, at.1) (refl, refl)
 
 pub returns-in-Some-range_root_by-clause-value : goal.returns-in-Some-range_root_by-clause-value
 returns-in-Some-range_root_by-clause-value g c =
-    let root = c.requires.is_root in
-    given_found g.D.SupportedDigest.digest (g.L.LogData.digest_at c.args.hashes.now) c.args.whole.now.count c.node.result.0 c.args.root.now.start c.args.root.now.count c.args.whole.now.start root.0 root.1 c.in-Some.hash c.in-Some-range_root_by.found
-    c.node.ensures root.2 root.3 (sym c.in-Some.ensures) c.requires.whole c.in-Some-range_root_by.ensures.value
+    let range = root_range c.args.root.now.start c.args.root.now.count c.requires.is_root in
+    rw (← rw c.node.ensures at c.in-Some.ensures, range.0, range.1, ← rw c.requires.whole at c.in-Some-range_root_by.ensures.value) refl
 
 pub returns-in-Some-clause-value : goal.returns-in-Some-clause-value
 returns-in-Some-clause-value g c =
-    let root = c.requires.is_root in
-    given_lacking g.D.SupportedDigest.digest (g.L.LogData.digest_at c.args.hashes.now) c.args.whole.now.count c.node.result.0 c.args.root.now.start c.args.root.now.count c.args.whole.now.start root.0 root.1 c.in-Some.hash
-    c.node.ensures root.2 root.3 (sym c.in-Some.ensures) c.requires.whole c.in-None-range_root_by.ensures.value
+    let range = root_range c.args.root.now.start c.args.root.now.count c.requires.is_root in
+    rw (← rw c.node.ensures at c.in-Some.ensures, range.0, range.1, ← rw c.requires.whole at c.in-None-range_root_by.ensures.value) refl

@@ -1,8 +1,5 @@
 use Rattle.warg_log.proofs.MetLemmas.{consistency-only, consistency-then}
 use Rattle.warg_log.proofs.laws.consistency_met.Goals as goal
 
-pub returns-clause-only : goal.returns-clause-only
-returns-clause-only c = consistency-only
-
-pub returns-clause-then : goal.returns-clause-then
-returns-clause-then c = consistency-then
+pub returns : goal.returns
+returns c = record { only = consistency-only; «then» = consistency-then }

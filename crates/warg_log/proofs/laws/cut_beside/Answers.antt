@@ -1,5 +1,8 @@
-use Rattle.warg_log.proofs.LawLemmas.{cut_over-missed}
+use Rattle.std.proofs.Common.{inr}
+use Rattle.std.proofs.lemmas.Nat.{pow_pos}
+use Rattle.warg_log.proofs.WayLemmas.{missed}
+use Rattle.warg_log.proofs.CutLemmas.{cut_over-read}
 use Rattle.warg_log.proofs.laws.cut_beside.Goals as goal
 
 pub returns : goal.returns
-returns c = cut_over-missed
+returns c H F x s w a n some full beside = cut_over-read H F x s w a n (missed s w a n (rw full.1 (pow_pos full.0)) beside) (inr (full, beside))

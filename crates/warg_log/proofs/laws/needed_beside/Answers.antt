@@ -1,5 +1,5 @@
-use Rattle.warg_log.proofs.PartLemmas.{needed_over-beside}
+use Rattle.warg_log.proofs.OrderLemmas.{need_full}
 use Rattle.warg_log.proofs.laws.needed_beside.Goals as goal
 
 pub returns : goal.returns
-returns c = needed_over-beside
+returns c s w a n some full beside = rw full.1 (need_full s w full.0 a (rw full.1 at beside))

@@ -1,111 +1,54 @@
-use Rattle.std.proofs.Common.{◌≡◌, ℕ, suc, ◌+◌, ◌-◌, ◌*◌, ◌^◌, ◌<◌, ◌≤◌, ◌++◌, ◌∷◌, [], refl, sym, ap, ◌∙◌, rules}
-use Rattle.std.specs.Prelude.{reverse}
+use Rattle.std.proofs.Common.{◌≡◌, ℕ, suc, ◌-◌, ◌*◌, ◌^◌, ◌<◌, ◌≤◌, ◌++◌, ◌∷◌, [], refl, sym, ◌∙◌, rules}
 use Rattle.std.proofs.lemmas.Bool.{false≢true}
-use Rattle.warg_log.specs.Nodes.{height_of, start_of, node_over, balanced_over}
-use Rattle.warg_log.specs.Cut.{IsBeside}
-use Rattle.warg_log.proofs.StepLemmas.{numbers, numbers-push, HasMissed, missed_first, walk_grows, HasFound, found_first, walk_begins}
+use Rattle.std.proofs.lemmas.List.{map_push}
+use Rattle.warg_log.specs.Nodes.{start_of, node_over}
+use Rattle.warg_log.proofs.StepLemmas.{HasMissed, HasFound, numbers, aligned_next, missed_first, walk_grows, found_first, HasBegun, walk_begins}
 use Rattle.warg_log.proofs.proof.+add_walk.Goals as goal
+use Rattle.warg_log.proofs.proof.+add_walk.Goals.{Then-is_beside, In_ok-push, After-ilog2, After-len}
+
+missed : (g : _) (t : _) (c : Then-is_beside g t) → HasMissed c.args.leaf.0 c.args.start c.args.end c.first_root-root.result.count
+missed g t c = missed_first _ _ _ _ c.first_root-root.ensures.count c.requires.starts c.requires.ends
+    (rw (← c.first_root-root.ensures.start, ← c.interval.ensures.start, ← c.interval.ensures.count) (c.if-is_beside.ensures.0 refl))
 
 pub add_walk-requires : goal.add_walk-requires
 add_walk-requires g t c κs within =
-    let aligned = c.requires.aligned in
-    let root = c.first_root-root.ensures.count in
-    let end : c.end.result ≡ c.args.start + c.first_root-root.result.count = rw (← c.first_root-root.ensures.start) c.end.ensures in
-    let beside : IsBeside (start_of c.args.leaf.0) (2 ^ height_of c.args.leaf.0) c.args.start c.first_root-root.result.count =
-    rw (← c.first_root-root.ensures.start, ← c.interval.ensures.start, ← c.interval.ensures.count) (c.if-is_beside.ensures.0 refl) in
-    let first : HasMissed c.args.leaf.0 c.args.start c.args.end c.end.result (node_over c.args.start c.first_root-root.result.count) =
-    missed_first c.args.leaf.0 c.args.start c.args.end c.end.result (node_over c.args.start c.first_root-root.result.count) aligned.0 aligned.1 c.first_root-root.result.count root.0
-    aligned.2 aligned.3 c.requires.starts c.requires.ends root.1 root.2 root.3 end refl beside in
-    let next : (h q : ℕ) × (c.end.result ≡ q * 2 ^ h) × (c.args.end - c.end.result < 2 ^ h) = first.aligned in
-    let later : c.end.result ≤ start_of c.args.leaf.0 = first.later in
+    let first = missed g t (goal.at.add_walk-requires g t c).Then-is_beside in
+    let next : (h q : ℕ) × (c.end.result ≡ q * 2 ^ h) × (c.args.end - c.end.result < 2 ^ h) =
+    rw (c.end.ensures, c.first_root-root.ensures.start) (aligned_next _ _ _ c.requires.aligned c.first_root-root.ensures.count) in
+    let later : c.end.result ≤ start_of c.args.leaf.0 = rw (c.end.ensures, c.first_root-root.ensures.start) first.later in
     search rules
+
+pushed : (g : _) (t : _) (c : In_ok-push g t) → numbers c.push.new.self.items ≡ numbers c.add_walk.new.nodes.items ++ node_over c.args.start c.first_root-root.result.count ∷ []
+pushed g t c = rw (c.in_ok-push.ensures.items, map_push, c.node.ensures, c.first_root-root.ensures.start) refl
 
 pub returns-then-is_beside-clause-needed : goal.returns-then-is_beside-clause-needed
 returns-then-is_beside-clause-needed g t c =
-    let aligned = c.requires.aligned in
-    let root = c.first_root-root.ensures.count in
-    let end : c.end.result ≡ c.args.start + c.first_root-root.result.count = rw (← c.first_root-root.ensures.start) c.end.ensures in
-    let beside : IsBeside (start_of c.args.leaf.0) (2 ^ height_of c.args.leaf.0) c.args.start c.first_root-root.result.count =
-    rw (← c.first_root-root.ensures.start, ← c.interval.ensures.start, ← c.interval.ensures.count) (c.if-is_beside.ensures.0 refl) in
-    let number : c.node.result.0 ≡ node_over c.args.start c.first_root-root.result.count = rw (← c.first_root-root.ensures.start) c.node.ensures in
-    let first : HasMissed c.args.leaf.0 c.args.start c.args.end c.end.result c.node.result.0 =
-    missed_first c.args.leaf.0 c.args.start c.args.end c.end.result c.node.result.0 aligned.0 aligned.1 c.first_root-root.result.count root.0
-    aligned.2 aligned.3 c.requires.starts c.requires.ends root.1 root.2 root.3 end number beside in
-    numbers-push c.add_walk.new.nodes.items c.push.new.self.items c.node.result c.in_ok-push.ensures.items
-    ∙ ap (λ l. l ++ c.node.result.0 ∷ []) c.in_ok-parts.ensures.needed ∙ sym first.needs
+    let at = goal.at.returns-then-is_beside-clause-needed g t c in
+    rw (pushed g t at.In_ok-push, c.in_ok-parts.ensures.needed, c.end.ensures, c.first_root-root.ensures.start) (sym (missed g t at.Then-is_beside).needs)
 
 pub returns-then-is_beside-clause-order : goal.returns-then-is_beside-clause-order
 returns-then-is_beside-clause-order g t c =
-    let aligned = c.requires.aligned in
-    let root = c.first_root-root.ensures.count in
-    let end : c.end.result ≡ c.args.start + c.first_root-root.result.count = rw (← c.first_root-root.ensures.start) c.end.ensures in
-    let beside : IsBeside (start_of c.args.leaf.0) (2 ^ height_of c.args.leaf.0) c.args.start c.first_root-root.result.count =
-    rw (← c.first_root-root.ensures.start, ← c.interval.ensures.start, ← c.interval.ensures.count) (c.if-is_beside.ensures.0 refl) in
-    let number : c.node.result.0 ≡ node_over c.args.start c.first_root-root.result.count = rw (← c.first_root-root.ensures.start) c.node.ensures in
-    let first : HasMissed c.args.leaf.0 c.args.start c.args.end c.end.result c.node.result.0 =
-    missed_first c.args.leaf.0 c.args.start c.args.end c.end.result c.node.result.0 aligned.0 aligned.1 c.first_root-root.result.count root.0
-    aligned.2 aligned.3 c.requires.starts c.requires.ends root.1 root.2 root.3 end number beside in
-    let walk = c.in_ok-parts.ensures.order in (
-      suc walk.0,
-      walk_grows c.args.leaf.0 c.args.start c.args.end c.end.result c.node.result.0 _ _ walk.0 _ _ first walk.1
-          (numbers-push c.add_walk.new.nodes.items c.push.new.self.items c.node.result c.in_ok-push.ensures.items),
-    )
+    let walk = c.in_ok-parts.ensures.order in
+    let at = goal.at.returns-then-is_beside-clause-order g t c in
+    (suc walk.0, walk_grows _ _ _ _ _ _ _ _ _ c.first_root-root.ensures.count (rw (c.end.ensures, c.first_root-root.ensures.start) at walk.1) (pushed g t at.In_ok-push))
+
+found : (g : _) (t : _) (c : After-ilog2 g t) → HasFound c.args.leaf.0 c.args.start c.args.end c.first_root-root.result.count c.ilog2.result
+found g t c = found_first _ _ _ _ _ c.requires.aligned c.first_root-root.ensures.count c.requires.starts c.requires.ends c.ilog2.ensures.power_le c.ilog2.ensures.next_power_gt
+    (λ b. false≢true (c.if-is_beside.ensures.1 (rw (c.first_root-root.ensures.start, c.interval.ensures.start, c.interval.ensures.count) b)))
 
 pub add_siblings-requires-clause-above : goal.add_siblings-requires-clause-above
-add_siblings-requires-clause-above g t c =
-    let aligned = c.requires.aligned in
-    let root = c.first_root-root.ensures.count in
-    let inside : IsBeside (start_of c.args.leaf.0) (2 ^ height_of c.args.leaf.0) c.args.start c.first_root-root.result.count → ⊥ =
-    λ b. false≢true (c.if-is_beside.ensures.1 (rw (c.first_root-root.ensures.start, c.interval.ensures.start, c.interval.ensures.count) b)) in
-    let found : HasFound c.args.leaf.0 c.args.start c.args.end (c.args.start + c.first_root-root.result.count) c.ilog2.result =
-    found_first c.args.leaf.0 c.args.start c.args.end (c.args.start + c.first_root-root.result.count) aligned.0 aligned.1 c.first_root-root.result.count c.ilog2.result root.0
-    aligned.2 aligned.3 c.requires.starts c.requires.ends root.1 root.2 root.3 c.ilog2.ensures.power_le c.ilog2.ensures.next_power_gt refl inside in
-    found.low
+add_siblings-requires-clause-above g t c = (found g t (goal.at.add_siblings-requires-clause-above g t c).After-ilog2).low
+
+begun : (g : _) (t : _) (c : After-len g t) → HasFound c.args.leaf.0 c.args.start c.args.end c.first_root-root.result.count c.ilog2.result
+    → HasBegun c.args.leaf.0 c.args.start (c.args.end - c.args.start) (numbers c.add_roots.new.nodes.items) c.len-initial.result c.len.result
+begun g t c found = walk_begins _ _ _ _ _ _ _ _ _ _ found c.requires.empty c.in_ok-add_siblings.ensures (c.len-initial.ensures ∙ c.add_siblings.new.nodes.ok.0)
+    (rw (c.end-2.ensures, c.first_root-root.ensures.start) at c.in_ok-add_roots.ensures) (c.len.ensures ∙ c.add_roots.new.nodes.ok.0)
 
 pub overflow_sub-lower : goal.overflow_sub-lower
-overflow_sub-lower g t c =
-    let aligned = c.requires.aligned in
-    let root = c.first_root-root.ensures.count in
-    let inside : IsBeside (start_of c.args.leaf.0) (2 ^ height_of c.args.leaf.0) c.args.start c.first_root-root.result.count → ⊥ =
-    λ b. false≢true (c.if-is_beside.ensures.1 (rw (c.first_root-root.ensures.start, c.interval.ensures.start, c.interval.ensures.count) b)) in
-    let found : HasFound c.args.leaf.0 c.args.start c.args.end (c.args.start + c.first_root-root.result.count) c.ilog2.result =
-    found_first c.args.leaf.0 c.args.start c.args.end (c.args.start + c.first_root-root.result.count) aligned.0 aligned.1 c.first_root-root.result.count c.ilog2.result root.0
-    aligned.2 aligned.3 c.requires.starts c.requires.ends root.1 root.2 root.3 c.ilog2.ensures.power_le c.ilog2.ensures.next_power_gt refl inside in
-    let end : c.end-2.result ≡ c.args.start + c.first_root-root.result.count = rw (← c.first_root-root.ensures.start) c.end-2.ensures in
-    let roots' : numbers c.add_roots.new.nodes.items ≡ numbers c.add_siblings.new.nodes.items ++ reverse (balanced_over (c.args.start + c.first_root-root.result.count) (c.args.end - (c.args.start + c.first_root-root.result.count))) =
-    rw end at c.in_ok-add_roots.ensures in
-    let begun = walk_begins c.args.leaf.0 c.args.start c.args.end (c.args.start + c.first_root-root.result.count) c.ilog2.result c.args.nodes.now.items c.add_siblings.new.nodes.items c.add_roots.new.nodes.items
-    c.len-initial.result c.len.result found c.requires.empty c.in_ok-add_siblings.ensures (c.len-initial.ensures ∙ c.add_siblings.new.nodes.ok.0) roots' (c.len.ensures ∙ c.add_roots.new.nodes.ok.0) in
-    begun.1
+overflow_sub-lower g t c = let at = goal.at.overflow_sub-lower g t c in (begun g t at.After-len (found g t at.After-ilog2)).fits
 
 pub returns-clause-needed : goal.returns-clause-needed
-returns-clause-needed g t c =
-    let aligned = c.requires.aligned in
-    let root = c.first_root-root.ensures.count in
-    let inside : IsBeside (start_of c.args.leaf.0) (2 ^ height_of c.args.leaf.0) c.args.start c.first_root-root.result.count → ⊥ =
-    λ b. false≢true (c.if-is_beside.ensures.1 (rw (c.first_root-root.ensures.start, c.interval.ensures.start, c.interval.ensures.count) b)) in
-    let found : HasFound c.args.leaf.0 c.args.start c.args.end (c.args.start + c.first_root-root.result.count) c.ilog2.result =
-    found_first c.args.leaf.0 c.args.start c.args.end (c.args.start + c.first_root-root.result.count) aligned.0 aligned.1 c.first_root-root.result.count c.ilog2.result root.0
-    aligned.2 aligned.3 c.requires.starts c.requires.ends root.1 root.2 root.3 c.ilog2.ensures.power_le c.ilog2.ensures.next_power_gt refl inside in
-    let end : c.end-2.result ≡ c.args.start + c.first_root-root.result.count = rw (← c.first_root-root.ensures.start) c.end-2.ensures in
-    let roots' : numbers c.add_roots.new.nodes.items ≡ numbers c.add_siblings.new.nodes.items ++ reverse (balanced_over (c.args.start + c.first_root-root.result.count) (c.args.end - (c.args.start + c.first_root-root.result.count))) =
-    rw end at c.in_ok-add_roots.ensures in
-    let begun = walk_begins c.args.leaf.0 c.args.start c.args.end (c.args.start + c.first_root-root.result.count) c.ilog2.result c.args.nodes.now.items c.add_siblings.new.nodes.items c.add_roots.new.nodes.items
-    c.len-initial.result c.len.result found c.requires.empty c.in_ok-add_siblings.ensures (c.len-initial.ensures ∙ c.add_siblings.new.nodes.ok.0) roots' (c.len.ensures ∙ c.add_roots.new.nodes.ok.0) in
-    begun.0
+returns-clause-needed g t c = let at = goal.at.returns-clause-needed g t c in (begun g t at.After-len (found g t at.After-ilog2)).needs
 
 pub returns-clause-order : goal.returns-clause-order
-returns-clause-order g t c =
-    let aligned = c.requires.aligned in
-    let root = c.first_root-root.ensures.count in
-    let inside : IsBeside (start_of c.args.leaf.0) (2 ^ height_of c.args.leaf.0) c.args.start c.first_root-root.result.count → ⊥ =
-    λ b. false≢true (c.if-is_beside.ensures.1 (rw (c.first_root-root.ensures.start, c.interval.ensures.start, c.interval.ensures.count) b)) in
-    let found : HasFound c.args.leaf.0 c.args.start c.args.end (c.args.start + c.first_root-root.result.count) c.ilog2.result =
-    found_first c.args.leaf.0 c.args.start c.args.end (c.args.start + c.first_root-root.result.count) aligned.0 aligned.1 c.first_root-root.result.count c.ilog2.result root.0
-    aligned.2 aligned.3 c.requires.starts c.requires.ends root.1 root.2 root.3 c.ilog2.ensures.power_le c.ilog2.ensures.next_power_gt refl inside in
-    let end : c.end-2.result ≡ c.args.start + c.first_root-root.result.count = rw (← c.first_root-root.ensures.start) c.end-2.ensures in
-    let roots' : numbers c.add_roots.new.nodes.items ≡ numbers c.add_siblings.new.nodes.items ++ reverse (balanced_over (c.args.start + c.first_root-root.result.count) (c.args.end - (c.args.start + c.first_root-root.result.count))) =
-    rw end at c.in_ok-add_roots.ensures in
-    let begun = walk_begins c.args.leaf.0 c.args.start c.args.end (c.args.start + c.first_root-root.result.count) c.ilog2.result c.args.nodes.now.items c.add_siblings.new.nodes.items c.add_roots.new.nodes.items
-    c.len-initial.result c.len.result found c.requires.empty c.in_ok-add_siblings.ensures (c.len-initial.ensures ∙ c.add_siblings.new.nodes.ok.0) roots' (c.len.ensures ∙ c.add_roots.new.nodes.ok.0) in
-    (0, begun.2)
+returns-clause-order g t c = let at = goal.at.returns-clause-order g t c in (0, (begun g t at.After-len (found g t at.After-ilog2)).walk)

@@ -1,11 +1,10 @@
-use Rattle.std.proofs.Common.{◌≡◌, ◌-◌, ◌/◌, ◌^◌, ◌<◌, ◌≤◌, ◌++◌, map}
+use Rattle.std.proofs.Common.{◌≡◌, ◌-◌, ◌/◌, ◌^◌, ◌≤◌, ◌++◌, map}
 use Rattle.warg_log.specs.Nodes.{height_of, place_of}
 use Rattle.warg_log.specs.Walks.{siblings_up}
 use Rattle.warg_log.proofs.proof.add_siblings.Given as goal
 
 abbrev pub invariant-up : goal.invariant-up
 invariant-up g l = record {
-  fits : l.node.0 < 2 ^ 64;
   above : height_of l.fn.leaf.0 ≤ height_of l.node.0;
   below : height_of l.node.0 ≤ l.height;
   place : place_of l.node.0 ≡ place_of l.fn.leaf.0 / 2 ^ (height_of l.node.0 - height_of l.fn.leaf.0);

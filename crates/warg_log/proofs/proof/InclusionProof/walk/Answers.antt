@@ -1,35 +1,28 @@
-use Rattle.std.proofs.Common.{◌≡◌, ◌-◌, ◌*◌, ◌^◌, ◌≤◌, length, sym, ap, ◌∙◌, arith}
+use Rattle.std.proofs.Common.{◌≡◌, ◌*◌, ◌^◌, sym, ap, ◌∙◌, arith, length}
+use Rattle.std.proofs.Math.Nat.{sub-zero}
 use Rattle.std.proofs.lemmas.List.{length-map}
 use Rattle.warg_log.specs.declared.node.Node.{Node}
-use Rattle.warg_log.specs.Nodes.{ExistsAt}
 use Rattle.warg_log.specs.Walks.{needed}
 use Rattle.warg_log.proofs.StepLemmas.{walk_whole, needed_once, needed_most}
 use Rattle.warg_log.proofs.proof.InclusionProof.walk.Goals as goal
 
 pub add_walk-requires-clause-aligned : goal.add_walk-requires-clause-aligned
-add_walk-requires-clause-aligned g c =
-    let fits : c.self.inside.log_length ≤ 2 ^ 63 = c.self.invariant in
-    (64, 0, let e : 0 ≡ 0 * 2 ^ 64 = omega arith in e, omega (arith, fits))
+add_walk-requires-clause-aligned g c = (64, 0, let e : 0 ≡ 0 * 2 ^ 64 = omega arith in e, omega arith)
 
 pub overflow_sub-result : goal.overflow_sub-result
-overflow_sub-result g c = (walk_whole c.self.inside.leaf.0 c.self.inside.log_length _ _ c.len.result c.add_walk.new.nodes.items c.in-Ok.ensures.order (c.len.ensures ∙ c.add_walk.new.nodes.ok.0)).0
+overflow_sub-result g c = (walk_whole _ _ _ _ c.len.result _ c.in-Ok.ensures.order (c.len.ensures ∙ c.add_walk.new.nodes.ok.0)).0
 
 pub overflow_sub-result-in-Ok : goal.overflow_sub-result-in-Ok
-overflow_sub-result-in-Ok g c = (walk_whole c.self.inside.leaf.0 c.self.inside.log_length _ _ c.len.result c.add_walk.new.nodes.items c.in-Ok.ensures.order (c.len.ensures ∙ c.add_walk.new.nodes.ok.0)).1
+overflow_sub-result-in-Ok g c = (walk_whole _ _ _ _ c.len.result _ c.in-Ok.ensures.order (c.len.ensures ∙ c.add_walk.new.nodes.ok.0)).1
 
 pub returns-in-Ok-clause-order : goal.returns-in-Ok-clause-order
-returns-in-Ok-clause-order g c = rw (← c.self.view_is) (walk_whole c.self.inside.leaf.0 c.self.inside.log_length _ _ c.len.result c.add_walk.new.nodes.items c.in-Ok.ensures.order (c.len.ensures ∙ c.add_walk.new.nodes.ok.0)).2
+returns-in-Ok-clause-order g c = rw (← c.self.view_is) (walk_whole _ _ _ _ c.len.result _ c.in-Ok.ensures.order (c.len.ensures ∙ c.add_walk.new.nodes.ok.0)).2
 
 pub returns-in-Ok-clause-once : goal.returns-in-Ok-clause-once
-returns-in-Ok-clause-once g c =
-    let exists : ExistsAt c.self.inside.leaf.0 c.self.inside.log_length = c.exists_at_length.ensures.0 c.if-not-exists_at_length.false in
-    let all : c.self.inside.log_length - 0 ≡ c.self.inside.log_length = omega arith in
-    rw (rw all at c.in-Ok.ensures.needed) (needed_once c.self.inside.leaf.0 c.self.inside.log_length exists)
+returns-in-Ok-clause-once g c = rw (rw sub-zero at c.in-Ok.ensures.needed) (needed_once _ _ (c.exists_at_length.ensures.0 c.if-not-exists_at_length.false))
 
 pub returns-in-Ok-clause-most : goal.returns-in-Ok-clause-most
 returns-in-Ok-clause-most g c = rw (← c.self.view_is) (λ b lt.
-    let exists : ExistsAt c.self.inside.leaf.0 c.self.inside.log_length = c.exists_at_length.ensures.0 c.if-not-exists_at_length.false in
-    let all : c.self.inside.log_length - 0 ≡ c.self.inside.log_length = omega arith in
     let count : length c.add_walk.new.nodes.items ≡ length (needed c.self.inside.leaf.0 c.self.inside.log_length) =
-    sym (length-map c.add_walk.new.nodes.items (λ (m : Node). m.0)) ∙ ap length (rw all at c.in-Ok.ensures.needed) in
-    rw count (needed_most c.self.inside.leaf.0 c.self.inside.log_length b exists lt))
+    sym (length-map _ (λ (m : Node). m.0)) ∙ ap length (rw sub-zero at c.in-Ok.ensures.needed) in
+    rw count (needed_most _ _ b (c.exists_at_length.ensures.0 c.if-not-exists_at_length.false) lt))

@@ -32,7 +32,7 @@ returns-in-Err-clause-fault g c = lacking (g.L.LogData.digest_at c.args.hashes.n
     c.in-Err.ensures.fault
 
 pub returns-clause-inclusions_as_source : goal.returns-clause-inclusions_as_source
-returns-clause-inclusions_as_source g c = included_same g.D.SupportedDigest.digest (g.L.LogData.digest_at c.args.hashes.now) c.from.result c.in_ok-log_length.log_length c.in_ok-consistent_lengths.consistent_lengths.items c.in_ok-included_nodes.included_nodes.items (returns-clause-source g c) (returns-clause-exactly g c)
+returns-clause-inclusions_as_source g c = included_same g.D.SupportedDigest.digest (g.L.LogData.digest_at c.args.hashes.now) c.from.result _ _ _ (returns-clause-source g c) (returns-clause-exactly g c)
 
 pub returns-clause-consistencies_as_source : goal.returns-clause-consistencies_as_source
-returns-clause-consistencies_as_source g c = consistent_same g.D.SupportedDigest.digest (g.L.LogData.digest_at c.args.hashes.now) c.from.result c.in_ok-log_length.log_length c.in_ok-consistent_lengths.consistent_lengths.items c.in_ok-included_nodes.included_nodes.items (returns-clause-source g c) (returns-clause-exactly g c)
+returns-clause-consistencies_as_source g c = consistent_same g.D.SupportedDigest.digest (g.L.LogData.digest_at c.args.hashes.now) c.from.result _ _ _ (returns-clause-source g c) (returns-clause-exactly g c)

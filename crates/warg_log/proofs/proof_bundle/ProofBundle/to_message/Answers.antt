@@ -2,7 +2,10 @@ use Rattle.warg_log.proofs.BundleLemmas.{bundle_again}
 use Rattle.warg_log.proofs.proof_bundle.ProofBundle.to_message.Goals as goal
 
 pub returns-clause-again : goal.returns-clause-again
-returns-clause-again g c = rw (← c.self.view_is) (rw (c.in_ok-consistent_lengths.ensures.items, c.as_slice.ensures.value, c.in_ok-included_indices.ensures, c.as_slice-2.ensures.value, c.in_ok-hashes.ensures.entries, c.pairs-pairs.ensures.value) (bundle_again _ c.pairs-pairs.ensures.ascending (rw c.pairs-pairs.ensures.value at c.in_ok-hashes.ensures.lengths)))
+returns-clause-again g c =
+    let lengths = rw c.pairs-pairs.ensures.value at c.in_ok-hashes.ensures.lengths in
+    rw (← c.self.view_is, c.in_ok-consistent_lengths.ensures.items, c.as_slice.ensures.value, c.in_ok-included_indices.ensures, c.as_slice-2.ensures.value, c.in_ok-hashes.ensures.entries, c.pairs-pairs.ensures.value)
+    (bundle_again _ c.pairs-pairs.ensures.ascending lengths)
 
 pub returns-clause-fits : goal.returns-clause-fits
 returns-clause-fits g c = (

@@ -14,8 +14,8 @@ returns-in_err-stack-clause-too_large g c =
 pub returns-clause-again : goal.returns-clause-again
 returns-clause-again g c = rw (← c.self.view_is) (rw (c.in_ok-stack.ensures.entries, c.as_slice.ensures.value) (stack_again _ c.self.invariant.0 (rw c.as_slice.ensures.value at c.in_ok-stack.ensures.lengths)))
 
-pub returns-clause-too_large : goal.returns-clause-too_large
-returns-clause-too_large g c = rw (← c.self.view_is) ((λ e. absurd (cc)), (λ no. absurd (no (roots_fit c.self.inside.count c.if-self-gt-GREATEST_LENGTH.false))))
-
 pub returns-clause-fits : goal.returns-clause-fits
 returns-clause-fits g c = rw (← c.self.view_is) (roots_fit c.self.inside.count c.if-self-gt-GREATEST_LENGTH.false)
+
+pub returns-clause-too_large : goal.returns-clause-too_large
+returns-clause-too_large g c = ((λ e. absurd (cc)), (λ no. absurd (no (returns-clause-fits g c))))

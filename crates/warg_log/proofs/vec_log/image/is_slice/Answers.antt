@@ -1,21 +1,21 @@
 use Rattle.std.proofs.Common.{◌≡◌, ◌-◌, ◌*◌, length, sym, arith}
-use Rattle.warg_log.proofs.TreeLemmas.{leaves_count, held_slice, slice_held, is_slice-true, is_slice-false}
+use Rattle.std.proofs.lemmas.Bool.{false_from_ne_true}
+use Rattle.warg_log.proofs.TreeLemmas.{slice_decides, leaves_count, held_slice, slice_held}
 use Rattle.warg_log.proofs.vec_log.image.is_slice.Goals as goal
 
 pub returns-then-tree-saturating_sub : goal.returns-then-tree-saturating_sub
-returns-then-tree-saturating_sub g c = sym (is_slice-false g.D.SupportedDigest.digest c.args.count c.args.tree.now
-    (λ count slice. c.if-tree-saturating_sub.true (let len = slice.len in omega (arith, len, count, c.saturating_sub.ensures))))
+returns-then-tree-saturating_sub g c = sym (false_from_ne_true _ (λ e.
+    let p = (slice_decides g.D.SupportedDigest.digest c.args.count c.args.tree.now).0 e in
+    c.if-tree-saturating_sub.true (omega arith)))
 
 pub returns-then-not-is_held : goal.returns-then-not-is_held
-returns-then-not-is_held g c = sym (is_slice-false g.D.SupportedDigest.digest c.args.count c.args.tree.now
-    (λ count slice.
-    let len : length c.args.tree.now ≡ 2 * c.args.count - 1 = omega (arith, c.if-tree-saturating_sub.false, c.saturating_sub.ensures) in
-    let held = c.is_held.ensures.1 (slice_held g.D.SupportedDigest.digest c.args.count c.args.tree.now count slice (2 * c.branches.place - 1) (omega arith) (omega arith)) in
-    absurd (cc)))
+returns-then-not-is_held g c = sym (false_from_ne_true _ (λ e.
+    let p = (slice_decides g.D.SupportedDigest.digest c.args.count c.args.tree.now).0 e in
+    let len : length c.args.tree.now ≡ 2 * c.args.count - 1 = omega arith in
+    cc (c.is_held.ensures.1 (slice_held _ _ _ p.0 p.1 (2 * c.branches.place - 1) (omega arith) (omega arith)))))
 
 pub returns : goal.returns
 returns g c =
-    let len : length c.args.tree.now ≡ 2 * c.args.count - 1 = omega (arith, c.if-tree-saturating_sub.false, c.saturating_sub.ensures) in
+    let len : length c.args.tree.now ≡ 2 * c.args.count - 1 = omega arith in
     let count = leaves_count c.args.tree.now c.args.count len in
-    sym (is_slice-true g.D.SupportedDigest.digest c.args.count c.args.tree.now count
-    (held_slice g.D.SupportedDigest.digest c.args.count c.args.tree.now len count (λ x lt odd. c.branches.invariant x (omega arith) odd)))
+    sym ((slice_decides g.D.SupportedDigest.digest c.args.count c.args.tree.now).1 (count, held_slice _ _ _ len count (λ x lt odd. c.branches.invariant x (omega arith) odd)))
