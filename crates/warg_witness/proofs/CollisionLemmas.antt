@@ -1,162 +1,176 @@
 -- What the laws state: a claim that is met and isn't true gives a collision.
-use Rattle.std.proofs.Common.{◌≡◌, ℕ, ◌+◌, ◌^◌, ◌<◌, ◌≤◌, List, [], ◌∷◌, length, get_or, Option, Some, refl, sym, ◌∙◌, arith, lit<, ◌⊎◌, inl, inr, ⊎_elim}
-use Rattle.std.proofs.lemmas.Nat.{pow_pos}
-use Rattle.warg_log.specs.Nodes.{height_of, place_of, start_of, node_over, ExistsAt}
-use Rattle.warg_log.specs.Tree.{leaves_of, root_of, root_over, own_digest}
-use Rattle.warg_log.specs.Cut.{cut_over}
-use Rattle.warg_witness.specs.Ranges.{IsAround}
-use Rattle.warg_witness.specs.Private.Ranges.{IsNodeRange}
-use Rattle.warg_witness.specs.Claims.{IsMet, IsEntry, IsRootBelow, IsAgreement, IsConsistencyMet, Begins}
-use Rattle.warg_witness.specs.Private.Compared.{DiffersFirst}
-use Rattle.warg_witness.specs.Inputs.{plain_input}
-use Rattle.warg_witness.specs.Placed.{IsValuePlaced, IsHashPlaced, IsAgreementPlaced, IsConsistencyPlaced}
+use Rattle.std.proofs.Common.{◌≡◌, ℕ, zero, suc, ◌+◌, ◌-◌, ◌<◌, ◌≤◌, ◌⊎◌, inl, inr, nat_eq, List, [], ◌∷◌, length, get_or, refl, sym, ◌∙◌, arith, ◌^◌, Some}
+use Rattle.std.specs.Cmp.Lexicographic.{pointwise, bytes_decides}
+use Rattle.std.proofs.lemmas.Bool.{cases_lt, cases_eq, cases_Bool}
+use Rattle.std.proofs.lemmas.Bool.Decides.{nat_tests, not_from_Decides}
+use Rattle.warg_log.specs.Tree.{front_of, leaves_of, root_of, root_over, own_digest}
+use Rattle.warg_log.specs.Cut.{IsFull, cut_over}
+use Rattle.warg_witness.specs.Ranges.{IsPart, IsAround}
+use Rattle.warg_witness.specs.Claims.{Begins, IsMet, IsEntry, IsRootBelow, IsAgreement, IsConsistencyMet}
+use Rattle.warg_witness.specs.Inputs.{branch_input}
 use Rattle.warg_witness.specs.Laws.{GivesHashes, HoldsHashes, SomeCollision}
-use Rattle.warg_witness.specs.Private.Parting.{IsParting, Collides, PartsAtBranch, inputs_of}
-use Rattle.warg_witness.specs.Private.Meeting.{IsMeeting, IsConsistencyMeeting, LeadsToBoth}
-use Rattle.warg_witness.specs.declared.descent.Parting.TheVariants.{Target, Branch}
-use Rattle.warg_witness.proofs.PlainLemmas.{whole_aligned}
-use Rattle.warg_witness.proofs.ValueLemmas.{have_root, length-leaves, some_leaves, entry_from, value_shown, hash_shown}
-use Rattle.warg_witness.proofs.AgreementLemmas.{have_both, agreement_shown}
-use Rattle.warg_witness.proofs.ConsistencyLemmas.{leaf_node, node_aligned, have_tree_root, have_node, trees_consistent, root_leads, ShowsConsistency, old_shown, new_shown, below_shown, leaves_shown, target_meets}
-use Rattle.warg_witness.proofs.BalancedRootLemmas.{root_bounds}
-use Rattle.warg_witness.proofs.PureLemmas.{Part, parted, root_over-len, own_holds, difference, root_found}
+use Rattle.warg_witness.specs.Private.Ranges.{IsAligned, IsNodeRange, IsBalancedRoot}
+use Rattle.warg_witness.specs.Private.Ranges.IsBalancedRoot.{full, front, rest}
 use Rattle.warg_witness.specs.Private.LogLaws.{LogLaws}
+use Rattle.warg_witness.specs.Private.Parting.{HaveOneDigest, MeetAt, PartsAt}
+use Rattle.warg_witness.specs.declared.descent.Parting.{Parting}
+use Rattle.warg_witness.proofs.RangeLemmas.{Digest, Data, pow_below_pow, more_than_one, known, node_some, wider, side_is_part, side_aligned, side_around, leaf_node, node_aligned, whole_aligned}
+use Rattle.warg_witness.proofs.DescentLemmas.{branch_parts, same_at_side, meets_here, sides_of, parts_at, length-leaves, PartsFrom, Meets, have_root, have_node, plain_digest_is}
+use Rattle.std.proofs.lemmas.Nat.{pow_pos}
+use Rattle.warg_log.specs.Nodes.{height_of, place_of, start_of}
+use Rattle.warg_witness.specs.Ranges.IsPart.{whole}
+use Rattle.warg_witness.specs.Placed.{IsValuePlaced, IsHashPlaced, IsAgreementPlaced, IsConsistencyPlaced}
+use Rattle.warg_witness.specs.Private.Meeting.{IsConsistencyMeeting}
+use Rattle.warg_witness.specs.declared.descent.Parting.TheVariants.{Target}
+use Rattle.warg_witness.proofs.ShownLemmas.{Shows, entry_from, value_placed, value_meets, hash_placed, agreement_placed, agreement_meets}
+use Rattle.warg_witness.proofs.ConsistencyLemmas.{trees_consistent, root_leads, old_placed, new_placed, below_placed, leaves_shown}
+
+-- lists of numbers are the same or not, and a range is the target or not
+pub same_or_not : (xs ys : List ℕ) → (xs ≡ ys) ⊎ (xs ≡ ys → ⊥)
+same_or_not xs ys = elim (cases_Bool (pointwise nat_eq xs ys)) [ inl t ↦ inl ((bytes_decides xs ys).0 t) | inr f ↦ inr (not_from_Decides _ (bytes_decides xs ys) f) ]
+
+target_or_other : (s w a n : ℕ) → ((a ≡ s) × (n ≡ w)) ⊎ (a ≡ s → n ≡ w → ⊥)
+target_or_other s w a n = grind arith
+
+-- Where two evaluations with one digest at a range part.
+abbrev pub Part : Type 0
+Part = Parting (Unit {0})
+
+-- entries that don't begin with others differ from them at a place
+pub difference : (old new : List (List ℕ)) → length old ≤ length new → (Begins old new → ⊥) → (place : ℕ) × (place < length old) × (get_or old place [] ≡ get_or new place [] → ⊥)
+difference [] new order other = absurd (other refl)
+difference (x ∷ old) [] order other = absurd (omega arith)
+difference (x ∷ old) (y ∷ new) order other = elim (same_or_not x y) [
+  | inl same ↦ let deeper = difference old new (omega arith) (λ e. other (cc)) in (suc deeper.0, omega arith, deeper.2)
+  | inr differ ↦ (0, omega arith, differ)
+]
+
+module _ (laws : LogLaws) where
+  -- two trees of one digest at a range part on the way down to the target, or have one digest there
+  module _ (H : Digest) (F : Data) (x : List ℕ) (G : Data) (y : List ℕ) (s w a₀ n₀ : ℕ) (P : List ℕ → List ℕ → Type 0) where
+    pub parted : GivesHashes H → HoldsHashes F → HoldsHashes G → length x ≡ 32 → length y ≡ 32 → IsNodeRange s w
+        → ((first second : List ℕ) → PartsAt H F x G y s w a₀ n₀ first second → P first second)
+        → (MeetAt x y s w a₀ n₀ → SomeCollision H P) → (k a n : ℕ) → n ≤ k → IsPart a₀ n₀ a n → IsAligned a n → IsAround s w a n → HaveOneDigest H F x G y s w a n → SomeCollision H P
+    parted gives holds holds' size size' node place meets zero a n le part aligned around one = let some = node_some node in absurd (omega arith)
+    parted gives holds holds' size size' node place meets (suc k) a n le part aligned around one = elim (target_or_other s w a n) [
+      | inl here ↦ meets (meets_here laws H here.0 here.1 part one)
+      | inr other ↦
+          let some = node_some node in
+          let more : 1 < n = let wide = wider around other in omega arith in
+          let first = sides_of laws H some around other F x one.digest one.first in
+          let second = sides_of laws H some around other G y one.digest one.second in
+          let first_size = (known laws).cut_size H F x s w a (front_of n) first.0 gives holds size first.2.left in
+          let second_size = (known laws).cut_size H G y s w a (front_of n) second.0 gives holds' size' second.2.left in
+          elim (same_or_not (branch_input first.0 first.1) (branch_input second.0 second.1)) [
+            | inl same ↦
+                let side = side_around laws node aligned around other in
+                parted gives holds holds' size size' node place meets k side.0 side.1 (omega arith) (side_is_part side.0 side.1 part more side.2)
+                (side_aligned laws side.0 side.1 aligned more side.2) side.3
+                (same_at_side side.0 side.1 first.2 second.2 (branch_parts first.0 first.1 second.0 second.1 (first_size ∙ sym second_size) same) side.2)
+            | inr differ ↦
+                let at = parts_at laws H some around other part one first.2 second.2 differ in
+                record { first = branch_input first.0 first.1; second = branch_input second.0 second.1; differ = differ; same = at.same; placed = place _ _ at }
+          ]
+    ]
+
+  -- a count is a power of two or not
+  full_or_not : (n : ℕ) → 0 < n → IsFull n ⊎ (IsFull n → ⊥)
+  full_or_not n some =
+      let f = (known laws).front (n + 1) (omega arith) in
+      elim (cases_eq n (front_of (n + 1))) [
+        | inl is ↦ inl (f.0.0, is ∙ f.0.1)
+        | inr other ↦ inr (λ full. grind (arith, f.0.1, full.1, pow_below_pow f.0.0 full.0, pow_below_pow full.0 (suc f.0.0)))
+      ]
+
+  -- the balanced root of a range around a place
+  pub root_found : (place k a n : ℕ) → n ≤ k → a ≤ place → place < a + n → (s : ℕ) × (w : ℕ) × IsBalancedRoot s w a n × IsAround place 1 s w
+  root_found place zero a n le starts ends = absurd (omega arith)
+  root_found place (suc k) a n le starts ends = elim (full_or_not n (omega arith)) [
+    | inl is ↦ (a, n, full is, omega arith)
+    | inr part ↦
+        let more = more_than_one n (omega arith) part in
+        let f = (known laws).front n more in
+        elim (cases_lt place (a + front_of n)) [
+          | inl left ↦ (a, front_of n, front n more part refl, omega arith)
+          | inr right ↦
+              let at = root_found place k (a + front_of n) (n - front_of n) (omega arith) right (omega arith) in
+              (at.0, at.1, rest a n more part at.2, at.3)
+        ]
+  ]
 
 -- a node's leaves are a node's range
 node_range : (node : ℕ) → IsNodeRange (start_of node) (2 ^ height_of node)
 node_range node = record { height = height_of node; place = place_of node; start = refl; count = refl }
 
--- where a node exists, the whole has its leaves
-whole_around : (node n : ℕ) → ExistsAt node n → IsAround (start_of node) (2 ^ height_of node) 0 n
-whole_around node n exists = record { starts = omega arith; ends = omega (arith, exists) }
-
--- what parts at a branch collides
-branch_collides : (H : List ℕ → List ℕ) (p : Part) → PartsAtBranch H p → Collides H (inputs_of p [] [])
-branch_collides H Target parts = absurd parts
-branch_collides H (Branch l r l' r') parts = parts
-
 -- two trees part somewhere or nowhere
 pub target_or_not : (p : Part) → (p ≡ Target) ⊎ (p ≡ Target → ⊥)
-target_or_not Target = inl refl
-target_or_not (Branch l r l' r') = inr (λ e. cc)
+target_or_not p = grind arith
 
--- what a parting shows of false consistency is a collision
-shown_collides : (H : List ℕ → List ℕ) (F : ℕ → Option (List ℕ)) (old new : List (List ℕ)) (p : Part) → ShowsConsistency H F old new p → SomeCollision H (IsConsistencyPlaced H F old new)
-shown_collides H F old new p shown =
-    let collides = branch_collides H p shown.at_branch in
-    record { first = (inputs_of p [] []).0; second = (inputs_of p [] []).1; differ = collides.differ; same = collides.same; placed = shown.placed }
+-- what is shown is a collision
+shown_collides : {H : Digest} {P : List ℕ → List ℕ → Type 0} (first second : List ℕ) → Shows H P (first, second) → SomeCollision H P
+shown_collides first second shown = search shown
 
-module _ (laws : LogLaws) where
-  -- a claim that is met has the evaluation and the tree part somewhere on the way to the node, or nowhere
-  meeting : (H : List ℕ → List ℕ) (F : ℕ → Option (List ℕ)) (digest : List ℕ) (node n : ℕ) (entries : List (List ℕ)) → GivesHashes H → HoldsHashes F → length digest ≡ 32
-      → IsMet H F digest node n entries
-      → (p : Part) × IsMeeting H F digest node n entries (leaves_of H entries) (start_of node) (2 ^ height_of node) (root_over H (leaves_of H entries) (start_of node) (2 ^ height_of node)) p
-  meeting H F digest node n entries gives holds size met =
-      let ds = leaves_of H entries in
-      let s = start_of node in
-      let w = 2 ^ height_of node in
-      let some : 0 < w = pow_pos (height_of node) in
-      let leaves : 0 < n = some_leaves node n met.exists in
-      let around = whole_around node n met.exists in
-      let within : s + w ≤ length entries = omega (arith, around.ends, met.count) in
-      let one = have_root laws H F digest (root_over H ds s w) (root_of H ds) ds node n s w 0 n met.is refl refl refl refl refl (sym (length-leaves H entries ds refl ∙ met.count)) leaves refl in
-      let found = parted laws H F digest (own_digest H ds) (root_over H ds s w) s w gives holds (own_holds laws H entries gives) size (root_over-len laws H entries s w gives some within)
-      (node_range node) some n 0 n (let le : n ≤ n = omega arith in le) (whole_aligned 0 n n refl refl) around one in
-      (found.0, record { met = met; tree_is = refl; start_is = refl; count_is = refl; plain_is = refl; parts = found.1 })
+module _ (laws : LogLaws) (H : Digest) where
+  -- each root over the entries has 32 bytes, and so has what their log holds
+  root_size : (entries : List (List ℕ)) (a n : ℕ) → GivesHashes H → 0 < n → a + n ≤ length (leaves_of H entries) → length (root_over H (leaves_of H entries) a n) ≡ 32
+  root_size entries a n gives some within = grind (arith, plain_digest_is laws H entries a n some, length-leaves H entries)
 
-  pub value_collides : (H : List ℕ → List ℕ) (F : ℕ → Option (List ℕ)) (value : List ℕ) (node n : ℕ) (entries : List (List ℕ)) → GivesHashes H → HoldsHashes F
-      → IsMet H F (H (0 ∷ value)) node n entries → (IsEntry value node entries → ⊥) → SomeCollision H (IsValuePlaced H F value node entries)
-  value_collides H F value node n entries gives holds met false_claim =
-      let s = start_of node in
-      let w = 2 ^ height_of node in
-      let some : 0 < w = pow_pos (height_of node) in
-      let meets = meeting H F (H (0 ∷ value)) node n entries gives holds (gives (0 ∷ value)) met in
-      let shown = value_shown laws H F value node n entries (leaves_of H entries) s w _ (0 ∷ value) (plain_input H entries s w) meets.0 some (some_leaves node n met.exists) meets.1
-      (refl, refl, λ at. false_claim (entry_from value entries node s w refl refl at)) in
-      record { first = (inputs_of meets.0 (0 ∷ value) (plain_input H entries s w)).0; second = (inputs_of meets.0 (0 ∷ value) (plain_input H entries s w)).1; differ = shown.collides.differ; same = shown.collides.same; placed = shown.placed }
+  own_holds : (entries : List (List ℕ)) → GivesHashes H → HoldsHashes (own_digest H (leaves_of H entries))
+  own_holds entries gives node digest is = grind (arith, nat_tests, pow_pos (height_of node), root_size entries (start_of node) (2 ^ height_of node) gives)
 
-  pub hash_collides : (H : List ℕ → List ℕ) (F : ℕ → Option (List ℕ)) (hash : List ℕ) (node n : ℕ) (entries : List (List ℕ)) → GivesHashes H → HoldsHashes F → length hash ≡ 32
-      → IsMet H F hash node n entries → (IsRootBelow H hash node entries → ⊥) → SomeCollision H (IsHashPlaced H F hash node entries)
-  hash_collides H F hash node n entries gives holds size met false_claim =
-      let meets = meeting H F hash node n entries gives holds size met in
-      let shown = hash_shown laws H F hash node n entries (leaves_of H entries) (start_of node) (2 ^ height_of node) _ meets.0 (pow_pos (height_of node)) (some_leaves node n met.exists) meets.1 false_claim in
-      let collides = branch_collides H meets.0 shown.at_branch in
-      record { first = (inputs_of meets.0 [] []).0; second = (inputs_of meets.0 [] []).1; differ = collides.differ; same = collides.same; placed = shown.placed }
-
-  pub agreement_collides : (H : List ℕ → List ℕ) (F : ℕ → Option (List ℕ)) (value : List ℕ) (G : ℕ → Option (List ℕ)) (other : List ℕ) (node n : ℕ) → GivesHashes H → HoldsHashes F → HoldsHashes G
-      → IsAgreement H F (H (0 ∷ value)) G (H (0 ∷ other)) node n → (value ≡ other → ⊥) → SomeCollision H (IsAgreementPlaced H F value G other node n)
-  agreement_collides H F value G other node n gives holds holds' met false_claim =
-      let s = start_of node in
-      let w = 2 ^ height_of node in
-      let one = have_both H F (H (0 ∷ value)) G (H (0 ∷ other)) met.root met.root node n s w 0 n met.first_is met.second_is refl refl refl refl refl in
-      let found = parted laws H F (H (0 ∷ value)) G (H (0 ∷ other)) s w gives holds holds' (gives (0 ∷ value)) (gives (0 ∷ other)) (node_range node) (pow_pos (height_of node)) n 0 n
-      (let le : n ≤ n = omega arith in le) (whole_aligned 0 n n refl refl) (whole_around node n met.exists) one in
-      let shown = agreement_shown H F value G other node n s w (0 ∷ value) (0 ∷ other) found.0 refl refl found.1 (refl, refl, false_claim) in
-      record { first = (inputs_of found.0 (0 ∷ value) (0 ∷ other)).0; second = (inputs_of found.0 (0 ∷ value) (0 ∷ other)).1; differ = shown.collides.differ; same = shown.collides.same; placed = shown.placed }
-
-  -- the evaluation with a balanced root's digest and a tree to whose root it leads
-  from_tree : (H : List ℕ → List ℕ) (F : ℕ → Option (List ℕ)) (x : List ℕ) (entries : List (List ℕ)) (s w : ℕ) → GivesHashes H → HoldsHashes F → length x ≡ 32 → IsNodeRange s w → 0 < w
+  -- an evaluation that leads to the root of a tree, and that tree
+  from_tree : {F : Data} {x : List ℕ} (entries : List (List ℕ)) {s w : ℕ} {P : List ℕ → List ℕ → Type 0} → GivesHashes H → HoldsHashes F → length x ≡ 32 → IsNodeRange s w
       → s + w ≤ length (leaves_of H entries) → cut_over H F x s w 0 (length (leaves_of H entries)) ≡ Some (root_of H (leaves_of H entries))
-      → (p : Part) × IsParting H F x (own_digest H (leaves_of H entries)) (root_over H (leaves_of H entries) s w) s w 0 (length (leaves_of H entries)) p
-  from_tree H F x entries s w gives holds size node some within leads =
+      → ((first second : List ℕ) → PartsFrom H F x (leaves_of H entries) s w first second → P first second) → (Meets H x (leaves_of H entries) s w → SomeCollision H P) → SomeCollision H P
+  from_tree {F} {x} entries {s} {w} gives holds size node within leads place meets =
       let ds = leaves_of H entries in
-      let len = length-leaves H entries ds refl in
-      let one = have_tree_root laws H F x (root_over H ds s w) ds s w 0 (length ds) leads refl refl refl (omega (arith, some, within)) in
-      parted laws H F x (own_digest H ds) (root_over H ds s w) s w gives holds (own_holds laws H entries gives) size (root_over-len laws H entries s w gives some (omega (arith, within, len)))
-      node some (length ds) 0 (length ds) (let le : length ds ≤ length ds = omega arith in le) (whole_aligned 0 (length ds) (length ds) refl refl)
-      (record { starts = omega arith; ends = omega (arith, within) }) one
+      let n = length ds in
+      let some = node_some node in
+      parted laws H F x (own_digest H ds) (root_over H ds s w) s w 0 n _ gives holds (own_holds entries gives) size (root_size entries s w gives some within) node place meets
+      n 0 n (omega arith) whole (whole_aligned n) (omega arith) (have_root laws H ds s w leads (omega arith))
 
-  -- the two trees below the root
-  between_trees : (H : List ℕ → List ℕ) (old new : List (List ℕ)) (s w place : ℕ) → GivesHashes H → IsNodeRange s w → 0 < w → IsAround place 1 s w
-      → s + w ≤ length (leaves_of H old) → s + w ≤ length (leaves_of H new) → root_over H (leaves_of H old) s w ≡ root_over H (leaves_of H new) s w
-      → (p : Part)
-      × IsParting H (own_digest H (leaves_of H old)) (root_over H (leaves_of H old) place 1) (own_digest H (leaves_of H new)) (root_over H (leaves_of H new) place 1) place 1 s w p
-  between_trees H old new s w place gives node some around in_old in_new same =
+  -- a claim that is met leads to the root of the tree
+  leads_to : {F : Data} {digest : List ℕ} {node n : ℕ} {entries : List (List ℕ)} → IsMet H F digest node n entries → let ds = leaves_of H entries in
+      (start_of node + 2 ^ height_of node ≤ length ds) × (cut_over H F digest (start_of node) (2 ^ height_of node) 0 (length ds) ≡ Some (root_of H ds))
+  leads_to {entries = entries} met = grind (arith, length-leaves H entries)
+
+  pub value_collides : (F : Data) (value : List ℕ) (node n : ℕ) (entries : List (List ℕ)) → GivesHashes H → HoldsHashes F → IsMet H F (H (0 ∷ value)) node n entries
+      → (IsEntry value node entries → ⊥) → SomeCollision H (IsValuePlaced H F value node entries)
+  value_collides F value node n entries gives holds met false_claim =
+      let leads = leads_to met in
+      from_tree entries gives holds (gives (0 ∷ value)) (node_range node) leads.0 leads.1 (value_placed laws H F entries _ refl node value)
+      (λ meets. shown_collides _ _ (value_meets laws H F entries _ refl node value (λ at. false_claim (entry_from node at)) meets))
+
+  pub hash_collides : (F : Data) (hash : List ℕ) (node n : ℕ) (entries : List (List ℕ)) → GivesHashes H → HoldsHashes F → length hash ≡ 32 → IsMet H F hash node n entries
+      → (IsRootBelow H hash node entries → ⊥) → SomeCollision H (IsHashPlaced H F hash node entries)
+  hash_collides F hash node n entries gives holds size met false_claim =
+      let leads = leads_to met in
+      from_tree entries gives holds size (node_range node) leads.0 leads.1 (hash_placed laws H F entries _ refl node hash) (λ meets. absurd (false_claim meets.same))
+
+  pub agreement_collides : (F : Data) (value : List ℕ) (G : Data) (other : List ℕ) (node n : ℕ) → GivesHashes H → HoldsHashes F → HoldsHashes G
+      → IsAgreement H F (H (0 ∷ value)) G (H (0 ∷ other)) node n → (value ≡ other → ⊥) → SomeCollision H (IsAgreementPlaced H F value G other node n)
+  agreement_collides F value G other node n gives holds holds' met false_claim =
+      parted laws H F (H (0 ∷ value)) G (H (0 ∷ other)) (start_of node) (2 ^ height_of node) 0 n _ gives holds holds' (gives (0 ∷ value)) (gives (0 ∷ other)) (node_range node)
+      (agreement_placed H F value G other node n) (λ meets. shown_collides _ _ (agreement_meets H F value G other node n false_claim meets))
+      n 0 n (omega arith) whole (whole_aligned n) (omega arith) (record { digest = met.root; first = met.first_is; second = met.second_is })
+
+  -- the balanced root around a difference shows a collision
+  pub consistency_collides : (F : Data) (m n : ℕ) (old new : List (List ℕ)) → GivesHashes H → HoldsHashes F → IsConsistencyMet H F m n old new → (Begins old new → ⊥)
+      → SomeCollision H (IsConsistencyPlaced H F old new)
+  consistency_collides F m n old new gives holds met false_claim =
       let ds = leaves_of H old in
       let es = leaves_of H new in
-      let old_len = length-leaves H old ds refl in
-      let new_len = length-leaves H new es refl in
-      let one = have_node laws H ds es (root_over H ds place 1) (root_over H es place 1) place 1 s w refl refl node some in_old in_new same in
-      parted laws H (own_digest H ds) (root_over H ds place 1) (own_digest H es) (root_over H es place 1) place 1 gives (own_holds laws H old gives) (own_holds laws H new gives)
-      (root_over-len laws H old place 1 gives (lit< tt) (omega (arith, around.ends, in_old, old_len))) (root_over-len laws H new place 1 gives (lit< tt) (omega (arith, around.ends, in_new, new_len)))
-      (leaf_node place 1 refl) (lit< tt) w s w (let le : w ≤ w = omega arith in le) (node_aligned s w node) around one
-
-  -- a balanced root around a difference shows a collision
-  root_collides : (H : List ℕ → List ℕ) (F : ℕ → Option (List ℕ)) (m n : ℕ) (old new : List (List ℕ)) (s w place : ℕ) (x : List ℕ) → GivesHashes H → HoldsHashes F
-      → IsConsistencyMeeting H F m n old new (leaves_of H old) (leaves_of H new) → LeadsToBoth H F (leaves_of H old) (leaves_of H new) s w x → 0 < w → IsAround place 1 s w
-      → DiffersFirst old new place → SomeCollision H (IsConsistencyPlaced H F old new)
-  root_collides H F m n old new s w place x gives holds is at some around differs =
-      let size = holds (node_over s w) x at.held in
-      let from_old = from_tree H F x old s w gives holds size at.node some at.in_old at.to_old in
-      let from_new = from_tree H F x new s w gives holds size at.node some at.in_new at.to_new in
-      ⊎_elim
-      (λ (old_meets : from_old.0 ≡ Target). ⊎_elim
-      (λ (new_meets : from_new.0 ≡ Target).
-      let in_old = target_meets H F x _ _ s w 0 _ from_old.0 old_meets from_old.1 in
-      let in_new = target_meets H F x _ _ s w 0 _ from_new.0 new_meets from_new.1 in
-      let below = between_trees H old new s w place gives at.node some around at.in_old at.in_new (sym in_old.0 ∙ in_new.0) in
-      ⊎_elim
-      (λ (target : below.0 ≡ Target).
-      let shown = leaves_shown laws H F m n old new (leaves_of H old) (leaves_of H new) s w x place below.0 (0 ∷ get_or old place []) (0 ∷ get_or new place []) is at in_new.1 target below.1 differs refl refl in
-      let found : SomeCollision H (IsConsistencyPlaced H F old new) =
-      record { first = 0 ∷ get_or old place []; second = 0 ∷ get_or new place []; differ = shown.differ; same = shown.same; placed = shown.placed } in found)
-      (λ (other : below.0 ≡ Target → ⊥).
-      shown_collides H F old new below.0 (below_shown laws H F m n old new (leaves_of H old) (leaves_of H new) s w x place below.0 is at in_new.1 other below.1))
-      (target_or_not below.0))
-      (λ (other : from_new.0 ≡ Target → ⊥).
-      shown_collides H F old new from_new.0 (new_shown laws H F m n old new (leaves_of H old) (leaves_of H new) s w x from_new.0 is at other from_new.1))
-      (target_or_not from_new.0))
-      (λ (other : from_old.0 ≡ Target → ⊥).
-      shown_collides H F old new from_old.0 (old_shown laws H F m n old new (leaves_of H old) (leaves_of H new) s w x from_old.0 is at other from_old.1))
-      (target_or_not from_old.0)
-
-  pub consistency_collides : (H : List ℕ → List ℕ) (F : ℕ → Option (List ℕ)) (m n : ℕ) (old new : List (List ℕ)) → GivesHashes H → HoldsHashes F
-      → IsConsistencyMet H F m n old new → (Begins old new → ⊥) → SomeCollision H (IsConsistencyPlaced H F old new)
-  consistency_collides H F m n old new gives holds met false_claim =
-      let order = met.roots.order in
-      let found = difference old new (omega (arith, met.old_count, met.new_count, order)) false_claim in
-      let root = root_found laws found.0 m 0 m (let le : m ≤ m = omega arith in le) (let le : 0 ≤ found.0 = omega arith in le) (let within = found.1.within in omega (arith, within, met.old_count)) in
-      let is : IsConsistencyMeeting H F m n old new (leaves_of H old) (leaves_of H new) = record { met = met; old_is = refl; new_is = refl } in
-      let count : m ≡ length (leaves_of H old) = sym (length-leaves H old (leaves_of H old) refl ∙ met.old_count) in
-      let leads = root_leads laws H F (leaves_of H old) (leaves_of H new) root.0 root.1 0 m (trees_consistent H F m n old new (leaves_of H old) (leaves_of H new) is) root.2 refl count in
-      root_collides H F m n old new root.0 root.1 found.0 leads.0 gives holds is leads.1 (root_bounds laws root.0 root.1 0 m root.2).0 root.3 found.1
+      let found = difference old new (omega arith) false_claim in
+      let root = root_found laws found.0 (length ds) 0 (length ds) (omega arith) (omega arith) (omega (arith, length-leaves H old)) in
+      let is : IsConsistencyMeeting H F m n old new ds es = record { met = met; old_is = refl; new_is = refl } in
+      let leads = root_leads laws (trees_consistent is) root.2 in
+      let at = leads.1 in
+      let place = found.0 in
+      let size = holds _ _ at.held in
+      from_tree old gives holds size at.node at.in_old at.to_old (old_placed laws is at)
+      (λ in_old. from_tree new gives holds size at.node at.in_new at.to_new (new_placed laws is at)
+      (λ in_new. parted laws H (own_digest H ds) (root_over H ds place 1) (own_digest H es) (root_over H es place 1) place 1 root.0 root.1 _ gives (own_holds old gives) (own_holds new gives)
+      (root_size old place 1 gives (omega arith) (omega arith)) (root_size new place 1 gives (omega arith) (omega arith)) (leaf_node place)
+      (below_placed laws is at place in_new.part)
+      (λ meets. shown_collides _ _ (leaves_shown laws is at place in_new.part meets found.1 (omega arith) found.2))
+      root.1 root.0 root.1 (omega arith) whole (node_aligned at.node) root.3 (have_node laws H ds es place 1 at.node at.in_old at.in_new (sym in_old.same ∙ in_new.same))))

@@ -1,86 +1,111 @@
--- The way down two trees of one digest.
-use Rattle.std.proofs.Common.{◌≡◌, ℕ, ◌+◌, ◌-◌, ◌<◌, List, ◌∷◌, ◌++◌, length, take, drop, Option, Some, ⊎_elim, refl, sym, ap, ◌∙◌}
-use Rattle.std.proofs.lemmas.List.{take_at, drop_at}
-use Rattle.warg_log.specs.Tree.{front_of}
-use Rattle.warg_log.specs.Cut.{cut_over}
-use Rattle.warg_witness.proofs.LogLemmas.{joined_both}
+-- The way down two trees of one digest, and the tree over entries.
+use Rattle.std.proofs.Common.{◌≡◌, ℕ, ◌+◌, ◌-◌, ◌<◌, ◌≤◌, List, ◌∷◌, length, Some, refl, sym, ap, ◌∙◌, arith, inl, inr}
+use Rattle.std.proofs.lemmas.List.{take_at, drop_at, length-map, get_or-map}
+use Rattle.std.proofs.lemmas.Bool.Decides.{nat_tests}
+use Rattle.warg_log.specs.Tree.{front_of, leaves_of, root_of, root_over, own_digest}
+use Rattle.warg_log.specs.Cut.{joined, cut_over}
 use Rattle.warg_witness.specs.Ranges.{IsPart, IsAround}
-use Rattle.warg_witness.specs.Private.Ranges.{IsSide}
-use Rattle.warg_witness.specs.Ranges.IsPart.{whole}
-use Rattle.warg_witness.specs.Inputs.{branch_input}
+use Rattle.warg_witness.specs.Inputs.{branch_input, plain_input, cut_input}
+use Rattle.warg_witness.specs.Private.Ranges.{IsSide, IsAligned, IsNodeRange}
+use Rattle.warg_witness.specs.Private.LogLaws.{LogLaws}
 use Rattle.warg_witness.specs.Private.Parting.{HaveOneDigest, MeetAt, PartsAt, IsParting}
 use Rattle.warg_witness.specs.declared.descent.Parting.{Parting}
 use Rattle.warg_witness.specs.declared.descent.Parting.TheVariants.{Target, Branch}
-use Rattle.warg_witness.proofs.RangeLemmas.{cut_around, IsPart-trans}
-use Rattle.warg_witness.specs.Private.LogLaws.{LogLaws}
+use Rattle.warg_witness.proofs.RangeLemmas.{Digest, Data, known, wider, at_side, IsPart-trans, node_aligned, whole_aligned, node_some, side_aligned, part_in}
+use Rattle.std.proofs.Math.Seq.{take-length}
 
 -- the inputs of two branches are equal only part by part
-pub append_parts : (a b c d : List ℕ) → length a ≡ length c → a ++ b ≡ c ++ d → (a ≡ c) × (b ≡ d)
-append_parts a b c d len e = (
-  sym (take_at a b (length c) len) ∙ ap (λ l. take (length c) l) e ∙ take_at c d (length c) refl,
-  sym (drop_at a b (length c) len) ∙ ap (λ l. drop (length c) l) e ∙ drop_at c d (length c) refl,
-)
+pub branch_parts : (a b c d : List ℕ) → length a ≡ length c → branch_input a b ≡ branch_input c d → (a ≡ c) × (b ≡ d)
+branch_parts a b c d len e = grind (arith, take_at a b (length c) len, drop_at a b (length c) len, take_at c d (length c) refl, drop_at c d (length c) refl)
 
 pub inputs_differ : (a b c d : List ℕ) → length a ≡ length c → ((a ≡ c) × (b ≡ d) → ⊥) → branch_input a b ≡ branch_input c d → ⊥
-inputs_differ a b c d len other e = other (append_parts a b c d len (tail_eq (a ++ b) (c ++ d) e))
-  where
-    tail_eq : (xs ys : List ℕ) → 1 ∷ xs ≡ 1 ∷ ys → xs ≡ ys
-    tail_eq xs ys f = cc
-
-pub some_eq : (x y : List ℕ) → Some x ≡ Some y → x ≡ y
-some_eq x y e = cc
-
--- where the parts have the same digests, so has the one that is gone down to
-pub same_at_side : (H : List ℕ → List ℕ) (F : ℕ → Option (List ℕ)) (x : List ℕ) (G : ℕ → Option (List ℕ)) (y : List ℕ) (s w a n b m : ℕ) (l r l' r' : List ℕ)
-    → cut_over H F x s w a (front_of n) ≡ Some l → cut_over H F x s w (a + front_of n) (n - front_of n) ≡ Some r
-    → cut_over H G y s w a (front_of n) ≡ Some l' → cut_over H G y s w (a + front_of n) (n - front_of n) ≡ Some r'
-    → (l ≡ l') × (r ≡ r') → IsSide a n b m → HaveOneDigest H F x G y s w b m
-same_at_side H F x G y s w a n b m l r l' r' left right left' right' same side = ⊎_elim
-    (λ (p : (b ≡ a) × (m ≡ front_of n)). record { digest = l; first = rw (p.0, p.1) left; second = rw (p.0, p.1) left' ∙ ap Some (sym same.0) })
-    (λ (p : (b ≡ a + front_of n) × (m ≡ n - front_of n)). record { digest = r; first = rw (p.0, p.1) right; second = rw (p.0, p.1) right' ∙ ap Some (sym same.1) }) side
+inputs_differ a b c d len other e = other (branch_parts a b c d len e)
 
 -- what parts in a part of a range parts in the range
-pub widened : {D : Type 0} (H : List ℕ → List ℕ) (F : ℕ → Option (List ℕ)) (x : List ℕ) (G : ℕ → Option (List ℕ)) (y : List ℕ) (s w a₀ n₀ a n : ℕ) (p : Parting D)
+pub widened : {D : Type 0} (H : Digest) (F : Data) (x : List ℕ) (G : Data) (y : List ℕ) (s w : ℕ) {a₀ n₀ a n : ℕ} (p : Parting D)
     → IsPart a₀ n₀ a n → IsParting H F x G y s w a n p → IsParting H F x G y s w a₀ n₀ p
-widened H F x G y s w a₀ n₀ a n Target outer is = record { same = is.same; part = IsPart-trans a₀ n₀ a n s w outer is.part }
-widened H F x G y s w a₀ n₀ a n (Branch l r l' r') outer is = record {
-  from = is.from;
-  count = is.count;
-  part = IsPart-trans a₀ n₀ a n is.from is.count outer is.part;
-  around = is.around;
-  other = is.other;
-  first_input = is.first_input;
-  second_input = is.second_input;
-  differ = is.differ;
-  same = is.same;
-}
+widened H F x G y s w Target outer is = search (IsPart-trans, outer, is)
+widened H F x G y s w (Branch l r l' r') outer is = search (IsPart-trans, outer, is)
 
--- at the target itself
-pub met_here : (x y : List ℕ) (s w a n : ℕ) → a ≡ s → n ≡ w → x ≡ y → MeetAt x y s w a n
-met_here x y s w a n at width is = record { same = is; part = rw (at, width) whole }
+-- The cut roots of the two sides of a range.
+pub record Sides (H : Digest) (F : Data) (x : List ℕ) (s w a n : ℕ) (l r : List ℕ) : Type 0 where
+  pub left : cut_over H F x s w a (front_of n) ≡ Some l
+  pub right : cut_over H F x s w (a + front_of n) (n - front_of n) ≡ Some r
 
-module _ (laws : LogLaws) where
-  -- the digest of a range around a target is that of its input
-  pub digest_around : (H : List ℕ → List ℕ) (F : ℕ → Option (List ℕ)) (x : List ℕ) (s w a n : ℕ) (l r d : List ℕ) → 0 < w → IsAround s w a n → (a ≡ s → n ≡ w → ⊥)
-      → cut_over H F x s w a (front_of n) ≡ Some l → cut_over H F x s w (a + front_of n) (n - front_of n) ≡ Some r → cut_over H F x s w a n ≡ Some d
-      → d ≡ H (branch_input l r)
-  digest_around H F x s w a n l r d some around other left right is =
-      some_eq d (H (branch_input l r)) (sym is ∙ cut_around laws H F x s w a n some around other ∙ joined_both H _ _ l r left right)
+-- where both sides have the same cut roots, so has the one that is gone down to
+pub same_at_side : {H : Digest} {F : Data} {x : List ℕ} {G : Data} {y : List ℕ} {s w a n : ℕ} {l r l' r' : List ℕ} (b m : ℕ)
+    → Sides H F x s w a n l r → Sides H G y s w a n l' r' → (l ≡ l') × (r ≡ r') → IsSide a n b m → HaveOneDigest H F x G y s w b m
+same_at_side {H} {F} {x} {G} {y} {s} {w} {a} {n} {l} {r} b m first second same side = at_side (HaveOneDigest H F x G y s w) a n b m side
+    (record { digest = l; first = first.left; second = second.left ∙ ap Some (sym same.0) })
+    (record { digest = r; first = first.right; second = second.right ∙ ap Some (sym same.1) })
 
-  -- two trees that part at a range
-  pub parts_at : (H : List ℕ → List ℕ) (F : ℕ → Option (List ℕ)) (x : List ℕ) (G : ℕ → Option (List ℕ)) (y : List ℕ) (s w a n : ℕ) (l r l' r' d : List ℕ) → 0 < w
-      → IsAround s w a n → (a ≡ s → n ≡ w → ⊥) → cut_over H F x s w a n ≡ Some d → cut_over H G y s w a n ≡ Some d
-      → cut_over H F x s w a (front_of n) ≡ Some l → cut_over H F x s w (a + front_of n) (n - front_of n) ≡ Some r
-      → cut_over H G y s w a (front_of n) ≡ Some l' → cut_over H G y s w (a + front_of n) (n - front_of n) ≡ Some r'
-      → length l ≡ length l' → ((l ≡ l') × (r ≡ r') → ⊥) → PartsAt H F x G y s w a n (branch_input l r) (branch_input l' r')
-  parts_at H F x G y s w a n l r l' r' d some around other is is' left right left' right' len differ = record {
-    from = a;
-    count = n;
-    part = whole;
-    around = around;
-    other = other;
-    first_input = rw (left, right) refl;
-    second_input = rw (left', right') refl;
-    differ = inputs_differ l r l' r' len differ;
-    same = sym (digest_around H F x s w a n l r d some around other left right is) ∙ digest_around H G y s w a n l' r' d some around other left' right' is';
+module _ (laws : LogLaws) (H : Digest) where
+  -- two trees of one digest at the target have it there
+  pub meets_here : {F : Data} {x : List ℕ} {G : Data} {y : List ℕ} {s w a₀ n₀ a n : ℕ} → a ≡ s → n ≡ w → IsPart a₀ n₀ a n → HaveOneDigest H F x G y s w a n → MeetAt x y s w a₀ n₀
+  meets_here {F} {x} {G} {y} {s} {w} from count part one =
+      record { same = grind (arith, (known laws).cut_target H F x s w, (known laws).cut_target H G y s w); part = rw (from, count) at part }
+
+  module _ {s w a n : ℕ} (some : 0 < w) (around : IsAround s w a n) (other : a ≡ s → n ≡ w → ⊥) where
+    -- the cut root of a range around a target is the branch over its sides
+    cut_around : (F : Data) (x : List ℕ) → cut_over H F x s w a n ≡ joined H (cut_over H F x s w a (front_of n)) (cut_over H F x s w (a + front_of n) (n - front_of n))
+    cut_around F x = let more = wider around other in (known laws).cut_parts H F x s w a n (omega arith) other (λ _ beside. omega arith)
+
+    pub sides_of : (F : Data) (x d : List ℕ) → cut_over H F x s w a n ≡ Some d → (l : List ℕ) × (r : List ℕ) × Sides H F x s w a n l r
+    sides_of F x d is = grind (arith, cut_around F x)
+
+    -- two trees of one digest part at a range where their inputs differ
+    pub parts_at : {F : Data} {x : List ℕ} {G : Data} {y l r l' r' : List ℕ} {a₀ n₀ : ℕ} → IsPart a₀ n₀ a n → HaveOneDigest H F x G y s w a n
+        → Sides H F x s w a n l r → Sides H G y s w a n l' r' → (branch_input l r ≡ branch_input l' r' → ⊥) → PartsAt H F x G y s w a₀ n₀ (branch_input l r) (branch_input l' r')
+    parts_at {F} {x} {G} {y} {l} {r} {l'} {r'} part one first second differ =
+        let same : H (branch_input l r) ≡ H (branch_input l' r') = grind (arith, cut_around F x, cut_around G y) in search (part, first.left, first.right, second.left, second.right, same)
+
+-- the leaves are as many as the entries
+pub length-leaves : (H : Digest) (entries : List (List ℕ)) → length (leaves_of H entries) ≡ length entries
+length-leaves H entries = length-map entries (λ e. H (0 ∷ e))
+
+-- An evaluation with the digest x at the w leaves from s on and the tree of these leaf digests part at these inputs, or have one digest there.
+abbrev pub PartsFrom : Digest → Data → List ℕ → List (List ℕ) → ℕ → ℕ → List ℕ → List ℕ → Type 0
+PartsFrom H F x ds s w first second = PartsAt H F x (own_digest H ds) (root_over H ds s w) s w 0 (length ds) first second
+
+abbrev pub Meets : Digest → List ℕ → List (List ℕ) → ℕ → ℕ → Type 0
+Meets H x ds s w = MeetAt x (root_over H ds s w) s w 0 (length ds)
+
+module _ (laws : LogLaws) (H : Digest) where
+  -- over a log's own digests, with the target's own digest, the cut root of a range is the plain root
+  pub own_cut : (ds : List (List ℕ)) (s w : ℕ) {a n : ℕ} → IsAligned a n → 0 < n → a + n ≤ length ds → cut_over H (own_digest H ds) (root_over H ds s w) s w a n ≡ Some (root_over H ds a n)
+  own_cut ds s w {a} {n} aligned some within = grind (arith, (known laws).cut_own H ds s w aligned.height aligned.place n some aligned.most)
+
+  -- an evaluation that leads to a tree's root and the tree have the root in common, and two trees have a node at which they have one digest
+  pub have_root : {F : Data} {x : List ℕ} (ds : List (List ℕ)) (s w : ℕ) → cut_over H F x s w 0 (length ds) ≡ Some (root_of H ds) → 0 < length ds
+      → HaveOneDigest H F x (own_digest H ds) (root_over H ds s w) s w 0 (length ds)
+  have_root ds s w leads some =
+      record { digest = root_of H ds; first = leads; second = own_cut ds s w (whole_aligned (length ds)) some (omega arith) ∙ ap (λ l. Some (root_of H l)) (take-length ds) }
+
+  pub have_node : (ds es : List (List ℕ)) (p q : ℕ) {s w : ℕ} → IsNodeRange s w → s + w ≤ length ds → s + w ≤ length es → root_over H ds s w ≡ root_over H es s w
+      → HaveOneDigest H (own_digest H ds) (root_over H ds p q) (own_digest H es) (root_over H es p q) p q s w
+  have_node ds es p q {s} {w} node in_first in_second same = record {
+    digest = root_over H ds s w;
+    first = own_cut ds p q (node_aligned node) (node_some node) in_first;
+    second = own_cut es p q (node_aligned node) (node_some node) in_second ∙ ap Some (sym same);
   }
+
+  -- the root over a range is the digest of the plain input there
+  pub plain_digest_is : (entries : List (List ℕ)) (a n : ℕ) → 0 < n → a + n ≤ length entries → root_over H (leaves_of H entries) a n ≡ H (plain_input H entries a n)
+  plain_digest_is entries a n some within =
+      let len = length-leaves H entries in grind (arith, nat_tests, (known laws).root_parts H (leaves_of H entries) a n, (known laws).root_one H (leaves_of H entries) a, get_or-map)
+
+  -- over the entries' own digests the evaluation's input at a range is the plain one, as where an evaluation parts from the tree
+  pub own_input : (entries : List (List ℕ)) (s w : ℕ) {a n : ℕ} (second : List ℕ) → IsPart 0 (length entries) a n → 1 < n
+      → cut_input H (own_digest H (leaves_of H entries)) (root_over H (leaves_of H entries) s w) s w a n ≡ Some second → second ≡ plain_input H entries a n
+  own_input entries s w {a} {n} second part more is =
+      let at = part_in laws part in
+      let f = (known laws).front n more in
+      let len = length-leaves H entries in
+      let left = own_cut (leaves_of H entries) s w (side_aligned laws a (front_of n) at.1 more (inl (refl, refl))) (omega arith) (omega arith) in
+      let right = own_cut (leaves_of H entries) s w (side_aligned laws (a + front_of n) (n - front_of n) at.1 more (inr (refl, refl))) (omega arith) (omega arith) in grind (arith, nat_tests)
+
+  pub own_second : {F : Data} {x : List ℕ} (entries ds : List (List ℕ)) {s w : ℕ} {first second : List ℕ} → ds ≡ leaves_of H entries → 0 < w → (parts : PartsFrom H F x ds s w first second)
+      → IsPart 0 (length entries) parts.from parts.count × (second ≡ plain_input H entries parts.from parts.count)
+  own_second entries ds {s} {w} {first} {second} is some parts =
+      let part = rw (is, length-leaves H entries) at parts.part in
+      let more = wider parts.around parts.other in (part, own_input entries s w second part (omega arith) (rw is at parts.second_input))

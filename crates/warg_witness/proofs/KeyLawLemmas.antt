@@ -14,8 +14,7 @@ use Rattle.warg_witness.specs.MapClaims.{value_in, IsLastValue, IsKeyMet, IsAbse
 use Rattle.warg_witness.specs.MapPlaced.{IsKeyPlaced}
 use Rattle.warg_witness.specs.Private.MapPaths.{plain_peers}
 use Rattle.warg_witness.specs.declared.descent.Parting.TheVariants.{Target}
-use Rattle.warg_witness.proofs.PureLemmas.{Part, same_or_not}
-use Rattle.warg_witness.proofs.CollisionLemmas.{target_or_not}
+use Rattle.warg_witness.proofs.CollisionLemmas.{Part, same_or_not, target_or_not}
 use Rattle.warg_witness.proofs.LastLemmas.{some_same}
 use Rattle.warg_witness.proofs.PathLemmas.{parted_on_path}
 use Rattle.warg_witness.proofs.KeyLemmas.{IsHeld, PartsFromPlain, ShowsKey, plain_root_is, branch_shown, leaf_shown, none_differs, keys_shown}

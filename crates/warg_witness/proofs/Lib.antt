@@ -1,14 +1,8 @@
-pub mod LogLemmas
 pub mod RangeLemmas
 pub mod DescentLemmas
 pub mod HashLemmas
-pub mod PlainLemmas
-pub mod ValueLemmas
-pub mod AgreementLemmas
-pub mod BalancedRootLemmas
-pub mod EntryLemmas
+pub mod ShownLemmas
 pub mod ConsistencyLemmas
-pub mod PureLemmas
 pub mod CollisionLemmas
 pub mod CompareLemmas
 pub mod PathLemmas

@@ -10,7 +10,7 @@ use Rattle.warg_witness.specs.Private.MapPaths.{IsPathParting, IsClimb}
 use Rattle.warg_witness.specs.declared.descent.Parting.{Parting}
 use Rattle.warg_witness.specs.declared.descent.Parting.TheVariants.{Target, Branch}
 use Rattle.warg_witness.proofs.DescentLemmas.{inputs_differ}
-use Rattle.warg_witness.proofs.PureLemmas.{Part, same_or_not}
+use Rattle.warg_witness.proofs.CollisionLemmas.{Part, same_or_not}
 
 -- what parts below a bit parts above it
 pub widened_path : {D : Type 0} (H : List ℕ → List ℕ) (P : List (Option (List ℕ))) (x : List ℕ) (Q : List (Option (List ℕ))) (y : List ℕ) (b : Bool) (bits : List Bool) (p : Parting D)

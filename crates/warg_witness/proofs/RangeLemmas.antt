@@ -1,109 +1,110 @@
--- Ranges around a target, and their parts.
-use Rattle.std.proofs.Common.{◌≡◌, ℕ, suc, ◌+◌, ◌-◌, ◌*◌, ◌^◌, ◌<◌, ◌≤◌, ◌⊎◌, inl, inr, List, Option, Some, None, IsSome, refl, sym, ap, ◌∙◌, arith, ⊎_elim, is_some, true, false}
-use Rattle.std.proofs.Math.Nat.{pow-suc}
-use Rattle.std.proofs.lemmas.Nat.{pow_pos, pow-add}
+-- Ranges of the tree's recursion and their sides, and the log's laws as a premise.
+use Rattle.std.proofs.Common.{◌≡◌, ℕ, zero, suc, ◌+◌, ◌-◌, ◌*◌, ◌^◌, ◌<◌, ◌≤◌, List, Option, inl, inr, ap, ◌∙◌, arith, lit<, refl}
+use Rattle.std.proofs.lemmas.Nat.{pow-add, pow_pos, pow_below, row_fits, mul-le}
 use Rattle.std.proofs.lemmas.Bool.{cases_lt}
+use Rattle.warg_log.specs.Cut.{IsFull}
+use Rattle.warg_witness.specs.Private.LogLaws.{Known, LogLaws}
 use Rattle.warg_log.specs.Tree.{front_of}
-use Rattle.warg_log.specs.Cut.{joined, cut_over}
-use Rattle.warg_witness.proofs.LogLemmas.{front_is, pow_below_pow, cut_over-parts, no_straddle}
 use Rattle.warg_witness.specs.Ranges.{IsPart, IsAround}
-use Rattle.warg_witness.specs.Private.Ranges.{IsAligned, IsNodeRange, IsSide}
 use Rattle.warg_witness.specs.Ranges.IsPart.{whole, front, rest}
-use Rattle.warg_witness.specs.Private.LogLaws.{LogLaws}
+use Rattle.warg_witness.specs.Private.Ranges.{IsAligned, IsNodeRange, IsSide}
+
+-- A digest function, and digests by node, as data holds them.
+abbrev pub Digest : Type 0
+Digest = List ℕ → List ℕ
+
+abbrev pub Data : Type 0
+Data = ℕ → Option (List ℕ)
+
+-- powers of two
+pub below_pow : (n : ℕ) → n < 2 ^ n
+below_pow zero = lit< tt
+below_pow (suc n) = let below : n < 2 ^ n = below_pow n in omega arith
+
+pub pow_below_pow : (a b : ℕ) → 2 ^ a < 2 ^ b → a < b
+pow_below_pow a b lt = grind (arith, pow_below)
+
+-- a multiple of a power of two is one of each lower power
+pub multiple : (c k h : ℕ) → k ≤ h → c * 2 ^ h ≡ c * 2 ^ (h - k) * 2 ^ k
+multiple c k h le = let sum : h ≡ h - k + k = omega arith in rw (ap (λ i. 2 ^ i) sum ∙ pow-add 2 (h - k) k) (omega arith)
+
+-- a range that isn't full has more than one leaf
+pub more_than_one : (n : ℕ) → 0 < n → (IsFull n → ⊥) → 1 < n
+more_than_one n some part = grind arith
+
+pub known : LogLaws → Known
+unfolding LogLaws
+known laws = laws
+
+-- one leaf is a node's range, and such a range and the whole of a log are aligned
+pub leaf_node : (a : ℕ) → IsNodeRange a 1
+leaf_node a = record { height = 0; place = a; start = omega arith; count = refl }
+
+pub node_aligned : {s w : ℕ} → IsNodeRange s w → IsAligned s w
+node_aligned node = record { height = node.height; place = node.place; start = node.start; most = omega arith }
+
+pub whole_aligned : (n : ℕ) → IsAligned 0 n
+whole_aligned n = record { height = n; place = 0; start = omega arith; most = omega (arith, below_pow n) }
+
+pub node_some : {s w : ℕ} → IsNodeRange s w → 0 < w
+node_some node = rw node.count (pow_pos node.height)
 
 -- a range around a target that is not the target's own has more leaves
-pub wider : (s w a n : ℕ) → IsAround s w a n → (a ≡ s → n ≡ w → ⊥) → w < n
-wider s w a n around other = ⊎_elim (λ lt. lt)
-    (λ (le : n ≤ w). absurd (other (let e : a ≡ s = omega (arith, around.starts, around.ends) in e) (let e : n ≡ w = omega (arith, around.starts, around.ends) in e))) (cases_lt w n)
-
--- both parts of a joined digest are there
-pub joined_some : (H : List ℕ → List ℕ) (p q : Option (List ℕ)) → IsSome (joined H p q) → IsSome p × IsSome q
-joined_some H (Some l) (Some r) some = (refl, refl)
-joined_some H (Some l) None some = absurd (cc)
-joined_some H None q some = absurd (cc)
+pub wider : {s w a n : ℕ} → IsAround s w a n → (a ≡ s → n ≡ w → ⊥) → w < n
+wider {s} {w} {a} {n} around other = grind arith
 
 -- the parts of a part are parts
-pub IsPart-trans : (a₀ n₀ a n b m : ℕ) → IsPart a₀ n₀ a n → IsPart a n b m → IsPart a₀ n₀ b m
-IsPart-trans a₀ n₀ a n b m outer whole = outer
-IsPart-trans a₀ n₀ a n b m outer (front c k part more) = front c k (IsPart-trans a₀ n₀ a n c k outer part) more
-IsPart-trans a₀ n₀ a n b m outer (rest c k part more) = rest c k (IsPart-trans a₀ n₀ a n c k outer part) more
+pub IsPart-trans : {a₀ n₀ a n b m : ℕ} → IsPart a₀ n₀ a n → IsPart a n b m → IsPart a₀ n₀ b m
+IsPart-trans outer whole = outer
+IsPart-trans outer (front c k part more) = front c k (IsPart-trans outer part) more
+IsPart-trans outer (rest c k part more) = rest c k (IsPart-trans outer part) more
 
-pub side_is_part : (a n b m : ℕ) → 1 < n → IsSide a n b m → IsPart a n b m
-side_is_part a n b m more side = ⊎_elim
-    (λ (p : (b ≡ a) × (m ≡ front_of n)). rw (p.0, p.1) (front a n whole more))
-    (λ (p : (b ≡ a + front_of n) × (m ≡ n - front_of n)). rw (p.0, p.1) (rest a n whole more)) side
+-- what is true of both sides of a range is true of each
+pub at_side : (P : ℕ → ℕ → Type 0) (a n b m : ℕ) → IsSide a n b m → P a (front_of n) → P (a + front_of n) (n - front_of n) → P b m
+at_side P a n b m side left right = grind arith
+
+pub side_is_part : {a₀ n₀ a n : ℕ} (b m : ℕ) → IsPart a₀ n₀ a n → 1 < n → IsSide a n b m → IsPart a₀ n₀ b m
+side_is_part {a₀} {n₀} {a} {n} b m part more side = at_side (IsPart a₀ n₀) a n b m side (front a n part more) (rest a n part more)
 
 module _ (laws : LogLaws) where
-  -- the cut root of such a range is the branch over its parts
-  pub cut_around : (H : List ℕ → List ℕ) (F : ℕ → Option (List ℕ)) (x : List ℕ) (s w a n : ℕ) → 0 < w → IsAround s w a n → (a ≡ s → n ≡ w → ⊥)
-      → cut_over H F x s w a n ≡ joined H (cut_over H F x s w a (front_of n)) (cut_over H F x s w (a + front_of n) (n - front_of n))
-  cut_around H F x s w a n some around other =
-      let more = wider s w a n around other in
-      cut_over-parts laws H F x s w a n (omega arith) other
-      (λ full beside. ⊎_elim (λ (le : a + n ≤ s). omega (arith, around.ends)) (λ (le : s + w ≤ a). omega (arith, around.starts)) beside)
+  -- an aligned range splits at a multiple of each power of two below its count, so its sides are aligned
+  split_place : {a n : ℕ} → IsAligned a n → 1 < n → (k : ℕ) → 2 ^ k < n → (q : ℕ) × (a + front_of n ≡ q * 2 ^ k)
+  split_place {a} {n} aligned more k below =
+      let f = (known laws).front n more in
+      let low : k < suc f.0.0 = grind (arith, pow_below) in
+      let high : f.0.0 < aligned.height = grind (arith, pow_below) in
+      (aligned.place * 2 ^ (aligned.height - k) + 2 ^ (f.0.0 - k), omega (arith, multiple aligned.place k aligned.height (omega arith), multiple 1 k f.0.0 (omega arith)))
 
-  -- an aligned range begins at a multiple of the power of two at which it splits
-  split_place : (a n : ℕ) → IsAligned a n → 1 < n → (h : ℕ) × (c : ℕ) × (front_of n ≡ 2 ^ h) × (2 ^ h < n) × (n ≤ 2 ^ suc h) × (a ≡ c * 2 ^ h)
-  split_place a n aligned more =
-      let f = front_is laws n more in
-      let below : f.0 < aligned.height = pow_below_pow f.0 aligned.height (omega (arith, f.2, aligned.most)) in
-      let d = aligned.height - f.0 in
-      let sum : f.0 + d ≡ aligned.height = omega arith in
-      let factor : 2 ^ aligned.height ≡ 2 ^ f.0 * 2 ^ d = ap (λ i. 2 ^ i) (sym sum) ∙ pow-add 2 f.0 d in
-      (f.0, aligned.place * 2 ^ d, f.1, f.2, f.3, aligned.start ∙ product aligned.place (2 ^ aligned.height) (2 ^ f.0) (2 ^ d) factor)
-    where
-      product : (c r p q : ℕ) → r ≡ p * q → c * r ≡ (c * q) * p
-      product c r p q e = rw e (omega arith)
+  pub side_aligned : {a n : ℕ} (b m : ℕ) → IsAligned a n → 1 < n → IsSide a n b m → IsAligned b m
+  side_aligned {a} {n} b m aligned more side =
+      let f = (known laws).front n more in
+      let at = split_place aligned more f.0.0 (omega arith) in
+      at_side IsAligned a n b m side (record { height = aligned.height; place = aligned.place; start = aligned.start; most = omega arith })
+      (record { height = f.0.0; place = at.0; start = at.1; most = omega arith })
 
-  -- both parts of an aligned range are aligned
-  pub front_aligned : (a n : ℕ) → IsAligned a n → 1 < n → IsAligned a (front_of n)
-  front_aligned a n aligned more =
-      let at = split_place a n aligned more in
-      record { height = at.0; place = at.1; start = at.5; most = omega (arith, at.2) }
+  -- of the sides of a range around a target, the one in which the target begins is around it
+  pub front_around : {s w a n : ℕ} → IsNodeRange s w → IsAligned a n → IsAround s w a n → (a ≡ s → n ≡ w → ⊥) → s < a + front_of n → s + w ≤ a + front_of n
+  front_around {s} {w} {a} {n} node aligned around other left =
+      let more = wider around other in
+      let some = node_some node in
+      let at = split_place aligned (omega arith) node.height (omega arith) in
+      elim (cases_lt node.place at.0) [
+        | inl less ↦ omega (arith, row_fits node.place (2 ^ node.height) at.0 (2 ^ node.height) less (omega arith))
+        | inr le ↦ omega (arith, mul-le at.0 (2 ^ node.height) node.place (2 ^ node.height) le (omega arith))
+      ]
 
-  pub rest_aligned : (a n : ℕ) → IsAligned a n → 1 < n → IsAligned (a + front_of n) (n - front_of n)
-  rest_aligned a n aligned more =
-      let at = split_place a n aligned more in
-      let twice : 2 ^ suc at.0 ≡ 2 ^ at.0 * 2 = pow-suc 2 at.0 in
-      record { height = at.0; place = at.1 + 1; start = omega (arith, at.5, at.2); most = omega (arith, at.2, at.4) }
+  pub side_around : {s w a n : ℕ} → IsNodeRange s w → IsAligned a n → IsAround s w a n → (a ≡ s → n ≡ w → ⊥) → (b : ℕ) × (m : ℕ) × IsSide a n b m × IsAround s w b m × (m < n)
+  side_around {s} {w} {a} {n} node aligned around other =
+      let more = wider around other in
+      let some = node_some node in
+      let f = (known laws).front n (omega arith) in
+      elim (cases_lt s (a + front_of n)) [
+        | inl left ↦ (a, front_of n, inl (refl, refl), record { starts = around.starts; ends = front_around node aligned around other left }, f.1)
+        | inr right ↦ (a + front_of n, n - front_of n, inr (refl, refl), omega arith, omega arith)
+      ]
 
-  -- what is read of a part is there
-  pub no_front : (H : List ℕ → List ℕ) (F : ℕ → Option (List ℕ)) (x : List ℕ) (s w a n b m : ℕ) (r : Option (List ℕ)) → 0 < w → IsAround s w a n
-      → (a ≡ s → n ≡ w → ⊥) → IsSome (cut_over H F x s w a n) → (b ≡ a) × (m ≡ front_of n) → r ≡ cut_over H F x s w b m → r ≡ None → ⊥
-  no_front H F x s w a n b m r some around other there at is none =
-      let both = joined_some H _ _ (ap is_some (sym (cut_around H F x s w a n some around other)) ∙ there) in
-      let here : cut_over H F x s w a (front_of n) ≡ None = rw (at.0, at.1) at (sym is ∙ none) in
-      absurd (let e : true ≡ false = sym both.0 ∙ ap is_some here in cc)
-
-  pub no_rest : (H : List ℕ → List ℕ) (F : ℕ → Option (List ℕ)) (x : List ℕ) (s w a n b m : ℕ) (r : Option (List ℕ)) → 0 < w → IsAround s w a n
-      → (a ≡ s → n ≡ w → ⊥) → IsSome (cut_over H F x s w a n) → (b ≡ a + front_of n) × (m ≡ n - front_of n) → r ≡ cut_over H F x s w b m → r ≡ None → ⊥
-  no_rest H F x s w a n b m r some around other there at is none =
-      let both = joined_some H _ _ (ap is_some (sym (cut_around H F x s w a n some around other)) ∙ there) in
-      let here : cut_over H F x s w (a + front_of n) (n - front_of n) ≡ None = rw (at.0, at.1) at (sym is ∙ none) in
-      absurd (let e : true ≡ false = sym both.1 ∙ ap is_some here in cc)
-
-  -- no part begins inside the target of a larger range
-  apart : (s w a n : ℕ) → IsNodeRange s w → IsAligned a n → IsAround s w a n → (a ≡ s → n ≡ w → ⊥) → (s + w ≤ a + front_of n) ⊎ (a + front_of n ≤ s)
-  apart s w a n node aligned around other =
-      let more = wider s w a n around other in
-      let some : 0 < 2 ^ node.height = pow_pos node.height in
-      let at = split_place a n aligned (omega (arith, more, node.count)) in
-      let low : node.height < suc at.0 = pow_below_pow node.height (suc at.0) (omega (arith, more, node.count, at.4)) in
-      ⊎_elim
-      (λ (le : node.place * 2 ^ node.height + 2 ^ node.height ≤ (at.1 + 1) * 2 ^ at.0). inl (omega (arith, node.start, node.count, at.5, at.2)))
-      (λ (le : (at.1 + 1) * 2 ^ at.0 ≤ node.place * 2 ^ node.height). inr (omega (arith, node.start, at.5, at.2)))
-      (no_straddle node.height node.place at.0 (at.1 + 1) (omega arith))
-
-  -- of the parts of a range around a target, the one on the target's side is around it
-  pub front_around : (s w a n : ℕ) → 0 < w → IsNodeRange s w → IsAligned a n → IsAround s w a n → (a ≡ s → n ≡ w → ⊥) → s < a + front_of n
-      → IsAround s w a (front_of n)
-  front_around s w a n some node aligned around other left = ⊎_elim
-      (λ (le : s + w ≤ a + front_of n). record { starts = around.starts; ends = le })
-      (λ (le : a + front_of n ≤ s). absurd (omega arith)) (apart s w a n node aligned around other)
-
-  pub rest_around : (s w a n : ℕ) → 0 < w → IsNodeRange s w → IsAligned a n → IsAround s w a n → (a ≡ s → n ≡ w → ⊥) → a + front_of n ≤ s
-      → IsAround s w (a + front_of n) (n - front_of n)
-  rest_around s w a n some node aligned around other right =
-      let more = wider s w a n around other in
-      let f = front_is laws n (omega arith) in
-      record { starts = right; ends = omega (arith, around.ends, f.1, f.2) }
+  -- the parts of a whole log lie within it and are aligned
+  pub part_in : {n b m : ℕ} → IsPart 0 n b m → (b + m ≤ n) × IsAligned b m
+  part_in {n} whole = (omega arith, whole_aligned n)
+  part_in (front a k part more) = (grind (arith, (known laws).front k more, part_in part), side_aligned a (front_of k) (part_in part).1 more (inl (refl, refl)))
+  part_in (rest a k part more) = (grind (arith, (known laws).front k more, part_in part), side_aligned (a + front_of k) (k - front_of k) (part_in part).1 more (inr (refl, refl)))

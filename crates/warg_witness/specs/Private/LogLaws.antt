@@ -26,8 +26,6 @@ pub record Known : Type 0 where
   pub old_full : (H : List ℕ → List ℕ) (F : ℕ → Option (List ℕ)) (a n : ℕ) → IsFull n → old_over H F a n ≡ F (node_over a n)
   pub old_parts : (H : List ℕ → List ℕ) (F : ℕ → Option (List ℕ)) (a n : ℕ) → 1 < n → (IsFull n → ⊥)
       → old_over H F a n ≡ joined H (old_over H F a (front_of n)) (old_over H F (a + front_of n) (n - front_of n))
-  pub old_own : (H : List ℕ → List ℕ) (ds : List (List ℕ)) (k c n : ℕ) → 0 < n → n ≤ 2 ^ k → c * 2 ^ k + n ≤ length ds
-      → old_over H (own_digest H ds) (c * 2 ^ k) n ≡ Some (root_over H ds (c * 2 ^ k) n)
   pub met_only : (H : List ℕ → List ℕ) (F : ℕ → Option (List ℕ)) (m n : ℕ) (old new : List ℕ) → consistency H F m n ≡ Ok (old, new) → IsConsistent H F m n old new
   pub met_then : (H : List ℕ → List ℕ) (F : ℕ → Option (List ℕ)) (m n : ℕ) (old new : List ℕ) → IsConsistent H F m n old new → consistency H F m n ≡ Ok (old, new)
 

@@ -15,8 +15,8 @@ pub record IsMeeting {D : _} (H : List ℕ → List ℕ) (F : ℕ → Option (Li
   pub tree_is : tree ≡ leaves_of H entries
   pub start_is : start ≡ start_of node
   pub count_is : count ≡ 2 ^ height_of node
-  pub plain_is : plain ≡ root_over H (leaves_of H entries) start count
-  pub parts : IsParting H F digest (own_digest H tree) plain start count 0 n parting
+  pub plain_is : plain ≡ root_over H (leaves_of H entries) (start_of node) (2 ^ height_of node)
+  pub parts : IsParting H F digest (own_digest H tree) (root_over H tree (start_of node) (2 ^ height_of node)) (start_of node) (2 ^ height_of node) 0 (length tree) parting
 
 -- The claim of consistency is met, and the trees are those over the old and the new entries.
 pub record IsConsistencyMeeting (H : List ℕ → List ℕ) (F : ℕ → Option (List ℕ)) (m n : ℕ) (old new old_tree new_tree : List (List ℕ)) : Type 0 where

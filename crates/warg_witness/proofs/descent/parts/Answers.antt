@@ -1,10 +1,15 @@
-use Rattle.warg_witness.proofs.RangeLemmas.{no_front, no_rest}
+use Rattle.std.proofs.Common.{◌≡◌, ℕ, List, Option, Some, None, IsSome, refl}
+use Rattle.warg_witness.proofs.DescentLemmas.{sides_of}
 use Rattle.warg_witness.proofs.descent.parts.Goals as goal
+
+there : (o : Option (List ℕ)) → IsSome o → (d : List ℕ) × (o ≡ Some d)
+there (Some d) some = (d, refl)
+there None some = absurd (cc)
 
 pub unreachable-requires : goal.unreachable-requires
 unreachable-requires g c =
-    no_front c.log_laws.ensures _ _ _ _ _ _ _ _ _ _ c.args.target.now.some c.requires.around c.requires.other c.requires.some c.split.ensures.front c.range_root.ensures c.in_default.is
+    let sides = sides_of c.log_laws.ensures _ c.args.target.now.some c.requires.around c.requires.other _ _ _ (there _ c.requires.some).1 in cc
 
 pub unreachable-requires-in_default-range_root : goal.unreachable-requires-in_default-range_root
 unreachable-requires-in_default-range_root g c =
-    no_rest c.log_laws.ensures _ _ _ _ _ _ _ _ _ _ c.args.target.now.some c.requires.around c.requires.other c.requires.some c.split.ensures.rest c.range_root-2.ensures c.in_default-range_root.is
+    let sides = sides_of c.log_laws.ensures _ c.args.target.now.some c.requires.around c.requires.other _ _ _ (there _ c.requires.some).1 in cc

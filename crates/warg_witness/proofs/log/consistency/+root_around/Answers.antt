@@ -1,17 +1,14 @@
-use Rattle.std.proofs.Common.{refl, false, true, ◌≡◌}
-use Rattle.warg_witness.proofs.BalancedRootLemmas.{root_of_full, root_of_front, root_of_rest}
+use Rattle.std.proofs.Common.{refl, arith}
+use Rattle.warg_witness.specs.Private.Ranges.IsBalancedRoot.{full, front, rest}
 use Rattle.warg_witness.proofs.log.consistency.+root_around.Goals as goal
 
-not_false : false ≡ true → ⊥
-not_false e = cc
-
 pub returns-then-is_full-clause-root : goal.returns-then-is_full-clause-root
-returns-then-is_full-clause-root t c = root_of_full _ _ (c.if-is_full.ensures.0 refl)
+returns-then-is_full-clause-root t c = full (c.if-is_full.ensures.0 refl)
 
 pub returns-then-place-rest-clause-root : goal.returns-then-place-rest-clause-root
 returns-then-place-rest-clause-root t c =
-    root_of_front _ _ _ _ c.args.range.now.some (λ full. not_false (c.if-is_full.ensures.1 full)) c.split.ensures.front
+    rw c.split.ensures.front.0 (front c.args.range.now.count (grind arith) (grind arith) c.split.ensures.front.1)
 
 pub returns-clause-root : goal.returns-clause-root
 returns-clause-root t c =
-    root_of_rest _ _ _ _ _ _ c.args.range.now.some (λ full. not_false (c.if-is_full.ensures.1 full)) c.split.ensures.rest c.root_around.ensures.root
+    rest c.args.range.now.start c.args.range.now.count (grind arith) (grind arith) (rw (c.split.ensures.rest.0, c.split.ensures.rest.1) at c.root_around.ensures.root)

@@ -1,18 +1,18 @@
-use Rattle.std.proofs.Common.{◌∷◌, ap, sym, ◌∙◌}
-use Rattle.warg_witness.proofs.ConsistencyLemmas.{leaf_aligned, leaf_is}
+use Rattle.std.proofs.Common.{arith}
+use Rattle.warg_witness.proofs.RangeLemmas.{known, leaf_node, node_aligned}
 use Rattle.warg_witness.proofs.HashLemmas.{ne_true}
 use Rattle.warg_witness.proofs.log.consistency.is_same_entry.Goals as goal
 
 pub plain_digest-requires-clause-aligned : goal.plain_digest-requires-clause-aligned
-plain_digest-requires-clause-aligned g c = leaf_aligned _ _ c.new-leaf.ensures.count
+plain_digest-requires-clause-aligned g c = rw c.new-leaf.ensures.count (node_aligned (leaf_node _))
 
 pub plain_digest-requires-2-clause-aligned : goal.plain_digest-requires-2-clause-aligned
-plain_digest-requires-2-clause-aligned g c = leaf_aligned _ _ c.new-leaf.ensures.count
+plain_digest-requires-2-clause-aligned g c = rw c.new-leaf.ensures.count (node_aligned (leaf_node _))
 
 pub returns-then-ne : goal.returns-then-ne
 returns-then-ne g c =
     let digest = g.D.SupportedDigest.digest in
-    let leaf = c.new-leaf.ensures in
-    let old_is = leaf_is c.log_laws.ensures digest _ _ _ _ _ _ leaf.start leaf.count c.requires.in_old c.plain_digest.ensures c.requires.old_leaf in
-    let new_is = leaf_is c.log_laws.ensures digest _ _ _ _ _ _ leaf.start leaf.count c.requires.in_new c.plain_digest-2.ensures c.requires.new_leaf in
-    (λ no. absurd (cc), λ same. absurd (ne_true _ _ c.if-ne.ensures (old_is ∙ ap (λ v. digest (0 ∷ v)) same ∙ sym new_is)))
+    let one = (known c.log_laws.ensures).root_one digest in
+    let old_is = rw (c.new-leaf.ensures.start, c.new-leaf.ensures.count, one _ _ c.requires.in_old, c.requires.old_leaf) at c.plain_digest.ensures in
+    let new_is = rw (c.new-leaf.ensures.start, c.new-leaf.ensures.count, one _ _ c.requires.in_new, c.requires.new_leaf) at c.plain_digest-2.ensures in
+    grind (arith, ne_true)
