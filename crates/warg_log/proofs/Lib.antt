@@ -12,7 +12,6 @@ pub mod LawLemmas
 pub mod OrderLemmas
 pub mod StepLemmas
 pub mod ClimbLemmas
-pub mod AgreeLemmas
 pub mod MetLemmas
 pub mod SparseLemmas
 pub mod StackLemmas

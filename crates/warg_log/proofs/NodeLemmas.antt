@@ -1,15 +1,11 @@
 -- Heights, places and their arithmetic.
 use Rattle.std.proofs.Common.{◌≡◌, ℕ, zero, suc, ◌+◌, ◌-◌, ◌*◌, ◌/◌, ◌%◌, ◌^◌, ◌<◌, ◌≤◌, refl, sym, ap, ◌∙◌, arith, w64, ⊎_elim, lit≤}
-use Rattle.std.proofs.Math.Nat.{le_refl, add-sub_of_le, mul-le-mul_left, le_of_mul-le-mul_left, lt_of_mul-lt-mul_left, pow-le-pow_right, pow-suc}
+use Rattle.std.proofs.Math.Nat.{le_refl, add-sub_of_le, mul-le-mul_left, lt_of_mul-lt-mul_left, pow-le-pow_right, pow-suc}
 use Rattle.std.specs.Int.{trailing_ones, bit_at}
 use Rattle.std.proofs.lemmas.Nat.{pow_pos, pow-add, div-mul-add}
 use Rattle.std.proofs.lemmas.Nat.Bits.{bit_at-suc, bit_at-trailing_ones}
 use Rattle.std.proofs.lemmas.Bool.{cases_lt, cases_eq, eq-eqb, ne_eqb}
 use Rattle.warg_log.specs.Nodes.{IsNode, height_within, height_of, place_of, start_of, end_of, node_over}
-
--- a product of powers cancels
-pub cancel : (p q m : ℕ) → 0 < p → p * m ≤ p * q → m ≤ q
-cancel p q m pos le = le_of_mul-le-mul_left le pos
 
 -- a power of two is the product of two others
 pub parts : (h k : ℕ) → h ≤ k → 2 ^ k ≡ 2 ^ h * 2 ^ (k - h)

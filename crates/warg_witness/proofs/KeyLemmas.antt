@@ -15,7 +15,7 @@ use Rattle.warg_witness.specs.MapClaims.{value_in, IsLastValue, IsKeyMet}
 use Rattle.warg_witness.specs.MapPlaced.{IsKeyPlaced}
 use Rattle.warg_witness.specs.Private.MapPaths.{IsPathParting, MeetsOnPath, IsLastPlace, plain_peers}
 use Rattle.warg_witness.specs.Private.MapMeeting.{IsKeyMeeting}
-use Rattle.warg_witness.specs.Private.Parting.{Collides, PartsAtBranch, inputs_of}
+use Rattle.warg_witness.specs.Private.Parting.{Collides, inputs_of}
 use Rattle.warg_witness.specs.declared.descent.Parting.{Parting}
 use Rattle.warg_witness.specs.declared.descent.Parting.TheVariants.{Target, Branch}
 use Rattle.warg_witness.proofs.LastLemmas.{last_with-passes, last_with-contains, same_bits-true, last_of_digest, none_of_digest, last_at, last_none}
@@ -42,12 +42,6 @@ plain_root_is H insertions bits long held =
 pub record ShowsKey (H : List ℕ → List ℕ) (peers : List (Option (List ℕ))) (key value : List ℕ) (insertions : List (List ℕ × List ℕ)) (pair : List ℕ × List ℕ) : Type 0 where
   pub collides : Collides H pair
   pub placed : IsKeyPlaced H peers value key insertions pair.0 pair.1
-
--- where the evaluation parts from the plain tree at a branch
-pub parts_at_branch : {D : Type 0} (H : List ℕ → List ℕ) (P : List (Option (List ℕ))) (x : List ℕ) (Q : List (Option (List ℕ))) (y : List ℕ) (bits : List Bool) (p : Parting D)
-    → (p ≡ Target → ⊥) → IsPathParting H P x Q y bits p → PartsAtBranch H p
-parts_at_branch H P x Q y bits Target other is = absurd (other refl)
-parts_at_branch H P x Q y bits (Branch l r l' r') other is = record { differ = is.differ; same = is.same }
 
 pub branch_shown : {D : Type 0} (H : List ℕ → List ℕ) (peers : List (Option (List ℕ))) (key value : List ℕ) (insertions : List (List ℕ × List ℕ)) (p : Parting D) → length (key_bits H key) ≡ 256
     → IsHeld H insertions (key_bits H key) → PartsFromPlain H peers key value insertions p → (p ≡ Target → ⊥) → ShowsKey H peers key value insertions (inputs_of p [] [])

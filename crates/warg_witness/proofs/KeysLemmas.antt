@@ -1,7 +1,6 @@
 -- The inserted keys in the order of their digests.
 use Rattle.std.proofs.Common.{◌≡◌, ℕ, zero, suc, ◌+◌, ◌-◌, ◌<◌, ◌≤◌, Bool, true, false, not, List, [], ◌∷◌, ◌++◌, length, take, drop, get_or, ⊎_elim, refl, sym, ap, ◌∙◌, arith, append_assoc}
-use Rattle.std.proofs.lemmas.List.{get_or-take, get_or-drop, get_or_default, get_or_append_left, length-take-le, length-drop, length-append}
-use Rattle.std.proofs.Math.Seq.{get_or-append_seam}
+use Rattle.std.proofs.lemmas.List.{get_or-take, get_or-drop, get_or_default, length-take-le, length-drop, length-append}
 use Rattle.std.proofs.lemmas.Bool.{cases_lt}
 use Rattle.std.specs.List.Sorted.{IsPermutation, IsSorted, IsPartitionedBy, IsPartitionPoint}
 use Rattle.std.proofs.lemmas.List.Sorted.{All-permutation, Contains-permutation, sorted_far, ranks_by}
@@ -190,25 +189,6 @@ ones_are long H insertions prefix keys n lt within are point =
 pub record AreListed (H : List ℕ → List ℕ) (insertions : List (List ℕ × List ℕ)) (keys : List (List ℕ × ℕ)) (n : ℕ) : Type 0 where
   pub count : length keys ≡ n
   pub each : (i : ℕ) → i < n → entry_at keys i ≡ (H (key_at insertions i), i)
-
-pub listed_none : (H : List ℕ → List ℕ) (insertions : List (List ℕ × List ℕ)) → AreListed H insertions [] 0
-listed_none H insertions = record { count = refl; each = λ i lt. absurd (omega (arith, lt)) }
-
-pub listed_more : (H : List ℕ → List ℕ) (insertions : List (List ℕ × List ℕ)) (keys : List (List ℕ × ℕ)) (n : ℕ) (e : List ℕ × ℕ) → AreListed H insertions keys n → e ≡ (H (key_at insertions n), n)
-    → AreListed H insertions (keys ++ e ∷ []) (n + 1)
-listed_more H insertions keys n e are is =
-    let count = are.count in
-    let len : length (keys ++ e ∷ []) ≡ length keys + 1 = length-append keys (e ∷ []) in
-    record {
-      count = len ∙ (let m : length keys + 1 ≡ n + 1 = omega (arith, count) in m);
-      each = λ i lt. ⊎_elim
-          (λ (before : i < length keys). get_or_append_left keys (e ∷ []) ([], 0) i before ∙ are.each i (omega (arith, before, count)))
-          (λ (after : length keys ≤ i).
-          let here : i ≡ length keys = omega (arith, after, count, lt) in
-          ap (entry_at (keys ++ e ∷ [])) here ∙ get_or-append_seam keys e [] ([], 0) ∙ is
-          ∙ ap (λ j. (H (key_at insertions j), j)) (let m : n ≡ i = omega (arith, after, count, lt) in m))
-          (cases_lt i (length keys));
-    }
 
 entry_total : IsTotalOrder entry_cmp
 entry_total = then_total (on_total (λ (e : List ℕ × ℕ). e.0) nat_list_cmp_total) (on_total (λ (e : List ℕ × ℕ). e.1) nat_cmp_total)

@@ -22,8 +22,8 @@ use std::alloc::Allocator;
 use warg_crypto::SupportedDigest;
 use warg_log::laws::{
     balanced_full, balanced_parts, consistency_met, cut_old, cut_own_range, cut_parts, cut_size,
-    cut_target, front_is_greatest, interval_has_number, number_is_node, old_full, old_own_range,
-    old_parts, root_over_one, root_over_parts,
+    cut_target, front_is_greatest, interval_has_number, number_is_node, old_full, old_parts,
+    root_over_one, root_over_parts,
 };
 use warg_map::laws::{all_bits, last_held, root_at_prefix, same_digest};
 
@@ -45,7 +45,6 @@ pub(crate) fn log_laws()
     cut_own_range();
     old_full();
     old_parts();
-    old_own_range();
     consistency_met();
 }
 
