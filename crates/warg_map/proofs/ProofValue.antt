@@ -2,7 +2,7 @@
 use Rattle.std.proofs.Common.{◌≡◌, ℕ, ◌+◌, ◌-◌, ◌<◌, cond, List, ◌∷◌, ◌++◌, Option, ap, ◌∙◌}
 use Rattle.warg_map.specs.Bits.{bit_at, last_bits}
 use Rattle.warg_map.specs.ProofValue.{peer_of, proof_value}
-use Rattle.warg_map.proofs.Sparse.{last_bits-step, last_bits-zero, length-last_bits}
+use Rattle.warg_map.proofs.SparseTree.{last_bits-step, last_bits-zero, length-last_bits}
 
 pub proof_value-none : (H : List ℕ → List ℕ) (peers : List (Option (List ℕ))) (v key : List ℕ) → proof_value H peers v (last_bits key 0) ≡ v
 unfolding proof_value

@@ -89,7 +89,7 @@ fn grown<D: SupportedDigest, A: Allocator + Copy>(
     let (left, lefts) = grown(alloc, zeros, depth + shared + 1)?;
     let (right, rights) = grown(alloc, ones, depth + shared + 1)?;
     let fork = Rc::new(alloc, Fork::new(Link::new(left), Link::new(right)))?;
-    let node = Node::raised(alloc, &key, depth, shared, Node::Fork(fork))?;
+    let node = Node::with_stem(alloc, &key, depth, shared, Node::Fork(fork))?;
     Ok((node, lefts + rights))
 }
 

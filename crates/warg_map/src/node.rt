@@ -59,8 +59,8 @@ impl<D: SupportedDigest, A: Allocator + Copy> Node<D, A> {
     ghost use Rattle.warg_map.specs.Private.Path.{bits_left};
     ghost use Rattle.warg_map.specs.Private.Seen.{seen, tree_height, held_by, IsWellFormed, Inserts, Carries, IsSeen};
 
-    /// The node below `len` bits of `key`, from bit `from` on. The node holds the key, so a stem becomes longer.
-    pub(crate) fn raised(
+    /// The node with a stem of `len` bits of `key` above it, from bit `from` on. The node holds the key, so a stem becomes longer.
+    pub(crate) fn with_stem(
         alloc: A,
         key: &Hash<D>,
         from: usize,
@@ -110,7 +110,7 @@ impl<D: SupportedDigest, A: Allocator + Copy> Node<D, A> {
         let lone = Singleton::new(key.copied(), value, 255 - from - shared);
         let near = Link::new(Node::Singleton(Rc::new(alloc, lone)?));
         let fork = Fork::beside(side_at(key, from + shared), near, far);
-        Node::raised(alloc, key, from, shared, Node::Fork(Rc::new(alloc, fork)?))
+        Node::with_stem(alloc, key, from, shared, Node::Fork(Rc::new(alloc, fork)?))
     }
 
     /// The node after an insertion of the leaf digest `value` under the bits that the path has left, and whether these
@@ -129,7 +129,7 @@ impl<D: SupportedDigest, A: Allocator + Copy> Node<D, A> {
             Node::Leaf(_) => Ok((Node::Leaf(Rc::new(alloc, value)?), false)),
             Node::Empty(_) => {
                 let lone = Rc::new(alloc, Singleton::new(path.hash().copied(), value, 255))?;
-                let node = Node::raised(alloc, path.hash(), 0, 1, Node::Singleton(lone))?;
+                let node = Node::with_stem(alloc, path.hash(), 0, 1, Node::Singleton(lone))?;
                 Ok((node, true))
             }
             Node::Fork(fork) => {
@@ -160,7 +160,7 @@ impl<D: SupportedDigest, A: Allocator + Copy> Node<D, A> {
                 }
                 path.advance(shared);
                 let (node, fresh) = stem.below.node().insert(alloc, path, value)?;
-                Ok((Node::raised(alloc, &key, from, shared, node)?, fresh))
+                Ok((Node::with_stem(alloc, &key, from, shared, node)?, fresh))
             }
         }
     }

@@ -148,16 +148,16 @@ impl<D, K, V, A: Allocator> From<Proof<D, K, V, A>> for Vec<Option<Hash<D>>, A> 
 }
 
 impl<D: SupportedDigest, K, V, A: Allocator> Proof<D, K, V, A> {
-    /// Adds the digests of the empty trees of `len` heights at the top, the first of height `low`.
-    pub(crate) fn push_empties(&mut self, low: usize, len: usize) -> Result<(), AllocError>
+    /// Adds the digests of the empty trees of `len` heights at the top, the first of height `least_height`.
+    pub(crate) fn push_empties(&mut self, least_height: usize, len: usize) -> Result<(), AllocError>
         requires room { length self.old + len ≤ 256 }
-        requires heights { low + len ≤ 256 }
-        ensures { OnOk result (self.new ≡ self.old ++ empty_peers D.digest low len) }
+        requires heights { least_height + len ≤ 256 }
+        ensures { OnOk result (self.new ≡ self.old ++ empty_peers D.digest least_height len) }
     {
-        let mut empty = empty_tree_hash::<D>(low);
+        let mut empty = empty_tree_hash::<D>(least_height);
         for pushed in 0..len {
             self.push(Some(empty.copied()))?;
-            empty = D::empty_above(low + pushed, &empty);
+            empty = D::empty_above(least_height + pushed, &empty);
         }
         Ok(())
     }

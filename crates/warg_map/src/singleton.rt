@@ -8,14 +8,14 @@ ghost use Rattle.warg_map.specs.Private.Lone.{held_alone, IsKept};
 use crate::link::Link;
 use crate::node::Node;
 use crate::path::{Path, Side, shared_bits};
-use crate::stem::lifted;
+use crate::stem::stem_digest;
 use std::alloc::{AllocError, Allocator};
 use std::marker::Model;
 use std::rc::Rc;
 use warg_crypto::{Hash, SupportedDigest};
 
 /// The height at which a lone key keeps its digest. A split lowers most lone keys to little above it.
-const KEPT: usize = 224;
+const KEPT_HEIGHT: usize = 224;
 
 /// A lone key: a tree of any height that holds one key and nothing else.
 ///
@@ -24,7 +24,7 @@ const KEPT: usize = 224;
 pub struct Singleton<D: SupportedDigest> {
     key: Hash<D>,
     value: Hash<D>,
-    low: Hash<D>,
+    kept: Hash<D>,
     height: usize,
 }
 
@@ -39,17 +39,17 @@ impl<D: SupportedDigest> Model for Singleton<D> {
 
     ghost use Rattle.warg_map.specs.Private.Lone.{IsKept};
 
-    ghost invariant = { λ s. (s.height ≤ 256) × IsKept D.digest s.low s.key s.value s.height };
+    ghost invariant = { λ s. (s.height ≤ 256) × IsKept D.digest s.kept s.key s.value s.height };
 }
 
 /// The digest that a lone key of this height keeps: that of its tree of 224 levels, or nothing of use in a lower tree.
 fn kept_digest<D: SupportedDigest>(key: &Hash<D>, value: &Hash<D>, height: usize) -> Hash<D>
     ensures { IsKept D.digest result key.now value.now height }
 {
-    if height < KEPT {
+    if height < KEPT_HEIGHT {
         return value.copied();
     }
-    lifted(key, 256 - KEPT, KEPT, value)
+    stem_digest(key, 256 - KEPT_HEIGHT, KEPT_HEIGHT, value)
 }
 
 impl<D: SupportedDigest> Drop for Singleton<D> {
@@ -57,7 +57,7 @@ impl<D: SupportedDigest> Drop for Singleton<D> {
         let Singleton {
             key: _,
             value: _,
-            low: _,
+            kept: _,
             height: _,
         } = self;
     }
@@ -88,11 +88,11 @@ impl<D: SupportedDigest> Singleton<D> {
         ensures value { result.value ≡ value }
         ensures height { result.height ≡ height }
     {
-        let low = kept_digest(&key, &value, height);
+        let kept = kept_digest(&key, &value, height);
         Singleton {
             key,
             value,
-            low,
+            kept,
             height,
         }
     }
@@ -129,7 +129,7 @@ impl<D: SupportedDigest> Singleton<D> {
         Singleton {
             key: self.key.copied(),
             value: self.value.copied(),
-            low: self.low.copied(),
+            kept: self.kept.copied(),
             height,
         }
     }
@@ -139,10 +139,10 @@ impl<D: SupportedDigest> Singleton<D> {
         ensures { result ≡ sparse_root D.digest self.now.height (held_alone self.now) }
     {
         let from = 256 - self.height;
-        if self.height < KEPT {
-            return lifted(&self.key, from, self.height, &self.value);
+        if self.height < KEPT_HEIGHT {
+            return stem_digest(&self.key, from, self.height, &self.value);
         }
-        lifted(&self.key, from, self.height - KEPT, &self.low)
+        stem_digest(&self.key, from, self.height - KEPT_HEIGHT, &self.kept)
     }
 
     /// How many of the bits that a path has left the key shares before it parts.

@@ -3,7 +3,7 @@
 ghost use Rattle.std.specs.Prelude.{◌≡◌, ℕ, ◌+◌, ◌-◌, ◌<◌, ◌≤◌, IfOk};
 ghost use Rattle.warg_map.specs.Bits.{bit_at, bits_from};
 ghost use Rattle.warg_map.specs.Sparse.{sparse_root};
-ghost use Rattle.warg_map.specs.Private.Under.{under, lift};
+ghost use Rattle.warg_map.specs.Private.Under.{under, stem_root};
 
 use crate::link::Link;
 use crate::node::Node;
@@ -24,19 +24,19 @@ pub struct Stem<D: SupportedDigest, A: Allocator = Global> {
     pub(crate) below: Link<D, A>,
 }
 
-/// The digest of the tree in which `len` bits of `key`, from bit `from` on, lead down to a tree with digest `low`, and
+/// The digest of the tree in which `len` bits of `key`, from bit `from` on, lead down to a tree with digest `below`, and
 /// all beside them is empty.
-pub(crate) fn lifted<D: SupportedDigest>(
+pub(crate) fn stem_digest<D: SupportedDigest>(
     key: &Hash<D>,
     from: usize,
     len: usize,
-    low: &Hash<D>,
+    below: &Hash<D>,
 ) -> Hash<D>
     requires { from + len ≤ 256 }
-    ensures { result ≡ lift D.digest (256 - (from + len)) low.now (bits_from key.now from len) }
+    ensures { result ≡ stem_root D.digest (256 - (from + len)) below.now (bits_from key.now from len) }
 {
     let bottom = 256 - (from + len);
-    let mut hash = low.copied();
+    let mut hash = below.copied();
     let mut empty = empty_tree_hash(bottom);
     for above in 0..len {
         hash = side_at(key, from + (len - 1 - above)).branch(&hash, &empty);
@@ -60,7 +60,7 @@ impl<D: SupportedDigest, A: Allocator> Stem<D, A> {
         requires place { at ≤ self.now.len }
         ensures { result ≡ sparse_root D.digest (self.now.below.0 + (self.now.len - at)) (under (bits_from self.now.key (self.now.from + at) (self.now.len - at)) self.now.below.1) }
     {
-        lifted(&self.key, self.from + at, self.len - at, self.below.hash())
+        stem_digest(&self.key, self.from + at, self.len - at, self.below.hash())
     }
 
     /// How many of the stem's bits a path shares before it parts.

@@ -16,4 +16,4 @@ held_alone s = insert empty (last_bits s.key s.height) s.value
 
 -- In a tree of 224 levels or more, the digest kept is that of the lone key's tree of 224 levels.
 abbrev pub IsKept : (List ℕ → List ℕ) → List ℕ → List ℕ → List ℕ → ℕ → Type 0
-IsKept H low key value height = 224 ≤ height → low ≡ sparse_root H 224 (insert empty (last_bits key 224) value)
+IsKept H kept key value height = 224 ≤ height → kept ≡ sparse_root H 224 (insert empty (last_bits key 224) value)

@@ -18,9 +18,9 @@ under [] m = m
 under (b ∷ bits) m = join_at b (under bits m) empty
 
 -- The digest above a tree of k levels with digest x, along bits beside which all is empty.
-unfoldable pub lift : (List ℕ → List ℕ) → ℕ → List ℕ → List Bool → List ℕ
-lift H k x [] = x
-lift H k x (b ∷ bits) = H (1 ∷ cond b (empty_root H (k + length bits) ++ lift H k x bits) (lift H k x bits ++ empty_root H (k + length bits)))
+unfoldable pub stem_root : (List ℕ → List ℕ) → ℕ → List ℕ → List Bool → List ℕ
+stem_root H k x [] = x
+stem_root H k x (b ∷ bits) = H (1 ∷ cond b (empty_root H (k + length bits) ++ stem_root H k x bits) (stem_root H k x bits ++ empty_root H (k + length bits)))
 
 -- The digests of the empty trees of n heights from k on, as peers.
 unfoldable pub empty_peers : (List ℕ → List ℕ) → ℕ → ℕ → List (Option (List ℕ))

@@ -1,7 +1,7 @@
 use Rattle.std.proofs.Common.{◌≡◌, ℕ, ◌+◌, ◌-◌, ◌<◌, length, List, arith, rules, sym, ap, ◌∙◌, subst}
 use Rattle.std.specs.FinMap.{len, empty}
 use Rattle.warg_map.specs.Private.Grown.{with_leaves, ShareBits}
-use Rattle.warg_map.proofs.Leaves.{split_at_last, one_key_seen, one_key_count, both_sides, grown_fork, grown_formed, grown_has, grown_seen, grown_count, length-sides}
+use Rattle.warg_map.proofs.ManyLeaves.{split_at_last, one_key_seen, one_key_count, both_sides, grown_fork, grown_formed, grown_has, grown_seen, grown_count, length-sides}
 use Rattle.warg_map.proofs.grown.+grown.Goals as goal
 
 pub returns-then-shared-depth-clause-seen : goal.returns-then-shared-depth-clause-seen
@@ -38,8 +38,8 @@ grown-requires-2 g t c κs within =
     let some : 0 < length c.in_ok-zeros.ones.items = subst (λ (x : List (List ℕ × List ℕ)). 0 < length x) (sym c.in_ok-zeros.ensures.1) both.1 in
     (omega (arith, lt), (search rules, (search rules, (omega (arith, lt), some))))
 
-pub raised-requires-clause-well_formed : goal.raised-requires-clause-well_formed
-raised-requires-clause-well_formed g t c =
+pub with_stem-requires-clause-well_formed : goal.with_stem-requires-clause-well_formed
+with_stem-requires-clause-well_formed g t c =
     let es = c.args.leaves.items in
     let at = c.args.depth + c.shared_by_all-shared.result in
     let k = 256 - (at + 1) in
@@ -49,8 +49,8 @@ raised-requires-clause-well_formed g t c =
     let fork = grown_fork c.in_ok-fork.fork c.new-3.result c.new.result c.new-2.result c.in_ok-left.left c.in_ok-right.right k at es c.in_ok-zeros.zeros.items c.in_ok-zeros.ones.items c.in_ok-fork.ensures.ok c.new-3.ensures.left c.new-3.ensures.right c.new.ensures c.new-2.ensures c.in_ok-left.ensures.seen c.in_ok-right.ensures.seen c.in_ok-zeros.ensures.0 c.in_ok-zeros.ensures.1 in
     grown_formed c.in_ok-fork.fork k at es fork (omega arith) both
 
-pub raised-requires-clause-held : goal.raised-requires-clause-held
-raised-requires-clause-held g t c =
+pub with_stem-requires-clause-held : goal.with_stem-requires-clause-held
+with_stem-requires-clause-held g t c =
     let es = c.args.leaves.items in
     let at = c.args.depth + c.shared_by_all-shared.result in
     let k = 256 - (at + 1) in

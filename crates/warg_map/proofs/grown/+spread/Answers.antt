@@ -1,7 +1,7 @@
 use Rattle.std.proofs.Common.{◌≡◌, length, sym, ap, ◌∙◌, arith, rules}
 use Rattle.warg_map.specs.Private.Seen.{held_by}
-use Rattle.warg_map.proofs.Form.{is_fork}
-use Rattle.warg_map.proofs.Leaves.{spread_none, spread_none_count, spread_empty_count, spread_fork, length-sides}
+use Rattle.warg_map.proofs.TreeForm.{is_fork}
+use Rattle.warg_map.proofs.ManyLeaves.{spread_none, spread_none_count, spread_empty_count, spread_fork, length-sides}
 use Rattle.warg_map.proofs.grown.+spread.Goals as goal
 
 pub returns-then-is_empty-clause-seen : goal.returns-then-is_empty-clause-seen

@@ -1,7 +1,7 @@
 use Rattle.std.proofs.Common.{ℕ, List, ◌-◌, ap, arith}
 use Rattle.std.specs.FinMap.{len}
 use Rattle.warg_map.specs.Private.Seen.{tree_height, held_by}
-use Rattle.warg_map.proofs.Leaves.{with_leaves-none, seen_start, one_more_seen, one_more_count, length_pushed, path_bits}
+use Rattle.warg_map.proofs.ManyLeaves.{with_leaves-none, seen_start, one_more_seen, one_more_count, length_pushed, path_bits}
 use Rattle.warg_map.proofs.grown.one_by_one.Goals as goal
 use Rattle.warg_map.proofs.grown.one_by_one.Goals.{then-is_new, else-is_new}
 

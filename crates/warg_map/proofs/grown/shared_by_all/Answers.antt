@@ -1,7 +1,7 @@
 use Rattle.std.proofs.Common.{◌+◌, ◌-◌, ◌<◌, sym, not, length, subst, arith}
 use Rattle.warg_map.specs.Bits.{bit_at}
 use Rattle.warg_map.specs.Private.Grown.{ShareBits, on_side}
-use Rattle.warg_map.proofs.Leaves.{share-none, share-fewer, share-push, apart_step, pushed}
+use Rattle.warg_map.proofs.ManyLeaves.{share-none, share-fewer, share-push, apart_step, pushed}
 use Rattle.warg_map.proofs.grown.shared_by_all.Goals as goal
 
 pub loop-other-init : goal.loop-other-init

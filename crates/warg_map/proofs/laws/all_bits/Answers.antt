@@ -1,4 +1,4 @@
-use Rattle.warg_map.proofs.Sparse.{length-last_bits}
+use Rattle.warg_map.proofs.SparseTree.{length-last_bits}
 use Rattle.warg_map.proofs.laws.all_bits.Goals as goal
 
 pub returns : goal.returns

@@ -1,4 +1,4 @@
-use Rattle.warg_map.proofs.Last.{get-map_of}
+use Rattle.warg_map.proofs.LastInserted.{get-map_of}
 use Rattle.warg_map.proofs.laws.last_held.Goals as goal
 
 pub returns : goal.returns

@@ -1,4 +1,4 @@
-use Rattle.warg_map.proofs.Unique.{same_absence}
+use Rattle.warg_map.proofs.UniqueRootsAndProofs.{same_absence}
 use Rattle.warg_map.proofs.laws.one_absence_proof.Goals as goal
 
 pub returns : goal.returns

@@ -1,4 +1,4 @@
-use Rattle.warg_map.proofs.Unique.{same_proof}
+use Rattle.warg_map.proofs.UniqueRootsAndProofs.{same_proof}
 use Rattle.warg_map.proofs.laws.one_proof.Goals as goal
 
 pub returns : goal.returns

@@ -1,4 +1,4 @@
-use Rattle.warg_map.proofs.Prefixes.{held_after}
+use Rattle.warg_map.proofs.RootsAtPrefixes.{held_after}
 use Rattle.warg_map.proofs.laws.root_at_prefix.Goals as goal
 
 pub returns : goal.returns

@@ -1,7 +1,7 @@
 use Rattle.std.proofs.Common.{◌+◌, ◌∷◌, ◌++◌, [], sym, ap, ◌∙◌}
 use Rattle.warg_map.specs.Bits.{bit_at, bits_from}
-use Rattle.warg_map.proofs.Side.{same_bit, other_bit}
-use Rattle.warg_map.proofs.Under.{bits_from-append, bits_from-one, bits_from-none}
+use Rattle.warg_map.proofs.SideBits.{same_bit, other_bit}
+use Rattle.warg_map.proofs.BitsInFront.{bits_from-append, bits_from-one, bits_from-none}
 use Rattle.warg_map.proofs.path.shared_bits.Goals as goal
 
 pub loop-shared-init : goal.loop-shared-init

@@ -1,7 +1,7 @@
 use Rattle.std.proofs.Common.{◌∙◌, arith}
 use Rattle.std.proofs.lemmas.Grind.{common_steps}
 use Rattle.warg_map.specs.Bundles.{proof_fault}
-use Rattle.warg_map.proofs.BundleLemmas.{no_fault, fault_after}
+use Rattle.warg_map.proofs.ProofMessages.{no_fault, fault_after}
 use Rattle.warg_map.proofs.proof_bundle.messages.Goals as goal
 
 pub proofs-preserved : goal.proofs-preserved

@@ -1,7 +1,7 @@
 use Rattle.std.proofs.Common.{◌∙◌, ◌++◌, ◌∷◌, [], ap}
 use Rattle.warg_protobuf.specs.MapInclusionProof.{proof_view}
 use Rattle.warg_map.specs.Bundles.{proof_fault}
-use Rattle.warg_map.proofs.BundleLemmas.{no_fault, fault_behind, read_more}
+use Rattle.warg_map.proofs.ProofMessages.{no_fault, fault_behind, read_more}
 use Rattle.warg_map.proofs.proof_bundle.read_proofs.Goals as goal
 
 pub messages-preserved : goal.messages-preserved

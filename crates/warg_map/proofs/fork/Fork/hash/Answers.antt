@@ -1,4 +1,4 @@
-use Rattle.warg_map.proofs.Sparse.{sparse_root-join}
+use Rattle.warg_map.proofs.SparseTree.{sparse_root-join}
 use Rattle.warg_map.proofs.fork.Fork.hash.Goals as goal
 
 pub returns : goal.returns

@@ -1,7 +1,7 @@
 use Rattle.std.proofs.Common.{ap, sym, ◌∙◌, subst}
 use Rattle.std.specs.FinMap.{len, len-empty}
 use Rattle.warg_map.specs.Sparse.{SparseMap, HasLevels}
-use Rattle.warg_map.proofs.Len.{levels-empty}
+use Rattle.warg_map.proofs.HeldKeys.{levels-empty}
 use Rattle.warg_map.proofs.map.Map.default.Goals as goal
 
 pub invariant_of-result : goal.invariant_of-result

@@ -4,7 +4,7 @@ use Rattle.std.specs.FinMap.{len, contains_key}
 use Rattle.std.proofs.lemmas.Result.{IfOk-weaker}
 use Rattle.warg_map.specs.Bits.{key_bits}
 use Rattle.warg_map.specs.Sparse.{SparseMap, inserted, pair_bytes}
-use Rattle.warg_map.proofs.Insertions.{inserted-none, inserted-first}
+use Rattle.warg_map.proofs.InsertedPairs.{inserted-none, inserted-first}
 use Rattle.warg_map.proofs.map.Map.extend.Goals as goal
 
 pub returns-in_default-clause-ok : goal.returns-in_default-clause-ok

@@ -3,7 +3,7 @@ use Rattle.std.specs.Iterator.{Yields}
 use Rattle.std.specs.FinMap.{len}
 use Rattle.warg_map.specs.Sparse.{SparseMap, HasLevels}
 use Rattle.warg_map.specs.Private.Grown.{with_leaves}
-use Rattle.warg_map.proofs.Leaves.{leaves_of-none, leaves_of-next, levels-with_leaves, with_leaves_is}
+use Rattle.warg_map.proofs.ManyLeaves.{leaves_of-none, leaves_of-next, levels-with_leaves, with_leaves_is}
 use Rattle.warg_map.proofs.map.Map.extended_at_once.Goals as goal
 
 pub loop-key-init : goal.loop-key-init

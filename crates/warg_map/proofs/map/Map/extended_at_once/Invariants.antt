@@ -1,5 +1,5 @@
 use Rattle.std.proofs.Common.{◌≡◌}
-use Rattle.warg_map.proofs.Leaves.{leaves_of}
+use Rattle.warg_map.proofs.ManyLeaves.{leaves_of}
 use Rattle.warg_map.proofs.map.Map.extended_at_once.Given as goal
 
 abbrev pub invariant-loop-key : goal.invariant-loop-key

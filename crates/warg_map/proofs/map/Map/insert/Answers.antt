@@ -2,8 +2,8 @@ use Rattle.std.proofs.Common.{◌≡◌, ap, sym, ◌∙◌, ◌+◌, ◌-◌, s
 use Rattle.std.specs.FinMap.{len}
 use Rattle.warg_map.specs.Private.Seen.{held_by}
 use Rattle.warg_map.specs.Sparse.{SparseMap, HasLevels}
-use Rattle.warg_map.proofs.Sparse.{length-last_bits}
-use Rattle.warg_map.proofs.Len.{len-insert_fresh, levels-insert}
+use Rattle.warg_map.proofs.SparseTree.{length-last_bits}
+use Rattle.warg_map.proofs.HeldKeys.{len-insert_fresh, levels-insert}
 use Rattle.warg_map.proofs.map.Map.insert.Goals as goal
 use Rattle.warg_map.proofs.map.Map.insert.Goals.{then-fresh, else-fresh}
 

@@ -1,7 +1,7 @@
 use Rattle.std.proofs.Common.{◌≡◌, ◌≤◌, length, ap, ◌∙◌, arith, rules}
 use Rattle.warg_map.specs.Private.Seen.{tree_height}
-use Rattle.warg_map.proofs.Sparse.{length-last_bits}
-use Rattle.warg_map.proofs.Honest.{honest_held, honest_absent}
+use Rattle.warg_map.proofs.SparseTree.{length-last_bits}
+use Rattle.warg_map.proofs.HonestProofs.{honest_held, honest_absent}
 use Rattle.warg_map.proofs.map.Map.prove_absence.Goals as goal
 
 pub returns-in_default-clause-honest : goal.returns-in_default-clause-honest

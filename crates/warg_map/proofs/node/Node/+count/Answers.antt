@@ -4,19 +4,19 @@ use Rattle.warg_map.specs.Bits.{bits_from}
 use Rattle.warg_map.specs.Sparse.{SparseMap, bits_cmp}
 use Rattle.warg_map.specs.Private.Under.{Splits}
 use Rattle.warg_map.specs.Private.Seen.{held_by}
-use Rattle.warg_map.proofs.Form.{lone_no_split, is_fork, is_stem}
-use Rattle.warg_map.proofs.Counts.{left_child, right_child, below_child, below_splits, count_fork, count_stem, len-join, len-under, len-lone, nodes-lone, stem_is_no_split}
+use Rattle.warg_map.proofs.TreeForm.{lone_no_split, is_fork, is_stem}
+use Rattle.warg_map.proofs.NodeCounts.{left_child, right_child, below_child, below_splits, count_fork, count_stem, len-join, len-under, len-lone, nodes-lone, stem_is_no_split}
 use Rattle.warg_map.proofs.node.Node.+count.Goals as goal
 
 pub count-left-requires : goal.count-left-requires
 count-left-requires g t c κs within =
     let h = left_child c.args.self.now _ _ (is_fork c.in-Fork.is c.as_ref-fork.ensures) c.requires.well_formed (c.node.ensures.seen ∙ c.index.ensures) c.requires.fits in
-    (search rules, (search rules, (search rules, (c.node.ensures.well_formed, (h.some, (inl h.low, h.fits))))))
+    (search rules, (search rules, (search rules, (c.node.ensures.well_formed, (h.some, (inl h.height, h.fits))))))
 
 pub count-right-requires : goal.count-right-requires
 count-right-requires g t c κs within =
     let h = right_child c.args.self.now _ _ (is_fork c.in-Fork.is c.as_ref-fork.ensures) c.requires.well_formed (c.node-in-Fork.ensures.seen ∙ c.index-in-Fork.ensures) c.requires.fits in
-    (search rules, (search rules, (search rules, (c.node-in-Fork.ensures.well_formed, (h.some, (inl h.low, h.fits))))))
+    (search rules, (search rules, (search rules, (c.node-in-Fork.ensures.well_formed, (h.some, (inl h.height, h.fits))))))
 
 pub overflow_add-result : goal.overflow_add-result
 overflow_add-result g t c =
@@ -32,7 +32,7 @@ overflow_add-result-in-Fork g t c =
 pub count-requires : goal.count-requires
 count-requires g t c κs within =
     let h = below_child c.args.self.now _ _ (is_stem c.in-Stem.is c.deref.ensures) c.requires.well_formed c.node-in-Stem.ensures.seen c.requires.more c.requires.fits in
-    (search rules, (search rules, (search rules, (c.node-in-Stem.ensures.well_formed, (h.some, (inl h.low, h.fits))))))
+    (search rules, (search rules, (search rules, (c.node-in-Stem.ensures.well_formed, (h.some, (inl h.height, h.fits))))))
 
 pub overflow_add-result-in-Stem : goal.overflow_add-result-in-Stem
 overflow_add-result-in-Stem g t c =

@@ -4,9 +4,9 @@ use Rattle.warg_map.specs.Private.Side.{side_bit}
 use Rattle.warg_map.specs.Bits.{last_bits}
 use Rattle.warg_map.specs.Sparse.{bits_cmp}
 use Rattle.warg_map.specs.Private.Seen.{tree_height}
-use Rattle.warg_map.proofs.Form.{is_fork, is_lone, is_stem}
-use Rattle.warg_map.proofs.Sparse.{last_bits-end}
-use Rattle.warg_map.proofs.Finds.{finds_in_fork, finds_lone, finds_leaf, finds_none_lone, finds_none_stem, finds_below, lone_same, all_shared}
+use Rattle.warg_map.proofs.TreeForm.{is_fork, is_lone, is_stem}
+use Rattle.warg_map.proofs.SparseTree.{last_bits-end}
+use Rattle.warg_map.proofs.FoundInNode.{finds_in_fork, finds_lone, finds_leaf, finds_none_lone, finds_none_stem, finds_below, lone_same, all_shared}
 use Rattle.warg_map.proofs.node.Node.+find.Goals as goal
 
 pub returns-then-shared_with-height : goal.returns-then-shared_with-height

@@ -2,10 +2,10 @@ use Rattle.std.proofs.Common.{◌≡◌, ◌+◌, ◌-◌, ◌<◌, cond, length
 use Rattle.warg_map.specs.Private.Side.{side_bit}
 use Rattle.warg_map.specs.Bits.{last_bits}
 use Rattle.warg_map.specs.Private.Seen.{tree_height}
-use Rattle.warg_map.proofs.Form.{is_fork, is_lone, is_stem}
-use Rattle.warg_map.proofs.Sparse.{contains_key-empty, length-last_bits, last_bits-end}
-use Rattle.warg_map.proofs.Finds.{finds_leaf, finds_lone, finds_none_lone, finds_none_stem, lone_same, all_shared, held_below, held_in_fork}
-use Rattle.warg_map.proofs.Peers.{proves_in_fork, proves_single, proves_leaf, proves_stem, length_peers, length-empty_peers}
+use Rattle.warg_map.proofs.TreeForm.{is_fork, is_lone, is_stem}
+use Rattle.warg_map.proofs.SparseTree.{contains_key-empty, length-last_bits, last_bits-end}
+use Rattle.warg_map.proofs.FoundInNode.{finds_leaf, finds_lone, finds_none_lone, finds_none_stem, lone_same, all_shared, held_below, held_in_fork}
+use Rattle.warg_map.proofs.PresencePeers.{proves_in_fork, proves_single, proves_leaf, proves_stem, length_peers, length-empty_peers}
 use Rattle.warg_map.proofs.node.Node.+prove.Goals as goal
 
 pub returns-in_default-2-clause-answer : goal.returns-in_default-2-clause-answer

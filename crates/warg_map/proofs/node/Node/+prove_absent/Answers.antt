@@ -4,10 +4,10 @@ use Rattle.warg_map.specs.Private.Side.{side_bit}
 use Rattle.warg_map.specs.Bits.{last_bits}
 use Rattle.warg_map.specs.Sparse.{sparse_root}
 use Rattle.warg_map.specs.Private.Seen.{tree_height}
-use Rattle.warg_map.proofs.Sparse.{length-last_bits, last_bits-end}
-use Rattle.warg_map.proofs.Form.{lone_seen, is_fork, is_lone, is_stem}
-use Rattle.warg_map.proofs.Finds.{finds_leaf, all_shared, held_below, held_in_fork}
-use Rattle.warg_map.proofs.Absences.{absent_nothing, absent_in_fork, absent_beside_lone, absent_beside_stem, absent_below, lone_parts}
+use Rattle.warg_map.proofs.SparseTree.{length-last_bits, last_bits-end}
+use Rattle.warg_map.proofs.TreeForm.{lone_seen, is_fork, is_lone, is_stem}
+use Rattle.warg_map.proofs.FoundInNode.{finds_leaf, all_shared, held_below, held_in_fork}
+use Rattle.warg_map.proofs.AbsencePeers.{absent_nothing, absent_in_fork, absent_beside_lone, absent_beside_stem, absent_below, lone_parts}
 use Rattle.warg_map.proofs.node.Node.+prove_absent.Goals as goal
 
 pub unreachable-requires : goal.unreachable-requires

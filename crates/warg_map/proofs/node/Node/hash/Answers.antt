@@ -1,4 +1,4 @@
-use Rattle.warg_map.proofs.Sparse.{sparse_root-leaf, sparse_root-empty}
+use Rattle.warg_map.proofs.SparseTree.{sparse_root-leaf, sparse_root-empty}
 use Rattle.warg_map.proofs.node.Node.hash.Goals as goal
 
 pub returns-in-Leaf : goal.returns-in-Leaf

@@ -1,6 +1,6 @@
 use Rattle.std.proofs.Common.{refl, ◌∙◌, sym, ap, arith, ◌<◌, ◌+◌, ◌-◌, ◌∷◌}
 use Rattle.warg_map.specs.Bits.{last_bits}
-use Rattle.warg_map.proofs.Sparse.{last_bits-first, last_bits-end}
+use Rattle.warg_map.proofs.SparseTree.{last_bits-first, last_bits-end}
 use Rattle.warg_map.proofs.path.PathIterator.next.Goals as goal
 
 pub returns-then-self-eq256-clause-steps : goal.returns-then-self-eq256-clause-steps

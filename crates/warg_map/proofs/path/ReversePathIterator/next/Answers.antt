@@ -2,7 +2,7 @@ use Rattle.std.proofs.Common.{◌≡◌, ℕ, ◌+◌, ◌-◌, List, [], ◌∷
 use Rattle.std.specs.Prelude.{reverse}
 use Rattle.std.proofs.lemmas.List.{reverse-append}
 use Rattle.warg_map.specs.Bits.{bit_at, bits_from}
-use Rattle.warg_map.proofs.Under.{bits_from-append, bits_from-one, bits_from-none}
+use Rattle.warg_map.proofs.BitsInFront.{bits_from-append, bits_from-one, bits_from-none}
 use Rattle.warg_map.proofs.path.ReversePathIterator.next.Goals as goal
 
 nothing : (key : List ℕ) (i : ℕ) → i ≡ 0 → reverse (bits_from key 0 i) ≡ []

@@ -1,6 +1,6 @@
 use Rattle.std.proofs.Common.{◌≡◌, rules}
 use Rattle.warg_map.specs.Bundles.{same_peers}
-use Rattle.warg_map.proofs.EqualLemmas.{peers_decide}
+use Rattle.warg_map.proofs.ProofEquality.{peers_decide}
 use Rattle.warg_map.proofs.proof.ProofPartialEq.eq.Goals as goal
 
 pub returns-clause-exact : goal.returns-clause-exact

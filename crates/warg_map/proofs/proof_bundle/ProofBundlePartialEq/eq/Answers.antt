@@ -1,4 +1,4 @@
-use Rattle.warg_map.proofs.EqualLemmas.{bundles_decide}
+use Rattle.warg_map.proofs.ProofEquality.{bundles_decide}
 use Rattle.warg_map.proofs.proof_bundle.ProofBundlePartialEq.eq.Goals as goal
 
 pub returns-clause-exact : goal.returns-clause-exact

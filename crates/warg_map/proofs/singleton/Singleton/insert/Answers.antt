@@ -2,9 +2,9 @@ use Rattle.std.proofs.Common.{◌≡◌, ◌∙◌, ap, sym, ◌+◌, ◌-◌, �
 use Rattle.warg_map.specs.Private.Side.{side_bit}
 use Rattle.warg_map.specs.Bits.{bit_at, last_bits, bits_from}
 use Rattle.warg_map.specs.Private.Lone.{Lone, held_alone}
-use Rattle.warg_map.proofs.Under.{last_bits-at}
-use Rattle.warg_map.proofs.Form.{lone_seen, lone_holds}
-use Rattle.warg_map.proofs.Inserts.{inserts_same, bits_whole, lone_parted}
+use Rattle.warg_map.proofs.BitsInFront.{last_bits-at}
+use Rattle.warg_map.proofs.TreeForm.{lone_seen, lone_holds}
+use Rattle.warg_map.proofs.InsertIntoNode.{inserts_same, bits_whole, lone_parted}
 use Rattle.warg_map.proofs.singleton.Singleton.insert.Goals as goal
 
 pub returns-then-shared-self : goal.returns-then-shared-self

@@ -1,7 +1,7 @@
 use Rattle.std.proofs.Common.{◌≡◌, ◌∙◌, ap, sym, ◌+◌, ◌-◌, arith}
 use Rattle.warg_map.specs.Bits.{bits_from}
 use Rattle.warg_map.specs.Private.Under.{under}
-use Rattle.warg_map.proofs.Under.{under-none, bits_from-none}
+use Rattle.warg_map.proofs.BitsInFront.{under-none, bits_from-none}
 use Rattle.warg_map.proofs.stem.Stem.rest.Goals as goal
 
 pub returns-then-at-self : goal.returns-then-at-self

@@ -11,9 +11,9 @@ use Rattle.warg_map.specs.Bits.{bit_at, bits_from, last_bits}
 use Rattle.warg_map.specs.Sparse.{SparseMap}
 use Rattle.warg_map.specs.Private.Under.{join_at, under, HoldsKey}
 use Rattle.warg_map.specs.Private.Seen.{seen, tree_height, held_by, IsWellFormed, Inserts, IsForkOf, IsSeen}
-use Rattle.warg_map.proofs.Sparse.{insert-join_at, contains_key-join_at, contains_key-empty, contains_key-insert_same, insert-again, last_bits-first, last_bits-zero}
-use Rattle.warg_map.proofs.Under.{insert-under, get-under, insert-under_apart, get-under_apart, lone-under, lone-append, bits_from-part, last_bits-at, bits_from-append}
-use Rattle.warg_map.proofs.Form.{fork_held, fork_formed}
+use Rattle.warg_map.proofs.SparseTree.{insert-join_at, contains_key-join_at, contains_key-empty, contains_key-insert_same, insert-again, last_bits-first, last_bits-zero}
+use Rattle.warg_map.proofs.BitsInFront.{insert-under, get-under, insert-under_apart, get-under_apart, lone-under, lone-append, bits_from-part, last_bits-at, bits_from-append}
+use Rattle.warg_map.proofs.TreeForm.{fork_held, fork_formed}
 
 abbrev absent : SparseMap → List Bool → Bool
 absent m q = not (contains_key m q)
@@ -62,8 +62,8 @@ replaces_leaf old x v l e h =
 pub inserts_leaf : {D A : _} (old : Node D A) (bits : List Bool) (x l : Rc (List ℕ) A) (v : List ℕ) → old ≡ Leaf x → bits ≡ [] → l.value ≡ v → Inserts {D = D} {A = A} (seen old) bits v (Leaf l) false
 inserts_leaf old bits x l v is e h = rw e (replaces_leaf (seen old) x.value v l (ap seen is) h)
 
-pub inserts_low_lone : {D A : _} (old : Node D A) (s : Rc Lone A) (bits : List Bool) (l : Rc (List ℕ) A) (v : List ℕ) → old ≡ Singleton s → s.value.height ≡ 0 → bits ≡ [] → l.value ≡ v → Inserts {D = D} {A = A} (seen old) bits v (Leaf l) false
-inserts_low_lone old s bits l v is h e w =
+pub inserts_bottom_lone : {D A : _} (old : Node D A) (s : Rc Lone A) (bits : List Bool) (l : Rc (List ℕ) A) (v : List ℕ) → old ≡ Singleton s → s.value.height ≡ 0 → bits ≡ [] → l.value ≡ v → Inserts {D = D} {A = A} (seen old) bits v (Leaf l) false
+inserts_bottom_lone old s bits l v is h e w =
     rw e (replaces_leaf (seen old) s.value.value v l (ap seen is ∙ ap (λ j. (j, insert empty (last_bits s.value.key j) s.value.value)) h ∙ ap (λ q. (0, insert empty q s.value.value)) (last_bits-zero s.value.key)) w)
 
 -- the key that is there
@@ -144,8 +144,8 @@ stem_parted old s n bits key hash v from j far is w e kh height lt same apart fs
     (ap (λ d. d.0) fs) r (ap (λ d. d.1) fs ∙ ap (λ i. under (bits_from s.value.key (i + (j + 1)) (s.value.len - (j + 1))) s.value.below.1) fr) h
 
 -- an insertion below all the bits of a stem
-pub inserts_below : {D A : _} (old : Node D A) (s : Rc (Stem' D A) A) (below node n : Node D A) (bits low : List Bool) (key hash v : List ℕ) (from len index : ℕ) (fresh : Bool) → old ≡ Stem s → IsWellFormed old → tree_height old + from ≡ 256 → bits ≡ last_bits hash (256 - from) → key ≡ hash → len ≡ s.value.len → bits_from s.value.key from len ≡ bits_from key from len → seen below ≡ s.value.below → low ≡ last_bits hash (256 - index) → index ≡ from + len → Inserts (seen below) low v node fresh → IsSeen n (tree_height node + len) (under (bits_from key from len) (held_by node)) → Inserts (seen old) bits v n fresh
-inserts_below old s below node n bits low key hash v from len index fresh is w height e kh el same b lo ix ins h =
+pub inserts_below : {D A : _} (old : Node D A) (s : Rc (Stem' D A) A) (below node n : Node D A) (bits rest : List Bool) (key hash v : List ℕ) (from len index : ℕ) (fresh : Bool) → old ≡ Stem s → IsWellFormed old → tree_height old + from ≡ 256 → bits ≡ last_bits hash (256 - from) → key ≡ hash → len ≡ s.value.len → bits_from s.value.key from len ≡ bits_from key from len → seen below ≡ s.value.below → rest ≡ last_bits hash (256 - index) → index ≡ from + len → Inserts (seen below) rest v node fresh → IsSeen n (tree_height node + len) (under (bits_from key from len) (held_by node)) → Inserts (seen old) bits v n fresh
+inserts_below old s below node n bits rest key hash v from len index fresh is w height e kh el same b lo ix ins h =
     let ws : IsWellFormed (Stem s) = subst IsWellFormed is w in
     let hs : s.value.below.0 + s.value.len + from ≡ 256 = sym (ap (λ d. tree_height d + from) is) ∙ height in
     let fr : s.value.from ≡ from = omega (arith, ws.level, hs) in
@@ -157,24 +157,24 @@ inserts_below old s below node n bits low key hash v from len index fresh is w h
     let whole' : from + len + k ≡ 256 = omega (arith, hs, el) in
     let a = bits_from key from len in
     let p = last_bits key k in
-    let lowk : low ≡ p = lo ∙ ap (λ y. last_bits y (256 - index)) (sym kh) ∙ ap (last_bits key) k256 in
+    let rest_is : rest ≡ p = lo ∙ ap (λ y. last_bits y (256 - index)) (sym kh) ∙ ap (last_bits key) k256 in
     let mine : bits ≡ a ++ p = e ∙ ap (λ y. last_bits y (256 - from)) (sym kh) ∙ ap (last_bits key) n256 ∙ last_bits-at key from (len + k) whole ∙ bits_from-append key from len k ∙ ap (λ t. a ++ t) (sym (last_bits-at key (from + len) k whole')) in
     let held : seen old ≡ (k + len, under a m) = ap seen is ∙ ap (λ j. (k + s.value.len, under (bits_from s.value.key j s.value.len) m)) fr ∙ ap (λ j. (k + j, under (bits_from s.value.key from j) m)) (sym el) ∙ ap (λ t. (k + len, under t m)) same in
-    let new : seen node ≡ (k, insert m p v) = ins.seen_as ∙ ap (λ d. (d.0, insert d.1 low v)) b ∙ ap (λ q. (k, insert m q v)) lowk in
+    let new : seen node ≡ (k, insert m p v) = ins.seen_as ∙ ap (λ d. (d.0, insert d.1 rest v)) b ∙ ap (λ q. (k, insert m q v)) rest_is in
     rw mine
     (record {
       seen_as = h.seen_as ∙ ap (λ d. (d.0 + len, under a d.1)) new ∙ ap (λ t. (k + len, t)) (sym (insert-under a p m v)) ∙ sym (ap (λ d. (d.0, insert d.1 (a ++ p) v)) held);
       well_formed = h.well_formed;
-      is_fresh = ins.is_fresh ∙ ap (λ d. absent d.1 low) b ∙ ap (absent m) lowk ∙ ap (λ o. not (is_some o)) (sym (get-under a p m)) ∙ sym (ap (λ d. absent d.1 (a ++ p)) held);
+      is_fresh = ins.is_fresh ∙ ap (λ d. absent d.1 rest) b ∙ ap (absent m) rest_is ∙ ap (λ o. not (is_some o)) (sym (get-under a p m)) ∙ sym (ap (λ d. absent d.1 (a ++ p)) held);
     })
 
 -- what was inserted is held
-pub has_inserted : {D A : _} (below node : Node D A) (low : List Bool) (key hash v : List ℕ) (index : ℕ) (fresh : Bool) → Inserts (seen below) low v node fresh → low ≡ last_bits hash (256 - index) → key ≡ hash → tree_height below + index ≡ 256 → contains_key (held_by node) (last_bits key (tree_height node)) ≡ true
-has_inserted below node low key hash v index fresh ins lo kh height =
+pub has_inserted : {D A : _} (below node : Node D A) (rest : List Bool) (key hash v : List ℕ) (index : ℕ) (fresh : Bool) → Inserts (seen below) rest v node fresh → rest ≡ last_bits hash (256 - index) → key ≡ hash → tree_height below + index ≡ 256 → contains_key (held_by node) (last_bits key (tree_height node)) ≡ true
+has_inserted below node rest key hash v index fresh ins lo kh height =
     let k256 : 256 - index ≡ tree_height below = omega (arith, height) in
-    let q : last_bits key (tree_height below) ≡ low = ap (λ y. last_bits y (tree_height below)) kh ∙ sym (ap (last_bits hash) k256) ∙ sym lo in
+    let q : last_bits key (tree_height below) ≡ rest = ap (λ y. last_bits y (tree_height below)) kh ∙ sym (ap (last_bits hash) k256) ∙ sym lo in
     subst (λ (d : ℕ × SparseMap). contains_key d.1 (last_bits key d.0) ≡ true) (sym ins.seen_as)
-    (ap (contains_key (insert (held_by below) low v)) q ∙ contains_key-insert_same (held_by below) low v)
+    (ap (contains_key (insert (held_by below) rest v)) q ∙ contains_key-insert_same (held_by below) rest v)
 
 -- the first key
 pub inserts_first : {D A : _} (old n : Node D A) (k : ℕ) (s : Rc Lone A) (bits : List Bool) (key hash v : List ℕ) (index : ℕ) → old ≡ Empty k → IsWellFormed old → tree_height old + index ≡ 256 → bits ≡ last_bits hash (256 - index) → key ≡ hash → s.value.key ≡ key → s.value.height ≡ 255 → s.value.value ≡ v → IsSeen n (s.value.height + 1) (under (bits_from key 0 1) (insert empty (last_bits s.value.key s.value.height) s.value.value)) → Inserts (seen old) bits v n true

@@ -10,9 +10,9 @@ use Rattle.warg_map.specs.Bits.{key_bits}
 use Rattle.warg_map.specs.Sparse.{SparseMap, bits_cmp, leaf_digest, inserted, pair_bytes, HasDistinctKeys}
 use Rattle.std.proofs.lemmas.List.{get_or_default}
 use Rattle.std.proofs.lemmas.Bool.{ltb-true, ltb-false}
-use Rattle.warg_map.proofs.Sparse.{same_sparse, tied_itself_bits}
-use Rattle.warg_map.proofs.Finds.{tied}
-use Rattle.warg_map.proofs.Honest.{get-insert_other, get-insert_same}
+use Rattle.warg_map.proofs.SparseTree.{same_sparse, tied_itself_bits}
+use Rattle.warg_map.proofs.FoundInNode.{tied}
+use Rattle.warg_map.proofs.HonestProofs.{get-insert_other, get-insert_same}
 
 -- one insertion more
 pub inserted-none : (H : List ℕ → List ℕ) (m : SparseMap) → inserted H m [] ≡ m

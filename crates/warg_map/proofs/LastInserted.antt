@@ -5,7 +5,7 @@ use Rattle.std.specs.FinMap.{get, insert, empty, get-empty, get-insert}
 use Rattle.warg_map.specs.Bits.{key_bits}
 use Rattle.warg_map.specs.Sparse.{SparseMap, bits_cmp, leaf_digest, inserted, map_of}
 use Rattle.warg_map.specs.Last.{last_with, same_bits, last_under}
-use Rattle.warg_map.proofs.Sparse.{bits_total}
+use Rattle.warg_map.proofs.SparseTree.{bits_total}
 
 or_none : (o : Option (List ℕ)) → option_or o None ≡ o
 or_none None = refl

@@ -13,9 +13,9 @@ use Rattle.warg_map.specs.Sparse.{SparseMap, bits_cmp}
 use Rattle.warg_map.specs.Private.Under.{join, join_at, under, HoldsKey, Splits, IsLone}
 use Rattle.warg_map.specs.Private.Seen.{tree_height, held_by, IsWellFormed}
 use Rattle.warg_map.specs.Count.{stripped, half_after, nodes}
-use Rattle.warg_map.proofs.Form.{one_false, no_lone}
-use Rattle.warg_map.proofs.Under.{get-under_head, no_some}
-use Rattle.warg_map.proofs.Sparse.{bits_total, same_sparse, get-join_true, get-join_false, insert-join_false, insert-join_true, empty-is_join, contains_key-empty, length-bits_from}
+use Rattle.warg_map.proofs.TreeForm.{one_false, no_lone}
+use Rattle.warg_map.proofs.BitsInFront.{get-under_head, no_some}
+use Rattle.warg_map.proofs.SparseTree.{bits_total, same_sparse, get-join_true, get-join_false, insert-join_false, insert-join_true, empty-is_join, contains_key-empty, length-bits_from}
 
 -- what a map holds after a bit
 find-stripped : (b : Bool) (q : List Bool) (es : List (List Bool × List ℕ)) → find bits_cmp q (stripped b es) ≡ find bits_cmp (b ∷ q) es
@@ -45,10 +45,6 @@ from_entries_same m = same_sparse _ _ (λ q. get-from_entries bits_total (entrie
 one_more : (c : Bool) (a b d : ℕ) → a ≡ b + d → cond c a (a + 1) ≡ cond c b (b + 1) + d
 one_more true a b d e = e
 one_more false a b d e = omega (arith, e)
-
-more_one : (c : Bool) (a b d : ℕ) → a ≡ d + b → cond c a (a + 1) ≡ d + cond c b (b + 1)
-more_one true a b d e = e
-more_one false a b d e = omega (arith, e)
 
 len_right : (es : List (List Bool × List ℕ)) → len (join empty (from_entries es)) ≡ len (from_entries {R = bits_cmp} es)
 len_right [] = ap len (sym empty-is_join)
@@ -201,7 +197,7 @@ nodes-split (suc k) m s =
 -- the nodes below
 pub record IsChild (child : ℕ × SparseMap) (bound : ℕ) : Type 0 where
   pub some : 0 < len child.1
-  pub low : child.0 < 256
+  pub height : child.0 < 256
   pub fits : len child.1 < bound
 
 pub left_child : {D A : _} (old : Node D A) (f : Rc (Fork' D A) A) (child : ℕ × SparseMap) → old ≡ Fork f → IsWellFormed old → child ≡ f.value.left → len (held_by old) < 18446744073709551616 → IsChild child 18446744073709551616
@@ -209,14 +205,14 @@ left_child old f child is w e b =
     let ws : IsWellFormed (Fork f) = subst IsWellFormed is w in
     let n = ap (λ d. len (held_by d)) is ∙ len-join f.value.left.1 f.value.right.1 in
     let x = some_held f.value.left.1 ws.formed.0 in
-    subst (λ (d : ℕ × SparseMap). IsChild d 18446744073709551616) (sym e) (record { some = x; low = ws.level.1; fits = omega (arith, n, b) })
+    subst (λ (d : ℕ × SparseMap). IsChild d 18446744073709551616) (sym e) (record { some = x; height = ws.level.1; fits = omega (arith, n, b) })
 
 pub right_child : {D A : _} (old : Node D A) (f : Rc (Fork' D A) A) (child : ℕ × SparseMap) → old ≡ Fork f → IsWellFormed old → child ≡ f.value.right → len (held_by old) < 18446744073709551616 → IsChild child 18446744073709551616
 right_child old f child is w e b =
     let ws : IsWellFormed (Fork f) = subst IsWellFormed is w in
     let n = ap (λ d. len (held_by d)) is ∙ len-join f.value.left.1 f.value.right.1 in
     let x = some_held f.value.right.1 ws.formed.1 in
-    subst (λ (d : ℕ × SparseMap). IsChild d 18446744073709551616) (sym e) (record { some = x; low = omega (arith, ws.level.0, ws.level.1); fits = omega (arith, n, b) })
+    subst (λ (d : ℕ × SparseMap). IsChild d 18446744073709551616) (sym e) (record { some = x; height = omega (arith, ws.level.0, ws.level.1); fits = omega (arith, n, b) })
 
 len_stem : {D A : _} (old : Node D A) (s : Rc (Stem' D A) A) → old ≡ Stem s → len (held_by old) ≡ len s.value.below.1
 len_stem old s is = ap (λ d. len (held_by d)) is ∙ len-under (bits_from s.value.key s.value.from s.value.len) s.value.below.1
@@ -238,7 +234,7 @@ below_child old s child is w e more b =
     let ws : IsWellFormed (Stem s) = subst IsWellFormed is w in
     let n = len_stem old s is in
     let x = splits_more s.value.below.1 (below_splits old s is w more) in
-    subst (λ (d : ℕ × SparseMap). IsChild d 18446744073709551616) (sym e) (record { some = omega (arith, x); low = omega (arith, ws.level, ws.formed.0); fits = omega (arith, n, b) })
+    subst (λ (d : ℕ × SparseMap). IsChild d 18446744073709551616) (sym e) (record { some = omega (arith, x); height = omega (arith, ws.level, ws.formed.0); fits = omega (arith, n, b) })
 
 -- the count of a node
 pub count_fork : {D A : _} (old : Node D A) (f : Rc (Fork' D A) A) (l r : ℕ × SparseMap) (x y : ℕ) → old ≡ Fork f → IsWellFormed old → l ≡ f.value.left → r ≡ f.value.right → x ≡ nodes l.0 l.1 false → y ≡ nodes r.0 r.1 false → 1 + x + y ≡ nodes (tree_height old) (held_by old) false

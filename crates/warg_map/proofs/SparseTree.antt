@@ -138,14 +138,6 @@ pub sparse_root-leaf : (H : List ℕ → List ℕ) (v : List ℕ) → sparse_roo
 unfolding root_of_levels
 sparse_root-leaf H v = ap (λ o. unwrap_or o (empty_root H 0)) (get-insert bits_total empty [] v [])
 
-pub empty_root-step : (H : List ℕ → List ℕ) (k : ℕ) → empty_root H (k + 1) ≡ H (1 ∷ (empty_root H k ++ empty_root H k))
-unfolding empty_root
-empty_root-step H k = ap (empty_root H) (add-one k)
-
-pub empty_root-zero : (H : List ℕ → List ℕ) → empty_root H 0 ≡ H (0 ∷ [])
-unfolding empty_root
-empty_root-zero H = refl
-
 -- the bits of a digest
 pub last_bits-step : (key : List ℕ) (n : ℕ) → n < 256 → last_bits key (n + 1) ≡ bit_at key (255 - n) ∷ last_bits key n
 unfolding bits_from
@@ -157,27 +149,6 @@ last_bits-step key n h =
 pub last_bits-zero : (key : List ℕ) → last_bits key 0 ≡ []
 unfolding bits_from
 last_bits-zero key = refl
-
--- one more level over a lone key
-pub sparse_root-single_false : (H : List ℕ → List ℕ) (k : ℕ) (p : List Bool) (v : List ℕ) → sparse_root H (k + 1) (insert empty (false ∷ p) v) ≡ H (1 ∷ (sparse_root H k (insert empty p v) ++ empty_root H k))
-sparse_root-single_false H k p v =
-    ap (sparse_root H (k + 1)) (insert-empty_false p v) ∙ sparse_root-join H k _ _ ∙ ap (λ e. H (1 ∷ (sparse_root H k (insert empty p v) ++ e))) (sparse_root-empty H k)
-
-pub sparse_root-single_true : (H : List ℕ → List ℕ) (k : ℕ) (p : List Bool) (v : List ℕ) → sparse_root H (k + 1) (insert empty (true ∷ p) v) ≡ H (1 ∷ (empty_root H k ++ sparse_root H k (insert empty p v)))
-sparse_root-single_true H k p v =
-    ap (sparse_root H (k + 1)) (insert-empty_true p v) ∙ sparse_root-join H k _ _ ∙ ap (λ e. H (1 ∷ (e ++ sparse_root H k (insert empty p v)))) (sparse_root-empty H k)
-
-single_step : (H : List ℕ → List ℕ) (k : ℕ) (b : Bool) (p : List Bool) (v : List ℕ) → sparse_root H (k + 1) (insert empty (b ∷ p) v) ≡ cond b (H (1 ∷ (empty_root H k ++ sparse_root H k (insert empty p v)))) (H (1 ∷ (sparse_root H k (insert empty p v) ++ empty_root H k)))
-single_step H k true p v = sparse_root-single_true H k p v
-single_step H k false p v = sparse_root-single_false H k p v
-
--- one more of the last bits of a lone key
-pub sparse_root-last_bits : (H : List ℕ → List ℕ) (key v : List ℕ) (n : ℕ) → n < 256 → sparse_root H (n + 1) (insert empty (last_bits key (n + 1)) v) ≡ cond (bit_at key (255 - n)) (H (1 ∷ (empty_root H n ++ sparse_root H n (insert empty (last_bits key n) v)))) (H (1 ∷ (sparse_root H n (insert empty (last_bits key n) v) ++ empty_root H n)))
-sparse_root-last_bits H key v n h =
-    ap (λ p. sparse_root H (n + 1) (insert empty p v)) (last_bits-step key n h) ∙ single_step H n (bit_at key (255 - n)) (last_bits key n) v
-
-pub sparse_root-last_bits_zero : (H : List ℕ → List ℕ) (key v : List ℕ) → sparse_root H 0 (insert empty (last_bits key 0) v) ≡ v
-sparse_root-last_bits_zero H key v = ap (λ p. sparse_root H 0 (insert empty p v)) (last_bits-zero key) ∙ sparse_root-leaf H v
 
 pub length-bits_from : (key : List ℕ) (i n : ℕ) → length (bits_from key i n) ≡ n
 unfolding bits_from
@@ -217,12 +188,6 @@ empty-is_join_at false = empty-is_join
 pub insert-empty_at : (b : Bool) (q : List Bool) (w : List ℕ) → insert empty (b ∷ q) w ≡ join_at b (insert empty q w) empty
 insert-empty_at true q w = insert-empty_true q w
 insert-empty_at false q w = insert-empty_false q w
-
-pub insert-empty_other : (b c : Bool) (q : List Bool) (w : List ℕ) → ¬ (c ≡ b) → insert empty (c ∷ q) w ≡ join_at b empty (insert empty q w)
-insert-empty_other true true q w h = absurd (h refl)
-insert-empty_other true false q w h = insert-empty_false q w
-insert-empty_other false true q w h = insert-empty_true q w
-insert-empty_other false false q w h = absurd (h refl)
 
 pub contains_key-empty : (q : List Bool) → contains_key (empty {X = List ℕ} {R = bits_cmp}) q ≡ false
 contains_key-empty q = ap is_some (get-empty bits_cmp q)

@@ -10,9 +10,9 @@ use Rattle.warg_crypto.specs.EmptyTrees.{empty_root}
 use Rattle.warg_map.specs.Sparse.{SparseMap, bits_cmp, root_of_levels, sparse_root}
 use Rattle.warg_map.specs.ProofValue.{peer_of, proof_value}
 use Rattle.warg_map.specs.Peers.{IsPeers, IsAbsentPeers, IsOther, Proves, ProvesAbsent}
-use Rattle.warg_map.proofs.Sparse.{bits_total, same_sparse, root-nothing, root-same, tied_itself_bits}
-use Rattle.warg_map.proofs.Finds.{tied}
-use Rattle.warg_map.proofs.Peers.{length_peers}
+use Rattle.warg_map.proofs.SparseTree.{bits_total, same_sparse, root-nothing, root-same, tied_itself_bits}
+use Rattle.warg_map.proofs.FoundInNode.{tied}
+use Rattle.warg_map.proofs.PresencePeers.{length_peers}
 
 -- peers from the top by which the tree over the bits is known: each stands for the other half, and below the last nothing else is held
 unfoldable pub Explains : (List ℕ → List ℕ) → (List Bool → Option (List ℕ)) → List Bool → List (Option (List ℕ)) → Type 0
@@ -65,19 +65,19 @@ pub tail_is : (b : Bool) (q p : List Bool) → b ∷ q ≡ b ∷ p → q ≡ p
 tail_is b q p e = cc
 
 -- below the last peer
-pub honest_low : (H : List ℕ → List ℕ) (bits : List Bool) (m : List Bool → Option (List ℕ)) (peers : List (Option (List ℕ))) (v : List ℕ) → length bits + length peers ≤ 256 → ((q : List Bool) → ¬ (q ≡ bits) → m q ≡ None) → unwrap_or (m bits) (empty_root H 0) ≡ v → proof_value H peers v bits ≡ root_of_levels H (length bits) m
+pub honest_below_last : (H : List ℕ → List ℕ) (bits : List Bool) (m : List Bool → Option (List ℕ)) (peers : List (Option (List ℕ))) (v : List ℕ) → length bits + length peers ≤ 256 → ((q : List Bool) → ¬ (q ≡ bits) → m q ≡ None) → unwrap_or (m bits) (empty_root H 0) ≡ v → proof_value H peers v bits ≡ root_of_levels H (length bits) m
 unfolding proof_value root_of_levels empty_root
-honest_low H [] m peers v few h e = sym e
-honest_low H (b ∷ bits) m peers v few h e =
+honest_below_last H [] m peers v few h e = sym e
+honest_below_last H (b ∷ bits) m peers v few h e =
     branch H b (length bits) m (peer_of H peers (length bits)) (proof_value H peers v bits)
     (peer_missing H peers (length bits) (omega (arith, few)) ∙ sym (other_none H (length bits) (λ q. m (not b ∷ q)) (λ q. h (not b ∷ q) (head_differs b q bits))))
-    (honest_low H bits (λ q. m (b ∷ q)) peers v (omega (arith, few)) (λ q n. h (b ∷ q) (λ x. n (tail_is b q bits x))) e)
+    (honest_below_last H bits (λ q. m (b ∷ q)) peers v (omega (arith, few)) (λ q n. h (b ∷ q) (λ x. n (tail_is b q bits x))) e)
 
 pub honest : (H : List ℕ → List ℕ) (bits : List Bool) (m : List Bool → Option (List ℕ)) (peers before os : List (Option (List ℕ))) (v : List ℕ) → reverse peers ≡ before ++ os → length before + length bits ≡ 256 → length peers ≤ 256 → Explains H m bits os → unwrap_or (m bits) (empty_root H 0) ≡ v → proof_value H peers v bits ≡ root_of_levels H (length bits) m
 unfolding proof_value Explains
 honest H bits m peers before [] v e place few h u =
     let n : length peers ≡ length before + 0 = sym (length-reverse peers) ∙ ap length e ∙ length_peers before [] in
-    honest_low H bits m peers v (omega (arith, n, place)) h u
+    honest_below_last H bits m peers v (omega (arith, n, place)) h u
 honest H [] m peers before (o ∷ os) v e place few h u = absurd h
 honest H (b ∷ bits) m peers before (o ∷ os) v e place few h u =
     let one : length (before ++ o ∷ []) ≡ length before + 1 = length_peers before (o ∷ []) in

@@ -6,7 +6,7 @@ use Rattle.std.specs.FinMap.{get, contains_key}
 use Rattle.warg_crypto.specs.EmptyTrees.{empty_root}
 use Rattle.warg_map.specs.Sparse.{SparseMap, root_of_levels, sparse_root, leaf_at}
 use Rattle.warg_map.specs.Peers.{IsPeers, IsPeerCount, Proves, IsOther, IsAbsentPeers, IsAbsentCount, ProvesAbsent}
-use Rattle.warg_map.proofs.Under.{no_some}
+use Rattle.warg_map.proofs.BitsInFront.{no_some}
 
 -- the leaf digests decide the root
 root-leaves : (H : List ℕ → List ℕ) (k : ℕ) (m n : List Bool → Option (List ℕ)) → ((bits : List Bool) → length bits ≡ k → unwrap_or (m bits) (empty_root H 0) ≡ unwrap_or (n bits) (empty_root H 0)) → root_of_levels H k m ≡ root_of_levels H k n

@@ -7,8 +7,8 @@ use Rattle.warg_crypto.specs.EmptyTrees.{empty_root}
 use Rattle.warg_map.specs.Sparse.{SparseMap, root_of_levels}
 use Rattle.warg_map.specs.ProofValue.{proof_value}
 use Rattle.warg_map.specs.Peers.{Proves, ProvesAbsent}
-use Rattle.warg_map.proofs.Peers.{length_peers}
-use Rattle.warg_map.proofs.Honest.{Explains, explains_held, explains_absent, honest, honest_low, tail_is, none_of}
+use Rattle.warg_map.proofs.PresencePeers.{length_peers}
+use Rattle.warg_map.proofs.HonestProofs.{Explains, explains_held, explains_absent, honest, honest_below_last, tail_is, none_of}
 
 same_rest : (prefix p q : List Bool) → prefix ++ p ≡ prefix ++ q → p ≡ q
 same_rest [] p q e = e
@@ -21,7 +21,7 @@ unfolding Explains
 honest_after H [] rest m peers before os v e place few h u = honest H rest m peers before os v e (omega (arith, place)) few h u
 honest_after H (b ∷ prefix) rest m peers before [] v e place few h u =
     let n : length peers ≡ length before + 0 = sym (length-reverse peers) ∙ ap length e ∙ length_peers before [] in
-    honest_low H rest (λ q. m (b ∷ (prefix ++ q))) peers v (omega (arith, n, place)) (λ q other. h (b ∷ (prefix ++ q)) (λ x. other (same_rest (b ∷ prefix) q rest x))) u
+    honest_below_last H rest (λ q. m (b ∷ (prefix ++ q))) peers v (omega (arith, n, place)) (λ q other. h (b ∷ (prefix ++ q)) (λ x. other (same_rest (b ∷ prefix) q rest x))) u
 honest_after H (b ∷ prefix) rest m peers before (o ∷ os) v e place few h u =
     let one : length (before ++ o ∷ []) ≡ length before + 1 = length_peers before (o ∷ []) in
     honest_after H prefix rest (λ q. m (b ∷ q)) peers (before ++ o ∷ []) os v (e ∙ sym (append_assoc before (o ∷ []) os)) (omega (arith, one, place)) few h.1 u

@@ -4,8 +4,8 @@ use Rattle.std.specs.FinMap.{get, insert, empty, contains_key, get-empty}
 use Rattle.warg_crypto.specs.EmptyTrees.{empty_root}
 use Rattle.warg_map.specs.Bits.{bit_at, bits_from, last_bits}
 use Rattle.warg_map.specs.Sparse.{SparseMap, bits_cmp, sparse_root}
-use Rattle.warg_map.specs.Private.Under.{join_at, under, lift, HoldsKey}
-use Rattle.warg_map.proofs.Sparse.{insert-join_at, get-join_at, insert-empty_at, get-join_nil, sparse_root-join, sparse_root-empty, length-bits_from}
+use Rattle.warg_map.specs.Private.Under.{join_at, under, stem_root, HoldsKey}
+use Rattle.warg_map.proofs.SparseTree.{insert-join_at, get-join_at, insert-empty_at, get-join_nil, sparse_root-join, sparse_root-empty, length-bits_from}
 
 -- the bits of a digest
 pub bits_from-append : (key : List ℕ) (i m n : ℕ) → bits_from key i (m + n) ≡ bits_from key i m ++ bits_from key (i + m) n
@@ -132,21 +132,21 @@ step_root : (H : List ℕ → List ℕ) (k : ℕ) (b : Bool) (m : SparseMap) →
 step_root H k true m = sparse_root-join H k empty m ∙ ap (λ e. H (1 ∷ (e ++ sparse_root H k m))) (sparse_root-empty H k)
 step_root H k false m = sparse_root-join H k m empty ∙ ap (λ e. H (1 ∷ (sparse_root H k m ++ e))) (sparse_root-empty H k)
 
-pub lift-under : (H : List ℕ → List ℕ) (k : ℕ) (bs : List Bool) (m : SparseMap) → lift H k (sparse_root H k m) bs ≡ sparse_root H (k + length bs) (under bs m)
-unfolding lift under
-lift-under H k [] m = let e : k ≡ k + 0 = omega arith in ap (λ j. sparse_root H j m) e
-lift-under H k (b ∷ bs) m =
+pub stem_root-under : (H : List ℕ → List ℕ) (k : ℕ) (bs : List Bool) (m : SparseMap) → stem_root H k (sparse_root H k m) bs ≡ sparse_root H (k + length bs) (under bs m)
+unfolding stem_root under
+stem_root-under H k [] m = let e : k ≡ k + 0 = omega arith in ap (λ j. sparse_root H j m) e
+stem_root-under H k (b ∷ bs) m =
     let e : k + length bs + 1 ≡ k + length (b ∷ bs) = omega arith in
-    ap (λ r. H (1 ∷ cond b (empty_root H (k + length bs) ++ r) (r ++ empty_root H (k + length bs)))) (lift-under H k bs m)
+    ap (λ r. H (1 ∷ cond b (empty_root H (k + length bs) ++ r) (r ++ empty_root H (k + length bs)))) (stem_root-under H k bs m)
     ∙ sym (step_root H (k + length bs) b (under bs m))
     ∙ ap (λ j. sparse_root H j (under (b ∷ bs) m)) e
 
-pub lift-none : (H : List ℕ → List ℕ) (k : ℕ) (x key : List ℕ) (i : ℕ) → lift H k x (bits_from key i 0) ≡ x
-unfolding lift
-lift-none H k x key i = ap (lift H k x) (bits_from-none key i)
+pub stem_root-none : (H : List ℕ → List ℕ) (k : ℕ) (x key : List ℕ) (i : ℕ) → stem_root H k x (bits_from key i 0) ≡ x
+unfolding stem_root
+stem_root-none H k x key i = ap (stem_root H k x) (bits_from-none key i)
 
-pub lift-more : (H : List ℕ → List ℕ) (k : ℕ) (x key : List ℕ) (i n : ℕ) → lift H k x (bits_from key i (n + 1)) ≡ H (1 ∷ cond (bit_at key i) (empty_root H (k + n) ++ lift H k x (bits_from key (i + 1) n)) (lift H k x (bits_from key (i + 1) n) ++ empty_root H (k + n)))
-unfolding lift
-lift-more H k x key i n =
-    ap (lift H k x) (bits_from-first key i n)
-    ∙ ap (λ j. H (1 ∷ cond (bit_at key i) (empty_root H (k + j) ++ lift H k x (bits_from key (i + 1) n)) (lift H k x (bits_from key (i + 1) n) ++ empty_root H (k + j)))) (length-bits_from key (i + 1) n)
+pub stem_root-more : (H : List ℕ → List ℕ) (k : ℕ) (x key : List ℕ) (i n : ℕ) → stem_root H k x (bits_from key i (n + 1)) ≡ H (1 ∷ cond (bit_at key i) (empty_root H (k + n) ++ stem_root H k x (bits_from key (i + 1) n)) (stem_root H k x (bits_from key (i + 1) n) ++ empty_root H (k + n)))
+unfolding stem_root
+stem_root-more H k x key i n =
+    ap (stem_root H k x) (bits_from-first key i n)
+    ∙ ap (λ j. H (1 ∷ cond (bit_at key i) (empty_root H (k + j) ++ stem_root H k x (bits_from key (i + 1) n)) (stem_root H k x (bits_from key (i + 1) n) ++ empty_root H (k + j)))) (length-bits_from key (i + 1) n)

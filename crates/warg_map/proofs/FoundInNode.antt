@@ -12,8 +12,8 @@ use Rattle.warg_map.specs.Bits.{bit_at, bits_from, last_bits}
 use Rattle.warg_map.specs.Sparse.{SparseMap, bits_cmp}
 use Rattle.warg_map.specs.Private.Under.{under}
 use Rattle.warg_map.specs.Private.Seen.{seen, tree_height, held_by, IsWellFormed}
-use Rattle.warg_map.proofs.Sparse.{bits_total, get-join_true, get-join_false, tied_itself_bits}
-use Rattle.warg_map.proofs.Under.{get-under, get-under_apart, lone-under, bits_from-part, last_bits-at, bits_from-append}
+use Rattle.warg_map.proofs.SparseTree.{bits_total, get-join_true, get-join_false, tied_itself_bits}
+use Rattle.warg_map.proofs.BitsInFront.{get-under, get-under_apart, lone-under, bits_from-part, last_bits-at, bits_from-append}
 
 pub tied : (q p : List Bool) → eq_by_cmp bits_cmp q p ≡ true → q ≡ p
 tied [] [] e = refl
@@ -82,8 +82,8 @@ finds_none_stem old s bits key from j is w e height lt same apart =
     (e ∙ ap (last_bits key) n ∙ last_bits-at key from (s.value.len + s.value.below.0) whole) lt same apart
 
 -- the bits below a stem
-pub stem_bits : {D A : _} (old : Node D A) (s : Rc (Stem' D A) A) (bits low : List Bool) (key : List ℕ) (from len index : ℕ) → old ≡ Stem s → IsWellFormed old → bits ≡ last_bits key (256 - from) → tree_height old + from ≡ 256 → len ≡ s.value.len → low ≡ last_bits key (256 - index) → index ≡ from + len → bits ≡ bits_from key from len ++ low
-stem_bits old s bits low key from len index is w e height el lo ix =
+pub stem_bits : {D A : _} (old : Node D A) (s : Rc (Stem' D A) A) (bits rest : List Bool) (key : List ℕ) (from len index : ℕ) → old ≡ Stem s → IsWellFormed old → bits ≡ last_bits key (256 - from) → tree_height old + from ≡ 256 → len ≡ s.value.len → rest ≡ last_bits key (256 - index) → index ≡ from + len → bits ≡ bits_from key from len ++ rest
+stem_bits old s bits rest key from len index is w e height el lo ix =
     let hs : s.value.below.0 + s.value.len + from ≡ 256 = sym (ap (λ d. tree_height d + from) is) ∙ height in
     let k = s.value.below.0 in
     let n : 256 - from ≡ len + k = omega (arith, hs, el) in
@@ -99,10 +99,10 @@ stem_held old s key from len is w height el same =
     let fr : s.value.from ≡ from = omega (arith, ws.level, hs) in
     ap seen is ∙ ap (λ j. (s.value.below.0 + s.value.len, under (bits_from s.value.key j s.value.len) s.value.below.1)) fr ∙ ap (λ j. (s.value.below.0 + j, under (bits_from s.value.key from j) s.value.below.1)) (sym el) ∙ ap (λ t. (s.value.below.0 + len, under t s.value.below.1)) same
 
-pub finds_below : {D A : _} (old below : Node D A) (s : Rc (Stem' D A) A) (bits low : List Bool) (key : List ℕ) (from len index : ℕ) (r : Option (List ℕ)) → old ≡ Stem s → IsWellFormed old → bits ≡ last_bits key (256 - from) → tree_height old + from ≡ 256 → len ≡ s.value.len → bits_from s.value.key from len ≡ bits_from key from len → seen below ≡ s.value.below → low ≡ last_bits key (256 - index) → index ≡ from + len → r ≡ get (held_by below) low → r ≡ get (held_by old) bits
-finds_below old below s bits low key from len index r is w e height el same b lo ix h =
-    h ∙ ap (λ d. get d.1 low) b ∙ sym (get-under (bits_from key from len) low s.value.below.1)
-    ∙ sym (ap (λ d. get d.1 bits) (stem_held old s key from len is w height el same) ∙ ap (get (under (bits_from key from len) s.value.below.1)) (stem_bits old s bits low key from len index is w e height el lo ix))
+pub finds_below : {D A : _} (old below : Node D A) (s : Rc (Stem' D A) A) (bits rest : List Bool) (key : List ℕ) (from len index : ℕ) (r : Option (List ℕ)) → old ≡ Stem s → IsWellFormed old → bits ≡ last_bits key (256 - from) → tree_height old + from ≡ 256 → len ≡ s.value.len → bits_from s.value.key from len ≡ bits_from key from len → seen below ≡ s.value.below → rest ≡ last_bits key (256 - index) → index ≡ from + len → r ≡ get (held_by below) rest → r ≡ get (held_by old) bits
+finds_below old below s bits rest key from len index r is w e height el same b lo ix h =
+    h ∙ ap (λ d. get d.1 rest) b ∙ sym (get-under (bits_from key from len) rest s.value.below.1)
+    ∙ sym (ap (λ d. get d.1 bits) (stem_held old s key from len is w height el same) ∙ ap (get (under (bits_from key from len) s.value.below.1)) (stem_bits old s bits rest key from len index is w e height el lo ix))
 
 -- a path that shares all of a stem's bits
 pub all_shared : (key hash : List ℕ) (from shared len : ℕ) → shared ≤ len → len ≤ shared → bits_from key from shared ≡ bits_from hash from shared → bits_from key from len ≡ bits_from hash from len

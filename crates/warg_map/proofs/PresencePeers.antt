@@ -17,10 +17,10 @@ use Rattle.warg_map.specs.Sparse.{SparseMap, bits_cmp, root_of_levels, sparse_ro
 use Rattle.warg_map.specs.Private.Under.{join_at, under, HoldsKey, Splits, IsLone, empty_peers}
 use Rattle.warg_map.specs.Private.Seen.{seen, tree_height, held_by, IsWellFormed}
 use Rattle.warg_map.specs.Peers.{IsPeers, IsPeerCount, Proves, shared, lone_peers}
-use Rattle.warg_map.proofs.Sparse.{bits_total, get-join_at, contains_key-insert_same, sparse_root-empty, head_same, tail_same, length-bits_from}
-use Rattle.warg_map.proofs.Under.{get-join_at_other, get-join_at_nil, get-under, no_some}
-use Rattle.warg_map.proofs.Form.{lone_tied}
-use Rattle.warg_map.proofs.Finds.{tied, stem_held, stem_bits}
+use Rattle.warg_map.proofs.SparseTree.{bits_total, get-join_at, contains_key-insert_same, sparse_root-empty, head_same, tail_same, length-bits_from}
+use Rattle.warg_map.proofs.BitsInFront.{get-join_at_other, get-join_at_nil, get-under, no_some}
+use Rattle.warg_map.proofs.TreeForm.{lone_tied}
+use Rattle.warg_map.proofs.FoundInNode.{tied, stem_held, stem_bits}
 
 tied_or_none : (b : Bool) (p q : List Bool) (v : List ℕ) → (b ≡ true → q ≡ p) → ¬ (q ≡ p) → cond b (Some v) None ≡ None
 tied_or_none true p q v h n = absurd (n (h refl))
@@ -207,25 +207,25 @@ proves_single H old s bits ps is w e n =
 pub proves_leaf : {D A : _} (H : List ℕ → List ℕ) (old : Node D A) (x : Rc (List ℕ) A) (bits : List Bool) (ps : List (Option (List ℕ))) → old ≡ Leaf x → bits ≡ [] → ps ≡ [] → Proves H (tree_height old) (held_by old) bits ps
 proves_leaf H old x bits ps is e n = rw (is, e, n) (proves_lone H 0 [] x.value (omega arith))
 
-pub proves_stem : {D A : _} (H : List ℕ → List ℕ) (old below : Node D A) (s : Rc (Stem' D A) A) (bits low : List Bool) (key : List ℕ) (from len index low_height : ℕ) (ps new : List (Option (List ℕ))) → old ≡ Stem s → IsWellFormed old → bits ≡ last_bits key (256 - from) → tree_height old + from ≡ 256 → len ≡ s.value.len → bits_from s.value.key from len ≡ bits_from key from len → seen below ≡ s.value.below → low ≡ last_bits key (256 - index) → index ≡ from + len → low_height ≡ 256 - s.value.from - s.value.len → length low ≡ 256 - index → Proves H (tree_height below) (held_by below) low ps → new ≡ ps ++ empty_peers H low_height len → Proves H (tree_height old) (held_by old) bits new
-proves_stem H old below s bits low key from len index low_height ps new is w e height el same b lo ix lh ll pr n =
+pub proves_stem : {D A : _} (H : List ℕ → List ℕ) (old below : Node D A) (s : Rc (Stem' D A) A) (bits rest : List Bool) (key : List ℕ) (from len index rest_height : ℕ) (ps new : List (Option (List ℕ))) → old ≡ Stem s → IsWellFormed old → bits ≡ last_bits key (256 - from) → tree_height old + from ≡ 256 → len ≡ s.value.len → bits_from s.value.key from len ≡ bits_from key from len → seen below ≡ s.value.below → rest ≡ last_bits key (256 - index) → index ≡ from + len → rest_height ≡ 256 - s.value.from - s.value.len → length rest ≡ 256 - index → Proves H (tree_height below) (held_by below) rest ps → new ≡ ps ++ empty_peers H rest_height len → Proves H (tree_height old) (held_by old) bits new
+proves_stem H old below s bits rest key from len index rest_height ps new is w e height el same b lo ix lh ll pr n =
     let ws : IsWellFormed (Stem s) = subst IsWellFormed is w in
     let hs : s.value.below.0 + s.value.len + from ≡ 256 = sym (ap (λ d. tree_height d + from) is) ∙ height in
     let k = s.value.below.0 in
     let m = s.value.below.1 in
     let a = bits_from key from len in
     let la : length a ≡ len = length-bits_from key from len in
-    let below_pr : Proves H k m low ps = subst (λ (d : ℕ × SparseMap). Proves H d.0 d.1 low ps) b pr in
-    let hh : low_height ≡ length low = omega (arith, lh, ll, hs, ix, el, ws.level) in
-    let peers : new ≡ ps ++ empty_peers H (length low) (length a) = n ∙ ap (λ j. ps ++ empty_peers H j len) hh ∙ ap (λ j. ps ++ empty_peers H (length low) j) (sym la) in
-    let count : length ps + length a ≡ length (ps ++ empty_peers H (length low) (length a)) = ap (λ j. length ps + j) (sym (length-empty_peers H (length low) (length a))) ∙ sym (length_peers ps (empty_peers H (length low) (length a))) in
-    let all : Proves H (k + len) (under a m) (a ++ low) new = rw peers (record {
-      held = ap is_some (get-under a low m) ∙ below_pr.held;
-      peers_from_top = stem_peers H a low m ps below_pr.peers_from_top;
-      count = subst (IsPeerCount (lone_peers (k + len)) (under a m) (a ++ low)) count (below_count len k a m low (length ps) (subst (λ (j : ℕ). Splits m ⊎ ((j ≡ 1) × (k ≡ 255) × IsLone m)) (sym el) ws.formed.1) la below_pr.count);
+    let below_pr : Proves H k m rest ps = subst (λ (d : ℕ × SparseMap). Proves H d.0 d.1 rest ps) b pr in
+    let hh : rest_height ≡ length rest = omega (arith, lh, ll, hs, ix, el, ws.level) in
+    let peers : new ≡ ps ++ empty_peers H (length rest) (length a) = n ∙ ap (λ j. ps ++ empty_peers H j len) hh ∙ ap (λ j. ps ++ empty_peers H (length rest) j) (sym la) in
+    let count : length ps + length a ≡ length (ps ++ empty_peers H (length rest) (length a)) = ap (λ j. length ps + j) (sym (length-empty_peers H (length rest) (length a))) ∙ sym (length_peers ps (empty_peers H (length rest) (length a))) in
+    let all : Proves H (k + len) (under a m) (a ++ rest) new = rw peers (record {
+      held = ap is_some (get-under a rest m) ∙ below_pr.held;
+      peers_from_top = stem_peers H a rest m ps below_pr.peers_from_top;
+      count = subst (IsPeerCount (lone_peers (k + len)) (under a m) (a ++ rest)) count (below_count len k a m rest (length ps) (subst (λ (j : ℕ). Splits m ⊎ ((j ≡ 1) × (k ≡ 255) × IsLone m)) (sym el) ws.formed.1) la below_pr.count);
     }) in
-    rw (stem_bits old s bits low key from len index is w e height el lo ix)
-    (subst (λ (d : ℕ × SparseMap). Proves H d.0 d.1 (a ++ low) new) (sym (stem_held old s key from len is w height el same)) all)
+    rw (stem_bits old s bits rest key from len index is w e height el lo ix)
+    (subst (λ (d : ℕ × SparseMap). Proves H d.0 d.1 (a ++ rest) new) (sym (stem_held old s key from len is w height el same)) all)
 
 pub pushed_none : (H : List ℕ → List ℕ) (k : ℕ) (ps : List (Option (List ℕ))) → ps ++ empty_peers H k 0 ≡ ps
 unfolding empty_peers

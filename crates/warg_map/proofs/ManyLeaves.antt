@@ -10,13 +10,13 @@ use Rattle.warg_map.specs.declared.fork.Fork.{Fork as Fork'}
 use Rattle.warg_map.specs.Private.Seen.{seen, tree_height, held_by, IsWellFormed, IsSeen, Inserts}
 use Rattle.warg_map.specs.Bits.{bit_at, bits_from, last_bits, key_bits}
 use Rattle.warg_map.specs.Sparse.{SparseMap, HasLevels, bits_cmp, leaf_digest, inserted, pair_bytes}
-use Rattle.warg_map.proofs.Len.{levels-insert, len-insert_fresh}
+use Rattle.warg_map.proofs.HeldKeys.{levels-insert, len-insert_fresh}
 use Rattle.warg_map.specs.Private.Under.{join, join_at, under, HoldsKey}
 use Rattle.warg_map.specs.Private.Grown.{with_leaves, ShareBits, is_bit, on_side}
-use Rattle.warg_map.proofs.Sparse.{length-last_bits, insert-join_true, insert-join_false, insert-again, last_bits-step, contains_key-insert_same, empty-is_join, empty-is_join_at, head_same, tail_same}
-use Rattle.warg_map.proofs.Under.{bits_from-append, last_bits-at, insert-under}
-use Rattle.warg_map.proofs.Form.{held_after, fork_formed, fork_has}
-use Rattle.warg_map.proofs.Counts.{len-join, len-under, len-lone}
+use Rattle.warg_map.proofs.SparseTree.{length-last_bits, insert-join_true, insert-join_false, insert-again, last_bits-step, contains_key-insert_same, empty-is_join, empty-is_join_at, head_same, tail_same}
+use Rattle.warg_map.proofs.BitsInFront.{bits_from-append, last_bits-at, insert-under}
+use Rattle.warg_map.proofs.TreeForm.{held_after, fork_formed, fork_has}
+use Rattle.warg_map.proofs.NodeCounts.{len-join, len-under, len-lone}
 
 -- fewer bits
 bits_from-fewer : (a b : List ℕ) (i m n : ℕ) → m ≤ n → bits_from a i n ≡ bits_from b i n → bits_from a i m ≡ bits_from b i m

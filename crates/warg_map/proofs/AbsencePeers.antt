@@ -15,11 +15,11 @@ use Rattle.warg_map.specs.Sparse.{SparseMap, bits_cmp, sparse_root}
 use Rattle.warg_map.specs.Private.Under.{join_at, under, HoldsKey}
 use Rattle.warg_map.specs.Private.Seen.{seen, tree_height, held_by, IsWellFormed}
 use Rattle.warg_map.specs.Peers.{shared, IsOther, IsAbsentPeers, IsAbsentCount, ProvesAbsent}
-use Rattle.warg_map.proofs.Sparse.{get-join_at, contains_key-join_at, contains_key-empty, contains_key-insert_same, length-bits_from}
-use Rattle.warg_map.proofs.Under.{join_at-other, get-under, under-append, holds-under, no_some, lone-under, bits_from-part, last_bits-at}
-use Rattle.warg_map.proofs.Form.{stem_holds}
-use Rattle.warg_map.proofs.Finds.{finds_lone, stem_held, stem_bits, lone_same}
-use Rattle.warg_map.proofs.Peers.{join_holds, holds_near, holds_far, shared_same, shared_other, get-far, nothing_more, length_peers}
+use Rattle.warg_map.proofs.SparseTree.{get-join_at, contains_key-join_at, contains_key-empty, contains_key-insert_same, length-bits_from}
+use Rattle.warg_map.proofs.BitsInFront.{join_at-other, get-under, under-append, holds-under, no_some, lone-under, bits_from-part, last_bits-at}
+use Rattle.warg_map.proofs.TreeForm.{stem_holds}
+use Rattle.warg_map.proofs.FoundInNode.{finds_lone, stem_held, stem_bits, lone_same}
+use Rattle.warg_map.proofs.PresencePeers.{join_holds, holds_near, holds_far, shared_same, shared_other, get-far, nothing_more, length_peers}
 
 -- nothing is held
 pub nothing_absent : (H : List ℕ → List ℕ) (p : List Bool) → ProvesAbsent H empty p []
@@ -176,16 +176,16 @@ absent_beside_stem H old s bits key d from j new is w e height lt same apart de 
     (e ∙ ap (last_bits key) all ∙ last_bits-at key from (s.value.len + s.value.below.0) whole) lt same apart (stem_holds s.value.len s.value.below.0 s.value.below.1 ws.formed.1)
     (de ∙ ap (λ h. sparse_root H h (under (bits_from s.value.key (s.value.from + (j + 1)) (s.value.len - (j + 1))) s.value.below.1)) r ∙ ap (λ i. sparse_root H (s.value.len + s.value.below.0 - (j + 1)) (under (bits_from s.value.key (i + (j + 1)) (s.value.len - (j + 1))) s.value.below.1)) fr))
 
-pub absent_below : {D A : _} (H : List ℕ → List ℕ) (old below : Node D A) (s : Rc (Stem' D A) A) (bits low : List Bool) (key : List ℕ) (from len index : ℕ) (ps new : List (Option (List ℕ))) → old ≡ Stem s → IsWellFormed old → bits ≡ last_bits key (256 - from) → tree_height old + from ≡ 256 → len ≡ s.value.len → bits_from s.value.key from len ≡ bits_from key from len → seen below ≡ s.value.below → low ≡ last_bits key (256 - index) → index ≡ from + len → ProvesAbsent H (held_by below) low ps → new ≡ ps ++ replicate len None → ProvesAbsent H (held_by old) bits new
-absent_below H old below s bits low key from len index ps new is w e height el same b lo ix pr n =
+pub absent_below : {D A : _} (H : List ℕ → List ℕ) (old below : Node D A) (s : Rc (Stem' D A) A) (bits rest : List Bool) (key : List ℕ) (from len index : ℕ) (ps new : List (Option (List ℕ))) → old ≡ Stem s → IsWellFormed old → bits ≡ last_bits key (256 - from) → tree_height old + from ≡ 256 → len ≡ s.value.len → bits_from s.value.key from len ≡ bits_from key from len → seen below ≡ s.value.below → rest ≡ last_bits key (256 - index) → index ≡ from + len → ProvesAbsent H (held_by below) rest ps → new ≡ ps ++ replicate len None → ProvesAbsent H (held_by old) bits new
+absent_below H old below s bits rest key from len index ps new is w e height el same b lo ix pr n =
     let ws : IsWellFormed (Stem s) = subst IsWellFormed is w in
     let a = bits_from key from len in
     let la : length a ≡ len = length-bits_from key from len in
     let m = s.value.below.1 in
-    let run : ProvesAbsent H (under a m) (a ++ low) (ps ++ replicate (length a) None) = stem_proves_absent H a low m ps (stem_holds s.value.len s.value.below.0 m ws.formed.1) (subst (λ (d : ℕ × SparseMap). ProvesAbsent H d.1 low ps) b pr) in
-    rw (stem_bits old s bits low key from len index is w e height el lo ix, n)
-    (subst (λ (d : ℕ × SparseMap). ProvesAbsent H d.1 (a ++ low) (ps ++ replicate len None)) (sym (stem_held old s key from len is w height el same))
-    (subst (λ (j : ℕ). ProvesAbsent H (under a m) (a ++ low) (ps ++ replicate j None)) la run))
+    let run : ProvesAbsent H (under a m) (a ++ rest) (ps ++ replicate (length a) None) = stem_proves_absent H a rest m ps (stem_holds s.value.len s.value.below.0 m ws.formed.1) (subst (λ (d : ℕ × SparseMap). ProvesAbsent H d.1 rest ps) b pr) in
+    rw (stem_bits old s bits rest key from len index is w e height el lo ix, n)
+    (subst (λ (d : ℕ × SparseMap). ProvesAbsent H d.1 (a ++ rest) (ps ++ replicate len None)) (sym (stem_held old s key from len is w height el same))
+    (subst (λ (j : ℕ). ProvesAbsent H (under a m) (a ++ rest) (ps ++ replicate j None)) la run))
 
 -- a lone key that isn't the path's parts from it
 pub lone_parts : {D A : _} (old : Node D A) (s : Rc Lone A) (hash : List ℕ) (from j : ℕ) → old ≡ Singleton s → tree_height old + from ≡ 256 → j ≤ s.value.height → bits_from s.value.key from j ≡ bits_from hash from j → contains_key (held_by old) (last_bits hash (256 - from)) ≡ false → j < s.value.height

@@ -3,9 +3,9 @@ use Rattle.std.proofs.Common.{◌≡◌, ℕ, ◌+◌, Bool, true, false, cond, 
 use Rattle.std.specs.FinMap.{insert, empty, len, contains_key, len-insert}
 use Rattle.std.specs.Ordering.{eq_by_cmp}
 use Rattle.warg_map.specs.Sparse.{SparseMap, HasLevels, bits_cmp}
-use Rattle.warg_map.proofs.Sparse.{bits_total, contains_key-empty, tied_itself_bits}
-use Rattle.warg_map.proofs.Finds.{tied}
-use Rattle.warg_map.proofs.Honest.{get-insert_other}
+use Rattle.warg_map.proofs.SparseTree.{bits_total, contains_key-empty, tied_itself_bits}
+use Rattle.warg_map.proofs.FoundInNode.{tied}
+use Rattle.warg_map.proofs.HonestProofs.{get-insert_other}
 
 turn : (b : Bool) (m n : ℕ) → cond (not b) m n ≡ cond b n m
 turn true m n = refl

@@ -12,8 +12,8 @@ use Rattle.warg_map.specs.Bits.{bit_at, bits_from, last_bits}
 use Rattle.warg_map.specs.Sparse.{SparseMap, bits_cmp}
 use Rattle.warg_map.specs.Private.Under.{join, join_at, under, HoldsKey, Splits, IsLone}
 use Rattle.warg_map.specs.Private.Seen.{seen, tree_height, held_by, IsWellFormed, IsForkOf, IsSeen, Carries}
-use Rattle.warg_map.proofs.Sparse.{bits_total, get-join_true, get-join_false, contains_key-join_at, contains_key-insert_same, last_bits-step, length-bits_from}
-use Rattle.warg_map.proofs.Under.{under-append, under-none, bits_from-none, bits_from-append, last_bits-at, under_same, holds-under}
+use Rattle.warg_map.proofs.SparseTree.{bits_total, get-join_true, get-join_false, contains_key-join_at, contains_key-insert_same, last_bits-step, length-bits_from}
+use Rattle.warg_map.proofs.BitsInFront.{under-append, under-none, bits_from-none, bits_from-append, last_bits-at, under_same, holds-under}
 
 -- a node by what was read out of its variant
 pub is_fork : {D A : _} {n : Node D A} {rc : Rc (Fork' D A) A} {f : Fork' D A} → n ≡ Fork rc → f ≡ rc.value → n ≡ Fork (record rc { value = f })
@@ -92,16 +92,16 @@ formed_below (Singleton s) from len w c n z h = inr (omega (arith, c, h, z), c, 
 formed_below (Stem s) from len w c n z h = absurd (n s refl)
 formed_below (Empty k) from len w c n z h = absurd c
 
-pub raised_none : {D A : _} (n : Node D A) (key : List ℕ) (from len : ℕ) → len ≡ 0 → IsWellFormed n → IsSeen n (tree_height n + len) (under (bits_from key from len) (held_by n))
-raised_none n key from len h w =
+pub with_no_stem : {D A : _} (n : Node D A) (key : List ℕ) (from len : ℕ) → len ≡ 0 → IsWellFormed n → IsSeen n (tree_height n + len) (under (bits_from key from len) (held_by n))
+with_no_stem n key from len h w =
     let e : tree_height n ≡ tree_height n + len = omega (arith, h) in
     record {
       seen_as = ap (λ j. (j, held_by n)) e ∙ ap (λ m. (tree_height n + len, m)) (sym (under-none (held_by n)) ∙ ap (λ t. under t (held_by n)) (sym (bits_from-none key from)) ∙ ap (λ j. under (bits_from key from j) (held_by n)) (sym h));
       well_formed = w;
     }
 
-pub raised_other : {D A : _} (node : Node D A) (s : Rc (Stem' D A) A) (key : List ℕ) (from len : ℕ) → IsWellFormed node → Carries node → ((x : Rc (Stem' D A) A) → node ≡ Stem x → ⊥) → ¬ (len ≡ 0) → from + len + tree_height node ≡ 256 → s.value.key ≡ key → s.value.from ≡ from → s.value.len ≡ len → s.value.below ≡ seen node → IsSeen (Stem s) (tree_height node + len) (under (bits_from key from len) (held_by node))
-raised_other node s key from len w c n z h ek ef el eb =
+pub with_new_stem : {D A : _} (node : Node D A) (s : Rc (Stem' D A) A) (key : List ℕ) (from len : ℕ) → IsWellFormed node → Carries node → ((x : Rc (Stem' D A) A) → node ≡ Stem x → ⊥) → ¬ (len ≡ 0) → from + len + tree_height node ≡ 256 → s.value.key ≡ key → s.value.from ≡ from → s.value.len ≡ len → s.value.below ≡ seen node → IsSeen (Stem s) (tree_height node + len) (under (bits_from key from len) (held_by node))
+with_new_stem node s key from len w c n z h ek ef el eb =
     record {
       seen_as = ap (λ d. (d.0 + s.value.len, under (bits_from s.value.key s.value.from s.value.len) d.1)) eb ∙ ap (λ j. (tree_height node + j, under (bits_from s.value.key s.value.from j) (held_by node))) el ∙ ap (λ j. (tree_height node + len, under (bits_from s.value.key j len) (held_by node))) ef ∙ ap (λ j. (tree_height node + len, under (bits_from j from len) (held_by node))) ek;
       well_formed = record {
@@ -133,8 +133,8 @@ stem_more lower s key from len w z h has ek ef el eb =
       };
     }
 
-pub raised_stem : {D A : _} (node : Node D A) (lower s : Rc (Stem' D A) A) (key : List ℕ) (from len : ℕ) → node ≡ Stem lower → IsWellFormed node → ¬ (len ≡ 0) → from + len + tree_height node ≡ 256 → contains_key (held_by node) (last_bits key (tree_height node)) ≡ true → s.value.key ≡ key → s.value.from ≡ from → s.value.len ≡ len + lower.value.len → s.value.below ≡ lower.value.below → IsSeen (Stem s) (tree_height node + len) (under (bits_from key from len) (held_by node))
-raised_stem node lower s key from len is w z h has ek ef el eb =
+pub with_longer_stem : {D A : _} (node : Node D A) (lower s : Rc (Stem' D A) A) (key : List ℕ) (from len : ℕ) → node ≡ Stem lower → IsWellFormed node → ¬ (len ≡ 0) → from + len + tree_height node ≡ 256 → contains_key (held_by node) (last_bits key (tree_height node)) ≡ true → s.value.key ≡ key → s.value.from ≡ from → s.value.len ≡ len + lower.value.len → s.value.below ≡ lower.value.below → IsSeen (Stem s) (tree_height node + len) (under (bits_from key from len) (held_by node))
+with_longer_stem node lower s key from len is w z h has ek ef el eb =
     rw is (stem_more lower s key from len (subst IsWellFormed is w) z (rw is at h) (rw is at has) ek ef el eb)
 
 -- what stands below a stem after an insertion
