@@ -1,11 +1,9 @@
 -- Balanced roots.
-use Rattle.std.proofs.Common.{◌≡◌, ℕ, zero, suc, ◌+◌, ◌-◌, ◌*◌, ◌^◌, ◌<◌, ◌≤◌, List, [], ◌∷◌, ◌++◌, map, add-one, refl, sym, ◌∙◌, arith, append_assoc, ⊎_elim}
+use Rattle.std.proofs.Common.{◌≡◌, ℕ, zero, suc, ◌+◌, ◌-◌, ◌*◌, ◌^◌, ◌<◌, ◌≤◌, List, [], ◌∷◌, ◌++◌, map, add-one, refl, ◌∙◌, arith, ⊎_elim}
 use Rattle.std.proofs.Math.Nat.{pow-suc}
-use Rattle.std.proofs.lemmas.List.{map_push, append-nil}
 use Rattle.std.proofs.lemmas.Bool.{le-leb, lt-leb, cases_lt}
 use Rattle.std.proofs.lemmas.Nat.{pow_pos}
 use Rattle.std.specs.List.{AllByRecursion}
-use Rattle.warg_log.specs.declared.node.Node.{Node}
 use Rattle.warg_log.specs.Nodes.{height_of, start_of, end_of, node_over, balanced_within, balanced_over, balanced_roots, Follow, Fall}
 use Rattle.warg_log.proofs.AllLemmas.{all_append}
 use Rattle.warg_log.proofs.NodeLemmas.{over_at, over_ends, pow_below_pow}
@@ -61,16 +59,6 @@ IsFirst a e n = (h : ℕ) × (n ≡ 2 ^ h) × (2 ^ h ≤ e - a) × (e - a < 2 ^ 
 -- as a program cuts it off
 pub first_cut : (a e n : ℕ) → IsFirst a e n → balanced_over a (e - a) ≡ node_over a n ∷ balanced_over (a + n) (e - (a + n))
 first_cut a e n first = grind (arith, add-one, first, balanced_first first.0 a (e - a))
-
--- one more root is pushed
-pub root_pushed : (xs ys : List Node) (r : Node) (start count length h : ℕ) → ys ≡ xs ++ r ∷ [] → r.0 ≡ node_over start count
-    → count ≡ 2 ^ h → 2 ^ h ≤ length - start → length - start < 2 ^ (h + 1)
-    → map (λ (m : Node). m.0) xs ++ balanced_over start (length - start) ≡ balanced_roots length
-    → map (λ (m : Node). m.0) ys ++ balanced_over (start + count) (length - (start + count)) ≡ balanced_roots length
-root_pushed xs ys r start count length h pushed number width low high so_far = rw (pushed, map_push, append_assoc, number, ← first_cut start length count (h, width, low, high)) so_far
-
-pub no_more : (xs : List ℕ) (n a length : ℕ) → length ≤ a → xs ++ balanced_within (length - a) a (length - a) ≡ balanced_roots length → xs ≡ balanced_roots length
-no_more xs n a length le e = sym (append-nil xs) ∙ rw (none_left a length le) at e
 
 -- P holds of each range and its balanced roots where it holds of no leaves and, if it does of fewer than 2 ^ h leaves, of 2 ^ h more in front of them
 pub record Rule (P : ℕ → ℕ → List ℕ → Type 0) : Type 0 where

@@ -1,12 +1,15 @@
--- What `==` says of walks and bundles: their contract values are equal.
-use Rattle.std.proofs.Common.{◌≡◌, ℕ, Bool, List, refl, arith}
+-- What `==` says of hashes, walks and bundles: their contract values are equal.
+use Rattle.std.proofs.Common.{◌≡◌, ◌↔◌, ℕ, Bool, true, ◌&&◌, nat_eq, List, refl, arith, IsTrue}
 use Rattle.std.specs.Bool.{Decides}
-use Rattle.std.specs.Cmp.Lexicographic.{pointwise}
+use Rattle.std.specs.Cmp.Lexicographic.{pointwise, bytes_decides}
 use Rattle.std.proofs.lemmas.Bool.Decides.{Decides-eqb, Decides-and}
 use Rattle.std.proofs.lemmas.Slice.Eq.{slice_eq-Decides}
 use Rattle.warg_log.specs.declared.node.Node.{Node}
 use Rattle.warg_log.specs.Claims.{Walk, same_node, same_walk}
 use Rattle.warg_log.specs.Bundles.{Bundle, same_pair, same_bundle}
+
+pub eq_exactly : (xs ys : List ℕ) → IsTrue (pointwise nat_eq xs ys && true) ↔ (xs ≡ ys)
+eq_exactly xs ys = ((λ is. grind (arith, bytes_decides)), (λ same. grind (arith, bytes_decides)))
 
 lists_decide : {A : Type 0} {E : A → A → Bool} → ((a b : A) → Decides (E a b) (a ≡ b)) → (xs ys : List A) → Decides (pointwise E xs ys) (xs ≡ ys)
 lists_decide d xs ys = slice_eq-Decides d xs ys _ refl

@@ -2,7 +2,7 @@
 use Rattle.std.proofs.Common.{◌≡◌, ℕ, suc, ◌+◌, ◌-◌, ◌*◌, ◌/◌, ◌^◌, ◌<◌, ◌≤◌, List, [], ◌∷◌, ◌++◌, length, map, refl, sym, ap, ◌∙◌, arith, append_assoc, add-one}
 use Rattle.std.specs.Prelude.{reverse, nat_eq}
 use Rattle.std.specs.List.{IsDistinct}
-use Rattle.std.proofs.Math.Nat.{pow-suc, add-sub_of_le, sub-add-eq, sub-eq-zero_of_le, sub-zero}
+use Rattle.std.proofs.Math.Nat.{pow-suc, add-sub_of_le, sub-add-eq, sub-zero}
 use Rattle.std.proofs.lemmas.List.{map_push, append-nil, length-append, length-map, length-reverse}
 use Rattle.std.proofs.lemmas.Nat.{pow_pos, pow-add, shr-shr}
 use Rattle.warg_log.specs.declared.node.Node.{Node}
@@ -11,7 +11,7 @@ use Rattle.warg_log.specs.Cut.{IsBeside}
 use Rattle.warg_log.specs.Walks.{needed, needed_over, siblings_up, IsWalk, IsWalkOver}
 use Rattle.warg_log.proofs.NodeLemmas.{node_at, only_number, pow_below_pow, parts}
 use Rattle.warg_log.proofs.RootLemmas.{same_power}
-use Rattle.warg_log.proofs.BalancedLemmas.{balanced_none, IsFirst, first_cut}
+use Rattle.warg_log.proofs.BalancedLemmas.{IsFirst, first_cut}
 use Rattle.warg_log.proofs.OrderLemmas.{reverse-cons, siblings_count, walk_beside, walk_around, lies_in_first, needed_distinct, needed_count}
 
 -- the numbers of nodes
@@ -33,17 +33,9 @@ step_pushed x p xs ys y old k j le place sib par pushed so_far =
     let number : y.0 ≡ number_of (k + (height_of x - k)) (sibling_place (j / 2 ^ (height_of x - k))) = only_number y.0 _ _ sib ∙ rw (add-sub_of_le le, place) refl in
     rw (pushed, map_push, so_far, number, up) (append_assoc old (siblings_up (height_of x - k) k j) _)
 
--- the balanced roots, from right to left
-pub roots_none : (xs : List ℕ) (a e : ℕ) → e ≤ a → xs ≡ xs ++ reverse (balanced_over a (e - a))
-roots_none xs a e le = rw (sub-eq-zero_of_le le, balanced_none, append-nil) refl
-
 -- the leaves from a up to e are fewer than a power of two, and begin at a multiple of it
 abbrev pub IsAligned : ℕ → ℕ → Type 0
 IsAligned a e = (h c : ℕ) × (a ≡ c * 2 ^ h) × (e - a < 2 ^ h)
-
-pub roots_more : (xs : List ℕ) (ys zs : List Node) (r : Node) (a e m n : ℕ) → IsFirst a e n → m ≡ a + n → r.0 ≡ node_over a n
-    → numbers ys ≡ xs ++ reverse (balanced_over m (e - m)) → zs ≡ ys ++ r ∷ [] → numbers zs ≡ xs ++ reverse (balanced_over a (e - a))
-roots_more xs ys zs r a e m n first end number so_far pushed = rw (pushed, map_push, so_far, number, end, first_cut a e n first, reverse-cons, append_assoc) refl
 
 -- where the first balanced root begins, and the next one
 pub root_start : (a e n : ℕ) → IsAligned a e → (first : IsFirst a e n) → (c : ℕ) × (a ≡ c * 2 ^ first.0)

@@ -2,14 +2,17 @@
 
 ghost use Rattle.std.specs.Prelude.{◌≡◌, ⊤, ℕ, ◌+◌, ◌*◌, ◌^◌, ◌<◌, ◌≤◌, ◌↔◌, ◌⊎◌, List, IfOk, All, map};
 ghost use Rattle.std.specs.List.{AllByRecursion};
-ghost use Rattle.warg_log.specs.Nodes.{balanced_roots, node_over};
+ghost use Rattle.warg_log.specs.Nodes.{balanced_roots, end_of};
 ghost use Rattle.warg_log.specs.Tree.{branch};
 ghost use Rattle.warg_log.specs.Consistency.{root_to, new_root_of, consistency};
 
-use crate::interval::Interval;
-use crate::join::{Branches, Join, same};
+use crate::balanced_roots::BalancedRoots;
+use crate::branches::{BranchCache, Join};
+use crate::leaf_range::LeafRange;
 use crate::log::LogData;
-use crate::proof::{InclusionProof, InclusionProofError, range_root_by, stored_root};
+use crate::node::Node;
+use crate::proof::{InclusionProof, InclusionProofError};
+use crate::root::{range_root_by, stored_root};
 use std::alloc::{AllocError, Allocator};
 use std::marker::{Model, PhantomData};
 use thiserror::Error;
@@ -162,7 +165,7 @@ impl<D: SupportedDigest, V: VisitBytes> ConsistencyProof<D, V> {
             return Err(ConsistencyProofError::PointsOutOfOrder);
         }
         let new_root = self.new_root(hashes)?;
-        let old = Interval::new(0, self.old_length);
+        let old = LeafRange::new(0, self.old_length);
         match stored_root(hashes, &old) {
             Some(old_root) => Ok((old_root, new_root)),
             None => Err(ConsistencyProofError::HashNotKnown),
@@ -175,18 +178,18 @@ impl<D: SupportedDigest, V: VisitBytes> ConsistencyProof<D, V> {
         requires order { self.now.old_length ≤ self.now.new_length }
         ensures { result ≡ new_root_of D.digest (L.digest_at hashes.now) self.now.new_length (balanced_roots self.now.old_length) }
     {
-        let mut branches = Branches::new();
-        let whole = Interval::new(0, self.new_length);
-        let first = Interval::first_root(0, self.old_length);
-        let agreed = root_from(&mut branches, hashes, &first, &whole)?;
-        let mut start = first.end();
-        'roots: while start < self.old_length {
-            let root = Interval::first_root(start, self.old_length);
-            let other = root_from(&mut branches, hashes, &root, &whole)?;
-            if !same(&other, &agreed) {
+        let mut branches = BranchCache::new();
+        let whole = LeafRange::new(0, self.new_length);
+        let mut roots = BalancedRoots::of(self.old_length);
+        let Some(first) = roots.next() else {
+            unreachable!()
+        };
+        let agreed = root_from(&mut branches, hashes, first, &whole)?;
+        'roots: for root in roots {
+            let other = root_from(&mut branches, hashes, root, &whole)?;
+            if other != agreed {
                 return Err(ConsistencyProofError::DivergingRoots);
             }
-            start = root.end();
         }
         Ok(agreed)
     }
@@ -204,30 +207,27 @@ fn inclusions_of<D, V, A: Allocator>(
     ensures lengths { IfOk result (λ proofs. AllByRecursion (λ p. p.log_length ≡ new_length) proofs.items) }
 {
     let mut proofs = Vec::new(alloc);
-    let mut start = 0;
-    'roots: while start < old_length {
-        let root = Interval::first_root(start, old_length);
-        proofs.push(InclusionProof::new(root.node(), new_length))?;
-        start = root.end();
+    'roots: for root in BalancedRoots::of(old_length) {
+        proofs.push(InclusionProof::new(root, new_length))?;
     }
     Ok(proofs)
 }
 
 // The root to which a balanced root of the old length leads.
 fn root_from<D: SupportedDigest, V: VisitBytes, L: LogData<D, V>>(
-    branches: &mut Branches<D>,
+    branches: &mut BranchCache<D>,
     hashes: &L,
-    root: &Interval,
-    whole: &Interval,
+    root: Node,
+    whole: &LeafRange,
 ) -> Result<Hash<D>, ConsistencyProofError>
     requires true_branches { AllByRecursion (λ b. b.digest ≡ branch D.digest b.left b.right) branches.old.joined.items }
-    requires is_root { (h c : ℕ) × (root.now.start ≡ c * 2 ^ h) × (root.now.count ≡ 2 ^ h) }
+    requires ends { end_of root.0 ≤ 2 ^ 63 }
     requires whole { whole.now.start ≡ 0 }
-    ensures value { result ≡ root_to D.digest (L.digest_at hashes.now) whole.now.count (node_over root.now.start root.now.count) }
+    ensures value { result ≡ root_to D.digest (L.digest_at hashes.now) whole.now.count root.0 }
     ensures kept { AllByRecursion (λ b. b.digest ≡ branch D.digest b.left b.right) branches.new.joined.items }
 {
-    match hashes.hash_for(root.node()) {
-        Some(hash) => match range_root_by(branches, hashes, root, &hash, whole) {
+    match hashes.hash_for(root) {
+        Some(hash) => match range_root_by(branches, hashes, &root.leaf_range(), &hash, whole) {
             Some(found) => Ok(found),
             None => Err(ConsistencyProofError::InclusionError(InclusionProofError::HashNotKnown)),
         },

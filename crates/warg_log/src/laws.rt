@@ -55,8 +55,8 @@ pub fn number_is_node()
     ensures only { (x k j : ℕ) → IsNode x k j → (height_of x ≡ k) × (place_of x ≡ j) }
 {}
 
-/// Each interval of `2^k` leaves that begins at a multiple of `2^k` has one number.
-pub fn interval_has_number()
+/// Each range of `2^k` leaves that begins at a multiple of `2^k` has one number.
+pub fn range_has_number()
     ensures has { (k j : ℕ) → IsNode (node_over (j * 2 ^ k) (2 ^ k)) k j }
     ensures only { (x k j : ℕ) → IsNode x k j → x ≡ node_over (j * 2 ^ k) (2 ^ k) }
 {}

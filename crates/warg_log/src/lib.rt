@@ -5,29 +5,33 @@
 //! `specs/`: read Nodes, Tree and Cut, in this order.
 #![tactic(auto)]
 
+mod balanced_roots;
+mod branches;
 mod consistency;
 mod error;
-mod interval;
-mod join;
 pub mod laws;
+mod leaf_range;
 mod log;
+mod message;
 mod needed;
 mod node;
 mod proof;
 mod proof_bundle;
+mod root;
 mod sparse_data;
 mod stack_log;
 mod vec_log;
 
 pub use consistency::{ConsistencyProof, ConsistencyProofError};
 pub use error::{BundleError, DecodeError, EncodeError};
-pub use interval::Interval;
+pub use leaf_range::LeafRange;
 pub use log::{
     Checkpoint, GREATEST_LENGTH, LogBuilder, LogData, hash_branch, hash_empty, hash_leaf, push_all,
 };
 pub use node::{Node, Side};
-pub use proof::{InclusionProof, InclusionProofError, InclusionProofWalk, range_root, stored_root};
+pub use proof::{InclusionProof, InclusionProofError, InclusionProofWalk};
 pub use proof_bundle::{ProofBundle, ProofBundle as LogProofBundle};
+pub use root::{range_root, stored_root};
 pub use sparse_data::{NotAscending, SparseLogData};
 pub use stack_log::StackLog;
 pub use vec_log::VecLog;

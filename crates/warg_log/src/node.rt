@@ -1,10 +1,9 @@
 //! The nodes of a log's tree, by their numbers.
 
-ghost use Rattle.std.specs.Prelude.{◌≡◌, ℕ, ◌+◌, ◌-◌, ◌*◌, ◌/◌, ◌%◌, ◌^◌, ◌<◌, ◌≤◌, ◌↔◌, IsTrue, IsNone, IfSome, IfOk, map};
-ghost use Rattle.warg_log.specs.Nodes.{IsNode, ExistsAt, height_of, place_of, sibling_place, start_of, end_of, balanced_roots};
+ghost use Rattle.std.specs.Prelude.{◌≡◌, ℕ, ◌+◌, ◌-◌, ◌*◌, ◌/◌, ◌%◌, ◌^◌, ◌<◌, ◌≤◌, ◌↔◌, IsTrue, IsNone, IfSome};
+ghost use Rattle.warg_log.specs.Nodes.{IsNode, ExistsAt, height_of, place_of, sibling_place, start_of, end_of, node_over};
 
-use crate::interval::Interval;
-use std::alloc::{AllocError, Allocator};
+use crate::leaf_range::{LeafRange, power_of_two};
 
 /// A node of a log's tree by its number: a leaf, or a branch over a power of two of leaves.
 ///
@@ -31,14 +30,6 @@ pub enum Side {
     Right,
 }
 
-// The power of two with this exponent.
-pub(crate) fn power_of_two(exponent: u32) -> usize
-    requires { exponent < 64 }
-    ensures { result ≡ 2 ^ exponent }
-{
-    1 << exponent
-}
-
 impl Node {
     /// The node of the leaf at an index, from 0.
     pub fn leaf(index: usize) -> Node
@@ -46,6 +37,23 @@ impl Node {
         ensures { IsNode result.0 0 index }
     {
         Node(2 * index)
+    }
+
+    /// The node over a range, if the range is one: its count is a power of two and its start a multiple
+    /// of that.
+    pub fn over(range: &LeafRange) -> Node
+        ensures { result.0 ≡ node_over range.now.start range.now.count }
+    {
+        Node(2 * range.start + (range.count - 1))
+    }
+
+    // The branch whose number lies between those of a leaf, not the first one, and the leaf before it.
+    pub(crate) fn branch_before(leaf: usize) -> Node
+        requires some { 0 < leaf }
+        requires fits { leaf ≤ 2 ^ 63 }
+        ensures { result.0 ≡ 2 * leaf - 1 }
+    {
+        Node(2 * (leaf - 1) + 1)
     }
 
     /// The index of the leaf whose node this is, from 0. None exactly where the node is a branch.
@@ -192,29 +200,13 @@ impl Node {
         Node(power_of_two(height) - 1)
     }
 
-    /// The balanced roots of a length: the nodes that its binary digits cut from the left, greatest
-    /// first. Memory is the only error.
-    pub fn broots_for_len<A: Allocator>(alloc: A, length: usize) -> Result<Vec<Node, A>, AllocError>
-        requires { length ≤ 2 ^ 63 }
-        ensures { IfOk result (λ roots. map (λ x. x.0) roots.items ≡ balanced_roots length) }
-    {
-        let mut roots = Vec::new(alloc);
-        let mut start = 0;
-        'roots: while start < length {
-            let root = Interval::first_root(start, length);
-            roots.push(root.node())?;
-            start = root.end();
-        }
-        Ok(roots)
-    }
-
     /// The leaves below the node.
-    pub fn interval(&self) -> Interval
+    pub fn leaf_range(&self) -> LeafRange
         requires { end_of self.now.0 ≤ 2 ^ 63 }
         ensures start { result.start ≡ start_of self.now.0 }
         ensures count { result.count ≡ 2 ^ height_of self.now.0 }
     {
         let count = self.distance();
-        Interval::new((self.0 - (count - 1)) / 2, count)
+        LeafRange::new((self.0 - (count - 1)) / 2, count)
     }
 }

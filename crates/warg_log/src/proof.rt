@@ -1,16 +1,17 @@
-//! Inclusion proofs, and the roots that digests lead to.
+//! Inclusion proofs.
 
 ghost use Rattle.std.specs.Prelude.{◌≡◌, ◌≢◌, ⊤, ℕ, ◌+◌, ◌-◌, ◌*◌, ◌^◌, ◌<◌, ◌≤◌, ◌∷◌, [], ◌++◌, ◌↔◌, None, Some, IfOk, OnOk, map, length, reverse, nat_eq};
 ghost use Rattle.std.specs.List.{IsDistinct};
-ghost use Rattle.warg_log.specs.Nodes.{ExistsAt, height_of, place_of, start_of, end_of, balanced_over};
-ghost use Rattle.warg_log.specs.Cut.{cut_root, cut_over, old_over};
+ghost use Rattle.warg_log.specs.Nodes.{ExistsAt, height_of, place_of, start_of, end_of};
+ghost use Rattle.warg_log.specs.Cut.{cut_root};
 ghost use Rattle.warg_log.specs.Walks.{needed, needed_over, siblings_up, IsWalk, IsWalkOver};
 ghost use Rattle.warg_log.specs.Claims.{same_walk};
 
-use crate::interval::Interval;
-use crate::join::{Hashing, Join};
-use crate::log::{LogData, hash_branch, hash_leaf};
+use crate::balanced_roots::BalancedRoots;
+use crate::leaf_range::LeafRange;
+use crate::log::{LogData, hash_leaf};
 use crate::node::Node;
+use crate::root::range_root;
 use std::alloc::{AllocError, Allocator, Global};
 use std::marker::{Model, PhantomData};
 use thiserror::Error;
@@ -163,8 +164,8 @@ impl<D: SupportedDigest, V: VisitBytes> InclusionProof<D, V> {
         if !self.leaf.exists_at_length(self.log_length) {
             return Err(InclusionProofError::LeafTooNew);
         }
-        let whole = Interval::new(0, self.log_length);
-        match range_root(hashes, &self.leaf.interval(), &hash, &whole) {
+        let whole = LeafRange::new(0, self.log_length);
+        match range_root(hashes, &self.leaf.leaf_range(), &hash, &whole) {
             Some(root) => Ok(root),
             None => Err(InclusionProofError::HashNotKnown),
         }
@@ -279,15 +280,15 @@ fn add_walk<A: Allocator>(
     ensures needed { OnOk result (map (λ x. x.0) nodes.new.items ≡ needed_over (start_of leaf.0) (2 ^ height_of leaf.0) start (end - start)) }
     ensures order { IfOk result (λ parts. (upper : ℕ) × IsWalkOver leaf.0 start (end - start) (map (λ x. x.0) nodes.new.items) parts.initial parts.lower upper) }
 {
-    let root = Interval::first_root(start, end);
-    if root.is_beside(&leaf.interval()) {
+    let root = LeafRange::first_root(start, end);
+    if root.is_beside(&leaf.leaf_range()) {
         let parts = add_walk(nodes, leaf, root.end(), end)?;
-        nodes.push(root.node())?;
+        nodes.push(Node::over(&root))?;
         return Ok(parts);
     }
     add_siblings(nodes, leaf, root.count.ilog2())?;
     let initial = nodes.len();
-    add_roots(nodes, root.end(), end)?;
+    add_roots(nodes, BalancedRoots::between(root.end(), end))?;
     let lower = nodes.len() - initial;
     Ok(WalkParts { initial, lower })
 }
@@ -310,77 +311,16 @@ fn add_siblings<A: Allocator>(
     Ok(())
 }
 
-// Adds the balanced roots of the leaves from `start` up to `end`, from right to left.
+// Adds the roots that remain, from right to left.
 fn add_roots<A: Allocator>(
     nodes: &mut Vec<Node, A>,
-    start: usize,
-    end: usize,
+    mut roots: BalancedRoots,
 ) -> Result<(), AllocError>
-    requires { end ≤ 2 ^ 63 }
-    ensures { OnOk result (map (λ x. x.0) nodes.new.items ≡ map (λ x. x.0) nodes.old.items ++ reverse (balanced_over start (end - start))) }
+    ensures { OnOk result (map (λ x. x.0) nodes.new.items ≡ map (λ x. x.0) nodes.old.items ++ reverse roots) }
 {
-    if start >= end {
-        return Ok(());
+    if let Some(root) = roots.next() {
+        add_roots(nodes, roots)?;
+        nodes.push(root)?;
     }
-    let root = Interval::first_root(start, end);
-    add_roots(nodes, root.end(), end)?;
-    nodes.push(root.node())?;
     Ok(())
-}
-
-/// The cut root of one range: the root of the range's leaves by the data's digests, with `hash` in the
-/// place of the target. None exactly where the data lacks a digest that it reads. It takes no memory.
-///
-/// It goes down the recursion of RFC 6962, section 2.1: it reads the digest of a range that misses the
-/// target and has a power of two of leaves, and hashes the branch of the two parts of any other range.
-pub fn range_root<D: SupportedDigest, V: VisitBytes, L: LogData<D, V>>(
-    hashes: &L,
-    target: &Interval,
-    hash: &Hash<D>,
-    range: &Interval,
-) -> Option<Hash<D>>
-    ensures { result ≡ cut_over D.digest (L.digest_at hashes.now) hash.now target.now.start target.now.count range.now.start range.now.count }
-{
-    range_root_by(&mut Hashing, hashes, target, hash, range)
-}
-
-// The same, where `joins` gives the digests of branches.
-pub(crate) fn range_root_by<D: SupportedDigest, V: VisitBytes, L: LogData<D, V>, J: Join<D>>(
-    joins: &mut J,
-    hashes: &L,
-    target: &Interval,
-    hash: &Hash<D>,
-    range: &Interval,
-) -> Option<Hash<D>>
-    requires { J.is_true joins.old }
-    ensures value { result ≡ cut_over D.digest (L.digest_at hashes.now) hash.now target.now.start target.now.count range.now.start range.now.count }
-    ensures kept { J.is_true joins.new }
-{
-    if range.equals(target) {
-        return Some(hash.copied());
-    }
-    if range.is_read(target) {
-        return hashes.hash_for(range.node());
-    }
-    let (front, rest) = range.split();
-    let left = range_root_by(joins, hashes, target, hash, &front)?;
-    let right = range_root_by(joins, hashes, target, hash, &rest)?;
-    Some(joins.join(range, &left, &right))
-}
-
-/// The old root of one range: the root of the range's leaves by the digests that the data holds for the
-/// range's balanced roots. None exactly where the data lacks one of them. It takes no memory.
-pub fn stored_root<D: SupportedDigest, V: VisitBytes, L: LogData<D, V>>(
-    hashes: &L,
-    range: &Interval,
-) -> Option<Hash<D>>
-    ensures { result ≡ old_over D.digest (L.digest_at hashes.now) range.now.start range.now.count }
-{
-    if range.is_full() {
-        return hashes.hash_for(range.node());
-    }
-    let (front, rest) = range.split();
-    let left = stored_root(hashes, &front)?;
-    let right = stored_root(hashes, &rest)?;
-    Some(hash_branch(&left, &right))
 }

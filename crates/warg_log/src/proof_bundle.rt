@@ -13,6 +13,7 @@ ghost use Rattle.warg_log.specs.Bundles.{bundle_message, log_bundle_in, bundle_o
 use crate::consistency::ConsistencyProof;
 use crate::error::{BundleError, DecodeError, EncodeError};
 use crate::log::LogData;
+use crate::message::{entry, read_hash};
 use crate::needed::{digests_of, needed_nodes, one_length};
 use crate::node::Node;
 use crate::proof::InclusionProof;
@@ -168,10 +169,7 @@ impl<D: SupportedDigest, V: VisitBytes, A: Allocator + Copy> ProofBundle<D, V, A
     {
         let log_length = one_length(&consistency_proofs, &inclusion_proofs)?;
         let nodes = needed_nodes(alloc, &consistency_proofs, &inclusion_proofs)?;
-        let pairs = match digests_of(alloc, nodes.as_slice(), hashes) {
-            Ok(pairs) => pairs,
-            Err(fault) => return Err(fault),
-        };
+        let pairs = digests_of(alloc, nodes.as_slice(), hashes)?;
         let consistent_lengths = old_lengths(alloc, &consistency_proofs)?;
         let included_nodes = leaves(alloc, &inclusion_proofs)?;
         Ok(ProofBundle {
@@ -232,10 +230,7 @@ impl<D: SupportedDigest, V: VisitBytes, A: Allocator + Copy> ProofBundle<D, V, A
         ensures exact { Answers DecodeError.Memory result (bundle_of bytes.now) }
         ensures wire { result ≢ Err (DecodeError.Wire wire.Memory) }
     {
-        let message = match Message::decode(alloc, bytes) {
-            Ok(message) => message,
-            Err(fault) => return Err(DecodeError::from(fault)),
-        };
+        let message = Message::decode(alloc, bytes)?;
         ProofBundle::from_message(alloc, message)
     }
 
@@ -372,18 +367,6 @@ fn read_hashes<D, A: Allocator>(
     Ok(hashes)
 }
 
-// The hash of these bytes.
-pub(crate) fn read_hash<D>(bytes: &[u8]) -> Result<Hash<D>, DecodeError>
-    ensures ok { IfOk result (λ hash. hash ≡ bytes.now) }
-    ensures length { IfOk result (λ hash. length bytes.now ≡ 32) }
-    ensures fault { IfErr result (λ e. (e ≡ DecodeError.HashLength) × (length bytes.now ≢ 32)) }
-{
-    match <[u8; 32]>::try_from(bytes) {
-        Ok(array) => Ok(Hash::from_array(array)),
-        Err(_) => Err(DecodeError::HashLength),
-    }
-}
-
 // Whether all nodes' numbers fit in 32 bits.
 fn nodes_fit(nodes: &[Node]) -> bool
     ensures { IsTrue result ↔ AllByRecursion (λ node. node.0 < 2 ^ 32) nodes.now }
@@ -434,21 +417,4 @@ fn entries<D, A: Allocator + Copy>(
         entries.push(entry(alloc, pair.0.0 as u32, &pair.1)?)?;
     }
     Ok(entries)
-}
-
-// The entry of a digest.
-pub(crate) fn entry<D, A: Allocator>(
-    alloc: A,
-    index: u32,
-    hash: &Hash<D>,
-) -> Result<HashEntry<A>, AllocError>
-    ensures index { IfOk result (λ entry. entry.index ≡ index) }
-    ensures hash { IfOk result (λ entry. entry.hash.items ≡ hash.now) }
-    ensures length { length hash.now ≡ 32 }
-{
-    prove_eq!(hash.len(), 32);
-    Ok(HashEntry {
-        index,
-        hash: Vec::from_slice(alloc, hash.bytes())?,
-    })
 }

@@ -105,7 +105,7 @@ impl<D: SupportedDigest, V: VisitBytes, A: Allocator> LogBuilder<D, V> for Stack
     {
         let digest = hash_leaf::<D, V>(entry);
         self.blocks.reserve(1)?;
-        let leaf = Node(2 * self.count);
+        let leaf = Node::leaf(self.count);
         join_blocks(&mut self.blocks, self.count, digest);
         self.count += 1;
         Ok(leaf)

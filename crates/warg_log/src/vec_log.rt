@@ -8,10 +8,10 @@ ghost use Rattle.warg_log.specs.Private.Slices.{IsSliceUpTo};
 
 mod image;
 
-use crate::interval::Interval;
+use crate::leaf_range::LeafRange;
 use crate::log::{Checkpoint, LogBuilder, LogData, hash_branch, hash_empty, hash_leaf};
 use crate::node::{Node, Side};
-use crate::proof::stored_root;
+use crate::root::stored_root;
 use std::alloc::{AllocError, Allocator, Global};
 use std::marker::{Model, PhantomData};
 use warg_crypto::{Hash, SupportedDigest, VisitBytes};
@@ -105,7 +105,7 @@ impl<D: SupportedDigest, V: VisitBytes, A: Allocator> LogBuilder<D, V> for VecLo
         if length == 0 {
             return Checkpoint::new(self.spacer.copied(), 0);
         }
-        let whole = Interval::new(0, length);
+        let whole = LeafRange::new(0, length);
         match stored_root::<D, V, Self>(self, &whole) {
             Some(root) => Checkpoint::new(root, length),
             None => unreachable!(),
@@ -119,11 +119,11 @@ impl<D: SupportedDigest, V: VisitBytes, A: Allocator> LogBuilder<D, V> for VecLo
         ensures err { OnErr result (self.new ≡ self.old) }
     {
         let digest = hash_leaf::<D, V>(entry);
+        let leaf = Node::leaf(self.count);
         self.tree.reserve(2)?;
         if self.count != 0 {
             self.tree.push_reserved(self.spacer.copied());
         }
-        let leaf = Node(self.tree.len());
         self.tree.push_reserved(digest.copied());
         self.count += 1;
         join_up(&mut self.tree, leaf, digest);

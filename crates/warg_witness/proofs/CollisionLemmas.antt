@@ -1,27 +1,27 @@
 -- What the laws state: a claim that is met and isn't true gives a collision.
 use Rattle.std.proofs.Common.{◌≡◌, ℕ, zero, suc, ◌+◌, ◌-◌, ◌<◌, ◌≤◌, ◌⊎◌, inl, inr, nat_eq, List, [], ◌∷◌, length, get_or, refl, sym, ◌∙◌, arith, ◌^◌, Some}
 use Rattle.std.specs.Cmp.Lexicographic.{pointwise, bytes_decides}
-use Rattle.std.proofs.lemmas.Bool.{cases_lt, cases_eq, cases_Bool}
+use Rattle.std.proofs.lemmas.Bool.{cases_lt, cases_Bool}
 use Rattle.std.proofs.lemmas.Bool.Decides.{nat_tests, not_from_Decides}
 use Rattle.warg_log.specs.Tree.{front_of, leaves_of, root_of, root_over, own_digest}
-use Rattle.warg_log.specs.Cut.{IsFull, cut_over}
+use Rattle.warg_log.specs.Cut.{cut_over}
 use Rattle.warg_witness.specs.Ranges.{IsPart, IsAround}
 use Rattle.warg_witness.specs.Claims.{Begins, IsMet, IsEntry, IsRootBelow, IsAgreement, IsConsistencyMet}
 use Rattle.warg_witness.specs.Inputs.{branch_input}
 use Rattle.warg_witness.specs.Laws.{GivesHashes, HoldsHashes, SomeCollision}
-use Rattle.warg_witness.specs.Private.Ranges.{IsAligned, IsNodeRange, IsBalancedRoot}
-use Rattle.warg_witness.specs.Private.Ranges.IsBalancedRoot.{full, front, rest}
+use Rattle.warg_witness.specs.Private.Ranges.{IsAligned, IsNodeRange}
 use Rattle.warg_witness.specs.Private.LogLaws.{LogLaws}
-use Rattle.warg_witness.specs.Private.Parting.{HaveOneDigest, MeetAt, PartsAt}
-use Rattle.warg_witness.specs.declared.descent.Parting.{Parting}
-use Rattle.warg_witness.proofs.RangeLemmas.{Digest, Data, pow_below_pow, more_than_one, known, node_some, wider, side_is_part, side_aligned, side_around, leaf_node, node_aligned, whole_aligned}
-use Rattle.warg_witness.proofs.DescentLemmas.{branch_parts, same_at_side, meets_here, sides_of, parts_at, length-leaves, PartsFrom, Meets, have_root, have_node, plain_digest_is}
+use Rattle.warg_witness.specs.Private.Divergence.{HaveOneDigest, MeetAt, DivergesAt}
+use Rattle.warg_witness.specs.declared.descent.Divergence.{Divergence}
+use Rattle.warg_witness.proofs.RangeLemmas.{Digest, Data, more_than_one, known, node_some, wider, side_is_part, side_aligned, side_around, leaf_node, node_aligned, whole_aligned}
+use Rattle.warg_witness.proofs.RootLemmas.{Root, full_node, full_or_not, front_node, rest_aligned, root_full, root_front, root_rest}
+use Rattle.warg_witness.proofs.DescentLemmas.{branch_parts, same_at_side, meets_here, sides_of, diverges_at, length-leaves, DivergesFrom, Meets, have_root, have_node, plain_digest_is}
 use Rattle.std.proofs.lemmas.Nat.{pow_pos}
-use Rattle.warg_log.specs.Nodes.{height_of, place_of, start_of}
+use Rattle.warg_log.specs.Nodes.{height_of, place_of, start_of, node_over}
 use Rattle.warg_witness.specs.Ranges.IsPart.{whole}
 use Rattle.warg_witness.specs.Placed.{IsValuePlaced, IsHashPlaced, IsAgreementPlaced, IsConsistencyPlaced}
 use Rattle.warg_witness.specs.Private.Meeting.{IsConsistencyMeeting}
-use Rattle.warg_witness.specs.declared.descent.Parting.TheVariants.{Target}
+use Rattle.warg_witness.specs.declared.descent.Divergence.TheVariants.{Target}
 use Rattle.warg_witness.proofs.ShownLemmas.{Shows, entry_from, value_placed, value_meets, hash_placed, agreement_placed, agreement_meets}
 use Rattle.warg_witness.proofs.ConsistencyLemmas.{trees_consistent, root_leads, old_placed, new_placed, below_placed, leaves_shown}
 
@@ -32,9 +32,9 @@ same_or_not xs ys = elim (cases_Bool (pointwise nat_eq xs ys)) [ inl t ↦ inl (
 target_or_other : (s w a n : ℕ) → ((a ≡ s) × (n ≡ w)) ⊎ (a ≡ s → n ≡ w → ⊥)
 target_or_other s w a n = grind arith
 
--- Where two evaluations with one digest at a range part.
-abbrev pub Part : Type 0
-Part = Parting (Unit {0})
+-- Where two evaluations with one digest at a range diverge.
+abbrev pub SomeDivergence : Type 0
+SomeDivergence = Divergence (Unit {0})
 
 -- entries that don't begin with others differ from them at a place
 pub difference : (old new : List (List ℕ)) → length old ≤ length new → (Begins old new → ⊥) → (place : ℕ) × (place < length old) × (get_or old place [] ≡ get_or new place [] → ⊥)
@@ -46,13 +46,13 @@ difference (x ∷ old) (y ∷ new) order other = elim (same_or_not x y) [
 ]
 
 module _ (laws : LogLaws) where
-  -- two trees of one digest at a range part on the way down to the target, or have one digest there
+  -- two trees of one digest at a range diverge on the way down to the target, or have one digest there
   module _ (H : Digest) (F : Data) (x : List ℕ) (G : Data) (y : List ℕ) (s w a₀ n₀ : ℕ) (P : List ℕ → List ℕ → Type 0) where
-    pub parted : GivesHashes H → HoldsHashes F → HoldsHashes G → length x ≡ 32 → length y ≡ 32 → IsNodeRange s w
-        → ((first second : List ℕ) → PartsAt H F x G y s w a₀ n₀ first second → P first second)
+    pub diverged : GivesHashes H → HoldsHashes F → HoldsHashes G → length x ≡ 32 → length y ≡ 32 → IsNodeRange s w
+        → ((first second : List ℕ) → DivergesAt H F x G y s w a₀ n₀ first second → P first second)
         → (MeetAt x y s w a₀ n₀ → SomeCollision H P) → (k a n : ℕ) → n ≤ k → IsPart a₀ n₀ a n → IsAligned a n → IsAround s w a n → HaveOneDigest H F x G y s w a n → SomeCollision H P
-    parted gives holds holds' size size' node place meets zero a n le part aligned around one = let some = node_some node in absurd (omega arith)
-    parted gives holds holds' size size' node place meets (suc k) a n le part aligned around one = elim (target_or_other s w a n) [
+    diverged gives holds holds' size size' node place meets zero a n le part aligned around one = let some = node_some node in absurd (omega arith)
+    diverged gives holds holds' size size' node place meets (suc k) a n le part aligned around one = elim (target_or_other s w a n) [
       | inl here ↦ meets (meets_here laws H here.0 here.1 part one)
       | inr other ↦
           let some = node_some node in
@@ -64,37 +64,28 @@ module _ (laws : LogLaws) where
           elim (same_or_not (branch_input first.0 first.1) (branch_input second.0 second.1)) [
             | inl same ↦
                 let side = side_around laws node aligned around other in
-                parted gives holds holds' size size' node place meets k side.0 side.1 (omega arith) (side_is_part side.0 side.1 part more side.2)
+                diverged gives holds holds' size size' node place meets k side.0 side.1 (omega arith) (side_is_part side.0 side.1 part more side.2)
                 (side_aligned laws side.0 side.1 aligned more side.2) side.3
                 (same_at_side side.0 side.1 first.2 second.2 (branch_parts first.0 first.1 second.0 second.1 (first_size ∙ sym second_size) same) side.2)
             | inr differ ↦
-                let at = parts_at laws H some around other part one first.2 second.2 differ in
+                let at = diverges_at laws H some around other part one first.2 second.2 differ in
                 record { first = branch_input first.0 first.1; second = branch_input second.0 second.1; differ = differ; same = at.same; placed = place _ _ at }
           ]
     ]
 
-  -- a count is a power of two or not
-  full_or_not : (n : ℕ) → 0 < n → IsFull n ⊎ (IsFull n → ⊥)
-  full_or_not n some =
-      let f = (known laws).front (n + 1) (omega arith) in
-      elim (cases_eq n (front_of (n + 1))) [
-        | inl is ↦ inl (f.0.0, is ∙ f.0.1)
-        | inr other ↦ inr (λ full. grind (arith, f.0.1, full.1, pow_below_pow f.0.0 full.0, pow_below_pow full.0 (suc f.0.0)))
-      ]
-
   -- the balanced root of a range around a place
-  pub root_found : (place k a n : ℕ) → n ≤ k → a ≤ place → place < a + n → (s : ℕ) × (w : ℕ) × IsBalancedRoot s w a n × IsAround place 1 s w
-  root_found place zero a n le starts ends = absurd (omega arith)
-  root_found place (suc k) a n le starts ends = elim (full_or_not n (omega arith)) [
-    | inl is ↦ (a, n, full is, omega arith)
-    | inr part ↦
-        let more = more_than_one n (omega arith) part in
+  root_found : (place k a n : ℕ) → n ≤ k → IsAligned a n → a ≤ place → place < a + n → (s : ℕ) × (w : ℕ) × Root s w a n × IsAround place 1 s w
+  root_found place zero a n le aligned starts ends = absurd (omega arith)
+  root_found place (suc k) a n le aligned starts ends = elim (full_or_not laws n (omega arith)) [
+    | inl is ↦ (a, n, record { node = full_node aligned is; contained = root_full laws a n is }, omega arith)
+    | inr not_full ↦
+        let more = more_than_one n (omega arith) not_full in
         let f = (known laws).front n more in
         elim (cases_lt place (a + front_of n)) [
-          | inl left ↦ (a, front_of n, front n more part refl, omega arith)
+          | inl left ↦ (a, front_of n, record { node = front_node laws a n aligned more; contained = root_front laws a n more not_full }, omega arith)
           | inr right ↦
-              let at = root_found place k (a + front_of n) (n - front_of n) (omega arith) right (omega arith) in
-              (at.0, at.1, rest a n more part at.2, at.3)
+              let at = root_found place k (a + front_of n) (n - front_of n) (omega arith) (rest_aligned laws aligned more) right (omega arith) in
+              (at.0, at.1, record { node = at.2.node; contained = root_rest laws a n (node_over at.0 at.1) more not_full at.2.contained }, at.3)
         ]
   ]
 
@@ -102,8 +93,8 @@ module _ (laws : LogLaws) where
 node_range : (node : ℕ) → IsNodeRange (start_of node) (2 ^ height_of node)
 node_range node = record { height = height_of node; place = place_of node; start = refl; count = refl }
 
--- two trees part somewhere or nowhere
-pub target_or_not : (p : Part) → (p ≡ Target) ⊎ (p ≡ Target → ⊥)
+-- two trees diverge somewhere or nowhere
+pub target_or_not : (p : SomeDivergence) → (p ≡ Target) ⊎ (p ≡ Target → ⊥)
 target_or_not p = grind arith
 
 -- what is shown is a collision
@@ -121,12 +112,12 @@ module _ (laws : LogLaws) (H : Digest) where
   -- an evaluation that leads to the root of a tree, and that tree
   from_tree : {F : Data} {x : List ℕ} (entries : List (List ℕ)) {s w : ℕ} {P : List ℕ → List ℕ → Type 0} → GivesHashes H → HoldsHashes F → length x ≡ 32 → IsNodeRange s w
       → s + w ≤ length (leaves_of H entries) → cut_over H F x s w 0 (length (leaves_of H entries)) ≡ Some (root_of H (leaves_of H entries))
-      → ((first second : List ℕ) → PartsFrom H F x (leaves_of H entries) s w first second → P first second) → (Meets H x (leaves_of H entries) s w → SomeCollision H P) → SomeCollision H P
+      → ((first second : List ℕ) → DivergesFrom H F x (leaves_of H entries) s w first second → P first second) → (Meets H x (leaves_of H entries) s w → SomeCollision H P) → SomeCollision H P
   from_tree {F} {x} entries {s} {w} gives holds size node within leads place meets =
       let ds = leaves_of H entries in
       let n = length ds in
       let some = node_some node in
-      parted laws H F x (own_digest H ds) (root_over H ds s w) s w 0 n _ gives holds (own_holds entries gives) size (root_size entries s w gives some within) node place meets
+      diverged laws H F x (own_digest H ds) (root_over H ds s w) s w 0 n _ gives holds (own_holds entries gives) size (root_size entries s w gives some within) node place meets
       n 0 n (omega arith) whole (whole_aligned n) (omega arith) (have_root laws H ds s w leads (omega arith))
 
   -- a claim that is met leads to the root of the tree
@@ -150,7 +141,7 @@ module _ (laws : LogLaws) (H : Digest) where
   pub agreement_collides : (F : Data) (value : List ℕ) (G : Data) (other : List ℕ) (node n : ℕ) → GivesHashes H → HoldsHashes F → HoldsHashes G
       → IsAgreement H F (H (0 ∷ value)) G (H (0 ∷ other)) node n → (value ≡ other → ⊥) → SomeCollision H (IsAgreementPlaced H F value G other node n)
   agreement_collides F value G other node n gives holds holds' met false_claim =
-      parted laws H F (H (0 ∷ value)) G (H (0 ∷ other)) (start_of node) (2 ^ height_of node) 0 n _ gives holds holds' (gives (0 ∷ value)) (gives (0 ∷ other)) (node_range node)
+      diverged laws H F (H (0 ∷ value)) G (H (0 ∷ other)) (start_of node) (2 ^ height_of node) 0 n _ gives holds holds' (gives (0 ∷ value)) (gives (0 ∷ other)) (node_range node)
       (agreement_placed H F value G other node n) (λ meets. shown_collides _ _ (agreement_meets H F value G other node n false_claim meets))
       n 0 n (omega arith) whole (whole_aligned n) (omega arith) (record { digest = met.root; first = met.first_is; second = met.second_is })
 
@@ -161,7 +152,7 @@ module _ (laws : LogLaws) (H : Digest) where
       let ds = leaves_of H old in
       let es = leaves_of H new in
       let found = difference old new (omega arith) false_claim in
-      let root = root_found laws found.0 (length ds) 0 (length ds) (omega arith) (omega arith) (omega (arith, length-leaves H old)) in
+      let root = root_found laws found.0 (length ds) 0 (length ds) (omega arith) (whole_aligned (length ds)) (omega arith) (omega (arith, length-leaves H old)) in
       let is : IsConsistencyMeeting H F m n old new ds es = record { met = met; old_is = refl; new_is = refl } in
       let leads = root_leads laws (trees_consistent is) root.2 in
       let at = leads.1 in
@@ -169,7 +160,7 @@ module _ (laws : LogLaws) (H : Digest) where
       let size = holds _ _ at.held in
       from_tree old gives holds size at.node at.in_old at.to_old (old_placed laws is at)
       (λ in_old. from_tree new gives holds size at.node at.in_new at.to_new (new_placed laws is at)
-      (λ in_new. parted laws H (own_digest H ds) (root_over H ds place 1) (own_digest H es) (root_over H es place 1) place 1 root.0 root.1 _ gives (own_holds old gives) (own_holds new gives)
+      (λ in_new. diverged laws H (own_digest H ds) (root_over H ds place 1) (own_digest H es) (root_over H es place 1) place 1 root.0 root.1 _ gives (own_holds old gives) (own_holds new gives)
       (root_size old place 1 gives (omega arith) (omega arith)) (root_size new place 1 gives (omega arith) (omega arith)) (leaf_node place)
       (below_placed laws is at place in_new.part)
       (λ meets. shown_collides _ _ (leaves_shown laws is at place in_new.part meets found.1 (omega arith) found.2))

@@ -8,9 +8,9 @@ use Rattle.warg_witness.specs.Ranges.{IsPart, IsAround}
 use Rattle.warg_witness.specs.Inputs.{branch_input, plain_input, cut_input}
 use Rattle.warg_witness.specs.Private.Ranges.{IsSide, IsAligned, IsNodeRange}
 use Rattle.warg_witness.specs.Private.LogLaws.{LogLaws}
-use Rattle.warg_witness.specs.Private.Parting.{HaveOneDigest, MeetAt, PartsAt, IsParting}
-use Rattle.warg_witness.specs.declared.descent.Parting.{Parting}
-use Rattle.warg_witness.specs.declared.descent.Parting.TheVariants.{Target, Branch}
+use Rattle.warg_witness.specs.Private.Divergence.{HaveOneDigest, MeetAt, DivergesAt, IsDivergence}
+use Rattle.warg_witness.specs.declared.descent.Divergence.{Divergence}
+use Rattle.warg_witness.specs.declared.descent.Divergence.TheVariants.{Target, Branch}
 use Rattle.warg_witness.proofs.RangeLemmas.{Digest, Data, known, wider, at_side, IsPart-trans, node_aligned, whole_aligned, node_some, side_aligned, part_in}
 use Rattle.std.proofs.Math.Seq.{take-length}
 
@@ -21,9 +21,9 @@ branch_parts a b c d len e = grind (arith, take_at a b (length c) len, drop_at a
 pub inputs_differ : (a b c d : List ℕ) → length a ≡ length c → ((a ≡ c) × (b ≡ d) → ⊥) → branch_input a b ≡ branch_input c d → ⊥
 inputs_differ a b c d len other e = other (branch_parts a b c d len e)
 
--- what parts in a part of a range parts in the range
-pub widened : {D : Type 0} (H : Digest) (F : Data) (x : List ℕ) (G : Data) (y : List ℕ) (s w : ℕ) {a₀ n₀ a n : ℕ} (p : Parting D)
-    → IsPart a₀ n₀ a n → IsParting H F x G y s w a n p → IsParting H F x G y s w a₀ n₀ p
+-- what diverges in a part of a range diverges in the range
+pub widened : {D : Type 0} (H : Digest) (F : Data) (x : List ℕ) (G : Data) (y : List ℕ) (s w : ℕ) {a₀ n₀ a n : ℕ} (p : Divergence D)
+    → IsPart a₀ n₀ a n → IsDivergence H F x G y s w a n p → IsDivergence H F x G y s w a₀ n₀ p
 widened H F x G y s w Target outer is = search (IsPart-trans, outer, is)
 widened H F x G y s w (Branch l r l' r') outer is = search (IsPart-trans, outer, is)
 
@@ -53,19 +53,19 @@ module _ (laws : LogLaws) (H : Digest) where
     pub sides_of : (F : Data) (x d : List ℕ) → cut_over H F x s w a n ≡ Some d → (l : List ℕ) × (r : List ℕ) × Sides H F x s w a n l r
     sides_of F x d is = grind (arith, cut_around F x)
 
-    -- two trees of one digest part at a range where their inputs differ
-    pub parts_at : {F : Data} {x : List ℕ} {G : Data} {y l r l' r' : List ℕ} {a₀ n₀ : ℕ} → IsPart a₀ n₀ a n → HaveOneDigest H F x G y s w a n
-        → Sides H F x s w a n l r → Sides H G y s w a n l' r' → (branch_input l r ≡ branch_input l' r' → ⊥) → PartsAt H F x G y s w a₀ n₀ (branch_input l r) (branch_input l' r')
-    parts_at {F} {x} {G} {y} {l} {r} {l'} {r'} part one first second differ =
+    -- two trees of one digest diverge at a range where their inputs differ
+    pub diverges_at : {F : Data} {x : List ℕ} {G : Data} {y l r l' r' : List ℕ} {a₀ n₀ : ℕ} → IsPart a₀ n₀ a n → HaveOneDigest H F x G y s w a n
+        → Sides H F x s w a n l r → Sides H G y s w a n l' r' → (branch_input l r ≡ branch_input l' r' → ⊥) → DivergesAt H F x G y s w a₀ n₀ (branch_input l r) (branch_input l' r')
+    diverges_at {F} {x} {G} {y} {l} {r} {l'} {r'} part one first second differ =
         let same : H (branch_input l r) ≡ H (branch_input l' r') = grind (arith, cut_around F x, cut_around G y) in search (part, first.left, first.right, second.left, second.right, same)
 
 -- the leaves are as many as the entries
 pub length-leaves : (H : Digest) (entries : List (List ℕ)) → length (leaves_of H entries) ≡ length entries
 length-leaves H entries = length-map entries (λ e. H (0 ∷ e))
 
--- An evaluation with the digest x at the w leaves from s on and the tree of these leaf digests part at these inputs, or have one digest there.
-abbrev pub PartsFrom : Digest → Data → List ℕ → List (List ℕ) → ℕ → ℕ → List ℕ → List ℕ → Type 0
-PartsFrom H F x ds s w first second = PartsAt H F x (own_digest H ds) (root_over H ds s w) s w 0 (length ds) first second
+-- An evaluation with the digest x at the w leaves from s on and the tree of these leaf digests diverge at these inputs, or have one digest there.
+abbrev pub DivergesFrom : Digest → Data → List ℕ → List (List ℕ) → ℕ → ℕ → List ℕ → List ℕ → Type 0
+DivergesFrom H F x ds s w first second = DivergesAt H F x (own_digest H ds) (root_over H ds s w) s w 0 (length ds) first second
 
 abbrev pub Meets : Digest → List ℕ → List (List ℕ) → ℕ → ℕ → Type 0
 Meets H x ds s w = MeetAt x (root_over H ds s w) s w 0 (length ds)
@@ -94,7 +94,7 @@ module _ (laws : LogLaws) (H : Digest) where
   plain_digest_is entries a n some within =
       let len = length-leaves H entries in grind (arith, nat_tests, (known laws).root_parts H (leaves_of H entries) a n, (known laws).root_one H (leaves_of H entries) a, get_or-map)
 
-  -- over the entries' own digests the evaluation's input at a range is the plain one, as where an evaluation parts from the tree
+  -- over the entries' own digests the evaluation's input at a range is the plain one, as where an evaluation diverges from the tree
   pub own_input : (entries : List (List ℕ)) (s w : ℕ) {a n : ℕ} (second : List ℕ) → IsPart 0 (length entries) a n → 1 < n
       → cut_input H (own_digest H (leaves_of H entries)) (root_over H (leaves_of H entries) s w) s w a n ≡ Some second → second ≡ plain_input H entries a n
   own_input entries s w {a} {n} second part more is =
@@ -104,8 +104,8 @@ module _ (laws : LogLaws) (H : Digest) where
       let left = own_cut (leaves_of H entries) s w (side_aligned laws a (front_of n) at.1 more (inl (refl, refl))) (omega arith) (omega arith) in
       let right = own_cut (leaves_of H entries) s w (side_aligned laws (a + front_of n) (n - front_of n) at.1 more (inr (refl, refl))) (omega arith) (omega arith) in grind (arith, nat_tests)
 
-  pub own_second : {F : Data} {x : List ℕ} (entries ds : List (List ℕ)) {s w : ℕ} {first second : List ℕ} → ds ≡ leaves_of H entries → 0 < w → (parts : PartsFrom H F x ds s w first second)
-      → IsPart 0 (length entries) parts.from parts.count × (second ≡ plain_input H entries parts.from parts.count)
-  own_second entries ds {s} {w} {first} {second} is some parts =
-      let part = rw (is, length-leaves H entries) at parts.part in
-      let more = wider parts.around parts.other in (part, own_input entries s w second part (omega arith) (rw is at parts.second_input))
+  pub own_second : {F : Data} {x : List ℕ} (entries ds : List (List ℕ)) {s w : ℕ} {first second : List ℕ} → ds ≡ leaves_of H entries → 0 < w → (diverges : DivergesFrom H F x ds s w first second)
+      → IsPart 0 (length entries) diverges.from diverges.count × (second ≡ plain_input H entries diverges.from diverges.count)
+  own_second entries ds {s} {w} {first} {second} is some diverges =
+      let part = rw (is, length-leaves H entries) at diverges.part in
+      let more = wider diverges.around diverges.other in (part, own_input entries s w second part (omega arith) (rw is at diverges.second_input))

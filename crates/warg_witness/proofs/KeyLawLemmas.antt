@@ -13,11 +13,11 @@ use Rattle.warg_witness.specs.Laws.{GivesHashes, GivesDigests, HoldsPeers, SomeC
 use Rattle.warg_witness.specs.MapClaims.{value_in, IsLastValue, IsKeyMet, IsAbsenceMet}
 use Rattle.warg_witness.specs.MapPlaced.{IsKeyPlaced}
 use Rattle.warg_witness.specs.Private.MapPaths.{plain_peers}
-use Rattle.warg_witness.specs.declared.descent.Parting.TheVariants.{Target}
-use Rattle.warg_witness.proofs.CollisionLemmas.{Part, same_or_not, target_or_not}
+use Rattle.warg_witness.specs.declared.descent.Divergence.TheVariants.{Target}
+use Rattle.warg_witness.proofs.CollisionLemmas.{SomeDivergence, same_or_not, target_or_not}
 use Rattle.warg_witness.proofs.LastLemmas.{some_same}
-use Rattle.warg_witness.proofs.PathLemmas.{parted_on_path}
-use Rattle.warg_witness.proofs.KeyLemmas.{IsHeld, PartsFromPlain, ShowsKey, plain_root_is, branch_shown, leaf_shown, none_differs, keys_shown}
+use Rattle.warg_witness.proofs.PathLemmas.{diverged_on_path}
+use Rattle.warg_witness.proofs.KeyLemmas.{IsHeld, DivergesFromPlain, ShowsKey, plain_root_is, branch_shown, leaf_shown, none_differs, keys_shown}
 
 -- a root has 32 bytes where each leaf digest has
 root_len : (H : List ℕ → List ℕ) → GivesHashes H → (k : ℕ) (held : List Bool → Option (List ℕ)) → ((bits : List Bool) (digest : List ℕ) → held bits ≡ Some digest → length digest ≡ 32) → length (root_of_levels H k held) ≡ 32
@@ -64,7 +64,7 @@ key_collides held long digest H peers key value insertions digests holds met unt
     let gives : GivesHashes H = λ m. (digests m).has_32 in
     let plain = plain_peers H (get (map_of H insertions)) bits in
     let last = value_in (last_under H bits insertions) in
-    let found = parted_on_path H peers (leaf_digest H value) plain (leaf_digest H last) gives holds
+    let found = diverged_on_path H peers (leaf_digest H value) plain (leaf_digest H last) gives holds
     (holds_plain H gives (get (map_of H insertions)) (λ q d e. holds_leaf H gives (last_under H q insertions) d (sym (held H q insertions) ∙ e)) bits)
     (gives (0 ∷ value)) (gives (0 ∷ last)) bits (met ∙ sym (plain_root_is H insertions bits (long H key) (held H bits insertions))) in
     ⊎_elim
@@ -75,12 +75,12 @@ key_collides held long digest H peers key value insertions digests holds met unt
     some_collision : (pair : List ℕ × List ℕ) → ShowsKey H peers key value insertions pair → SomeCollision H (IsKeyPlaced H peers value key insertions)
     some_collision pair shown = record { first = pair.0; second = pair.1; differ = shown.collides.differ; same = shown.collides.same; placed = shown.placed }
 
-    at_leaf : (p : Part) → PartsFromPlain H peers key value insertions p → p ≡ Target → (o : Option (List ℕ × List ℕ)) → last_under H (key_bits H key) insertions ≡ o → SomeCollision H (IsKeyPlaced H peers value key insertions)
-    at_leaf p parts target None e =
-        some_collision _ (leaf_shown H peers key value insertions p [] parts target (ap value_in e) (none_differs H key value insertions e untrue))
-    at_leaf p parts target (Some f) e = ⊎_elim
+    at_leaf : (p : SomeDivergence) → DivergesFromPlain H peers key value insertions p → p ≡ Target → (o : Option (List ℕ × List ℕ)) → last_under H (key_bits H key) insertions ≡ o → SomeCollision H (IsKeyPlaced H peers value key insertions)
+    at_leaf p diverges target None e =
+        some_collision _ (leaf_shown H peers key value insertions p [] diverges target (ap value_in e) (none_differs H key value insertions e untrue))
+    at_leaf p diverges target (Some f) e = ⊎_elim
         (λ (same : value ≡ f.1). some_collision _ (keys_shown H peers key value insertions f (λ other. digest H key other (digests key) (digests other)) e same untrue))
-        (λ (other : value ≡ f.1 → ⊥). some_collision _ (leaf_shown H peers key value insertions p f.1 parts target (ap value_in e) other))
+        (λ (other : value ≡ f.1 → ⊥). some_collision _ (leaf_shown H peers key value insertions p f.1 diverges target (ap value_in e) other))
         (same_or_not value f.1)
 
 pub absence_collides : LastHeld → AllBits → SameDigest → (H : List ℕ → List ℕ) (peers : List (Option (List ℕ))) (key : List ℕ) (insertions : List (List ℕ × List ℕ)) → GivesDigests H → HoldsPeers peers

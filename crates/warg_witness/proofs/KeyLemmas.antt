@@ -13,11 +13,11 @@ use Rattle.warg_map.specs.Last.{same_bits, last_under}
 use Rattle.warg_map.specs.ProofValue.{proof_value}
 use Rattle.warg_witness.specs.MapClaims.{value_in, IsLastValue, IsKeyMet}
 use Rattle.warg_witness.specs.MapPlaced.{IsKeyPlaced}
-use Rattle.warg_witness.specs.Private.MapPaths.{IsPathParting, MeetsOnPath, IsLastPlace, plain_peers}
+use Rattle.warg_witness.specs.Private.MapPaths.{IsPathDivergence, MeetsOnPath, IsLastPlace, plain_peers}
 use Rattle.warg_witness.specs.Private.MapMeeting.{IsKeyMeeting}
-use Rattle.warg_witness.specs.Private.Parting.{Collides, inputs_of}
-use Rattle.warg_witness.specs.declared.descent.Parting.{Parting}
-use Rattle.warg_witness.specs.declared.descent.Parting.TheVariants.{Target, Branch}
+use Rattle.warg_witness.specs.Private.Divergence.{Collides, inputs_of}
+use Rattle.warg_witness.specs.declared.descent.Divergence.{Divergence}
+use Rattle.warg_witness.specs.declared.descent.Divergence.TheVariants.{Target, Branch}
 use Rattle.warg_witness.proofs.LastLemmas.{last_with-passes, last_with-contains, same_bits-true, last_of_digest, none_of_digest, last_at, last_none}
 use Rattle.warg_witness.proofs.PathBits.{length-last_bits}
 use Rattle.warg_witness.proofs.PlainPathLemmas.{plain_value, plain_leaf_is, plain_input_is, length-plain_peers}
@@ -27,9 +27,9 @@ abbrev pub IsHeld : (List ℕ → List ℕ) → List (List ℕ × List ℕ) → 
 IsHeld H insertions bits = get (map_of H insertions) bits ≡ option_map (λ e. leaf_digest H e.1) (last_under H bits insertions)
 
 -- The evaluation of the plain peers of a key.
-abbrev pub PartsFromPlain : {D : Type 0} → (List ℕ → List ℕ) → List (Option (List ℕ)) → List ℕ → List ℕ → List (List ℕ × List ℕ) → Parting D → Type 0
-PartsFromPlain H peers key value insertions p =
-    IsPathParting H peers (leaf_digest H value) (plain_peers H (get (map_of H insertions)) (key_bits H key)) (leaf_digest H (value_in (last_under H (key_bits H key) insertions))) (key_bits H key) p
+abbrev pub DivergesFromPlain : {D : Type 0} → (List ℕ → List ℕ) → List (Option (List ℕ)) → List ℕ → List ℕ → List (List ℕ × List ℕ) → Divergence D → Type 0
+DivergesFromPlain H peers key value insertions p =
+    IsPathDivergence H peers (leaf_digest H value) (plain_peers H (get (map_of H insertions)) (key_bits H key)) (leaf_digest H (value_in (last_under H (key_bits H key) insertions))) (key_bits H key) p
 
 -- the plain peers lead to the plain root
 pub plain_root_is : (H : List ℕ → List ℕ) (insertions : List (List ℕ × List ℕ)) (bits : List Bool) → length bits ≡ 256 → IsHeld H insertions bits
@@ -43,23 +43,23 @@ pub record ShowsKey (H : List ℕ → List ℕ) (peers : List (Option (List ℕ)
   pub collides : Collides H pair
   pub placed : IsKeyPlaced H peers value key insertions pair.0 pair.1
 
-pub branch_shown : {D : Type 0} (H : List ℕ → List ℕ) (peers : List (Option (List ℕ))) (key value : List ℕ) (insertions : List (List ℕ × List ℕ)) (p : Parting D) → length (key_bits H key) ≡ 256
-    → IsHeld H insertions (key_bits H key) → PartsFromPlain H peers key value insertions p → (p ≡ Target → ⊥) → ShowsKey H peers key value insertions (inputs_of p [] [])
+pub branch_shown : {D : Type 0} (H : List ℕ → List ℕ) (peers : List (Option (List ℕ))) (key value : List ℕ) (insertions : List (List ℕ × List ℕ)) (p : Divergence D) → length (key_bits H key) ≡ 256
+    → IsHeld H insertions (key_bits H key) → DivergesFromPlain H peers key value insertions p → (p ≡ Target → ⊥) → ShowsKey H peers key value insertions (inputs_of p [] [])
 branch_shown H peers key value insertions Target long held is other = absurd (other refl)
 branch_shown H peers key value insertions (Branch l r l' r') long held is other = record {
   collides = record { differ = is.differ; same = is.same };
   placed = inl (record {
     prefix = is.above;
     rest = is.bit ∷ is.below;
-    bits = is.parts;
+    bits = is.split;
     evaluation = is.first_input;
-    plain = is.second_input ∙ plain_input_is H insertions (key_bits H key) is.above (is.bit ∷ is.below) long held is.parts;
+    plain = is.second_input ∙ plain_input_is H insertions (key_bits H key) is.above (is.bit ∷ is.below) long held is.split;
   });
 }
 
--- where it parts nowhere, and the plain leaf has another value
-pub leaf_shown : {D : Type 0} (H : List ℕ → List ℕ) (peers : List (Option (List ℕ))) (key value : List ℕ) (insertions : List (List ℕ × List ℕ)) (p : Parting D) (last : List ℕ)
-    → PartsFromPlain H peers key value insertions p → p ≡ Target → value_in (last_under H (key_bits H key) insertions) ≡ last → (value ≡ last → ⊥)
+-- where it diverges nowhere, and the plain leaf has another value
+pub leaf_shown : {D : Type 0} (H : List ℕ → List ℕ) (peers : List (Option (List ℕ))) (key value : List ℕ) (insertions : List (List ℕ × List ℕ)) (p : Divergence D) (last : List ℕ)
+    → DivergesFromPlain H peers key value insertions p → p ≡ Target → value_in (last_under H (key_bits H key) insertions) ≡ last → (value ≡ last → ⊥)
     → ShowsKey H peers key value insertions (inputs_of p (0 ∷ value) (0 ∷ last))
 leaf_shown H peers key value insertions Target last is target plain other = record {
   collides = record { differ = λ e. other (tail_eq value last e); same = is ∙ ap (leaf_digest H) plain };
@@ -96,35 +96,35 @@ pub placed_as : (H : List ℕ → List ℕ) (peers : List (Option (List ℕ))) (
 placed_as H peers key value insertions p q e placed = rw e placed
 
 -- what a call that hands out a pair shows
-pub collided : {D E : Type 0} (H : List ℕ → List ℕ) (key value : List ℕ) (insertions : List (List ℕ × List ℕ)) (parting : Parting D) (last : Option ℕ) (pair : List ℕ × List ℕ) (r : Result (List ℕ × List ℕ) E)
-    → ((peers : List (Option (List ℕ))) → IsKeyMeeting {D = D} H peers key value insertions parting last → ShowsKey H peers key value insertions pair) → IfOk r (λ c. c ≡ pair)
-    → IfOk r (λ c. (peers : List (Option (List ℕ))) → IsKeyMeeting {D = D} H peers key value insertions parting last → IsKeyPlaced H peers value key insertions c.0 c.1)
-collided H key value insertions parting last pair (Ok c) shown same = λ peers met. placed_as H peers key value insertions pair c same (shown peers met).placed
-collided H key value insertions parting last pair (Err e) shown same = same
+pub collided : {D E : Type 0} (H : List ℕ → List ℕ) (key value : List ℕ) (insertions : List (List ℕ × List ℕ)) (divergence : Divergence D) (last : Option ℕ) (pair : List ℕ × List ℕ) (r : Result (List ℕ × List ℕ) E)
+    → ((peers : List (Option (List ℕ))) → IsKeyMeeting {D = D} H peers key value insertions divergence last → ShowsKey H peers key value insertions pair) → IfOk r (λ c. c ≡ pair)
+    → IfOk r (λ c. (peers : List (Option (List ℕ))) → IsKeyMeeting {D = D} H peers key value insertions divergence last → IsKeyPlaced H peers value key insertions c.0 c.1)
+collided H key value insertions divergence last pair (Ok c) shown same = λ peers met. placed_as H peers key value insertions pair c same (shown peers met).placed
+collided H key value insertions divergence last pair (Err e) shown same = same
 
 -- the same by what a witness knows
-pub branch_met : {D : Type 0} (H : List ℕ → List ℕ) (peers : List (Option (List ℕ))) (key value : List ℕ) (insertions : List (List ℕ × List ℕ)) (parting : Parting D) (last : Option ℕ)
-    → IsKeyMeeting {D = D} H peers key value insertions parting last → length (key_bits H key) ≡ 256 → IsHeld H insertions (key_bits H key) → (parting ≡ Target → ⊥)
-    → ShowsKey H peers key value insertions (inputs_of parting [] [])
-branch_met H peers key value insertions parting last met long held other = branch_shown H peers key value insertions parting long held met.parts other
+pub branch_met : {D : Type 0} (H : List ℕ → List ℕ) (peers : List (Option (List ℕ))) (key value : List ℕ) (insertions : List (List ℕ × List ℕ)) (divergence : Divergence D) (last : Option ℕ)
+    → IsKeyMeeting {D = D} H peers key value insertions divergence last → length (key_bits H key) ≡ 256 → IsHeld H insertions (key_bits H key) → (divergence ≡ Target → ⊥)
+    → ShowsKey H peers key value insertions (inputs_of divergence [] [])
+branch_met H peers key value insertions divergence last met long held other = branch_shown H peers key value insertions divergence long held met.diverges other
 
-pub none_met : {D : Type 0} (H : List ℕ → List ℕ) (peers : List (Option (List ℕ))) (key value : List ℕ) (insertions : List (List ℕ × List ℕ)) (parting : Parting D) (last : Option ℕ)
-    → IsKeyMeeting {D = D} H peers key value insertions parting last → parting ≡ Target → last ≡ None → (IsLastValue key value insertions → ⊥)
-    → ShowsKey H peers key value insertions (inputs_of parting (0 ∷ value) (0 ∷ []))
-none_met H peers key value insertions parting last met target is untrue =
+pub none_met : {D : Type 0} (H : List ℕ → List ℕ) (peers : List (Option (List ℕ))) (key value : List ℕ) (insertions : List (List ℕ × List ℕ)) (divergence : Divergence D) (last : Option ℕ)
+    → IsKeyMeeting {D = D} H peers key value insertions divergence last → divergence ≡ Target → last ≡ None → (IsLastValue key value insertions → ⊥)
+    → ShowsKey H peers key value insertions (inputs_of divergence (0 ∷ value) (0 ∷ []))
+none_met H peers key value insertions divergence last met target is untrue =
     let none = last_none H insertions (key_bits H key) last met.last_is is in
-    leaf_shown H peers key value insertions parting [] met.parts target (ap value_in none) (none_differs H key value insertions none untrue)
+    leaf_shown H peers key value insertions divergence [] met.diverges target (ap value_in none) (none_differs H key value insertions none untrue)
 
-pub leaf_met : {D K V : Type 0} (H : List ℕ → List ℕ) (kb : K → List ℕ) (vb : V → List ℕ) (peers : List (Option (List ℕ))) (key value : List ℕ) (es : List (K × V)) (parting : Parting D) (last : Option ℕ) (place : ℕ) (e : K × V)
-    → IsKeyMeeting {D = D} H peers key value (pair_bytes kb vb es) parting last → parting ≡ Target → last ≡ Some place → e ≡ get_or es place e → (value ≡ vb e.1 → ⊥)
-    → ShowsKey H peers key value (pair_bytes kb vb es) (inputs_of parting (0 ∷ value) (0 ∷ vb e.1))
-leaf_met H kb vb peers key value es parting last place e met target is at other =
-    leaf_shown H peers key value (pair_bytes kb vb es) parting (vb e.1) met.parts target (ap value_in (last_at H kb vb es (key_bits H key) last place e met.last_is is at)) other
+pub leaf_met : {D K V : Type 0} (H : List ℕ → List ℕ) (kb : K → List ℕ) (vb : V → List ℕ) (peers : List (Option (List ℕ))) (key value : List ℕ) (es : List (K × V)) (divergence : Divergence D) (last : Option ℕ) (place : ℕ) (e : K × V)
+    → IsKeyMeeting {D = D} H peers key value (pair_bytes kb vb es) divergence last → divergence ≡ Target → last ≡ Some place → e ≡ get_or es place e → (value ≡ vb e.1 → ⊥)
+    → ShowsKey H peers key value (pair_bytes kb vb es) (inputs_of divergence (0 ∷ value) (0 ∷ vb e.1))
+leaf_met H kb vb peers key value es divergence last place e met target is at other =
+    leaf_shown H peers key value (pair_bytes kb vb es) divergence (vb e.1) met.diverges target (ap value_in (last_at H kb vb es (key_bits H key) last place e met.last_is is at)) other
 
-pub keys_met : {D K V : Type 0} (H : List ℕ → List ℕ) (kb : K → List ℕ) (vb : V → List ℕ) (peers : List (Option (List ℕ))) (key value : List ℕ) (es : List (K × V)) (parting : Parting D) (last : Option ℕ) (place : ℕ) (e : K × V)
-    → IsKeyMeeting {D = D} H peers key value (pair_bytes kb vb es) parting last → ((other : List ℕ) → key_bits H key ≡ key_bits H other → H key ≡ H other) → last ≡ Some place → e ≡ get_or es place e
+pub keys_met : {D K V : Type 0} (H : List ℕ → List ℕ) (kb : K → List ℕ) (vb : V → List ℕ) (peers : List (Option (List ℕ))) (key value : List ℕ) (es : List (K × V)) (divergence : Divergence D) (last : Option ℕ) (place : ℕ) (e : K × V)
+    → IsKeyMeeting {D = D} H peers key value (pair_bytes kb vb es) divergence last → ((other : List ℕ) → key_bits H key ≡ key_bits H other → H key ≡ H other) → last ≡ Some place → e ≡ get_or es place e
     → value ≡ vb e.1 → (IsLastValue key value (pair_bytes kb vb es) → ⊥) → ShowsKey H peers key value (pair_bytes kb vb es) (key, kb e.0)
-keys_met H kb vb peers key value es parting last place e met digests is at same untrue =
+keys_met H kb vb peers key value es divergence last place e met digests is at same untrue =
     keys_shown H peers key value (pair_bytes kb vb es) (kb e.0, vb e.1) digests (last_at H kb vb es (key_bits H key) last place e met.last_is is at) same untrue
 
 -- the tree's evaluation, as the code has it
@@ -149,12 +149,12 @@ apart_not_met H peers key value insertions digest tree leaf plain is leaf_is lon
     ∙ sym (tree_root H insertions digest key tree plain is long held))
 
 pub meeting_from : {D : Type 0} (H : List ℕ → List ℕ) (peers : List (Option (List ℕ))) (key value : List ℕ) (insertions : List (List ℕ × List ℕ)) (digest : List ℕ) (tree : List (Option (List ℕ))) (leaf plain : List ℕ)
-    (parting : Parting D) (last : Option ℕ) → IsTree H insertions digest key tree plain → leaf ≡ H (0 ∷ value) → length (key_bits H key) ≡ 256 → IsHeld H insertions (key_bits H key)
-    → MeetsOnPath H peers leaf tree plain (last_bits digest 256) parting → IsLastPlace H insertions (last_bits digest 256) last → IsKeyMeeting H peers key value insertions parting last
-meeting_from {D = D} H peers key value insertions digest tree leaf plain parting last is leaf_is long held meets place = record {
+    (divergence : Divergence D) (last : Option ℕ) → IsTree H insertions digest key tree plain → leaf ≡ H (0 ∷ value) → length (key_bits H key) ≡ 256 → IsHeld H insertions (key_bits H key)
+    → MeetsOnPath H peers leaf tree plain (last_bits digest 256) divergence → IsLastPlace H insertions (last_bits digest 256) last → IsKeyMeeting H peers key value insertions divergence last
+meeting_from {D = D} H peers key value insertions digest tree leaf plain divergence last is leaf_is long held meets place = record {
   met = ap (λ d. proof_value H peers (H (0 ∷ value)) (last_bits d 256)) (sym is.digest_is) ∙ ap (λ x. proof_value H peers x (last_bits digest 256)) (sym leaf_is) ∙ meets.met
       ∙ tree_root H insertions digest key tree plain is long held;
-  parts = rw (leaf_is, is.tree_is, is.plain_is, is.digest_is) at meets.parts;
+  diverges = rw (leaf_is, is.tree_is, is.plain_is, is.digest_is) at meets.diverges;
   last_is = rw is.digest_is at place;
 }
 

@@ -97,9 +97,9 @@ is_not : (b : Bool) → b ≡ false → not b ≡ true
 is_not false e = refl
 is_not true e = cc
 
-pub are_parted : OrderOfBits → AllBits → (H : List ℕ → List ℕ) → GivesDigests H → (insertions : List (List ℕ × List ℕ)) (prefix : List Bool) (keys : List (List ℕ × ℕ)) → length prefix < 256
+pub are_partitioned : OrderOfBits → AllBits → (H : List ℕ → List ℕ) → GivesDigests H → (insertions : List (List ℕ × List ℕ)) (prefix : List Bool) (keys : List (List ℕ × ℕ)) → length prefix < 256
     → AreKeysUnder H insertions prefix keys → IsPartitionedBy (λ e. not (bit_at e.0 (length prefix))) keys
-are_parted order long H digests insertions prefix keys lt are i j d le less is =
+are_partitioned order long H digests insertions prefix keys lt are i j d le less is =
     let here = get_or_default keys j d ([], 0) less in
     let there = get_or_default keys i d ([], 0) (omega (arith, le, less)) in
     ap (λ (e : List ℕ × ℕ). not (bit_at e.0 (length prefix))) there

@@ -2,6 +2,7 @@ pub mod RangeLemmas
 pub mod DescentLemmas
 pub mod HashLemmas
 pub mod ShownLemmas
+pub mod RootLemmas
 pub mod ConsistencyLemmas
 pub mod CollisionLemmas
 pub mod CompareLemmas

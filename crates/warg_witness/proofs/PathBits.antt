@@ -3,8 +3,8 @@ use Rattle.std.proofs.Common.{◌≡◌, ℕ, zero, suc, ◌+◌, ◌-◌, ◌<�
 use Rattle.warg_map.specs.Bits.{bit_at, bits_from, last_bits}
 use Rattle.warg_map.specs.ProofValue.{peer_of, proof_value}
 use Rattle.warg_witness.specs.Private.MapPaths.{IsClimb}
-use Rattle.warg_witness.specs.declared.descent.Parting.{Parting}
-use Rattle.warg_witness.specs.declared.descent.Parting.TheVariants.{Target}
+use Rattle.warg_witness.specs.declared.descent.Divergence.{Divergence}
+use Rattle.warg_witness.specs.declared.descent.Divergence.TheVariants.{Target}
 use Rattle.std.specs.Prelude.{Option}
 
 pub last_bits-none : (key : List ℕ) → last_bits key 0 ≡ []
@@ -32,11 +32,11 @@ unfolding proof_value
 climb_starts H P x Q y key = record {
   first_is = sym (ap (proof_value H P x) (last_bits-none key));
   second_is = sym (ap (proof_value H Q y) (last_bits-none key));
-  parts = λ e. e;
+  diverges = λ e. e;
 }
 
 -- one bit more
-pub climb_more : {D : Type 0} (H : List ℕ → List ℕ) (P : List (Option (List ℕ))) (x : List ℕ) (Q : List (Option (List ℕ))) (y key : List ℕ) (n : ℕ) (b : Bool) (first second : List ℕ) (p : Parting D)
+pub climb_more : {D : Type 0} (H : List ℕ → List ℕ) (P : List (Option (List ℕ))) (x : List ℕ) (Q : List (Option (List ℕ))) (y key : List ℕ) (n : ℕ) (b : Bool) (first second : List ℕ) (p : Divergence D)
     → n < 256 → b ≡ bit_at key (255 - n) → IsClimb H P x Q y (b ∷ last_bits key n) first second p → IsClimb H P x Q y (last_bits key (n + 1)) first second p
 climb_more H P x Q y key n b first second p lt is climb = rw (last_bits-more key n lt, ← is) climb
 

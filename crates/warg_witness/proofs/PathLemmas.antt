@@ -6,21 +6,21 @@ use Rattle.warg_map.specs.ProofValue.{peer_of, proof_value}
 use Rattle.warg_witness.specs.Inputs.{branch_input}
 use Rattle.warg_witness.specs.Laws.{GivesHashes, HoldsPeers}
 use Rattle.warg_witness.specs.MapInputs.{fork_input}
-use Rattle.warg_witness.specs.Private.MapPaths.{IsPathParting, IsClimb}
-use Rattle.warg_witness.specs.declared.descent.Parting.{Parting}
-use Rattle.warg_witness.specs.declared.descent.Parting.TheVariants.{Target, Branch}
+use Rattle.warg_witness.specs.Private.MapPaths.{IsPathDivergence, IsClimb}
+use Rattle.warg_witness.specs.declared.descent.Divergence.{Divergence}
+use Rattle.warg_witness.specs.declared.descent.Divergence.TheVariants.{Target, Branch}
 use Rattle.warg_witness.proofs.DescentLemmas.{inputs_differ}
-use Rattle.warg_witness.proofs.CollisionLemmas.{Part, same_or_not}
+use Rattle.warg_witness.proofs.CollisionLemmas.{SomeDivergence, same_or_not}
 
--- what parts below a bit parts above it
-pub widened_path : {D : Type 0} (H : List ℕ → List ℕ) (P : List (Option (List ℕ))) (x : List ℕ) (Q : List (Option (List ℕ))) (y : List ℕ) (b : Bool) (bits : List Bool) (p : Parting D)
-    → IsPathParting H P x Q y bits p → IsPathParting H P x Q y (b ∷ bits) p
+-- what diverges below a bit diverges above it
+pub widened_path : {D : Type 0} (H : List ℕ → List ℕ) (P : List (Option (List ℕ))) (x : List ℕ) (Q : List (Option (List ℕ))) (y : List ℕ) (b : Bool) (bits : List Bool) (p : Divergence D)
+    → IsPathDivergence H P x Q y bits p → IsPathDivergence H P x Q y (b ∷ bits) p
 widened_path H P x Q y b bits Target is = is
 widened_path H P x Q y b bits (Branch l r l' r') is = record {
   above = b ∷ is.above;
   bit = is.bit;
   below = is.below;
-  parts = ap (λ q. b ∷ q) is.parts;
+  split = ap (λ q. b ∷ q) is.split;
   first_input = is.first_input;
   second_input = is.second_input;
   differ = is.differ;
@@ -40,30 +40,30 @@ near_same false near far near' far' l r l' r' er el er' el' same = sym el ∙ sa
 
 -- one bit up, where the inputs are the same
 pub climb_same : {D : Type 0} (H : List ℕ → List ℕ) (P : List (Option (List ℕ))) (x : List ℕ) (Q : List (Option (List ℕ))) (y : List ℕ) (b : Bool) (bits : List Bool)
-    (first second peer peer' l r l' r' up up' : List ℕ) (p : Parting D) → peer_of H P (length bits) ≡ peer → peer_of H Q (length bits) ≡ peer' → IsClimb H P x Q y bits first second p
+    (first second peer peer' l r l' r' up up' : List ℕ) (p : Divergence D) → peer_of H P (length bits) ≡ peer → peer_of H Q (length bits) ≡ peer' → IsClimb H P x Q y bits first second p
     → (l ≡ cond b peer first) × (r ≡ cond b first peer) → (l' ≡ cond b peer' second) × (r' ≡ cond b second peer') → up ≡ H (branch_input l r) → up' ≡ H (branch_input l' r')
     → (l ≡ l') × (r ≡ r') → IsClimb H P x Q y (b ∷ bits) up up' p
 unfolding proof_value
 climb_same H P x Q y b bits first second peer peer' l r l' r' up up' p at at' climb parts parts' is is' same = record {
   first_is = is ∙ ap H (fork_is H P x b bits first peer l r climb.first_is at parts.0 parts.1);
   second_is = is' ∙ ap H (fork_is H Q y b bits second peer' l' r' climb.second_is at' parts'.0 parts'.1);
-  parts = λ _. widened_path H P x Q y b bits p (climb.parts (near_same b first peer second peer' l r l' r' parts.1 parts.0 parts'.1 parts'.0 same));
+  diverges = λ _. widened_path H P x Q y b bits p (climb.diverges (near_same b first peer second peer' l r l' r' parts.1 parts.0 parts'.1 parts'.0 same));
 }
 
 -- one bit up, where they differ
-pub climb_parts : {D : Type 0} (H : List ℕ → List ℕ) (P : List (Option (List ℕ))) (x : List ℕ) (Q : List (Option (List ℕ))) (y : List ℕ) (b : Bool) (bits : List Bool)
-    (first second peer peer' l r l' r' up up' : List ℕ) (p : Parting D) → peer_of H P (length bits) ≡ peer → peer_of H Q (length bits) ≡ peer' → IsClimb H P x Q y bits first second p
+pub climb_diverges : {D : Type 0} (H : List ℕ → List ℕ) (P : List (Option (List ℕ))) (x : List ℕ) (Q : List (Option (List ℕ))) (y : List ℕ) (b : Bool) (bits : List Bool)
+    (first second peer peer' l r l' r' up up' : List ℕ) (p : Divergence D) → peer_of H P (length bits) ≡ peer → peer_of H Q (length bits) ≡ peer' → IsClimb H P x Q y bits first second p
     → (l ≡ cond b peer first) × (r ≡ cond b first peer) → (l' ≡ cond b peer' second) × (r' ≡ cond b second peer') → up ≡ H (branch_input l r) → up' ≡ H (branch_input l' r')
     → length l ≡ length l' → ((l ≡ l') × (r ≡ r') → ⊥) → IsClimb {D = D} H P x Q y (b ∷ bits) up up' (Branch l r l' r')
 unfolding proof_value
-climb_parts H P x Q y b bits first second peer peer' l r l' r' up up' p at at' climb parts parts' is is' len other = record {
+climb_diverges H P x Q y b bits first second peer peer' l r l' r' up up' p at at' climb parts parts' is is' len other = record {
   first_is = is ∙ ap H (fork_is H P x b bits first peer l r climb.first_is at parts.0 parts.1);
   second_is = is' ∙ ap H (fork_is H Q y b bits second peer' l' r' climb.second_is at' parts'.0 parts'.1);
-  parts = λ e. record {
+  diverges = λ e. record {
     above = [];
     bit = b;
     below = bits;
-    parts = refl;
+    split = refl;
     first_input = fork_is H P x b bits first peer l r climb.first_is at parts.0 parts.1;
     second_input = fork_is H Q y b bits second peer' l' r' climb.second_is at' parts'.0 parts'.1;
     differ = inputs_differ l r l' r' len other;
@@ -92,12 +92,12 @@ peer_len H P gives holds i = ⊎_elim
     there None h = empty_len H gives i
     there (Some digest) h = h digest refl
 
--- two evaluations of one root part at a branch, or have one leaf digest
-pub parted_on_path : (H : List ℕ → List ℕ) (P : List (Option (List ℕ))) (x : List ℕ) (Q : List (Option (List ℕ))) (y : List ℕ) → GivesHashes H → HoldsPeers P → HoldsPeers Q → length x ≡ 32 → length y ≡ 32
-    → (bits : List Bool) → proof_value H P x bits ≡ proof_value H Q y bits → (p : Part) × IsPathParting H P x Q y bits p
+-- two evaluations of one root diverge at a branch, or have one leaf digest
+pub diverged_on_path : (H : List ℕ → List ℕ) (P : List (Option (List ℕ))) (x : List ℕ) (Q : List (Option (List ℕ))) (y : List ℕ) → GivesHashes H → HoldsPeers P → HoldsPeers Q → length x ≡ 32 → length y ≡ 32
+    → (bits : List Bool) → proof_value H P x bits ≡ proof_value H Q y bits → (p : SomeDivergence) × IsPathDivergence H P x Q y bits p
 unfolding proof_value
-parted_on_path H P x Q y gives holds holds' size size' [] e = (Target, e)
-parted_on_path H P x Q y gives holds holds' size size' (b ∷ bits) e =
+diverged_on_path H P x Q y gives holds holds' size size' [] e = (Target, e)
+diverged_on_path H P x Q y gives holds holds' size size' (b ∷ bits) e =
     let peer = peer_of H P (length bits) in
     let peer' = peer_of H Q (length bits) in
     let value = proof_value H P x bits in
@@ -105,7 +105,7 @@ parted_on_path H P x Q y gives holds holds' size size' (b ∷ bits) e =
     ⊎_elim
     (λ (same : cond b peer value ≡ cond b peer' value'). ⊎_elim
     (λ (same' : cond b value peer ≡ cond b value' peer').
-    let deep = parted_on_path H P x Q y gives holds holds' size size' bits (near_same b value peer value' peer' _ _ _ _ refl refl refl refl (same, same')) in
+    let deep = diverged_on_path H P x Q y gives holds holds' size size' bits (near_same b value peer value' peer' _ _ _ _ refl refl refl refl (same, same')) in
     (deep.0, widened_path H P x Q y b bits deep.0 deep.1))
     (λ (other : cond b value peer ≡ cond b value' peer' → ⊥). here (λ both. other both.1))
     (same_or_not (cond b value peer) (cond b value' peer')))
@@ -118,7 +118,7 @@ parted_on_path H P x Q y gives holds holds' size size' (b ∷ bits) e =
 
     here : ((cond b (peer_of H P (length bits)) (proof_value H P x bits) ≡ cond b (peer_of H Q (length bits)) (proof_value H Q y bits))
         × (cond b (proof_value H P x bits) (peer_of H P (length bits)) ≡ cond b (proof_value H Q y bits) (peer_of H Q (length bits))) → ⊥)
-        → (p : Part) × IsPathParting H P x Q y (b ∷ bits) p
+        → (p : SomeDivergence) × IsPathDivergence H P x Q y (b ∷ bits) p
     here other =
         let first = fork_is H P x b bits _ _ _ _ refl refl refl refl in
         let second = fork_is H Q y b bits _ _ _ _ refl refl refl refl in (
@@ -128,7 +128,7 @@ parted_on_path H P x Q y gives holds holds' size size' (b ∷ bits) e =
             above = [];
             bit = b;
             below = bits;
-            parts = refl;
+            split = refl;
             first_input = first;
             second_input = second;
             differ = inputs_differ _ _ _ _

@@ -30,7 +30,7 @@ multiple c k h le = let sum : h ≡ h - k + k = omega arith in rw (ap (λ i. 2 ^
 
 -- a range that isn't full has more than one leaf
 pub more_than_one : (n : ℕ) → 0 < n → (IsFull n → ⊥) → 1 < n
-more_than_one n some part = grind arith
+more_than_one n some not_full = grind arith
 
 pub known : LogLaws → Known
 unfolding LogLaws

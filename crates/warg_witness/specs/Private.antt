@@ -4,5 +4,5 @@ pub mod Ranges
 pub mod MapMeeting
 pub mod MapPaths
 pub mod Meeting
-pub mod Parting
+pub mod Divergence
 pub mod Compared

@@ -1,19 +1,19 @@
-//! The way down two trees that have one digest, to where they part.
+//! The way down two trees that have one digest, to where they diverge.
 
-ghost use Rattle.std.specs.Prelude.{◌≡◌, ℕ, ◌+◌, ◌-◌, ◌<◌, ◌≤◌, ◌↔◌, List, length, Some, IsSome, IsTrue};
+ghost use Rattle.std.specs.Prelude.{◌≡◌, ℕ, ◌+◌, ◌-◌, ◌<◌, ◌≤◌, ◌↔◌, Some, IsSome, IsTrue};
 ghost use Rattle.warg_log.specs.Tree.{front_of};
 ghost use Rattle.warg_log.specs.Cut.{cut_over};
-ghost use Rattle.warg_witness.specs.Private.Parting.{HaveOneDigest, IsParting};
+ghost use Rattle.warg_witness.specs.Private.Divergence.{HaveOneDigest, IsDivergence};
 ghost use Rattle.warg_witness.specs.Ranges.{IsAround};
 ghost use Rattle.warg_witness.specs.Private.Ranges.{IsAligned, IsNodeRange, IsSide};
 
 use crate::laws::log_laws;
 use warg_crypto::{Hash, SupportedDigest, VisitBytes};
-use warg_log::{Interval, LogData, range_root};
+use warg_log::{LeafRange, LogData, range_root};
 
-/// Where two trees part that have one digest at a range.
+/// Where two trees diverge that have one digest at a range.
 #[derive(Drop)]
-pub(crate) enum Parting<D> {
+pub(crate) enum Divergence<D> {
     /// Nowhere: they have one digest at the target too.
     Target,
     /// At a branch with these digests on both sides.
@@ -25,35 +25,21 @@ pub(crate) enum Parting<D> {
     },
 }
 
-impl<D> Parting<D> {
-    /// Whether the trees part nowhere.
+impl<D> Divergence<D> {
+    /// Whether the trees diverge nowhere.
     pub(crate) fn is_target(&self) -> bool
-        ensures { IsTrue result ↔ (self.now ≡ Parting.Target) }
+        ensures { IsTrue result ↔ (self.now ≡ Divergence.Target) }
     {
-        matches!(self, Parting::Target)
+        matches!(self, Divergence::Target)
     }
 }
 
-/// Whether two branches have the same digests below them.
-pub(crate) fn is_same<D>(
-    left: &Hash<D>,
-    other_left: &Hash<D>,
-    right: &Hash<D>,
-    other_right: &Hash<D>,
-) -> bool
-    ensures same { IsTrue result ↔ ((left.now ≡ other_left.now) × (right.now ≡ other_right.now)) }
-    ensures sizes { length left.now ≡ length other_left.now }
-{
-    prove_eq!(left.len(), other_left.len());
-    left == other_left && right == other_right
-}
-
 // The digests of the two parts of a range around the target.
-fn parts<D: SupportedDigest, V: VisitBytes, L: LogData<D, V>>(
+fn part_digests<D: SupportedDigest, V: VisitBytes, L: LogData<D, V>>(
     hashes: &L,
-    target: &Interval,
+    target: &LeafRange,
     hash: &Hash<D>,
-    range: &Interval,
+    range: &LeafRange,
 ) -> (Hash<D>, Hash<D>)
     requires around { IsAround target.now.start target.now.count range.now.start range.now.count }
     requires other { range.now.start ≡ target.now.start → range.now.count ≡ target.now.count → ⊥ }
@@ -75,7 +61,7 @@ fn parts<D: SupportedDigest, V: VisitBytes, L: LogData<D, V>>(
 }
 
 // The part of a range that has the target, where the range is larger.
-fn part_around(target: &Interval, range: &Interval) -> Interval
+fn part_around(target: &LeafRange, range: &LeafRange) -> LeafRange
     requires node { IsNodeRange target.now.start target.now.count }
     requires aligned { IsAligned range.now.start range.now.count }
     requires around { IsAround target.now.start target.now.count range.now.start range.now.count }
@@ -101,25 +87,26 @@ pub(crate) fn descend<D: SupportedDigest, V: VisitBytes, L: LogData<D, V>, M: Lo
     first_hash: &Hash<D>,
     second: &M,
     second_hash: &Hash<D>,
-    target: &Interval,
-    range: &Interval,
-) -> Parting<D>
+    target: &LeafRange,
+    range: &LeafRange,
+) -> Divergence<D>
     requires node { IsNodeRange target.now.start target.now.count }
     requires aligned { IsAligned range.now.start range.now.count }
     requires around { IsAround target.now.start target.now.count range.now.start range.now.count }
     requires one { HaveOneDigest D.digest (L.digest_at first.now) first_hash.now (M.digest_at second.now) second_hash.now
         target.now.start target.now.count range.now.start range.now.count }
-    ensures { IsParting D.digest (L.digest_at first.now) first_hash.now (M.digest_at second.now) second_hash.now
+    ensures { IsDivergence D.digest (L.digest_at first.now) first_hash.now (M.digest_at second.now) second_hash.now
         target.now.start target.now.count range.now.start range.now.count result }
 {
     log_laws();
     if range.equals(target) {
-        return Parting::Target;
+        return Divergence::Target;
     }
-    let (first_left, first_right) = parts(first, target, first_hash, range);
-    let (second_left, second_right) = parts(second, target, second_hash, range);
-    if !is_same(&first_left, &second_left, &first_right, &second_right) {
-        return Parting::Branch {
+    let (first_left, first_right) = part_digests(first, target, first_hash, range);
+    let (second_left, second_right) = part_digests(second, target, second_hash, range);
+    prove_eq!(first_left.len(), second_left.len());
+    if first_left != second_left || first_right != second_right {
+        return Divergence::Branch {
             first_left,
             first_right,
             second_left,

@@ -22,7 +22,7 @@ use std::alloc::Allocator;
 use warg_crypto::SupportedDigest;
 use warg_log::laws::{
     balanced_full, balanced_parts, consistency_met, cut_old, cut_own_range, cut_parts, cut_size,
-    cut_target, front_is_greatest, interval_has_number, number_is_node, old_full, old_parts,
+    cut_target, front_is_greatest, number_is_node, old_full, old_parts, range_has_number,
     root_over_one, root_over_parts,
 };
 use warg_map::laws::{all_bits, last_held, root_at_prefix, same_digest};
@@ -32,7 +32,7 @@ pub(crate) fn log_laws()
     ensures { LogLaws }
 {
     front_is_greatest();
-    interval_has_number();
+    range_has_number();
     number_is_node();
     root_over_one();
     root_over_parts();

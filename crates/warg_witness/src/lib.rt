@@ -7,13 +7,13 @@
 //! strings of equal digest.
 #![tactic(auto)]
 
+mod collide;
 mod collision;
 mod compare;
 mod descent;
 pub mod laws;
 mod log;
 mod map;
-mod pair;
 mod plain;
 
 pub use collision::{Collision, Finding};

@@ -9,21 +9,21 @@ ghost use Rattle.warg_witness.specs.Private.Compared.{IsAt};
 ghost use Rattle.warg_witness.specs.Inputs.{plain_input};
 ghost use Rattle.warg_witness.specs.Claims.{IsMet, IsEntry, IsRootBelow, IsAgreement};
 ghost use Rattle.warg_witness.specs.Placed.{IsValuePlaced, IsHashPlaced, IsAgreementPlaced};
-ghost use Rattle.warg_witness.specs.Private.Parting.{Collides, PartsAtBranch, inputs_of};
+ghost use Rattle.warg_witness.specs.Private.Divergence.{Collides, DivergesAtBranch, inputs_of};
 ghost use Rattle.warg_witness.specs.Private.Meeting.{IsMeeting};
 
 mod consistency;
 
+use crate::collide::{collide_branch, collide_values};
 use crate::collision::{Collision, Finding, leaf_bytes};
 use crate::compare::have_same_bytes;
-use crate::descent::{Parting, descend};
+use crate::descent::{Divergence, descend};
 use crate::laws::log_laws;
-use crate::pair::{collide_values, part};
-use crate::plain::{plain_bytes, plain_digest, plain_root, plain_tree};
+use crate::plain::{plain_bytes, plain_digest, plain_tree};
 pub use consistency::witness_consistency;
 use std::alloc::{AllocError, Allocator};
 use warg_crypto::{Hash, SupportedDigest, VisitBytes};
-use warg_log::{InclusionProof, Interval, LogData, VecLog, hash_leaf};
+use warg_log::{InclusionProof, LeafRange, LogData, VecLog, hash_leaf};
 
 /// A proof whose evaluation leads to the root of the given entries.
 #[derive(Drop)]
@@ -31,14 +31,14 @@ pub(crate) struct Meeting<D: SupportedDigest, V: VisitBytes, A: Allocator> {
     // The tree over the entries.
     tree: VecLog<D, V, A>,
     // The node's leaves, and the root over them in that tree.
-    target: Interval,
+    target: LeafRange,
     plain: Hash<D>,
-    // Where the evaluation parts from the tree on the way from the root to the node.
-    parting: Parting<D>,
+    // Where the evaluation diverges from the tree on the way from the root to the node.
+    divergence: Divergence<D>,
 }
 
 // The meeting of a proof with a digest at its node with the entries, or None where they don't meet.
-fn meet<D: SupportedDigest, V: VisitBytes, L: LogData<D, V>, A: Allocator + Copy>(
+fn meet_entries<D: SupportedDigest, V: VisitBytes, L: LogData<D, V>, A: Allocator + Copy>(
     alloc: A,
     proof: &InclusionProof<D, V>,
     hashes: &L,
@@ -50,7 +50,7 @@ fn meet<D: SupportedDigest, V: VisitBytes, L: LogData<D, V>, A: Allocator + Copy
     ensures met { IfOk result (λ met. MatchOption met
         (IsMet D.digest (L.digest_at hashes.now) hash.now proof.now.leaf.0 proof.now.log_length (map (λ e. V.bytes e) entries.now) → ⊥)
         (λ m. IsMeeting D.digest (L.digest_at hashes.now) hash.now proof.now.leaf.0 proof.now.log_length (map (λ e. V.bytes e) entries.now)
-        m.tree m.target.start m.target.count m.plain m.parting)) }
+        m.tree m.target.start m.target.count m.plain m.divergence)) }
 {
     log_laws();
     if entries.len() != proof.log_length() {
@@ -59,19 +59,19 @@ fn meet<D: SupportedDigest, V: VisitBytes, L: LogData<D, V>, A: Allocator + Copy
     let Ok(root) = proof.evaluate_hash(hashes, hash.copied()) else {
         return Ok(None);
     };
-    let tree = plain_tree(alloc, entries)?;
-    if root != plain_root(&tree) {
+    let (tree, plain_root) = plain_tree(alloc, entries)?;
+    if root != plain_root {
         return Ok(None);
     }
-    let target = proof.leaf().interval();
-    let whole = Interval::new(0, proof.log_length());
+    let target = proof.leaf().leaf_range();
+    let whole = LeafRange::new(0, proof.log_length());
     let plain = plain_digest(&tree, &target);
-    let parting = descend(hashes, hash, &tree, &plain, &target, &whole);
+    let divergence = descend(hashes, hash, &tree, &plain, &target, &whole);
     Ok(Some(Meeting {
         tree,
         target,
         plain,
-        parting,
+        divergence,
     }))
 }
 
@@ -90,7 +90,7 @@ fn is_entry<D: SupportedDigest, V: VisitBytes, A: Allocator>(
     have_same_bytes(value, &entries[met.target.start])
 }
 
-// The collision that a false claim of a value shows: where the evaluation parts from the tree, or at the node.
+// The collision that a false claim of a value shows: where the evaluation diverges from the tree, or at the node.
 fn collide<D: SupportedDigest, V: VisitBytes, A: Allocator + Copy>(
     alloc: A,
     met: &Meeting<D, V, A>,
@@ -100,11 +100,11 @@ fn collide<D: SupportedDigest, V: VisitBytes, A: Allocator + Copy>(
     requires tree { met.now.tree ≡ leaves_of D.digest (map (λ e. V.bytes e) entries.now) }
     requires node { IsNodeRange met.now.target.start met.now.target.count }
     requires within { met.now.target.start + met.now.target.count ≤ length entries.now }
-    requires collides { Collides D.digest (inputs_of met.now.parting (0 ∷ V.bytes value.now) (plain_input D.digest (map (λ e. V.bytes e) entries.now) met.now.target.start met.now.target.count)) }
-    ensures { IfOk result (λ c. c ≡ inputs_of met.now.parting (0 ∷ V.bytes value.now) (plain_input D.digest (map (λ e. V.bytes e) entries.now) met.now.target.start met.now.target.count)) }
+    requires collides { Collides D.digest (inputs_of met.now.divergence (0 ∷ V.bytes value.now) (plain_input D.digest (map (λ e. V.bytes e) entries.now) met.now.target.start met.now.target.count)) }
+    ensures { IfOk result (λ c. c ≡ inputs_of met.now.divergence (0 ∷ V.bytes value.now) (plain_input D.digest (map (λ e. V.bytes e) entries.now) met.now.target.start met.now.target.count)) }
 {
-    if !met.parting.is_target() {
-        return part(alloc, &met.parting);
+    if !met.divergence.is_target() {
+        return collide_branch(alloc, &met.divergence);
     }
     let first = leaf_bytes(alloc, value)?;
     let second = plain_bytes(alloc, &met.tree, entries, &met.target)?;
@@ -149,7 +149,7 @@ pub fn witness_value<D: SupportedDigest, V: VisitBytes, L: LogData<D, V>, A: All
 {
     log_laws();
     let hash = hash_leaf::<D, V>(value);
-    let Some(met) = meet(alloc, proof, hashes, &hash, entries)? else {
+    let Some(met) = meet_entries(alloc, proof, hashes, &hash, entries)? else {
         return Ok(Finding::NotMet);
     };
     if is_entry(&met, value, entries)? {
@@ -187,13 +187,13 @@ pub fn witness_hash<D: SupportedDigest, V: VisitBytes, L: LogData<D, V>, A: Allo
         → IsHashPlaced D.digest (L.digest_at hashes.now) hash proof.now.leaf.0 (map (λ e. V.bytes e) entries.now) c.0 c.1) }
 {
     log_laws();
-    let Some(met) = meet(alloc, proof, hashes, &hash, entries)? else {
+    let Some(met) = meet_entries(alloc, proof, hashes, &hash, entries)? else {
         return Ok(Finding::NotMet);
     };
     if hash == met.plain {
         return Ok(Finding::Holds);
     }
-    Ok(Finding::Collision(part(alloc, &met.parting)?))
+    Ok(Finding::Collision(collide_branch(alloc, &met.divergence)?))
 }
 
 /// Whether two evaluations of one proof, over two data and with two values, that lead to one root, whichever
@@ -241,9 +241,9 @@ pub fn agree_value<
     if have_same_bytes(first_value, second_value)? {
         return Ok(Finding::Holds);
     }
-    let whole = Interval::new(0, proof.log_length());
-    let target = proof.leaf().interval();
-    let parting = descend(
+    let whole = LeafRange::new(0, proof.log_length());
+    let target = proof.leaf().leaf_range();
+    let divergence = descend(
         first_hashes,
         &first_hash,
         second_hashes,
@@ -251,6 +251,6 @@ pub fn agree_value<
         &target,
         &whole,
     );
-    let pair = collide_values(alloc, &parting, first_value, second_value)?;
+    let pair = collide_values(alloc, &divergence, first_value, second_value)?;
     Ok(Finding::Collision(pair))
 }

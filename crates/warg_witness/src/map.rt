@@ -7,7 +7,7 @@ ghost use Rattle.warg_witness.specs.MapClaims.{value_in, IsKeyMet, IsAbsenceMet,
 ghost use Rattle.warg_witness.specs.MapPlaced.{IsKeyPlaced, IsKeyAgreementPlaced};
 ghost use Rattle.warg_witness.specs.Private.MapMeeting.{IsKeyMeeting};
 ghost use Rattle.warg_witness.specs.Private.MapPaths.{IsLastPlace};
-ghost use Rattle.warg_witness.specs.Private.Parting.{Collides};
+ghost use Rattle.warg_witness.specs.Private.Divergence.{Collides};
 
 mod empty;
 mod keys;
@@ -15,10 +15,10 @@ mod last;
 mod path;
 mod tree;
 
+use crate::collide::{collide_branch, collide_values};
 use crate::collision::{Collision, Finding};
 use crate::compare::have_same_bytes;
-use crate::descent::Parting;
-use crate::pair::{collide_values, part};
+use crate::descent::Divergence;
 use empty::empty_trees;
 use last::is_last_value;
 use path::{Evaluation, meet_on_path};
@@ -32,8 +32,8 @@ use warg_map::laws::{all_bits, last_held, same_digest};
 // A proof that leads to the plain root of given insertions.
 #[derive(Drop)]
 struct KeyMeeting<D> {
-    // Where the evaluation parts from the plain tree on the way from the root to the key's leaf.
-    parting: Parting<D>,
+    // Where the evaluation diverges from the plain tree on the way from the root to the key's leaf.
+    divergence: Divergence<D>,
     // The place of the last insertion under the key's digest.
     last: Option<usize>,
 }
@@ -54,7 +54,13 @@ fn plain_leaf<D: SupportedDigest, K: VisitBytes, V: VisitBytes>(
 }
 
 // The meeting of a proof with the insertions, or None where they don't meet.
-fn meet<D: SupportedDigest, K: VisitBytes, V: VisitBytes, W: VisitBytes, A: Allocator + Copy>(
+fn meet_insertions<
+    D: SupportedDigest,
+    K: VisitBytes,
+    V: VisitBytes,
+    W: VisitBytes,
+    A: Allocator + Copy,
+>(
     alloc: A,
     peers: &[Option<Hash<D>>],
     key: &K,
@@ -64,7 +70,7 @@ fn meet<D: SupportedDigest, K: VisitBytes, V: VisitBytes, W: VisitBytes, A: Allo
     requires { length peers.now ≤ 256 }
     ensures { IfOk result (λ met. MatchOption met
         (IsKeyMet D.digest peers.now (K.bytes key.now) (W.bytes value.now) (pair_bytes K.bytes V.bytes insertions.now) → ⊥)
-        (λ m. IsKeyMeeting D.digest peers.now (K.bytes key.now) (W.bytes value.now) (pair_bytes K.bytes V.bytes insertions.now) m.parting m.last)) }
+        (λ m. IsKeyMeeting D.digest peers.now (K.bytes key.now) (W.bytes value.now) (pair_bytes K.bytes V.bytes insertions.now) m.divergence m.last)) }
 {
     last_held();
     all_bits();
@@ -79,11 +85,11 @@ fn meet<D: SupportedDigest, K: VisitBytes, V: VisitBytes, W: VisitBytes, A: Allo
         peers: &plain.peers,
         leaf: plain_leaf(insertions, plain.last),
     };
-    let Some(parting) = meet_on_path(&digest, evaluation, tree) else {
+    let Some(divergence) = meet_on_path(&digest, evaluation, tree) else {
         return Ok(None);
     };
     Ok(Some(KeyMeeting {
-        parting,
+        divergence,
         last: plain.last,
     }))
 }
@@ -102,7 +108,7 @@ fn collide_keys<D: SupportedDigest, K: VisitBytes, A: Allocator + Copy>(
     Ok(Collision::new(first, second))
 }
 
-// The collision that a false claim of a key shows: where the evaluation parts from the plain tree, at the leaf, or
+// The collision that a false claim of a key shows: where the evaluation diverges from the plain tree, at the leaf, or
 // the key with another one of its digest.
 fn collide<D: SupportedDigest, K: VisitBytes, V: VisitBytes, W: VisitBytes, A: Allocator + Copy>(
     alloc: A,
@@ -111,25 +117,25 @@ fn collide<D: SupportedDigest, K: VisitBytes, V: VisitBytes, W: VisitBytes, A: A
     value: &W,
     insertions: &[(K, V)],
 ) -> Result<Collision<D, A>, AllocError>
-    requires met { (peers : List (Option (List ℕ))) × IsKeyMeeting D.digest peers (K.bytes key.now) (W.bytes value.now) (pair_bytes K.bytes V.bytes insertions.now) met.now.parting met.now.last }
+    requires met { (peers : List (Option (List ℕ))) × IsKeyMeeting D.digest peers (K.bytes key.now) (W.bytes value.now) (pair_bytes K.bytes V.bytes insertions.now) met.now.divergence met.now.last }
     requires untrue { IsLastValue (K.bytes key.now) (W.bytes value.now) (pair_bytes K.bytes V.bytes insertions.now) → ⊥ }
-    ensures { IfOk result (λ c. (peers : List (Option (List ℕ))) → IsKeyMeeting D.digest peers (K.bytes key.now) (W.bytes value.now) (pair_bytes K.bytes V.bytes insertions.now) met.now.parting met.now.last
+    ensures { IfOk result (λ c. (peers : List (Option (List ℕ))) → IsKeyMeeting D.digest peers (K.bytes key.now) (W.bytes value.now) (pair_bytes K.bytes V.bytes insertions.now) met.now.divergence met.now.last
         → IsKeyPlaced D.digest peers (W.bytes value.now) (K.bytes key.now) (pair_bytes K.bytes V.bytes insertions.now) c.0 c.1) }
 {
     last_held();
     all_bits();
     same_digest();
-    if !met.parting.is_target() {
-        return part(alloc, &met.parting);
+    if !met.divergence.is_target() {
+        return collide_branch(alloc, &met.divergence);
     }
     let Some(place) = met.last else {
-        return collide_values(alloc, &met.parting, value, &());
+        return collide_values(alloc, &met.divergence, value, &());
     };
     let (inserted, last) = &insertions[place];
     if have_same_bytes(value, last)? {
         return collide_keys(alloc, key, inserted);
     }
-    collide_values(alloc, &met.parting, value, last)
+    collide_values(alloc, &met.divergence, value, last)
 }
 
 // What a proof's peers and a value, or no bytes, show of a key.
@@ -150,7 +156,7 @@ fn find<D: SupportedDigest, K: VisitBytes, V: VisitBytes, W: VisitBytes, A: Allo
     ensures collision { IfOk result (λ f. (c : _) → f ≡ Finding.Collision c
         → IsKeyPlaced D.digest peers.now (W.bytes value.now) (K.bytes key.now) (pair_bytes K.bytes V.bytes insertions.now) c.0 c.1) }
 {
-    let Some(met) = meet(alloc, peers, key, value, insertions)? else {
+    let Some(met) = meet_insertions(alloc, peers, key, value, insertions)? else {
         return Ok(Finding::NotMet);
     };
     if is_last_value(key, value, insertions)? {
@@ -266,12 +272,12 @@ pub fn agree_key<
         peers: second_proof.peers(),
         leaf: hash_leaf(second_value),
     };
-    let Some(parting) = meet_on_path(&digest, first, second) else {
+    let Some(divergence) = meet_on_path(&digest, first, second) else {
         return Ok(Finding::NotMet);
     };
     if have_same_bytes(first_value, second_value)? {
         return Ok(Finding::Holds);
     }
-    let pair = collide_values(alloc, &parting, first_value, second_value)?;
+    let pair = collide_values(alloc, &divergence, first_value, second_value)?;
     Ok(Finding::Collision(pair))
 }

@@ -9,34 +9,26 @@ use crate::collision::{branch_bytes, leaf_bytes};
 use crate::laws::log_laws;
 use std::alloc::{AllocError, Allocator};
 use warg_crypto::{Hash, SupportedDigest, VisitBytes};
-use warg_log::{Interval, LogBuilder, VecLog, push_all, stored_root};
+use warg_log::{LeafRange, VecLog, push_all, stored_root};
 
-/// The tree over the entries: the log of them. It hashes each leaf and each branch once.
+/// The tree over the entries, which is the log of them, and its root. It hashes each leaf and each branch once.
 pub(crate) fn plain_tree<D: SupportedDigest, V: VisitBytes, A: Allocator>(
     alloc: A,
     entries: &[V],
-) -> Result<VecLog<D, V, A>, AllocError>
+) -> Result<(VecLog<D, V, A>, Hash<D>), AllocError>
     requires { length entries.now ≤ 2 ^ 63 }
-    ensures { IfOk result (λ tree. tree ≡ leaves_of D.digest (map (λ e. V.bytes e) entries.now)) }
+    ensures tree { IfOk result (λ plain. plain.0 ≡ leaves_of D.digest (map (λ e. V.bytes e) entries.now)) }
+    ensures root { IfOk result (λ plain. plain.1 ≡ root_of D.digest plain.0) }
 {
     let mut tree = VecLog::default(alloc);
-    push_all(&mut tree, entries)?;
-    Ok(tree)
-}
-
-/// The root of the tree.
-pub(crate) fn plain_root<D: SupportedDigest, V: VisitBytes, A: Allocator>(
-    tree: &VecLog<D, V, A>,
-) -> Hash<D>
-    ensures { result ≡ root_of D.digest tree.now }
-{
-    tree.checkpoint().root()
+    let checkpoint = push_all(&mut tree, entries)?;
+    Ok((tree, checkpoint.root()))
 }
 
 /// The root over a range of the tree.
 pub(crate) fn plain_digest<D: SupportedDigest, V: VisitBytes, A: Allocator>(
     tree: &VecLog<D, V, A>,
-    range: &Interval,
+    range: &LeafRange,
 ) -> Hash<D>
     requires aligned { IsAligned range.now.start range.now.count }
     requires within { range.now.start + range.now.count ≤ length tree.now }
@@ -54,7 +46,7 @@ pub(crate) fn plain_bytes<D: SupportedDigest, V: VisitBytes, A: Allocator + Copy
     alloc: A,
     tree: &VecLog<D, V, A>,
     entries: &[V],
-    range: &Interval,
+    range: &LeafRange,
 ) -> Result<Vec<u8, A>, AllocError>
     requires tree { tree.now ≡ leaves_of D.digest (map (λ e. V.bytes e) entries.now) }
     requires aligned { IsAligned range.now.start range.now.count }

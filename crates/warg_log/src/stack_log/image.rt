@@ -12,9 +12,9 @@ ghost use Rattle.warg_protobuf.specs.Reading.{Answers};
 ghost use Rattle.warg_log.specs.Decoding.{first_fault, digest_fault};
 ghost use Rattle.warg_log.specs.Images.{root_entry, RootsFit, stack_message, stack_in, stack_of};
 
+use crate::balanced_roots::BalancedRoots;
 use crate::error::{DecodeError, EncodeError};
-use crate::interval::Interval;
-use crate::proof_bundle::{entry, read_hash};
+use crate::message::{entry, read_hash};
 use crate::stack_log::StackLog;
 use std::alloc::{AllocError, Allocator};
 use std::marker::PhantomData;
@@ -54,10 +54,7 @@ impl<D: SupportedDigest, V: VisitBytes, A: Allocator + Copy> StackLog<D, V, A> {
         ensures exact { Answers DecodeError.Memory result (stack_of bytes.now) }
         ensures wire { result ≢ Err (DecodeError.Wire wire.Memory) }
     {
-        let message = match Message::decode(alloc, bytes) {
-            Ok(message) => message,
-            Err(fault) => return Err(DecodeError::from(fault)),
-        };
+        let message = Message::decode(alloc, bytes)?;
         StackLog::from_message(alloc, message)
     }
 
@@ -115,19 +112,14 @@ fn are_roots<A: Allocator>(entries: &[HashEntry<A>], count: usize) -> bool
     requires { count ≤ 2 ^ 63 }
     ensures { result ≡ pointwise nat_eq (map (λ e. e.index) entries.now) (balanced_roots count) }
 {
-    let mut start = 0;
+    let mut roots = BalancedRoots::of(count);
     'entries: for entry in entries {
-        if start == count {
-            return false;
+        match roots.next() {
+            Some(root) if root.0 == entry.index as usize => (),
+            _ => return false,
         }
-        let root = Interval::first_root(start, count);
-        let number = entry.index as usize;
-        if number != root.node().0 {
-            return false;
-        }
-        start = root.end();
     }
-    start == count
+    roots.next().is_none()
 }
 
 // The entries of the balanced roots of a length, with these digests.
@@ -142,12 +134,13 @@ fn entries<D, A: Allocator + Copy>(
     ensures lengths { IfOk result (λ entries. AllByRecursion (λ d. length d ≡ 32) blocks.now) }
 {
     let mut entries = Vec::new(alloc);
-    let mut start = 0;
-    'roots: for block in blocks {
-        let root = Interval::first_root(start, count);
-        let written = entry(alloc, root.node().0 as u32, block)?;
+    let mut roots = BalancedRoots::of(count);
+    'blocks: for block in blocks {
+        let Some(root) = roots.next() else {
+            unreachable!()
+        };
+        let written = entry(alloc, root.0 as u32, block)?;
         entries.push(written)?;
-        start = root.end();
     }
     Ok(entries)
 }

@@ -11,10 +11,9 @@ ghost use Rattle.warg_log.specs.Images.{is_slice_of_length, vec_message, vec_in,
 ghost use Rattle.warg_log.specs.Private.Slices.{IsHeld};
 
 use crate::error::{DecodeError, EncodeError};
-use crate::join::same;
 use crate::log::{hash_branch, hash_empty};
+use crate::message::read_hash;
 use crate::node::Node;
-use crate::proof_bundle::read_hash;
 use crate::vec_log::VecLog;
 use std::alloc::{AllocError, Allocator};
 use std::marker::PhantomData;
@@ -55,10 +54,7 @@ impl<D: SupportedDigest, V: VisitBytes, A: Allocator + Copy> VecLog<D, V, A> {
         ensures exact { Answers DecodeError.Memory result (vec_of D.digest bytes.now) }
         ensures wire { result ≢ Err (DecodeError.Wire wire.Memory) }
     {
-        let message = match Message::decode(alloc, bytes) {
-            Ok(message) => message,
-            Err(fault) => return Err(DecodeError::from(fault)),
-        };
+        let message = Message::decode(alloc, bytes)?;
         VecLog::from_message(alloc, message)
     }
 
@@ -117,7 +113,7 @@ fn is_slice<D: SupportedDigest>(tree: &[Hash<D>], count: usize, spacer: &Hash<D>
         return false;
     }
     'branches: for place in 1..count {
-        if !is_held(tree, count, Node(2 * place - 1), spacer) {
+        if !is_held(tree, count, Node::branch_before(place), spacer) {
             return false;
         }
     }
@@ -135,10 +131,10 @@ fn is_held<D: SupportedDigest>(tree: &[Hash<D>], count: usize, node: Node, space
 {
     let held = &tree[node.0];
     if !node.exists_at_length(count) {
-        return same(held, spacer);
+        return held == spacer;
     }
     let (left, right) = node.children();
-    same(held, &hash_branch(&tree[left.0], &tree[right.0]))
+    *held == hash_branch(&tree[left.0], &tree[right.0])
 }
 
 // The bytes of these digests.

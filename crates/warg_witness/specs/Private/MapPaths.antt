@@ -10,37 +10,37 @@ use Rattle.warg_map.specs.Last.{last_under}
 use Rattle.warg_map.specs.ProofValue.{proof_value}
 use Rattle.warg_witness.specs.Inputs.{branch_input}
 use Rattle.warg_witness.specs.MapInputs.{fork_input}
-use Rattle.warg_witness.specs.declared.descent.Parting.{Parting}
-use Rattle.warg_witness.specs.declared.descent.Parting.TheVariants.{Target, Branch}
+use Rattle.warg_witness.specs.declared.descent.Divergence.{Divergence}
+use Rattle.warg_witness.specs.declared.descent.Divergence.TheVariants.{Target, Branch}
 
 -- At a branch on the way along the bits, the inputs of the evaluations by the peers P from the leaf digest x and
 -- by Q from y differ and have one digest.
-pub record PartsOnPath (H : List ℕ → List ℕ) (P : List (Option (List ℕ))) (x : List ℕ) (Q : List (Option (List ℕ))) (y : List ℕ) (bits : List Bool) (first second : List ℕ) : Type 0 where
+pub record DivergesOnPath (H : List ℕ → List ℕ) (P : List (Option (List ℕ))) (x : List ℕ) (Q : List (Option (List ℕ))) (y : List ℕ) (bits : List Bool) (first second : List ℕ) : Type 0 where
   pub above : List Bool
   pub bit : Bool
   pub below : List Bool
-  pub parts : bits ≡ above ++ bit ∷ below
+  pub split : bits ≡ above ++ bit ∷ below
   pub first_input : first ≡ fork_input H P x bit below
   pub second_input : second ≡ fork_input H Q y bit below
   pub differ : first ≡ second → ⊥
   pub same : H first ≡ H second
 
--- The two evaluations part nowhere, and have one digest at the leaf, or they part at a branch.
-abbrev pub IsPathParting : {D : _} → (List ℕ → List ℕ) → List (Option (List ℕ)) → List ℕ → List (Option (List ℕ)) → List ℕ → List Bool → Parting D → Type 0
-IsPathParting H P x Q y bits Target = x ≡ y
-IsPathParting H P x Q y bits (Branch first_left first_right second_left second_right) =
-    PartsOnPath H P x Q y bits (branch_input first_left first_right) (branch_input second_left second_right)
+-- The two evaluations diverge nowhere, and have one digest at the leaf, or they diverge at a branch.
+abbrev pub IsPathDivergence : {D : _} → (List ℕ → List ℕ) → List (Option (List ℕ)) → List ℕ → List (Option (List ℕ)) → List ℕ → List Bool → Divergence D → Type 0
+IsPathDivergence H P x Q y bits Target = x ≡ y
+IsPathDivergence H P x Q y bits (Branch first_left first_right second_left second_right) =
+    DivergesOnPath H P x Q y bits (branch_input first_left first_right) (branch_input second_left second_right)
 
--- Two evaluations as far as these bits, up from the leaf: both values, and, where they are one, where they part.
-pub record IsClimb {D : _} (H : List ℕ → List ℕ) (P : List (Option (List ℕ))) (x : List ℕ) (Q : List (Option (List ℕ))) (y : List ℕ) (bits : List Bool) (first second : List ℕ) (parting : Parting D) : Type 0 where
+-- Two evaluations as far as these bits, up from the leaf: both values, and, where they are one, where they diverge.
+pub record IsClimb {D : _} (H : List ℕ → List ℕ) (P : List (Option (List ℕ))) (x : List ℕ) (Q : List (Option (List ℕ))) (y : List ℕ) (bits : List Bool) (first second : List ℕ) (divergence : Divergence D) : Type 0 where
   pub first_is : first ≡ proof_value H P x bits
   pub second_is : second ≡ proof_value H Q y bits
-  pub parts : first ≡ second → IsPathParting H P x Q y bits parting
+  pub diverges : first ≡ second → IsPathDivergence H P x Q y bits divergence
 
--- Two evaluations lead to one root, and part as said on the way down from it.
-pub record MeetsOnPath {D : _} (H : List ℕ → List ℕ) (P : List (Option (List ℕ))) (x : List ℕ) (Q : List (Option (List ℕ))) (y : List ℕ) (bits : List Bool) (parting : Parting D) : Type 0 where
+-- Two evaluations lead to one root, and diverge as said on the way down from it.
+pub record MeetsOnPath {D : _} (H : List ℕ → List ℕ) (P : List (Option (List ℕ))) (x : List ℕ) (Q : List (Option (List ℕ))) (y : List ℕ) (bits : List Bool) (divergence : Divergence D) : Type 0 where
   pub met : proof_value H P x bits ≡ proof_value H Q y bits
-  pub parts : IsPathParting H P x Q y bits parting
+  pub diverges : IsPathDivergence H P x Q y bits divergence
 
 -- The digests of the empty trees of 0 to 256 levels.
 pub record AreEmptyTrees (H : List ℕ → List ℕ) (digests : List (List ℕ)) : Type 0 where

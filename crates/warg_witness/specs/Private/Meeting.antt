@@ -1,22 +1,22 @@
 -- A proof that leads to the root of given entries, and what a witness knows of it.
-use Rattle.std.specs.Prelude.{◌≡◌, ℕ, ◌+◌, ◌^◌, ◌≤◌, List, length, Option, Some}
-use Rattle.warg_log.specs.Nodes.{height_of, start_of, node_over}
+use Rattle.std.specs.Prelude.{◌≡◌, ℕ, ◌+◌, ◌^◌, ◌≤◌, List, length, Option, Some, Contains}
+use Rattle.warg_log.specs.Nodes.{height_of, start_of, node_over, balanced_roots}
 use Rattle.warg_log.specs.Tree.{leaves_of, root_of, root_over, own_digest}
 use Rattle.warg_log.specs.Cut.{cut_over}
-use Rattle.warg_witness.specs.Private.Ranges.{IsNodeRange, IsBalancedRoot}
+use Rattle.warg_witness.specs.Private.Ranges.{IsNodeRange}
 use Rattle.warg_witness.specs.Claims.{IsMet, IsConsistencyMet}
-use Rattle.warg_witness.specs.Private.Parting.{IsParting}
-use Rattle.warg_witness.specs.declared.descent.Parting.{Parting}
+use Rattle.warg_witness.specs.Private.Divergence.{IsDivergence}
+use Rattle.warg_witness.specs.declared.descent.Divergence.{Divergence}
 
 -- The claim with a digest at the node is met; the tree is the one over the entries, the target the node's
--- range, with the plain digest over it, and the evaluation parts from the tree as said.
-pub record IsMeeting {D : _} (H : List ℕ → List ℕ) (F : ℕ → Option (List ℕ)) (digest : List ℕ) (node n : ℕ) (entries : List (List ℕ)) (tree : List (List ℕ)) (start count : ℕ) (plain : List ℕ) (parting : Parting D) : Type 0 where
+-- range, with the plain digest over it, and the evaluation diverges from the tree as said.
+pub record IsMeeting {D : _} (H : List ℕ → List ℕ) (F : ℕ → Option (List ℕ)) (digest : List ℕ) (node n : ℕ) (entries : List (List ℕ)) (tree : List (List ℕ)) (start count : ℕ) (plain : List ℕ) (divergence : Divergence D) : Type 0 where
   pub met : IsMet H F digest node n entries
   pub tree_is : tree ≡ leaves_of H entries
   pub start_is : start ≡ start_of node
   pub count_is : count ≡ 2 ^ height_of node
   pub plain_is : plain ≡ root_over H (leaves_of H entries) (start_of node) (2 ^ height_of node)
-  pub parts : IsParting H F digest (own_digest H tree) (root_over H tree (start_of node) (2 ^ height_of node)) (start_of node) (2 ^ height_of node) 0 (length tree) parting
+  pub diverges : IsDivergence H F digest (own_digest H tree) (root_over H tree (start_of node) (2 ^ height_of node)) (start_of node) (2 ^ height_of node) 0 (length tree) divergence
 
 -- The claim of consistency is met, and the trees are those over the old and the new entries.
 pub record IsConsistencyMeeting (H : List ℕ → List ℕ) (F : ℕ → Option (List ℕ)) (m n : ℕ) (old new old_tree new_tree : List (List ℕ)) : Type 0 where
@@ -27,7 +27,7 @@ pub record IsConsistencyMeeting (H : List ℕ → List ℕ) (F : ℕ → Option 
 -- The w leaves from s on are a balanced root of the old tree, and the digest x is held for it, and leads to
 -- the roots of both trees.
 pub record LeadsToBoth (H : List ℕ → List ℕ) (F : ℕ → Option (List ℕ)) (old_tree new_tree : List (List ℕ)) (s w : ℕ) (x : List ℕ) : Type 0 where
-  pub root : IsBalancedRoot s w 0 (length old_tree)
+  pub root : Contains (balanced_roots (length old_tree)) (node_over s w)
   pub node : IsNodeRange s w
   pub in_old : s + w ≤ length old_tree
   pub in_new : s + w ≤ length new_tree

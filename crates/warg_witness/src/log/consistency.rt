@@ -1,27 +1,28 @@
 //! The witness for consistency proofs.
 
-ghost use Rattle.std.specs.Prelude.{◌≡◌, ℕ, ◌+◌, ◌^◌, ◌<◌, ◌≤◌, ◌↔◌, List, [], ◌∷◌, length, map, None, Some, Ok, Err, IfOk, IsTrue, MatchOption, slice_index_or};
+ghost use Rattle.std.specs.Prelude.{◌≡◌, ℕ, ◌+◌, ◌^◌, ◌<◌, ◌≤◌, ◌↔◌, List, [], ◌∷◌, length, map, None, Some, Ok, Err, IfOk, IsTrue, MatchOption, slice_index_or, Contains};
+ghost use Rattle.warg_log.specs.Nodes.{node_over, balanced_over};
 ghost use Rattle.warg_log.specs.Tree.{leaves_of, root_of, root_over, own_digest};
 ghost use Rattle.warg_log.specs.Cut.{cut_over};
 ghost use Rattle.warg_log.specs.Consistency.{IsConsistent, consistency};
 ghost use Rattle.warg_log.specs.declared.consistency.ConsistencyProofError.{ConsistencyProofError};
 ghost use Rattle.warg_witness.specs.Ranges.{IsAround};
-ghost use Rattle.warg_witness.specs.Private.Ranges.{IsNodeRange, IsBalancedRoot};
+ghost use Rattle.warg_witness.specs.Private.Ranges.{IsAligned, IsNodeRange};
 ghost use Rattle.warg_witness.specs.Claims.{Begins, IsConsistencyMet};
 ghost use Rattle.warg_witness.specs.Placed.{IsConsistencyPlaced};
 ghost use Rattle.warg_witness.specs.Private.Compared.{DiffersFirst, IsFirstDifference};
-ghost use Rattle.warg_witness.specs.Private.Parting.{IsParting};
+ghost use Rattle.warg_witness.specs.Private.Divergence.{IsDivergence};
 ghost use Rattle.warg_witness.specs.Private.Meeting.{IsConsistencyMeeting, LeadsToBoth};
 
+use crate::collide::collide_branch;
 use crate::collision::{Collision, Finding, leaf_bytes};
 use crate::compare::have_same_bytes;
-use crate::descent::{Parting, descend};
+use crate::descent::{Divergence, descend};
 use crate::laws::log_laws;
-use crate::pair::part;
-use crate::plain::{plain_digest, plain_root, plain_tree};
+use crate::plain::{plain_digest, plain_tree};
 use std::alloc::{AllocError, Allocator};
 use warg_crypto::{Hash, SupportedDigest, VisitBytes};
-use warg_log::{ConsistencyProof, Interval, LogData, VecLog};
+use warg_log::{ConsistencyProof, LeafRange, LogData, Node, VecLog};
 
 /// The trees over the old and the new entries.
 #[derive(Drop)]
@@ -42,7 +43,7 @@ fn have_lengths<D, V>(proof: &ConsistencyProof<D, V>, old: &[V], new: &[V]) -> b
 }
 
 // The trees over the entries, or None where the proof doesn't lead to their roots.
-fn meet<D: SupportedDigest, V: VisitBytes, L: LogData<D, V>, A: Allocator + Copy>(
+fn meet_trees<D: SupportedDigest, V: VisitBytes, L: LogData<D, V>, A: Allocator + Copy>(
     alloc: A,
     proof: &ConsistencyProof<D, V>,
     hashes: &L,
@@ -62,12 +63,12 @@ fn meet<D: SupportedDigest, V: VisitBytes, L: LogData<D, V>, A: Allocator + Copy
     let Ok((old_root, new_root)) = proof.evaluate(hashes) else {
         return Ok(None);
     };
-    let old_tree = plain_tree(alloc, old)?;
-    if old_root != plain_root(&old_tree) {
+    let (old_tree, old_plain_root) = plain_tree(alloc, old)?;
+    if old_root != old_plain_root {
         return Ok(None);
     }
-    let new_tree = plain_tree(alloc, new)?;
-    if new_root != plain_root(&new_tree) {
+    let (new_tree, new_plain_root) = plain_tree(alloc, new)?;
+    if new_root != new_plain_root {
         return Ok(None);
     }
     Ok(Some(Trees {
@@ -92,7 +93,7 @@ fn is_same_entry<D: SupportedDigest, V: VisitBytes, A: Allocator>(
     ensures { IfOk result (λ same. IsTrue same ↔ (V.bytes old.now ≡ V.bytes new.now)) }
 {
     log_laws();
-    let leaf = Interval::new(place, 1);
+    let leaf = LeafRange::new(place, 1);
     if plain_digest(&trees.old, &leaf) != plain_digest(&trees.new, &leaf) {
         return Ok(false);
     }
@@ -120,12 +121,14 @@ fn first_difference<D: SupportedDigest, V: VisitBytes, A: Allocator>(
 }
 
 // The balanced root of a range that has the leaf at `place`.
-fn root_around(place: usize, range: &Interval) -> Interval
+fn root_around(place: usize, range: &LeafRange) -> LeafRange
     requires starts { range.now.start ≤ place }
     requires ends { place < range.now.start + range.now.count }
-    ensures root { IsBalancedRoot result.start result.count range.now.start range.now.count }
+    ensures root { Contains (balanced_over range.now.start range.now.count) (node_over result.start result.count) }
+    ensures node { IsAligned range.now.start range.now.count → IsNodeRange result.start result.count }
     ensures around { IsAround place 1 result.start result.count }
 {
+    log_laws();
     if range.is_full() {
         return *range;
     }
@@ -141,7 +144,7 @@ fn held_root<D: SupportedDigest, V: VisitBytes, L: LogData<D, V>, A: Allocator>(
     hashes: &L,
     trees: &Trees<D, V, A>,
     place: usize,
-) -> (Interval, Hash<D>)
+) -> (LeafRange, Hash<D>)
     requires place { place < length trees.now.old }
     requires fits { length trees.now.old ≤ 2 ^ 63 }
     requires met { IsConsistent D.digest (L.digest_at hashes.now) (length trees.now.old) (length trees.now.new) (root_of D.digest trees.now.old) (root_of D.digest trees.now.new) }
@@ -149,56 +152,56 @@ fn held_root<D: SupportedDigest, V: VisitBytes, L: LogData<D, V>, A: Allocator>(
     ensures leads { LeadsToBoth D.digest (L.digest_at hashes.now) trees.now.old trees.now.new result.0.start result.0.count result.1 }
 {
     log_laws();
-    let root = root_around(place, &Interval::new(0, trees.old.length()));
-    match hashes.hash_for(root.node()) {
+    let root = root_around(place, &LeafRange::new(0, trees.old.length()));
+    match hashes.hash_for(Node::over(&root)) {
         Some(hash) => (root, hash),
         None => unreachable!(),
     }
 }
 
-// Where the evaluation, with a digest at a node, parts from the tree to whose root it leads.
-fn part_from<D: SupportedDigest, V: VisitBytes, L: LogData<D, V>, A: Allocator>(
+// Where the evaluation, with a digest at a node, diverges from the tree to whose root it leads.
+fn divergence_from<D: SupportedDigest, V: VisitBytes, L: LogData<D, V>, A: Allocator>(
     hashes: &L,
     hash: &Hash<D>,
-    node: &Interval,
+    node: &LeafRange,
     tree: &VecLog<D, V, A>,
-) -> Parting<D>
+) -> Divergence<D>
     requires node { IsNodeRange node.now.start node.now.count }
     requires within { node.now.start + node.now.count ≤ length tree.now }
     requires fits { length tree.now ≤ 2 ^ 63 }
     requires met { cut_over D.digest (L.digest_at hashes.now) hash.now node.now.start node.now.count 0 (length tree.now) ≡ Some (root_of D.digest tree.now) }
-    ensures { IsParting D.digest (L.digest_at hashes.now) hash.now (own_digest D.digest tree.now) (root_over D.digest tree.now node.now.start node.now.count)
+    ensures { IsDivergence D.digest (L.digest_at hashes.now) hash.now (own_digest D.digest tree.now) (root_over D.digest tree.now node.now.start node.now.count)
         node.now.start node.now.count 0 (length tree.now) result }
 {
     log_laws();
     let plain = plain_digest(tree, node);
-    let whole = Interval::new(0, tree.length());
+    let whole = LeafRange::new(0, tree.length());
     descend(hashes, hash, tree, &plain, node, &whole)
 }
 
-// Where two trees that have one digest at a node part on the way to the leaf at `place`.
-fn part_below<D: SupportedDigest, V: VisitBytes, A: Allocator>(
+// Where two trees that have one digest at a node diverge on the way to the leaf at `place`.
+fn divergence_below<D: SupportedDigest, V: VisitBytes, A: Allocator>(
     trees: &Trees<D, V, A>,
-    node: &Interval,
+    node: &LeafRange,
     place: usize,
-) -> Parting<D>
+) -> Divergence<D>
     requires node { IsNodeRange node.now.start node.now.count }
     requires around { IsAround place 1 node.now.start node.now.count }
     requires in_old { node.now.start + node.now.count ≤ length trees.now.old }
     requires in_new { node.now.start + node.now.count ≤ length trees.now.new }
     requires same { root_over D.digest trees.now.old node.now.start node.now.count ≡ root_over D.digest trees.now.new node.now.start node.now.count }
-    ensures { IsParting D.digest (own_digest D.digest trees.now.old) (root_over D.digest trees.now.old place 1) (own_digest D.digest trees.now.new) (root_over D.digest trees.now.new place 1)
+    ensures { IsDivergence D.digest (own_digest D.digest trees.now.old) (root_over D.digest trees.now.old place 1) (own_digest D.digest trees.now.new) (root_over D.digest trees.now.new place 1)
         place 1 node.now.start node.now.count result }
 {
     log_laws();
-    let leaf = Interval::new(place, 1);
+    let leaf = LeafRange::new(place, 1);
     let old = plain_digest(&trees.old, &leaf);
     let new = plain_digest(&trees.new, &leaf);
     descend(&trees.old, &old, &trees.new, &new, &leaf, node)
 }
 
-// The collision that a difference at `place` shows: where the evaluation parts from the old tree or from the
-// new one on the way to the balanced root of the old length that has the place, else where both trees part
+// The collision that a difference at `place` shows: where the evaluation diverges from the old tree or from the
+// new one on the way to the balanced root of the old length that has the place, else where both trees diverge
 // below it, or at the entries themselves.
 fn collide_at<D: SupportedDigest, V: VisitBytes, L: LogData<D, V>, A: Allocator + Copy>(
     alloc: A,
@@ -215,17 +218,17 @@ fn collide_at<D: SupportedDigest, V: VisitBytes, L: LogData<D, V>, A: Allocator 
 {
     log_laws();
     let (root, hash) = held_root(hashes, trees, place);
-    let from_old = part_from(hashes, &hash, &root, &trees.old);
+    let from_old = divergence_from(hashes, &hash, &root, &trees.old);
     if !from_old.is_target() {
-        return part(alloc, &from_old);
+        return collide_branch(alloc, &from_old);
     }
-    let from_new = part_from(hashes, &hash, &root, &trees.new);
+    let from_new = divergence_from(hashes, &hash, &root, &trees.new);
     if !from_new.is_target() {
-        return part(alloc, &from_new);
+        return collide_branch(alloc, &from_new);
     }
-    let below = part_below(trees, &root, place);
+    let below = divergence_below(trees, &root, place);
     if !below.is_target() {
-        return part(alloc, &below);
+        return collide_branch(alloc, &below);
     }
     let first = leaf_bytes(alloc, &old[place])?;
     let second = leaf_bytes(alloc, &new[place])?;
@@ -268,7 +271,7 @@ pub fn witness_consistency<
     ensures collision { IfOk result (λ f. (c : _) → f ≡ Finding.Collision c
         → IsConsistencyPlaced D.digest (L.digest_at hashes.now) (map (λ e. V.bytes e) old.now) (map (λ e. V.bytes e) new.now) c.0 c.1) }
 {
-    let Some(trees) = meet(alloc, proof, hashes, old, new)? else {
+    let Some(trees) = meet_trees(alloc, proof, hashes, old, new)? else {
         return Ok(Finding::NotMet);
     };
     let Some(place) = first_difference(&trees, old, new)? else {

@@ -1,4 +1,4 @@
-//! Two evaluations along one key's bits, and where they part.
+//! Two evaluations along one key's bits, and where they diverge.
 
 ghost use Rattle.std.specs.Prelude.{◌≡◌, ℕ, ◌<◌, ◌≤◌, Bool, List, ◌∷◌, ◌++◌, length, Option, MatchOption, if◌then◌else◌};
 ghost use Rattle.warg_crypto.specs.EmptyTrees.{empty_root};
@@ -6,7 +6,7 @@ ghost use Rattle.warg_map.specs.Bits.{bit_at, last_bits};
 ghost use Rattle.warg_map.specs.ProofValue.{peer_of, proof_value};
 ghost use Rattle.warg_witness.specs.Private.MapPaths.{IsClimb, MeetsOnPath};
 
-use crate::descent::{Parting, is_same};
+use crate::descent::Divergence;
 use warg_crypto::{Hash, SupportedDigest, empty_tree_hash};
 use warg_log::hash_branch;
 
@@ -41,8 +41,8 @@ fn peer_at<'a, D: SupportedDigest>(
     }
 }
 
-// The two parts of a branch, with `near` on the side of the bit.
-fn parts<D>(right: bool, near: Hash<D>, far: Hash<D>) -> (Hash<D>, Hash<D>)
+// The two digests of a branch, with `near` on the side of the bit.
+fn left_and_right<D>(right: bool, near: Hash<D>, far: Hash<D>) -> (Hash<D>, Hash<D>)
     ensures left { result.0 ≡ (if right then far else near) }
     ensures right { result.1 ≡ (if right then near else far) }
 {
@@ -54,8 +54,8 @@ fn parts<D>(right: bool, near: Hash<D>, far: Hash<D>) -> (Hash<D>, Hash<D>)
 struct Climb<D> {
     first: Hash<D>,
     second: Hash<D>,
-    // Where they part, should both values be one.
-    parting: Parting<D>,
+    // Where they diverge, should both values be one.
+    divergence: Divergence<D>,
 }
 
 impl<D: SupportedDigest> Climb<D> {
@@ -63,29 +63,30 @@ impl<D: SupportedDigest> Climb<D> {
     fn up(self, right: bool, first_peer: &Hash<D>, second_peer: &Hash<D>) -> Climb<D>
         ensures { (P : List (Option (List ℕ))) (x : List ℕ) (Q : List (Option (List ℕ))) (y : List ℕ) (bits : List Bool)
             → peer_of D.digest P (length bits) ≡ first_peer.now → peer_of D.digest Q (length bits) ≡ second_peer.now
-            → IsClimb D.digest P x Q y bits self.first self.second self.parting
-            → IsClimb D.digest P x Q y (right ∷ bits) result.first result.second result.parting }
+            → IsClimb D.digest P x Q y bits self.first self.second self.divergence
+            → IsClimb D.digest P x Q y (right ∷ bits) result.first result.second result.divergence }
     {
         let Climb {
             first,
             second,
-            parting,
+            divergence,
         } = self;
-        let (first_left, first_right) = parts(right, first, first_peer.copied());
-        let (second_left, second_right) = parts(right, second, second_peer.copied());
+        let (first_left, first_right) = left_and_right(right, first, first_peer.copied());
+        let (second_left, second_right) = left_and_right(right, second, second_peer.copied());
         let first = hash_branch(&first_left, &first_right);
         let second = hash_branch(&second_left, &second_right);
-        if is_same(&first_left, &second_left, &first_right, &second_right) {
+        prove_eq!(first_left.len(), second_left.len());
+        if first_left == second_left && first_right == second_right {
             return Climb {
                 first,
                 second,
-                parting,
+                divergence,
             };
         }
         Climb {
             first,
             second,
-            parting: Parting::Branch {
+            divergence: Divergence::Branch {
                 first_left,
                 first_right,
                 second_left,
@@ -103,13 +104,13 @@ pub(crate) struct Evaluation<'a, D> {
     ghost few: { length peers.now ≤ 256 },
 }
 
-/// Where two evaluations part on the way from the root to the key's leaf, or None where they lead to different
+/// Where two evaluations diverge on the way from the root to the key's leaf, or None where they lead to different
 /// roots. It hashes each branch of both once.
 pub(crate) fn meet_on_path<D: SupportedDigest>(
     key: &Hash<D>,
     first: Evaluation<'_, D>,
     second: Evaluation<'_, D>,
-) -> Option<Parting<D>>
+) -> Option<Divergence<D>>
     ensures { MatchOption result
         (proof_value D.digest first.entry.peers.now first.entry.leaf (last_bits key.now 256) ≡ proof_value D.digest second.entry.peers.now second.entry.leaf (last_bits key.now 256) → ⊥)
         (λ p. MeetsOnPath D.digest first.entry.peers.now first.entry.leaf second.entry.peers.now second.entry.leaf (last_bits key.now 256) p) }
@@ -117,7 +118,7 @@ pub(crate) fn meet_on_path<D: SupportedDigest>(
     let mut climb = Climb {
         first: first.leaf,
         second: second.leaf,
-        parting: Parting::Target,
+        divergence: Divergence::Target,
     };
     let mut empty = empty_tree_hash(0);
     for height in 0..256 {
@@ -128,7 +129,7 @@ pub(crate) fn meet_on_path<D: SupportedDigest>(
         empty = D::empty_above(height, &empty);
     }
     if climb.first == climb.second {
-        Some(climb.parting)
+        Some(climb.divergence)
     } else {
         None
     }

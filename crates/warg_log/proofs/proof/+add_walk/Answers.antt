@@ -8,7 +8,7 @@ use Rattle.warg_log.proofs.proof.+add_walk.Goals.{Then-is_beside, In_ok-push, Af
 
 missed : (g : _) (t : _) (c : Then-is_beside g t) → HasMissed c.args.leaf.0 c.args.start c.args.end c.first_root-root.result.count
 missed g t c = missed_first _ _ _ _ c.first_root-root.ensures.count c.requires.starts c.requires.ends
-    (rw (← c.first_root-root.ensures.start, ← c.interval.ensures.start, ← c.interval.ensures.count) (c.if-is_beside.ensures.0 refl))
+    (rw (← c.first_root-root.ensures.start, ← c.leaf_range.ensures.start, ← c.leaf_range.ensures.count) (c.if-is_beside.ensures.0 refl))
 
 pub add_walk-requires : goal.add_walk-requires
 add_walk-requires g t c κs within =
@@ -19,7 +19,7 @@ add_walk-requires g t c κs within =
     search rules
 
 pushed : (g : _) (t : _) (c : In_ok-push g t) → numbers c.push.new.self.items ≡ numbers c.add_walk.new.nodes.items ++ node_over c.args.start c.first_root-root.result.count ∷ []
-pushed g t c = rw (c.in_ok-push.ensures.items, map_push, c.node.ensures, c.first_root-root.ensures.start) refl
+pushed g t c = rw (c.in_ok-push.ensures.items, map_push, c.over.ensures, c.first_root-root.ensures.start) refl
 
 pub returns-then-is_beside-clause-needed : goal.returns-then-is_beside-clause-needed
 returns-then-is_beside-clause-needed g t c =
@@ -34,7 +34,7 @@ returns-then-is_beside-clause-order g t c =
 
 found : (g : _) (t : _) (c : After-ilog2 g t) → HasFound c.args.leaf.0 c.args.start c.args.end c.first_root-root.result.count c.ilog2.result
 found g t c = found_first _ _ _ _ _ c.requires.aligned c.first_root-root.ensures.count c.requires.starts c.requires.ends c.ilog2.ensures.power_le c.ilog2.ensures.next_power_gt
-    (λ b. false≢true (c.if-is_beside.ensures.1 (rw (c.first_root-root.ensures.start, c.interval.ensures.start, c.interval.ensures.count) b)))
+    (λ b. false≢true (c.if-is_beside.ensures.1 (rw (c.first_root-root.ensures.start, c.leaf_range.ensures.start, c.leaf_range.ensures.count) b)))
 
 pub add_siblings-requires-clause-above : goal.add_siblings-requires-clause-above
 add_siblings-requires-clause-above g t c = (found g t (goal.at.add_siblings-requires-clause-above g t c).After-ilog2).low
@@ -42,7 +42,7 @@ add_siblings-requires-clause-above g t c = (found g t (goal.at.add_siblings-requ
 begun : (g : _) (t : _) (c : After-len g t) → HasFound c.args.leaf.0 c.args.start c.args.end c.first_root-root.result.count c.ilog2.result
     → HasBegun c.args.leaf.0 c.args.start (c.args.end - c.args.start) (numbers c.add_roots.new.nodes.items) c.len-initial.result c.len.result
 begun g t c found = walk_begins _ _ _ _ _ _ _ _ _ _ found c.requires.empty c.in_ok-add_siblings.ensures (c.len-initial.ensures ∙ c.add_siblings.new.nodes.ok.0)
-    (rw (c.end-2.ensures, c.first_root-root.ensures.start) at c.in_ok-add_roots.ensures) (c.len.ensures ∙ c.add_roots.new.nodes.ok.0)
+    (rw (c.between.ensures, c.end-2.ensures, c.first_root-root.ensures.start) at c.in_ok-add_roots.ensures) (c.len.ensures ∙ c.add_roots.new.nodes.ok.0)
 
 pub overflow_sub-lower : goal.overflow_sub-lower
 overflow_sub-lower g t c = let at = goal.at.overflow_sub-lower g t c in (begun g t at.After-len (found g t at.After-ilog2)).fits

@@ -5,29 +5,29 @@ use Rattle.warg_witness.proofs.RangeLemmas.{whole_aligned}
 use Rattle.warg_witness.proofs.ShownLemmas.{agreement_shown}
 use Rattle.warg_witness.proofs.log.agree_value.Goals as goal
 
-pub descend-parting-requires-clause-aligned : goal.descend-parting-requires-clause-aligned
-descend-parting-requires-clause-aligned g c = rw c.new-whole.ensures.start (whole_aligned _)
+pub descend-divergence-requires-clause-aligned : goal.descend-divergence-requires-clause-aligned
+descend-divergence-requires-clause-aligned g c = rw c.new-whole.ensures.start (whole_aligned _)
 
-pub descend-parting-requires-clause-one : goal.descend-parting-requires-clause-one
-descend-parting-requires-clause-one g c =
+pub descend-divergence-requires-clause-one : goal.descend-divergence-requires-clause-one
+descend-divergence-requires-clause-one g c =
     let first = rw c.copied.ensures at c.in-Ok.ensures.ok.1 in
     let second = rw c.copied-2.ensures at c.in-Ok-evaluate_hash.ensures.ok.1 ∙ ap Some (sym (ne_false _ _ c.if-ne.ensures)) in
-    rw (c.interval-target.ensures.start, c.interval-target.ensures.count, c.leaf.ensures, c.new-whole.ensures.start, c.new-whole.ensures.count ∙ c.log_length.ensures.value)
+    rw (c.leaf_range-target.ensures.start, c.leaf_range-target.ensures.count, c.leaf.ensures, c.new-whole.ensures.start, c.new-whole.ensures.count ∙ c.log_length.ensures.value)
     (record { digest = c.in-Ok.first_root; first = first; second = second })
 
 pub collide_values-requires : goal.collide_values-requires
 collide_values-requires g c =
-    let target = rw (c.interval-target.ensures.start, c.interval-target.ensures.count, c.leaf.ensures, c.hash_leaf-first_hash.ensures, c.hash_leaf-second_hash.ensures) at c.descend-parting.ensures in
-    let parting = rw (c.new-whole.ensures.start, c.new-whole.ensures.count ∙ c.log_length.ensures.value) at target in
-    (agreement_shown _ _ _ _ _ _ _ _ (grind arith) parting).0
+    let target = rw (c.leaf_range-target.ensures.start, c.leaf_range-target.ensures.count, c.leaf.ensures, c.hash_leaf-first_hash.ensures, c.hash_leaf-second_hash.ensures) at c.descend-divergence.ensures in
+    let divergence = rw (c.new-whole.ensures.start, c.new-whole.ensures.count ∙ c.log_length.ensures.value) at target in
+    (agreement_shown _ _ _ _ _ _ _ _ (grind arith) divergence).0
 
 pub returns : goal.returns
 returns g c =
     let first = rw (c.copied.ensures, c.hash_leaf-first_hash.ensures) at c.in-Ok.ensures.ok.1 in
     let second = rw (c.copied-2.ensures, c.hash_leaf-second_hash.ensures) at c.in-Ok-evaluate_hash.ensures.ok.1 ∙ ap Some (sym (ne_false _ _ c.if-ne.ensures)) in
     let agrees : IsAgreement _ _ _ _ _ _ _ = record { root = c.in-Ok.first_root; exists = c.in-Ok.ensures.ok.0; first_is = first; second_is = second } in
-    let target = rw (c.interval-target.ensures.start, c.interval-target.ensures.count, c.leaf.ensures, c.hash_leaf-first_hash.ensures, c.hash_leaf-second_hash.ensures) at c.descend-parting.ensures in
-    let parting = rw (c.new-whole.ensures.start, c.new-whole.ensures.count ∙ c.log_length.ensures.value) at target in
+    let target = rw (c.leaf_range-target.ensures.start, c.leaf_range-target.ensures.count, c.leaf.ensures, c.hash_leaf-first_hash.ensures, c.hash_leaf-second_hash.ensures) at c.descend-divergence.ensures in
+    let divergence = rw (c.new-whole.ensures.start, c.new-whole.ensures.count ∙ c.log_length.ensures.value) at target in
     record {
       unmet = grind arith;
       not_met = grind arith;
@@ -35,5 +35,5 @@ returns g c =
       met = λ _ _. agrees;
       collision = λ k is.
           let same : ◌≡◌ {A = List ℕ × List ℕ} k c.in_ok-pair.pair = cc in
-          let shown = agreement_shown _ _ _ _ _ _ _ _ (grind arith) parting in rw (same ∙ c.in_ok-pair.ensures) shown.1;
+          let shown = agreement_shown _ _ _ _ _ _ _ _ (grind arith) divergence in rw (same ∙ c.in_ok-pair.ensures) shown.1;
     }

@@ -7,7 +7,7 @@ not_false e = cc
 
 pub returns-clause-collision : goal.returns-clause-collision
 returns-clause-collision g c k is =
-    let parts = rw (c.peers.ensures.value, c.peers-2.ensures.value, c.hash_leaf.ensures, c.hash_leaf-2.ensures, c.of-digest.ensures) at c.in-Some.ensures.parts in
-    let shown = (key_agreement_shown g.D.SupportedDigest.digest _ _ _ _ _ _ parts (λ same. not_false (sym c.if-branch.false ∙ c.in_ok-have_same_bytes.ensures.1 same))).placed in
+    let diverges = rw (c.peers.ensures.value, c.peers-2.ensures.value, c.hash_leaf.ensures, c.hash_leaf-2.ensures, c.of-digest.ensures) at c.in-Some.ensures.diverges in
+    let shown = (key_agreement_shown g.D.SupportedDigest.digest _ _ _ _ _ _ diverges (λ same. not_false (sym c.if-branch.false ∙ c.in_ok-have_same_bytes.ensures.1 same))).placed in
     let same : ◌≡◌ {A = List ℕ × List ℕ} k c.in_ok-pair.pair = cc in
     key_agreement_placed_as _ _ _ _ _ _ _ k (same ∙ c.in_ok-pair.ensures) shown

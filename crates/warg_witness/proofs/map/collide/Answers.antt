@@ -7,7 +7,7 @@ not_false e = cc
 
 pub returns-then-not-is_target : goal.returns-then-not-is_target
 returns-then-not-is_target g c =
-    collided _ _ _ _ _ _ _ _ (λ peers met. branch_met _ _ _ _ _ _ _ met (c.all_bits.ensures g.D.SupportedDigest.digest (g.K.VisitBytes.bytes c.args.key.now)) (c.last_held.ensures g.D.SupportedDigest.digest _ _) (λ target. not_false (c.if-not-is_target.ensures.1 target))) c.part.ensures
+    collided _ _ _ _ _ _ _ _ (λ peers met. branch_met _ _ _ _ _ _ _ met (c.all_bits.ensures g.D.SupportedDigest.digest (g.K.VisitBytes.bytes c.args.key.now)) (c.last_held.ensures g.D.SupportedDigest.digest _ _) (λ target. not_false (c.if-not-is_target.ensures.1 target))) c.collide_branch.ensures
 
 pub collide_values-requires : goal.collide_values-requires
 collide_values-requires g c = (none_met _ _ _ _ _ _ _ c.requires.met.1 (c.if-not-is_target.ensures.0 refl) c.in_default.is c.requires.untrue).collides

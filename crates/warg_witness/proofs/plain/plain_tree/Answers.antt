@@ -1,5 +1,10 @@
 use Rattle.std.proofs.Common.{[]}
 use Rattle.warg_witness.proofs.plain.plain_tree.Goals as goal
 
-pub returns : goal.returns
-returns g c = c.in_ok-push_all.ensures.ok [] c.default-tree.ensures
+pub returns-clause-tree : goal.returns-clause-tree
+returns-clause-tree g c = c.in_ok-checkpoint.ensures.ok [] c.default-tree.ensures
+
+pub returns-clause-root : goal.returns-clause-root
+returns-clause-root g c =
+    let tree = c.in_ok-checkpoint.ensures.ok [] c.default-tree.ensures in
+    let root = c.in_ok-checkpoint.ensures.root [] c.default-tree.ensures in cc

@@ -13,8 +13,8 @@ room g c = elim c.if-self-ne0.branch [
 ready : (g : _) (c : After-push_reserved-2 g) → IsAppended g.D.SupportedDigest.digest (leaves_in c.self.inside.tree.items) c.push_reserved-2.new.self.items c.hash_leaf-digest.result
 ready g c = rw (c.push_reserved-2.ensures.items, c.copied-2.ensures) (appended _ _ _ _ (room g c) (omega arith))
 
-place : (g : _) (c : After-push_reserved-2 g) → c.len.result ≡ 2 * length (leaves_in c.self.inside.tree.items)
-place g c = c.len.ensures ∙ c.if-self-ne0.self-inside.tree.ok.0 ∙ (room g c).len
+place : (g : _) (c : After-push_reserved-2 g) → c.leaf-leaf.result.0 ≡ 2 * length (leaves_in c.self.inside.tree.items)
+place g c = omega (arith, c.leaf-leaf.ensures, c.self.invariant.0)
 
 kept : (g : _) (c : After-push_reserved-2 g) → (c.if-self-ne0.self-inside.count ≡ c.self.inside.count) × (c.if-self-ne0.self-inside.spacer ≡ c.self.inside.spacer)
 kept g c = elim c.if-self-ne0.branch [ then-self-ne0 w ↦ rw w.self-inside-is (refl, refl) | else-self-ne0 w ↦ rw w.self-inside-is (refl, refl) ]

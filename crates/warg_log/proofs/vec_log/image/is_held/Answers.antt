@@ -1,5 +1,6 @@
 use Rattle.std.proofs.Common.{◌<◌, length, arith}
 use Rattle.warg_log.proofs.NodeLemmas.{low_by_end}
+use Rattle.warg_log.proofs.EqualLemmas.{eq_exactly}
 use Rattle.warg_log.proofs.TreeLemmas.{is_branch, children_inside, held_exists}
 use Rattle.warg_log.proofs.vec_log.image.is_held.Goals as goal
 use Rattle.warg_log.proofs.vec_log.image.is_held.Goals.{After-children}
@@ -27,4 +28,4 @@ bounds-tree-right g c = (inside g (goal.at.bounds-tree-right g c).After-children
 
 pub returns : goal.returns
 returns g c = held_exists _ _ _ _ _ _ _ _ _ _ c.requires.inside (inside g (goal.at.returns g c).After-children) c.children.ensures.left c.children.ensures.right
-    (c.exists_at_length.ensures.0 c.if-not-exists_at_length.false) c.index-tree-node.is c.index-tree-left.is c.index-tree-right.is (rw c.hash_branch.ensures at c.same-2.ensures)
+    (c.exists_at_length.ensures.0 c.if-not-exists_at_length.false) c.index-tree-node.is c.index-tree-left.is c.index-tree-right.is (rw (c.eq-2.ensures, c.hash_branch.ensures) (eq_exactly _ _))

@@ -12,7 +12,7 @@ pub returns-then-not-is_held : goal.returns-then-not-is_held
 returns-then-not-is_held g c = sym (false_from_ne_true _ (λ e.
     let p = (slice_decides g.D.SupportedDigest.digest c.args.count c.args.tree.now).0 e in
     let len : length c.args.tree.now ≡ 2 * c.args.count - 1 = omega arith in
-    cc (c.is_held.ensures.1 (slice_held _ _ _ p.0 p.1 (2 * c.branches.place - 1) (omega arith) (omega arith)))))
+    cc (c.is_held.ensures.1 (slice_held _ _ _ p.0 p.1 c.branch_before.result.0 (omega (arith, c.branch_before.ensures)) (omega (arith, c.branch_before.ensures))))))
 
 pub returns : goal.returns
 returns g c =

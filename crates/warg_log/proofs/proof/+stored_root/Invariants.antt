@@ -1,4 +1,0 @@
-use Rattle.warg_log.proofs.proof.+stored_root.Given as goal
-
-abbrev pub decreases-stored_root : goal.decreases-stored_root
-decreases-stored_root g l = l.range.now.count

@@ -1,0 +1,100 @@
+//! Ranges of leaves, and how the tree's recursion splits them.
+
+ghost use Rattle.std.specs.Prelude.{◌≡◌, ℕ, ◌+◌, ◌-◌, ◌*◌, ◌^◌, ◌<◌, ◌≤◌, ◌⊎◌, ◌↔◌, IsTrue};
+ghost use Rattle.warg_log.specs.Tree.{front_of};
+ghost use Rattle.warg_log.specs.Cut.{IsBeside, IsFull};
+
+/// Leaves in a row, at least one: a range of the recursion of RFC 6962, section 2.1, which splits the
+/// leaves of a log at the greatest power of two below their count.
+///
+/// The evaluations, and the search for two byte strings of one digest, go down these ranges. Leaves are
+/// counted from 0, and a range ends at 2^63 at the latest.
+#[derive(Clone, Copy, Debug)]
+pub struct LeafRange {
+    pub start: usize,
+    pub count: usize,
+    ghost some: { 0 < count },
+    ghost fits: { start + count ≤ 2 ^ 63 },
+}
+
+// The power of two with this exponent.
+pub(crate) fn power_of_two(exponent: u32) -> usize
+    requires { exponent < 64 }
+    ensures { result ≡ 2 ^ exponent }
+{
+    1 << exponent
+}
+
+impl LeafRange {
+    /// The `count` leaves from `start` on.
+    pub fn new(start: usize, count: usize) -> LeafRange
+        requires some { 0 < count }
+        requires fits { start + count ≤ 2 ^ 63 }
+        ensures start { result.start ≡ start }
+        ensures count { result.count ≡ count }
+    {
+        LeafRange { start, count }
+    }
+
+    // The first of the balanced roots of the leaves from `start` up to `length`: as many leaves as the
+    // greatest power of two that is there.
+    pub(crate) fn first_root(start: usize, length: usize) -> LeafRange
+        requires some { start < length }
+        requires fits { length ≤ 2 ^ 63 }
+        ensures start { result.start ≡ start }
+        ensures count { (h : ℕ) × (result.count ≡ 2 ^ h) × (2 ^ h ≤ length - start) × (length - start < 2 ^ (h + 1)) }
+    {
+        LeafRange::new(start, power_of_two((length - start).ilog2()))
+    }
+
+    /// The leaf after the last one.
+    pub fn end(&self) -> usize
+        ensures { result ≡ self.now.start + self.now.count }
+    {
+        self.start + self.count
+    }
+
+    /// Whether the range has a power of two of leaves.
+    pub fn is_full(&self) -> bool
+        ensures { IsTrue result ↔ IsFull self.now.count }
+    {
+        self.count == power_of_two(self.count.ilog2())
+    }
+
+    /// Whether both are the same leaves.
+    pub fn equals(&self, other: &LeafRange) -> bool
+        ensures { IsTrue result ↔ ((self.now.start ≡ other.now.start) × (self.now.count ≡ other.now.count)) }
+    {
+        self.start == other.start && self.count == other.count
+    }
+
+    /// Whether the range has no leaf of the other one.
+    pub fn is_beside(&self, other: &LeafRange) -> bool
+        ensures { IsTrue result ↔ IsBeside other.now.start other.now.count self.now.start self.now.count }
+    {
+        self.end() <= other.start || other.end() <= self.start
+    }
+
+    // Whether an evaluation with this target reads the range's digest: the range is one leaf, or has a
+    // power of two of leaves and misses the target.
+    pub(crate) fn is_read(&self, target: &LeafRange) -> bool
+        ensures { IsTrue result ↔ ((self.now.count ≡ 1) ⊎ (IsFull self.now.count × IsBeside target.now.start target.now.count self.now.start self.now.count)) }
+    {
+        self.count == 1 || self.is_full() && self.is_beside(target)
+    }
+
+    /// The two parts of the range in the tree's recursion: the first leaves, as many as the greatest
+    /// power of two below the count, and the rest.
+    pub fn split(&self) -> (LeafRange, LeafRange)
+        requires { 1 < self.now.count }
+        ensures front { (result.0.start ≡ self.now.start) × (result.0.count ≡ front_of self.now.count) }
+        ensures rest { (result.1.start ≡ self.now.start + front_of self.now.count) × (result.1.count ≡ self.now.count - front_of self.now.count) }
+        ensures smaller { (result.0.count < self.now.count) × (result.1.count < self.now.count) }
+    {
+        let count = power_of_two((self.count - 1).ilog2());
+        (
+            LeafRange::new(self.start, count),
+            LeafRange::new(self.start + count, self.count - count),
+        )
+    }
+}

@@ -1,0 +1,34 @@
+use Rattle.std.proofs.Common.{length, Some, sym, ◌∙◌, ap, arith}
+use Rattle.std.proofs.lemmas.List.{length-map}
+use Rattle.warg_log.specs.Tree.{root_of}
+use Rattle.warg_witness.proofs.HashLemmas.{ne_false}
+use Rattle.warg_witness.proofs.RangeLemmas.{whole_aligned}
+use Rattle.warg_witness.proofs.DescentLemmas.{length-leaves, have_root}
+use Rattle.warg_witness.proofs.log.meet_entries.Goals as goal
+
+pub descend-divergence-requires-clause-aligned : goal.descend-divergence-requires-clause-aligned
+descend-divergence-requires-clause-aligned g c = rw c.new-whole.ensures.start (whole_aligned _)
+
+pub descend-divergence-requires-clause-one : goal.descend-divergence-requires-clause-one
+descend-divergence-requires-clause-one g c =
+    let count = length-map c.args.entries.now (λ e. g.V.VisitBytes.bytes e) ∙ c.if-entries-log_length.false ∙ c.log_length.ensures.value in
+    let all = ap length c.in_ok-tree.ensures.tree ∙ length-leaves g.D.SupportedDigest.digest _ ∙ count in
+    let evaluation = rw c.copied.ensures at c.in-Ok.ensures.ok.1 ∙ ap Some (ne_false _ _ c.if-ne.ensures ∙ c.in_ok-tree.ensures.root) in
+    rw (c.plain_digest-plain.ensures, c.new-whole.ensures.start, c.new-whole.ensures.count ∙ c.log_length-2.ensures.value ∙ sym all)
+    (have_root c.log_laws.ensures _ _ _ _ (rw (c.leaf_range-target.ensures.start, c.leaf_range-target.ensures.count, c.leaf.ensures, all) evaluation) (rw all (omega arith)))
+
+pub returns-clause-met : goal.returns-clause-met
+returns-clause-met g c =
+    let start = rw c.leaf.ensures at c.leaf_range-target.ensures.start in
+    let width = rw c.leaf.ensures at c.leaf_range-target.ensures.count in
+    let count = length-map c.args.entries.now (λ e. g.V.VisitBytes.bytes e) ∙ c.if-entries-log_length.false ∙ c.log_length.ensures.value in
+    let all = ap length c.in_ok-tree.ensures.tree ∙ length-leaves g.D.SupportedDigest.digest _ ∙ count in
+    let root = ne_false _ _ c.if-ne.ensures ∙ c.in_ok-tree.ensures.root ∙ ap (root_of g.D.SupportedDigest.digest) c.in_ok-tree.ensures.tree in
+    record {
+      met = record { count = count; exists = c.in-Ok.ensures.ok.0; is = rw c.copied.ensures at c.in-Ok.ensures.ok.1 ∙ ap Some root };
+      tree_is = c.in_ok-tree.ensures.tree;
+      start_is = start;
+      count_is = width;
+      plain_is = rw (c.in_ok-tree.ensures.tree, start, width) at c.plain_digest-plain.ensures;
+      diverges = rw (c.plain_digest-plain.ensures, c.new-whole.ensures.start, c.new-whole.ensures.count ∙ c.log_length-2.ensures.value ∙ sym all, start, width) at c.descend-divergence.ensures;
+    }
