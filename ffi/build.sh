@@ -1,14 +1,22 @@
 #!/usr/bin/env bash
 # Proves the static library, and leaves it for C at ffi/libwarg.a and ffi/libwarg.so. Nothing but the calls of
-# ffi/warg.h can be seen in either.
+# ffi/warg.h can be seen in either. With --as-proved it takes the libraries below as the gate has just proved them.
 set -eu
 cd "$(dirname "$0")/.."
 kit="$(dirname "$(rt doc)")"
 work="$(mktemp -d)"
 trap 'rm -rf "$work"' EXIT
 
-(cd crates/warg_ffi && rt lib > "$work/lib.log" 2>&1) || { tail -20 "$work/lib.log"; exit 1; }
-parts=(crates/warg_ffi/out/libwarg_ffi.a "$kit/c/liblibc_c.a")
+archive="$work/libwarg_ffi.a"
+prove() {
+    if [ "${1:-}" = --as-proved ]; then
+        python3 scripts/build_archive.py warg_ffi "$archive"
+    else
+        (cd crates/warg_ffi && rt lib) && cp crates/warg_ffi/out/libwarg_ffi.a "$archive"
+    fi
+}
+prove "$@" > "$work/lib.log" 2>&1 || { tail -20 "$work/lib.log"; exit 1; }
+parts=("$archive" "$kit/c/liblibc_c.a")
 grep -o 'warg_[a-z]*\(_[a-z]*\)*(' ffi/warg.h | tr -d '(' | sort -u > "$work/calls"
 { echo '{ global:'; sed 's/$/;/' "$work/calls"; echo 'local: *; };'; } > "$work/version"
 

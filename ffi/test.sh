@@ -27,6 +27,7 @@ if command -v cc > /dev/null; then
 fi
 if command -v python3 > /dev/null; then
     try py python3 ffi/examples/check.py
+    python3 ffi/wrong_uses.py
     ran=$((ran + 1))
 fi
 if command -v rustc > /dev/null; then

@@ -2,7 +2,7 @@
 """Checks what the documents say against the code; `make test` runs it first.
 
 - The README's program is crates/example_first/src/main.rt as it stands.
-- docs/DEFINITIONS.md has each word of specs/ that a public clause names.
+- docs/PROVED.md and docs/HEADLINE.md name nothing that isn't there, and no clause that the call beside it hasn't.
 - The code in each CALLING.md stands in crates/warg_uses as it is shown.
 """
 
@@ -10,7 +10,11 @@ import pathlib
 import re
 import sys
 
+import definitions
+
 ROOT = pathlib.Path(__file__).parents[1]
+# Names of the standard library and of the kit.
+OF_OTHERS = {"Debug", "D", "H", "L", "Ok", "Err", "usize", "digest", "MAX", "n", "sha2"}
 LIBRARIES = ["warg_crypto", "warg_protobuf", "warg_log", "warg_map", "warg_witness", "warg_check", "warg_ffi"]
 
 
@@ -36,70 +40,46 @@ def calling_faults():
                 yield f"{page.relative_to(ROOT)}: a code block doesn't stand in crates/warg_uses"
 
 
-def imported(source):
-    """The names that a file's ghost use lines take from a library's specs/, with the names that it gives them."""
-    names = {}
-    for path, listed in re.findall(r"ghost use Rattle\.(\w+\.specs\.[\w.]+)\.\{([^}]*)\};", source):
-        if path.split(".")[0] in LIBRARIES and ".declared." not in path:
-            for name in listed.split(","):
-                words = name.split()
-                names[words[-1]] = words[0]
-    return names
+def known_words():
+    """Returns every name that a document may speak of: modules, crates, definitions, types, calls, fields, clause labels."""
+    words = {path.stem for path in (ROOT / "crates").rglob("*.rt")} | {path.name for path in (ROOT / "crates").iterdir()}
+    words |= {name for _, module, name in definitions.definitions() for name in (module, name)}
+    for path in (ROOT / "crates").glob("*/src/**/*.rt"):
+        source = path.read_text()
+        words |= set(re.findall(r"\b(?:fn|struct|enum|trait|type|mod|const|macro_rules!) (\w+)", source))
+        words |= set(re.findall(r"\b(?:ensures|requires)\*? (\w+)", source)) | set(re.findall(r"\bghost (\w+)", source))
+        words |= set(re.findall(r"^\s+(?:pub )?(\w+)(?:,|\(|:| \{)", source, re.M))
+    for path in (ROOT / "crates").glob("*/specs/**/*.antt"):
+        words |= set(re.findall(r"^\s+(?:pub )?(\w+) :", path.read_text(), re.M))
+    return words
 
 
-def hidden_items(library):
-    """The traits, types and functions of a library that its users don't see."""
-    folder = ROOT / "crates" / library / "src"
-    sources = {path: path.read_text() for path in folder.rglob("*.rt")}
-    shown = set(re.findall(r"\w+", " ".join(re.findall(r"pub use [^;]*;", sources[folder / "lib.rt"]))))
-    items = re.compile(r"^(?:pub(?:\(\w+\))? )?(?:const )?(?:trait|struct|enum|fn) (\w+)", re.M)
-    open_modules = {folder / f"{name}.rt" for name in re.findall(r"pub mod (\w+);", sources[folder / "lib.rt"])}
-    return {
-        name
-        for path, source in sources.items()
-        for name in items.findall(source)
-        if name not in shown and path not in open_modules
-    }
+def labels_of(call):
+    """Returns the labels of the clauses of the calls of a name, in every library."""
+    found = set()
+    for path in (ROOT / "crates").glob("warg_*/src/**/*.rt"):
+        for declared in re.finditer(rf"\bfn {call}\b.*?(?=\n\s*(?:pub )?(?:const )?fn |\Z)", path.read_text(), re.S):
+            found |= set(re.findall(r"\b(?:ensures|requires)\*? (\w+)", declared[0]))
+    return found
 
 
-def public_clauses(source, hidden):
-    """The text of the clauses of public functions, traits and impls, and of their ghost members."""
-    block = function = True
-    of_trait = False
-    for line in source.split("\n"):
-        stripped = line.strip()
-        header = re.match(r"(?:(pub(?:\(\w+\))?) )?(trait|impl|struct|enum)\b(.*)", line)
-        if header:
-            block = hidden.isdisjoint(re.findall(r"\w+", header[3]))
-            of_trait = header[2] == "trait" or " for " in header[3]
-        declared = re.match(r"( *)(pub(?:\(\w+\))? )?(const |extern \"C\" )?fn ", line)
-        if declared:
-            function = declared[2] == "pub " or bool(declared[1]) and not declared[2] and of_trait
-            if not declared[1]:
-                block = hidden.isdisjoint(re.findall(r"fn (\w+)", line))
-        if re.match(r"(requires|ensures)\b", stripped) and block and function:
-            yield stripped
-        elif re.match(r"ghost \w+\s*[:=]", stripped) and block:
-            yield stripped
-
-
-def definition_faults():
-    page = (ROOT / "docs/DEFINITIONS.md").read_text()
-    known = set(re.findall(r"[\w'-]+", page))
-    for library in LIBRARIES:
-        hidden = hidden_items(library)
-        for path in sorted((ROOT / "crates" / library / "src").rglob("*.rt")):
-            source = path.read_text()
-            names = imported(source)
-            text = " ".join(public_clauses(source, hidden))
-            words = set(re.findall(r"[\w'-]+", text))
-            for name, defined in sorted(names.items()):
-                if name in words and defined not in known:
-                    yield f"docs/DEFINITIONS.md lacks {defined}, which {path.relative_to(ROOT)} names"
+def proved_faults():
+    """Yields the names in the pages on what is proved that nothing has, and the clauses that a table's call hasn't."""
+    known = known_words()
+    for page in ("PROVED.md", "HEADLINE.md"):
+        text = (ROOT / "docs" / page).read_text()
+        for name in sorted(set(re.findall(r"`(?:\w+::)*([A-Za-z]\w*)`", text))):
+            if name not in known and name not in OF_OTHERS:
+                yield f"docs/{page}: nothing is called {name}"
+        for calls, cited in re.findall(r"^\| (`[^|]*`[^|]*) \|[^|]*\| ([^|]*) \|$", text, re.M):
+            has = set().union(*(labels_of(call) for call in re.findall(r"`(?:\w+::)*(\w+)`", calls)))
+            for label in re.findall(r"`(\w+)`", cited):
+                if label not in has:
+                    yield f"docs/{page}: {calls} has no clause {label}"
 
 
 def main():
-    faults = [*readme_faults(), *calling_faults(), *definition_faults()]
+    faults = [*readme_faults(), *calling_faults(), *proved_faults()]
     for fault in faults:
         print(fault)
     sys.exit(1 if faults else 0)

@@ -37,35 +37,40 @@ class RootLength(Refused, ValueError):
 
 
 class Warg:
-    """The calls of the library. Each answers a bool, or raises `Refused`."""
+    """The calls of the library. Each returns a bool, or raises `Refused`.
+
+    A bundle, a value, a key and a root are `bytes`, a place, an index and a length an `int` from 0 up to but not
+    including 2^64. Anything else raises `TypeError` or `ValueError` before the library is called: ctypes would cut a
+    number to its last 64 bits, and take a number for a pointer.
+    """
 
     def __init__(self, path=pathlib.Path(__file__).parents[1] / "libwarg.so"):
         self._library = ctypes.CDLL(str(path))
 
     def check_entry(self, bundle, at, index, value, length, root):
-        return self._verdict("warg_check_entry", bundle, at, index, value, length, root)
+        checkpoint = [*_number(length), *_bytes(root)]
+        return self._verdict("check_entry", bundle, at, [*_number(index), *_bytes(value), *checkpoint])
 
     def check_growth(self, bundle, at, old_length, old_root, new_length, new_root):
-        return self._verdict(
-            "warg_check_growth", bundle, at, old_length, old_root, new_length, new_root
-        )
+        old, new = [*_number(old_length), *_bytes(old_root)], [*_number(new_length), *_bytes(new_root)]
+        return self._verdict("check_growth", bundle, at, [*old, *new])
 
     def check_inclusion(self, bundle, at, value, root):
-        return self._verdict("warg_check_inclusion", bundle, at, value, root)
+        return self._verdict("check_inclusion", bundle, at, [*_bytes(value), *_bytes(root)])
 
     def check_consistency(self, bundle, at, old_root, new_root):
-        return self._verdict("warg_check_consistency", bundle, at, old_root, new_root)
+        return self._verdict("check_consistency", bundle, at, [*_bytes(old_root), *_bytes(new_root)])
 
     def check_key(self, bundle, at, key, value, root):
-        return self._verdict("warg_check_key", bundle, at, key, value, root)
+        return self._verdict("check_key", bundle, at, [*_bytes(key), *_bytes(value), *_bytes(root)])
 
     def check_absent(self, bundle, at, key, root):
-        return self._verdict("warg_check_absent", bundle, at, key, root)
+        return self._verdict("check_absent", bundle, at, [*_bytes(key), *_bytes(root)])
 
-    def _verdict(self, name, *given):
-        call = getattr(self._library, name)
+    def _verdict(self, name, bundle, at, claim):
+        call = getattr(self._library, f"warg_{name}")
         call.restype = ctypes.c_int32
-        number = call(*(word for one in given for word in _words(one)))
+        number = call(*_bytes(bundle), *_number(at), *claim)
         if number == -3:
             raise RootLength(REFUSALS[number])
         if number < 0:
@@ -73,10 +78,19 @@ class Warg:
         return number == 1
 
 
-def _words(one):
-    """A number as it is, and bytes as a pointer and a length."""
-    if isinstance(one, int):
-        return [ctypes.c_size_t(one)]
+def _number(number):
+    """Returns a number as the library takes it."""
+    if not isinstance(number, int) or isinstance(number, bool):
+        raise TypeError(f"{number!r} is no int")
+    if not 0 <= number < 1 << 64:
+        raise ValueError(f"{number} is not from 0 up to 2^64 - 1")
+    return [ctypes.c_uint64(number)]
+
+
+def _bytes(one):
+    """Returns bytes as the library takes them: a pointer and a length."""
+    if not isinstance(one, bytes):
+        raise TypeError(f"{one!r} is no bytes")
     return [ctypes.c_char_p(one), ctypes.c_size_t(len(one))]
 
 

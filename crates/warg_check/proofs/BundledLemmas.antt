@@ -27,19 +27,10 @@ use Rattle.warg_check.specs.Orders.{bundle}
 use Rattle.warg_check.specs.Bundled.{needed_ascending, entry_before, entries_for, proof_message, numbers_fit}
 use Rattle.warg_check.specs.States.{State, log_at}
 use Rattle.warg_check.specs.Text.{answer, bytes_or_refusal}
-
--- What the log's laws say.
-abbrev pub NeededExist : Type 0
-NeededExist = (t n : ℕ) → 0 < n → AllByRecursion (λ x. ExistsAt x n) (needed t n)
-
-abbrev pub ExistingNumber : Type 0
-ExistingNumber = (x n : ℕ) → ExistsAt x n → x + 2 ≤ 2 * n
+use Rattle.warg_protobuf.proofs.ForCallers.{all_weaken}
+use Rattle.warg_log.proofs.ForCallers.{existing_number, needed_exist}
 
 -- ---- the needed nodes, ascending
-
-all_weaken : {X : Type 0} (P Q : X → Type 0) → ((x : X) → P x → Q x) → (xs : List X) → AllByRecursion P xs → AllByRecursion Q xs
-all_weaken P Q each [] all = tt
-all_weaken P Q each (x ∷ xs) all = (each x all.0, all_weaken P Q each xs all.1)
 
 among : (P : ℕ → Type 0) (x : ℕ) (xs : List ℕ) → AllByRecursion P xs → list_any (nat_eq x) xs ≡ true → P x
 among P x [] all there = absurd (cc there)
@@ -84,8 +75,8 @@ filtered test a (suc n) (p ∷ ps) up low high is =
     (cases_lt a p.0.0)
 
 -- a needed node's number
-needed_below : NeededExist → ExistingNumber → (t n : ℕ) → 0 < n → (x : ℕ) → list_any (nat_eq x) (needed t n) ≡ true → x < 2 * n
-needed_below exist number t n some x there = below x n (number x n (among (λ y. ExistsAt y n) x (needed t n) (exist t n some) there))
+needed_below : (t n : ℕ) → 0 < n → (x : ℕ) → list_any (nat_eq x) (needed t n) ≡ true → x < 2 * n
+needed_below t n some x there = below x n (existing_number x n (among (λ y. ExistsAt y n) x (needed t n) (needed_exist t n some) there))
   where
     below : (x n : ℕ) → x + 2 ≤ 2 * n → x < 2 * n
     below x n le = omega arith
@@ -215,9 +206,9 @@ some_length t n exists = let le = ltb-false n (end_of t) exists in let pos : 0 <
     end_some : (p j : ℕ) → 0 < p → 0 < (j + 1) * p
     end_some p j pos = omega arith
 
-pub not_known_answer : NeededExist → ExistingNumber → (log : List (List ℕ)) (s : State) (node : Node) (n : ℕ) → log ≡ log_at s → Told (own_digest sha256 log) node n HashNotFound → answer s (bundle node.0 n) ≡ codes "refused hash not known"
+pub not_known_answer : (log : List (List ℕ)) (s : State) (node : Node) (n : ℕ) → log ≡ log_at s → Told (own_digest sha256 log) node n HashNotFound → answer s (bundle node.0 n) ≡ codes "refused hash not known"
 unfolding answer
-not_known_answer exist number log s node n is told = ⊎_elim
+not_known_answer log s node n is told = ⊎_elim
     (λ (m : HashNotFound ≡ Memory). absurd (cc (m)))
     (λ (rest : (bundle_length [] (claim node n ∷ []) ≡ Err HashNotFound) ⊎ ((HashNotFound ≡ HashNotFound) × LacksNeeded (own_digest sha256 log) [] (claim node n ∷ []))). ⊎_elim
     (λ (other : bundle_length [] (claim node n ∷ []) ≡ Err HashNotFound). length_cases node n _ (λ late at. absurd (cc (other, at))) (λ exists great at. absurd (cc (other, at))) (λ exists small at. absurd (cc (other, at))))
@@ -230,18 +221,18 @@ not_known_answer exist number log s node n is told = ⊎_elim
     let count : lacks.1.log_length ≡ n = cc (length_is, at) in
     let there : list_any (nat_eq x) (needed node.0 n) ≡ true = rw append-nil at (rw count at lacks.1.is_needed) in
     let none : own_digest sha256 (log_at s) x ≡ None = rw is at lacks.1.is_lacking in
-    rw (exists, small, entries_lack (own_digest sha256 (log_at s)) x (needed_ascending node.0 n) (needed_stands node.0 n x (needed_below exist number node.0 n (some_length node.0 n exists)) there) none) refl))
+    rw (exists, small, entries_lack (own_digest sha256 (log_at s)) x (needed_ascending node.0 n) (needed_stands node.0 n x (needed_below node.0 n (some_length node.0 n exists)) there) none) refl))
     rest)
     told
 
 -- the digests that are held stand in the message
-pub bundle_answer : NeededExist → ExistingNumber → (log : List (List ℕ)) (s : State) (b : Bundle) (node : Node) (n : ℕ) → log ≡ log_at s
+pub bundle_answer : (log : List (List ℕ)) (s : State) (b : Bundle) (node : Node) (n : ℕ) → log ≡ log_at s
     → bundle_length [] (claim node n ∷ []) ≡ Ok b.log_length → b.consistent_lengths ≡ [] → b.included_nodes ≡ node ∷ [] → IsAscending b.hashes
     → ((x : ℕ) → list_any (nat_eq x) (map (λ (p : Node × List ℕ). p.0.0) b.hashes) ≡ list_any (nat_eq x) (needed_by b.consistent_lengths b.included_nodes b.log_length))
     → AllByRecursion (λ (p : Node × List ℕ). own_digest sha256 log p.0.0 ≡ Some p.1) b.hashes
     → answer s (bundle node.0 n) ≡ bytes_or_refusal (bundle_message b)
 unfolding answer
-bundle_answer exist number log s b node n is length_is no_lengths one_node up exactly source = length_cases node n _
+bundle_answer log s b node n is length_is no_lengths one_node up exactly source = length_cases node n _
     (λ late at. absurd (cc (length_is, at)))
     (λ exists great at. absurd (cc (length_is, at)))
     (λ exists small at.
@@ -249,4 +240,4 @@ bundle_answer exist number log s b node n is length_is no_lengths one_node up ex
     let each : (x : ℕ) → list_any (nat_eq x) (map (λ (p : Node × List ℕ). p.0.0) b.hashes) ≡ list_any (nat_eq x) (needed node.0 n) = λ x. exactly x ∙ rw (no_lengths, one_node, ← count, append-nil) refl in
     let own : AllByRecursion (λ (p : Node × List ℕ). own_digest sha256 (log_at s) p.0.0 ≡ Some p.1) b.hashes = rw is at source in
     let same : proof_message node.0 n (map entry_of b.hashes) ≡ bundle_message b = rw (no_lengths, one_node, ← count) refl in
-    rw (exists, small, numbers_are b.hashes node.0 n up (needed_below exist number node.0 n (some_length node.0 n exists)) each, entries_are (own_digest sha256 (log_at s)) b.hashes own) (ap bytes_or_refusal same))
+    rw (exists, small, numbers_are b.hashes node.0 n up (needed_below node.0 n (some_length node.0 n exists)) each, entries_are (own_digest sha256 (log_at s)) b.hashes own) (ap bytes_or_refusal same))

@@ -2,5 +2,4 @@ pub mod WordLemmas
 pub mod TextLemmas
 pub mod VerdictLemmas
 pub mod BundledLemmas
-pub mod DigitLemmas
 pub mod MapLemmas

@@ -1,5 +1,6 @@
 -- The text of some lines and of those behind them.
-use Rattle.std.proofs.Common.{◌≡◌, ℕ, suc, ◌+◌, Bool, true, false, ◌&&◌, cond, List, [], ◌∷◌, ◌++◌, length, append_assoc, append-nil, length-append, codes, string_bytes, ◌⊎◌, ⊎_elim, Result, Ok, Err, refl, sym, ◌∙◌, ap, arith}
+use Rattle.std.proofs.Common.{◌≡◌, ℕ, suc, ◌+◌, Bool, true, false, cond, List, [], ◌∷◌, ◌++◌, length, append_assoc, append-nil, length-append, codes, string_bytes, ◌⊎◌, ⊎_elim, Result, Ok, Err, refl, sym, ◌∙◌, ap, arith}
+use Rattle.std.proofs.lemmas.Bool.{and_parts}
 use Rattle.hex.specs.Hex.{encode_lower}
 use Rattle.warg_crypto.specs.Digests.{sha256}
 use Rattle.warg_log.specs.Tree.{own_digest}
@@ -24,17 +25,13 @@ pub record Stands {A : Type 0} (input rest : List ℕ) (session : Session A) (nu
   pub text_is : string_bytes session.text ≡ text_from 1 start before
   pub number_is : number ≡ length before
 
-both_true : (a b : Bool) → (a && b) ≡ true → (a ≡ true) × (b ≡ true)
-both_true true b p = (refl, p)
-both_true false b p = absurd (cc)
-
 -- the text of good lines, and of others behind them
 text_from-append : (n : ℕ) (s : State) (before behind : List (List ℕ)) → all_good before ≡ true
     → text_from n s (before ++ behind) ≡ text_from n s before ++ text_from (n + length before) (after_lines s before) behind
 unfolding text_from all_good after_lines
 text_from-append n s [] behind fine = ap (λ m. text_from m s behind) (omega arith)
 text_from-append n s (line ∷ before) behind fine =
-    let both = both_true (is_not_bad (line_of line)) (all_good before) fine in
+    let both = and_parts (is_not_bad (line_of line)) (all_good before) fine in
     let next = after_line s (line_of line) in
     let rest = text_from-append (suc n) next before behind both.1 in
     let at : suc n + length before ≡ n + suc (length before) = omega arith in
@@ -51,7 +48,7 @@ all_good-append : (before behind : List (List ℕ)) → all_good before ≡ true
 unfolding all_good
 all_good-append [] behind fine = refl
 all_good-append (line ∷ before) behind fine =
-    let both = both_true (is_not_bad (line_of line)) (all_good before) fine in
+    let both = and_parts (is_not_bad (line_of line)) (all_good before) fine in
     rw both.0 (all_good-append before behind both.1)
 
 -- before the first line

@@ -112,10 +112,12 @@ pub data Line : Type 0 where
   bad : Line
   good : Order → Line
 
+-- A line whose words say this order, or none.
 abbrev pub good_or_bad : Option Order → Line
 good_or_bad (Some order) = good order
 good_or_bad None = bad
 
+-- What a line is: empty, an order, or bad.
 unfoldable pub line_of : List ℕ → Line
 line_of [] = empty
 line_of (b ∷ bytes) = good_or_bad (order_of (words_of (b ∷ bytes)))

@@ -1,6 +1,5 @@
 -- What only clauses of private functions name; no public clause or law rests on it.
 pub mod Commands
-pub mod Digits
 pub mod Errors
 pub mod Says
 pub mod Sessions

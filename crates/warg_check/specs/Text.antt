@@ -24,6 +24,7 @@ use Rattle.warg_check.specs.Orders.{Order, push, log, include, consistent, bundl
 use Rattle.warg_check.specs.States.{State, start, log_at, map_at, after, after_line, FindsFull}
 use Rattle.warg_check.specs.Bundled.{needed_ascending, entries_for, proof_message, numbers_fit}
 
+-- The answer to `include` of a leaf that exists.
 abbrev pub root_or_refusal : Option (List ℕ) → List ℕ
 root_or_refusal (Some root) = codes "root " ++ encode_lower root
 root_or_refusal None = codes "refused hash not known"
@@ -98,6 +99,7 @@ said number s empty = []
 said number s bad = codes "bad line " ++ decimal number ++ 10 ∷ []
 said number s (good order) = answer s order ++ 10 ∷ []
 
+-- Whether a line is empty or an order.
 abbrev pub is_not_bad : Line → Bool
 is_not_bad empty = true
 is_not_bad bad = false

@@ -1,5 +1,5 @@
 -- Verdicts on the proofs in the bytes of a log bundle or a map bundle.
-use Rattle.std.specs.Prelude.{ℕ, Bool, false, ◌&&◌, nat_eq, nat_le, List, ◌∷◌, Option, Some, None, Result, Ok, Err, slice_get}
+use Rattle.std.specs.Prelude.{◌≡◌, ℕ, Bool, false, ◌&&◌, nat_eq, nat_le, List, ◌∷◌, Option, Some, None, Result, Ok, Err, slice_get}
 use Rattle.std.specs.Cmp.Lexicographic.{pointwise}
 use Rattle.warg_log.specs.declared.node.Node.{Node}
 use Rattle.warg_log.specs.declared.error.DecodeError.{DecodeError}
@@ -73,3 +73,17 @@ key_verdict H bytes at key value root = verdict (λ (b : MapBundle). b.proofs) (
 -- The verdict on the absence at a place of a map bundle's bytes: from an empty leaf.
 abbrev pub absent_verdict : (List ℕ → List ℕ) → List ℕ → ℕ → List ℕ → List ℕ → Result Bool CheckError
 absent_verdict H bytes at key root = verdict (λ (b : MapBundle). b.absences) (λ b. leads H (empty_root H 0) key root) at (map_bundle_of bytes)
+
+-- The bytes are a map bundle with peers that lead from the value under the key to this root.
+pub record IsKeyShown (H : List ℕ → List ℕ) (bytes key value root : List ℕ) : Type 0 where
+  pub bundle : MapBundle
+  pub spelled : map_bundle_of bytes ≡ Ok bundle
+  pub peers : Peers
+  pub is : proof_value H peers (leaf_digest H value) (key_bits H key) ≡ root
+
+-- The bytes are a map bundle with peers that lead from an empty leaf under the key to this root.
+pub record IsAbsenceShown (H : List ℕ → List ℕ) (bytes key root : List ℕ) : Type 0 where
+  pub bundle : MapBundle
+  pub spelled : map_bundle_of bytes ≡ Ok bundle
+  pub peers : Peers
+  pub is : proof_value H peers (empty_root H 0) (key_bits H key) ≡ root

@@ -9,7 +9,6 @@ ghost use Rattle.warg_check.specs.CheckpointVerdicts.{is_leaf_at, shows_entry, e
 use crate::verdict::{CheckError, is_extended, is_included};
 use std::alloc::Allocator;
 use warg_crypto::{Hash, SupportedDigest, VisitBytes};
-use warg_log::laws::number_is_node;
 use warg_log::{Checkpoint, ConsistencyProof, InclusionProof, Node, ProofBundle};
 
 /// Whether the inclusion proof at a place of a log bundle, counted from 0, shows that entry `index`, from 0,
@@ -60,7 +59,6 @@ fn is_entry<D: SupportedDigest, V: VisitBytes, A: Allocator>(
 fn is_leaf(node: Node, index: usize) -> bool
     ensures { result ≡ is_leaf_at index node }
 {
-    number_is_node();
     match node.leaf_index() {
         Some(found) => found == index,
         None => false,

@@ -2,12 +2,13 @@
 //! no effect.
 //!
 //! They join the verdicts with the laws of `warg_witness`: where a verdict is true under the checkpoint of
-//! given entries, its claim is met there, and so it is true of the entries or a collision is computed.
+//! given entries, or under the root of given insertions, its claim is met there, and so it is true of them or
+//! a collision is computed (`value_or_collision`, `consistency_or_collision`, `key_or_collision` and
+//! `absence_or_collision` there).
 
 ghost use Rattle.std.specs.Prelude.{◌≡◌, ℕ, List, Ok, true};
+ghost use Rattle.warg_check.specs.Verdicts.{key_verdict, absent_verdict, IsKeyShown, IsAbsenceShown};
 ghost use Rattle.warg_check.specs.CheckpointVerdicts.{entry_verdict, growth_verdict, IsEntryShown, IsGrowthShown};
-
-use warg_log::laws::consistency_met;
 
 /// Where the verdict on an entry is true, the bundle's digests lead from the value at its leaf to the root.
 pub fn entry_is_shown()
@@ -17,6 +18,15 @@ pub fn entry_is_shown()
 /// Where the verdict on two checkpoints is true, the bundle's digests lead to both roots.
 pub fn growth_is_shown()
     ensures { (H : List ℕ → List ℕ) (bytes : List ℕ) (at old_length : ℕ) (old : List ℕ) (new_length : ℕ) (new : List ℕ) → growth_verdict H bytes at old_length old new_length new ≡ Ok true → IsGrowthShown H bytes old_length old new_length new }
-{
-    consistency_met();
-}
+{}
+
+/// Where the verdict on a key is true, the bundle has peers that lead from the value under the key to the root.
+pub fn key_is_shown()
+    ensures { (H : List ℕ → List ℕ) (bytes : List ℕ) (at : ℕ) (key value root : List ℕ) → key_verdict H bytes at key value root ≡ Ok true → IsKeyShown H bytes key value root }
+{}
+
+/// Where the verdict on an absence is true, the bundle has peers that lead from an empty leaf under the key to the
+/// root.
+pub fn absence_is_shown()
+    ensures { (H : List ℕ → List ℕ) (bytes : List ℕ) (at : ℕ) (key root : List ℕ) → absent_verdict H bytes at key root ≡ Ok true → IsAbsenceShown H bytes key root }
+{}

@@ -7,7 +7,6 @@ ghost use Rattle.warg_check.specs.Text.{text_of, all_good, MeetsFull};
 ghost use Rattle.warg_check.specs.declared.program.RunError.TheVariants.{Memory};
 
 mod command;
-mod digits;
 mod session;
 mod status;
 mod word;
@@ -22,7 +21,7 @@ use thiserror::Error;
 /// Why a run ended before its text was written.
 #[derive(Debug, PartialEq, Eq, Drop, Error)]
 pub enum RunError {
-    /// A read failed, or 2^48 reads met no end.
+    /// A read failed, or 2^64 - 1 reads met no end.
     #[error("read failed")]
     Read,
     /// A write or a flush failed, or a write took no byte.
@@ -43,8 +42,6 @@ impl From<AllocError> for RunError {
         RunError::Memory
     }
 }
-
-const READS: u64 = 1 << 48;
 
 /// Reads all the input, forms the whole text, writes it and flushes.
 ///
@@ -96,7 +93,7 @@ fn read_all<A: Allocator, R: Read>(alloc: A, reader: &mut R) -> Result<Vec<u8, A
 {
     let mut bytes = Vec::new(alloc);
     let mut buffer = [0u8; 8192];
-    for _ in 0..READS {
+    for _ in 0..u64::MAX {
         match reader.read(&mut buffer) {
             Ok(0) => return Ok(bytes),
             Ok(count) => bytes.extend_from_slice(&buffer[..count])?,

@@ -1,5 +1,6 @@
 -- The table of empty trees, row by row, by computing SHA-256.
-use Rattle.std.proofs.Common.{◌≡◌, ℕ, zero, suc, ◌+◌, ◌≤◌, List, [], ◌∷◌, ◌++◌, length, take, drop, get_or, refl, sym, ◌∙◌, ap, arith, add-one, lit≤}
+use Rattle.std.proofs.Common.{◌≡◌, ℕ, zero, suc, Bool, true, false, ◌&&◌, nat_eq, ◌+◌, ◌≤◌, List, [], ◌∷◌, ◌++◌, length, take, drop, get_or, refl, sym, ◌∙◌, ap, arith, add-one, lit≤}
+use Rattle.std.proofs.lemmas.Bool.{eqb-true, and_parts}
 use Rattle.sha2.specs.Sha256.{sha256, digest_bytes, hash_after, compress, rounds, schedule, first_words}
 use Rattle.warg_crypto.specs.EmptyTrees.{empty_root}
 use Rattle.warg_crypto.specs.declared.empty.TheConstants.{EMPTY_TREES}
@@ -13,6 +14,33 @@ above H k empty is = rw (is, add-one) refl
 Follow : (List ℕ → List ℕ) → List ℕ → List (List ℕ) → Type 0
 Follow H row [] = Unit {0}
 Follow H row (next ∷ rows) = (H (1 ∷ (row ++ row)) ≡ next) × Follow H next rows
+
+-- the same by a test, which computes each digest once
+are_same : List ℕ → List ℕ → Bool
+are_same [] [] = true
+are_same [] (y ∷ ys) = false
+are_same (x ∷ xs) [] = false
+are_same (x ∷ xs) (y ∷ ys) = nat_eq x y && are_same xs ys
+
+same : (xs ys : List ℕ) → are_same xs ys ≡ true → xs ≡ ys
+unfolding are_same
+same [] [] is = refl
+same [] (y ∷ ys) is = absurd (cc)
+same (x ∷ xs) [] is = absurd (cc)
+same (x ∷ xs) (y ∷ ys) is =
+    let parts = and_parts (nat_eq x y) (are_same xs ys) is in
+    ap (λ z. z ∷ xs) (eqb-true x y parts.0) ∙ ap (λ zs. y ∷ zs) (same xs ys parts.1)
+
+do_follow : (List ℕ → List ℕ) → List ℕ → List (List ℕ) → Bool
+do_follow H row [] = true
+do_follow H row (next ∷ rows) = are_same (H (1 ∷ (row ++ row))) next && do_follow H next rows
+
+follow_by : (H : List ℕ → List ℕ) (row : List ℕ) (rows : List (List ℕ)) → do_follow H row rows ≡ true → Follow H row rows
+unfolding Follow do_follow
+follow_by H row [] is = tt
+follow_by H row (next ∷ rows) is =
+    let parts = and_parts (are_same (H (1 ∷ (row ++ row))) next) (do_follow H next rows) is in
+    (same (H (1 ∷ (row ++ row))) next parts.0, follow_by H next rows parts.1)
 
 -- rows that follow, and then others that follow the last of them
 follow_on : (H : List ℕ → List ℕ) (n : ℕ) (row : List ℕ) (rows : List (List ℕ)) → n ≤ length rows → Follow H row (take n rows)
@@ -36,68 +64,68 @@ unfolding sha256 digest_bytes hash_after compress rounds schedule first_words
 first = refl
 
 part_0 : Follow sha256 (get_or EMPTY_TREES 0 []) (take 16 (drop 1 EMPTY_TREES))
-unfolding Follow sha256 digest_bytes hash_after compress rounds schedule first_words
-part_0 = (refl, (refl, (refl, (refl, (refl, (refl, (refl, (refl, (refl, (refl, (refl, (refl, (refl, (refl, (refl, (refl, tt))))))))))))))))
+unfolding do_follow are_same sha256 digest_bytes hash_after compress rounds schedule first_words
+part_0 = follow_by sha256 (get_or EMPTY_TREES 0 []) (take 16 (drop 1 EMPTY_TREES)) refl
 
 part_1 : Follow sha256 (get_or EMPTY_TREES 16 []) (take 16 (drop 17 EMPTY_TREES))
-unfolding Follow sha256 digest_bytes hash_after compress rounds schedule first_words
-part_1 = (refl, (refl, (refl, (refl, (refl, (refl, (refl, (refl, (refl, (refl, (refl, (refl, (refl, (refl, (refl, (refl, tt))))))))))))))))
+unfolding do_follow are_same sha256 digest_bytes hash_after compress rounds schedule first_words
+part_1 = follow_by sha256 (get_or EMPTY_TREES 16 []) (take 16 (drop 17 EMPTY_TREES)) refl
 
 part_2 : Follow sha256 (get_or EMPTY_TREES 32 []) (take 16 (drop 33 EMPTY_TREES))
-unfolding Follow sha256 digest_bytes hash_after compress rounds schedule first_words
-part_2 = (refl, (refl, (refl, (refl, (refl, (refl, (refl, (refl, (refl, (refl, (refl, (refl, (refl, (refl, (refl, (refl, tt))))))))))))))))
+unfolding do_follow are_same sha256 digest_bytes hash_after compress rounds schedule first_words
+part_2 = follow_by sha256 (get_or EMPTY_TREES 32 []) (take 16 (drop 33 EMPTY_TREES)) refl
 
 part_3 : Follow sha256 (get_or EMPTY_TREES 48 []) (take 16 (drop 49 EMPTY_TREES))
-unfolding Follow sha256 digest_bytes hash_after compress rounds schedule first_words
-part_3 = (refl, (refl, (refl, (refl, (refl, (refl, (refl, (refl, (refl, (refl, (refl, (refl, (refl, (refl, (refl, (refl, tt))))))))))))))))
+unfolding do_follow are_same sha256 digest_bytes hash_after compress rounds schedule first_words
+part_3 = follow_by sha256 (get_or EMPTY_TREES 48 []) (take 16 (drop 49 EMPTY_TREES)) refl
 
 part_4 : Follow sha256 (get_or EMPTY_TREES 64 []) (take 16 (drop 65 EMPTY_TREES))
-unfolding Follow sha256 digest_bytes hash_after compress rounds schedule first_words
-part_4 = (refl, (refl, (refl, (refl, (refl, (refl, (refl, (refl, (refl, (refl, (refl, (refl, (refl, (refl, (refl, (refl, tt))))))))))))))))
+unfolding do_follow are_same sha256 digest_bytes hash_after compress rounds schedule first_words
+part_4 = follow_by sha256 (get_or EMPTY_TREES 64 []) (take 16 (drop 65 EMPTY_TREES)) refl
 
 part_5 : Follow sha256 (get_or EMPTY_TREES 80 []) (take 16 (drop 81 EMPTY_TREES))
-unfolding Follow sha256 digest_bytes hash_after compress rounds schedule first_words
-part_5 = (refl, (refl, (refl, (refl, (refl, (refl, (refl, (refl, (refl, (refl, (refl, (refl, (refl, (refl, (refl, (refl, tt))))))))))))))))
+unfolding do_follow are_same sha256 digest_bytes hash_after compress rounds schedule first_words
+part_5 = follow_by sha256 (get_or EMPTY_TREES 80 []) (take 16 (drop 81 EMPTY_TREES)) refl
 
 part_6 : Follow sha256 (get_or EMPTY_TREES 96 []) (take 16 (drop 97 EMPTY_TREES))
-unfolding Follow sha256 digest_bytes hash_after compress rounds schedule first_words
-part_6 = (refl, (refl, (refl, (refl, (refl, (refl, (refl, (refl, (refl, (refl, (refl, (refl, (refl, (refl, (refl, (refl, tt))))))))))))))))
+unfolding do_follow are_same sha256 digest_bytes hash_after compress rounds schedule first_words
+part_6 = follow_by sha256 (get_or EMPTY_TREES 96 []) (take 16 (drop 97 EMPTY_TREES)) refl
 
 part_7 : Follow sha256 (get_or EMPTY_TREES 112 []) (take 16 (drop 113 EMPTY_TREES))
-unfolding Follow sha256 digest_bytes hash_after compress rounds schedule first_words
-part_7 = (refl, (refl, (refl, (refl, (refl, (refl, (refl, (refl, (refl, (refl, (refl, (refl, (refl, (refl, (refl, (refl, tt))))))))))))))))
+unfolding do_follow are_same sha256 digest_bytes hash_after compress rounds schedule first_words
+part_7 = follow_by sha256 (get_or EMPTY_TREES 112 []) (take 16 (drop 113 EMPTY_TREES)) refl
 
 part_8 : Follow sha256 (get_or EMPTY_TREES 128 []) (take 16 (drop 129 EMPTY_TREES))
-unfolding Follow sha256 digest_bytes hash_after compress rounds schedule first_words
-part_8 = (refl, (refl, (refl, (refl, (refl, (refl, (refl, (refl, (refl, (refl, (refl, (refl, (refl, (refl, (refl, (refl, tt))))))))))))))))
+unfolding do_follow are_same sha256 digest_bytes hash_after compress rounds schedule first_words
+part_8 = follow_by sha256 (get_or EMPTY_TREES 128 []) (take 16 (drop 129 EMPTY_TREES)) refl
 
 part_9 : Follow sha256 (get_or EMPTY_TREES 144 []) (take 16 (drop 145 EMPTY_TREES))
-unfolding Follow sha256 digest_bytes hash_after compress rounds schedule first_words
-part_9 = (refl, (refl, (refl, (refl, (refl, (refl, (refl, (refl, (refl, (refl, (refl, (refl, (refl, (refl, (refl, (refl, tt))))))))))))))))
+unfolding do_follow are_same sha256 digest_bytes hash_after compress rounds schedule first_words
+part_9 = follow_by sha256 (get_or EMPTY_TREES 144 []) (take 16 (drop 145 EMPTY_TREES)) refl
 
 part_10 : Follow sha256 (get_or EMPTY_TREES 160 []) (take 16 (drop 161 EMPTY_TREES))
-unfolding Follow sha256 digest_bytes hash_after compress rounds schedule first_words
-part_10 = (refl, (refl, (refl, (refl, (refl, (refl, (refl, (refl, (refl, (refl, (refl, (refl, (refl, (refl, (refl, (refl, tt))))))))))))))))
+unfolding do_follow are_same sha256 digest_bytes hash_after compress rounds schedule first_words
+part_10 = follow_by sha256 (get_or EMPTY_TREES 160 []) (take 16 (drop 161 EMPTY_TREES)) refl
 
 part_11 : Follow sha256 (get_or EMPTY_TREES 176 []) (take 16 (drop 177 EMPTY_TREES))
-unfolding Follow sha256 digest_bytes hash_after compress rounds schedule first_words
-part_11 = (refl, (refl, (refl, (refl, (refl, (refl, (refl, (refl, (refl, (refl, (refl, (refl, (refl, (refl, (refl, (refl, tt))))))))))))))))
+unfolding do_follow are_same sha256 digest_bytes hash_after compress rounds schedule first_words
+part_11 = follow_by sha256 (get_or EMPTY_TREES 176 []) (take 16 (drop 177 EMPTY_TREES)) refl
 
 part_12 : Follow sha256 (get_or EMPTY_TREES 192 []) (take 16 (drop 193 EMPTY_TREES))
-unfolding Follow sha256 digest_bytes hash_after compress rounds schedule first_words
-part_12 = (refl, (refl, (refl, (refl, (refl, (refl, (refl, (refl, (refl, (refl, (refl, (refl, (refl, (refl, (refl, (refl, tt))))))))))))))))
+unfolding do_follow are_same sha256 digest_bytes hash_after compress rounds schedule first_words
+part_12 = follow_by sha256 (get_or EMPTY_TREES 192 []) (take 16 (drop 193 EMPTY_TREES)) refl
 
 part_13 : Follow sha256 (get_or EMPTY_TREES 208 []) (take 16 (drop 209 EMPTY_TREES))
-unfolding Follow sha256 digest_bytes hash_after compress rounds schedule first_words
-part_13 = (refl, (refl, (refl, (refl, (refl, (refl, (refl, (refl, (refl, (refl, (refl, (refl, (refl, (refl, (refl, (refl, tt))))))))))))))))
+unfolding do_follow are_same sha256 digest_bytes hash_after compress rounds schedule first_words
+part_13 = follow_by sha256 (get_or EMPTY_TREES 208 []) (take 16 (drop 209 EMPTY_TREES)) refl
 
 part_14 : Follow sha256 (get_or EMPTY_TREES 224 []) (take 16 (drop 225 EMPTY_TREES))
-unfolding Follow sha256 digest_bytes hash_after compress rounds schedule first_words
-part_14 = (refl, (refl, (refl, (refl, (refl, (refl, (refl, (refl, (refl, (refl, (refl, (refl, (refl, (refl, (refl, (refl, tt))))))))))))))))
+unfolding do_follow are_same sha256 digest_bytes hash_after compress rounds schedule first_words
+part_14 = follow_by sha256 (get_or EMPTY_TREES 224 []) (take 16 (drop 225 EMPTY_TREES)) refl
 
 part_15 : Follow sha256 (get_or EMPTY_TREES 240 []) (take 16 (drop 241 EMPTY_TREES))
-unfolding Follow sha256 digest_bytes hash_after compress rounds schedule first_words
-part_15 = (refl, (refl, (refl, (refl, (refl, (refl, (refl, (refl, (refl, (refl, (refl, (refl, (refl, (refl, (refl, (refl, tt))))))))))))))))
+unfolding do_follow are_same sha256 digest_bytes hash_after compress rounds schedule first_words
+part_15 = follow_by sha256 (get_or EMPTY_TREES 240 []) (take 16 (drop 241 EMPTY_TREES)) refl
 
 nothing : Follow sha256 (get_or EMPTY_TREES 256 []) (drop 257 EMPTY_TREES)
 unfolding Follow

@@ -10,7 +10,7 @@ ghost use Rattle.std.specs.Prelude.{◌≡◌, ◌+◌, ◌*◌, ◌^◌, [], �
 ghost use Rattle.warg_crypto.specs.Digests.{sha256};
 ghost use Rattle.warg_check.specs.Verdicts.{inclusion_verdict, consistency_verdict, key_verdict, absent_verdict};
 ghost use Rattle.warg_check.specs.CheckpointVerdicts.{entry_verdict, growth_verdict};
-ghost use Rattle.warg_ffi.specs.Numbers.{GivesNumber, number_under};
+ghost use Rattle.warg_ffi.specs.Numbers.{Returns};
 
 mod number;
 
@@ -44,7 +44,7 @@ pub extern "C" fn warg_check_entry(
     length: usize,
     root: &[u8],
 ) -> i32
-    ensures { GivesNumber result (number_under (root.now ∷ []) (entry_verdict sha256 bundle.now at index value.now length root.now)) }
+    ensures { Returns (root.now ∷ []) (entry_verdict sha256 bundle.now at index value.now length root.now) result }
 {
     match Hash::<Sha256>::try_from(root) {
         Ok(root) => {
@@ -68,7 +68,7 @@ pub extern "C" fn warg_check_growth(
     new_length: usize,
     new_root: &[u8],
 ) -> i32
-    ensures { GivesNumber result (number_under (old_root.now ∷ new_root.now ∷ []) (growth_verdict sha256 bundle.now at old_length old_root.now new_length new_root.now)) }
+    ensures { Returns (old_root.now ∷ new_root.now ∷ []) (growth_verdict sha256 bundle.now at old_length old_root.now new_length new_root.now) result }
 {
     match (
         Hash::<Sha256>::try_from(old_root),
@@ -94,7 +94,7 @@ pub extern "C" fn warg_check_inclusion(
     value: &[u8],
     root: &[u8],
 ) -> i32
-    ensures { GivesNumber result (number_under (root.now ∷ []) (inclusion_verdict sha256 bundle.now at value.now root.now)) }
+    ensures { Returns (root.now ∷ []) (inclusion_verdict sha256 bundle.now at value.now root.now) result }
 {
     match Hash::<Sha256>::try_from(root) {
         Ok(root) => number(check_inclusion(alloc, bundle, at, &value, &root)),
@@ -113,7 +113,7 @@ pub extern "C" fn warg_check_consistency(
     old_root: &[u8],
     new_root: &[u8],
 ) -> i32
-    ensures { GivesNumber result (number_under (old_root.now ∷ new_root.now ∷ []) (consistency_verdict sha256 bundle.now at old_root.now new_root.now)) }
+    ensures { Returns (old_root.now ∷ new_root.now ∷ []) (consistency_verdict sha256 bundle.now at old_root.now new_root.now) result }
 {
     match (
         Hash::<Sha256>::try_from(old_root),
@@ -135,7 +135,7 @@ pub extern "C" fn warg_check_key(
     value: &[u8],
     root: &[u8],
 ) -> i32
-    ensures { GivesNumber result (number_under (root.now ∷ []) (key_verdict sha256 bundle.now at key.now value.now root.now)) }
+    ensures { Returns (root.now ∷ []) (key_verdict sha256 bundle.now at key.now value.now root.now) result }
 {
     match Hash::<Sha256>::try_from(root) {
         Ok(root) => number(check_key(alloc, bundle, at, &key, &value, &root)),
@@ -154,7 +154,7 @@ pub extern "C" fn warg_check_absent(
     key: &[u8],
     root: &[u8],
 ) -> i32
-    ensures { GivesNumber result (number_under (root.now ∷ []) (absent_verdict sha256 bundle.now at key.now root.now)) }
+    ensures { Returns (root.now ∷ []) (absent_verdict sha256 bundle.now at key.now root.now) result }
 {
     match Hash::<Sha256>::try_from(root) {
         Ok(root) => number(check_absent(alloc, bundle, at, &key, &root)),

@@ -5,7 +5,7 @@ use Rattle.std.proofs.lemmas.Bool.{le-leb, lt-leb, cases_lt}
 use Rattle.std.proofs.lemmas.Nat.{pow_pos}
 use Rattle.std.specs.List.{AllByRecursion}
 use Rattle.warg_log.specs.Nodes.{height_of, start_of, end_of, node_over, balanced_within, balanced_over, balanced_roots, Follow, Fall}
-use Rattle.warg_log.proofs.AllLemmas.{all_append}
+use Rattle.warg_protobuf.proofs.ForCallers.{all_append}
 use Rattle.warg_log.proofs.NodeLemmas.{over_at, over_ends, pow_below_pow}
 use Rattle.warg_log.proofs.RootLemmas.{below_pow, settled_at, exponent_below}
 

@@ -8,7 +8,7 @@ use Rattle.std.proofs.lemmas.List.{map-append}
 use Rattle.warg_log.specs.Nodes.{height_of, place_of, start_of, end_of, node_over, number_of, balanced_over, balanced_roots, Follow, Fall}
 use Rattle.warg_log.specs.Cut.{top_of, cut_over, cut_root, old_root, IsFull, IsBeside}
 use Rattle.warg_log.specs.Walks.{climbed, joined_all}
-use Rattle.warg_log.proofs.AllLemmas.{all_weaken}
+use Rattle.warg_protobuf.proofs.ForCallers.{all_weaken}
 use Rattle.warg_log.proofs.NodeLemmas.{node_is, only_number, over_at, over_ends}
 use Rattle.warg_log.proofs.CutLemmas.{cut_over-read, cut_over-split, nothing_beside}
 use Rattle.warg_log.proofs.WayLemmas.{missed}

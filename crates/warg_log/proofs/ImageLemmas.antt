@@ -11,7 +11,7 @@ use Rattle.warg_log.specs.Nodes.{height_of, place_of, end_of, balanced_roots}
 use Rattle.warg_log.specs.Blocks.{Blocks}
 use Rattle.warg_log.specs.Decoding.{first_fault, digest_fault}
 use Rattle.warg_log.specs.Images.{root_entry, stack_message, stack_in}
-use Rattle.warg_log.proofs.AllLemmas.{all_weaken}
+use Rattle.warg_protobuf.proofs.ForCallers.{all_weaken}
 use Rattle.warg_log.proofs.NodeLemmas.{node_is, last_leaf}
 use Rattle.warg_log.proofs.BalancedLemmas.{balanced_first, has_first_over, roots_end}
 

@@ -1,5 +1,5 @@
-pub mod NodeLemmas
 pub mod AllLemmas
+pub mod NodeLemmas
 pub mod RootLemmas
 pub mod BalancedLemmas
 pub mod AppendLemmas
@@ -21,3 +21,4 @@ pub mod NeededLemmas
 pub mod SameLemmas
 pub mod ImageLemmas
 pub mod TreeLemmas
+pub mod ForCallers

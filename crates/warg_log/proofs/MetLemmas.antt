@@ -12,7 +12,7 @@ use Rattle.warg_log.specs.Tree.{root_of, leaves_below, own_digest}
 use Rattle.warg_log.specs.Cut.{cut_root, old_root}
 use Rattle.warg_protobuf.specs.Reading.{◌>>=◌}
 use Rattle.warg_log.specs.Consistency.{root_to, agreed_root, new_root_of, consistency, LeadsTo, IsConsistent}
-use Rattle.warg_log.proofs.AllLemmas.{all_weaken}
+use Rattle.warg_protobuf.proofs.ForCallers.{all_weaken}
 use Rattle.warg_log.proofs.CutLemmas.{cut_root-own, old_root-own}
 use Rattle.warg_log.proofs.BalancedLemmas.{has_first_over, roots_end}
 

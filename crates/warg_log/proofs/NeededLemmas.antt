@@ -18,7 +18,7 @@ use Rattle.warg_log.specs.Sparse.{Pairs, IsAscending}
 use Rattle.warg_log.specs.Claims.{InclusionClaim, ConsistencyClaim}
 use Rattle.warg_log.specs.Bundling.{needed_between, needed_by, differs, consistency_length, inclusion_length, bundle_length, IsBundleFault}
 use Rattle.warg_log.specs.Private.Unions.{IsUnion}
-use Rattle.warg_log.proofs.AllLemmas.{all_weaken}
+use Rattle.warg_protobuf.proofs.ForCallers.{all_weaken}
 use Rattle.warg_log.proofs.BalancedLemmas.{all_push}
 use Rattle.warg_log.proofs.StackLemmas.{roots_exist}
 

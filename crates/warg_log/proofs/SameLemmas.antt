@@ -1,5 +1,5 @@
 -- Evaluations over data that agree where they are read.
-use Rattle.std.proofs.Common.{◌≡◌, ℕ, ◌<◌, nat_eq, true, false, List, [], ◌∷◌, map, Option, Some, refl, sym, ◌∙◌, arith, ⊎_elim}
+use Rattle.std.proofs.Common.{◌≡◌, ℕ, ◌<◌, nat_eq, true, false, List, [], ◌∷◌, ◌++◌, map, Option, Some, refl, sym, ◌∙◌, arith, ⊎_elim}
 use Rattle.std.specs.Prelude.{reverse}
 use Rattle.std.specs.List.{AllByRecursion, flat_map, list_any}
 use Rattle.std.proofs.lemmas.Bool.{eq-eqb, ne_eqb, or_left, or_right, cases_eq}
@@ -10,10 +10,13 @@ use Rattle.warg_log.specs.Cut.{Way, at_target, at_node, at_parts, top_of, cut_ro
 use Rattle.warg_log.specs.Walks.{read_on, needed}
 use Rattle.warg_log.specs.Consistency.{root_to, agreed_root, new_root_of, consistency}
 use Rattle.warg_log.specs.Bundling.{needed_by, needed_between}
-use Rattle.warg_log.proofs.AllLemmas.{all_parts}
 use Rattle.warg_log.proofs.BalancedLemmas.{all_push}
 use Rattle.warg_log.proofs.CutLemmas.{nothing_beside}
 use Rattle.warg_log.proofs.OrderLemmas.{reverse-cons, need_beside_roots}
+
+all_parts : {X : Type 0} (P : X → Type 0) (xs ys : List X) → AllByRecursion P (xs ++ ys) → AllByRecursion P xs × AllByRecursion P ys
+all_parts P [] ys all = (tt, all)
+all_parts P (x ∷ xs) ys all = let p = all_parts P xs ys all.1 in ((all.0, p.0), p.1)
 
 -- what is held for the needed nodes was taken from the source
 held_is : (F : ℕ → Option (List ℕ)) (ps : Pairs) (x : ℕ) → AllByRecursion (λ (p : Node × List ℕ). F p.0.0 ≡ Some p.1) ps

@@ -13,7 +13,7 @@ use Rattle.warg_log.specs.Cut.{joined, old_root}
 use Rattle.warg_log.specs.Walks.{joined_all}
 use Rattle.warg_log.specs.Blocks.{Blocks, StandsFor, digest_beside, block_at, block_over, joined_blocks, pushed}
 use Rattle.warg_log.specs.Private.Growth.{Grows}
-use Rattle.warg_log.proofs.AllLemmas.{all_weaken}
+use Rattle.warg_protobuf.proofs.ForCallers.{all_weaken}
 use Rattle.warg_log.proofs.NodeLemmas.{node_is, only_number, over_at, over_ends}
 use Rattle.warg_log.proofs.CutLemmas.{root_over-split, old_root-own}
 use Rattle.warg_log.proofs.LawLemmas.{root_over-one}

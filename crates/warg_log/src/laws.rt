@@ -39,31 +39,10 @@ pub fn front_is_greatest()
     ensures { (n : ℕ) → 1 < n → IsFull (front_of n) × (front_of n < n) × (n ≤ 2 * front_of n) }
 {}
 
-/// The root over one leaf is that leaf's digest.
-pub fn root_over_one()
-    ensures { (H : List ℕ → List ℕ) (ds : List (List ℕ)) (a : ℕ) → a < length ds → root_over H ds a 1 ≡ slice_index_or ds a [] }
-{}
-
-/// The root over a range of more leaves is the branch over the roots of its two parts.
-pub fn root_over_parts()
-    ensures { (H : List ℕ → List ℕ) (ds : List (List ℕ)) (a n : ℕ) → 1 < n → a + n ≤ length ds → root_over H ds a n ≡ branch H (root_over H ds a (front_of n)) (root_over H ds (a + front_of n) (n - front_of n)) }
-{}
-
 /// Each number is the node of one height and one place.
 pub fn number_is_node()
     ensures is { (x : ℕ) → IsNode x (height_of x) (place_of x) }
     ensures only { (x k j : ℕ) → IsNode x k j → (height_of x ≡ k) × (place_of x ≡ j) }
-{}
-
-/// Each range of `2^k` leaves that begins at a multiple of `2^k` has one number.
-pub fn range_has_number()
-    ensures has { (k j : ℕ) → IsNode (node_over (j * 2 ^ k) (2 ^ k)) k j }
-    ensures only { (x k j : ℕ) → IsNode x k j → x ≡ node_over (j * 2 ^ k) (2 ^ k) }
-{}
-
-/// The number of a node that exists at a length is at most that of the length's last leaf.
-pub fn existing_number()
-    ensures { (x n : ℕ) → ExistsAt x n → x + 2 ≤ 2 * n }
 {}
 
 /// A node and its sibling have one parent: the node of the height above over either is the same.
@@ -109,17 +88,6 @@ pub fn cut_beside()
 /// The cut root of any other range is the branch over those of its two parts.
 pub fn cut_parts()
     ensures { (H : List ℕ → List ℕ) (F : ℕ → Option (List ℕ)) (x : List ℕ) (s w a n : ℕ) → 1 < n → (a ≡ s → n ≡ w → ⊥) → (IsFull n → IsBeside s w a n → ⊥) → cut_over H F x s w a n ≡ joined H (cut_over H F x s w a (front_of n)) (cut_over H F x s w (a + front_of n) (n - front_of n)) }
-{}
-
-/// The cut root of a range that misses the target is the range's old root.
-pub fn cut_old()
-    ensures { (H : List ℕ → List ℕ) (F : ℕ → Option (List ℕ)) (x : List ℕ) (s w a n : ℕ) → 0 < w → 0 < n → IsBeside s w a n → cut_over H F x s w a n ≡ old_over H F a n }
-{}
-
-/// Where all digests have 32 bytes, each cut root has as many.
-pub fn cut_size()
-    ensures { (H : List ℕ → List ℕ) (F : ℕ → Option (List ℕ)) (x : List ℕ) (s w a n : ℕ) (r : List ℕ) → ((m : List ℕ) → length (H m) ≡ 32) → ((t : ℕ) (d : List ℕ) → F t ≡ Some d → length d ≡ 32)
-        → length x ≡ 32 → cut_over H F x s w a n ≡ Some r → length r ≡ 32 }
 {}
 
 /// The target's own range needs no node.

@@ -152,7 +152,7 @@ bits-order a b f g =
     ap (bits_cmp (last_bits a 256)) (digest_bits b g) ∙ ap (λ p. bits_cmp p (all_bits b)) (digest_bits a f)
     ∙ all_bits-order a b (f.has_32 ∙ sym g.has_32) f.are_bytes g.are_bytes
 
-itself : (p : List Bool) → bits_cmp p p ≡ Equal
+pub itself : (p : List Bool) → bits_cmp p p ≡ Equal
 itself [] = refl
 itself (true ∷ p) = itself p
 itself (false ∷ p) = itself p

@@ -19,3 +19,4 @@ pub mod LastInserted
 pub mod RootsAtPrefixes
 pub mod DigestBits
 pub mod ProofEquality
+pub mod ForCallers

@@ -47,11 +47,6 @@ pub fn held_bits<D: SupportedDigest, K, V, A: Allocator>(map: &Map<D, K, V, A>)
     map.levels();
 }
 
-/// A key has 256 bits.
-pub fn all_bits()
-    ensures { (H : List ℕ → List ℕ) (key : List ℕ) → length (key_bits H key) ≡ 256 }
-{}
-
 /// Keys of the same bits have the same digest.
 pub fn same_digest()
     ensures { (H : List ℕ → List ℕ) (key other : List ℕ) → IsDigest (H key) → IsDigest (H other) → key_bits H key ≡ key_bits H other → H key ≡ H other }

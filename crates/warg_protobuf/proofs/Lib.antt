@@ -8,3 +8,4 @@ pub mod Loops
 pub mod Decoders
 pub mod Writing
 pub mod RoundTrips
+pub mod ForCallers

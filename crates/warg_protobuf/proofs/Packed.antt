@@ -31,7 +31,7 @@ failed_high n e h =
       | inr le ↦ (le, let bad = high_fails n le in cc)
     ]
 
-all_into : {X : Type 0} (P Q : X → Type 0) → ((x : X) → P x → Q x) → (xs : List X) → AllByRecursion P xs
+pub all_into : {X : Type 0} (P Q : X → Type 0) → ((x : X) → P x → Q x) → (xs : List X) → AllByRecursion P xs
     → AllByRecursion Q xs
 all_into P Q into [] all = tt
 all_into P Q into (x ∷ xs) all = (into x all.0, all_into P Q into xs all.1)

@@ -32,7 +32,7 @@
 mod error;
 mod field;
 mod hash_entry;
-mod laws;
+pub mod laws;
 mod log_proof_bundle;
 mod map_inclusion_proof;
 mod map_proof_bundle;
@@ -46,7 +46,6 @@ mod writer;
 
 pub use error::WireError;
 pub use hash_entry::HashEntry;
-pub use laws::{fault_is_met, field_at_front, one_spelling, shortest_varint, spelled_is_read};
 pub use log_proof_bundle::LogProofBundle;
 pub use map_inclusion_proof::MapInclusionProof;
 pub use map_proof_bundle::MapProofBundle;

@@ -12,9 +12,9 @@ fn a_release_s_digest(rt: HostRuntime) -> Result<(), Fail> {
         name: "a",
         version: "bc",
     };
-    // SHA-256 of the bytes of "abc" (FIPS 180-4).
+    // SHA-256 of 1 in 8 bytes, "a", 2 in 8 bytes and "bc", by Python's hashlib.
     let digits = crypto::digest(&release).to_string(rt.alloc())?;
-    let wanted = "ba7816bf8f01cfea414140de5dae2223b00361a396177a9cb410ff61f20015ad";
+    let wanted = "3fafa1cf2f19a7c1129beb20cf0983f73a489a221fc0dd2f16d1be292d089205";
     assert!(rt; digits.as_str() == wanted);
     Ok(())
 }

@@ -10,10 +10,9 @@ use Rattle.warg_witness.specs.Claims.{Begins, IsMet, IsEntry, IsRootBelow, IsAgr
 use Rattle.warg_witness.specs.Inputs.{branch_input}
 use Rattle.warg_witness.specs.Laws.{GivesHashes, HoldsHashes, SomeCollision}
 use Rattle.warg_witness.specs.Private.Ranges.{IsAligned, IsNodeRange}
-use Rattle.warg_witness.specs.Private.LogLaws.{LogLaws}
 use Rattle.warg_witness.specs.Private.Divergence.{HaveOneDigest, MeetAt, DivergesAt}
 use Rattle.warg_witness.specs.declared.descent.Divergence.{Divergence}
-use Rattle.warg_witness.proofs.RangeLemmas.{Digest, Data, more_than_one, known, node_some, wider, side_is_part, side_aligned, side_around, leaf_node, node_aligned, whole_aligned}
+use Rattle.warg_witness.proofs.RangeLemmas.{Digest, Data, more_than_one, node_some, wider, side_is_part, side_aligned, side_around, leaf_node, node_aligned, whole_aligned}
 use Rattle.warg_witness.proofs.RootLemmas.{Root, full_node, full_or_not, front_node, rest_aligned, root_full, root_front, root_rest}
 use Rattle.warg_witness.proofs.DescentLemmas.{branch_parts, same_at_side, meets_here, sides_of, diverges_at, length-leaves, DivergesFrom, Meets, have_root, have_node, plain_digest_is}
 use Rattle.std.proofs.lemmas.Nat.{pow_pos}
@@ -24,6 +23,7 @@ use Rattle.warg_witness.specs.Private.Meeting.{IsConsistencyMeeting}
 use Rattle.warg_witness.specs.declared.descent.Divergence.TheVariants.{Target}
 use Rattle.warg_witness.proofs.ShownLemmas.{Shows, entry_from, value_placed, value_meets, hash_placed, agreement_placed, agreement_meets}
 use Rattle.warg_witness.proofs.ConsistencyLemmas.{trees_consistent, root_leads, old_placed, new_placed, below_placed, leaves_shown}
+use Rattle.warg_log.proofs.ForCallers.{cut_size, front_is_greatest}
 
 -- lists of numbers are the same or not, and a range is the target or not
 pub same_or_not : (xs ys : List ℕ) → (xs ≡ ys) ⊎ (xs ≡ ys → ⊥)
@@ -45,49 +45,48 @@ difference (x ∷ old) (y ∷ new) order other = elim (same_or_not x y) [
   | inr differ ↦ (0, omega arith, differ)
 ]
 
-module _ (laws : LogLaws) where
-  -- two trees of one digest at a range diverge on the way down to the target, or have one digest there
-  module _ (H : Digest) (F : Data) (x : List ℕ) (G : Data) (y : List ℕ) (s w a₀ n₀ : ℕ) (P : List ℕ → List ℕ → Type 0) where
-    pub diverged : GivesHashes H → HoldsHashes F → HoldsHashes G → length x ≡ 32 → length y ≡ 32 → IsNodeRange s w
-        → ((first second : List ℕ) → DivergesAt H F x G y s w a₀ n₀ first second → P first second)
-        → (MeetAt x y s w a₀ n₀ → SomeCollision H P) → (k a n : ℕ) → n ≤ k → IsPart a₀ n₀ a n → IsAligned a n → IsAround s w a n → HaveOneDigest H F x G y s w a n → SomeCollision H P
-    diverged gives holds holds' size size' node place meets zero a n le part aligned around one = let some = node_some node in absurd (omega arith)
-    diverged gives holds holds' size size' node place meets (suc k) a n le part aligned around one = elim (target_or_other s w a n) [
-      | inl here ↦ meets (meets_here laws H here.0 here.1 part one)
-      | inr other ↦
-          let some = node_some node in
-          let more : 1 < n = let wide = wider around other in omega arith in
-          let first = sides_of laws H some around other F x one.digest one.first in
-          let second = sides_of laws H some around other G y one.digest one.second in
-          let first_size = (known laws).cut_size H F x s w a (front_of n) first.0 gives holds size first.2.left in
-          let second_size = (known laws).cut_size H G y s w a (front_of n) second.0 gives holds' size' second.2.left in
-          elim (same_or_not (branch_input first.0 first.1) (branch_input second.0 second.1)) [
-            | inl same ↦
-                let side = side_around laws node aligned around other in
-                diverged gives holds holds' size size' node place meets k side.0 side.1 (omega arith) (side_is_part side.0 side.1 part more side.2)
-                (side_aligned laws side.0 side.1 aligned more side.2) side.3
-                (same_at_side side.0 side.1 first.2 second.2 (branch_parts first.0 first.1 second.0 second.1 (first_size ∙ sym second_size) same) side.2)
-            | inr differ ↦
-                let at = diverges_at laws H some around other part one first.2 second.2 differ in
-                record { first = branch_input first.0 first.1; second = branch_input second.0 second.1; differ = differ; same = at.same; placed = place _ _ at }
-          ]
-    ]
-
-  -- the balanced root of a range around a place
-  root_found : (place k a n : ℕ) → n ≤ k → IsAligned a n → a ≤ place → place < a + n → (s : ℕ) × (w : ℕ) × Root s w a n × IsAround place 1 s w
-  root_found place zero a n le aligned starts ends = absurd (omega arith)
-  root_found place (suc k) a n le aligned starts ends = elim (full_or_not laws n (omega arith)) [
-    | inl is ↦ (a, n, record { node = full_node aligned is; contained = root_full laws a n is }, omega arith)
-    | inr not_full ↦
-        let more = more_than_one n (omega arith) not_full in
-        let f = (known laws).front n more in
-        elim (cases_lt place (a + front_of n)) [
-          | inl left ↦ (a, front_of n, record { node = front_node laws a n aligned more; contained = root_front laws a n more not_full }, omega arith)
-          | inr right ↦
-              let at = root_found place k (a + front_of n) (n - front_of n) (omega arith) (rest_aligned laws aligned more) right (omega arith) in
-              (at.0, at.1, record { node = at.2.node; contained = root_rest laws a n (node_over at.0 at.1) more not_full at.2.contained }, at.3)
+-- two trees of one digest at a range diverge on the way down to the target, or have one digest there
+module _ (H : Digest) (F : Data) (x : List ℕ) (G : Data) (y : List ℕ) (s w a₀ n₀ : ℕ) (P : List ℕ → List ℕ → Type 0) where
+  pub diverged : GivesHashes H → HoldsHashes F → HoldsHashes G → length x ≡ 32 → length y ≡ 32 → IsNodeRange s w
+      → ((first second : List ℕ) → DivergesAt H F x G y s w a₀ n₀ first second → P first second)
+      → (MeetAt x y s w a₀ n₀ → SomeCollision H P) → (k a n : ℕ) → n ≤ k → IsPart a₀ n₀ a n → IsAligned a n → IsAround s w a n → HaveOneDigest H F x G y s w a n → SomeCollision H P
+  diverged gives holds holds' size size' node place meets zero a n le part aligned around one = let some = node_some node in absurd (omega arith)
+  diverged gives holds holds' size size' node place meets (suc k) a n le part aligned around one = elim (target_or_other s w a n) [
+    | inl here ↦ meets (meets_here H here.0 here.1 part one)
+    | inr other ↦
+        let some = node_some node in
+        let more : 1 < n = let wide = wider around other in omega arith in
+        let first = sides_of H some around other F x one.digest one.first in
+        let second = sides_of H some around other G y one.digest one.second in
+        let first_size = cut_size H F x s w a (front_of n) first.0 gives holds size first.2.left in
+        let second_size = cut_size H G y s w a (front_of n) second.0 gives holds' size' second.2.left in
+        elim (same_or_not (branch_input first.0 first.1) (branch_input second.0 second.1)) [
+          | inl same ↦
+              let side = side_around node aligned around other in
+              diverged gives holds holds' size size' node place meets k side.0 side.1 (omega arith) (side_is_part side.0 side.1 part more side.2)
+              (side_aligned side.0 side.1 aligned more side.2) side.3
+              (same_at_side side.0 side.1 first.2 second.2 (branch_parts first.0 first.1 second.0 second.1 (first_size ∙ sym second_size) same) side.2)
+          | inr differ ↦
+              let at = diverges_at H some around other part one first.2 second.2 differ in
+              record { first = branch_input first.0 first.1; second = branch_input second.0 second.1; differ = differ; same = at.same; placed = place _ _ at }
         ]
   ]
+
+-- the balanced root of a range around a place
+root_found : (place k a n : ℕ) → n ≤ k → IsAligned a n → a ≤ place → place < a + n → (s : ℕ) × (w : ℕ) × Root s w a n × IsAround place 1 s w
+root_found place zero a n le aligned starts ends = absurd (omega arith)
+root_found place (suc k) a n le aligned starts ends = elim (full_or_not n (omega arith)) [
+  | inl is ↦ (a, n, record { node = full_node aligned is; contained = root_full a n is }, omega arith)
+  | inr not_full ↦
+      let more = more_than_one n (omega arith) not_full in
+      let f = front_is_greatest n more in
+      elim (cases_lt place (a + front_of n)) [
+        | inl left ↦ (a, front_of n, record { node = front_node a n aligned more; contained = root_front a n more not_full }, omega arith)
+        | inr right ↦
+            let at = root_found place k (a + front_of n) (n - front_of n) (omega arith) (rest_aligned aligned more) right (omega arith) in
+            (at.0, at.1, record { node = at.2.node; contained = root_rest a n (node_over at.0 at.1) more not_full at.2.contained }, at.3)
+      ]
+]
 
 -- a node's leaves are a node's range
 node_range : (node : ℕ) → IsNodeRange (start_of node) (2 ^ height_of node)
@@ -98,13 +97,13 @@ pub target_or_not : (p : SomeDivergence) → (p ≡ Target) ⊎ (p ≡ Target �
 target_or_not p = grind arith
 
 -- what is shown is a collision
-shown_collides : {H : Digest} {P : List ℕ → List ℕ → Type 0} (first second : List ℕ) → Shows H P (first, second) → SomeCollision H P
-shown_collides first second shown = search shown
+pub shown_collides : {H : Digest} {P : List ℕ → List ℕ → Type 0} (pair : List ℕ × List ℕ) → Shows H P pair → SomeCollision H P
+shown_collides pair shown = record { first = pair.0; second = pair.1; differ = shown.0.differ; same = shown.0.same; placed = shown.1 }
 
-module _ (laws : LogLaws) (H : Digest) where
+module _ (H : Digest) where
   -- each root over the entries has 32 bytes, and so has what their log holds
   root_size : (entries : List (List ℕ)) (a n : ℕ) → GivesHashes H → 0 < n → a + n ≤ length (leaves_of H entries) → length (root_over H (leaves_of H entries) a n) ≡ 32
-  root_size entries a n gives some within = grind (arith, plain_digest_is laws H entries a n some, length-leaves H entries)
+  root_size entries a n gives some within = grind (arith, plain_digest_is H entries a n some, length-leaves H entries)
 
   own_holds : (entries : List (List ℕ)) → GivesHashes H → HoldsHashes (own_digest H (leaves_of H entries))
   own_holds entries gives node digest is = grind (arith, nat_tests, pow_pos (height_of node), root_size entries (start_of node) (2 ^ height_of node) gives)
@@ -117,8 +116,8 @@ module _ (laws : LogLaws) (H : Digest) where
       let ds = leaves_of H entries in
       let n = length ds in
       let some = node_some node in
-      diverged laws H F x (own_digest H ds) (root_over H ds s w) s w 0 n _ gives holds (own_holds entries gives) size (root_size entries s w gives some within) node place meets
-      n 0 n (omega arith) whole (whole_aligned n) (omega arith) (have_root laws H ds s w leads (omega arith))
+      diverged H F x (own_digest H ds) (root_over H ds s w) s w 0 n _ gives holds (own_holds entries gives) size (root_size entries s w gives some within) node place meets
+      n 0 n (omega arith) whole (whole_aligned n) (omega arith) (have_root H ds s w leads (omega arith))
 
   -- a claim that is met leads to the root of the tree
   leads_to : {F : Data} {digest : List ℕ} {node n : ℕ} {entries : List (List ℕ)} → IsMet H F digest node n entries → let ds = leaves_of H entries in
@@ -129,20 +128,20 @@ module _ (laws : LogLaws) (H : Digest) where
       → (IsEntry value node entries → ⊥) → SomeCollision H (IsValuePlaced H F value node entries)
   value_collides F value node n entries gives holds met false_claim =
       let leads = leads_to met in
-      from_tree entries gives holds (gives (0 ∷ value)) (node_range node) leads.0 leads.1 (value_placed laws H F entries _ refl node value)
-      (λ meets. shown_collides _ _ (value_meets laws H F entries _ refl node value (λ at. false_claim (entry_from node at)) meets))
+      from_tree entries gives holds (gives (0 ∷ value)) (node_range node) leads.0 leads.1 (value_placed H F entries _ refl node value)
+      (λ meets. shown_collides _ (value_meets H F entries _ refl node value (λ at. false_claim (entry_from node at)) meets))
 
   pub hash_collides : (F : Data) (hash : List ℕ) (node n : ℕ) (entries : List (List ℕ)) → GivesHashes H → HoldsHashes F → length hash ≡ 32 → IsMet H F hash node n entries
       → (IsRootBelow H hash node entries → ⊥) → SomeCollision H (IsHashPlaced H F hash node entries)
   hash_collides F hash node n entries gives holds size met false_claim =
       let leads = leads_to met in
-      from_tree entries gives holds size (node_range node) leads.0 leads.1 (hash_placed laws H F entries _ refl node hash) (λ meets. absurd (false_claim meets.same))
+      from_tree entries gives holds size (node_range node) leads.0 leads.1 (hash_placed H F entries _ refl node hash) (λ meets. absurd (false_claim meets.same))
 
   pub agreement_collides : (F : Data) (value : List ℕ) (G : Data) (other : List ℕ) (node n : ℕ) → GivesHashes H → HoldsHashes F → HoldsHashes G
       → IsAgreement H F (H (0 ∷ value)) G (H (0 ∷ other)) node n → (value ≡ other → ⊥) → SomeCollision H (IsAgreementPlaced H F value G other node n)
   agreement_collides F value G other node n gives holds holds' met false_claim =
-      diverged laws H F (H (0 ∷ value)) G (H (0 ∷ other)) (start_of node) (2 ^ height_of node) 0 n _ gives holds holds' (gives (0 ∷ value)) (gives (0 ∷ other)) (node_range node)
-      (agreement_placed H F value G other node n) (λ meets. shown_collides _ _ (agreement_meets H F value G other node n false_claim meets))
+      diverged H F (H (0 ∷ value)) G (H (0 ∷ other)) (start_of node) (2 ^ height_of node) 0 n _ gives holds holds' (gives (0 ∷ value)) (gives (0 ∷ other)) (node_range node)
+      (agreement_placed H F value G other node n) (λ meets. shown_collides _ (agreement_meets H F value G other node n false_claim meets))
       n 0 n (omega arith) whole (whole_aligned n) (omega arith) (record { digest = met.root; first = met.first_is; second = met.second_is })
 
   -- the balanced root around a difference shows a collision
@@ -152,16 +151,16 @@ module _ (laws : LogLaws) (H : Digest) where
       let ds = leaves_of H old in
       let es = leaves_of H new in
       let found = difference old new (omega arith) false_claim in
-      let root = root_found laws found.0 (length ds) 0 (length ds) (omega arith) (whole_aligned (length ds)) (omega arith) (omega (arith, length-leaves H old)) in
+      let root = root_found found.0 (length ds) 0 (length ds) (omega arith) (whole_aligned (length ds)) (omega arith) (omega (arith, length-leaves H old)) in
       let is : IsConsistencyMeeting H F m n old new ds es = record { met = met; old_is = refl; new_is = refl } in
-      let leads = root_leads laws (trees_consistent is) root.2 in
+      let leads = root_leads (trees_consistent is) root.2 in
       let at = leads.1 in
       let place = found.0 in
       let size = holds _ _ at.held in
-      from_tree old gives holds size at.node at.in_old at.to_old (old_placed laws is at)
-      (λ in_old. from_tree new gives holds size at.node at.in_new at.to_new (new_placed laws is at)
-      (λ in_new. diverged laws H (own_digest H ds) (root_over H ds place 1) (own_digest H es) (root_over H es place 1) place 1 root.0 root.1 _ gives (own_holds old gives) (own_holds new gives)
+      from_tree old gives holds size at.node at.in_old at.to_old (old_placed is at)
+      (λ in_old. from_tree new gives holds size at.node at.in_new at.to_new (new_placed is at)
+      (λ in_new. diverged H (own_digest H ds) (root_over H ds place 1) (own_digest H es) (root_over H es place 1) place 1 root.0 root.1 _ gives (own_holds old gives) (own_holds new gives)
       (root_size old place 1 gives (omega arith) (omega arith)) (root_size new place 1 gives (omega arith) (omega arith)) (leaf_node place)
-      (below_placed laws is at place in_new.part)
-      (λ meets. shown_collides _ _ (leaves_shown laws is at place in_new.part meets found.1 (omega arith) found.2))
-      root.1 root.0 root.1 (omega arith) whole (node_aligned at.node) root.3 (have_node laws H ds es place 1 at.node at.in_old at.in_new (sym in_old.same ∙ in_new.same))))
+      (below_placed is at place in_new.part)
+      (λ meets. shown_collides _ (leaves_shown is at place in_new.part meets found.1 (omega arith) found.2))
+      root.1 root.0 root.1 (omega arith) whole (node_aligned at.node) root.3 (have_node H ds es place 1 at.node at.in_old at.in_new (sym in_old.same ∙ in_new.same))))

@@ -6,8 +6,7 @@ use Rattle.warg_log.specs.Cut.{cut_over, old_over, IsFull}
 use Rattle.warg_witness.specs.Ranges.{IsPart}
 use Rattle.warg_witness.specs.Inputs.{old_input, cut_input}
 use Rattle.warg_witness.specs.Private.Ranges.{IsAligned}
-use Rattle.warg_witness.specs.Private.LogLaws.{LogLaws}
-use Rattle.warg_witness.proofs.RangeLemmas.{Digest, Data, known, IsPart-trans, whole_aligned, node_some, wider, part_in}
+use Rattle.warg_witness.proofs.RangeLemmas.{Digest, Data, IsPart-trans, whole_aligned, node_some, wider, part_in}
 use Rattle.warg_witness.proofs.RootLemmas.{Root, node_bounds, rest_aligned, by_root, root_stands, root_at_part}
 use Rattle.std.proofs.lemmas.List.{length-map, get_or-map}
 use Rattle.std.proofs.lemmas.List.Elements.{All-from_recursion, All-contains}
@@ -18,39 +17,39 @@ use Rattle.warg_witness.specs.Private.Meeting.{IsConsistencyMeeting, LeadsToBoth
 use Rattle.warg_witness.specs.Private.Divergence.{MeetAt, DivergesAt}
 use Rattle.warg_witness.proofs.DescentLemmas.{length-leaves, DivergesFrom, plain_digest_is, own_input, own_second}
 use Rattle.warg_witness.proofs.ShownLemmas.{Shows, hash_placed}
+use Rattle.warg_log.proofs.ForCallers.{cut_old, cut_parts, cut_target, front_is_greatest, old_full, old_parts}
 
 -- The cut root and the old root of a range are one, and so are their inputs, unless it is the target; then it isn't full.
 abbrev ReadAlike : Digest → Data → List ℕ → ℕ → ℕ → ℕ → ℕ → Type 0
 ReadAlike H F x s w a n = (old_over H F a n ≡ cut_over H F x s w a n) × ((a ≡ s → n ≡ w → ⊥) → (IsFull n → ⊥) × (old_input H F a n ≡ cut_input H F x s w a n))
 
-module _ (laws : LogLaws) where
-  -- so are those around a balanced root, with the digest that is held for it
-  module _ (H : Digest) (F : Data) (x : List ℕ) (s w : ℕ) where
-    both_sides : (a n : ℕ) → 1 < n → (IsFull n → ⊥) → (a ≡ s → n ≡ w → ⊥) → old_over H F a (front_of n) ≡ cut_over H F x s w a (front_of n)
-        → old_over H F (a + front_of n) (n - front_of n) ≡ cut_over H F x s w (a + front_of n) (n - front_of n) → ReadAlike H F x s w a n
-    both_sides a n more not_full other left right = grind (arith, (known laws).old_parts H F a n more not_full, (known laws).cut_parts H F x s w a n more other (λ is _. not_full is))
+-- so are those around a balanced root, with the digest that is held for it
+module _ (H : Digest) (F : Data) (x : List ℕ) (s w : ℕ) where
+  both_sides : (a n : ℕ) → 1 < n → (IsFull n → ⊥) → (a ≡ s → n ≡ w → ⊥) → old_over H F a (front_of n) ≡ cut_over H F x s w a (front_of n)
+      → old_over H F (a + front_of n) (n - front_of n) ≡ cut_over H F x s w (a + front_of n) (n - front_of n) → ReadAlike H F x s w a n
+  both_sides a n more not_full other left right = grind (arith, old_parts H F a n more not_full, cut_parts H F x s w a n more other (λ is _. not_full is))
 
-    pub old_is_cut : {a n : ℕ} → F (node_over s w) ≡ Some x → Root s w a n → 0 < n → IsAligned a n → ReadAlike H F x s w a n
-    old_is_cut {a} {n} held root some aligned = by_root laws s w (λ b k. ReadAlike H F x s w b k) at_full at_front at_rest a n some aligned root
-      where
-        at_full : (b k : ℕ) → IsFull k → s ≡ b → w ≡ k → ReadAlike H F x s w b k
-        at_full b k is start count =
-            let here : IsFull w = rw count is in
-            rw (sym start, sym count) (grind (arith, (known laws).old_full H F s w here, (known laws).cut_target H F x s w))
+  pub old_is_cut : {a n : ℕ} → F (node_over s w) ≡ Some x → Root s w a n → 0 < n → IsAligned a n → ReadAlike H F x s w a n
+  old_is_cut {a} {n} held root some aligned = by_root s w (λ b k. ReadAlike H F x s w b k) at_full at_front at_rest a n some aligned root
+    where
+      at_full : (b k : ℕ) → IsFull k → s ≡ b → w ≡ k → ReadAlike H F x s w b k
+      at_full b k is start count =
+          let here : IsFull w = rw count is in
+          rw (sym start, sym count) (grind (arith, old_full H F s w here, cut_target H F x s w))
 
-        at_front : (b k : ℕ) → 1 < k → (IsFull k → ⊥) → s ≡ b → w ≡ front_of k → ReadAlike H F x s w b k
-        at_front b k more not_full start count =
-            let f = (known laws).front k more in
-            let here = (known laws).old_full H F s w (f.0.0, count ∙ f.0.1) ∙ held ∙ sym ((known laws).cut_target H F x s w) in
-            rw (sym start)
-            (both_sides s k more not_full (λ _ width. omega arith) (rw (← count) here) (sym ((known laws).cut_old H F x s w _ _ (omega arith) (omega arith) (inr (omega arith)))))
+      at_front : (b k : ℕ) → 1 < k → (IsFull k → ⊥) → s ≡ b → w ≡ front_of k → ReadAlike H F x s w b k
+      at_front b k more not_full start count =
+          let f = front_is_greatest k more in
+          let here = old_full H F s w (f.0.0, count ∙ f.0.1) ∙ held ∙ sym (cut_target H F x s w) in
+          rw (sym start)
+          (both_sides s k more not_full (λ _ width. omega arith) (rw (← count) here) (sym (cut_old H F x s w _ _ (omega arith) (omega arith) (inr (omega arith)))))
 
-        at_rest : (b k : ℕ) → IsAligned b k → 1 < k → (IsFull k → ⊥) → Root s w (b + front_of k) (k - front_of k) → ReadAlike H F x s w (b + front_of k) (k - front_of k) → ReadAlike H F x s w b k
-        at_rest b k aligned' more not_full below alike =
-            let f = (known laws).front k more in
-            let at = root_stands laws below (omega arith) (rest_aligned laws aligned' more) in
-            let wide = node_some root.node in
-            both_sides b k more not_full (λ start _. omega arith) (sym ((known laws).cut_old H F x s w _ _ wide (omega arith) (inl at.around.starts))) alike.0
+      at_rest : (b k : ℕ) → IsAligned b k → 1 < k → (IsFull k → ⊥) → Root s w (b + front_of k) (k - front_of k) → ReadAlike H F x s w (b + front_of k) (k - front_of k) → ReadAlike H F x s w b k
+      at_rest b k aligned' more not_full below alike =
+          let f = front_is_greatest k more in
+          let at = root_stands below (omega arith) (rest_aligned aligned' more) in
+          let wide = node_some root.node in
+          both_sides b k more not_full (λ start _. omega arith) (sym (cut_old H F x s w _ _ wide (omega arith) (inl at.around.starts))) alike.0
 
 -- what was read of a list of entries at a place, and a tree's leaf, which is the digest of its entry
 pub entry_at : {V : Type 0} (f : V → List ℕ) (entries : List V) (i : ℕ) {e : V} → i < length entries → e ≡ get_or entries i e → get_or (map f entries) i [] ≡ f e
@@ -66,78 +65,77 @@ pub trees_consistent : {H : Digest} {F : Data} {m n : ℕ} {old new old_tree new
     → IsConsistent H F (length old_tree) (length new_tree) (root_of H old_tree) (root_of H new_tree)
 trees_consistent {H} {old = old} {new = new} is = rw (is.old_is, is.new_is, length-leaves H old, length-leaves H new, is.met.old_count, is.met.new_count) is.met.roots
 
-module _ (laws : LogLaws) where
-  -- a digest is held for each balanced root, and leads to both roots
-  pub root_leads : {H : Digest} {F : Data} {old_tree new_tree : List (List ℕ)} {s w : ℕ} → IsConsistent H F (length old_tree) (length new_tree) (root_of H old_tree) (root_of H new_tree)
-      → Root s w 0 (length old_tree) → (x : List ℕ) × LeadsToBoth H F old_tree new_tree s w x
-  root_leads {H} {F} {old_tree} {new_tree} {s} {w} is root =
-      let aligned = whole_aligned (length old_tree) in
-      let at = root_stands laws root is.some aligned in
-      let numbers = node_bounds laws root.node in
-      let P = LeadsTo H F (length new_tree) (root_of H new_tree) in
-      let leads = All-contains P (balanced_roots (length old_tree)) (node_over s w) (All-from_recursion P (balanced_roots (length old_tree)) is.new_root_is) root.contained in
-      let to_old = sym (old_is_cut laws H F leads.0 s w leads.1 root is.some aligned).0 ∙ is.old_root_is in
-      let to_new = rw (numbers.0, numbers.1) at leads.2 in (leads.0, search (root, at, is.order, leads.1, to_old, to_new, arith))
+-- a digest is held for each balanced root, and leads to both roots
+pub root_leads : {H : Digest} {F : Data} {old_tree new_tree : List (List ℕ)} {s w : ℕ} → IsConsistent H F (length old_tree) (length new_tree) (root_of H old_tree) (root_of H new_tree)
+    → Root s w 0 (length old_tree) → (x : List ℕ) × LeadsToBoth H F old_tree new_tree s w x
+root_leads {H} {F} {old_tree} {new_tree} {s} {w} is root =
+    let aligned = whole_aligned (length old_tree) in
+    let at = root_stands root is.some aligned in
+    let numbers = node_bounds root.node in
+    let P = LeadsTo H F (length new_tree) (root_of H new_tree) in
+    let leads = All-contains P (balanced_roots (length old_tree)) (node_over s w) (All-from_recursion P (balanced_roots (length old_tree)) is.new_root_is) root.contained in
+    let to_old = sym (old_is_cut H F leads.0 s w leads.1 root is.some aligned).0 ∙ is.old_root_is in
+    let to_new = rw (numbers.0, numbers.1) at leads.2 in (leads.0, search (root, at, is.order, leads.1, to_old, to_new, arith))
 
-  module _ {H : Digest} {F : Data} {m n : ℕ} {old new old_tree new_tree : List (List ℕ)} (is : IsConsistencyMeeting H F m n old new old_tree new_tree)
-      {s w : ℕ} {x : List ℕ} (at : LeadsToBoth H F old_tree new_tree s w x) where
-    root : Root s w 0 (length old_tree)
-    root = record { node = at.node; contained = at.root }
+module _ {H : Digest} {F : Data} {m n : ℕ} {old new old_tree new_tree : List (List ℕ)} (is : IsConsistencyMeeting H F m n old new old_tree new_tree)
+    {s w : ℕ} {x : List ℕ} (at : LeadsToBoth H F old_tree new_tree s w x) where
+  root : Root s w 0 (length old_tree)
+  root = record { node = at.node; contained = at.root }
 
-    -- where the evaluation diverges from the old tree or from the new one
-    pub old_placed : (first second : List ℕ) → DivergesFrom H F x old_tree s w first second → IsConsistencyPlaced H F old new first second
-    old_placed first second diverges =
-        let some = node_some at.node in
-        let here = root_at_part laws root diverges.part diverges.around in
-        let same = (old_is_cut laws H F x s w at.held here (omega arith) (part_in laws diverges.part).1).1 diverges.other in
-        let own = own_second laws H old old_tree is.old_is (node_some at.node) diverges in
-        let evaluation = same.1 ∙ diverges.first_input in inl (search (own, same.0, evaluation))
+  -- where the evaluation diverges from the old tree or from the new one
+  pub old_placed : (first second : List ℕ) → DivergesFrom H F x old_tree s w first second → IsConsistencyPlaced H F old new first second
+  old_placed first second diverges =
+      let some = node_some at.node in
+      let here = root_at_part root diverges.part diverges.around in
+      let same = (old_is_cut H F x s w at.held here (omega arith) (part_in diverges.part).1).1 diverges.other in
+      let own = own_second H old old_tree is.old_is (node_some at.node) diverges in
+      let evaluation = same.1 ∙ diverges.first_input in inl (search (own, same.0, evaluation))
 
-    pub new_placed : (first second : List ℕ) → DivergesFrom H F x new_tree s w first second → IsConsistencyPlaced H F old new first second
-    new_placed first second diverges =
-        let numbers = node_bounds laws at.node in
-        let is_root = rw (is.old_is, length-leaves H old) at at.root in
-        let hashed = hash_placed laws H F new new_tree is.new_is (node_over s w) x first second (rw (numbers.0, numbers.1) diverges) in inr (inl (search (is_root, at.held, hashed)))
+  pub new_placed : (first second : List ℕ) → DivergesFrom H F x new_tree s w first second → IsConsistencyPlaced H F old new first second
+  new_placed first second diverges =
+      let numbers = node_bounds at.node in
+      let is_root = rw (is.old_is, length-leaves H old) at at.root in
+      let hashed = hash_placed H F new new_tree is.new_is (node_over s w) x first second (rw (numbers.0, numbers.1) diverges) in inr (inl (search (is_root, at.held, hashed)))
 
-    -- a part of the root's range is one of both trees
-    in_both : {a k : ℕ} → IsPart 0 (length new_tree) s w → IsPart s w a k → IsPart 0 (length old) a k × IsPart 0 (length new) a k
-    in_both new_part part =
-        let some = node_some at.node in
-        let old_part = (root_stands laws root (omega arith) (whole_aligned (length old_tree))).part in (
-          rw (is.old_is, length-leaves H old) at (IsPart-trans old_part part),
-          rw (is.new_is, length-leaves H new) at (IsPart-trans new_part part),
-        )
+  -- a part of the root's range is one of both trees
+  in_both : {a k : ℕ} → IsPart 0 (length new_tree) s w → IsPart s w a k → IsPart 0 (length old) a k × IsPart 0 (length new) a k
+  in_both new_part part =
+      let some = node_some at.node in
+      let old_part = (root_stands root (omega arith) (whole_aligned (length old_tree))).part in (
+        rw (is.old_is, length-leaves H old) at (IsPart-trans old_part part),
+        rw (is.new_is, length-leaves H new) at (IsPart-trans new_part part),
+      )
 
-    -- where both trees diverge below the root, or their leaves have one digest, and other entries
-    pub below_placed : (place : ℕ) → IsPart 0 (length new_tree) s w → (first second : List ℕ)
-        → DivergesAt H (own_digest H old_tree) (root_over H old_tree place 1) (own_digest H new_tree) (root_over H new_tree place 1) place 1 s w first second
-        → IsConsistencyPlaced H F old new first second
-    below_placed place new_part first second diverges =
-        let both = in_both new_part diverges.part in
-        let more = wider diverges.around diverges.other in
-        let old_plain = own_input laws H old place 1 first both.0 more (rw is.old_is at diverges.first_input) in
-        let new_plain = own_input laws H new place 1 second both.1 more (rw is.new_is at diverges.second_input) in inr (inr (search (both, old_plain, new_plain)))
+  -- where both trees diverge below the root, or their leaves have one digest, and other entries
+  pub below_placed : (place : ℕ) → IsPart 0 (length new_tree) s w → (first second : List ℕ)
+      → DivergesAt H (own_digest H old_tree) (root_over H old_tree place 1) (own_digest H new_tree) (root_over H new_tree place 1) place 1 s w first second
+      → IsConsistencyPlaced H F old new first second
+  below_placed place new_part first second diverges =
+      let both = in_both new_part diverges.part in
+      let more = wider diverges.around diverges.other in
+      let old_plain = own_input H old place 1 first both.0 more (rw is.old_is at diverges.first_input) in
+      let new_plain = own_input H new place 1 second both.1 more (rw is.new_is at diverges.second_input) in inr (inr (search (both, old_plain, new_plain)))
 
-    pub leaves_shown : (place : ℕ) → IsPart 0 (length new_tree) s w → MeetAt (root_over H old_tree place 1) (root_over H new_tree place 1) place 1 s w
-        → place < length old → place < length new → (get_or old place [] ≡ get_or new place [] → ⊥) → Shows H (IsConsistencyPlaced H F old new) (0 ∷ get_or old place [], 0 ∷ get_or new place [])
-    leaves_shown place new_part meets in_old in_new differ =
-        let both = in_both new_part meets.part in
-        let same = rw (is.old_is, is.new_is) at meets.same in (
-          record {
-            differ = λ e. differ (cc);
-            same = sym (plain_digest_is laws H old place 1 (omega arith) (omega arith)) ∙ same ∙ plain_digest_is laws H new place 1 (omega arith) (omega arith);
-          },
-          inr (inr (search both)),
-        )
+  pub leaves_shown : (place : ℕ) → IsPart 0 (length new_tree) s w → MeetAt (root_over H old_tree place 1) (root_over H new_tree place 1) place 1 s w
+      → place < length old → place < length new → (get_or old place [] ≡ get_or new place [] → ⊥) → Shows H (IsConsistencyPlaced H F old new) (0 ∷ get_or old place [], 0 ∷ get_or new place [])
+  leaves_shown place new_part meets in_old in_new differ =
+      let both = in_both new_part meets.part in
+      let same = rw (is.old_is, is.new_is) at meets.same in (
+        record {
+          differ = λ e. differ (cc);
+          same = sym (plain_digest_is H old place 1 (omega arith) (omega arith)) ∙ same ∙ plain_digest_is H new place 1 (omega arith) (omega arith);
+        },
+        inr (inr (search both)),
+      )
 
-  -- the same, of entries that are read
-  pub entries_shown : {V : Type 0} (bytes : V → List ℕ) (old new : List V) {H : Digest} {F : Data} {m n : ℕ} {old_tree new_tree : List (List ℕ)} {s w place : ℕ} {x : List ℕ}
-      {e d : V} {first second : List ℕ} → IsConsistencyMeeting H F m n (map bytes old) (map bytes new) old_tree new_tree → LeadsToBoth H F old_tree new_tree s w x
-      → IsPart 0 (length new_tree) s w → MeetAt (root_over H old_tree place 1) (root_over H new_tree place 1) place 1 s w → DiffersFirst (map bytes old) (map bytes new) place
-      → e ≡ get_or old place e → d ≡ get_or new place d → first ≡ 0 ∷ bytes e → second ≡ 0 ∷ bytes d → Shows H (IsConsistencyPlaced H F (map bytes old) (map bytes new)) (first, second)
-  entries_shown bytes old new {place = place} is at new_part meets differs e_is d_is first_is second_is =
-      let in_old = differs.within in
-      let in_new : place < length (map bytes new) = omega arith in
-      let old_entry = entry_at bytes old place (omega (arith, length-map old bytes)) e_is in
-      let new_entry = entry_at bytes new place (omega (arith, length-map new bytes)) d_is in
-      rw (first_is, second_is, ← old_entry, ← new_entry) (leaves_shown is at place new_part meets in_old in_new differs.differ)
+-- the same, of entries that are read
+pub entries_shown : {V : Type 0} (bytes : V → List ℕ) (old new : List V) {H : Digest} {F : Data} {m n : ℕ} {old_tree new_tree : List (List ℕ)} {s w place : ℕ} {x : List ℕ}
+    {e d : V} {first second : List ℕ} → IsConsistencyMeeting H F m n (map bytes old) (map bytes new) old_tree new_tree → LeadsToBoth H F old_tree new_tree s w x
+    → IsPart 0 (length new_tree) s w → MeetAt (root_over H old_tree place 1) (root_over H new_tree place 1) place 1 s w → DiffersFirst (map bytes old) (map bytes new) place
+    → e ≡ get_or old place e → d ≡ get_or new place d → first ≡ 0 ∷ bytes e → second ≡ 0 ∷ bytes d → Shows H (IsConsistencyPlaced H F (map bytes old) (map bytes new)) (first, second)
+entries_shown bytes old new {place = place} is at new_part meets differs e_is d_is first_is second_is =
+    let in_old = differs.within in
+    let in_new : place < length (map bytes new) = omega arith in
+    let old_entry = entry_at bytes old place (omega (arith, length-map old bytes)) e_is in
+    let new_entry = entry_at bytes new place (omega (arith, length-map new bytes)) d_is in
+    rw (first_is, second_is, ← old_entry, ← new_entry) (leaves_shown is at place new_part meets in_old in_new differs.differ)

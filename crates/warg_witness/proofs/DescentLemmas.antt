@@ -7,12 +7,12 @@ use Rattle.warg_log.specs.Cut.{joined, cut_over}
 use Rattle.warg_witness.specs.Ranges.{IsPart, IsAround}
 use Rattle.warg_witness.specs.Inputs.{branch_input, plain_input, cut_input}
 use Rattle.warg_witness.specs.Private.Ranges.{IsSide, IsAligned, IsNodeRange}
-use Rattle.warg_witness.specs.Private.LogLaws.{LogLaws}
 use Rattle.warg_witness.specs.Private.Divergence.{HaveOneDigest, MeetAt, DivergesAt, IsDivergence}
 use Rattle.warg_witness.specs.declared.descent.Divergence.{Divergence}
 use Rattle.warg_witness.specs.declared.descent.Divergence.TheVariants.{Target, Branch}
-use Rattle.warg_witness.proofs.RangeLemmas.{Digest, Data, known, wider, at_side, IsPart-trans, node_aligned, whole_aligned, node_some, side_aligned, part_in}
+use Rattle.warg_witness.proofs.RangeLemmas.{Digest, Data, wider, at_side, IsPart-trans, node_aligned, whole_aligned, node_some, side_aligned, part_in}
 use Rattle.std.proofs.Math.Seq.{take-length}
+use Rattle.warg_log.proofs.ForCallers.{cut_own_range, cut_parts, cut_target, front_is_greatest, root_over_one, root_over_parts}
 
 -- the inputs of two branches are equal only part by part
 pub branch_parts : (a b c d : List ℕ) → length a ≡ length c → branch_input a b ≡ branch_input c d → (a ≡ c) × (b ≡ d)
@@ -39,16 +39,16 @@ same_at_side {H} {F} {x} {G} {y} {s} {w} {a} {n} {l} {r} b m first second same s
     (record { digest = l; first = first.left; second = second.left ∙ ap Some (sym same.0) })
     (record { digest = r; first = first.right; second = second.right ∙ ap Some (sym same.1) })
 
-module _ (laws : LogLaws) (H : Digest) where
+module _ (H : Digest) where
   -- two trees of one digest at the target have it there
   pub meets_here : {F : Data} {x : List ℕ} {G : Data} {y : List ℕ} {s w a₀ n₀ a n : ℕ} → a ≡ s → n ≡ w → IsPart a₀ n₀ a n → HaveOneDigest H F x G y s w a n → MeetAt x y s w a₀ n₀
   meets_here {F} {x} {G} {y} {s} {w} from count part one =
-      record { same = grind (arith, (known laws).cut_target H F x s w, (known laws).cut_target H G y s w); part = rw (from, count) at part }
+      record { same = grind (arith, cut_target H F x s w, cut_target H G y s w); part = rw (from, count) at part }
 
   module _ {s w a n : ℕ} (some : 0 < w) (around : IsAround s w a n) (other : a ≡ s → n ≡ w → ⊥) where
     -- the cut root of a range around a target is the branch over its sides
     cut_around : (F : Data) (x : List ℕ) → cut_over H F x s w a n ≡ joined H (cut_over H F x s w a (front_of n)) (cut_over H F x s w (a + front_of n) (n - front_of n))
-    cut_around F x = let more = wider around other in (known laws).cut_parts H F x s w a n (omega arith) other (λ _ beside. omega arith)
+    cut_around F x = let more = wider around other in cut_parts H F x s w a n (omega arith) other (λ _ beside. omega arith)
 
     pub sides_of : (F : Data) (x d : List ℕ) → cut_over H F x s w a n ≡ Some d → (l : List ℕ) × (r : List ℕ) × Sides H F x s w a n l r
     sides_of F x d is = grind (arith, cut_around F x)
@@ -70,10 +70,10 @@ DivergesFrom H F x ds s w first second = DivergesAt H F x (own_digest H ds) (roo
 abbrev pub Meets : Digest → List ℕ → List (List ℕ) → ℕ → ℕ → Type 0
 Meets H x ds s w = MeetAt x (root_over H ds s w) s w 0 (length ds)
 
-module _ (laws : LogLaws) (H : Digest) where
+module _ (H : Digest) where
   -- over a log's own digests, with the target's own digest, the cut root of a range is the plain root
   pub own_cut : (ds : List (List ℕ)) (s w : ℕ) {a n : ℕ} → IsAligned a n → 0 < n → a + n ≤ length ds → cut_over H (own_digest H ds) (root_over H ds s w) s w a n ≡ Some (root_over H ds a n)
-  own_cut ds s w {a} {n} aligned some within = grind (arith, (known laws).cut_own H ds s w aligned.height aligned.place n some aligned.most)
+  own_cut ds s w {a} {n} aligned some within = grind (arith, cut_own_range H ds s w aligned.height aligned.place n some aligned.most)
 
   -- an evaluation that leads to a tree's root and the tree have the root in common, and two trees have a node at which they have one digest
   pub have_root : {F : Data} {x : List ℕ} (ds : List (List ℕ)) (s w : ℕ) → cut_over H F x s w 0 (length ds) ≡ Some (root_of H ds) → 0 < length ds
@@ -92,17 +92,17 @@ module _ (laws : LogLaws) (H : Digest) where
   -- the root over a range is the digest of the plain input there
   pub plain_digest_is : (entries : List (List ℕ)) (a n : ℕ) → 0 < n → a + n ≤ length entries → root_over H (leaves_of H entries) a n ≡ H (plain_input H entries a n)
   plain_digest_is entries a n some within =
-      let len = length-leaves H entries in grind (arith, nat_tests, (known laws).root_parts H (leaves_of H entries) a n, (known laws).root_one H (leaves_of H entries) a, get_or-map)
+      let len = length-leaves H entries in grind (arith, nat_tests, root_over_parts H (leaves_of H entries) a n, root_over_one H (leaves_of H entries) a, get_or-map)
 
   -- over the entries' own digests the evaluation's input at a range is the plain one, as where an evaluation diverges from the tree
   pub own_input : (entries : List (List ℕ)) (s w : ℕ) {a n : ℕ} (second : List ℕ) → IsPart 0 (length entries) a n → 1 < n
       → cut_input H (own_digest H (leaves_of H entries)) (root_over H (leaves_of H entries) s w) s w a n ≡ Some second → second ≡ plain_input H entries a n
   own_input entries s w {a} {n} second part more is =
-      let at = part_in laws part in
-      let f = (known laws).front n more in
+      let at = part_in part in
+      let f = front_is_greatest n more in
       let len = length-leaves H entries in
-      let left = own_cut (leaves_of H entries) s w (side_aligned laws a (front_of n) at.1 more (inl (refl, refl))) (omega arith) (omega arith) in
-      let right = own_cut (leaves_of H entries) s w (side_aligned laws (a + front_of n) (n - front_of n) at.1 more (inr (refl, refl))) (omega arith) (omega arith) in grind (arith, nat_tests)
+      let left = own_cut (leaves_of H entries) s w (side_aligned a (front_of n) at.1 more (inl (refl, refl))) (omega arith) (omega arith) in
+      let right = own_cut (leaves_of H entries) s w (side_aligned (a + front_of n) (n - front_of n) at.1 more (inr (refl, refl))) (omega arith) (omega arith) in grind (arith, nat_tests)
 
   pub own_second : {F : Data} {x : List ℕ} (entries ds : List (List ℕ)) {s w : ℕ} {first second : List ℕ} → ds ≡ leaves_of H entries → 0 < w → (diverges : DivergesFrom H F x ds s w first second)
       → IsPart 0 (length entries) diverges.from diverges.count × (second ≡ plain_input H entries diverges.from diverges.count)

@@ -2,11 +2,9 @@
 use Rattle.std.proofs.Common.{◌≡◌, ℕ, zero, suc, ◌+◌, ◌≤◌, Bool, true, false, not, List, [], ◌∷◌, ◌++◌, length, Option, Some, None, unwrap_or, ⊎_elim, refl, sym, ap, ◌∙◌, arith}
 use Rattle.std.specs.FinMap.{get}
 use Rattle.std.specs.Option.{option_map}
-use Rattle.warg_crypto.specs.Digests.{IsDigest}
 use Rattle.warg_crypto.specs.EmptyTrees.{empty_root}
 use Rattle.warg_map.specs.Bits.{key_bits}
-use Rattle.warg_map.specs.Sparse.{SparseMap, root_of_levels, sparse_root, leaf_digest, map_of}
-use Rattle.warg_map.specs.ProofValue.{proof_value}
+use Rattle.warg_map.specs.Sparse.{root_of_levels, sparse_root, leaf_digest, map_of}
 use Rattle.warg_map.specs.Peers.{Proves}
 use Rattle.warg_map.specs.Last.{last_under}
 use Rattle.warg_witness.specs.Laws.{GivesHashes, GivesDigests, HoldsPeers, SomeCollision}
@@ -14,10 +12,11 @@ use Rattle.warg_witness.specs.MapClaims.{value_in, IsLastValue, IsKeyMet, IsAbse
 use Rattle.warg_witness.specs.MapPlaced.{IsKeyPlaced}
 use Rattle.warg_witness.specs.Private.MapPaths.{plain_peers}
 use Rattle.warg_witness.specs.declared.descent.Divergence.TheVariants.{Target}
-use Rattle.warg_witness.proofs.CollisionLemmas.{SomeDivergence, same_or_not, target_or_not}
+use Rattle.warg_witness.proofs.CollisionLemmas.{SomeDivergence, same_or_not, target_or_not, shown_collides}
 use Rattle.warg_witness.proofs.LastLemmas.{some_same}
 use Rattle.warg_witness.proofs.PathLemmas.{diverged_on_path}
-use Rattle.warg_witness.proofs.KeyLemmas.{IsHeld, DivergesFromPlain, ShowsKey, plain_root_is, branch_shown, leaf_shown, none_differs, keys_shown}
+use Rattle.warg_witness.proofs.KeyLemmas.{DivergesFromPlain, plain_root_is, branch_shown, leaf_shown, none_differs, keys_shown}
+use Rattle.warg_map.proofs.ForCallers.{all_bits, last_held, root_at_prefix}
 
 -- a root has 32 bytes where each leaf digest has
 root_len : (H : List ℕ → List ℕ) → GivesHashes H → (k : ℕ) (held : List Bool → Option (List ℕ)) → ((bits : List Bool) (digest : List ℕ) → held bits ≡ Some digest → length digest ≡ 32) → length (root_of_levels H k held) ≡ 32
@@ -47,58 +46,40 @@ holds_leaf : (H : List ℕ → List ℕ) → GivesHashes H → (o : Option (List
 holds_leaf H gives None digest e = absurd (cc)
 holds_leaf H gives (Some f) digest e = ap length (sym (some_same (leaf_digest H f.1) digest e)) ∙ gives (0 ∷ f.1)
 
--- What the map's laws say.
-abbrev pub LastHeld : Type 0
-LastHeld = (H : List ℕ → List ℕ) (bits : List Bool) (insertions : List (List ℕ × List ℕ)) → IsHeld H insertions bits
-
-abbrev pub AllBits : Type 0
-AllBits = (H : List ℕ → List ℕ) (key : List ℕ) → length (key_bits H key) ≡ 256
-
-abbrev pub SameDigest : Type 0
-SameDigest = (H : List ℕ → List ℕ) (key other : List ℕ) → IsDigest (H key) → IsDigest (H other) → key_bits H key ≡ key_bits H other → H key ≡ H other
-
-pub key_collides : LastHeld → AllBits → SameDigest → (H : List ℕ → List ℕ) (peers : List (Option (List ℕ))) (key value : List ℕ) (insertions : List (List ℕ × List ℕ)) → GivesDigests H → HoldsPeers peers
+pub key_collides : (H : List ℕ → List ℕ) (peers : List (Option (List ℕ))) (key value : List ℕ) (insertions : List (List ℕ × List ℕ)) → GivesDigests H → HoldsPeers peers
     → IsKeyMet H peers key value insertions → (IsLastValue key value insertions → ⊥) → SomeCollision H (IsKeyPlaced H peers value key insertions)
-key_collides held long digest H peers key value insertions digests holds met untrue =
+key_collides H peers key value insertions digests holds met untrue =
     let bits = key_bits H key in
     let gives : GivesHashes H = λ m. (digests m).has_32 in
     let plain = plain_peers H (get (map_of H insertions)) bits in
     let last = value_in (last_under H bits insertions) in
     let found = diverged_on_path H peers (leaf_digest H value) plain (leaf_digest H last) gives holds
-    (holds_plain H gives (get (map_of H insertions)) (λ q d e. holds_leaf H gives (last_under H q insertions) d (sym (held H q insertions) ∙ e)) bits)
-    (gives (0 ∷ value)) (gives (0 ∷ last)) bits (met ∙ sym (plain_root_is H insertions bits (long H key) (held H bits insertions))) in
+    (holds_plain H gives (get (map_of H insertions)) (λ q d e. holds_leaf H gives (last_under H q insertions) d (sym (last_held H q insertions) ∙ e)) bits)
+    (gives (0 ∷ value)) (gives (0 ∷ last)) bits (met ∙ sym (plain_root_is H insertions bits (all_bits H key))) in
     ⊎_elim
     (λ (target : found.0 ≡ Target). at_leaf found.0 found.1 target (last_under H bits insertions) refl)
-    (λ (other : found.0 ≡ Target → ⊥). some_collision _ (branch_shown H peers key value insertions found.0 (long H key) (held H bits insertions) found.1 other))
+    (λ (other : found.0 ≡ Target → ⊥). shown_collides _ (branch_shown H peers key value insertions found.0 found.1 other))
     (target_or_not found.0)
   where
-    some_collision : (pair : List ℕ × List ℕ) → ShowsKey H peers key value insertions pair → SomeCollision H (IsKeyPlaced H peers value key insertions)
-    some_collision pair shown = record { first = pair.0; second = pair.1; differ = shown.collides.differ; same = shown.collides.same; placed = shown.placed }
-
     at_leaf : (p : SomeDivergence) → DivergesFromPlain H peers key value insertions p → p ≡ Target → (o : Option (List ℕ × List ℕ)) → last_under H (key_bits H key) insertions ≡ o → SomeCollision H (IsKeyPlaced H peers value key insertions)
     at_leaf p diverges target None e =
-        some_collision _ (leaf_shown H peers key value insertions p [] diverges target (ap value_in e) (none_differs H key value insertions e untrue))
+        shown_collides _ (leaf_shown H peers key value insertions p [] diverges target (ap value_in e) (none_differs H key value insertions e untrue))
     at_leaf p diverges target (Some f) e = ⊎_elim
-        (λ (same : value ≡ f.1). some_collision _ (keys_shown H peers key value insertions f (λ other. digest H key other (digests key) (digests other)) e same untrue))
-        (λ (other : value ≡ f.1 → ⊥). some_collision _ (leaf_shown H peers key value insertions p f.1 diverges target (ap value_in e) other))
+        (λ (same : value ≡ f.1). shown_collides _ (keys_shown H peers key value insertions f digests e same untrue))
+        (λ (other : value ≡ f.1 → ⊥). shown_collides _ (leaf_shown H peers key value insertions p f.1 diverges target (ap value_in e) other))
         (same_or_not value f.1)
 
-pub absence_collides : LastHeld → AllBits → SameDigest → (H : List ℕ → List ℕ) (peers : List (Option (List ℕ))) (key : List ℕ) (insertions : List (List ℕ × List ℕ)) → GivesDigests H → HoldsPeers peers
+pub absence_collides : (H : List ℕ → List ℕ) (peers : List (Option (List ℕ))) (key : List ℕ) (insertions : List (List ℕ × List ℕ)) → GivesDigests H → HoldsPeers peers
     → IsAbsenceMet H peers key insertions → (IsLastValue key [] insertions → ⊥) → SomeCollision H (IsKeyPlaced H peers [] key insertions)
 unfolding empty_root
-absence_collides held long digest H peers key insertions digests holds met untrue = key_collides held long digest H peers key [] insertions digests holds met untrue
+absence_collides H peers key insertions digests holds met untrue = key_collides H peers key [] insertions digests holds met untrue
 
--- What the map's law says of the roots at prefixes.
-abbrev pub RootAtPrefix : Type 0
-RootAtPrefix = (H : List ℕ → List ℕ) (m : SparseMap) (prefix rest : List Bool) (peers : List (Option (List ℕ))) (x : List ℕ) → length prefix + length rest ≡ 256 → length peers ≤ 256
-    → Proves H 256 m (prefix ++ rest) peers → get m (prefix ++ rest) ≡ Some x → proof_value H peers x rest ≡ root_of_levels H (length rest) (λ bits. get m (prefix ++ bits))
-
-pub equal_roots_meet : LastHeld → AllBits → RootAtPrefix → (H : List ℕ → List ℕ) (insertions others : List (List ℕ × List ℕ)) (key value : List ℕ) (peers : List (Option (List ℕ)))
+pub equal_roots_meet : (H : List ℕ → List ℕ) (insertions others : List (List ℕ × List ℕ)) (key value : List ℕ) (peers : List (Option (List ℕ)))
     → sparse_root H 256 (map_of H insertions) ≡ sparse_root H 256 (map_of H others) → last_under H (key_bits H key) insertions ≡ Some (key, value) → length peers ≤ 256
     → Proves H 256 (map_of H insertions) (key_bits H key) peers → IsKeyMet H peers key value others
-equal_roots_meet held long root H insertions others key value peers same last few proves =
-    let n = long H key in
+equal_roots_meet H insertions others key value peers same last few proves =
+    let n = all_bits H key in
     let z : 0 + length (key_bits H key) ≡ 256 = omega (arith, n) in
-    root H (map_of H insertions) [] (key_bits H key) peers (leaf_digest H value) z few proves
-    (held H (key_bits H key) insertions ∙ ap (option_map (λ (e : List ℕ × List ℕ). leaf_digest H e.1)) last)
+    root_at_prefix H (map_of H insertions) [] (key_bits H key) peers (leaf_digest H value) z few proves
+    (last_held H (key_bits H key) insertions ∙ ap (option_map (λ (e : List ℕ × List ℕ). leaf_digest H e.1)) last)
     ∙ ap (λ k. sparse_root H k (map_of H insertions)) n ∙ same

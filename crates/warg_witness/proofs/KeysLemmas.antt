@@ -9,18 +9,11 @@ use Rattle.std.specs.declared.cmp.Ordering.{Ordering}
 use Rattle.std.specs.declared.cmp.Ordering.TheVariants.{Less, Equal, Greater}
 use Rattle.std.specs.Ordering.{is_lt, nat_cmp, ordering_then}
 use Rattle.std.specs.Cmp.Lexicographic.{slice_cmp, nat_list_cmp_total}
-use Rattle.warg_crypto.specs.Digests.{IsDigest}
 use Rattle.warg_map.specs.Bits.{bit_at, bits_from, key_bits}
 use Rattle.warg_map.specs.Sparse.{bits_cmp}
 use Rattle.warg_witness.specs.Laws.{GivesDigests}
 use Rattle.warg_witness.specs.Private.MapPaths.{key_at, entry_at, entry_cmp, IsKeyUnder, AreKeysUnder}
-
--- What the map's laws say.
-abbrev pub OrderOfBits : Type 0
-OrderOfBits = (H : List ℕ → List ℕ) (key other : List ℕ) → IsDigest (H key) → IsDigest (H other) → bits_cmp (key_bits H key) (key_bits H other) ≡ slice_cmp nat_cmp (H key) (H other)
-
-abbrev pub AllBits : Type 0
-AllBits = (H : List ℕ → List ℕ) (key : List ℕ) → length (key_bits H key) ≡ 256
+use Rattle.warg_map.proofs.ForCallers.{all_bits, order_of_bits}
 
 -- one bit of a digest
 bits_from-at : (bytes : List ℕ) (i n k : ℕ) → k < n → get_or (bits_from bytes i n) k false ≡ bit_at bytes (i + k)
@@ -34,11 +27,11 @@ at_seam [] rest i = ap (λ j. get_or rest j false) (let e : 0 + i ≡ i = omega 
 at_seam (b ∷ prefix) rest i = ap (λ j. get_or (b ∷ (prefix ++ rest)) j false) (let e : suc (length prefix) + i ≡ suc (length prefix + i) = omega arith in e) ∙ at_seam prefix rest i
 
 -- the first of the bits that are left after a prefix
-pub next_bit : AllBits → (H : List ℕ → List ℕ) (key : List ℕ) (prefix rest : List Bool) → key_bits H key ≡ prefix ++ rest → length prefix < 256
+pub next_bit : (H : List ℕ → List ℕ) (key : List ℕ) (prefix rest : List Bool) → key_bits H key ≡ prefix ++ rest → length prefix < 256
     → (below : List Bool) × (rest ≡ bit_at (H key) (length prefix) ∷ below)
-next_bit long H key prefix [] e lt =
-    absurd (let n = long H key in let m = ap length e in let k = length-append prefix [] in omega (arith, lt, n, m, k))
-next_bit long H key prefix (b ∷ below) e lt = (
+next_bit H key prefix [] e lt =
+    absurd (let n = all_bits H key in let m = ap length e in let k = length-append prefix [] in omega (arith, lt, n, m, k))
+next_bit H key prefix (b ∷ below) e lt = (
   below,
   ap (λ c. c ∷ below) (sym (sym (bits_from-at (H key) 0 256 (length prefix) lt ∙ ap (bit_at (H key)) (let z : 0 + length prefix ≡ length prefix = omega arith in z))
       ∙ ap (λ q. get_or q (length prefix) false) e ∙ ap (λ j. get_or (prefix ++ b ∷ below) j false) (let z : length prefix ≡ length prefix + 0 = omega arith in z) ∙ at_seam prefix (b ∷ below) 0)),
@@ -61,27 +54,27 @@ bits_ascend false c p q e f = refl
 bits_ascend true false p q e f = e
 bits_ascend true true p q e f = absurd (cc)
 
-pub entry_bits : AllBits → (H : List ℕ → List ℕ) (insertions : List (List ℕ × List ℕ)) (prefix : List Bool) (e : List ℕ × ℕ) → length prefix < 256 → IsKeyUnder H insertions prefix e
+pub entry_bits : (H : List ℕ → List ℕ) (insertions : List (List ℕ × List ℕ)) (prefix : List Bool) (e : List ℕ × ℕ) → length prefix < 256 → IsKeyUnder H insertions prefix e
     → (below : List Bool) × (key_bits H (key_at insertions e.1) ≡ prefix ++ bit_at e.0 (length prefix) ∷ below)
-entry_bits long H insertions prefix e lt under =
-    let next = next_bit long H (key_at insertions e.1) prefix under.rest under.begins lt in
+entry_bits H insertions prefix e lt under =
+    let next = next_bit H (key_at insertions e.1) prefix under.rest under.begins lt in
     (next.0, under.begins ∙ ap (λ q. prefix ++ q) (next.1 ∙ ap (λ d. bit_at d (length prefix) ∷ next.0) (sym under.digest)))
 
 -- the bits after the prefix ascend
-ascends : OrderOfBits → AllBits → (H : List ℕ → List ℕ) → GivesDigests H → (insertions : List (List ℕ × List ℕ)) (prefix : List Bool) (keys : List (List ℕ × ℕ)) → length prefix < 256
+ascends : (H : List ℕ → List ℕ) → GivesDigests H → (insertions : List (List ℕ × List ℕ)) (prefix : List Bool) (keys : List (List ℕ × ℕ)) → length prefix < 256
     → AreKeysUnder H insertions prefix keys → (i j : ℕ) → i ≤ j → j < length keys → bit_at (entry_at keys j).0 (length prefix) ≡ false → bit_at (entry_at keys i).0 (length prefix) ≡ false
-ascends order long H digests insertions prefix keys lt are i j le less zero_bit =
+ascends H digests insertions prefix keys lt are i j le less zero_bit =
     let e = entry_at keys i in
     let f = entry_at keys j in
     let under = are.each i (omega (arith, le, less)) in
     let under' = are.each j less in
-    let bits = entry_bits long H insertions prefix e lt under in
-    let bits' = entry_bits long H insertions prefix f lt under' in
+    let bits = entry_bits H insertions prefix e lt under in
+    let bits' = entry_bits H insertions prefix f lt under' in
     bits_ascend (bit_at e.0 (length prefix)) (bit_at f.0 (length prefix)) bits.0 bits'.0
     (ap is_lt
     (sym (bits_cmp-prefix prefix (bit_at f.0 (length prefix) ∷ bits'.0) (bit_at e.0 (length prefix) ∷ bits.0))
     ∙ ap (λ q. bits_cmp q (prefix ++ bit_at e.0 (length prefix) ∷ bits.0)) (sym bits'.1) ∙ ap (bits_cmp (key_bits H (key_at insertions f.1))) (sym bits.1)
-    ∙ order H (key_at insertions f.1) (key_at insertions e.1) (digests _) (digests _)
+    ∙ order_of_bits H (key_at insertions f.1) (key_at insertions e.1) (digests _) (digests _)
     ∙ ap (λ d. slice_cmp nat_cmp d (H (key_at insertions e.1))) (sym under'.digest) ∙ ap (slice_cmp nat_cmp f.0) (sym under.digest))
     ∙ first_not_less (slice_cmp nat_cmp f.0 e.0) (nat_cmp f.1 e.1) (are.ascending i j le less)) zero_bit
 
@@ -97,19 +90,19 @@ is_not : (b : Bool) → b ≡ false → not b ≡ true
 is_not false e = refl
 is_not true e = cc
 
-pub are_partitioned : OrderOfBits → AllBits → (H : List ℕ → List ℕ) → GivesDigests H → (insertions : List (List ℕ × List ℕ)) (prefix : List Bool) (keys : List (List ℕ × ℕ)) → length prefix < 256
+pub are_partitioned : (H : List ℕ → List ℕ) → GivesDigests H → (insertions : List (List ℕ × List ℕ)) (prefix : List Bool) (keys : List (List ℕ × ℕ)) → length prefix < 256
     → AreKeysUnder H insertions prefix keys → IsPartitionedBy (λ e. not (bit_at e.0 (length prefix))) keys
-are_partitioned order long H digests insertions prefix keys lt are i j d le less is =
+are_partitioned H digests insertions prefix keys lt are i j d le less is =
     let here = get_or_default keys j d ([], 0) less in
     let there = get_or_default keys i d ([], 0) (omega (arith, le, less)) in
     ap (λ (e : List ℕ × ℕ). not (bit_at e.0 (length prefix))) there
-    ∙ is_not _ (ascends order long H digests insertions prefix keys lt are i j le less (not_is _ (sym (ap (λ (e : List ℕ × ℕ). not (bit_at e.0 (length prefix))) here) ∙ is)))
+    ∙ is_not _ (ascends H digests insertions prefix keys lt are i j le less (not_is _ (sym (ap (λ (e : List ℕ × ℕ). not (bit_at e.0 (length prefix))) here) ∙ is)))
 
 -- a key under a prefix is under that and its next bit
-narrowed : AllBits → (H : List ℕ → List ℕ) (insertions : List (List ℕ × List ℕ)) (prefix : List Bool) (e : List ℕ × ℕ) (b : Bool) → length prefix < 256 → IsKeyUnder H insertions prefix e
+narrowed : (H : List ℕ → List ℕ) (insertions : List (List ℕ × List ℕ)) (prefix : List Bool) (e : List ℕ × ℕ) (b : Bool) → length prefix < 256 → IsKeyUnder H insertions prefix e
     → bit_at e.0 (length prefix) ≡ b → IsKeyUnder H insertions (prefix ++ b ∷ []) e
-narrowed long H insertions prefix e b lt under is =
-    let bits = entry_bits long H insertions prefix e lt under in
+narrowed H insertions prefix e b lt under is =
+    let bits = entry_bits H insertions prefix e lt under in
     record {
       within = under.within;
       digest = under.digest;
@@ -118,72 +111,58 @@ narrowed long H insertions prefix e b lt under is =
     }
 
 -- a key under a prefix and a bit has that bit
-has_bit : AllBits → (H : List ℕ → List ℕ) (insertions : List (List ℕ × List ℕ)) (prefix rest : List Bool) (place : ℕ) (b : Bool) → length prefix < 256
+has_bit : (H : List ℕ → List ℕ) (insertions : List (List ℕ × List ℕ)) (prefix rest : List Bool) (place : ℕ) (b : Bool) → length prefix < 256
     → key_bits H (key_at insertions place) ≡ (prefix ++ b ∷ []) ++ rest → bit_at (H (key_at insertions place)) (length prefix) ≡ b
-has_bit long H insertions prefix rest place b lt e =
-    let next = next_bit long H (key_at insertions place) prefix (b ∷ rest) (e ∙ append_assoc prefix (b ∷ []) rest) lt in
+has_bit H insertions prefix rest place b lt e =
+    let next = next_bit H (key_at insertions place) prefix (b ∷ rest) (e ∙ append_assoc prefix (b ∷ []) rest) lt in
     heads (bit_at (H (key_at insertions place)) (length prefix)) b next.0 rest (sym next.1)
   where
     heads : (c d : Bool) (p q : List Bool) → c ∷ p ≡ d ∷ q → c ≡ d
     heads c d p q f = cc
 
-pub zeros_are : AllBits → (H : List ℕ → List ℕ) (insertions : List (List ℕ × List ℕ)) (prefix : List Bool) (keys : List (List ℕ × ℕ)) (n : ℕ) → length prefix < 256 → n ≤ length keys
+-- a half of the keys: those at some places in a row, which are all that have the bit
+half_are : (H : List ℕ → List ℕ) (insertions : List (List ℕ × List ℕ)) (prefix : List Bool) (b : Bool) (keys half : List (List ℕ × ℕ)) (from : ℕ) → length prefix < 256 → from + length half ≤ length keys
+    → AreKeysUnder H insertions prefix keys → ((i : ℕ) → i < length half → entry_at half i ≡ entry_at keys (from + i))
+    → ((i : ℕ) → from ≤ i → i < from + length half → bit_at (entry_at keys i).0 (length prefix) ≡ b)
+    → ((i : ℕ) → i < length keys → bit_at (entry_at keys i).0 (length prefix) ≡ b → (from ≤ i) × (i < from + length half)) → AreKeysUnder H insertions (prefix ++ b ∷ []) half
+half_are H insertions prefix b keys half from lt within are at has inside = record {
+  each = λ i less. rw (at i less) (narrowed H insertions prefix (entry_at keys (from + i)) b lt (are.each (from + i) (omega arith)) (has (from + i) (omega arith) (omega arith)));
+  all = λ place rest less begins.
+      let found = are.all place (b ∷ rest) less (begins ∙ append_assoc prefix (b ∷ []) rest) in
+      let there = inside found.0 found.1 (ap (λ (e : List ℕ × ℕ). bit_at e.0 (length prefix)) found.2 ∙ has_bit H insertions prefix rest place b lt begins) in
+      let sum : from + (found.0 - from) ≡ found.0 = omega arith in
+      let within_half : found.0 - from < length half = omega arith in
+      (found.0 - from, within_half, at (found.0 - from) within_half ∙ ap (entry_at keys) sum ∙ found.2);
+  ascending = λ i j le less.
+      let less' : i < length half = omega arith in
+      rw (at i less', at j less) (are.ascending (from + i) (from + j) (omega arith) (omega arith));
+}
+
+pub zeros_are : (H : List ℕ → List ℕ) (insertions : List (List ℕ × List ℕ)) (prefix : List Bool) (keys : List (List ℕ × ℕ)) (n : ℕ) → length prefix < 256 → n ≤ length keys
     → AreKeysUnder H insertions prefix keys → IsPartitionPoint (λ e. not (bit_at e.0 (length prefix)) ≡ true) (λ e. not (bit_at e.0 (length prefix)) ≡ false) keys n
     → AreKeysUnder H insertions (prefix ++ false ∷ []) (take n keys)
-zeros_are long H insertions prefix keys n lt within are point =
+zeros_are H insertions prefix keys n lt within are point =
     let len : length (take n keys) ≡ n = length-take-le n keys within in
-    record {
-      each = λ i less.
-          let less' : i < n = omega (arith, less, len) in
-          rw (get_or-take n keys i ([], 0) less')
-          (narrowed long H insertions prefix (entry_at keys i) false lt (are.each i (omega (arith, less', within))) (not_is _ (point.0 i ([], 0) (omega arith) less')));
-      all = λ place rest less begins.
-          let found = are.all place (false ∷ rest) less (begins ∙ append_assoc prefix (false ∷ []) rest) in
-          ⊎_elim
-          (λ (left : found.0 < n). (found.0, omega (arith, left, len), get_or-take n keys found.0 ([], 0) left ∙ found.2))
-          (λ (right : n ≤ found.0).
-          absurd (not_both (bit_at (H (key_at insertions place)) (length prefix)) (has_bit long H insertions prefix rest place false lt begins)
-          (ap (λ (e : List ℕ × ℕ). bit_at e.0 (length prefix)) (sym found.2) ∙ not_is_false _ (point.1 found.0 ([], 0) right found.1))))
-          (cases_lt found.0 n);
-      ascending = λ i j le less.
-          let less' : j < n = omega (arith, less, len) in
-          ap (λ e. is_lt (entry_cmp e (entry_at (take n keys) i))) (get_or-take n keys j ([], 0) less')
-          ∙ ap (λ e. is_lt (entry_cmp (entry_at keys j) e)) (get_or-take n keys i ([], 0) (omega (arith, le, less')))
-          ∙ are.ascending i j le (omega (arith, less', within));
-    }
-  where
-    not_both : (b : Bool) → b ≡ false → b ≡ true → ⊥
-    not_both b e f = let x : false ≡ true = sym e ∙ f in cc
+    half_are H insertions prefix false keys (take n keys) 0 lt (omega arith) are
+    (λ i less. let here : 0 + i ≡ i = omega arith in rw here (get_or-take n keys i ([], 0) (omega arith)))
+    (λ i _ less. not_is _ (point.0 i ([], 0) (omega arith) (omega arith)))
+    (λ i less zero_bit. ⊎_elim
+    (λ (left : i < n). omega arith)
+    (λ (right : n ≤ i). absurd (cc (zero_bit, not_is_false _ (point.1 i ([], 0) right less))))
+    (cases_lt i n))
 
-pub ones_are : AllBits → (H : List ℕ → List ℕ) (insertions : List (List ℕ × List ℕ)) (prefix : List Bool) (keys : List (List ℕ × ℕ)) (n : ℕ) → length prefix < 256 → n ≤ length keys
+pub ones_are : (H : List ℕ → List ℕ) (insertions : List (List ℕ × List ℕ)) (prefix : List Bool) (keys : List (List ℕ × ℕ)) (n : ℕ) → length prefix < 256 → n ≤ length keys
     → AreKeysUnder H insertions prefix keys → IsPartitionPoint (λ e. not (bit_at e.0 (length prefix)) ≡ true) (λ e. not (bit_at e.0 (length prefix)) ≡ false) keys n
     → AreKeysUnder H insertions (prefix ++ true ∷ []) (drop n keys)
-ones_are long H insertions prefix keys n lt within are point =
+ones_are H insertions prefix keys n lt within are point =
     let len : length (drop n keys) ≡ length keys - n = length-drop n keys in
-    record {
-      each = λ i less.
-          let less' : n + i < length keys = omega (arith, less, len) in
-          rw (get_or-drop n keys i ([], 0))
-          (narrowed long H insertions prefix (entry_at keys (n + i)) true lt (are.each (n + i) less') (not_is_false _ (point.1 (n + i) ([], 0) (omega arith) less')));
-      all = λ place rest less begins.
-          let found = are.all place (true ∷ rest) less (begins ∙ append_assoc prefix (true ∷ []) rest) in
-          ⊎_elim
-          (λ (left : found.0 < n).
-          absurd (not_both (bit_at (H (key_at insertions place)) (length prefix))
-          (ap (λ (e : List ℕ × ℕ). bit_at e.0 (length prefix)) (sym found.2) ∙ not_is _ (point.0 found.0 ([], 0) (omega arith) left)) (has_bit long H insertions prefix rest place true lt begins)))
-          (λ (right : n ≤ found.0).
-          let less' = found.1 in
-          let at : n + (found.0 - n) ≡ found.0 = omega (arith, right) in
-          (found.0 - n, omega (arith, less', right, len), get_or-drop n keys (found.0 - n) ([], 0) ∙ ap (entry_at keys) at ∙ found.2))
-          (cases_lt found.0 n);
-      ascending = λ i j le less.
-          ap (λ e. is_lt (entry_cmp e (entry_at (drop n keys) i))) (get_or-drop n keys j ([], 0))
-          ∙ ap (λ e. is_lt (entry_cmp (entry_at keys (n + j)) e)) (get_or-drop n keys i ([], 0))
-          ∙ are.ascending (n + i) (n + j) (omega (arith, le)) (omega (arith, less, len));
-    }
-  where
-    not_both : (b : Bool) → b ≡ false → b ≡ true → ⊥
-    not_both b e f = let x : false ≡ true = sym e ∙ f in cc
+    half_are H insertions prefix true keys (drop n keys) n lt (omega arith) are
+    (λ i less. get_or-drop n keys i ([], 0))
+    (λ i from less. not_is_false _ (point.1 i ([], 0) from (omega arith)))
+    (λ i less one_bit. ⊎_elim
+    (λ (left : i < n). absurd (cc (one_bit, not_is _ (point.0 i ([], 0) (omega arith) left))))
+    (λ (right : n ≤ i). omega arith)
+    (cases_lt i n))
 
 -- the keys before they are sorted
 pub record AreListed (H : List ℕ → List ℕ) (insertions : List (List ℕ × List ℕ)) (keys : List (List ℕ × ℕ)) (n : ℕ) : Type 0 where

@@ -10,29 +10,24 @@ use Rattle.warg_map.specs.Sparse.{pair_bytes}
 use Rattle.warg_map.specs.Last.{last_with, same_bits, last_under}
 use Rattle.warg_witness.specs.MapClaims.{same_bytes, last_insertion}
 use Rattle.warg_witness.specs.Private.MapPaths.{IsLastPlace}
+use Rattle.warg_map.proofs.ForCallers.{same_bits-itself}
 
--- a test of the later ones, and of this one
-or_first : {X : Type 0} (later : Option X) (b : Bool) (x : X) → later ≡ None → b ≡ false → option_or later (cond b (Some x) None) ≡ None
-or_first later b x e f = rw (e, f) refl
-
-or_this : {X : Type 0} (later : Option X) (b : Bool) (x : X) → later ≡ None → b ≡ true → option_or later (cond b (Some x) None) ≡ Some x
-or_this later b x e f = rw (e, f) refl
-
-or_later : {X : Type 0} (later : Option X) (b : Bool) (x y : X) → later ≡ Some y → option_or later (cond b (Some x) None) ≡ Some y
-or_later later b x y e = rw e refl
-
+-- none passes a test
 pub last_with-none : {X : Type 0} (p : X → Bool) (xs : List X) (d : X) → ((i : ℕ) → i < length xs → p (get_or xs i d) ≡ false) → last_with p xs ≡ None
 unfolding last_with
 last_with-none p [] d h = refl
-last_with-none p (x ∷ xs) d h = or_first (last_with p xs) (p x) x (last_with-none p xs d (λ i lt. h (suc i) (omega (arith, lt)))) (h 0 (omega arith))
+last_with-none p (x ∷ xs) d h =
+    let here : p x ≡ false = h 0 (omega arith) in
+    rw (last_with-none p xs d (λ i lt. h (suc i) (omega (arith, lt))), here) refl
 
 pub last_with-at : {X : Type 0} (p : X → Bool) (xs : List X) (i : ℕ) (d : X) → i < length xs → p (get_or xs i d) ≡ true → ((j : ℕ) → i < j → j < length xs → p (get_or xs j d) ≡ false)
     → last_with p xs ≡ Some (get_or xs i d)
 unfolding last_with
 last_with-at p [] i d lt is later = absurd (omega (arith, lt))
-last_with-at p (x ∷ xs) zero d lt is later = or_this (last_with p xs) (p x) x (last_with-none p xs d (λ j less. later (suc j) (omega arith) (omega (arith, less)))) is
-last_with-at p (x ∷ xs) (suc i) d lt is later =
-    or_later (last_with p xs) (p x) x (get_or xs i d) (last_with-at p xs i d (omega (arith, lt)) is (λ j more less. later (suc j) (omega (arith, more)) (omega (arith, less))))
+last_with-at p (x ∷ xs) zero d lt is later =
+    let here : p x ≡ true = is in
+    rw (last_with-none p xs d (λ j less. later (suc j) (omega arith) (omega (arith, less))), here) refl
+last_with-at p (x ∷ xs) (suc i) d lt is later = rw (last_with-at p xs i d (omega (arith, lt)) is (λ j more less. later (suc j) (omega (arith, more)) (omega (arith, less)))) refl
 
 -- what the last one is
 pub some_same : {X : Type 0} (x y : X) → Some x ≡ Some y → x ≡ y
@@ -68,7 +63,7 @@ pub last_with-fewer_none : {X : Type 0} (p q : X → Bool) → ((x : X) → q x 
 unfolding last_with
 last_with-fewer_none p q h [] e = refl
 last_with-fewer_none p q h (x ∷ xs) e =
-    let both = or_none (last_with p xs) (p x) x e in or_first (last_with q xs) (q x) x (last_with-fewer_none p q h xs both.0) (false_from (p x) (q x) (h x) both.1)
+    let both = or_none (last_with p xs) (p x) x e in rw (last_with-fewer_none p q h xs both.0, false_from (p x) (q x) (h x) both.1) refl
 
 pub last_with-fewer : {X : Type 0} (p q : X → Bool) → ((x : X) → q x ≡ true → p x ≡ true) → (xs : List X) (y : X) → last_with p xs ≡ Some y → q y ≡ true → last_with q xs ≡ Some y
 unfolding last_with
@@ -77,27 +72,13 @@ last_with-fewer {X = X} p q h (x ∷ xs) y e is = later (last_with p xs) refl (�
   where
     later : (o : Option X) → last_with p xs ≡ o → (last_with p xs ≡ Some y → last_with q xs ≡ Some y) → option_or (last_with q xs) (cond (q x) (Some x) None) ≡ Some y
     later (Some z) f next =
-        let same : z ≡ y = some_same z y (sym (or_later (last_with p xs) (p x) x z f) ∙ e) in
-        or_later (last_with q xs) (q x) x y (next (f ∙ ap Some same))
+        let same : z ≡ y = some_same z y (let first : Some z ≡ Some y = rw f at e in first) in
+        rw (next (f ∙ ap Some same)) refl
     later None f next =
         or_cases (λ z. q z ≡ true → option_or (last_with q xs) (cond (q x) (Some x) None) ≡ Some z) (last_with p xs) (p x) x y e (λ g. absurd (let n : None ≡ Some y = sym f ∙ g in cc))
-        (λ _ same r. or_this (last_with q xs) (q x) x (last_with-fewer_none p q h xs f) (ap q same ∙ r) ∙ ap Some same) is
+        (λ _ same r. let here : q x ≡ true = ap q same ∙ r in rw (last_with-fewer_none p q h xs f, here) (ap Some same)) is
 
--- the same bits
-pub same_bits-itself : (q : List Bool) → same_bits q q ≡ true
-same_bits-itself [] = refl
-same_bits-itself (true ∷ q) = same_bits-itself q
-same_bits-itself (false ∷ q) = same_bits-itself q
-
-pub same_bits-true : (q p : List Bool) → same_bits q p ≡ true → q ≡ p
-same_bits-true [] [] e = refl
-same_bits-true [] (x ∷ p) e = cc
-same_bits-true (x ∷ q) [] e = cc
-same_bits-true (true ∷ q) (true ∷ p) e = ap (λ t. true ∷ t) (same_bits-true q p e)
-same_bits-true (true ∷ q) (false ∷ p) e = cc
-same_bits-true (false ∷ q) (true ∷ p) e = cc
-same_bits-true (false ∷ q) (false ∷ p) e = ap (λ t. false ∷ t) (same_bits-true q p e)
-
+-- the same bytes, by the test
 pub same_bytes-true : (xs ys : List ℕ) → same_bytes xs ys ≡ true → xs ≡ ys
 same_bytes-true xs ys = (bytes_eq-Decides xs ys).0
 

@@ -7,7 +7,6 @@ pub mod ConsistencyLemmas
 pub mod CollisionLemmas
 pub mod CompareLemmas
 pub mod PathLemmas
-pub mod PathBits
 pub mod KeyAgreementLemmas
 pub mod PlainPathLemmas
 pub mod LastLemmas

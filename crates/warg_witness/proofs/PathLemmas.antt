@@ -1,5 +1,5 @@
 -- Two evaluations along one key's bits.
-use Rattle.std.proofs.Common.{◌≡◌, ℕ, zero, suc, ◌-◌, Bool, true, false, cond, nat_lt, List, [], ◌∷◌, ◌++◌, length, Option, Some, None, unwrap_or, get_or, ⊎_elim, refl, sym, ap, ◌∙◌}
+use Rattle.std.proofs.Common.{◌≡◌, ℕ, zero, suc, ◌+◌, ◌-◌, ◌<◌, Bool, true, false, cond, nat_lt, List, [], ◌∷◌, ◌++◌, length, Option, Some, None, unwrap_or, get_or, ⊎_elim, refl, sym, ap, ◌∙◌}
 use Rattle.std.proofs.lemmas.Bool.{cases_Bool}
 use Rattle.warg_crypto.specs.EmptyTrees.{empty_root}
 use Rattle.warg_map.specs.ProofValue.{peer_of, proof_value}
@@ -11,6 +11,8 @@ use Rattle.warg_witness.specs.declared.descent.Divergence.{Divergence}
 use Rattle.warg_witness.specs.declared.descent.Divergence.TheVariants.{Target, Branch}
 use Rattle.warg_witness.proofs.DescentLemmas.{inputs_differ}
 use Rattle.warg_witness.proofs.CollisionLemmas.{SomeDivergence, same_or_not}
+use Rattle.warg_map.proofs.ForCallers.{last_bits-more, last_bits-none, length-last_bits}
+use Rattle.warg_map.specs.Bits.{bit_at, last_bits}
 
 -- what diverges below a bit diverges above it
 pub widened_path : {D : Type 0} (H : List ℕ → List ℕ) (P : List (Option (List ℕ))) (x : List ℕ) (Q : List (Option (List ℕ))) (y : List ℕ) (b : Bool) (bits : List Bool) (p : Divergence D)
@@ -137,3 +139,20 @@ diverged_on_path H P x Q y gives holds holds' size size' (b ∷ bits) e =
             same = ap H first ∙ e ∙ sym (ap H second);
           },
         )
+
+-- at the leaf
+pub climb_starts : {D : Type 0} (H : List ℕ → List ℕ) (P : List (Option (List ℕ))) (x : List ℕ) (Q : List (Option (List ℕ))) (y key : List ℕ) → IsClimb {D = D} H P x Q y (last_bits key 0) x y Target
+unfolding proof_value
+climb_starts H P x Q y key = record {
+  first_is = sym (ap (proof_value H P x) (last_bits-none key));
+  second_is = sym (ap (proof_value H Q y) (last_bits-none key));
+  diverges = λ e. e;
+}
+
+-- one bit more
+pub climb_more : {D : Type 0} (H : List ℕ → List ℕ) (P : List (Option (List ℕ))) (x : List ℕ) (Q : List (Option (List ℕ))) (y key : List ℕ) (n : ℕ) (b : Bool) (first second : List ℕ) (p : Divergence D)
+    → n < 256 → b ≡ bit_at key (255 - n) → IsClimb H P x Q y (b ∷ last_bits key n) first second p → IsClimb H P x Q y (last_bits key (n + 1)) first second p
+climb_more H P x Q y key n b first second p lt is climb = rw (last_bits-more key n lt, ← is) climb
+
+pub peer_at_height : (H : List ℕ → List ℕ) (P : List (Option (List ℕ))) (key : List ℕ) (n : ℕ) (peer : List ℕ) → peer ≡ peer_of H P n → peer_of H P (length (last_bits key n)) ≡ peer
+peer_at_height H P key n peer is = ap (peer_of H P) (length-last_bits key n) ∙ sym is

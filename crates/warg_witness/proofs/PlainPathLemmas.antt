@@ -12,6 +12,7 @@ use Rattle.warg_witness.specs.Inputs.{branch_input}
 use Rattle.warg_witness.specs.MapClaims.{value_in}
 use Rattle.warg_witness.specs.MapInputs.{fork_input, path_input, plain_input_at}
 use Rattle.warg_witness.specs.Private.MapPaths.{plain_peers}
+use Rattle.warg_map.proofs.ForCallers.{last_held}
 
 pub length-plain_peers : (H : List ℕ → List ℕ) (held : List Bool → Option (List ℕ)) (bits : List Bool) → length (plain_peers H held bits) ≡ length bits
 unfolding plain_peers
@@ -69,9 +70,9 @@ leaf_is H None = refl
 leaf_is H (Some e) = refl
 
 -- the leaf digest under bits, by what is held there
-pub plain_leaf_is : (H : List ℕ → List ℕ) (insertions : List (List ℕ × List ℕ)) (bits : List Bool) → get (map_of H insertions) bits ≡ option_map (λ e. leaf_digest H e.1) (last_under H bits insertions)
+pub plain_leaf_is : (H : List ℕ → List ℕ) (insertions : List (List ℕ × List ℕ)) (bits : List Bool)
     → leaf_digest H (value_in (last_under H bits insertions)) ≡ unwrap_or (get (map_of H insertions) bits) (empty_root H 0)
-plain_leaf_is H insertions bits held = leaf_is H (last_under H bits insertions) ∙ ap (λ o. unwrap_or o (empty_root H 0)) (sym held)
+plain_leaf_is H insertions bits = leaf_is H (last_under H bits insertions) ∙ ap (λ o. unwrap_or o (empty_root H 0)) (sym (last_held H bits insertions))
 
 more_of : (H : List ℕ → List ℕ) (held : List Bool → Option (List ℕ)) (b : Bool) (bits : List Bool) (peers after : List (Option (List ℕ))) → peers ≡ plain_peers H held (b ∷ bits) ++ after
     → peers ≡ plain_peers H (λ q. held (b ∷ q)) bits ++ Some (root_of_levels H (length bits) (λ q. held (not b ∷ q))) ∷ after
@@ -89,12 +90,12 @@ below_prefix H held b bits peers after x e all is =
 
 -- the input of the plain peers' evaluation at a prefix is the plain input there
 pub plain_input_is : (H : List ℕ → List ℕ) (insertions : List (List ℕ × List ℕ)) (bits prefix rest : List Bool) → length bits ≡ 256
-    → get (map_of H insertions) bits ≡ option_map (λ e. leaf_digest H e.1) (last_under H bits insertions) → bits ≡ prefix ++ rest
+    → bits ≡ prefix ++ rest
     → path_input H (plain_peers H (get (map_of H insertions)) bits) (value_in (last_under H bits insertions)) rest ≡ plain_input_at H insertions prefix (length rest)
-plain_input_is H insertions bits prefix [] long held e = ap (λ q. 0 ∷ value_in (last_under H q insertions)) (e ∙ append-nil prefix)
-plain_input_is H insertions bits prefix (b ∷ below) long held e =
+plain_input_is H insertions bits prefix [] long e = ap (λ q. 0 ∷ value_in (last_under H q insertions)) (e ∙ append-nil prefix)
+plain_input_is H insertions bits prefix (b ∷ below) long e =
     let all = length-plain_peers H (get (map_of H insertions)) bits ∙ long in
     let from = plain_after H (get (map_of H insertions)) prefix (b ∷ below) (plain_peers H (get (map_of H insertions)) bits) []
     (ap (plain_peers H (get (map_of H insertions))) e ∙ sym (append-nil (plain_peers H (get (map_of H insertions)) (prefix ++ b ∷ below)))) in
     below_prefix H (λ q. get (map_of H insertions) (prefix ++ q)) b below (plain_peers H (get (map_of H insertions)) bits) from.0 (leaf_digest H (value_in (last_under H bits insertions))) from.1 all
-    (plain_leaf_is H insertions bits held ∙ ap (λ q. unwrap_or (get (map_of H insertions) q) (empty_root H 0)) e)
+    (plain_leaf_is H insertions bits ∙ ap (λ q. unwrap_or (get (map_of H insertions) q) (empty_root H 0)) e)

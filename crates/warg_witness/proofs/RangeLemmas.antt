@@ -1,13 +1,13 @@
--- Ranges of the tree's recursion and their sides, and the log's laws as a premise.
-use Rattle.std.proofs.Common.{◌≡◌, ℕ, zero, suc, ◌+◌, ◌-◌, ◌*◌, ◌^◌, ◌<◌, ◌≤◌, List, Option, inl, inr, ap, ◌∙◌, arith, lit<, refl}
+-- Ranges of the tree's recursion and their sides.
+use Rattle.std.proofs.Common.{◌≡◌, ℕ, suc, ◌+◌, ◌-◌, ◌*◌, ◌^◌, ◌<◌, ◌≤◌, List, Option, inl, inr, ap, ◌∙◌, arith, refl}
 use Rattle.std.proofs.lemmas.Nat.{pow-add, pow_pos, pow_below, row_fits, mul-le}
 use Rattle.std.proofs.lemmas.Bool.{cases_lt}
 use Rattle.warg_log.specs.Cut.{IsFull}
-use Rattle.warg_witness.specs.Private.LogLaws.{Known, LogLaws}
 use Rattle.warg_log.specs.Tree.{front_of}
 use Rattle.warg_witness.specs.Ranges.{IsPart, IsAround}
 use Rattle.warg_witness.specs.Ranges.IsPart.{whole, front, rest}
 use Rattle.warg_witness.specs.Private.Ranges.{IsAligned, IsNodeRange, IsSide}
+use Rattle.warg_log.proofs.ForCallers.{below_pow, front_is_greatest}
 
 -- A digest function, and digests by node, as data holds them.
 abbrev pub Digest : Type 0
@@ -16,14 +16,6 @@ Digest = List ℕ → List ℕ
 abbrev pub Data : Type 0
 Data = ℕ → Option (List ℕ)
 
--- powers of two
-pub below_pow : (n : ℕ) → n < 2 ^ n
-below_pow zero = lit< tt
-below_pow (suc n) = let below : n < 2 ^ n = below_pow n in omega arith
-
-pub pow_below_pow : (a b : ℕ) → 2 ^ a < 2 ^ b → a < b
-pow_below_pow a b lt = grind (arith, pow_below)
-
 -- a multiple of a power of two is one of each lower power
 pub multiple : (c k h : ℕ) → k ≤ h → c * 2 ^ h ≡ c * 2 ^ (h - k) * 2 ^ k
 multiple c k h le = let sum : h ≡ h - k + k = omega arith in rw (ap (λ i. 2 ^ i) sum ∙ pow-add 2 (h - k) k) (omega arith)
@@ -31,10 +23,6 @@ multiple c k h le = let sum : h ≡ h - k + k = omega arith in rw (ap (λ i. 2 ^
 -- a range that isn't full has more than one leaf
 pub more_than_one : (n : ℕ) → 0 < n → (IsFull n → ⊥) → 1 < n
 more_than_one n some not_full = grind arith
-
-pub known : LogLaws → Known
-unfolding LogLaws
-known laws = laws
 
 -- one leaf is a node's range, and such a range and the whole of a log are aligned
 pub leaf_node : (a : ℕ) → IsNodeRange a 1
@@ -66,45 +54,44 @@ at_side P a n b m side left right = grind arith
 pub side_is_part : {a₀ n₀ a n : ℕ} (b m : ℕ) → IsPart a₀ n₀ a n → 1 < n → IsSide a n b m → IsPart a₀ n₀ b m
 side_is_part {a₀} {n₀} {a} {n} b m part more side = at_side (IsPart a₀ n₀) a n b m side (front a n part more) (rest a n part more)
 
-module _ (laws : LogLaws) where
-  -- an aligned range splits at a multiple of each power of two below its count, so its sides are aligned
-  split_place : {a n : ℕ} → IsAligned a n → 1 < n → (k : ℕ) → 2 ^ k < n → (q : ℕ) × (a + front_of n ≡ q * 2 ^ k)
-  split_place {a} {n} aligned more k below =
-      let f = (known laws).front n more in
-      let low : k < suc f.0.0 = grind (arith, pow_below) in
-      let high : f.0.0 < aligned.height = grind (arith, pow_below) in
-      (aligned.place * 2 ^ (aligned.height - k) + 2 ^ (f.0.0 - k), omega (arith, multiple aligned.place k aligned.height (omega arith), multiple 1 k f.0.0 (omega arith)))
+-- an aligned range splits at a multiple of each power of two below its count, so its sides are aligned
+split_place : {a n : ℕ} → IsAligned a n → 1 < n → (k : ℕ) → 2 ^ k < n → (q : ℕ) × (a + front_of n ≡ q * 2 ^ k)
+split_place {a} {n} aligned more k below =
+    let f = front_is_greatest n more in
+    let low : k < suc f.0.0 = grind (arith, pow_below) in
+    let high : f.0.0 < aligned.height = grind (arith, pow_below) in
+    (aligned.place * 2 ^ (aligned.height - k) + 2 ^ (f.0.0 - k), omega (arith, multiple aligned.place k aligned.height (omega arith), multiple 1 k f.0.0 (omega arith)))
 
-  pub side_aligned : {a n : ℕ} (b m : ℕ) → IsAligned a n → 1 < n → IsSide a n b m → IsAligned b m
-  side_aligned {a} {n} b m aligned more side =
-      let f = (known laws).front n more in
-      let at = split_place aligned more f.0.0 (omega arith) in
-      at_side IsAligned a n b m side (record { height = aligned.height; place = aligned.place; start = aligned.start; most = omega arith })
-      (record { height = f.0.0; place = at.0; start = at.1; most = omega arith })
+pub side_aligned : {a n : ℕ} (b m : ℕ) → IsAligned a n → 1 < n → IsSide a n b m → IsAligned b m
+side_aligned {a} {n} b m aligned more side =
+    let f = front_is_greatest n more in
+    let at = split_place aligned more f.0.0 (omega arith) in
+    at_side IsAligned a n b m side (record { height = aligned.height; place = aligned.place; start = aligned.start; most = omega arith })
+    (record { height = f.0.0; place = at.0; start = at.1; most = omega arith })
 
-  -- of the sides of a range around a target, the one in which the target begins is around it
-  pub front_around : {s w a n : ℕ} → IsNodeRange s w → IsAligned a n → IsAround s w a n → (a ≡ s → n ≡ w → ⊥) → s < a + front_of n → s + w ≤ a + front_of n
-  front_around {s} {w} {a} {n} node aligned around other left =
-      let more = wider around other in
-      let some = node_some node in
-      let at = split_place aligned (omega arith) node.height (omega arith) in
-      elim (cases_lt node.place at.0) [
-        | inl less ↦ omega (arith, row_fits node.place (2 ^ node.height) at.0 (2 ^ node.height) less (omega arith))
-        | inr le ↦ omega (arith, mul-le at.0 (2 ^ node.height) node.place (2 ^ node.height) le (omega arith))
-      ]
+-- of the sides of a range around a target, the one in which the target begins is around it
+pub front_around : {s w a n : ℕ} → IsNodeRange s w → IsAligned a n → IsAround s w a n → (a ≡ s → n ≡ w → ⊥) → s < a + front_of n → s + w ≤ a + front_of n
+front_around {s} {w} {a} {n} node aligned around other left =
+    let more = wider around other in
+    let some = node_some node in
+    let at = split_place aligned (omega arith) node.height (omega arith) in
+    elim (cases_lt node.place at.0) [
+      | inl less ↦ omega (arith, row_fits node.place (2 ^ node.height) at.0 (2 ^ node.height) less (omega arith))
+      | inr le ↦ omega (arith, mul-le at.0 (2 ^ node.height) node.place (2 ^ node.height) le (omega arith))
+    ]
 
-  pub side_around : {s w a n : ℕ} → IsNodeRange s w → IsAligned a n → IsAround s w a n → (a ≡ s → n ≡ w → ⊥) → (b : ℕ) × (m : ℕ) × IsSide a n b m × IsAround s w b m × (m < n)
-  side_around {s} {w} {a} {n} node aligned around other =
-      let more = wider around other in
-      let some = node_some node in
-      let f = (known laws).front n (omega arith) in
-      elim (cases_lt s (a + front_of n)) [
-        | inl left ↦ (a, front_of n, inl (refl, refl), record { starts = around.starts; ends = front_around node aligned around other left }, f.1)
-        | inr right ↦ (a + front_of n, n - front_of n, inr (refl, refl), omega arith, omega arith)
-      ]
+pub side_around : {s w a n : ℕ} → IsNodeRange s w → IsAligned a n → IsAround s w a n → (a ≡ s → n ≡ w → ⊥) → (b : ℕ) × (m : ℕ) × IsSide a n b m × IsAround s w b m × (m < n)
+side_around {s} {w} {a} {n} node aligned around other =
+    let more = wider around other in
+    let some = node_some node in
+    let f = front_is_greatest n (omega arith) in
+    elim (cases_lt s (a + front_of n)) [
+      | inl left ↦ (a, front_of n, inl (refl, refl), record { starts = around.starts; ends = front_around node aligned around other left }, f.1)
+      | inr right ↦ (a + front_of n, n - front_of n, inr (refl, refl), omega arith, omega arith)
+    ]
 
-  -- the parts of a whole log lie within it and are aligned
-  pub part_in : {n b m : ℕ} → IsPart 0 n b m → (b + m ≤ n) × IsAligned b m
-  part_in {n} whole = (omega arith, whole_aligned n)
-  part_in (front a k part more) = (grind (arith, (known laws).front k more, part_in part), side_aligned a (front_of k) (part_in part).1 more (inl (refl, refl)))
-  part_in (rest a k part more) = (grind (arith, (known laws).front k more, part_in part), side_aligned (a + front_of k) (k - front_of k) (part_in part).1 more (inr (refl, refl)))
+-- the parts of a whole log lie within it and are aligned
+pub part_in : {n b m : ℕ} → IsPart 0 n b m → (b + m ≤ n) × IsAligned b m
+part_in {n} whole = (omega arith, whole_aligned n)
+part_in (front a k part more) = (grind (arith, front_is_greatest k more, part_in part), side_aligned a (front_of k) (part_in part).1 more (inl (refl, refl)))
+part_in (rest a k part more) = (grind (arith, front_is_greatest k more, part_in part), side_aligned (a + front_of k) (k - front_of k) (part_in part).1 more (inr (refl, refl)))

@@ -9,13 +9,13 @@ use Rattle.warg_witness.specs.Claims.{IsEntry}
 use Rattle.warg_witness.specs.Inputs.{plain_input, cut_input, value_input}
 use Rattle.warg_witness.specs.Placed.{IsValuePlaced, IsHashPlaced, IsAgreementPlaced}
 use Rattle.warg_witness.specs.Private.Compared.{IsAt}
-use Rattle.warg_witness.specs.Private.LogLaws.{LogLaws}
 use Rattle.warg_witness.specs.Private.Meeting.{IsMeeting}
 use Rattle.warg_witness.specs.Private.Divergence.{MeetAt, DivergesAt, IsDivergence, Collides, DivergesAtBranch, inputs_of}
 use Rattle.warg_witness.specs.declared.descent.Divergence.{Divergence}
 use Rattle.warg_witness.specs.declared.descent.Divergence.TheVariants.{Target, Branch}
-use Rattle.warg_witness.proofs.RangeLemmas.{Digest, Data, pow_below_pow, part_in}
+use Rattle.warg_witness.proofs.RangeLemmas.{Digest, Data, part_in}
 use Rattle.warg_witness.proofs.DescentLemmas.{length-leaves, DivergesFrom, Meets, plain_digest_is, own_second}
+use Rattle.warg_log.proofs.ForCallers.{pow_below_pow}
 
 -- The pair differs and has one digest, and stands where P says.
 abbrev pub Shows : Digest → (List ℕ → List ℕ → Type 0) → List ℕ × List ℕ → Type 0
@@ -47,37 +47,37 @@ value_here H F v s w = grind (arith, nat_tests)
 value_above : (H : Digest) (F : Data) (v : List ℕ) (s w a n : ℕ) → (a ≡ s → n ≡ w → ⊥) → value_input H F v s w a n ≡ cut_input H F (H (0 ∷ v)) s w a n
 value_above H F v s w a n other = grind (arith, nat_tests)
 
-module _ (laws : LogLaws) (H : Digest) (F : Data) (entries ds : List (List ℕ)) (is : ds ≡ leaves_of H entries) (node : ℕ) where
+module _ (H : Digest) (F : Data) (entries ds : List (List ℕ)) (is : ds ≡ leaves_of H entries) (node : ℕ) where
   pub value_placed : (value first second : List ℕ) → DivergesFrom H F (H (0 ∷ value)) ds (start_of node) (2 ^ height_of node) first second → IsValuePlaced H F value node entries first second
   value_placed value first second diverges =
-      let own = own_second laws H entries ds is (pow_pos (height_of node)) diverges in
+      let own = own_second H entries ds is (pow_pos (height_of node)) diverges in
       let here = value_above H F value (start_of node) (2 ^ height_of node) diverges.from diverges.count diverges.other ∙ diverges.first_input in search (own, here, diverges)
 
   pub value_meets : (value : List ℕ) → (IsAt value entries (start_of node) (2 ^ height_of node) → ⊥)
       → Meets H (H (0 ∷ value)) ds (start_of node) (2 ^ height_of node) → Shows H (IsValuePlaced H F value node entries) (0 ∷ value, plain_input H entries (start_of node) (2 ^ height_of node))
   value_meets value other meets =
       let part = rw (is, length-leaves H entries) at meets.part in
-      let plain = rw is at meets.same ∙ plain_digest_is laws H entries _ _ (pow_pos (height_of node)) (part_in laws part).0 in (
+      let plain = rw is at meets.same ∙ plain_digest_is H entries _ _ (pow_pos (height_of node)) (part_in part).0 in (
         record { differ = λ e. other (leaf_same H value entries _ _ (pow_pos (height_of node)) e); same = plain },
         search (part, value_here, arith),
       )
 
   pub hash_placed : (hash first second : List ℕ) → DivergesFrom H F hash ds (start_of node) (2 ^ height_of node) first second → IsHashPlaced H F hash node entries first second
-  hash_placed hash first second diverges = let own = own_second laws H entries ds is (pow_pos (height_of node)) diverges in search (own, diverges)
+  hash_placed hash first second diverges = let own = own_second H entries ds is (pow_pos (height_of node)) diverges in search (own, diverges)
 
 -- what a meeting shows, where the claim is false
-module _ (laws : LogLaws) {D : Type 0} {H : Digest} {F : Data} {node n : ℕ} {entries tree : List (List ℕ)} {start count : ℕ} {plain : List ℕ} {p : Divergence D} where
+module _ {D : Type 0} {H : Digest} {F : Data} {node n : ℕ} {entries tree : List (List ℕ)} {start count : ℕ} {plain : List ℕ} {p : Divergence D} where
   pub value_shown : {value : List ℕ} → IsMeeting H F (H (0 ∷ value)) node n entries tree start count plain p → (IsAt value entries start count → ⊥)
       → Shows H (IsValuePlaced H F value node entries) (inputs_of p (0 ∷ value) (plain_input H entries start count))
   value_shown {value} met other =
       let apart = rw (met.start_is, met.count_is) at other in
-      rw (met.start_is, met.count_is) (shown p _ _ (value_placed laws H F entries tree met.tree_is node value) (λ _. value_meets laws H F entries tree met.tree_is node value apart) met.diverges)
+      rw (met.start_is, met.count_is) (shown p _ _ (value_placed H F entries tree met.tree_is node value) (λ _. value_meets H F entries tree met.tree_is node value apart) met.diverges)
 
   pub hash_shown : {hash : List ℕ} → IsMeeting H F hash node n entries tree start count plain p → (hash ≡ plain → ⊥)
       → DivergesAtBranch H p × IsHashPlaced H F hash node entries (inputs_of p [] []).0 (inputs_of p [] []).1
   hash_shown {hash} met other =
       let apart : p ≡ Target → ⊥ = λ is. other ((rw is at met.diverges).same ∙ rw met.tree_is (sym met.plain_is)) in
-      let pair = shown p [] [] (hash_placed laws H F entries tree met.tree_is node hash) (λ is _. absurd (apart is)) met.diverges in (grind arith, pair.1)
+      let pair = shown p [] [] (hash_placed H F entries tree met.tree_is node hash) (λ is _. absurd (apart is)) met.diverges in (grind arith, pair.1)
 
 module _ (H : Digest) (F : Data) (v : List ℕ) (G : Data) (u : List ℕ) (node n : ℕ) where
   pub agreement_placed : (first second : List ℕ) → DivergesAt H F (H (0 ∷ v)) G (H (0 ∷ u)) (start_of node) (2 ^ height_of node) 0 n first second → IsAgreementPlaced H F v G u node n first second

@@ -1,7 +1,7 @@
 -- The plain sparse tree over sorted keys.
-use Rattle.std.proofs.Common.{◌≡◌, ℕ, zero, suc, ◌+◌, ◌-◌, ◌<◌, Bool, true, false, not, List, [], ◌∷◌, ◌++◌, length, Option, Some, None, unwrap_or, MatchOption, get_or, refl, sym, ap, ◌∙◌, arith, append_assoc}
+use Rattle.std.proofs.Common.{◌≡◌, ℕ, suc, ◌+◌, ◌-◌, ◌<◌, Bool, true, false, not, List, [], ◌∷◌, ◌++◌, length, Option, Some, None, unwrap_or, MatchOption, get_or, refl, sym, ap, ◌∙◌, arith, append_assoc}
 use Rattle.std.proofs.lemmas.List.{length-append, append-nil, get_or_default}
-use Rattle.std.proofs.lemmas.Bool.{lt-ltb}
+use Rattle.std.proofs.lemmas.Bool.{lt-ltb, false_from_ne_true}
 use Rattle.std.specs.declared.cmp.Ordering.TheVariants.{Equal}
 use Rattle.std.specs.Ordering.{is_lt, nat_cmp, ordering_then}
 use Rattle.std.specs.Option.{option_map}
@@ -9,66 +9,46 @@ use Rattle.std.specs.FinMap.{get}
 use Rattle.std.specs.Cmp.Lexicographic.{slice_cmp}
 use Rattle.warg_crypto.specs.EmptyTrees.{empty_root}
 use Rattle.warg_log.specs.Tree.{branch}
-use Rattle.warg_map.specs.Bits.{bit_at, bits_from, key_bits, last_bits}
+use Rattle.warg_map.specs.Bits.{bit_at, key_bits, last_bits}
 use Rattle.warg_map.specs.Sparse.{SparseMap, bits_cmp, root_of_levels, leaf_digest, map_of, pair_bytes}
 use Rattle.warg_map.specs.Last.{same_bits, last_under}
 use Rattle.warg_witness.specs.Laws.{GivesDigests}
 use Rattle.warg_witness.specs.Private.MapPaths.{key_at, entry_at, entry_cmp, AreKeysUnder, AreEmptyTrees, IsPlaceOfLast, IsLastPlace, plain_peers}
-use Rattle.warg_witness.proofs.LastLemmas.{last_with-none, last_with-at, same_bits-true, same_bits-itself, pair_at, length-pair_bytes}
-use Rattle.warg_witness.proofs.KeysLemmas.{OrderOfBits, AllBits}
-use Rattle.warg_witness.proofs.KeyLawLemmas.{LastHeld}
-use Rattle.warg_witness.proofs.PathBits.{length-last_bits}
-
--- nothing is held
-root-nothing : (H : List ℕ → List ℕ) (k : ℕ) → root_of_levels H k (λ q. None) ≡ empty_root H k
-unfolding root_of_levels empty_root
-root-nothing H zero = refl
-root-nothing H (suc k) = ap (λ e. H (1 ∷ (e ++ e))) (root-nothing H k)
-
-root-same : (H : List ℕ → List ℕ) (k : ℕ) (m n : List Bool → Option (List ℕ)) → ((q : List Bool) → m q ≡ n q) → root_of_levels H k m ≡ root_of_levels H k n
-root-same H k m n h = λ i. root_of_levels H k (λ q. h q i)
-
-false_from_not : (b : Bool) → (b ≡ true → ⊥) → b ≡ false
-false_from_not false h = refl
-false_from_not true h = absurd (h refl)
+use Rattle.warg_witness.proofs.LastLemmas.{last_with-none, last_with-at, pair_at, length-pair_bytes}
+use Rattle.warg_map.proofs.ForCallers.{all_bits, bits_cmp-itself, bits_left-more, bits_left-none, last_held, length-last_bits, order_of_bits, root-nothing, root-same, same_bits-itself, same_bits-true}
 
 none_under : (H : List ℕ → List ℕ) (insertions : List (List ℕ × List ℕ)) (prefix q : List Bool) (keys : List (List ℕ × ℕ)) → length keys ≡ 0 → AreKeysUnder H insertions prefix keys
     → last_under H (prefix ++ q) insertions ≡ None
 none_under H insertions prefix q keys none are =
     last_with-none (λ e. same_bits (prefix ++ q) (key_bits H e.0)) insertions ([], [])
-    (λ i less. false_from_not _ (λ same. let found = are.all i q less (sym (same_bits-true _ _ same)) in let less' = found.1 in omega (arith, less', none)))
+    (λ i less. false_from_ne_true _ (λ same. let found = are.all i q less (sym (same_bits-true _ _ same)) in let less' = found.1 in omega (arith, less', none)))
 
-pub root_none : LastHeld → (H : List ℕ → List ℕ) (insertions : List (List ℕ × List ℕ)) (prefix : List Bool) (keys : List (List ℕ × ℕ)) (k : ℕ) → length keys ≡ 0 → AreKeysUnder H insertions prefix keys
+pub root_none : (H : List ℕ → List ℕ) (insertions : List (List ℕ × List ℕ)) (prefix : List Bool) (keys : List (List ℕ × ℕ)) (k : ℕ) → length keys ≡ 0 → AreKeysUnder H insertions prefix keys
     → root_of_levels H k (λ q. get (map_of H insertions) (prefix ++ q)) ≡ empty_root H k
-root_none held H insertions prefix keys k none are =
+root_none H insertions prefix keys k none are =
     root-same H k _ (λ q. None)
-    (λ q. held H (prefix ++ q) insertions ∙ ap (option_map (λ (e : List ℕ × List ℕ). leaf_digest H e.1)) (none_under H insertions prefix q keys none are))
+    (λ q. last_held H (prefix ++ q) insertions ∙ ap (option_map (λ (e : List ℕ × List ℕ). leaf_digest H e.1)) (none_under H insertions prefix q keys none are))
     ∙ root-nothing H k
 
 -- the last of the keys of one digest
-itself : (q : List Bool) → bits_cmp q q ≡ Equal
-itself [] = refl
-itself (true ∷ q) = itself q
-itself (false ∷ q) = itself q
-
-whole_prefix : AllBits → (H : List ℕ → List ℕ) (key : List ℕ) (prefix rest : List Bool) → length prefix ≡ 256 → key_bits H key ≡ prefix ++ rest → key_bits H key ≡ prefix
-whole_prefix long H key prefix [] size e = e ∙ append-nil prefix
-whole_prefix long H key prefix (b ∷ rest) size e =
-    absurd (let n = long H key in let m = ap length e in let k = length-append prefix (b ∷ rest) in omega (arith, size, n, m, k))
+whole_prefix : (H : List ℕ → List ℕ) (key : List ℕ) (prefix rest : List Bool) → length prefix ≡ 256 → key_bits H key ≡ prefix ++ rest → key_bits H key ≡ prefix
+whole_prefix H key prefix [] size e = e ∙ append-nil prefix
+whole_prefix H key prefix (b ∷ rest) size e =
+    absurd (let n = all_bits H key in let m = ap length e in let k = length-append prefix (b ∷ rest) in omega (arith, size, n, m, k))
 
 nat_less : (a b : ℕ) → a < b → is_lt (nat_cmp a b) ≡ true
 nat_less a b lt = rw (lt-ltb a b lt) refl
 
-pub last_is : LastHeld → AllBits → OrderOfBits → (H : List ℕ → List ℕ) → GivesDigests H → (insertions : List (List ℕ × List ℕ)) (prefix : List Bool) (keys : List (List ℕ × ℕ)) (n : ℕ) → length prefix ≡ 256
+pub last_is : (H : List ℕ → List ℕ) → GivesDigests H → (insertions : List (List ℕ × List ℕ)) (prefix : List Bool) (keys : List (List ℕ × ℕ)) (n : ℕ) → length prefix ≡ 256
     → AreKeysUnder H insertions prefix keys → length keys ≡ n + 1
     → ((entry_at keys n).1 < length insertions) × (last_under H prefix insertions ≡ Some (get_or insertions (entry_at keys n).1 ([], [])))
-last_is held long order H digests insertions prefix keys n size are count =
+last_is H digests insertions prefix keys n size are count =
     let less : n < length keys = omega (arith, count) in
     let under = are.each n less in
-    let bits = whole_prefix long H (key_at insertions (entry_at keys n).1) prefix under.rest size under.begins in (
+    let bits = whole_prefix H (key_at insertions (entry_at keys n).1) prefix under.rest size under.begins in (
       under.within,
       last_with-at (λ e. same_bits prefix (key_bits H e.0)) insertions (entry_at keys n).1 ([], []) under.within (ap (same_bits prefix) bits ∙ same_bits-itself prefix)
-          (λ j more less'. false_from_not _ (λ same.
+          (λ j more less'. false_from_ne_true _ (λ same.
           let at = sym (same_bits-true prefix (key_bits H (key_at insertions j)) same) in
           let found = are.all j [] less' (at ∙ sym (append-nil prefix)) in
           not_before (entry_at keys n) (entry_at keys found.0) j bits at under.digest found.2 more
@@ -79,8 +59,8 @@ last_is held long order H digests insertions prefix keys n size are count =
         → e ≡ (H (key_at insertions j), j) → last.1 < j → is_lt (entry_cmp last e) ≡ false → ⊥
     not_before last e j bits bits' digest is more up =
         let same : slice_cmp nat_cmp last.0 (H (key_at insertions j)) ≡ Equal =
-        ap (λ d. slice_cmp nat_cmp d (H (key_at insertions j))) digest ∙ sym (order H (key_at insertions last.1) (key_at insertions j) (digests _) (digests _))
-        ∙ ap (bits_cmp (key_bits H (key_at insertions last.1))) bits' ∙ ap (λ q. bits_cmp q prefix) bits ∙ itself prefix in
+        ap (λ d. slice_cmp nat_cmp d (H (key_at insertions j))) digest ∙ sym (order_of_bits H (key_at insertions last.1) (key_at insertions j) (digests _) (digests _))
+        ∙ ap (bits_cmp (key_bits H (key_at insertions last.1))) bits' ∙ ap (λ q. bits_cmp q prefix) bits ∙ bits_cmp-itself prefix in
         let lt : is_lt (entry_cmp last e) ≡ true =
         ap (λ (f : List ℕ × ℕ). is_lt (entry_cmp last f)) is ∙ ap (λ o. is_lt (ordering_then o (nat_cmp last.1 j))) same ∙ nat_less last.1 j more in
         true_not_false (sym lt ∙ up)
@@ -89,14 +69,14 @@ last_is held long order H digests insertions prefix keys n size are count =
         true_not_false f = cc
 
 -- the leaf of a whole digest
-pub root_leaf : LastHeld → AllBits → OrderOfBits → (H : List ℕ → List ℕ) → GivesDigests H → (insertions : List (List ℕ × List ℕ)) (prefix : List Bool) (keys : List (List ℕ × ℕ)) (n : ℕ) → length prefix ≡ 256
+pub root_leaf : (H : List ℕ → List ℕ) → GivesDigests H → (insertions : List (List ℕ × List ℕ)) (prefix : List Bool) (keys : List (List ℕ × ℕ)) (n : ℕ) → length prefix ≡ 256
     → AreKeysUnder H insertions prefix keys → length keys ≡ n + 1
     → leaf_digest H (get_or insertions (entry_at keys n).1 ([], [])).1 ≡ root_of_levels H 0 (λ q. get (map_of H insertions) (prefix ++ q))
 unfolding root_of_levels
-root_leaf held long order H digests insertions prefix keys n size are count =
-    let last = last_is held long order H digests insertions prefix keys n size are count in
+root_leaf H digests insertions prefix keys n size are count =
+    let last = last_is H digests insertions prefix keys n size are count in
     sym (ap (λ q. unwrap_or (get (map_of H insertions) q) (empty_root H 0)) (append-nil prefix)
-    ∙ ap (λ o. unwrap_or o (empty_root H 0)) (held H prefix insertions ∙ ap (option_map (λ (e : List ℕ × List ℕ). leaf_digest H e.1)) last.1))
+    ∙ ap (λ o. unwrap_or o (empty_root H 0)) (last_held H prefix insertions ∙ ap (option_map (λ (e : List ℕ × List ℕ). leaf_digest H e.1)) last.1))
 
 -- what is held after a prefix and one bit
 after_bit : (m : SparseMap) (prefix : List Bool) (b : Bool) (q : List Bool) → get m ((prefix ++ b ∷ []) ++ q) ≡ get m (prefix ++ b ∷ q)
@@ -113,19 +93,6 @@ root_branch H m prefix depth l r lt left right =
     ap (λ t. H (1 ∷ (t ++ r))) (left ∙ root-same H k _ (λ q. get m (prefix ++ false ∷ q)) (after_bit m prefix false))
     ∙ ap (λ t. H (1 ∷ (root_of_levels H k (λ q. get m (prefix ++ false ∷ q)) ++ t))) (right ∙ root-same H k _ (λ q. get m (prefix ++ true ∷ q)) (after_bit m prefix true))
     ∙ ap (λ j. root_of_levels H j (λ q. get m (prefix ++ q))) up
-
--- the bits of a key that are left at a depth
-pub bits_left-more : (key : List ℕ) (depth : ℕ) → depth < 256 → last_bits key (256 - depth) ≡ bit_at key depth ∷ last_bits key (256 - (depth + 1))
-unfolding bits_from
-bits_left-more key depth lt =
-    let up : 256 - depth ≡ suc (256 - (depth + 1)) = omega (arith, lt) in
-    let from : 256 - (256 - depth) ≡ depth = omega (arith, lt) in
-    let next : depth + 1 ≡ 256 - (256 - (depth + 1)) = omega (arith, lt) in
-    ap (λ i. bits_from key i (256 - depth)) from ∙ ap (bits_from key depth) up ∙ ap (λ i. bit_at key depth ∷ bits_from key i (256 - (depth + 1))) next
-
-pub bits_left-none : (key : List ℕ) (depth : ℕ) → depth ≡ 256 → last_bits key (256 - depth) ≡ []
-unfolding bits_from
-bits_left-none key depth e = ap (λ d. last_bits key (256 - d)) e
 
 -- one more of the plain peers
 pub peers_more : (H : List ℕ → List ℕ) (m : SparseMap) (key : List ℕ) (prefix : List Bool) (depth : ℕ) (b : Bool) (old below new : List (Option (List ℕ))) (far : List ℕ) → depth < 256 → b ≡ bit_at key depth
@@ -144,11 +111,11 @@ peers_more H m key prefix depth b old below new far lt bit is beside more =
     ∙ ap (λ t. old ++ t) (sym (ap (plain_peers H (λ q. get m (prefix ++ q))) (bits_left-more key depth lt ∙ ap (λ c. c ∷ rest) (sym bit))))
 
 -- the same, of what the code has
-pub empty_is : LastHeld → (H : List ℕ → List ℕ) (insertions : List (List ℕ × List ℕ)) (prefix : List Bool) (keys : List (List ℕ × ℕ)) (empty : List (List ℕ)) (k : ℕ) (digest copy : List ℕ) → AreEmptyTrees H empty → k < 257
+pub empty_is : (H : List ℕ → List ℕ) (insertions : List (List ℕ × List ℕ)) (prefix : List Bool) (keys : List (List ℕ × ℕ)) (empty : List (List ℕ)) (k : ℕ) (digest copy : List ℕ) → AreEmptyTrees H empty → k < 257
     → copy ≡ digest → digest ≡ get_or empty k digest → length keys ≡ 0 → AreKeysUnder H insertions prefix keys → copy ≡ root_of_levels H k (λ q. get (map_of H insertions) (prefix ++ q))
-empty_is held H insertions prefix keys empty k digest copy trees lt is at none are =
+empty_is H insertions prefix keys empty k digest copy trees lt is at none are =
     let count = trees.count in
-    is ∙ at ∙ get_or_default empty k digest [] (omega (arith, lt, count)) ∙ trees.each k lt ∙ sym (root_none held H insertions prefix keys k none are)
+    is ∙ at ∙ get_or_default empty k digest [] (omega (arith, lt, count)) ∙ trees.each k lt ∙ sym (root_none H insertions prefix keys k none are)
 
 pub place_within : {K V : Type 0} (H : List ℕ → List ℕ) (kb : K → List ℕ) (vb : V → List ℕ) (es : List (K × V)) (prefix : List Bool) (keys : List (List ℕ × ℕ)) (place : ℕ)
     → AreKeysUnder H (pair_bytes kb vb es) prefix keys → IsPlaceOfLast keys place → place < length es
@@ -158,23 +125,23 @@ place_within H kb vb es prefix keys place are last =
     let within = (are.each last.before (omega (arith, count))).within in
     omega (arith, is, within, length-pair_bytes kb vb es)
 
-pub leaf_root : {K V : Type 0} → LastHeld → AllBits → OrderOfBits → (H : List ℕ → List ℕ) → GivesDigests H → (kb : K → List ℕ) (vb : V → List ℕ) (es : List (K × V)) (prefix : List Bool) (keys : List (List ℕ × ℕ))
+pub leaf_root : {K V : Type 0} → (H : List ℕ → List ℕ) → GivesDigests H → (kb : K → List ℕ) (vb : V → List ℕ) (es : List (K × V)) (prefix : List Bool) (keys : List (List ℕ × ℕ))
     (depth place : ℕ) (e : K × V) (leaf : List ℕ) → depth ≡ 256 → length prefix ≡ depth → AreKeysUnder H (pair_bytes kb vb es) prefix keys → IsPlaceOfLast keys place → e ≡ get_or es place e → leaf ≡ H (0 ∷ vb e.1)
     → leaf ≡ root_of_levels H (256 - depth) (λ q. get (map_of H (pair_bytes kb vb es)) (prefix ++ q))
-leaf_root held long order H digests kb vb es prefix keys depth place e leaf whole size are last at is =
+leaf_root H digests kb vb es prefix keys depth place e leaf whole size are last at is =
     is ∙ ap (λ (f : List ℕ × List ℕ). leaf_digest H f.1) (sym (pair_at kb vb es place e (place_within H kb vb es prefix keys place are last) at))
     ∙ ap (λ n. leaf_digest H (get_or (pair_bytes kb vb es) n ([], [])).1) last.is
-    ∙ root_leaf held long order H digests (pair_bytes kb vb es) prefix keys last.before (size ∙ whole) are last.count
+    ∙ root_leaf H digests (pair_bytes kb vb es) prefix keys last.before (size ∙ whole) are last.count
     ∙ ap (λ k. root_of_levels H k (λ q. get (map_of H (pair_bytes kb vb es)) (prefix ++ q))) (let z : 0 ≡ 256 - depth = omega (arith, whole) in z)
 
 -- the place of the last insertion, where the bits are whole
-pub last_place_is : LastHeld → AllBits → OrderOfBits → (H : List ℕ → List ℕ) → GivesDigests H → (insertions : List (List ℕ × List ℕ)) (prefix : List Bool) (keys : List (List ℕ × ℕ)) (key : List ℕ) (depth : ℕ) (found : Option ℕ)
+pub last_place_is : (H : List ℕ → List ℕ) → GivesDigests H → (insertions : List (List ℕ × List ℕ)) (prefix : List Bool) (keys : List (List ℕ × ℕ)) (key : List ℕ) (depth : ℕ) (found : Option ℕ)
     → depth ≡ 256 → length prefix ≡ depth → AreKeysUnder H insertions prefix keys → MatchOption found (length keys ≡ 0) (IsPlaceOfLast keys) → IsLastPlace H insertions (prefix ++ last_bits key (256 - depth)) found
-last_place_is held long order H digests insertions prefix keys key depth None whole size are none =
+last_place_is H digests insertions prefix keys key depth None whole size are none =
     none_under H insertions prefix (last_bits key (256 - depth)) keys none are
-last_place_is held long order H digests insertions prefix keys key depth (Some place) whole size are last =
+last_place_is H digests insertions prefix keys key depth (Some place) whole size are last =
     let bits : prefix ++ last_bits key (256 - depth) ≡ prefix = ap (λ q. prefix ++ q) (bits_left-none key depth whole) ∙ append-nil prefix in
-    let is = last_is held long order H digests insertions prefix keys last.before (size ∙ whole) are last.count in
+    let is = last_is H digests insertions prefix keys last.before (size ∙ whole) are last.count in
     rw (bits, last.is) is
 
 pub peers_none : (H : List ℕ → List ℕ) (held : List Bool → Option (List ℕ)) (key : List ℕ) (depth : ℕ) (old : List (Option (List ℕ))) → depth ≡ 256 → old ≡ old ++ plain_peers H held (last_bits key (256 - depth))

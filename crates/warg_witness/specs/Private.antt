@@ -1,5 +1,4 @@
 -- What only clauses of private functions name; no public clause or law rests on it.
-pub mod LogLaws
 pub mod Ranges
 pub mod MapMeeting
 pub mod MapPaths

@@ -7,7 +7,6 @@ ghost use Rattle.warg_witness.specs.Private.Divergence.{HaveOneDigest, IsDiverge
 ghost use Rattle.warg_witness.specs.Ranges.{IsAround};
 ghost use Rattle.warg_witness.specs.Private.Ranges.{IsAligned, IsNodeRange, IsSide};
 
-use crate::laws::log_laws;
 use warg_crypto::{Hash, SupportedDigest, VisitBytes};
 use warg_log::{LeafRange, LogData, range_root};
 
@@ -49,7 +48,6 @@ fn part_digests<D: SupportedDigest, V: VisitBytes, L: LogData<D, V>>(
     ensures right { cut_over D.digest (L.digest_at hashes.now) hash.now target.now.start target.now.count
         (range.now.start + front_of range.now.count) (range.now.count - front_of range.now.count) ≡ Some result.1 }
 {
-    log_laws();
     let (front, rest) = range.split();
     let Some(left) = range_root(hashes, target, hash, &front) else {
         unreachable!()
@@ -71,7 +69,6 @@ fn part_around(target: &LeafRange, range: &LeafRange) -> LeafRange
     ensures around { IsAround target.now.start target.now.count result.start result.count }
     ensures side { IsSide range.now.start range.now.count result.start result.count }
 {
-    log_laws();
     let (front, rest) = range.split();
     if target.start < rest.start {
         front
@@ -98,7 +95,6 @@ pub(crate) fn descend<D: SupportedDigest, V: VisitBytes, L: LogData<D, V>, M: Lo
     ensures { IsDivergence D.digest (L.digest_at first.now) first_hash.now (M.digest_at second.now) second_hash.now
         target.now.start target.now.count range.now.start range.now.count result }
 {
-    log_laws();
     if range.equals(target) {
         return Divergence::Target;
     }

@@ -14,71 +14,35 @@ ghost use Rattle.warg_map.specs.Peers.{Proves};
 ghost use Rattle.warg_map.specs.Sparse.{sparse_root, map_of};
 ghost use Rattle.warg_witness.specs.MapClaims.{IsKeyMet, IsAbsenceMet, IsKeyAgreement, IsLastValue};
 ghost use Rattle.warg_witness.specs.MapPlaced.{IsKeyPlaced, IsKeyAgreementPlaced};
-ghost use Rattle.warg_witness.specs.Private.LogLaws.{LogLaws};
 ghost use Rattle.warg_witness.specs.Laws.{GivesHashes, GivesDigests, HoldsHashes, HoldsPeers, SomeCollision};
 
 use crate::collision::Finding;
 use std::alloc::Allocator;
 use warg_crypto::SupportedDigest;
-use warg_log::laws::{
-    balanced_full, balanced_parts, consistency_met, cut_old, cut_own_range, cut_parts, cut_size,
-    cut_target, front_is_greatest, number_is_node, old_full, old_parts, range_has_number,
-    root_over_one, root_over_parts,
-};
-use warg_map::laws::{all_bits, last_held, root_at_prefix, same_digest};
-
-// What the log's laws say of its definitions, as one premise.
-pub(crate) fn log_laws()
-    ensures { LogLaws }
-{
-    front_is_greatest();
-    range_has_number();
-    number_is_node();
-    root_over_one();
-    root_over_parts();
-    balanced_full();
-    balanced_parts();
-    cut_target();
-    cut_parts();
-    cut_old();
-    cut_size();
-    cut_own_range();
-    old_full();
-    old_parts();
-    consistency_met();
-}
 
 /// A value's claim that is met and isn't true gives a collision.
 pub fn value_or_collision()
     ensures { (H : List ℕ → List ℕ) (F : ℕ → Option (List ℕ)) (value : List ℕ) (node n : ℕ) (entries : List (List ℕ)) → GivesHashes H → HoldsHashes F
         → IsMet H F (H (0 ∷ value)) node n entries → (IsEntry value node entries → ⊥) → SomeCollision H (IsValuePlaced H F value node entries) }
-{
-    log_laws();
-}
+{}
 
 /// A hash's claim that is met and isn't true gives a collision.
 pub fn hash_or_collision()
     ensures { (H : List ℕ → List ℕ) (F : ℕ → Option (List ℕ)) (hash : List ℕ) (node n : ℕ) (entries : List (List ℕ)) → GivesHashes H → HoldsHashes F → length hash ≡ 32
         → IsMet H F hash node n entries → (IsRootBelow H hash node entries → ⊥) → SomeCollision H (IsHashPlaced H F hash node entries) }
-{
-    log_laws();
-}
+{}
 
 /// Two different values that lead to one root over two data give a collision.
 pub fn agreement_or_collision()
     ensures { (H : List ℕ → List ℕ) (F : ℕ → Option (List ℕ)) (value : List ℕ) (G : ℕ → Option (List ℕ)) (other : List ℕ) (node n : ℕ) → GivesHashes H → HoldsHashes F → HoldsHashes G
         → IsAgreement H F (H (0 ∷ value)) G (H (0 ∷ other)) node n → (value ≡ other → ⊥) → SomeCollision H (IsAgreementPlaced H F value G other node n) }
-{
-    log_laws();
-}
+{}
 
 /// A claim of consistency that is met and isn't true gives a collision.
 pub fn consistency_or_collision()
     ensures { (H : List ℕ → List ℕ) (F : ℕ → Option (List ℕ)) (m n : ℕ) (old new : List (List ℕ)) → GivesHashes H → HoldsHashes F
         → IsConsistencyMet H F m n old new → (Begins old new → ⊥) → SomeCollision H (IsConsistencyPlaced H F old new) }
-{
-    log_laws();
-}
+{}
 
 /// Two different values that two proofs of one key lead to one root give a collision.
 pub fn key_agreement_or_collision()
@@ -90,21 +54,13 @@ pub fn key_agreement_or_collision()
 pub fn key_or_collision()
     ensures { (H : List ℕ → List ℕ) (peers : List (Option (List ℕ))) (key value : List ℕ) (insertions : List (List ℕ × List ℕ)) → GivesDigests H → HoldsPeers peers
         → IsKeyMet H peers key value insertions → (IsLastValue key value insertions → ⊥) → SomeCollision H (IsKeyPlaced H peers value key insertions) }
-{
-    last_held();
-    all_bits();
-    same_digest();
-}
+{}
 
 /// An absence's claim that is met and isn't true gives a collision.
 pub fn absence_or_collision()
     ensures { (H : List ℕ → List ℕ) (peers : List (Option (List ℕ))) (key : List ℕ) (insertions : List (List ℕ × List ℕ)) → GivesDigests H → HoldsPeers peers
         → IsAbsenceMet H peers key insertions → (IsLastValue key [] insertions → ⊥) → SomeCollision H (IsKeyPlaced H peers [] key insertions) }
-{
-    last_held();
-    all_bits();
-    same_digest();
-}
+{}
 
 /// Where two maps of insertions have equal roots, each value of the one that its map holds, under the key that was
 /// inserted last of its digest, meets the claim over the other's insertions, by its own proof. So
@@ -113,11 +69,7 @@ pub fn equal_roots()
     ensures { (H : List ℕ → List ℕ) (insertions others : List (List ℕ × List ℕ)) (key value : List ℕ) (peers : List (Option (List ℕ)))
         → sparse_root H 256 (map_of H insertions) ≡ sparse_root H 256 (map_of H others) → last_under H (key_bits H key) insertions ≡ Some (key, value) → length peers ≤ 256
         → Proves H 256 (map_of H insertions) (key_bits H key) peers → IsKeyMet H peers key value others }
-{
-    last_held();
-    all_bits();
-    root_at_prefix();
-}
+{}
 
 /// Findings are equal exactly where they are of one kind, and, as collisions, have the same byte strings.
 pub fn equal_findings<D: SupportedDigest, A: Allocator>(

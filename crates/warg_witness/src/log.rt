@@ -18,7 +18,6 @@ use crate::collide::{collide_branch, collide_values};
 use crate::collision::{Collision, Finding, leaf_bytes};
 use crate::compare::have_same_bytes;
 use crate::descent::{Divergence, descend};
-use crate::laws::log_laws;
 use crate::plain::{plain_bytes, plain_digest, plain_tree};
 pub use consistency::witness_consistency;
 use std::alloc::{AllocError, Allocator};
@@ -52,7 +51,6 @@ fn meet_entries<D: SupportedDigest, V: VisitBytes, L: LogData<D, V>, A: Allocato
         (λ m. IsMeeting D.digest (L.digest_at hashes.now) hash.now proof.now.leaf.0 proof.now.log_length (map (λ e. V.bytes e) entries.now)
         m.tree m.target.start m.target.count m.plain m.divergence)) }
 {
-    log_laws();
     if entries.len() != proof.log_length() {
         return Ok(None);
     }
@@ -147,7 +145,6 @@ pub fn witness_value<D: SupportedDigest, V: VisitBytes, L: LogData<D, V>, A: All
     ensures collision { IfOk result (λ f. (c : _) → f ≡ Finding.Collision c
         → IsValuePlaced D.digest (L.digest_at hashes.now) (V.bytes value.now) proof.now.leaf.0 (map (λ e. V.bytes e) entries.now) c.0 c.1) }
 {
-    log_laws();
     let hash = hash_leaf::<D, V>(value);
     let Some(met) = meet_entries(alloc, proof, hashes, &hash, entries)? else {
         return Ok(Finding::NotMet);
@@ -186,7 +183,6 @@ pub fn witness_hash<D: SupportedDigest, V: VisitBytes, L: LogData<D, V>, A: Allo
     ensures collision { IfOk result (λ f. (c : _) → f ≡ Finding.Collision c
         → IsHashPlaced D.digest (L.digest_at hashes.now) hash proof.now.leaf.0 (map (λ e. V.bytes e) entries.now) c.0 c.1) }
 {
-    log_laws();
     let Some(met) = meet_entries(alloc, proof, hashes, &hash, entries)? else {
         return Ok(Finding::NotMet);
     };

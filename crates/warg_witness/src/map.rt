@@ -27,7 +27,6 @@ use tree::plain_path;
 use warg_crypto::{Hash, SupportedDigest, VisitBytes, bytes_of};
 use warg_log::hash_leaf;
 use warg_map::Proof;
-use warg_map::laws::{all_bits, last_held, same_digest};
 
 // A proof that leads to the plain root of given insertions.
 #[derive(Drop)]
@@ -72,8 +71,6 @@ fn meet_insertions<
         (IsKeyMet D.digest peers.now (K.bytes key.now) (W.bytes value.now) (pair_bytes K.bytes V.bytes insertions.now) → ⊥)
         (λ m. IsKeyMeeting D.digest peers.now (K.bytes key.now) (W.bytes value.now) (pair_bytes K.bytes V.bytes insertions.now) m.divergence m.last)) }
 {
-    last_held();
-    all_bits();
     let digest = Hash::of(key);
     let empty = empty_trees(alloc)?;
     let plain = plain_path(alloc, insertions, &empty, &digest)?;
@@ -122,9 +119,6 @@ fn collide<D: SupportedDigest, K: VisitBytes, V: VisitBytes, W: VisitBytes, A: A
     ensures { IfOk result (λ c. (peers : List (Option (List ℕ))) → IsKeyMeeting D.digest peers (K.bytes key.now) (W.bytes value.now) (pair_bytes K.bytes V.bytes insertions.now) met.now.divergence met.now.last
         → IsKeyPlaced D.digest peers (W.bytes value.now) (K.bytes key.now) (pair_bytes K.bytes V.bytes insertions.now) c.0 c.1) }
 {
-    last_held();
-    all_bits();
-    same_digest();
     if !met.divergence.is_target() {
         return collide_branch(alloc, &met.divergence);
     }

@@ -6,7 +6,6 @@ ghost use Rattle.warg_witness.specs.Private.Ranges.{IsAligned};
 ghost use Rattle.warg_witness.specs.Inputs.{plain_input};
 
 use crate::collision::{branch_bytes, leaf_bytes};
-use crate::laws::log_laws;
 use std::alloc::{AllocError, Allocator};
 use warg_crypto::{Hash, SupportedDigest, VisitBytes};
 use warg_log::{LeafRange, VecLog, push_all, stored_root};
@@ -34,7 +33,6 @@ pub(crate) fn plain_digest<D: SupportedDigest, V: VisitBytes, A: Allocator>(
     requires within { range.now.start + range.now.count ≤ length tree.now }
     ensures { result ≡ root_over D.digest tree.now range.now.start range.now.count }
 {
-    log_laws();
     match stored_root::<D, V, VecLog<D, V, A>>(tree, range) {
         Some(digest) => digest,
         None => unreachable!(),
@@ -53,7 +51,6 @@ pub(crate) fn plain_bytes<D: SupportedDigest, V: VisitBytes, A: Allocator + Copy
     requires within { range.now.start + range.now.count ≤ length entries.now }
     ensures { IfOk result (λ bytes. bytes.items ≡ plain_input D.digest (map (λ e. V.bytes e) entries.now) range.now.start range.now.count) }
 {
-    log_laws();
     if range.count == 1 {
         return leaf_bytes(alloc, &entries[range.start]);
     }

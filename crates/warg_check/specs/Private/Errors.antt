@@ -11,7 +11,14 @@ IsRefusal full Write = ⊥
 IsRefusal full Memory = Unit {0}
 IsRefusal full Full = full
 
--- The same of a line.
+-- The same of an order that was read: out of memory only where there was room.
+abbrev pub IsOrderRefusal : Type 0 → RunError → Type 0
+IsOrderRefusal full Read = ⊥
+IsOrderRefusal full Write = ⊥
+IsOrderRefusal full Memory = full → ⊥
+IsOrderRefusal full Full = full
+
+-- A line's order finds no room.
 abbrev pub LineFindsFull : State → Line → Type 0
 LineFindsFull s empty = ⊥
 LineFindsFull s bad = ⊥

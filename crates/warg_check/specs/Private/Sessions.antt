@@ -3,7 +3,7 @@ use Rattle.std.specs.Prelude.{◌≡◌, ℕ, List, [], ◌∷◌, ◌++◌, str
 use Rattle.warg_check.specs.Orders.{Order, Line}
 use Rattle.warg_check.specs.States.{State, log_at, map_at, after, after_line, FindsFull}
 use Rattle.warg_check.specs.Text.{answer, said}
-use Rattle.warg_check.specs.Private.Errors.{IsRefusal, LineFindsFull}
+use Rattle.warg_check.specs.Private.Errors.{IsRefusal, IsOrderRefusal, LineFindsFull}
 use Rattle.warg_check.specs.declared.program.RunError.{RunError}
 use Rattle.warg_check.specs.declared.program.session.Session.{Session}
 
@@ -28,7 +28,7 @@ Takes old new number line = (s : State) → IsInState old s → GoesOn old new (
 
 -- The order was refused, at whatever state the session stood.
 abbrev pub Refuses : {A : Type 0} → Session A → Order → RunError → Type 0
-Refuses old order error = (s : State) → IsInState old s → IsRefusal (FindsFull s order) error
+Refuses old order error = (s : State) → IsInState old s → IsOrderRefusal (FindsFull s order) error
 
 -- The line was refused, at whatever state the session stood.
 abbrev pub RefusesLine : {A : Type 0} → Session A → Line → RunError → Type 0

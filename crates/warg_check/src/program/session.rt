@@ -16,7 +16,6 @@ use crate::verdict::{CheckError, check_inclusion};
 use std::alloc::{AllocError, Allocator};
 use std::fmt::Write;
 use warg_crypto::{Hash, Sha256};
-use warg_log::laws::{existing_number, needed_exist};
 use warg_log::{
     BundleError, ConsistencyProofError, EncodeError, InclusionProofError, LogBuilder, LogData,
     Node, ProofBundle, VecLog,
@@ -170,8 +169,6 @@ impl<A: Allocator + Copy> Session<A> {
         ensures ok { OnOk result (AnswersOrder self.old self.new (bundle node.0 log_length.now.value)) }
         ensures errors { IfErr result (Refuses self.old (bundle node.0 log_length.now.value)) }
     {
-        needed_exist();
-        existing_number();
         let proofs = Vec::from_slice(
             self.alloc,
             &[self.log.prove_inclusion(node, log_length.value)],

@@ -5,7 +5,7 @@ ghost use Rattle.std.specs.Option.{option_map};
 ghost use Rattle.warg_check.specs.Private.Parts.{IsFirstPart};
 ghost use Rattle.warg_check.specs.Words.{lines_of, number_in, length_in, hex_bytes_in, root_in};
 
-use crate::program::digits::decode;
+use hex::FromHexError;
 use memchr::memchr;
 use std::alloc::{AllocError, Allocator};
 use warg_crypto::{Hash, Sha256};
@@ -93,13 +93,12 @@ pub(super) fn bytes<A: Allocator>(alloc: A, word: &[u8]) -> Result<Option<Vec<u8
     if word == b"-".as_slice() {
         return Ok(Some(Vec::new(alloc)));
     }
-    if word.is_empty() || word.len() % 2 == 1 {
+    if word.is_empty() {
         return Ok(None);
     }
-    let mut bytes = vec![in alloc; 0u8; word.len() / 2]?;
-    if decode(word, bytes.as_mut_slice()) {
-        Ok(Some(bytes))
-    } else {
-        Ok(None)
+    match hex::decode(alloc, word) {
+        Ok(bytes) => Ok(Some(bytes)),
+        Err(FromHexError::OutOfMemory) => Err(AllocError),
+        Err(_) => Ok(None),
     }
 }

@@ -18,7 +18,6 @@ use crate::collide::collide_branch;
 use crate::collision::{Collision, Finding, leaf_bytes};
 use crate::compare::have_same_bytes;
 use crate::descent::{Divergence, descend};
-use crate::laws::log_laws;
 use crate::plain::{plain_digest, plain_tree};
 use std::alloc::{AllocError, Allocator};
 use warg_crypto::{Hash, SupportedDigest, VisitBytes};
@@ -56,7 +55,6 @@ fn meet_trees<D: SupportedDigest, V: VisitBytes, L: LogData<D, V>, A: Allocator 
         (IsConsistencyMet D.digest (L.digest_at hashes.now) proof.now.old_length proof.now.new_length (map (λ e. V.bytes e) old.now) (map (λ e. V.bytes e) new.now) → ⊥)
         (λ trees. IsConsistencyMeeting D.digest (L.digest_at hashes.now) proof.now.old_length proof.now.new_length (map (λ e. V.bytes e) old.now) (map (λ e. V.bytes e) new.now) trees.old trees.new)) }
 {
-    log_laws();
     if !have_lengths(proof, old, new) {
         return Ok(None);
     }
@@ -92,7 +90,6 @@ fn is_same_entry<D: SupportedDigest, V: VisitBytes, A: Allocator>(
     requires new_leaf { slice_index_or trees.now.new place [] ≡ D.digest (0 ∷ V.bytes new.now) }
     ensures { IfOk result (λ same. IsTrue same ↔ (V.bytes old.now ≡ V.bytes new.now)) }
 {
-    log_laws();
     let leaf = LeafRange::new(place, 1);
     if plain_digest(&trees.old, &leaf) != plain_digest(&trees.new, &leaf) {
         return Ok(false);
@@ -128,7 +125,6 @@ fn root_around(place: usize, range: &LeafRange) -> LeafRange
     ensures node { IsAligned range.now.start range.now.count → IsNodeRange result.start result.count }
     ensures around { IsAround place 1 result.start result.count }
 {
-    log_laws();
     if range.is_full() {
         return *range;
     }
@@ -151,7 +147,6 @@ fn held_root<D: SupportedDigest, V: VisitBytes, L: LogData<D, V>, A: Allocator>(
     ensures around { IsAround place 1 result.0.start result.0.count }
     ensures leads { LeadsToBoth D.digest (L.digest_at hashes.now) trees.now.old trees.now.new result.0.start result.0.count result.1 }
 {
-    log_laws();
     let root = root_around(place, &LeafRange::new(0, trees.old.length()));
     match hashes.hash_for(Node::over(&root)) {
         Some(hash) => (root, hash),
@@ -173,7 +168,6 @@ fn divergence_from<D: SupportedDigest, V: VisitBytes, L: LogData<D, V>, A: Alloc
     ensures { IsDivergence D.digest (L.digest_at hashes.now) hash.now (own_digest D.digest tree.now) (root_over D.digest tree.now node.now.start node.now.count)
         node.now.start node.now.count 0 (length tree.now) result }
 {
-    log_laws();
     let plain = plain_digest(tree, node);
     let whole = LeafRange::new(0, tree.length());
     descend(hashes, hash, tree, &plain, node, &whole)
@@ -193,7 +187,6 @@ fn divergence_below<D: SupportedDigest, V: VisitBytes, A: Allocator>(
     ensures { IsDivergence D.digest (own_digest D.digest trees.now.old) (root_over D.digest trees.now.old place 1) (own_digest D.digest trees.now.new) (root_over D.digest trees.now.new place 1)
         place 1 node.now.start node.now.count result }
 {
-    log_laws();
     let leaf = LeafRange::new(place, 1);
     let old = plain_digest(&trees.old, &leaf);
     let new = plain_digest(&trees.new, &leaf);
@@ -216,7 +209,6 @@ fn collide_at<D: SupportedDigest, V: VisitBytes, L: LogData<D, V>, A: Allocator 
     requires differ { DiffersFirst (map (λ e. V.bytes e) old.now) (map (λ e. V.bytes e) new.now) place }
     ensures { IfOk result (λ c. IsConsistencyPlaced D.digest (L.digest_at hashes.now) (map (λ e. V.bytes e) old.now) (map (λ e. V.bytes e) new.now) c.0 c.1) }
 {
-    log_laws();
     let (root, hash) = held_root(hashes, trees, place);
     let from_old = divergence_from(hashes, &hash, &root, &trees.old);
     if !from_old.is_target() {

@@ -7,7 +7,6 @@ ghost use Rattle.warg_witness.specs.Private.MapPaths.{AreKeysUnder, IsPlaceOfLas
 use crate::map::path::bit;
 use std::alloc::{AllocError, Allocator};
 use warg_crypto::{Hash, SupportedDigest, VisitBytes};
-use warg_map::laws::{all_bits, order_of_bits};
 
 /// The digest of each inserted key with its place among the insertions, ascending by the digest and then by the
 /// place. It hashes each key once.
@@ -35,8 +34,6 @@ pub(crate) fn halves<D: SupportedDigest>(
     ensures { (insertions : List (List ℕ × List ℕ)) (prefix : List Bool) → length prefix ≡ depth → AreKeysUnder D.digest insertions prefix keys.now
         → AreKeysUnder D.digest insertions (prefix ++ false ∷ []) result.0.now × AreKeysUnder D.digest insertions (prefix ++ true ∷ []) result.1.now }
 {
-    order_of_bits();
-    all_bits();
     let zeros = keys.partition_point(|key| !bit(&key.0, depth));
     keys.split_at(zeros)
 }

@@ -11,7 +11,6 @@ use crate::map::path::bit;
 use std::alloc::{AllocError, Allocator};
 use warg_crypto::{Hash, SupportedDigest, VisitBytes};
 use warg_log::{hash_branch, hash_leaf};
-use warg_map::laws::{all_bits, last_held, order_of_bits};
 
 /// The plain tree beside a key's path and at its foot.
 #[derive(Drop)]
@@ -35,9 +34,6 @@ fn plain_root<D: SupportedDigest, K: VisitBytes, V: VisitBytes>(
     ensures { (prefix : List Bool) → length prefix ≡ depth → AreKeysUnder D.digest (pair_bytes K.bytes V.bytes insertions.now) prefix keys.now
         → result ≡ root_of_levels D.digest (256 - depth) (λ bits. get (map_of D.digest (pair_bytes K.bytes V.bytes insertions.now)) (prefix ++ bits)) }
 {
-    last_held();
-    all_bits();
-    order_of_bits();
     let Some(place) = last_place(keys) else {
         return empty[256 - depth].copied();
     };
@@ -67,9 +63,6 @@ fn push_peers<D: SupportedDigest, K: VisitBytes, V: VisitBytes, A: Allocator>(
         → (peers.new.items ≡ peers.old.items ++ plain_peers D.digest (λ bits. get (map_of D.digest (pair_bytes K.bytes V.bytes insertions.now)) (prefix ++ bits)) (last_bits key.now (256 - depth)))
         × IsLastPlace D.digest (pair_bytes K.bytes V.bytes insertions.now) (prefix ++ last_bits key.now (256 - depth)) last) }
 {
-    last_held();
-    all_bits();
-    order_of_bits();
     if depth == 256 {
         return Ok(last_place(keys));
     }

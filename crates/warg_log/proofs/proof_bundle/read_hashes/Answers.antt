@@ -1,19 +1,44 @@
-use Rattle.std.proofs.Common.{◌≤◌, add-one, refl, ap, sym, ◌∙◌, length, arith}
-use Rattle.std.proofs.lemmas.Bool.{eq-eqb, le-leb}
-use Rattle.std.proofs.lemmas.List.{map_push, take_more, drop_more}
-use Rattle.warg_log.proofs.BundleLemmas.{pairs_push}
+use Rattle.std.proofs.Common.{◌∙◌, ap, inr}
+use Rattle.std.proofs.lemmas.Result.{err_from_is_err_and}
+use Rattle.warg_protobuf.specs.HashEntry.{entry_view}
+use Rattle.warg_log.specs.Bundles.{pair_of}
+use Rattle.warg_log.proofs.AllLemmas.{mapped_twice_more, mapped_twice_whole}
+use Rattle.warg_log.proofs.BundleLemmas.{pairs_push, entry_passed, entry_short, entry_low, no_entry_left, short_not_wire, low_not_wire, done_not_wire}
 use Rattle.warg_log.proofs.proof_bundle.read_hashes.Goals as goal
 
 pub entries-preserved : goal.entries-preserved
 entries-preserved g c =
-    let length_is = eq-eqb _ _ (ap length (sym c.as_slice.ensures.value) ∙ c.in_ok-hash.ensures.length) in
-    let above : c.entries.least ≤ c.entry-item.result.index = omega arith in
-    let pushed = pairs_push c.entries.least c.entries.hashes.items c.push.new.self.items _ c.in_ok-push.ensures.items above c.entries.invariant.ascending c.entries.invariant.below in
-    let taken = take_more c.args.entries.now c.entries.entry-index c.entry-item.result c.entries-test.true in
-    let left = drop_more c.args.entries.now c.entries.entry-index c.entry-item.result c.entries-test.true in
+    let pushed = pairs_push c.entries.least c.entries.hashes.items c.push.new.self.items _ c.in_ok-push.ensures.items c.if-index-least.false c.entries.invariant.ascending c.entries.invariant.below in
     record {
-      read = rw (c.in_ok-push.ensures.items, c.entries.invariant.read, taken, ← c.entry-item.is, map_push, map_push, c.in_ok-hash.ensures.ok, c.as_slice.ensures.value) refl;
-      fault = rw (add-one, c.entries.invariant.fault, left, ← c.entry-item.is, length_is, le-leb _ _ above) refl;
+      read = mapped_twice_more entry_view pair_of c.args.entries.now c.entries.entry-index c.entry-item.result c.entries.hashes.items c.push.new.self.items _ c.entries-test.true c.entry-item.is c.entries.invariant.read c.in_ok-push.ensures.items
+          (ap (λ h. (record { 0 = c.entry-item.result.index }, h)) (c.in_ok-hash.ensures.ok ∙ c.as_slice.ensures.value));
+      fault = entry_passed entry_view c.args.entries.now c.entries.entry-index c.entry-item.result c.entries.least _ c.as_slice.result.now c.entries-test.true c.entry-item.is c.as_slice.ensures.value c.in_ok-hash.ensures.length c.if-index-least.false c.entries.invariant.fault;
       ascending = pushed.0;
       below = pushed.1;
     }
+
+pub returns-clause-ok : goal.returns-clause-ok
+returns-clause-ok g c = mapped_twice_whole entry_view pair_of c.args.entries.now c.entries.entry-index c.entries.hashes.items c.entries.invariant.read c.entries-test.false
+
+pub returns-clause-good : goal.returns-clause-good
+returns-clause-good g c = no_entry_left entry_view c.args.entries.now c.entries.entry-index c.entries.least _ c.entries.invariant.fault c.entries-test.false
+
+pub returns-clause-wire : goal.returns-clause-wire
+returns-clause-wire g c e bad = done_not_wire c.entries.hashes e bad
+
+pub returns-in_err-hash-clause-fault : goal.returns-in_err-hash-clause-fault
+returns-in_err-hash-clause-fault g c =
+    let p = err_from_is_err_and c.from_residual.result c.from_residual.ensures.1 in
+    rw (p.1, p.2) (inr (entry_short entry_view c.args.entries.now c.entries.entry-index c.entry-item.result c.entries.least _ c.as_slice.result.now c.in_err-hash.field-0.0 c.entries-test.true c.entry-item.is c.as_slice.ensures.value c.entries.invariant.fault c.in_err-hash.ensures.fault))
+
+pub returns-in_err-hash-clause-wire : goal.returns-in_err-hash-clause-wire
+returns-in_err-hash-clause-wire g c e bad =
+    let p = err_from_is_err_and c.from_residual.result c.from_residual.ensures.1 in
+    short_not_wire c.from_residual.result p.0 c.in_err-hash.field-0.0 e p.1 p.2 c.in_err-hash.ensures.fault.0 bad
+
+pub returns-then-index-least-clause-fault : goal.returns-then-index-least-clause-fault
+returns-then-index-least-clause-fault g c =
+    inr (entry_low entry_view c.args.entries.now c.entries.entry-index c.entry-item.result c.entries.least _ c.as_slice.result.now c.entries-test.true c.entry-item.is c.as_slice.ensures.value c.in_ok-hash.ensures.length c.if-index-least.true c.entries.invariant.fault)
+
+pub returns-then-index-least-clause-wire : goal.returns-then-index-least-clause-wire
+returns-then-index-least-clause-wire g c e bad = low_not_wire e bad

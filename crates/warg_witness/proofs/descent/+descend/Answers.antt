@@ -8,12 +8,12 @@ use Rattle.warg_witness.proofs.DescentLemmas.{inputs_differ, meets_here, diverge
 use Rattle.warg_witness.proofs.descent.+descend.Goals as goal
 
 pub returns-then-equals : goal.returns-then-equals
-returns-then-equals g t c = meets_here c.log_laws.ensures _ (c.if-equals.ensures.0 refl).0 (c.if-equals.ensures.0 refl).1 whole c.requires.one
+returns-then-equals g t c = meets_here _ (c.if-equals.ensures.0 refl).0 (c.if-equals.ensures.0 refl).1 whole c.requires.one
 
 pub returns-then-ne : goal.returns-then-ne
 returns-then-ne g t c =
     let sizes = c.len.ensures.bytes ∙ c.len.ensures.value ∙ sym (c.len-2.ensures.bytes ∙ c.len-2.ensures.value) in
-    diverges_at c.log_laws.ensures _ c.args.target.now.some c.requires.around (grind arith) whole c.requires.one
+    diverges_at _ c.args.target.now.some c.requires.around (grind arith) whole c.requires.one
     (record { left = c.part_digests-first_left.ensures.left; right = c.part_digests-first_left.ensures.right })
     (record { left = c.part_digests-second_left.ensures.left; right = c.part_digests-second_left.ensures.right })
     (inputs_differ _ _ _ _ sizes (grind (arith, bytes_decides)))

@@ -4,8 +4,8 @@ use Rattle.warg_witness.proofs.descent.part_around.Goals as goal
 
 pub returns-then-target-rest-clause-around : goal.returns-then-target-rest-clause-around
 returns-then-target-rest-clause-around c =
-    let ends = front_around c.log_laws.ensures c.requires.node c.requires.aligned c.requires.around c.requires.other (grind arith) in omega arith
+    let ends = front_around c.requires.node c.requires.aligned c.requires.around c.requires.other (grind arith) in omega arith
 
 pub returns-else-target-rest-clause-aligned : goal.returns-else-target-rest-clause-aligned
 returns-else-target-rest-clause-aligned c =
-    side_aligned c.log_laws.ensures _ _ c.requires.aligned (grind arith) (inr c.split.ensures.rest)
+    side_aligned _ _ c.requires.aligned (grind arith) (inr c.split.ensures.rest)

@@ -8,8 +8,8 @@ there None some = absurd (cc)
 
 pub unreachable-requires : goal.unreachable-requires
 unreachable-requires g c =
-    let sides = sides_of c.log_laws.ensures _ c.args.target.now.some c.requires.around c.requires.other _ _ _ (there _ c.requires.some).1 in cc
+    let sides = sides_of _ c.args.target.now.some c.requires.around c.requires.other _ _ _ (there _ c.requires.some).1 in cc
 
 pub unreachable-requires-in_default-range_root : goal.unreachable-requires-in_default-range_root
 unreachable-requires-in_default-range_root g c =
-    let sides = sides_of c.log_laws.ensures _ c.args.target.now.some c.requires.around c.requires.other _ _ _ (there _ c.requires.some).1 in cc
+    let sides = sides_of _ c.args.target.now.some c.requires.around c.requires.other _ _ _ (there _ c.requires.some).1 in cc

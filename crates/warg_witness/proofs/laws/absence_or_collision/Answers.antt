@@ -2,4 +2,4 @@ use Rattle.warg_witness.proofs.KeyLawLemmas.{absence_collides}
 use Rattle.warg_witness.proofs.laws.absence_or_collision.Goals as goal
 
 pub returns : goal.returns
-returns c = absence_collides c.last_held.ensures c.all_bits.ensures c.same_digest.ensures
+returns c = absence_collides

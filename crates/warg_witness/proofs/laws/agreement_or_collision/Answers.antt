@@ -2,4 +2,4 @@ use Rattle.warg_witness.proofs.CollisionLemmas.{agreement_collides}
 use Rattle.warg_witness.proofs.laws.agreement_or_collision.Goals as goal
 
 pub returns : goal.returns
-returns c = agreement_collides c.log_laws.ensures
+returns c = agreement_collides

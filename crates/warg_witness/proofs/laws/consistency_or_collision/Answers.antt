@@ -2,4 +2,4 @@ use Rattle.warg_witness.proofs.CollisionLemmas.{consistency_collides}
 use Rattle.warg_witness.proofs.laws.consistency_or_collision.Goals as goal
 
 pub returns : goal.returns
-returns c = consistency_collides c.log_laws.ensures
+returns c = consistency_collides

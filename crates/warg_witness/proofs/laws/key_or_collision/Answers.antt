@@ -2,4 +2,4 @@ use Rattle.warg_witness.proofs.KeyLawLemmas.{key_collides}
 use Rattle.warg_witness.proofs.laws.key_or_collision.Goals as goal
 
 pub returns : goal.returns
-returns c = key_collides c.last_held.ensures c.all_bits.ensures c.same_digest.ensures
+returns c = key_collides

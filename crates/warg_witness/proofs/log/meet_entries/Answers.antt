@@ -15,7 +15,7 @@ descend-divergence-requires-clause-one g c =
     let all = ap length c.in_ok-tree.ensures.tree ∙ length-leaves g.D.SupportedDigest.digest _ ∙ count in
     let evaluation = rw c.copied.ensures at c.in-Ok.ensures.ok.1 ∙ ap Some (ne_false _ _ c.if-ne.ensures ∙ c.in_ok-tree.ensures.root) in
     rw (c.plain_digest-plain.ensures, c.new-whole.ensures.start, c.new-whole.ensures.count ∙ c.log_length-2.ensures.value ∙ sym all)
-    (have_root c.log_laws.ensures _ _ _ _ (rw (c.leaf_range-target.ensures.start, c.leaf_range-target.ensures.count, c.leaf.ensures, all) evaluation) (rw all (omega arith)))
+    (have_root _ _ _ _ (rw (c.leaf_range-target.ensures.start, c.leaf_range-target.ensures.count, c.leaf.ensures, all) evaluation) (rw all (omega arith)))
 
 pub returns-clause-met : goal.returns-clause-met
 returns-clause-met g c =

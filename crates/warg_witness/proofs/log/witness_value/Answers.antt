@@ -10,10 +10,10 @@ returns-then-branch-clause-holds g c =
 pub collide-requires-clause-collides : goal.collide-requires-clause-collides
 collide-requires-clause-collides g c =
     let meeting = rw (c.in-Some.is, c.hash_leaf-hash.ensures) at c.in_ok-met.ensures.met in
-    (value_shown c.log_laws.ensures meeting (grind arith)).0
+    (value_shown meeting (grind arith)).0
 
 pub returns-clause-collision : goal.returns-clause-collision
 returns-clause-collision g c k is =
     let meeting = rw (c.in-Some.is, c.hash_leaf-hash.ensures) at c.in_ok-met.ensures.met in
     let same : ◌≡◌ {A = List ℕ × List ℕ} k c.in_ok-collide.field-0 = cc in
-    rw (same ∙ c.in_ok-collide.ensures) (value_shown c.log_laws.ensures meeting (grind arith)).1
+    rw (same ∙ c.in_ok-collide.ensures) (value_shown meeting (grind arith)).1

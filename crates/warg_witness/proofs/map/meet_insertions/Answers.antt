@@ -11,7 +11,7 @@ returns-in_default g c =
     let key = g.K.VisitBytes.bytes c.args.key.now in
     apart_not_met H _ key _ _ _ _ _ _
     (record { digest_is = c.of-digest.ensures; tree_is = c.deref-2.ensures.value ∙ c.in_ok-plain.ensures.peers; plain_is = c.plain_leaf.ensures _ c.in_ok-plain.ensures.last })
-    c.hash_leaf.ensures (c.all_bits.ensures H key) (c.last_held.ensures H _ _) c.in_default.ensures
+    c.hash_leaf.ensures c.in_default.ensures
 
 pub returns : goal.returns
 returns g c =
@@ -19,4 +19,4 @@ returns g c =
     let key = g.K.VisitBytes.bytes c.args.key.now in
     meeting_from H _ key _ _ _ _ _ _ _ _
     (record { digest_is = c.of-digest.ensures; tree_is = c.deref-2.ensures.value ∙ c.in_ok-plain.ensures.peers; plain_is = c.plain_leaf.ensures _ c.in_ok-plain.ensures.last })
-    c.hash_leaf.ensures (c.all_bits.ensures H key) (c.last_held.ensures H _ _) c.in-Some.ensures c.in_ok-plain.ensures.last
+    c.hash_leaf.ensures c.in-Some.ensures c.in_ok-plain.ensures.last

@@ -4,4 +4,4 @@ use Rattle.warg_witness.proofs.plain.plain_bytes.Goals as goal
 
 pub plain_digest-requires-2-clause-aligned : goal.plain_digest-requires-2-clause-aligned
 plain_digest-requires-2-clause-aligned g c =
-    side_aligned c.log_laws.ensures _ _ c.requires.aligned (grind arith) (inr c.split.ensures.rest)
+    side_aligned _ _ c.requires.aligned (grind arith) (inr c.split.ensures.rest)

@@ -1,4 +1,4 @@
-use Rattle.std.proofs.Common.{◌≡◌, ◌+◌, ◌-◌, ap, sym, ◌∙◌, refl, arith, rules}
+use Rattle.std.proofs.Common.{◌≡◌, ◌+◌, ◌-◌, ap, sym, ◌∙◌, refl, arith}
 use Rattle.warg_map.specs.Private.Side.{side_bit}
 use Rattle.warg_map.specs.Bits.{last_bits, bits_from, bit_at}
 use Rattle.warg_map.specs.Private.Seen.{tree_height}
@@ -69,7 +69,7 @@ returns-in_ok-node-in-Empty g t c =
 pub returns-in_ok-new-in-Fork : goal.returns-in_ok-new-in-Fork
 returns-in_ok-new-in-Fork g t c =
     inserts_into_fork _ _ _ _ (side_bit c.in-Some.side) _ c.node.result.now c.in_ok-node-in-Fork.node _ c.in_ok-new-in-Fork.field-0 c.new-in-Fork.result (is_fork c.in-Fork.is c.as_ref-fork.ensures) c.requires.well_formed
-    c.in-Some.ensures.steps.bits (search rules) c.in_ok-node-in-Fork.ensures c.new-in-Fork.ensures (rw c.in_ok-new-in-Fork.ensures.ok c.in_ok-fork-in-Fork.ensures)
+    c.in-Some.ensures.steps.bits (c.node.ensures.seen ∙ c.index.ensures) c.in_ok-node-in-Fork.ensures c.new-in-Fork.ensures (rw c.in_ok-new-in-Fork.ensures.ok c.in_ok-fork-in-Fork.ensures)
 
 pub returns-in_ok-with_stem-in-Stem : goal.returns-in_ok-with_stem-in-Stem
 returns-in_ok-with_stem-in-Stem g t c =

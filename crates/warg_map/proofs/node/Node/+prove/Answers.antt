@@ -1,4 +1,4 @@
-use Rattle.std.proofs.Common.{◌≡◌, ◌+◌, ◌-◌, ◌<◌, cond, length, true, false, is_some, ap, sym, ◌∙◌, refl, arith, rules}
+use Rattle.std.proofs.Common.{◌≡◌, ◌+◌, ◌-◌, ◌<◌, Bool, Option, Some, None, Result, Ok, Err, cond, length, true, false, is_some, ap, sym, ◌∙◌, refl, arith}
 use Rattle.warg_map.specs.Private.Side.{side_bit}
 use Rattle.warg_map.specs.Bits.{last_bits}
 use Rattle.warg_map.specs.Private.Seen.{tree_height}
@@ -8,9 +8,25 @@ use Rattle.warg_map.proofs.FoundInNode.{finds_leaf, finds_lone, finds_none_lone,
 use Rattle.warg_map.proofs.PresencePeers.{proves_in_fork, proves_single, proves_leaf, proves_stem, length_peers, length-empty_peers}
 use Rattle.warg_map.proofs.node.Node.+prove.Goals as goal
 
+-- a key is held or absent, and an answer is one
+abbrev ok : {X E : Type 0} → X → Result X E
+ok x = Ok x
+
+abbrev err : {X E : Type 0} → E → Result X E
+err e = Err e
+
+not_both : (b : Bool) → b ≡ true → b ≡ false → ⊥
+not_both b held absent = let e : true ≡ false = sym held ∙ absent in cc
+
+err_no_ok : {X E : Type 0} (e : E) (x : X) → err e ≡ ok x → ⊥
+err_no_ok e x is = cc
+
+some_no_none : {X E : Type 0} (x : X) → ok {X = Option X} {E = E} (Some x) ≡ ok None → ⊥
+some_no_none x is = cc
+
 pub returns-in_default-2-clause-answer : goal.returns-in_default-2-clause-answer
 returns-in_default-2-clause-answer g t c =
-    sym (held_in_fork _ c.node.result.now _ _ (side_bit c.in-Some.side) _ (is_fork c.in-Fork.is c.as_ref-fork.ensures) c.in-Some.ensures.steps.bits (search rules)) ∙ rw c.in_default-2.is at c.in_ok-proof-in-Fork.ensures.answer
+    sym (held_in_fork _ c.node.result.now _ _ (side_bit c.in-Some.side) _ (is_fork c.in-Fork.is c.as_ref-fork.ensures) c.in-Some.ensures.steps.bits (c.node.ensures.seen ∙ c.index-in-Fork.ensures)) ∙ rw c.in_default-2.is at c.in_ok-proof-in-Fork.ensures.answer
 
 pub returns-then-shared_with-height-clause-answer : goal.returns-then-shared_with-height-clause-answer
 returns-then-shared_with-height-clause-answer g t c =
@@ -41,7 +57,7 @@ pub returns-in_ok-push-in-Fork-clause-answer : goal.returns-in_ok-push-in-Fork-c
 returns-in_ok-push-in-Fork-clause-answer g t c =
     let n = length-last_bits c.next.new.self.hash.now (256 - c.next.new.self.index) in
     proves_in_fork g.D.SupportedDigest.digest c.args.self.now c.node.result.now _ _ (side_bit c.in-Some.side) _ c.in-Some-2.proof _ _ c.index-in-Fork-2.result.now
-    (is_fork c.in-Fork.is c.as_ref-fork.ensures) c.requires.well_formed c.in-Some.ensures.steps.bits (omega (arith, n, c.requires.height, c.in-Some.ensures.steps.index)) (search rules)
+    (is_fork c.in-Fork.is c.as_ref-fork.ensures) c.requires.well_formed c.in-Some.ensures.steps.bits (omega (arith, n, c.requires.height, c.in-Some.ensures.steps.index)) (c.node.ensures.seen ∙ c.index-in-Fork.ensures)
     (c.index-in-Fork-2.ensures ∙ ap (λ b. cond b c.as_ref-fork.result.now.right c.as_ref-fork.result.now.left) c.opposite.ensures)
     (c.copied.ensures ∙ c.hash.ensures) (rw c.in-Some-2.is at c.in_ok-proof-in-Fork.ensures.answer) c.in_ok-push-in-Fork.ensures
 
@@ -76,45 +92,45 @@ pub returns-in_err-with_room-in-Leaf-clause-none : goal.returns-in_err-with_room
 returns-in_err-with_room-in-Leaf-clause-none g t c = λ absent.
     let z : tree_height c.args.self.now ≡ 0 = ap tree_height c.in-Leaf.is in
     let found = ap is_some (finds_leaf c.args.self.now c.in-Leaf.field-0 _ _ c.in-Leaf.is (last_bits-end c.args.path.hash.now c.args.path.index (omega (arith, z, c.requires.height))) refl) in
-    let e : true ≡ false = found ∙ absent in cc
+    absurd (not_both true refl (found ∙ absent))
 
 pub returns-in_ok-with_room-in-Leaf-clause-none : goal.returns-in_ok-with_room-in-Leaf-clause-none
-returns-in_ok-with_room-in-Leaf-clause-none g t c = λ absent. let held = (returns-in_ok-with_room-in-Leaf-clause-answer g t c).held in cc
+returns-in_ok-with_room-in-Leaf-clause-none g t c = λ absent. absurd (not_both _ (returns-in_ok-with_room-in-Leaf-clause-answer g t c).held absent)
 
 pub returns-in_err-with_room-in-Singleton-clause-none : goal.returns-in_err-with_room-in-Singleton-clause-none
 returns-in_err-with_room-in-Singleton-clause-none g t c = λ absent.
     let all : c.shared_with.result ≡ c.as_ref-singleton.result.now.height = omega (arith, c.shared_with.ensures.at_most, c.if-shared_with-height.false, c.height.ensures.value) in
     let found = ap is_some (finds_lone c.args.self.now _ _ _ (is_lone c.in-Singleton.is c.as_ref-singleton.ensures)
     (lone_same c.args.self.now _ c.args.path.hash.now c.args.path.index c.shared_with.result (is_lone c.in-Singleton.is c.as_ref-singleton.ensures) c.requires.height all c.shared_with.ensures.same) refl) in
-    let e : true ≡ false = found ∙ absent in cc
+    absurd (not_both true refl (found ∙ absent))
 
 pub returns-in_ok-with_room-in-Singleton-clause-none : goal.returns-in_ok-with_room-in-Singleton-clause-none
-returns-in_ok-with_room-in-Singleton-clause-none g t c = λ absent. let held = (returns-in_ok-with_room-in-Singleton-clause-answer g t c).held in cc
+returns-in_ok-with_room-in-Singleton-clause-none g t c = λ absent. absurd (not_both _ (returns-in_ok-with_room-in-Singleton-clause-answer g t c).held absent)
 
 pub returns-in_err-proof-in-Fork-clause-none : goal.returns-in_err-proof-in-Fork-clause-none
 returns-in_err-proof-in-Fork-clause-none g t c = λ absent.
-    let found = held_in_fork _ c.node.result.now _ _ (side_bit c.in-Some.side) _ (is_fork c.in-Fork.is c.as_ref-fork.ensures) c.in-Some.ensures.steps.bits (search rules) in
-    let none = c.in_err-proof-in-Fork.ensures.none (found ∙ absent) in cc
+    let found = held_in_fork _ c.node.result.now _ _ (side_bit c.in-Some.side) _ (is_fork c.in-Fork.is c.as_ref-fork.ensures) c.in-Some.ensures.steps.bits (c.node.ensures.seen ∙ c.index-in-Fork.ensures) in
+    absurd (err_no_ok _ _ (c.in_err-proof-in-Fork.ensures.none (found ∙ absent)))
 
 pub returns-in_err-push-in-Fork-clause-none : goal.returns-in_err-push-in-Fork-clause-none
 returns-in_err-push-in-Fork-clause-none g t c = λ absent.
-    let found = held_in_fork _ c.node.result.now _ _ (side_bit c.in-Some.side) _ (is_fork c.in-Fork.is c.as_ref-fork.ensures) c.in-Some.ensures.steps.bits (search rules) in
-    let none = rw c.in-Some-2.is at c.in_ok-proof-in-Fork.ensures.none (found ∙ absent) in cc
+    let found = held_in_fork _ c.node.result.now _ _ (side_bit c.in-Some.side) _ (is_fork c.in-Fork.is c.as_ref-fork.ensures) c.in-Some.ensures.steps.bits (c.node.ensures.seen ∙ c.index-in-Fork.ensures) in
+    absurd (some_no_none _ (rw c.in-Some-2.is at c.in_ok-proof-in-Fork.ensures.none (found ∙ absent)))
 
 pub returns-in_ok-push-in-Fork-clause-none : goal.returns-in_ok-push-in-Fork-clause-none
-returns-in_ok-push-in-Fork-clause-none g t c = λ absent. let held = (returns-in_ok-push-in-Fork-clause-answer g t c).held in cc
+returns-in_ok-push-in-Fork-clause-none g t c = λ absent. absurd (not_both _ (returns-in_ok-push-in-Fork-clause-answer g t c).held absent)
 
 pub returns-in_err-proof-in-Stem-clause-none : goal.returns-in_err-proof-in-Stem-clause-none
 returns-in_err-proof-in-Stem-clause-none g t c = λ absent.
     let found = held_below c.args.self.now c.node-in-Stem.result.now _ c.args.path.hash.now _ c.args.path.index c.shared_with-in-Stem.result c.advance.new.self.index (is_stem c.in-Stem.is c.as_ref-stem.ensures) c.requires.well_formed c.requires.height
     c.shared_with-in-Stem.ensures.at_most c.if-shared_with-stem.false c.shared_with-in-Stem.ensures.same c.node-in-Stem.ensures.seen c.advance.ensures.digest c.advance.ensures.index in
-    let none = c.in_err-proof-in-Stem.ensures.none (found ∙ absent) in cc
+    absurd (err_no_ok _ _ (c.in_err-proof-in-Stem.ensures.none (found ∙ absent)))
 
 pub returns-in_err-push_empties-in-Stem-clause-none : goal.returns-in_err-push_empties-in-Stem-clause-none
 returns-in_err-push_empties-in-Stem-clause-none g t c = λ absent.
     let found = held_below c.args.self.now c.node-in-Stem.result.now _ c.args.path.hash.now _ c.args.path.index c.shared_with-in-Stem.result c.advance.new.self.index (is_stem c.in-Stem.is c.as_ref-stem.ensures) c.requires.well_formed c.requires.height
     c.shared_with-in-Stem.ensures.at_most c.if-shared_with-stem.false c.shared_with-in-Stem.ensures.same c.node-in-Stem.ensures.seen c.advance.ensures.digest c.advance.ensures.index in
-    let none = rw c.in-Some-3.is at c.in_ok-proof-in-Stem.ensures.none (found ∙ absent) in cc
+    absurd (some_no_none _ (rw c.in-Some-3.is at c.in_ok-proof-in-Stem.ensures.none (found ∙ absent)))
 
 pub returns-in_ok-push_empties-in-Stem-clause-none : goal.returns-in_ok-push_empties-in-Stem-clause-none
-returns-in_ok-push_empties-in-Stem-clause-none g t c = λ absent. let held = (returns-in_ok-push_empties-in-Stem-clause-answer g t c).held in cc
+returns-in_ok-push_empties-in-Stem-clause-none g t c = λ absent. absurd (not_both _ (returns-in_ok-push_empties-in-Stem-clause-answer g t c).held absent)

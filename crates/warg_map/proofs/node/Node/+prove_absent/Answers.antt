@@ -31,7 +31,7 @@ prove_absent-requires g t c κs within = (
             c.node.ensures.well_formed,
             (
               search rules,
-              held_in_fork c.args.self.now c.node.result.now _ _ (side_bit c.in-Some.side) _ (is_fork c.in-Fork.is c.as_ref-fork.ensures) c.in-Some.ensures.steps.bits (search rules) ∙ c.requires.absent,
+              held_in_fork c.args.self.now c.node.result.now _ _ (side_bit c.in-Some.side) _ (is_fork c.in-Fork.is c.as_ref-fork.ensures) c.in-Some.ensures.steps.bits (c.node.ensures.seen ∙ c.index.ensures) ∙ c.requires.absent,
             ),
           ),
         ),
@@ -82,7 +82,7 @@ pub returns-in_ok-push-in-Fork-clause-answer : goal.returns-in_ok-push-in-Fork-c
 returns-in_ok-push-in-Fork-clause-answer g t c =
     let n = length-last_bits c.next.new.self.hash.now (256 - c.next.new.self.index) in
     absent_in_fork g.D.SupportedDigest.digest c.args.self.now c.node.result.now _ _ (side_bit c.in-Some.side) _ c.in_ok-proof-in-Fork.proof _ _ c.index-in-Fork.result.now
-    (is_fork c.in-Fork.is c.as_ref-fork.ensures) c.requires.well_formed c.in-Some.ensures.steps.bits (omega (arith, n, c.requires.height, c.in-Some.ensures.steps.index)) (search rules)
+    (is_fork c.in-Fork.is c.as_ref-fork.ensures) c.requires.well_formed c.in-Some.ensures.steps.bits (omega (arith, n, c.requires.height, c.in-Some.ensures.steps.index)) (c.node.ensures.seen ∙ c.index.ensures)
     (c.index-in-Fork.ensures ∙ ap (λ b. cond b c.as_ref-fork.result.now.right c.as_ref-fork.result.now.left) c.opposite.ensures)
     (c.copied.ensures ∙ c.hash-far.ensures) c.in_ok-proof-in-Fork.ensures.answer c.in_ok-push-in-Fork.ensures
 

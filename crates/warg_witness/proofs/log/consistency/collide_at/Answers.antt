@@ -8,24 +8,24 @@ held_root-hash-requires-clause-met g c = trees_consistent c.requires.met
 
 pub returns-then-not-is_target : goal.returns-then-not-is_target
 returns-then-not-is_target g c =
-    divergence_placed _ _ (old_placed c.log_laws.ensures c.requires.met c.held_root-hash.ensures.leads) (grind arith) c.divergence_from-from_old.ensures c.collide_branch.ensures
+    divergence_placed _ _ (old_placed c.requires.met c.held_root-hash.ensures.leads) (grind arith) c.divergence_from-from_old.ensures c.collide_branch.ensures
 
 pub returns-then-not-is_target-2 : goal.returns-then-not-is_target-2
 returns-then-not-is_target-2 g c =
-    divergence_placed _ _ (new_placed c.log_laws.ensures c.requires.met c.held_root-hash.ensures.leads) (grind arith) c.divergence_from-from_new.ensures
+    divergence_placed _ _ (new_placed c.requires.met c.held_root-hash.ensures.leads) (grind arith) c.divergence_from-from_new.ensures
     c.collide_branch-then-not-is_target-2.ensures
 
 pub returns-then-not-is_target-3 : goal.returns-then-not-is_target-3
 returns-then-not-is_target-3 g c =
     let new_meets = rw (c.if-not-is_target-2.ensures.0 refl) at c.divergence_from-from_new.ensures in
-    divergence_placed _ _ (below_placed c.log_laws.ensures c.requires.met c.held_root-hash.ensures.leads _ new_meets.part) (grind arith) c.divergence_below-below.ensures
+    divergence_placed _ _ (below_placed c.requires.met c.held_root-hash.ensures.leads _ new_meets.part) (grind arith) c.divergence_below-below.ensures
     c.collide_branch-then-not-is_target-3.ensures
 
 pub new-requires-clause-same : goal.new-requires-clause-same
 new-requires-clause-same g c =
     let new_meets = rw (c.if-not-is_target-2.ensures.0 refl) at c.divergence_from-from_new.ensures in
     let meets = rw (c.if-not-is_target-3.ensures.0 refl) at c.divergence_below-below.ensures in
-    (entries_shown c.log_laws.ensures (λ e. g.V.VisitBytes.bytes e) c.args.old.now c.args.new.now c.requires.met c.held_root-hash.ensures.leads new_meets.part meets c.requires.differ
+    (entries_shown (λ e. g.V.VisitBytes.bytes e) c.args.old.now c.args.new.now c.requires.met c.held_root-hash.ensures.leads new_meets.part meets c.requires.differ
     c.index-old-place.is c.index-new-place.is c.in_ok-first.ensures c.in_ok-second.ensures).0.same
 
 pub returns : goal.returns
@@ -33,5 +33,5 @@ returns g c =
     let new_meets = rw (c.if-not-is_target-2.ensures.0 refl) at c.divergence_from-from_new.ensures in
     let meets = rw (c.if-not-is_target-3.ensures.0 refl) at c.divergence_below-below.ensures in
     rw (c.new.ensures.first, c.new.ensures.second)
-    (entries_shown c.log_laws.ensures (λ e. g.V.VisitBytes.bytes e) c.args.old.now c.args.new.now c.requires.met c.held_root-hash.ensures.leads new_meets.part meets c.requires.differ
+    (entries_shown (λ e. g.V.VisitBytes.bytes e) c.args.old.now c.args.new.now c.requires.met c.held_root-hash.ensures.leads new_meets.part meets c.requires.differ
     c.index-old-place.is c.index-new-place.is c.in_ok-first.ensures c.in_ok-second.ensures).1

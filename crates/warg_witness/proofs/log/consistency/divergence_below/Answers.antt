@@ -13,7 +13,7 @@ descend-requires-clause-node g c = rw c.new-leaf.ensures.count (leaf_node _)
 
 pub descend-requires-clause-one : goal.descend-requires-clause-one
 descend-requires-clause-one g c =
-    rw (c.plain_digest-old.ensures, c.plain_digest-new.ensures) (have_node c.log_laws.ensures _ _ _ _ _ c.requires.node c.requires.in_old c.requires.in_new c.requires.same)
+    rw (c.plain_digest-old.ensures, c.plain_digest-new.ensures) (have_node _ _ _ _ _ c.requires.node c.requires.in_old c.requires.in_new c.requires.same)
 
 pub returns : goal.returns
 returns g c =

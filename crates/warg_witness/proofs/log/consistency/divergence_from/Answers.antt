@@ -9,4 +9,4 @@ descend-requires-clause-aligned g c = rw c.new-whole.ensures.start (whole_aligne
 pub descend-requires-clause-one : goal.descend-requires-clause-one
 descend-requires-clause-one g c =
     rw (c.plain_digest-plain.ensures, c.new-whole.ensures.start, c.new-whole.ensures.count ∙ c.length.ensures.value)
-    (have_root c.log_laws.ensures _ _ _ _ c.requires.met (grind arith))
+    (have_root _ _ _ _ c.requires.met (grind arith))

@@ -1,7 +1,8 @@
 use Rattle.std.proofs.Common.{arith}
-use Rattle.warg_witness.proofs.RangeLemmas.{known, leaf_node, node_aligned}
+use Rattle.warg_witness.proofs.RangeLemmas.{leaf_node, node_aligned}
 use Rattle.warg_witness.proofs.HashLemmas.{ne_true}
 use Rattle.warg_witness.proofs.log.consistency.is_same_entry.Goals as goal
+use Rattle.warg_log.proofs.ForCallers.{root_over_one}
 
 pub plain_digest-requires-clause-aligned : goal.plain_digest-requires-clause-aligned
 plain_digest-requires-clause-aligned g c = rw c.new-leaf.ensures.count (node_aligned (leaf_node _))
@@ -12,7 +13,7 @@ plain_digest-requires-2-clause-aligned g c = rw c.new-leaf.ensures.count (node_a
 pub returns-then-ne : goal.returns-then-ne
 returns-then-ne g c =
     let digest = g.D.SupportedDigest.digest in
-    let one = (known c.log_laws.ensures).root_one digest in
+    let one = root_over_one digest in
     let old_is = rw (c.new-leaf.ensures.start, c.new-leaf.ensures.count, one _ _ c.requires.in_old, c.requires.old_leaf) at c.plain_digest.ensures in
     let new_is = rw (c.new-leaf.ensures.start, c.new-leaf.ensures.count, one _ _ c.requires.in_new, c.requires.new_leaf) at c.plain_digest-2.ensures in
     grind (arith, ne_true)

@@ -1,15 +1,15 @@
 use Rattle.std.proofs.Common.{sym, ◌∙◌, refl, ap, arith}
 use Rattle.std.proofs.lemmas.List.{length-map}
 use Rattle.warg_log.specs.Tree.{root_of}
-use Rattle.warg_witness.proofs.RangeLemmas.{known}
 use Rattle.warg_witness.proofs.HashLemmas.{ne_false, ne_true}
 use Rattle.warg_witness.proofs.log.consistency.meet_trees.Goals as goal
+use Rattle.warg_log.proofs.ForCallers.{consistency_only, consistency_then}
 
 pub returns-in_default-clause-met : goal.returns-in_default-clause-met
-returns-in_default-clause-met g c met = let ok = (known c.log_laws.ensures).met_then _ _ _ _ _ _ met.roots in grind arith
+returns-in_default-clause-met g c met = let ok = consistency_then _ _ _ _ _ _ met.roots in grind arith
 
 pub returns-then-ne-2-clause-met : goal.returns-then-ne-2-clause-met
-returns-then-ne-2-clause-met g c met = let ok = (known c.log_laws.ensures).met_then _ _ _ _ _ _ met.roots in grind (arith, ne_true)
+returns-then-ne-2-clause-met g c met = let ok = consistency_then _ _ _ _ _ _ met.roots in grind (arith, ne_true)
 
 pub returns-clause-met : goal.returns-clause-met
 returns-clause-met g c =
@@ -20,7 +20,7 @@ returns-clause-met g c =
       met = record {
         old_count = length-map c.args.old.now (λ e. g.V.VisitBytes.bytes e) ∙ lengths.0;
         new_count = length-map c.args.new.now (λ e. g.V.VisitBytes.bytes e) ∙ lengths.1;
-        roots = rw (← old_root, ← new_root) ((known c.log_laws.ensures).met_only _ _ _ _ _ _ (sym c.evaluate.ensures ∙ c.in-Ok.is));
+        roots = rw (← old_root, ← new_root) (consistency_only _ _ _ _ _ _ (sym c.evaluate.ensures ∙ c.in-Ok.is));
       };
       old_is = c.in_ok-old_tree.ensures.tree;
       new_is = c.in_ok-new_tree.ensures.tree;

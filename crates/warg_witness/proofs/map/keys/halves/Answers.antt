@@ -8,8 +8,8 @@ pub returns : goal.returns
 returns g c insertions prefix size are =
     let H = g.D.SupportedDigest.digest in
     let lt : length prefix < 256 = rw size c.requires in
-    let diverged = are_partitioned c.order_of_bits.ensures c.all_bits.ensures H g.met.D.SupportedDigest.is_digest insertions prefix c.args.keys.now lt are in
+    let diverged = are_partitioned H g.met.D.SupportedDigest.is_digest insertions prefix c.args.keys.now lt are in
     let point = IsPartitionPoint-from_clause (λ (e : List ℕ × ℕ). not (bit_at e.0 (length prefix))) _ _ c.partition_point-zeros.ensures.partitioned diverged (λ a r q k. search rules) in
-    let front = zeros_are c.all_bits.ensures H insertions prefix c.args.keys.now c.partition_point-zeros.result lt c.partition_point-zeros.ensures.bound are point in
-    let back = ones_are c.all_bits.ensures H insertions prefix c.args.keys.now c.partition_point-zeros.result lt c.partition_point-zeros.ensures.bound are point in
+    let front = zeros_are H insertions prefix c.args.keys.now c.partition_point-zeros.result lt c.partition_point-zeros.ensures.bound are point in
+    let back = ones_are H insertions prefix c.args.keys.now c.partition_point-zeros.result lt c.partition_point-zeros.ensures.bound are point in
     (rw c.split_at.ensures.front front, rw c.split_at.ensures.back back)

@@ -1,4 +1,4 @@
-use Rattle.warg_witness.proofs.PathBits.{climb_starts, climb_more, peer_at_height}
+use Rattle.warg_witness.proofs.PathLemmas.{climb_starts, climb_more, peer_at_height}
 use Rattle.warg_witness.proofs.map.path.meet_on_path.Goals as goal
 
 pub loop-height-init : goal.loop-height-init

@@ -6,7 +6,7 @@ use Rattle.warg_witness.proofs.map.tree.+plain_root.Goals as goal
 
 pub returns-in_default : goal.returns-in_default
 returns-in_default g t c prefix size are =
-    empty_is c.last_held.ensures _ _ _ _ _ _ _ _ c.requires.empty (let le : 256 - c.args.depth < 257 = omega arith in le) c.copied.ensures c.index-empty-depth.is c.in_default.ensures are
+    empty_is _ _ _ _ _ _ _ _ c.requires.empty (let le : 256 - c.args.depth < 257 = omega arith in le) c.copied.ensures c.index-empty-depth.is c.in_default.ensures are
 
 pub bounds-insertions-place : goal.bounds-insertions-place
 bounds-insertions-place g t c =
@@ -14,7 +14,7 @@ bounds-insertions-place g t c =
 
 pub returns-then-depth-eq256 : goal.returns-then-depth-eq256
 returns-then-depth-eq256 g t c prefix size are =
-    leaf_root c.last_held.ensures c.all_bits.ensures c.order_of_bits.ensures g.D.SupportedDigest.digest g.met.D.SupportedDigest.is_digest g.K.VisitBytes.bytes g.V.VisitBytes.bytes c.args.insertions.now prefix _ _ _ _ _
+    leaf_root g.D.SupportedDigest.digest g.met.D.SupportedDigest.is_digest g.K.VisitBytes.bytes g.V.VisitBytes.bytes c.args.insertions.now prefix _ _ _ _ _
     c.if-depth-eq256.true size are c.in-Some.ensures c.index-insertions-place.is c.hash_leaf.ensures
 
 pub plain_root-left-requires : goal.plain_root-left-requires

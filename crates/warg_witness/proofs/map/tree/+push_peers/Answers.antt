@@ -7,7 +7,7 @@ use Rattle.warg_witness.proofs.map.tree.+push_peers.Goals as goal
 pub returns-then-depth-eq256 : goal.returns-then-depth-eq256
 returns-then-depth-eq256 g t c prefix size are = (
   peers_none _ _ _ _ _ c.if-depth-eq256.true,
-  last_place_is c.last_held.ensures c.all_bits.ensures c.order_of_bits.ensures g.D.SupportedDigest.digest g.met.D.SupportedDigest.is_digest _ prefix _ c.args.key.now c.args.depth _
+  last_place_is g.D.SupportedDigest.digest g.met.D.SupportedDigest.is_digest _ prefix _ c.args.key.now c.args.depth _
       c.if-depth-eq256.true size are c.last_place.ensures,
 )
 

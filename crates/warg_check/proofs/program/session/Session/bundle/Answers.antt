@@ -13,7 +13,7 @@ returns-in_ok-encode-in-Ok-clause-ok g c s at =
     let length_is = rw (none, proofs, claim_is _ _ _ proof.leaf proof.log_length) at made.length in
     let no_lengths = rw none at made.old_lengths in
     let one_node = rw (proofs, proof.leaf) at made.nodes in
-    let answered = bundle_answer c.needed_exist.ensures c.existing_number.ensures c.args.self.now.log s b c.args.node c.args.log_length.now.value at.log_is length_is no_lengths one_node made.ascending made.exactly made.source in
+    let answered = bundle_answer c.args.self.now.log s b c.args.node c.args.log_length.now.value at.log_is length_is no_lengths one_node made.ascending made.exactly made.source in
     record {
       log_is = shown.ok.0 ∙ at.log_is;
       map_is = shown.ok.1 ∙ at.map_is;
@@ -52,7 +52,7 @@ returns-in_ok-writeln-in-Err-HashNotFound-clause-ok g c s at =
     let proofs = c.in_ok-proofs.ensures.items in
     let none = c.new.ensures.items in
     let told = rw (none, proofs, claim_is _ _ _ proof.leaf proof.log_length, c.in-Err-HashNotFound.field-0-is) at c.in-Err-HashNotFound.ensures.fault in
-    let answered = not_known_answer c.needed_exist.ensures c.existing_number.ensures c.args.self.now.log s c.args.node c.args.log_length.now.value at.log_is told in
+    let answered = not_known_answer c.args.self.now.log s c.args.node c.args.log_length.now.value at.log_is told in
     record {
       log_is = at.log_is;
       map_is = at.map_is;

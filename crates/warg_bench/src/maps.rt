@@ -1,0 +1,279 @@
+//! Maps: insertions, proofs, evaluations, and verdicts on a key.
+
+use crate::rows::Piece::{Count, Number, Text};
+use crate::rows::print;
+use crate::times::{Call, each, now, rounds, share, time};
+use crate::verdicts::{KeyChecks, KeyReads};
+use crate::{Entry, entries};
+use anyhow::Result;
+use warg_crypto::{Hash, Sha256, SupportedDigest};
+use warg_map::{Map, Proof, ProofBundle};
+
+/// A map whose digests are of SHA-256.
+pub type Keys = Map<Sha256, Entry, Entry>;
+
+type KeyProof = Proof<Sha256, Entry, Entry>;
+
+/// The map of these keys, each with itself as its value.
+pub fn map_of<D: SupportedDigest>(
+    rt: &HostRuntime,
+    keys: &[Entry],
+) -> Result<Map<D, Entry, Entry>> {
+    let mut map = Map::default(rt.alloc())?;
+    for key in keys {
+        map = map.insert(*key, *key)?;
+    }
+    Ok(map)
+}
+
+/// The proof of a key.
+pub fn proof_of<D: SupportedDigest>(
+    map: &Map<D, Entry, Entry>,
+    key: &Entry,
+) -> Result<Option<Proof<D, Entry, Entry>>> {
+    Ok(map.prove(*key)?)
+}
+
+/// Inserts a key.
+#[derive(Drop)]
+pub struct Insertions<'a, D: SupportedDigest> {
+    pub map: &'a Map<D, Entry, Entry>,
+    pub keys: &'a [Entry],
+}
+
+impl<D: SupportedDigest> Call for Insertions<'_, D> {
+    fn call(&self, number: usize) -> bool {
+        match self.keys.get(number) {
+            Some(key) => self.map.insert(*key, *key).is_ok(),
+            None => false,
+        }
+    }
+}
+
+/// Proves a key. The keys are spread over those of the map.
+#[derive(Drop)]
+pub struct Proofs<'a, D: SupportedDigest> {
+    pub map: &'a Map<D, Entry, Entry>,
+    pub keys: &'a [Entry],
+    pub every: usize,
+}
+
+impl<D: SupportedDigest> Call for Proofs<'_, D> {
+    fn call(&self, number: usize) -> bool {
+        match self.keys.get(number.saturating_mul(self.every)) {
+            Some(key) => matches!(self.map.prove(*key), Ok(Some(_))),
+            None => false,
+        }
+    }
+}
+
+/// Proves a key, and evaluates the proof. The keys are spread over those of the map.
+#[derive(Drop)]
+pub struct ProofsInUse<'a> {
+    pub map: &'a Keys,
+    pub keys: &'a [Entry],
+    pub every: usize,
+}
+
+impl Call for ProofsInUse<'_> {
+    fn call(&self, number: usize) -> bool {
+        match self.keys.get(number.saturating_mul(self.every)) {
+            Some(key) => is_proved(self.map, key),
+            None => false,
+        }
+    }
+}
+
+fn is_proved(map: &Keys, key: &Entry) -> bool {
+    match map.prove(*key) {
+        Ok(Some(proof)) => proof.evaluate(key, key) == *map.root(),
+        _ => false,
+    }
+}
+
+/// Evaluates a proof.
+#[derive(Drop)]
+pub struct Evaluation<'a, D: SupportedDigest> {
+    pub proof: &'a Proof<D, Entry, Entry>,
+    pub key: &'a Entry,
+    pub root: &'a Hash<D>,
+}
+
+impl<D: SupportedDigest> Call for Evaluation<'_, D> {
+    fn call(&self, _number: usize) -> bool {
+        self.proof.evaluate(self.key, self.key) == *self.root
+    }
+}
+
+/// Measures a map of so many keys.
+pub fn measure(rt: &HostRuntime, count: usize) -> Result<()> {
+    let list = entries(rt, count)?;
+    let keys = list.as_slice();
+    let map = grown(rt, keys)?;
+    prove(rt, &map, keys)?;
+    evaluate(rt, &map, keys)?;
+    print_size(rt, &map, count)?;
+    match keys.first() {
+        Some(key) => measure_key(rt, &map, key, count),
+        None => Ok(()),
+    }
+}
+
+fn grown(rt: &HostRuntime, keys: &[Entry]) -> Result<Keys> {
+    let start = now(rt)?;
+    let map = map_of(rt, keys)?;
+    let time = each(rt, start, rounds(keys.len()))?;
+    let row = [
+        Text("map insert up to "),
+        Count(keys.len()),
+        Text(" keys: "),
+        Number(time),
+        Text(" ns"),
+    ];
+    print(rt, &row)?;
+    Ok(map)
+}
+
+fn prove(rt: &HostRuntime, map: &Keys, keys: &[Entry]) -> Result<()> {
+    let start = now(rt)?;
+    let peers = peers_of_all(map, keys)?;
+    let time = each(rt, start, rounds(keys.len()))?;
+    let row = [
+        Text("map prove at "),
+        Count(keys.len()),
+        Text(" keys: "),
+        Number(time),
+        Text(" ns ("),
+        Count(peers),
+        Text(" peers)"),
+    ];
+    print(rt, &row)
+}
+
+// How many peers the proofs of these keys have.
+fn peers_of_all(map: &Keys, keys: &[Entry]) -> Result<usize> {
+    let mut peers = 0usize;
+    for key in keys {
+        if let Some(proof) = proof_of(map, key)? {
+            peers = peers.saturating_add(proof.peers().len());
+        }
+    }
+    Ok(peers)
+}
+
+fn evaluate(rt: &HostRuntime, map: &Keys, keys: &[Entry]) -> Result<()> {
+    let every = 1;
+    let taken = time(rt, &ProofsInUse { map, keys, every }, 1_000)?;
+    let row = [
+        Text("map prove and evaluate at "),
+        Count(keys.len()),
+        Text(" keys: "),
+        Number(taken.each(1_000)),
+        Text(" ns ("),
+        Number(taken.good),
+        Text(" good)"),
+    ];
+    print(rt, &row)
+}
+
+fn print_size(rt: &HostRuntime, map: &Keys, count: usize) -> Result<()> {
+    let nodes = map.node_count();
+    let row = [
+        Text("map nodes at "),
+        Count(count),
+        Text(" keys: "),
+        Number(nodes),
+        Text(", "),
+        Number(share(node_bytes(nodes, rounds(count)), rounds(count))),
+        Text(" bytes a key"),
+    ];
+    print(rt, &row)
+}
+
+/// The bytes of a map's nodes, by the sizes of their fields and two counters each: 120 for a lone key, of
+/// which there is one a key, and 112 for each of the others, forks and stems.
+pub fn node_bytes(nodes: u128, keys: u128) -> u128 {
+    nodes
+        .saturating_sub(keys)
+        .saturating_mul(112)
+        .saturating_add(keys.saturating_mul(120))
+}
+
+// A verdict on a key beside its two parts, the bundle's reading and the proof's evaluation.
+fn measure_key(rt: &HostRuntime, map: &Keys, key: &Entry, count: usize) -> Result<()> {
+    let Some(proof) = proof_of(map, key)? else {
+        return Ok(());
+    };
+    let root = map.root();
+    evaluate_one(
+        rt,
+        &Evaluation {
+            proof: &proof,
+            key,
+            root,
+        },
+        count,
+    )?;
+    let bytes = bundle_of(rt, proof)?;
+    let bytes = bytes.as_slice();
+    read(rt, bytes, count)?;
+    let alloc = rt.alloc();
+    check(
+        rt,
+        &KeyChecks {
+            alloc,
+            bytes,
+            key,
+            root,
+        },
+        count,
+    )
+}
+
+fn evaluate_one(rt: &HostRuntime, calls: &Evaluation<'_, Sha256>, count: usize) -> Result<()> {
+    let taken = time(rt, calls, 1_000)?;
+    let row = [
+        Text("map evaluate at "),
+        Count(count),
+        Text(" keys: "),
+        Number(taken.each(1_000)),
+        Text(" ns ("),
+        Number(taken.good),
+        Text(" of 1000)"),
+    ];
+    print(rt, &row)
+}
+
+fn bundle_of(rt: &HostRuntime, proof: KeyProof) -> Result<Vec<u8>> {
+    let proofs = vec![in rt.alloc(); proof]?;
+    Ok(ProofBundle::bundle(proofs).encode(rt.alloc())?)
+}
+
+fn read(rt: &HostRuntime, bytes: &[u8], count: usize) -> Result<()> {
+    let alloc = rt.alloc();
+    let taken = time(rt, &KeyReads { alloc, bytes }, 1_000)?;
+    let row = [
+        Text("map bundle of "),
+        Count(bytes.len()),
+        Text(" bytes at "),
+        Count(count),
+        Text(" keys: decode "),
+        Number(taken.each(taken.good)),
+        Text(" ns"),
+    ];
+    print(rt, &row)
+}
+
+fn check(rt: &HostRuntime, calls: &KeyChecks<'_>, count: usize) -> Result<()> {
+    let taken = time(rt, calls, 1_000)?;
+    let row = [
+        Text("check_key at "),
+        Count(count),
+        Text(" keys: "),
+        Number(taken.each(1_000)),
+        Text(" ns ("),
+        Number(taken.good),
+        Text(" of 1000)"),
+    ];
+    print(rt, &row)
+}

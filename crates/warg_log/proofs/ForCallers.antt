@@ -1,0 +1,102 @@
+-- Lemmas for the proofs of the crates above, over public definitions alone.
+use Rattle.std.proofs.Common.{◌≡◌, ℕ, suc, ◌+◌, ◌-◌, ◌*◌, ◌^◌, ◌<◌, ◌≤◌, List, [], ◌∷◌, length, Option, Some, Ok, slice_index_or, refl, arith}
+use Rattle.std.specs.List.{AllByRecursion}
+use Rattle.std.proofs.lemmas.Nat.{pow_pos}
+use Rattle.warg_log.specs.Nodes.{IsNode, ExistsAt, height_of, place_of, node_over, balanced_over}
+use Rattle.warg_log.specs.Tree.{branch, front_of, root_over, own_digest}
+use Rattle.warg_log.specs.Cut.{joined, cut_over, old_over, IsFull, IsBeside}
+use Rattle.warg_log.specs.Walks.{needed}
+use Rattle.warg_log.specs.Consistency.{consistency, IsConsistent}
+use Rattle.warg_log.proofs.NodeLemmas as nodes
+use Rattle.warg_log.proofs.RootLemmas as powers
+use Rattle.warg_log.proofs.LawLemmas as laws
+use Rattle.warg_log.proofs.BalancedLemmas as balanced
+use Rattle.warg_log.proofs.CutLemmas as cuts
+use Rattle.warg_log.proofs.MetLemmas as met
+
+-- a number is below its power of two
+pub below_pow : (n : ℕ) → n < 2 ^ n
+below_pow = powers.below_pow
+
+-- a power of two below another has a smaller exponent
+pub pow_below_pow : (a b : ℕ) → 2 ^ a < 2 ^ b → a < b
+pow_below_pow = nodes.pow_below_pow
+
+-- a number is the node of one height and one place
+pub node_at : (x k j : ℕ) → IsNode x k j → (height_of x ≡ k) × (place_of x ≡ j)
+node_at = nodes.node_at
+
+-- the number of a node that exists is at most that of the last leaf
+pub existing_number : (x n : ℕ) → ExistsAt x n → x + 2 ≤ 2 * n
+existing_number x n exists = omega (arith, nodes.node_is x, pow_pos (height_of x))
+
+-- the node over a range has the range's height and place
+pub over_at : (k j : ℕ) → (height_of (node_over (j * 2 ^ k) (2 ^ k)) ≡ k) × (place_of (node_over (j * 2 ^ k) (2 ^ k)) ≡ j)
+over_at = nodes.over_at
+
+-- the front of a range is the greatest power of two below its count
+pub front_is_greatest : (n : ℕ) → 1 < n → IsFull (front_of n) × (front_of n < n) × (n ≤ 2 * front_of n)
+front_is_greatest n more = let f = powers.front_is n more in rw f.1 ((f.0, refl), f.2, omega (arith, f.3))
+
+-- the root over one leaf is its digest
+pub root_over_one : (H : List ℕ → List ℕ) (ds : List (List ℕ)) (a : ℕ) → a < length ds → root_over H ds a 1 ≡ slice_index_or ds a []
+root_over_one = laws.root_over-one
+
+-- the root over more leaves is the branch over those of the two parts
+pub root_over_parts : (H : List ℕ → List ℕ) (ds : List (List ℕ)) (a n : ℕ) → 1 < n → a + n ≤ length ds
+    → root_over H ds a n ≡ branch H (root_over H ds a (front_of n)) (root_over H ds (a + front_of n) (n - front_of n))
+root_over_parts H ds a n more fits = let f = powers.front_is n more in rw f.1 (cuts.root_over-split H ds f.0 a n f.2 f.3 fits)
+
+-- the balanced root of a power of two of leaves is the node over them
+pub balanced_full : (a n : ℕ) → IsFull n → balanced_over a n ≡ node_over a n ∷ []
+balanced_full a n is = rw is.1 (balanced.balanced_full is.0 a)
+
+-- the balanced roots of other leaves are the node over the first part and those of the rest
+pub balanced_parts : (a n : ℕ) → 1 < n → (IsFull n → ⊥) → balanced_over a n ≡ node_over a (front_of n) ∷ balanced_over (a + front_of n) (n - front_of n)
+balanced_parts a n more part =
+    let f = powers.front_is n more in
+    rw f.1 (balanced.balanced_first f.0 a n (omega (arith, f.2)) (grind (arith, f.3, λ (e : n ≡ 2 ^ suc f.0). part (suc f.0, e))))
+
+-- the cut root of the target is the digest in its place
+pub cut_target : (H : List ℕ → List ℕ) (F : ℕ → Option (List ℕ)) (x : List ℕ) (s w : ℕ) → cut_over H F x s w s w ≡ Some x
+cut_target = cuts.cut_over-target
+
+-- the cut root of a range that isn't read is the branch over those of its parts
+pub cut_parts : (H : List ℕ → List ℕ) (F : ℕ → Option (List ℕ)) (x : List ℕ) (s w a n : ℕ) → 1 < n → (a ≡ s → n ≡ w → ⊥) → (IsFull n → IsBeside s w a n → ⊥)
+    → cut_over H F x s w a n ≡ joined H (cut_over H F x s w a (front_of n)) (cut_over H F x s w (a + front_of n) (n - front_of n))
+cut_parts = cuts.cut_over-parts
+
+-- the cut root of a range that misses the target is its old root
+pub cut_old : (H : List ℕ → List ℕ) (F : ℕ → Option (List ℕ)) (x : List ℕ) (s w a n : ℕ) → 0 < w → 0 < n → IsBeside s w a n → cut_over H F x s w a n ≡ old_over H F a n
+cut_old = laws.cut_old
+
+-- where all digests have 32 bytes, so has each cut root
+pub cut_size : (H : List ℕ → List ℕ) (F : ℕ → Option (List ℕ)) (x : List ℕ) (s w a n : ℕ) (r : List ℕ) → ((m : List ℕ) → length (H m) ≡ 32)
+    → ((t : ℕ) (d : List ℕ) → F t ≡ Some d → length d ≡ 32) → length x ≡ 32 → cut_over H F x s w a n ≡ Some r → length r ≡ 32
+cut_size H F x s w a n r gives holds own = laws.top_of-size H F x gives holds own _ r
+
+-- over a log's own digests the cut root of a range of its recursion is the root over it
+pub cut_own_range : (H : List ℕ → List ℕ) (ds : List (List ℕ)) (s w k c n : ℕ) → 0 < n → n ≤ 2 ^ k → c * 2 ^ k + n ≤ length ds
+    → cut_over H (own_digest H ds) (root_over H ds s w) s w (c * 2 ^ k) n ≡ Some (root_over H ds (c * 2 ^ k) n)
+cut_own_range H ds s w k j n = cuts.own_at H ds _ s w k j (j * 2 ^ k) n refl refl
+
+-- the old root of a power of two of leaves is the digest that is held for them
+pub old_full : (H : List ℕ → List ℕ) (F : ℕ → Option (List ℕ)) (a n : ℕ) → IsFull n → old_over H F a n ≡ F (node_over a n)
+old_full H F a n full = let some : 0 < n = rw full.1 (pow_pos full.0) in cuts.old_over-full H F a n some full
+
+-- the old root of other leaves is the branch over those of the two parts
+pub old_parts : (H : List ℕ → List ℕ) (F : ℕ → Option (List ℕ)) (a n : ℕ) → 1 < n → (IsFull n → ⊥)
+    → old_over H F a n ≡ joined H (old_over H F a (front_of n)) (old_over H F (a + front_of n) (n - front_of n))
+old_parts = cuts.old_over-parts
+
+-- a consistency proof evaluates to the roots that meet it alone
+pub consistency_only : (H : List ℕ → List ℕ) (F : ℕ → Option (List ℕ)) (m n : ℕ) (old new : List ℕ) → consistency H F m n ≡ Ok (old, new) → IsConsistent H F m n old new
+consistency_only = met.consistency-only
+
+-- a consistency proof evaluates to roots that meet it
+pub consistency_then : (H : List ℕ → List ℕ) (F : ℕ → Option (List ℕ)) (m n : ℕ) (old new : List ℕ) → IsConsistent H F m n old new → consistency H F m n ≡ Ok (old, new)
+consistency_then = met.consistency-then
+
+-- the needed nodes exist at the length
+pub needed_exist : (t n : ℕ) → 0 < n → AllByRecursion (λ x. ExistsAt x n) (needed t n)
+needed_exist = laws.needed_exist

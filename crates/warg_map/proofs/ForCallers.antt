@@ -1,0 +1,77 @@
+-- Lemmas for the proofs of the crates above, over public definitions alone.
+use Rattle.std.proofs.Common.{◌≡◌, ℕ, ◌+◌, ◌-◌, ◌<◌, ◌≤◌, Bool, true, List, [], ◌∷◌, ◌++◌, length, Option, Some, None}
+use Rattle.std.specs.Ordering.{nat_cmp}
+use Rattle.std.specs.Option.{option_map}
+use Rattle.std.specs.FinMap.{get}
+use Rattle.std.specs.Cmp.Lexicographic.{slice_cmp}
+use Rattle.std.specs.declared.cmp.Ordering.TheVariants.{Equal}
+use Rattle.warg_crypto.specs.Digests.{IsDigest}
+use Rattle.warg_crypto.specs.EmptyTrees.{empty_root}
+use Rattle.warg_map.specs.Bits.{bit_at, last_bits, key_bits}
+use Rattle.warg_map.specs.Sparse.{SparseMap, bits_cmp, root_of_levels, leaf_digest, map_of}
+use Rattle.warg_map.specs.Last.{same_bits, last_under}
+use Rattle.warg_map.specs.ProofValue.{proof_value}
+use Rattle.warg_map.specs.Peers.{Proves}
+use Rattle.warg_map.proofs.SparseTree as tree
+use Rattle.warg_map.proofs.FoundInNode as found
+use Rattle.warg_map.proofs.DigestBits as bits
+use Rattle.warg_map.proofs.LastInserted as last
+use Rattle.warg_map.proofs.RootsAtPrefixes as prefixes
+
+-- the last bits of a digest are as many as are asked for, and a key has 256
+pub length-last_bits : (key : List ℕ) (n : ℕ) → length (last_bits key n) ≡ n
+length-last_bits = tree.length-last_bits
+
+pub all_bits : (H : List ℕ → List ℕ) (key : List ℕ) → length (key_bits H key) ≡ 256
+all_bits H key = tree.length-last_bits (H key) 256
+
+-- no bit is left
+pub last_bits-none : (key : List ℕ) → last_bits key 0 ≡ []
+last_bits-none = tree.last_bits-zero
+
+-- one bit more, from the bottom
+pub last_bits-more : (key : List ℕ) (n : ℕ) → n < 256 → last_bits key (n + 1) ≡ bit_at key (255 - n) ∷ last_bits key n
+last_bits-more = tree.last_bits-step
+
+-- the bits that are left at a depth
+pub bits_left-more : (key : List ℕ) (depth : ℕ) → depth < 256 → last_bits key (256 - depth) ≡ bit_at key depth ∷ last_bits key (256 - (depth + 1))
+bits_left-more = tree.last_bits-first
+
+pub bits_left-none : (key : List ℕ) (depth : ℕ) → depth ≡ 256 → last_bits key (256 - depth) ≡ []
+bits_left-none = tree.last_bits-end
+
+-- bits are equal to themselves, by their order and by the test
+pub bits_cmp-itself : (q : List Bool) → bits_cmp q q ≡ Equal
+bits_cmp-itself = bits.itself
+
+pub same_bits-itself : (q : List Bool) → same_bits q q ≡ true
+same_bits-itself = tree.tied_itself_bits
+
+-- bits that the test calls the same are the same
+pub same_bits-true : (q p : List Bool) → same_bits q p ≡ true → q ≡ p
+same_bits-true = found.tied
+
+-- keys of the same bits have the same digest
+pub same_digest : (H : List ℕ → List ℕ) (key other : List ℕ) → IsDigest (H key) → IsDigest (H other) → key_bits H key ≡ key_bits H other → H key ≡ H other
+same_digest H key other = bits.same_bits_same_digest (H key) (H other)
+
+-- digests are in the order of their bits
+pub order_of_bits : (H : List ℕ → List ℕ) (key other : List ℕ) → IsDigest (H key) → IsDigest (H other) → bits_cmp (key_bits H key) (key_bits H other) ≡ slice_cmp nat_cmp (H key) (H other)
+order_of_bits H key other = bits.bits-order (H key) (H other)
+
+-- a map of insertions holds the leaf digest of the last one under the bits
+pub last_held : (H : List ℕ → List ℕ) (bits : List Bool) (insertions : List (List ℕ × List ℕ)) → get (map_of H insertions) bits ≡ option_map (λ e. leaf_digest H e.1) (last_under H bits insertions)
+last_held = last.get-map_of
+
+-- a tree over nothing is the empty tree
+pub root-nothing : (H : List ℕ → List ℕ) (k : ℕ) → root_of_levels H k (λ q. None) ≡ empty_root H k
+root-nothing = tree.root-nothing
+
+-- trees over the same are the same
+pub root-same : (H : List ℕ → List ℕ) (k : ℕ) (m n : List Bool → Option (List ℕ)) → ((q : List Bool) → m q ≡ n q) → root_of_levels H k m ≡ root_of_levels H k n
+root-same = tree.root-same
+
+-- the proof of held bits leads to the plain root at each prefix of them
+pub root_at_prefix : (H : List ℕ → List ℕ) (m : SparseMap) (prefix rest : List Bool) (peers : List (Option (List ℕ))) (x : List ℕ) → length prefix + length rest ≡ 256 → length peers ≤ 256
+    → Proves H 256 m (prefix ++ rest) peers → get m (prefix ++ rest) ≡ Some x → proof_value H peers x rest ≡ root_of_levels H (length rest) (λ q. get m (prefix ++ q))
+root_at_prefix = prefixes.held_after

@@ -1,0 +1,40 @@
+#!/usr/bin/env python3
+"""Calls the Python example as nobody should: each call must raise, and none may return a verdict."""
+
+import pathlib
+import sys
+
+sys.path.insert(0, str(pathlib.Path(__file__).parent / "examples"))
+from check import RootLength, Warg  # noqa: E402
+
+ROOT = bytes(32)
+# A bundle with one proof: of node 2 at length 2, with the digest of node 0.
+BUNDLE = bytes.fromhex("08021a010222221220") + bytes(32)
+WRONG = {
+    "an index of 2^64 + 1": (ValueError, lambda warg: warg.check_entry(BUNDLE, 0, 2**64 + 1, b"", 2, ROOT)),
+    "an index below 0": (ValueError, lambda warg: warg.check_entry(BUNDLE, 0, -1, b"", 2, ROOT)),
+    "a place of 2^64": (ValueError, lambda warg: warg.check_key(BUNDLE, 2**64, b"", b"", ROOT)),
+    "a length of 2^64": (ValueError, lambda warg: warg.check_growth(BUNDLE, 0, 2**64, ROOT, 2, ROOT)),
+    "a truth for an index": (TypeError, lambda warg: warg.check_entry(BUNDLE, 0, True, b"", 2, ROOT)),
+    "a number for a value": (TypeError, lambda warg: warg.check_entry(BUNDLE, 0, 1, 7, 2, ROOT)),
+    "a number for a bundle": (TypeError, lambda warg: warg.check_absent(7, 0, b"", ROOT)),
+    "a text for a key": (TypeError, lambda warg: warg.check_key(BUNDLE, 0, "key", b"", ROOT)),
+    "nothing for a root": (TypeError, lambda warg: warg.check_inclusion(BUNDLE, 0, b"", None)),
+    "a root of 31 bytes": (RootLength, lambda warg: warg.check_inclusion(BUNDLE, 0, b"", ROOT[1:])),
+}
+
+
+def main():
+    warg, taken = Warg(), []
+    for name, (error, call) in WRONG.items():
+        try:
+            call(warg)
+            taken.append(name)
+        except error:
+            pass
+    if taken:
+        sys.exit(f"taken: {', '.join(taken)}")
+    print(f"{len(WRONG)} wrong uses of the Python example are refused")
+
+
+main()

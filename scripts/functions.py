@@ -1,0 +1,126 @@
+"""The functions of a source file: where each body stands, and the end of the name by which a check knows it."""
+
+import dataclasses
+import re
+
+TOKEN = re.compile(r"//[^\n]*|/\*.*?\*/|b?r?\"(?:\\.|[^\"\\])*\"|b?'(?:\\[^']*|[^'\\\n])'", re.S)
+CLAUSE = re.compile(r"(?:requires|ensures)\*?(?:\s+[\w-]+)?\s*\Z|ghost\s+\w+\s*:\s*\Z")
+BLOCK = re.compile(r"^[ \t]*(?:pub(?:\(\w+\))? )?(?:unsafe )?(impl|trait)\b([^{}]*?)\{", re.M)
+
+
+@dataclasses.dataclass(frozen=True)
+class Function:
+    """A function of a file: its name, its module or its type and trait, and where it begins, its clauses begin, its
+    body begins and it ends."""
+
+    name: str
+    owner: str
+    start: int
+    clauses: int
+    body: int
+    end: int
+
+    def holds(self, start, end):
+        """Whether a part of the text lies in this function, and not in a clause."""
+        return self.start <= start and end <= self.end and (end <= self.clauses or self.body <= start)
+
+
+def blanked(text):
+    """Returns the text with its comments and literals blanked, each character at its place."""
+    return TOKEN.sub(lambda it: re.sub(r"[^\n]", " ", it[0]), text)
+
+
+def closing(text, at):
+    """Returns the place behind the brace that closes the one at a place."""
+    depth = 0
+    for place in range(at, len(text)):
+        depth += (text[place] == "{") - (text[place] == "}")
+        if not depth:
+            return place + 1
+    return len(text)
+
+
+def parted(text, by):
+    """Returns the parts of a text at the commas, or the like, that stand in no bracket."""
+    parts, depth = [""], 0
+    for at, mark in enumerate(text):
+        depth += (mark in "<([") - (mark in ")]" or mark == ">" and text[at - 1] != "-")
+        if mark == by and not depth:
+            parts.append("")
+        else:
+            parts[-1] += mark
+    return [it.strip() for it in parts if it.strip()]
+
+
+def word_of(kind, parameters):
+    """Returns a type's name as a check spells it in one word, without the block's own parameters."""
+    kind = re.sub(r"'\w+\s*|\bmut\b|\bdyn\b", "", kind).strip()
+    if kind in parameters or not kind:
+        return ""
+    if kind == "()":
+        return "Unit"
+    if kind.startswith("("):
+        parts = parted(kind[1:-1], ",")
+        return f"Tuple{len(parts)}" + "".join(word_of(it, parameters) for it in parts)
+    if kind.startswith("&"):
+        inner = kind[1:].strip()
+        return "RefSlice" + word_of(inner[1:-1], parameters) if inner.startswith("[") else "Ref" + word_of(inner, parameters)
+    if kind.startswith("["):
+        return "Array" + word_of(parted(kind[1:-1], ";")[0], parameters)
+    head, _, arguments = kind.partition("<")
+    own = [it for it in parted(arguments.rpartition(">")[0], ",") if "=" not in it]
+    name = head.split("::")[-1].strip()
+    return name[:1].upper() + name[1:] + "".join(word_of(it, parameters) for it in own)
+
+
+def owner_of(kind, header):
+    """Returns the word for an impl's type and trait, or for a trait."""
+    header = re.split(r"\bwhere\b", " ".join(header.split()))[0].strip()
+    parameters = []
+    if header.startswith("<"):
+        depth = at = 0
+        for at, mark in enumerate(header):
+            depth += (mark == "<") - (mark == ">" and header[at - 1] != "-")
+            if not depth:
+                break
+        parameters = [re.sub(r"^const ", "", it).split(":")[0].split("=")[0].strip() for it in parted(header[1:at], ",")]
+        header = header[at + 1 :].strip()
+    if kind == "trait":
+        return re.match(r"\w+", header)[0]
+    trait, _, of = header.rpartition(" for ")
+    return word_of(of, parameters) + (word_of(trait, parameters) if trait not in ("", "Drop") else "")
+
+
+def body_of(text, at):
+    """Returns where the clauses begin, the body begins and the function ends whose name ends at a place, or None where
+    it has no body."""
+    depth, since, clauses = 0, at, 0
+    place = at
+    while place < len(text):
+        mark = text[place]
+        depth += (mark in "([") - (mark in ")]")
+        if mark == ";" and not depth:
+            return None
+        if mark == "{" and not depth:
+            end = closing(text, place)
+            clause = CLAUSE.search(text[since:place])
+            if not clause:
+                return clauses or end, place, end
+            clauses = clauses or since + clause.start()
+            place = since = end
+            continue
+        place += 1
+    return None
+
+
+def functions(text, module):
+    """Returns the functions of a file's text that have a body, in the file's order; a free one is known by its module."""
+    text = blanked(text)
+    blocks = [(it.end() - 1, closing(text, it.end() - 1), owner_of(it[1], it[2])) for it in BLOCK.finditer(text)]
+    found = []
+    for it in re.finditer(r"\bfn\s+(\w+)", text):
+        body = body_of(text, it.end())
+        around = [owner for start, end, owner in blocks if start < it.start() < end]
+        if body:
+            found.append(Function(it[1], around[-1] if around else module, it.start(), *body))
+    return found

@@ -1,0 +1,276 @@
+#!/usr/bin/env python3
+"""Tries each crate's wrong bodies, crates/NAME/wrong-bodies/*.edit: the prover has to refuse every one.
+
+An edit is a line 'file: src/lib.rt' and then pairs of lines 'old: TEXT' and 'new: TEXT', each old text standing
+there once. One check of a copy of the crate carries a round of edits, one a function at most: a function's proof
+rests on its callees' contracts and not on their bodies, and the check names each function with an open goal of its
+own. An edit is refused exactly if the check names such a goal, or an error in its proof files, of the function that
+it changes. What waits for a callee, lacks a name or was cut off goes to the next round. An edit that changes more
+than one function's body goes alone, and so does each that no round has judged. What is still let through fails.
+
+The edits in wrong-bodies/planted change no meaning, and show that this script can fail: each must come out as let
+through, and one named waits_* must wait, in its first round, for the broken function that it calls.
+
+Usage: wrong_bodies.py [--build | --kept FOLDER] [--crate NAME] [--only WORD] [--json FILE]
+"""
+
+import argparse
+import collections
+import concurrent.futures
+import dataclasses
+import json
+import os
+import pathlib
+import re
+import shutil
+import subprocess
+import sys
+import tempfile
+import threading
+import time
+
+import functions
+import kit
+
+PARTS = ("src", "specs", "proofs")
+LACKS_A_NAME = re.compile(r"has no field|is not in scope|has no `|was not admitted|is no name")
+
+
+@dataclasses.dataclass(eq=False)
+class Edit:
+    """A wrong body: its pairs of texts by file, and the one function that it changes, if it is one."""
+
+    path: pathlib.Path
+    pairs: list
+    function: str = ""
+
+    @property
+    def name(self):
+        return self.path.stem
+
+    @property
+    def is_planted(self):
+        return self.path.parent.name == "planted"
+
+
+def read(path):
+    """Returns the edit in a file."""
+    file, old, pairs = "", None, []
+    for line in path.read_text().splitlines():
+        key, _, text = line.partition(":")
+        text = text.removeprefix(" ")
+        if key == "file":
+            file = text.strip()
+        elif key == "old":
+            old = text
+        elif key == "new" and file and old:
+            pairs.append((file, old, text))
+            old = None
+    return Edit(path, pairs)
+
+
+def fits(edit, texts):
+    """Whether each of the edit's old texts stands exactly once in the texts, as the pairs before leave them."""
+    changed = dict(texts)
+    for file, old, new in edit.pairs:
+        if changed.get(file, "").count(old) != 1:
+            return False
+        changed[file] = changed[file].replace(old, new)
+    return bool(edit.pairs)
+
+
+def apply(edit, texts):
+    for file, old, new in edit.pairs:
+        texts[file] = texts[file].replace(old, new)
+
+
+def function_of(edit, texts, crate):
+    """Returns the end of the name of the one function that holds all of the edit's old texts outside its clauses, else none."""
+    found = set()
+    for file, old, _ in edit.pairs:
+        at = texts[file].find(old)
+        module = pathlib.Path(file).stem
+        module = crate if module in ("lib", "main") else module
+        around = [it for it in functions.functions(texts[file], module) if it.holds(at, at + len(old))]
+        found.add(f"{around[-1].owner}::{around[-1].name}" if around else "")
+    return found.pop() if len(found) == 1 else ""
+
+
+class Check:
+    """What the prover says of a copy of a crate with some edits."""
+
+    def __init__(self, said):
+        self.said = said
+        self.lines = dict(re.findall(r"^fn (\S+): (.*)$", said, re.M))
+        self.faults = collections.defaultdict(list)
+        for folder, fault in re.findall(r"^(?:\./)?proofs/(\S*?)/?\w+\.antt:\d+:\d+: error: (.*)$", said, re.M):
+            if not LACKS_A_NAME.search(fault):
+                self.faults[folder.replace("+", "")].append(fault)
+        self.is_whole = bool(re.search(r"^logic=(?:not-)?proved", said, re.M))
+        self.is_proved = bool(re.search(r"^logic=proved", said, re.M))
+
+    def name_of(self, function):
+        """Returns the whole name of a function, by its end."""
+        found = [it for it in self.lines if f"::{it}".endswith(f"::{function}")]
+        return found[0] if len(found) == 1 else ""
+
+    def is_broken(self, name):
+        """Whether a function has an open goal of its own, or an error in its own proof that is no lack of a name."""
+        said = self.lines.get(name, "proved")
+        own = "/".join(name.split("::")[1:])
+        return "did not prove" in said or not said.startswith("proved") and own in self.faults
+
+
+class Crate:
+    """A crate whose wrong bodies are tried, over a copy of the work that its proof has left."""
+
+    def __init__(self, name, kept):
+        self.name, self.kept = name, kept
+        self.folder = kit.ROOT / "crates" / name
+        self.texts = {str(it.relative_to(self.folder)): it.read_text() for it in sorted(self.folder.glob("src/**/*.rt"))}
+        self.seconds, self.checks, self.refused, self.faults = 0.0, 0, {}, []
+
+    def edits(self, only):
+        found = [read(it) for it in sorted(self.folder.glob("wrong-bodies/**/*.edit")) if only in it.stem]
+        for edit in found:
+            if fits(edit, self.texts):
+                edit.function = function_of(edit, self.texts, self.name)
+            else:
+                self.faults.append(f"{edit.name}: an old text doesn't stand exactly once in its file")
+        return [it for it in found if fits(it, self.texts)]
+
+    def check(self, edits):
+        """Checks a copy of the crate with these edits, over a copy of its kept work."""
+        texts = dict(self.texts)
+        for edit in edits:
+            apply(edit, texts)
+        with tempfile.TemporaryDirectory(prefix="wrong-bodies-") as room:
+            for part in PARTS:
+                if (self.folder / part).is_dir():
+                    shutil.copytree(self.folder / part, f"{room}/{part}")
+            for file, text in texts.items():
+                pathlib.Path(room, file).write_text(text)
+            os.mkdir(f"{room}/kept")
+            if self.kept.is_dir():
+                shutil.copytree(self.kept, f"{room}/kept", copy_function=os.link, dirs_exist_ok=True)
+            words = [kit.RATTLE, "check", *kit.words(self.name), "--jobs", "1", "--incremental", f"{room}/kept"]
+            how = {"stdin": subprocess.DEVNULL, "stdout": subprocess.PIPE, "stderr": subprocess.STDOUT, "errors": "replace"}
+            ran = subprocess.Popen(words, cwd=room, **how)
+            said = ran.stdout.read()
+            _, _, used = os.wait4(ran.pid, 0)
+        self.seconds += used.ru_utime + used.ru_stime
+        self.checks += 1
+        return Check(said)
+
+    def judge(self, edits):
+        """Checks a round, and returns what it says of each edit: refused, proved, or a word why it says nothing yet."""
+        checked = self.check(edits)
+        names = {it: checked.name_of(it.function) for it in edits}
+        reached = [it for it in checked.lines if checked.is_broken(it) and it not in names.values()]
+        if len(edits) > 1 and (reached or not checked.is_whole):
+            half = len(edits) // 2
+            return {**self.judge(edits[:half]), **self.judge(edits[half:])}
+        answers = {}
+        for edit, name in names.items():
+            said = checked.lines.get(name, "")
+            if not checked.is_whole:
+                answers[edit] = "unread: " + next((it for it in checked.said.splitlines() if "error" in it), "")[:200]
+            elif checked.is_broken(name) or len(edits) == 1 and (reached or not edit.function and checked.faults):
+                answers[edit] = "refused"
+            elif said.startswith("proved") or len(edits) == 1 and checked.is_proved:
+                answers[edit] = "proved"
+            else:
+                answers[edit] = "waits" if "which is not proved" in said else "unjudged: " + said[:200]
+        return answers
+
+    def fitting(self, edits, told):
+        """Returns as many of the edits as fit into one round, one a function at most. What two rounds left goes alone."""
+        taken, seen, texts = [], set(), dict(self.texts)
+        for edit in edits:
+            is_new = edit.function and len(told[edit]) < 2
+            if is_new and edit.function not in seen and fits(edit, texts):
+                apply(edit, texts)
+                seen.add(edit.function)
+                taken.append(edit)
+        return taken or edits[:1]
+
+    def try_all(self, only):
+        """Tries the edits in rounds, until each is judged, and then the crate without any."""
+        edits = self.edits(only)
+        left, told, number = list(edits), collections.defaultdict(list), 0
+        while left:
+            number += 1
+            taken = self.fitting(left, told)
+            answers = self.judge(taken)
+            for edit, answer in answers.items():
+                alone = len(taken) == 1
+                told[edit].append(answer)
+                if answer == "refused":
+                    self.refused[edit] = number
+                if answer == "refused" or alone or edit.is_planted and answer == "proved":
+                    left.remove(edit)
+            for edit in taken if len(taken) == 1 else []:
+                report(f"{self.name}: {edit.name}: {answers[edit]}")
+            refused = list(answers.values()).count("refused")
+            report(f"{self.name}: round {number}: {refused} of {len(taken)} refused, {self.seconds:.0f} processor seconds so far")
+        if not self.check([]).is_proved:
+            self.faults.append("the crate without an edit isn't proved over the same work")
+        for edit in edits:
+            self.faults += fault_of(edit, told[edit], edit in self.refused)
+        return edits
+
+
+def fault_of(edit, told, refused):
+    """Returns what is wrong with what was told of an edit in its rounds, in a list of none or one."""
+    if not edit.is_planted:
+        return [] if refused else [f"{edit.name}: LET THROUGH: {told[-1]}"]
+    if refused or told[-1] != "proved":
+        return [f"{edit.name}: planted, and not seen as let through: {told}"]
+    if edit.name.startswith("waits_") and told[0] != "waits":
+        return [f"{edit.name}: planted, and waits for no broken function in its first round: {told}"]
+    return []
+
+
+printing = threading.Lock()
+
+
+def report(line):
+    with printing:
+        print(line, flush=True)
+
+
+def main():
+    asked = argparse.ArgumentParser()
+    asked.add_argument("--build", action="store_true", help="check each crate first, and start from the work in its out/")
+    asked.add_argument("--kept", type=pathlib.Path, help="a folder with each crate's kept work, by its name")
+    asked.add_argument("--crate", action="append", default=[])
+    asked.add_argument("--only", default="")
+    asked.add_argument("--json", type=pathlib.Path, help="where to write the processor seconds of each crate")
+    asked = asked.parse_args()
+    kept = lambda name: asked.kept / name if asked.kept else kit.ROOT / "crates" / name / "out/incremental"
+    crates = [Crate(it, kept(it)) for it in kit.crates() if (kit.ROOT / "crates" / it / "wrong-bodies").is_dir()]
+    crates = [it for it in crates if not asked.crate or it.name in asked.crate]
+    crates.sort(key=lambda it: -len(list(it.folder.glob("wrong-bodies/*.edit"))))
+    for crate in crates if asked.build else []:
+        ran = subprocess.run(["rt", "check"], cwd=crate.folder, stdout=subprocess.PIPE, stderr=subprocess.STDOUT, text=True)
+        if ran.returncode:
+            sys.exit(f"{ran.stdout}\n{crate.name} isn't proved as it stands")
+    began = time.monotonic()
+    with concurrent.futures.ThreadPoolExecutor(len(os.sched_getaffinity(0))) as pool:
+        tried = dict(zip(crates, pool.map(lambda it: it.try_all(asked.only), crates)))
+    for crate, edits in tried.items():
+        wrong = [it for it in edits if not it.is_planted]
+        by_round = collections.Counter(crate.refused.values())
+        shown = ", ".join(f"{count} in round {number}" for number, count in sorted(by_round.items()))
+        report(f"{crate.name}: {len(crate.refused)} of {len(wrong)} wrong bodies refused ({shown}), {len(edits) - len(wrong)} planted, {crate.checks} checks, {crate.seconds:.0f} processor seconds")
+        for fault in crate.faults:
+            report(f"FAILED {crate.name}: {fault}")
+    passed, failed = sum(len(it.refused) for it in crates), sum(len(it.faults) for it in crates)
+    if asked.json:
+        asked.json.write_text(json.dumps({it.name: it.seconds for it in crates}))
+    report(f"wrong bodies: {passed} refused, {failed} failed, {time.monotonic() - began:.0f} seconds")
+    sys.exit(1 if failed else 0)
+
+
+if __name__ == "__main__":
+    main()
