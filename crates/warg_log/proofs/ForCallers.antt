@@ -38,6 +38,10 @@ over_at = nodes.over_at
 pub front_is_greatest : (n : ℕ) → 1 < n → IsFull (front_of n) × (front_of n < n) × (n ≤ 2 * front_of n)
 front_is_greatest n more = let f = powers.front_is n more in rw f.1 ((f.0, refl), f.2, omega (arith, f.3))
 
+-- a power of two below a count whose double isn't below it is the front
+pub front_of_is : (h n : ℕ) → 2 ^ h < n → n ≤ 2 ^ suc h → front_of n ≡ 2 ^ h
+front_of_is = powers.front_of-is
+
 -- the root over one leaf is its digest
 pub root_over_one : (H : List ℕ → List ℕ) (ds : List (List ℕ)) (a : ℕ) → a < length ds → root_over H ds a 1 ≡ slice_index_or ds a []
 root_over_one = laws.root_over-one
@@ -88,6 +92,11 @@ old_full H F a n full = let some : 0 < n = rw full.1 (pow_pos full.0) in cuts.ol
 pub old_parts : (H : List ℕ → List ℕ) (F : ℕ → Option (List ℕ)) (a n : ℕ) → 1 < n → (IsFull n → ⊥)
     → old_over H F a n ≡ joined H (old_over H F a (front_of n)) (old_over H F (a + front_of n) (n - front_of n))
 old_parts = cuts.old_over-parts
+
+-- over a log's own digests the old root of a range of its recursion is the root over it
+pub old_own_range : (H : List ℕ → List ℕ) (ds : List (List ℕ)) (k c n : ℕ) → 0 < n → n ≤ 2 ^ k → c * 2 ^ k + n ≤ length ds
+    → old_over H (own_digest H ds) (c * 2 ^ k) n ≡ Some (root_over H ds (c * 2 ^ k) n)
+old_own_range H ds k j n = cuts.own_at H ds _ 0 0 k j (j * 2 ^ k) n refl refl
 
 -- a consistency proof evaluates to the roots that meet it alone
 pub consistency_only : (H : List ℕ → List ℕ) (F : ℕ → Option (List ℕ)) (m n : ℕ) (old new : List ℕ) → consistency H F m n ≡ Ok (old, new) → IsConsistent H F m n old new

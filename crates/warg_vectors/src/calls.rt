@@ -11,6 +11,7 @@ mod map_witnesses;
 mod maps;
 mod messages;
 mod nodes;
+mod paths;
 mod proofs;
 mod runs;
 mod stored;
@@ -40,6 +41,8 @@ pub(crate) fn answer(words: &mut Words<'_>, to: &mut Answer) -> Result<(), Fault
         "check_absent" => each::answer::<checks::CheckAbsent>(words, to),
         "check_entry" => each::answer::<checks::CheckEntry>(words, to),
         "check_growth" => each::answer::<checks::CheckGrowth>(words, to),
+        "check_record" => each::answer::<paths::CheckRecord>(words, to),
+        "check_tree" => each::answer::<paths::CheckTree>(words, to),
         _ if nodes::has_call(name) => nodes::answer(name, words, to),
         _ => by_digest(name, words, to),
     }
@@ -71,6 +74,20 @@ fn of_log<D: SupportedDigest>(
         "witness_hash" => each::answer::<witnesses::WitnessHash<D>>(words, to),
         "witness_consistency" => each::answer::<witnesses::WitnessConsistency<D>>(words, to),
         "agree_value" => each::answer::<witnesses::AgreeValue<D>>(words, to),
+        _ => of_path::<D>(name, words, to),
+    }
+}
+
+fn of_path<D: SupportedDigest>(
+    name: &str,
+    words: &mut Words<'_>,
+    to: &mut Answer,
+) -> Result<(), Fault> {
+    match name {
+        "inclusion_path" => each::answer::<paths::InclusionPath<D>>(words, to),
+        "consistency_path" => each::answer::<paths::ConsistencyPath<D>>(words, to),
+        "root_of_inclusion" => each::answer::<paths::RootOfInclusion<D>>(words, to),
+        "roots_of_consistency" => each::answer::<paths::RootsOfConsistency<D>>(words, to),
         _ => of_map::<D>(name, words, to),
     }
 }

@@ -12,8 +12,8 @@ type Place = (Vec<u8>, usize);
 
 type Root = Hash<Sha256>;
 
-// The length and the root of a checkpoint.
-type Known = (usize, Root);
+/// The length and the root of a checkpoint.
+pub(super) type Known = (usize, Root);
 
 fn write(verdict: Result<bool, CheckError>, to: &mut Answer) -> Result<(), AllocError> {
     match verdict {
@@ -95,7 +95,8 @@ impl Call for CheckAbsent {
     }
 }
 
-fn checkpoint(known: &Known) -> Checkpoint<Sha256> {
+/// The checkpoint of what a line gives.
+pub(super) fn checkpoint(known: &Known) -> Checkpoint<Sha256> {
     Checkpoint::new(known.1.copied(), known.0)
 }
 

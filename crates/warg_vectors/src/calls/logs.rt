@@ -1,6 +1,5 @@
 //! Logs that entries are pushed into: one that keeps all digests, and one that keeps its balanced roots alone.
 
-use crate::answer;
 use crate::answer::Answer;
 use crate::calls::wrong::Wrong;
 use crate::each::{Call, Memory};
@@ -35,11 +34,7 @@ fn write<D: SupportedDigest, A: Allocator>(
     let checkpoint = log.checkpoint();
     to.shown(&checkpoint.length())?;
     to.hash(&checkpoint.root())?;
-    let mut tree = answer::List::new(to.alloc());
-    for hash in log.as_ref() {
-        tree.push_hash(hash)?;
-    }
-    to.list(tree)
+    to.hashes(log.as_ref())
 }
 
 // A kind of log.

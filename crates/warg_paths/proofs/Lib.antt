@@ -1,0 +1,3 @@
+mod PathLemmas
+mod MakeLemmas
+mod BytesLemmas

@@ -1,0 +1,104 @@
+-- Inclusion and consistency paths (RFC 6962, sections 2.1.1 and 2.1.2; in RFC 9162, 2.1.3.1 and 2.1.4.1). A path
+-- is a list of digests from the bottom up. R has the root of each range of leaves by its first leaf and its
+-- count, if there is one.
+use Rattle.std.specs.Prelude.{ℕ, zero, suc, ◌+◌, ◌-◌, ◌==◌, Bool, true, false, ◌&&◌, nat_le, nat_lt, if◌then◌else◌, List, [], ◌∷◌, ◌++◌, reverse, Option, Some, None}
+use Rattle.warg_log.specs.Tree.{branch, front_of}
+use Rattle.warg_log.specs.Cut.{joined}
+
+-- A path with one more digest above it, where both are there.
+abbrev pub beside : Option (List (List ℕ)) → Option (List ℕ) → Option (List (List ℕ))
+beside (Some path) (Some top) = Some (path ++ top ∷ [])
+beside _ _ = None
+
+-- The path of leaf m of the n leaves from a on: that in the part which has the leaf, and then the root of the
+-- other part. So many steps are enough as there are leaves.
+unfoldable pub path_within : (ℕ → ℕ → Option (List ℕ)) → ℕ → ℕ → ℕ → ℕ → Option (List (List ℕ))
+path_within R zero m a n = Some []
+path_within R (suc steps) m a n =
+    if nat_le n 1
+    then Some []
+    else if nat_lt m (front_of n)
+    then beside (path_within R steps m a (front_of n)) (R (a + front_of n) (n - front_of n))
+    else beside (path_within R steps (m - front_of n) (a + front_of n) (n - front_of n)) (R a (front_of n))
+
+-- The inclusion path of leaf m of the n leaves from a on.
+abbrev pub inclusion_over : (ℕ → ℕ → Option (List ℕ)) → ℕ → ℕ → ℕ → Option (List (List ℕ))
+inclusion_over R m a n = path_within R n m a n
+
+-- The inclusion path of leaf m of n.
+abbrev pub inclusion_of : (ℕ → ℕ → Option (List ℕ)) → ℕ → ℕ → Option (List (List ℕ))
+inclusion_of R m n = inclusion_over R m 0 n
+
+-- The path over leaves that are all old: nothing where they are the whole old log, whose root is known, and else
+-- their root.
+abbrev pub path_at_end : (ℕ → ℕ → Option (List ℕ)) → Bool → ℕ → ℕ → Option (List (List ℕ))
+path_at_end R whole a n = if whole then Some [] else beside (Some []) (R a n)
+
+-- The path from the first m of the n leaves from a on to all of them. Where these m are the whole old log, their
+-- root is known, and else it leads the path. So many steps are enough as there are leaves.
+unfoldable pub growth_within : (ℕ → ℕ → Option (List ℕ)) → ℕ → Bool → ℕ → ℕ → ℕ → Option (List (List ℕ))
+growth_within R zero whole m a n = Some []
+growth_within R (suc steps) whole m a n =
+    if m == n
+    then path_at_end R whole a n
+    else if nat_le m (front_of n)
+    then beside (growth_within R steps whole m a (front_of n)) (R (a + front_of n) (n - front_of n))
+    else beside (growth_within R steps false (m - front_of n) (a + front_of n) (n - front_of n)) (R a (front_of n))
+
+-- The consistency path from the first m of the n leaves from a on to all of them.
+abbrev pub consistency_over : (ℕ → ℕ → Option (List ℕ)) → Bool → ℕ → ℕ → ℕ → Option (List (List ℕ))
+consistency_over R whole m a n = growth_within R n whole m a n
+
+-- The consistency path from m leaves to n.
+abbrev pub consistency_of : (ℕ → ℕ → Option (List ℕ)) → ℕ → ℕ → Option (List (List ℕ))
+consistency_of R m n = consistency_over R true m 0 n
+
+-- The root of n leaves by the digest x of leaf m and the digests of a path, the topmost first.
+unfoldable pub root_down : (List ℕ → List ℕ) → ℕ → ℕ → List ℕ → List (List ℕ) → Option (List ℕ)
+root_down H m n x [] = if n == 1 then Some x else None
+root_down H m n x (top ∷ below) =
+    if nat_le n 1
+    then None
+    else if nat_lt m (front_of n)
+    then joined H (root_down H m (front_of n) x below) (Some top)
+    else joined H (Some top) (root_down H (m - front_of n) (n - front_of n) x below)
+
+-- The root by an inclusion path of leaf m of n.
+abbrev pub inclusion_root : (List ℕ → List ℕ) → ℕ → ℕ → List ℕ → List (List ℕ) → Option (List ℕ)
+inclusion_root H m n x path = if nat_lt m n then root_down H m n x (reverse path) else None
+
+-- The one root of both lengths, where they are equal: the known one, or the digest that leads the path.
+abbrev pub one_root : Option (List ℕ) → List (List ℕ) → Option (List ℕ)
+one_root (Some root) [] = Some root
+one_root None (root ∷ []) = Some root
+one_root _ _ = None
+
+-- A root as the old one and the new one.
+abbrev pub twice : Option (List ℕ) → Option (List ℕ × List ℕ)
+twice (Some root) = Some (root, root)
+twice None = None
+
+-- The old root and the new one, over a part that both have and a digest that only the new one has.
+abbrev pub grown : (List ℕ → List ℕ) → Option (List ℕ × List ℕ) → List ℕ → Option (List ℕ × List ℕ)
+grown H (Some roots) right = Some (roots.0, branch H roots.1 right)
+grown H None right = None
+
+-- The old root and the new one, over a digest that both have and a part.
+abbrev pub both_over : (List ℕ → List ℕ) → List ℕ → Option (List ℕ × List ℕ) → Option (List ℕ × List ℕ)
+both_over H left (Some roots) = Some (branch H left roots.0, branch H left roots.1)
+both_over H left None = None
+
+-- The roots of m leaves and of n by the root of the m, where it is known, and the digests of a path, the topmost
+-- first.
+unfoldable pub roots_down : (List ℕ → List ℕ) → Option (List ℕ) → ℕ → ℕ → List (List ℕ) → Option (List ℕ × List ℕ)
+roots_down H old m n [] = if m == n then twice (one_root old []) else None
+roots_down H old m n (top ∷ below) =
+    if m == n
+    then twice (one_root old (top ∷ below))
+    else if nat_le m (front_of n)
+    then grown H (roots_down H old m (front_of n) below) top
+    else both_over H top (roots_down H None (m - front_of n) (n - front_of n) below)
+
+-- The roots by a consistency path from m leaves, whose root is `old`, to n.
+abbrev pub consistency_roots : (List ℕ → List ℕ) → ℕ → ℕ → List ℕ → List (List ℕ) → Option (List ℕ × List ℕ)
+consistency_roots H m n old path = if nat_lt 0 m && nat_le m n then roots_down H (Some old) m n (reverse path) else None

@@ -1,0 +1,14 @@
+//! How the tree's recursion splits a count of leaves.
+
+ghost use Rattle.std.specs.Prelude.{◌≡◌, ◌<◌};
+ghost use Rattle.warg_log.specs.Tree.{front_of};
+
+// The greatest power of two below the count: that of the leaves of a range's first part.
+pub(crate) fn front_of(count: usize) -> usize
+    requires { 1 < count }
+    ensures value { result ≡ front_of count }
+    ensures some { 0 < result }
+    ensures below { result < count }
+{
+    1 << (count - 1).ilog2()
+}
