@@ -1,5 +1,6 @@
 pub mod DigestFacts
 pub mod Digests
+pub mod Collisions
 pub mod EmptyTrees
 pub mod Text
 pub mod WeakDigests

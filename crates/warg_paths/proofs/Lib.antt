@@ -1,3 +1,7 @@
+pub mod ForCallers
 mod PathLemmas
 mod MakeLemmas
 mod BytesLemmas
+mod LawLemmas
+mod GrowthLemmas
+mod UniqueLemmas

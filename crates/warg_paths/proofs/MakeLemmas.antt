@@ -6,7 +6,7 @@ use Rattle.warg_log.proofs.ForCallers.{front_is_greatest}
 use Rattle.warg_paths.specs.Paths.{beside, path_within, inclusion_over, path_at_end, growth_within, consistency_over}
 
 -- the parts of more than one leaf have some, and fewer than all
-parts_fewer : (n : ℕ) → 1 < n → (0 < front_of n) × (front_of n < n) × (n - front_of n < n)
+pub parts_fewer : (n : ℕ) → 1 < n → (0 < front_of n) × (front_of n < n) × (n - front_of n < n)
 parts_fewer n more = let f = front_is_greatest n more in (omega (arith, f.2), f.1, omega (arith, f.2, f.1))
 
 -- a step more than there are leaves changes nothing

@@ -73,6 +73,11 @@ one_root (Some root) [] = Some root
 one_root None (root ∷ []) = Some root
 one_root _ _ = None
 
+-- The root to which a path of leaf m of n leads from the digest x, if there is a path.
+abbrev pub led_to : (List ℕ → List ℕ) → ℕ → ℕ → List ℕ → Option (List (List ℕ)) → Option (List ℕ)
+led_to H m n x None = None
+led_to H m n x (Some path) = inclusion_root H m n x path
+
 -- A root as the old one and the new one.
 abbrev pub twice : Option (List ℕ) → Option (List ℕ × List ℕ)
 twice (Some root) = Some (root, root)
@@ -102,3 +107,8 @@ roots_down H old m n (top ∷ below) =
 -- The roots by a consistency path from m leaves, whose root is `old`, to n.
 abbrev pub consistency_roots : (List ℕ → List ℕ) → ℕ → ℕ → List ℕ → List (List ℕ) → Option (List ℕ × List ℕ)
 consistency_roots H m n old path = if nat_lt 0 m && nat_le m n then roots_down H (Some old) m n (reverse path) else None
+
+-- The roots to which a path from m leaves to n leads from the root of the m, if there is a path.
+abbrev pub led_to_both : (List ℕ → List ℕ) → ℕ → ℕ → List ℕ → Option (List (List ℕ)) → Option (List ℕ × List ℕ)
+led_to_both H m n old None = None
+led_to_both H m n old (Some path) = consistency_roots H m n old path

@@ -12,6 +12,7 @@ mod consistency;
 mod error;
 mod front;
 mod inclusion;
+pub mod laws;
 
 pub use bytes::hashes_in;
 pub use consistency::{check_tree, consistency_path, roots_of_consistency};

@@ -1,0 +1,46 @@
+-- Lemmas for the proofs of the crates above, over public definitions alone.
+use Rattle.std.proofs.Common.{◌≡◌, ℕ, ◌-◌, ◌<◌, ◌≤◌, List, [], ◌∷◌, ◌++◌, length, reverse, Option, Some, None}
+use Rattle.warg_log.specs.Tree.{front_of}
+use Rattle.warg_log.specs.Cut.{joined}
+use Rattle.warg_paths.specs.Paths.{root_down, roots_down, one_root, twice, grown, both_over}
+use Rattle.warg_paths.proofs.PathLemmas as paths
+
+-- of one leaf, no digests lead to its own
+pub root_one : (H : List ℕ → List ℕ) (m : ℕ) (x : List ℕ) (path : List (List ℕ)) → length path ≡ 0 → root_down H m 1 x (reverse path) ≡ Some x
+root_one = paths.root_one
+
+-- of one leaf, any digests lead nowhere
+pub root_long : (H : List ℕ → List ℕ) (m : ℕ) (x : List ℕ) (path : List (List ℕ)) → (length path ≡ 0 → ⊥) → root_down H m 1 x (reverse path) ≡ None
+root_long = paths.root_long
+
+-- of more leaves, no digests lead nowhere
+pub root_short : (H : List ℕ → List ℕ) (m n : ℕ) (x : List ℕ) (path : List (List ℕ)) → 1 < n → length path ≡ 0 → root_down H m n x (reverse path) ≡ None
+root_short = paths.root_short
+
+-- the root by a path, where the leaf is in the first part
+pub root_front : (H : List ℕ → List ℕ) (m n : ℕ) (x top : List ℕ) (below : List (List ℕ)) → 1 < n → m < front_of n
+    → root_down H m n x (reverse (below ++ top ∷ [])) ≡ joined H (root_down H m (front_of n) x (reverse below)) (Some top)
+root_front = paths.root_front
+
+-- the root by a path, where the leaf is in the rest
+pub root_rest : (H : List ℕ → List ℕ) (m n : ℕ) (x top : List ℕ) (below : List (List ℕ)) → 1 < n → front_of n ≤ m
+    → root_down H m n x (reverse (below ++ top ∷ [])) ≡ joined H (Some top) (root_down H (m - front_of n) (n - front_of n) x (reverse below))
+root_rest = paths.root_rest
+
+-- the roots by a path, where both lengths are one
+pub both_one : (H : List ℕ → List ℕ) (old : Option (List ℕ)) (n : ℕ) (path : List (List ℕ)) → roots_down H old n n (reverse path) ≡ twice (one_root old path)
+both_one = paths.both_one
+
+-- lengths that differ need a digest
+pub both_short : (H : List ℕ → List ℕ) (old : Option (List ℕ)) (m n : ℕ) (path : List (List ℕ)) → m < n → length path ≡ 0 → roots_down H old m n (reverse path) ≡ None
+both_short = paths.both_short
+
+-- the roots by a path, where the old leaves end in the first part
+pub both_front : (H : List ℕ → List ℕ) (old : Option (List ℕ)) (m n : ℕ) (top : List ℕ) (below : List (List ℕ)) → m < n → m ≤ front_of n
+    → roots_down H old m n (reverse (below ++ top ∷ [])) ≡ grown H (roots_down H old m (front_of n) (reverse below)) top
+both_front = paths.both_front
+
+-- the roots by a path, where the old leaves end in the rest
+pub both_rest : (H : List ℕ → List ℕ) (old : Option (List ℕ)) (m n : ℕ) (top : List ℕ) (below : List (List ℕ)) → m < n → front_of n < m
+    → roots_down H old m n (reverse (below ++ top ∷ [])) ≡ both_over H top (roots_down H None (m - front_of n) (n - front_of n) (reverse below))
+both_rest = paths.both_rest

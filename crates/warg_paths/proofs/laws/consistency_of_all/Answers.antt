@@ -1,0 +1,5 @@
+use Rattle.warg_paths.proofs.MakeLemmas.{consistency_end}
+use Rattle.warg_paths.proofs.laws.consistency_of_all.Goals as goal
+
+pub returns : goal.returns
+returns c = consistency_end
