@@ -1,7 +1,8 @@
 /* Verdicts on the proofs of transparency logs and maps, from their bytes, under SHA-256.
  *
- * Which call to use first: whoever holds a log's checkpoint, its length and root, calls warg_check_entry and
- * warg_check_growth, which bind both. warg_check_inclusion and warg_check_consistency say that a proof
+ * Which call to use first: whoever holds a log's checkpoint, its length and root, and a path as logs send them
+ * (RFC 6962, RFC 9162: Certificate Transparency, Go's checksum database, tiled logs) calls warg_check_record and
+ * warg_check_tree; with a bundle of proofs warg_check_entry and warg_check_growth. These four bind both. warg_check_inclusion and warg_check_consistency say that a proof
  * evaluates to a root, and bind neither a log's length nor an entry's place. For maps there are
  * warg_check_key and warg_check_absent.
  *
@@ -49,7 +50,7 @@ enum {
     WARG_NUMBER_TOO_LARGE = -17, /* a number is above 2^32 - 1 */
 
     /* The first fault of what the message holds. */
-    WARG_HASH_LENGTH = -21,    /* a digest isn't 32 bytes */
+    WARG_HASH_LENGTH = -21,    /* a digest isn't 32 bytes, or a path's bytes are no multiple of 32 */
     WARG_NOT_ASCENDING = -22,  /* a digest's node isn't above the one before */
     WARG_TOO_MANY_PEERS = -23  /* a map's proof has more than 256 peers */
 };
@@ -93,6 +94,18 @@ int32_t warg_check_key(const uint8_t *bundle, size_t bundle_bytes, size_t at,
 int32_t warg_check_absent(const uint8_t *bundle, size_t bundle_bytes, size_t at,
                           const uint8_t *key, size_t key_bytes,
                           const uint8_t *root, size_t root_bytes);
+
+/* Whether an inclusion path shows that entry `index`, from 0, of the log of this length and root has the value's
+ * bytes. A path is its digests, 32 bytes each, from the bottom up (RFC 6962, section 2.1.1). */
+int32_t warg_check_record(const uint8_t *path, size_t path_bytes, size_t index,
+                          const uint8_t *value, size_t value_bytes, size_t length,
+                          const uint8_t *root, size_t root_bytes);
+
+/* Whether a consistency path shows that the log of the old length and root is a beginning of the log of the new
+ * ones (RFC 6962, section 2.1.2). From an empty log it is false: no path is made of it. */
+int32_t warg_check_tree(const uint8_t *path, size_t path_bytes, size_t old_length,
+                        const uint8_t *old_root, size_t old_root_bytes, size_t new_length,
+                        const uint8_t *new_root, size_t new_root_bytes);
 
 #ifdef __cplusplus
 }

@@ -20,6 +20,8 @@ WRONG = {
     "a number for a bundle": (TypeError, lambda warg: warg.check_absent(7, 0, b"", ROOT)),
     "a text for a key": (TypeError, lambda warg: warg.check_key(BUNDLE, 0, "key", b"", ROOT)),
     "nothing for a root": (TypeError, lambda warg: warg.check_inclusion(BUNDLE, 0, b"", None)),
+    "a path's index of 2^64": (ValueError, lambda warg: warg.check_record(ROOT, 2**64, b"", 2, ROOT)),
+    "a number for a path": (TypeError, lambda warg: warg.check_tree(7, 1, ROOT, 2, ROOT)),
     "a root of 31 bytes": (RootLength, lambda warg: warg.check_inclusion(BUNDLE, 0, b"", ROOT[1:])),
 }
 

@@ -35,6 +35,12 @@ static const char *answer_text(int32_t number)
     return "refused Memory";
 }
 
+/* The same for a path, whose bytes can have one fault alone. */
+static const char *path_text(int32_t number)
+{
+    return number == WARG_HASH_LENGTH ? "refused HashLength" : answer_text(number);
+}
+
 /* How many bytes the hexadecimal digits of a word are, or `-` for none. */
 static size_t count_of(const char *word)
 {
@@ -86,6 +92,10 @@ static const char *answer(char *w[MOST_WORDS], int count)
     if (count == 7 && strcmp(w[0], "check_growth") == 0)
         return answer_text(warg_check_growth(BYTES(1), number_of(w[2]), number_of(w[3]), BYTES(4),
                                              number_of(w[5]), BYTES(6)));
+    if (count == 6 && strcmp(w[0], "check_record") == 0)
+        return path_text(warg_check_record(BYTES(1), number_of(w[2]), BYTES(3), number_of(w[4]), BYTES(5)));
+    if (count == 6 && strcmp(w[0], "check_tree") == 0)
+        return path_text(warg_check_tree(BYTES(1), number_of(w[2]), BYTES(3), number_of(w[4]), BYTES(5)));
     return "bad call";
 }
 

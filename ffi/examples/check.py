@@ -26,6 +26,8 @@ REFUSALS = {
     -22: "Decode(NotAscending)",
     -23: "Decode(TooManyPeers)",
 }
+# The same for a path, whose bytes can have one fault alone.
+PATH_REFUSALS = {**REFUSALS, -21: "HashLength"}
 
 
 class Refused(Exception):
@@ -39,7 +41,7 @@ class RootLength(Refused, ValueError):
 class Warg:
     """The calls of the library. Each returns a bool, or raises `Refused`.
 
-    A bundle, a value, a key and a root are `bytes`, a place, an index and a length an `int` from 0 up to but not
+    A bundle, a path, a value, a key and a root are `bytes`, a place, an index and a length an `int` from 0 up to but not
     including 2^64. Anything else raises `TypeError` or `ValueError` before the library is called: ctypes would cut a
     number to its last 64 bits, and take a number for a pointer.
     """
@@ -67,14 +69,22 @@ class Warg:
     def check_absent(self, bundle, at, key, root):
         return self._verdict("check_absent", bundle, at, [*_bytes(key), *_bytes(root)])
 
-    def _verdict(self, name, bundle, at, claim):
+    def check_record(self, path, index, value, length, root):
+        claim = [*_bytes(value), *_number(length), *_bytes(root)]
+        return self._verdict("check_record", path, index, claim, PATH_REFUSALS)
+
+    def check_tree(self, path, old_length, old_root, new_length, new_root):
+        claim = [*_bytes(old_root), *_number(new_length), *_bytes(new_root)]
+        return self._verdict("check_tree", path, old_length, claim, PATH_REFUSALS)
+
+    def _verdict(self, name, given, place, claim, refusals=REFUSALS):
         call = getattr(self._library, f"warg_{name}")
         call.restype = ctypes.c_int32
-        number = call(*_bytes(bundle), *_number(at), *claim)
+        number = call(*_bytes(given), *_number(place), *claim)
         if number == -3:
-            raise RootLength(REFUSALS[number])
+            raise RootLength(refusals[number])
         if number < 0:
-            raise Refused(REFUSALS[number])
+            raise Refused(refusals[number])
         return number == 1
 
 
@@ -102,6 +112,8 @@ NUMBERS = {
     "check_consistency": (2,),
     "check_key": (2,),
     "check_absent": (2,),
+    "check_record": (2, 4),
+    "check_tree": (2, 4),
 }
 
 

@@ -31,6 +31,14 @@ unsafe extern "C" {
         bundle: *const u8, bundle_bytes: usize, at: usize, key: *const u8, key_bytes: usize,
         root: *const u8, root_bytes: usize,
     ) -> i32;
+    fn warg_check_record(
+        path: *const u8, path_bytes: usize, index: usize, value: *const u8, value_bytes: usize,
+        length: usize, root: *const u8, root_bytes: usize,
+    ) -> i32;
+    fn warg_check_tree(
+        path: *const u8, path_bytes: usize, old_length: usize, old_root: *const u8, old_root_bytes: usize,
+        new_length: usize, new_root: *const u8, new_root_bytes: usize,
+    ) -> i32;
 }
 
 /// Why there is no verdict.
@@ -39,6 +47,7 @@ pub enum Refused {
     OutOfMemory,
     NoSuchProof,
     RootLength,
+    HashLength,
     Decode(&'static str),
 }
 
@@ -62,6 +71,11 @@ fn verdict(number: i32) -> Result<bool, Refused> {
         -23 => Err(Refused::Decode("TooManyPeers")),
         other => unreachable!("the header names no {other}"),
     }
+}
+
+/// The same for a path, whose bytes can have one fault alone.
+fn path_verdict(number: i32) -> Result<bool, Refused> {
+    if number == -21 { Err(Refused::HashLength) } else { verdict(number) }
 }
 
 /// See `warg_check_entry` in `warg.h`.
@@ -128,6 +142,28 @@ pub fn check_absent(bundle: &[u8], at: usize, key: &[u8], root: &[u8]) -> Result
     })
 }
 
+/// See `warg_check_record` in `warg.h`.
+pub fn check_record(
+    path: &[u8], index: usize, value: &[u8], length: usize, root: &[u8],
+) -> Result<bool, Refused> {
+    path_verdict(unsafe {
+        warg_check_record(
+            path.as_ptr(), path.len(), index, value.as_ptr(), value.len(), length, root.as_ptr(), root.len(),
+        )
+    })
+}
+
+/// See `warg_check_tree` in `warg.h`.
+pub fn check_tree(
+    path: &[u8], old_length: usize, old: &[u8], new_length: usize, new: &[u8],
+) -> Result<bool, Refused> {
+    path_verdict(unsafe {
+        warg_check_tree(
+            path.as_ptr(), path.len(), old_length, old.as_ptr(), old.len(), new_length, new.as_ptr(), new.len(),
+        )
+    })
+}
+
 /// The bytes of hexadecimal digits, or of `-` for none.
 fn bytes(word: &str) -> Option<Vec<u8>> {
     let digits = word.trim_matches('-');
@@ -157,6 +193,12 @@ fn answer(line: &str) -> Option<Result<bool, Refused>> {
         ["check_absent", bundle, at, key, root] => {
             check_absent(&bytes(bundle)?, number(at)?, &bytes(key)?, &bytes(root)?)
         }
+        ["check_record", path, index, value, length, root] => {
+            check_record(&bytes(path)?, number(index)?, &bytes(value)?, number(length)?, &bytes(root)?)
+        }
+        ["check_tree", path, old_length, old, new_length, new] => check_tree(
+            &bytes(path)?, number(old_length)?, &bytes(old)?, number(new_length)?, &bytes(new)?,
+        ),
         _ => return None,
     })
 }
@@ -168,6 +210,7 @@ fn main() -> io::Result<()> {
             Some(Ok(holds)) => writeln!(out, "{holds}")?,
             Some(Err(Refused::OutOfMemory)) => writeln!(out, "refused Memory")?,
             Some(Err(Refused::NoSuchProof)) => writeln!(out, "refused NoSuchProof")?,
+            Some(Err(Refused::HashLength)) => writeln!(out, "refused HashLength")?,
             Some(Err(Refused::Decode(fault))) => writeln!(out, "refused Decode({fault})")?,
             Some(Err(Refused::RootLength)) | None => writeln!(out, "bad call")?,
         }

@@ -11,10 +11,13 @@ ghost use Rattle.warg_crypto.specs.Digests.{sha256};
 ghost use Rattle.warg_check.specs.Verdicts.{inclusion_verdict, consistency_verdict, key_verdict, absent_verdict};
 ghost use Rattle.warg_check.specs.CheckpointVerdicts.{entry_verdict, growth_verdict};
 ghost use Rattle.warg_ffi.specs.Numbers.{Returns};
+ghost use Rattle.warg_ffi.specs.PathVerdicts.{shows_record, shows_tree, path_verdict};
 
 mod number;
+mod paths;
 
 use number::{ROOT_LENGTH, number};
+use paths::{check_record_in, check_tree_in};
 use std::alloc::Global;
 use warg_check::{
     check_absent, check_consistency, check_entry, check_growth, check_inclusion, check_key,
@@ -23,12 +26,12 @@ use warg_crypto::{Hash, Sha256};
 use warg_log::Checkpoint;
 
 /// The version of the library, a byte for each number: 0.9.2, the version of the Rust crate whose calls these
-/// are, and 1 for what came here since.
+/// are, and 2 for what came here since.
 #[unsafe(no_mangle)]
 pub extern "C" fn warg_version() -> u32
-    ensures { result ≡ 9 * 2 ^ 16 + 2 * 2 ^ 8 + 1 }
+    ensures { result ≡ 9 * 2 ^ 16 + 2 * 2 ^ 8 + 2 }
 {
-    0x0009_0201
+    0x0009_0202
 }
 
 /// Whether the inclusion proof at a place of a log bundle, counted from 0, shows that entry `index`, from
@@ -159,5 +162,55 @@ pub extern "C" fn warg_check_absent(
     match Hash::<Sha256>::try_from(root) {
         Ok(root) => number(check_absent(alloc, bundle, at, &key, &root)),
         Err(_) => ROOT_LENGTH,
+    }
+}
+
+/// Whether an inclusion path shows that entry `index`, from 0, of the log of this length and root has the value's
+/// bytes: the number of the verdict of `warg_paths::check_record`. The path's bytes are its digests, 32 bytes each,
+/// from the bottom up (RFC 6962, section 2.1.1).
+#[unsafe(no_mangle)]
+pub extern "C" fn warg_check_record(
+    alloc: Global,
+    path: &[u8],
+    index: usize,
+    value: &[u8],
+    length: usize,
+    root: &[u8],
+) -> i32
+    ensures { Returns (root.now ∷ []) (path_verdict (shows_record sha256 index value.now length root.now) path.now) result }
+{
+    match Hash::<Sha256>::try_from(root) {
+        Ok(root) => {
+            let checkpoint = Checkpoint::new(root, length);
+            number(check_record_in(alloc, path, index, value, &checkpoint))
+        }
+        Err(_) => ROOT_LENGTH,
+    }
+}
+
+/// Whether a consistency path shows that the log of the old length and root is a beginning of the log of the new
+/// ones: the number of the verdict of `warg_paths::check_tree`. The path's bytes are its digests, 32 bytes each,
+/// from the bottom up (RFC 6962, section 2.1.2). From an empty log it is false: no path is made of it.
+#[unsafe(no_mangle)]
+pub extern "C" fn warg_check_tree(
+    alloc: Global,
+    path: &[u8],
+    old_length: usize,
+    old_root: &[u8],
+    new_length: usize,
+    new_root: &[u8],
+) -> i32
+    ensures { Returns (old_root.now ∷ new_root.now ∷ []) (path_verdict (shows_tree sha256 old_length old_root.now new_length new_root.now) path.now) result }
+{
+    match (
+        Hash::<Sha256>::try_from(old_root),
+        Hash::<Sha256>::try_from(new_root),
+    ) {
+        (Ok(old_root), Ok(new_root)) => {
+            let old = Checkpoint::new(old_root, old_length);
+            let new = Checkpoint::new(new_root, new_length);
+            number(check_tree_in(alloc, path, &old, &new))
+        }
+        _ => ROOT_LENGTH,
     }
 }

@@ -1,7 +1,7 @@
 //! Lists of hashes in bytes.
 
-ghost use Rattle.std.specs.Prelude.{◌≡◌, ◌↔◌, ◌%◌, ◌*◌, ℕ, length, Err, IfOk, OnOk};
-ghost use Rattle.std.specs.List.{concat};
+ghost use Rattle.std.specs.Prelude.{◌≡◌, ◌↔◌, None, Some, Err, IfOk};
+ghost use Rattle.warg_paths.specs.Pieces.{hashes_of};
 
 use crate::error::HashesError;
 use std::alloc::Allocator;
@@ -10,8 +10,8 @@ use warg_crypto::Hash;
 /// The hashes that bytes are, in pieces of 32 one behind the other. `HashLength` exactly where the bytes don't
 /// go out even, before any growth; else memory is the only error.
 pub fn hashes_in<D, A: Allocator>(alloc: A, bytes: &[u8]) -> Result<Vec<Hash<D>, A>, HashesError>
-    ensures ok { IfOk result (λ hashes. concat hashes.items ≡ bytes.now) }
-    ensures length { (result ≡ Err HashesError.HashLength) ↔ (length bytes.now % 32 ≡ 0 → ⊥) }
+    ensures ok { IfOk result (λ hashes. hashes_of bytes.now ≡ Some hashes.items) }
+    ensures length { (result ≡ Err HashesError.HashLength) ↔ (hashes_of bytes.now ≡ None) }
 {
     if bytes.len() % 32 != 0 {
         return Err(HashesError::HashLength);

@@ -1,0 +1,31 @@
+-- Verdicts on the bytes of paths.
+use Rattle.std.specs.Prelude.{ℕ, Bool, false, ◌&&◌, nat_eq, List, ◌∷◌, Option, Some, None, Result, Ok, Err}
+use Rattle.std.specs.Cmp.Lexicographic.{pointwise}
+use Rattle.warg_log.specs.declared.error.DecodeError.TheVariants as decoding
+use Rattle.warg_paths.specs.Paths.{inclusion_root, consistency_roots}
+use Rattle.warg_paths.specs.Pieces.{hashes_of}
+use Rattle.warg_check.specs.declared.verdict.CheckError.{CheckError}
+use Rattle.warg_check.specs.declared.verdict.CheckError.TheVariants as fault
+use Rattle.warg_check.specs.Verdicts.{is_root}
+
+-- The path leads from the value's leaf digest, at this index and length, to the root.
+abbrev pub shows_record : (List ℕ → List ℕ) → ℕ → List ℕ → ℕ → List ℕ → List (List ℕ) → Bool
+shows_record H index value length root path = is_root root (inclusion_root H index length (H (0 ∷ value)) path)
+
+-- The two roots are there, and are these.
+abbrev pub are_both : List ℕ → List ℕ → Option (List ℕ × List ℕ) → Bool
+are_both old new None = false
+are_both old new (Some roots) = pointwise nat_eq roots.0 old && pointwise nat_eq roots.1 new
+
+-- The path leads from the old root, between these lengths, to both roots.
+abbrev pub shows_tree : (List ℕ → List ℕ) → ℕ → List ℕ → ℕ → List ℕ → List (List ℕ) → Bool
+shows_tree H old_length old new_length new path = are_both old new (consistency_roots H old_length new_length old path)
+
+-- The verdict on a path, if the bytes are one: whether it holds.
+abbrev pub judged_path : (List (List ℕ) → Bool) → Option (List (List ℕ)) → Result Bool CheckError
+judged_path holds None = Err (fault.Decode decoding.HashLength)
+judged_path holds (Some path) = Ok (holds path)
+
+-- The verdict on a path's bytes.
+abbrev pub path_verdict : (List (List ℕ) → Bool) → List ℕ → Result Bool CheckError
+path_verdict holds bytes = judged_path holds (hashes_of bytes)
