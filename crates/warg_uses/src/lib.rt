@@ -6,4 +6,5 @@ pub mod check;
 pub mod crypto;
 pub mod log;
 pub mod map;
+pub mod paths;
 pub mod witness;

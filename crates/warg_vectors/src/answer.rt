@@ -44,7 +44,7 @@ impl Answer {
         self.word(digits.as_str())
     }
 
-    /// Writes two hashes as one word.
+    /// Writes a pair of hashes.
     pub(crate) fn pair<D>(&mut self, first: &Hash<D>, second: &Hash<D>) -> Result<(), AllocError> {
         let first = hex::encode(self.alloc(), first.bytes())?;
         let second = hex::encode(self.alloc(), second.bytes())?;

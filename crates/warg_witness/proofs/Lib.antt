@@ -14,3 +14,4 @@ pub mod KeyLemmas
 pub mod KeyLawLemmas
 pub mod KeysLemmas
 pub mod TreeLemmas
+pub mod RecordLemmas

@@ -7,4 +7,6 @@ pub mod Laws
 pub mod MapClaims
 pub mod MapInputs
 pub mod MapPlaced
+pub mod PathClaims
+pub mod PathPlaced
 pub mod Private

@@ -5,3 +5,4 @@ pub mod MapPaths
 pub mod Meeting
 pub mod Divergence
 pub mod Compared
+pub mod PathDivergence

@@ -14,8 +14,10 @@ mod descent;
 pub mod laws;
 mod log;
 mod map;
+mod paths;
 mod plain;
 
 pub use collision::{Collision, Finding};
 pub use log::{agree_value, witness_consistency, witness_hash, witness_value};
 pub use map::{agree_key, witness_absent, witness_key};
+pub use paths::witness_record;

@@ -10,16 +10,16 @@ use std::marker::PhantomData;
 use warg_crypto::{Hash, SupportedDigest};
 use warg_paths::PathError;
 
-// The digests of a path.
-type Path<D> = List<Hash<D>>;
+// An index or an old length, the length of the log, and what the path is made of.
+type Question<D> = ((usize, Length), Data<D>);
 
 pub(super) struct InclusionPath<D>(PhantomData<D>);
 
 impl<D: SupportedDigest> Call for InclusionPath<D> {
-    type Given = ((usize, Length), Data<D>);
+    type Given = Question<D>;
 
     fn answer<M: Memory>(
-        given: &((usize, Length), Data<D>),
+        given: &Question<D>,
         memory: M,
         to: &mut Answer,
     ) -> Result<(), AllocError> {
@@ -32,10 +32,10 @@ impl<D: SupportedDigest> Call for InclusionPath<D> {
 pub(super) struct ConsistencyPath<D>(PhantomData<D>);
 
 impl<D: SupportedDigest> Call for ConsistencyPath<D> {
-    type Given = ((usize, Length), Data<D>);
+    type Given = Question<D>;
 
     fn answer<M: Memory>(
-        given: &((usize, Length), Data<D>),
+        given: &Question<D>,
         memory: M,
         to: &mut Answer,
     ) -> Result<(), AllocError> {
@@ -55,8 +55,8 @@ fn write<D, A: Allocator>(
     }
 }
 
-// Two numbers of a path, a digest that is known, and the path.
-type Evaluation<D> = ((usize, usize), (Hash<D>, Path<D>));
+// An index or an old length, the length of the log, the digest that is known, and the path.
+type Evaluation<D> = ((usize, usize), (Hash<D>, List<Hash<D>>));
 
 pub(super) struct RootOfInclusion<D>(PhantomData<D>);
 

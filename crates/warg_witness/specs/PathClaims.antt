@@ -1,0 +1,14 @@
+-- What a path claims of given entries, and when the claim is met: where the path leads to the root of the tree over
+-- the entries.
+use Rattle.std.specs.Prelude.{◌≡◌, ℕ, List, [], ◌∷◌, length, Some, slice_index_or}
+use Rattle.warg_log.specs.Tree.{leaves_of, root_of}
+use Rattle.warg_paths.specs.Paths.{inclusion_root}
+
+-- The claim of a record: the entry at the index, from 0, has the value's bytes.
+abbrev pub IsRecord : ℕ → List ℕ → List (List ℕ) → Type 0
+IsRecord index value entries = slice_index_or entries index [] ≡ value
+
+-- The claim of a record is met: from the value's leaf digest, the path leads to the root of the tree over the
+-- entries.
+abbrev pub IsRecordMet : (List ℕ → List ℕ) → ℕ → List (List ℕ) → List ℕ → List (List ℕ) → Type 0
+IsRecordMet H index path value entries = inclusion_root H index (length entries) (H (0 ∷ value)) path ≡ Some (root_of H (leaves_of H entries))
