@@ -1,5 +1,5 @@
 # Entry points: the program, the gate, the figures, and the library for C.
-.PHONY: run try test wrong-bodies bench ffi ffi-test
+.PHONY: run try test wrong-bodies bench ffi ffi-test interop
 
 # Proves and builds the program, and leaves it at bin/warg_check. CPU=x86-64-v3 builds it for newer processors.
 run:
@@ -31,3 +31,7 @@ ffi:
 # Runs the examples in C, Python and Rust on every check line of the vectors.
 ffi-test: ffi
 	@ffi/test.sh
+
+# Proves and builds warg_interop, and compares its paths with those of Go's checksum database. BENCH=1 prints times too.
+interop:
+	@interop/run.sh

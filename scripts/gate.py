@@ -1,6 +1,7 @@
 #!/usr/bin/env python3
 """The merge gate, on a copy of the tree without what earlier checks left: every proof from nothing, the tests and the
-programs by the kit's own gate, the wrong bodies over the work that it made, and the examples for C, Python and Rust.
+programs by the kit's own gate, the wrong bodies over the work that it made, the examples for C, Python and Rust, and
+the comparison with Go's checksum database where Go is there.
 
 Prints what each part took in processor minutes, and last 'N passed, M failed'.
 """
@@ -142,6 +143,30 @@ def ran(words, folder, **more):
     return lines, not part.returncode, used() - before
 
 
+def install_go():
+    """Tries to install Go and its library where it isn't there. The comparison is left out where that fails."""
+    if shutil.which("go") or os.geteuid() or not shutil.which("apt-get"):
+        return
+    words = ["apt-get", "install", "-y", "golang-go", "golang-golang-x-mod-dev"]
+    try:
+        quiet = {"stdin": subprocess.DEVNULL, "stdout": subprocess.DEVNULL, "stderr": subprocess.DEVNULL}
+        subprocess.run(words, env={**os.environ, "DEBIAN_FRONTEND": "noninteractive"}, timeout=300, **quiet)
+    except (OSError, subprocess.TimeoutExpired):
+        pass
+
+
+def compare_with_go(tree):
+    """Runs the comparison over the program that the kit's gate has just proved and built.
+
+    Returns how many steps passed and failed, and its processor seconds.
+    """
+    install_go()
+    lines, well, seconds = ran(["interop/run.sh", "crates/warg_interop/out/warg_interop"], tree)
+    if well and any(line.startswith("interop: not run") for line in lines):
+        return 0, 0, seconds
+    return int(well), int(not well), seconds
+
+
 def table(watch, rest):
     """Returns the rows of what each part took, in processor minutes."""
     taken = watch.by_part()
@@ -157,7 +182,8 @@ def table(watch, rest):
     other = rest["kit"] - sum(taken.values())
     yield f"| builds and runs of programs and tests | {other / 60:.1f} | | | |"
     yield f"| examples for C, Python and Rust | {rest['examples'] / 60:.1f} | | | |"
-    everything = rest["kit"] + rest["examples"] + sum(rest["rounds"].values())
+    yield f"| comparison with Go's checksum database | {rest['interop'] / 60:.1f} | | | |"
+    everything = rest["kit"] + rest["examples"] + rest["interop"] + sum(rest["rounds"].values())
     yield f"| in all {everything / 60:.0f}, by the clock {rest['clock'] / 60:.0f}, on {len(os.sched_getaffinity(0))} processors | | | | |"
 
 
@@ -169,7 +195,7 @@ def main():
         tree.mkdir()
         copy_of_the_tree(tree)
         passed = failed = 0
-        rest = {"rounds": {}, "examples": 0.0}
+        rest = {"rounds": {}, "examples": 0.0, "interop": 0.0}
         for script in (["foreign_proofs.py"], ["definitions.py", "--check"], ["check_docs.py"], ["check_header.py"]):
             _, well, _ = ran([sys.executable, f"scripts/{script[0]}", *script[1:]], tree)
             passed, failed = passed + well, failed + (not well)
@@ -188,6 +214,8 @@ def main():
             rest["rounds"] = json.loads((room / "rounds").read_text()) if counted else {}
             _, well, rest["examples"] = ran(["bash", "-ec", "ffi/build.sh --as-proved; ffi/test.sh"], tree)
             passed, failed = passed + well, failed + (not well)
+            well, badly, rest["interop"] = compare_with_go(tree)
+            passed, failed = passed + well, failed + badly
         rest["clock"] = time.monotonic() - began
         print("\n".join(table(watch, rest)))
     print(f"{passed} passed, {failed} failed")

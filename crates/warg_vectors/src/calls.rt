@@ -84,6 +84,7 @@ fn of_path<D: SupportedDigest>(
     to: &mut Answer,
 ) -> Result<(), Fault> {
     match name {
+        "witness_record" => each::answer::<witnesses::WitnessRecord<D>>(words, to),
         "inclusion_path" => each::answer::<paths::InclusionPath<D>>(words, to),
         "consistency_path" => each::answer::<paths::ConsistencyPath<D>>(words, to),
         "root_of_inclusion" => each::answer::<paths::RootOfInclusion<D>>(words, to),

@@ -8,7 +8,8 @@ use Rattle.warg_log.specs.Cut.{cut_over}
 use Rattle.warg_witness.specs.Ranges.{IsPart, IsAround}
 use Rattle.warg_witness.specs.Claims.{Begins, IsMet, IsEntry, IsRootBelow, IsAgreement, IsConsistencyMet}
 use Rattle.warg_witness.specs.Inputs.{branch_input}
-use Rattle.warg_witness.specs.Laws.{GivesHashes, HoldsHashes, SomeCollision}
+use Rattle.warg_crypto.specs.Collisions.{GivesHashes, SomeCollision}
+use Rattle.warg_witness.specs.Laws.{HoldsHashes}
 use Rattle.warg_witness.specs.Private.Ranges.{IsAligned, IsNodeRange}
 use Rattle.warg_witness.specs.Private.Divergence.{HaveOneDigest, MeetAt, DivergesAt}
 use Rattle.warg_witness.specs.declared.descent.Divergence.{Divergence}

@@ -2,7 +2,8 @@
 use Rattle.std.proofs.Common.{◌≡◌, ℕ, List, [], ◌∷◌, Option, refl, sym}
 use Rattle.std.proofs.lemmas.List.{append-nil}
 use Rattle.warg_map.specs.Bits.{key_bits}
-use Rattle.warg_witness.specs.Laws.{GivesHashes, HoldsPeers, SomeCollision}
+use Rattle.warg_crypto.specs.Collisions.{GivesHashes, SomeCollision}
+use Rattle.warg_witness.specs.Laws.{HoldsPeers}
 use Rattle.warg_witness.specs.MapClaims.{IsKeyAgreement}
 use Rattle.warg_witness.specs.MapPlaced.{IsKeyAgreementPlaced}
 use Rattle.warg_witness.specs.Private.MapPaths.{IsPathDivergence}

@@ -7,7 +7,8 @@ use Rattle.warg_map.specs.Bits.{key_bits}
 use Rattle.warg_map.specs.Sparse.{root_of_levels, sparse_root, leaf_digest, map_of}
 use Rattle.warg_map.specs.Peers.{Proves}
 use Rattle.warg_map.specs.Last.{last_under}
-use Rattle.warg_witness.specs.Laws.{GivesHashes, GivesDigests, HoldsPeers, SomeCollision}
+use Rattle.warg_crypto.specs.Collisions.{GivesHashes, SomeCollision}
+use Rattle.warg_witness.specs.Laws.{GivesDigests, HoldsPeers}
 use Rattle.warg_witness.specs.MapClaims.{value_in, IsLastValue, IsKeyMet, IsAbsenceMet}
 use Rattle.warg_witness.specs.MapPlaced.{IsKeyPlaced}
 use Rattle.warg_witness.specs.Private.MapPaths.{plain_peers}

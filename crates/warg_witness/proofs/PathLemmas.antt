@@ -4,7 +4,8 @@ use Rattle.std.proofs.lemmas.Bool.{cases_Bool}
 use Rattle.warg_crypto.specs.EmptyTrees.{empty_root}
 use Rattle.warg_map.specs.ProofValue.{peer_of, proof_value}
 use Rattle.warg_witness.specs.Inputs.{branch_input}
-use Rattle.warg_witness.specs.Laws.{GivesHashes, HoldsPeers}
+use Rattle.warg_crypto.specs.Collisions.{GivesHashes}
+use Rattle.warg_witness.specs.Laws.{HoldsPeers}
 use Rattle.warg_witness.specs.MapInputs.{fork_input}
 use Rattle.warg_witness.specs.Private.MapPaths.{IsPathDivergence, IsClimb}
 use Rattle.warg_witness.specs.declared.descent.Divergence.{Divergence}

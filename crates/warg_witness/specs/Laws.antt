@@ -2,10 +2,6 @@
 use Rattle.std.specs.Prelude.{◌≡◌, ℕ, List, length, Option, Some, None, slice_index_or}
 use Rattle.warg_crypto.specs.Digests.{IsDigest}
 
--- Every digest has 32 bytes.
-abbrev pub GivesHashes : (List ℕ → List ℕ) → Type 0
-GivesHashes H = (m : List ℕ) → length (H m) ≡ 32
-
 -- Every digest that the data holds has 32 bytes.
 abbrev pub HoldsHashes : (ℕ → Option (List ℕ)) → Type 0
 HoldsHashes F = (node : ℕ) (digest : List ℕ) → F node ≡ Some digest → length digest ≡ 32
@@ -17,11 +13,3 @@ GivesDigests H = (m : List ℕ) → IsDigest (H m)
 -- Every peer that is there has 32 bytes.
 abbrev pub HoldsPeers : List (Option (List ℕ)) → Type 0
 HoldsPeers peers = (place : ℕ) (digest : List ℕ) → slice_index_or peers place None ≡ Some digest → length digest ≡ 32
-
--- Two byte lists that differ and have one digest, and stand where P says.
-pub record SomeCollision (H : List ℕ → List ℕ) (P : List ℕ → List ℕ → Type 0) : Type 0 where
-  pub first : List ℕ
-  pub second : List ℕ
-  pub differ : first ≡ second → ⊥
-  pub same : H first ≡ H second
-  pub placed : P first second

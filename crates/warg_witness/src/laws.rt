@@ -14,7 +14,8 @@ ghost use Rattle.warg_map.specs.Peers.{Proves};
 ghost use Rattle.warg_map.specs.Sparse.{sparse_root, map_of};
 ghost use Rattle.warg_witness.specs.MapClaims.{IsKeyMet, IsAbsenceMet, IsKeyAgreement, IsLastValue};
 ghost use Rattle.warg_witness.specs.MapPlaced.{IsKeyPlaced, IsKeyAgreementPlaced};
-ghost use Rattle.warg_witness.specs.Laws.{GivesHashes, GivesDigests, HoldsHashes, HoldsPeers, SomeCollision};
+ghost use Rattle.warg_crypto.specs.Collisions.{GivesHashes, SomeCollision};
+ghost use Rattle.warg_witness.specs.Laws.{GivesDigests, HoldsHashes, HoldsPeers};
 
 use crate::collision::Finding;
 use std::alloc::Allocator;

@@ -91,6 +91,22 @@ impl<D: SupportedDigest> Call for WitnessHash<D> {
     }
 }
 
+// A claim of a value at an index, the path, and what they are judged by.
+type Record<D> = ((usize, List<Hash<D>>), (Vec<u8>, (Entries, Pairs)));
+
+pub(super) struct WitnessRecord<D>(PhantomData<D>);
+
+impl<D: SupportedDigest> Call for WitnessRecord<D> {
+    type Given = Record<D>;
+
+    fn answer<M: Memory>(given: &Record<D>, memory: M, to: &mut Answer) -> Result<(), AllocError> {
+        let ((index, path), (value, (entries, pairs))) = given;
+        let (path, entries) = (path.items.as_slice(), entries.items.as_slice());
+        let found = warg_witness::witness_record(memory, *index, path, value, entries);
+        write(found, pairs, to)
+    }
+}
+
 // Two lengths, what the proof between them is evaluated over, the old and the new entries, and the pairs.
 type Growth<D> = (((Length, Length), Data<D>), ((Entries, Entries), Pairs));
 

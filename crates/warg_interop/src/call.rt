@@ -1,0 +1,127 @@
+//! The calls, and the lines that spell them.
+
+ghost use Rattle.std.specs.Prelude.{◌≤◌, ◌^◌};
+
+use crate::answer::Path;
+use std::alloc::{AllocError, AllocFailed, Global};
+use thiserror::Error;
+use warg_crypto::{Hash, Sha256};
+use warg_log::{Checkpoint, GREATEST_LENGTH};
+
+/// A call, with what its words say.
+#[derive(Drop)]
+pub(crate) enum Call<'a> {
+    Push(usize),
+    Record {
+        index: usize,
+        length: Length,
+    },
+    Tree {
+        old: usize,
+        new: Length,
+    },
+    CheckRecord {
+        index: usize,
+        value: &'a str,
+        checkpoint: Checkpoint<Sha256>,
+        path: Path,
+    },
+    CheckTree {
+        old: Checkpoint<Sha256>,
+        new: Checkpoint<Sha256>,
+        path: Path,
+    },
+}
+
+/// Why a line gives no call.
+#[derive(Debug, Drop, Error)]
+pub(crate) enum CallError {
+    /// The line spells none.
+    #[error("bad call")]
+    BadCall,
+    /// Memory was refused.
+    #[error("out of memory")]
+    Memory,
+}
+
+impl From<AllocError> for CallError {
+    fn from(_error: AllocError) -> CallError {
+        CallError::Memory
+    }
+}
+
+impl<T: Drop> From<AllocFailed<T>> for CallError {
+    fn from(_error: AllocFailed<T>) -> CallError {
+        CallError::Memory
+    }
+}
+
+/// The length of a log, at most 2^63.
+#[derive(Drop)]
+pub(crate) struct Length {
+    pub(crate) value: usize,
+    ghost most: { value ≤ 2 ^ 63 },
+}
+
+impl<'a> Call<'a> {
+    /// The call that a line spells. Its words are parted by one space.
+    pub(crate) fn read(alloc: Global, line: &'a str) -> Result<Call<'a>, CallError> {
+        let words: Vec<&str> = line.split(' ').collect(alloc)?;
+        match words.as_slice() {
+            ["push", count] => Ok(Call::Push(number(count)?)),
+            ["record", index, length] => Ok(Call::Record {
+                index: number(index)?,
+                length: Length::read(length)?,
+            }),
+            ["tree", old, new] => Ok(Call::Tree {
+                old: number(old)?,
+                new: Length::read(new)?,
+            }),
+            ["check_record", index, value, length, root, path] => Ok(Call::CheckRecord {
+                index: number(index)?,
+                value,
+                checkpoint: checkpoint(length, root)?,
+                path: read_path(alloc, path)?,
+            }),
+            ["check_tree", old, old_root, new, new_root, path] => Ok(Call::CheckTree {
+                old: checkpoint(old, old_root)?,
+                new: checkpoint(new, new_root)?,
+                path: read_path(alloc, path)?,
+            }),
+            _ => Err(CallError::BadCall),
+        }
+    }
+}
+
+impl Length {
+    fn read(word: &str) -> Result<Length, CallError> {
+        let value = number(word)?;
+        if value > GREATEST_LENGTH {
+            return Err(CallError::BadCall);
+        }
+        Ok(Length { value })
+    }
+}
+
+fn number(word: &str) -> Result<usize, CallError> {
+    word.parse().map_err(|_| CallError::BadCall)
+}
+
+fn hash(word: &str) -> Result<Hash<Sha256>, CallError> {
+    word.parse().map_err(|_| CallError::BadCall)
+}
+
+fn checkpoint(length: &str, root: &str) -> Result<Checkpoint<Sha256>, CallError> {
+    Ok(Checkpoint::new(hash(root)?, Length::read(length)?.value))
+}
+
+fn read_path(alloc: Global, word: &str) -> Result<Path, CallError> {
+    let mut path = Vec::new(alloc);
+    if word == "[]" {
+        return Ok(path);
+    }
+    for digits in word.split(',') {
+        path.push(hash(digits)?)?;
+    }
+    Ok(path)
+}

@@ -1,0 +1,94 @@
+//! `warg_interop`: makes and judges the paths of a log, so that another program can compare them with its own.
+//! It reads calls on standard input, a line each, and writes a line of answer for each. `docs/INTEROP.md` says what
+//! it is compared with.
+//!
+//! | line | answer |
+//! |---|---|
+//! | `push COUNT` | `LENGTH ROOT` of the log with so many entries more; the entry at `i`, from 0, is the digits of `i` |
+//! | `record INDEX LENGTH` | the inclusion path, or `refused` and the name of the error |
+//! | `tree OLD NEW` | the consistency path, or `refused` and the name of the error |
+//! | `check_record INDEX VALUE LENGTH ROOT PATH` | `true` or `false` |
+//! | `check_tree OLD OLD_ROOT NEW NEW_ROOT PATH` | `true` or `false` |
+//!
+//! A root is 64 hexadecimal digits, and a path such roots that are parted by commas, `[]` for none. A value is a text
+//! without spaces. A line that is none of these, or has a length above 2^63, is answered `bad call`.
+#![tactic(auto)]
+
+mod answer;
+mod call;
+
+use crate::answer::Answer;
+use crate::call::{Call, CallError, Length};
+use anyhow::{Error, Result, bail};
+use std::alloc::Global;
+use std::io;
+use std::io::{BufRead, BufReader, BufWriter, Write};
+use warg_crypto::Sha256;
+use warg_log::{Checkpoint, GREATEST_LENGTH, LogBuilder, VecLog};
+use warg_paths::{check_record, check_tree, consistency_path, inclusion_path};
+
+type Log = VecLog<Sha256, String>;
+
+fn main(rt: HostRuntime) -> Result<()> {
+    let alloc = rt.alloc();
+    let mut log = Log::default(alloc);
+    let mut output = BufWriter::new(alloc, io::writer(&rt))?;
+    for line in BufReader::new(alloc, rt.reader())?.lines(alloc) {
+        let answer = answer_line(alloc, &mut log, line?.as_str())?;
+        writeln!(output, "{answer}")?;
+    }
+    output.flush()?;
+    Ok(())
+}
+
+// The answer to a line; `bad call` to one that is no call.
+fn answer_line(alloc: Global, log: &mut Log, line: &str) -> Result<Answer> {
+    match Call::read(alloc, line) {
+        Ok(call) => answer_call(alloc, log, &call),
+        Err(CallError::BadCall) => Ok(Answer::BadCall),
+        Err(error) => Err(Error::from(error)),
+    }
+}
+
+fn answer_call(alloc: Global, log: &mut Log, call: &Call<'_>) -> Result<Answer> {
+    match call {
+        Call::Push(count) => Ok(Answer::Log(push(alloc, log, *count)?)),
+        Call::Record { index, length } => Ok(record(alloc, log, *index, length)),
+        Call::Tree { old, new } => Ok(tree(alloc, log, *old, new)),
+        Call::CheckRecord {
+            index,
+            value,
+            checkpoint,
+            path,
+        } => Ok(Answer::Verdict(check_record(checkpoint, *index, value, path.as_slice()))),
+        Call::CheckTree { old, new, path } => {
+            Ok(Answer::Verdict(check_tree(old, new, path.as_slice())))
+        }
+    }
+}
+
+// Adds so many entries to the log.
+fn push(alloc: Global, log: &mut Log, count: usize) -> Result<Checkpoint<Sha256>> {
+    for _ in 0..count {
+        let length = log.length();
+        if length == GREATEST_LENGTH {
+            bail!("the log is full");
+        }
+        log.push(&length.to_string(alloc)?)?;
+    }
+    Ok(log.checkpoint())
+}
+
+fn record(alloc: Global, log: &Log, index: usize, length: &Length) -> Answer {
+    match inclusion_path(alloc, log, index, length.value) {
+        Ok(path) => Answer::Path(path),
+        Err(error) => Answer::Refused(error),
+    }
+}
+
+fn tree(alloc: Global, log: &Log, old: usize, new: &Length) -> Answer {
+    match consistency_path(alloc, log, old, new.value) {
+        Ok(path) => Answer::Path(path),
+        Err(error) => Answer::Refused(error),
+    }
+}

@@ -1,0 +1,23 @@
+#!/usr/bin/env bash
+# Compares the paths of warg_interop with those of Go's checksum database: of the given program, or of one that it
+# proves and builds. Where Go or its library isn't there it says so, and that is no failure. It installs and fetches
+# nothing, and what it makes of Go's goes into a temporary folder.
+set -eu
+program="$(realpath "${1:-/dev/null}")"
+cd "$(dirname "$0")/.."
+not_run() { echo "interop: not run, $1 is missing"; exit 0; }
+command -v go > /dev/null || not_run go
+
+work="$(mktemp -d)"
+trap 'rm -rf "$work"' EXIT
+# Debian keeps the sources of Go's libraries in /usr/share/gocode.
+settings=(GO111MODULE=off GOPATH=/usr/share/gocode GOFLAGS= GOENV=off GOPROXY=off GOTOOLCHAIN=local)
+settings+=(GOCACHE="$work/cache" GOTMPDIR="$work" XDG_CONFIG_HOME="$work")
+env "${settings[@]}" go list golang.org/x/mod/sumdb/tlog > /dev/null 2>&1 || not_run golang-golang-x-mod-dev
+env "${settings[@]}" go build -o "$work/paths" interop/paths.go
+
+if [ $# = 0 ]; then
+    (cd crates/warg_interop && rt run < stdin) > "$work/run.log" 2>&1 || { tail -20 "$work/run.log"; exit 1; }
+    program=crates/warg_interop/out/warg_interop
+fi
+"$work/paths" "$program"
