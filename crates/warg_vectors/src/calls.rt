@@ -85,6 +85,7 @@ fn of_path<D: SupportedDigest>(
 ) -> Result<(), Fault> {
     match name {
         "witness_record" => each::answer::<witnesses::WitnessRecord<D>>(words, to),
+        "agree_record" => each::answer::<witnesses::AgreeRecord<D>>(words, to),
         "inclusion_path" => each::answer::<paths::InclusionPath<D>>(words, to),
         "consistency_path" => each::answer::<paths::ConsistencyPath<D>>(words, to),
         "root_of_inclusion" => each::answer::<paths::RootOfInclusion<D>>(words, to),

@@ -15,3 +15,4 @@ pub mod KeyLawLemmas
 pub mod KeysLemmas
 pub mod TreeLemmas
 pub mod RecordLemmas
+pub mod PathAgreementLemmas

@@ -6,3 +6,4 @@ pub mod Meeting
 pub mod Divergence
 pub mod Compared
 pub mod PathDivergence
+pub mod PathAgreement

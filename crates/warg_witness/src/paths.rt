@@ -8,11 +8,14 @@ ghost use Rattle.warg_witness.specs.PathPlaced.{IsRecordPlaced};
 ghost use Rattle.warg_witness.specs.Private.Ranges.{IsAligned};
 ghost use Rattle.warg_witness.specs.Private.PathDivergence.{IsPathMeeting, AreSides, IsRecordDivergence};
 
+mod agreement;
+
 use crate::collide::collide_values;
 use crate::collision::Finding;
 use crate::compare::have_same_bytes;
 use crate::descent::Divergence;
 use crate::plain::{plain_digest, plain_tree};
+pub use agreement::agree_record;
 use std::alloc::{AllocError, Allocator};
 use warg_crypto::{Hash, SupportedDigest, VisitBytes};
 use warg_log::{LeafRange, VecLog, hash_leaf};

@@ -147,3 +147,25 @@ impl<D: SupportedDigest> Call for AgreeValue<D> {
         write(found, pairs, to)
     }
 }
+
+// A value, and its path.
+type Way<D> = (Vec<u8>, List<Hash<D>>);
+
+// An index and the length of the log, two values there with their paths, and the pairs.
+type Records<D> = (((usize, Length), (Way<D>, Way<D>)), Pairs);
+
+pub(super) struct AgreeRecord<D>(PhantomData<D>);
+
+impl<D: SupportedDigest> Call for AgreeRecord<D> {
+    type Given = Records<D>;
+
+    fn answer<M: Memory>(given: &Records<D>, memory: M, to: &mut Answer) -> Result<(), AllocError> {
+        let (((index, length), ((value, path), (other, other_path))), pairs) = given;
+        let (path, other_path) = (path.items.as_slice(), other_path.items.as_slice());
+        let length = length.value;
+        let found = warg_witness::agree_record(
+            memory, *index, length, value, path, other, other_path,
+        );
+        write(found, pairs, to)
+    }
+}
