@@ -60,17 +60,18 @@ parts_low h n more most =
     let low : front_of n ≤ 2 ^ h = omega (arith, f.0.1, pow-le-pow_right {n = 2} (lit≤ tt) {i = j} {j = h} (omega (arith, below))) in
     (low, omega (arith, low, f.2))
 
+-- the path of one leaf has no digest
+short_one : (R : ℕ → ℕ → Option (List ℕ)) (h m a n : ℕ) (path : List (List ℕ)) → n ≡ 1 → inclusion_over R m a n ≡ Some path → length path ≤ h
+short_one R h m a n path only is =
+    let whole : Some [] ≡ Some path = sym (ap (inclusion_over R m a) only ∙ inclusion_one R m a) ∙ is in
+    let none : [] ≡ path = cc in
+    omega (arith, ap length none)
+
 -- a path has at most as many digests as the exponent of a power of two that isn't below the count
 short_over : (R : ℕ → ℕ → Option (List ℕ)) (h m a n : ℕ) (path : List (List ℕ)) → m < n → n ≤ 2 ^ h → inclusion_over R m a n ≡ Some path → length path ≤ h
-short_over R zero m a n path inside most is = one zero n (omega arith) is
-  where
-    one : (h n : ℕ) → n ≡ 1 → inclusion_over R m a n ≡ Some path → length path ≤ h
-    one h n only is =
-        let whole : Some [] ≡ Some path = sym (ap (inclusion_over R m a) only ∙ inclusion_one R m a) ∙ is in
-        let none : [] ≡ path = cc in
-        omega (arith, ap length none)
+short_over R zero m a n path inside most is = short_one R zero m a n path (omega arith) is
 short_over R (suc h) m a n path inside most is = elim (cases_lt 1 n) [
-  | inr few ↦ one (suc h) n (omega arith) is
+  | inr few ↦ short_one R (suc h) m a n path (omega arith) is
   | inl more ↦
       let low = parts_low h n more most in
       elim (cases_lt m (front_of n)) [
@@ -82,12 +83,6 @@ short_over R (suc h) m a n path inside most is = elim (cases_lt 1 n) [
             omega (arith, one_longer b.below b.last path b.is, short_over R h (m - front_of n) (a + front_of n) (n - front_of n) b.below (omega (arith, rest)) low.1 b.path_is)
       ]
 ]
-  where
-    one : (h n : ℕ) → n ≡ 1 → inclusion_over R m a n ≡ Some path → length path ≤ h
-    one h n only is =
-        let whole : Some [] ≡ Some path = sym (ap (inclusion_over R m a) only ∙ inclusion_one R m a) ∙ is in
-        let none : [] ≡ path = cc in
-        omega (arith, ap length none)
 
 pub short : (R : ℕ → ℕ → Option (List ℕ)) (m n h : ℕ) (path : List (List ℕ)) → m < n → n ≤ 2 ^ h → inclusion_of R m n ≡ Some path → length path ≤ h
 short R m n h path = short_over R h m 0 n path
