@@ -45,6 +45,8 @@ static int answers(const uint8_t *bundle, size_t count, size_t at, size_t root_b
         warg_check_consistency(bundle, count, at, root, root_bytes, root, 32),
         warg_check_key(bundle, count, at, root, 3, root, 3, root, root_bytes),
         warg_check_absent(bundle, count, at, root, 3, root, root_bytes),
+        warg_check_update(bundle, count, at, root, 3, root, 3, root, 2, root, root_bytes, root, 32),
+        warg_check_insertion(bundle, count, at, root, 3, root, 3, root, 32, root, root_bytes),
         warg_check_record(bundle, count, at, root, 3, 5, root, root_bytes),
         warg_check_tree(bundle, count, 1, root, root_bytes, 2 + at, root, 32),
     };

@@ -1,5 +1,5 @@
 #!/usr/bin/env bash
-# Runs the three examples on every check line of the vectors, and compares their answers, and then a hostile
+# Runs the four examples on every check line of the vectors, and compares their answers, and then a hostile
 # caller. Says which examples were run: one whose compiler or interpreter isn't there is left out.
 set -eu
 cd "$(dirname "$0")/.."
@@ -16,7 +16,7 @@ try() {
     local name="$1"; shift
     "$@" < "$work/calls" > "$work/$name.answers"
     cmp "$work/$name.answers" "$work/answers"
-    echo "ffi/examples/check.$name: $(wc -l < "$work/calls") check lines answered right"
+    echo "the example in $name: $(wc -l < "$work/calls") check lines answered right"
 }
 
 ran=0
@@ -35,7 +35,12 @@ if command -v rustc > /dev/null; then
     try rs "$work/check_rs"
     ran=$((ran + 1))
 fi
-echo "$ran of 3 examples ran"
+if command -v go > /dev/null; then
+    (cd ffi/go && GOFLAGS=-mod=mod GOPROXY=off GOCACHE="$work/cache" go build -o "$work/check_go" ./check)
+    try go "$work/check_go"
+    ran=$((ran + 1))
+fi
+echo "$ran of 4 examples ran"
 [ "$ran" -gt 0 ]
 
 if command -v cc > /dev/null; then

@@ -1,13 +1,16 @@
 /* Verdicts on the proofs of transparency logs and maps, from their bytes, under SHA-256.
  *
+ * Compare a verdict with WARG_TRUE: a call returns WARG_TRUE, WARG_FALSE, or a negative number that says why there is
+ * no verdict, so `if (warg_check_entry(..))` takes a refusal for a true one. warg_text says what a number means.
+ *
  * Which call to use first: whoever holds a log's checkpoint, its length and root, and a path as logs send them
  * (RFC 6962, RFC 9162: Certificate Transparency, Go's checksum database, tiled logs) calls warg_check_record and
- * warg_check_tree; with a bundle of proofs warg_check_entry and warg_check_growth. These four bind both. warg_check_inclusion and warg_check_consistency say that a proof
- * evaluates to a root, and bind neither a log's length nor an entry's place. For maps there are
- * warg_check_key and warg_check_absent.
+ * warg_check_tree; with a bundle of proofs warg_check_entry and warg_check_growth. These four check length and index,
+ * too. warg_check_inclusion and warg_check_consistency say only that a proof leads to a root. For maps there are
+ * warg_check_key and warg_check_absent, and for whoever follows a map by its root, insertion by insertion,
+ * warg_check_update and warg_check_insertion.
  *
- * Each call answers WARG_TRUE, WARG_FALSE, or a negative number that says why there is no verdict. No call
- * keeps state or a pointer; each gives back the memory that it took. So calls from several threads don't
+ * No call keeps state or a pointer; each frees the memory that it allocated. So calls from several threads don't
  * meet, as long as malloc, realloc and free may be called from several threads.
  *
  * What the caller sees to:
@@ -55,8 +58,35 @@ enum {
     WARG_TOO_MANY_PEERS = -23  /* a map's proof has more than 256 peers */
 };
 
-/* The version, a byte each: the three numbers of the Rust crate whose calls these are, and what came since. */
+/* The version of this header, as warg_version returns that of the library: a byte each, the three numbers of the Rust
+ * crate whose calls these are, and what came since. */
+#define WARG_VERSION 0x00090203
+
+/* The version of the library. */
 uint32_t warg_version(void);
+
+/* Returns what a number means, in a few words. */
+static inline const char *warg_text(int32_t number)
+{
+    switch (number) {
+    case WARG_TRUE: return "true";
+    case WARG_FALSE: return "false";
+    case WARG_OUT_OF_MEMORY: return "out of memory";
+    case WARG_NO_SUCH_PROOF: return "no such proof";
+    case WARG_ROOT_LENGTH: return "root is not 32 bytes";
+    case WARG_TRUNCATED: return "bytes end inside a number or a field";
+    case WARG_BAD_VARINT: return "bad varint";
+    case WARG_BAD_TAG: return "bad tag";
+    case WARG_GROUP: return "group";
+    case WARG_BAD_WIRE_TYPE: return "bad wire type";
+    case WARG_WRONG_WIRE_TYPE: return "wrong wire type";
+    case WARG_NUMBER_TOO_LARGE: return "number above 2^32 - 1";
+    case WARG_HASH_LENGTH: return "digest is not 32 bytes";
+    case WARG_NOT_ASCENDING: return "nodes do not ascend";
+    case WARG_TOO_MANY_PEERS: return "more than 256 peers";
+    default: return "no number of this library";
+    }
+}
 
 /* Whether the inclusion proof at a place of a log bundle, counted from 0, shows that entry `index`, from 0, of
  * the log of this length and root has the value's bytes: it is a proof of that leaf at that length, and
@@ -94,6 +124,24 @@ int32_t warg_check_key(const uint8_t *bundle, size_t bundle_bytes, size_t at,
 int32_t warg_check_absent(const uint8_t *bundle, size_t bundle_bytes, size_t at,
                           const uint8_t *key, size_t key_bytes,
                           const uint8_t *root, size_t root_bytes);
+
+/* Whether the proof at a place of a map bundle, counted from 0, shows that the map with the new root is the one
+ * with the old root, with the new value under the key in place of the old one: it evaluates from the old value
+ * to the old root, and from the new value to the new one. */
+int32_t warg_check_update(const uint8_t *bundle, size_t bundle_bytes, size_t at,
+                          const uint8_t *key, size_t key_bytes,
+                          const uint8_t *old_value, size_t old_value_bytes,
+                          const uint8_t *new_value, size_t new_value_bytes,
+                          const uint8_t *old_root, size_t old_root_bytes,
+                          const uint8_t *new_root, size_t new_root_bytes);
+
+/* Whether the absence at a place of a map bundle, counted from 0, shows that the map with the new root is the one
+ * with the old root, and the value under a key that had none, or one without bytes. */
+int32_t warg_check_insertion(const uint8_t *bundle, size_t bundle_bytes, size_t at,
+                             const uint8_t *key, size_t key_bytes,
+                             const uint8_t *value, size_t value_bytes,
+                             const uint8_t *old_root, size_t old_root_bytes,
+                             const uint8_t *new_root, size_t new_root_bytes);
 
 /* Whether an inclusion path shows that entry `index`, from 0, of the log of this length and root has the value's
  * bytes. A path is its digests, 32 bytes each, from the bottom up (RFC 6962, section 2.1.1). */

@@ -1,11 +1,11 @@
 #!/usr/bin/env python3
-"""Calls the Python example as nobody should: each call must raise, and none may return a verdict."""
+"""Calls ffi/python/warg.py as nobody should: each call must raise, and none may return a verdict."""
 
 import pathlib
 import sys
 
-sys.path.insert(0, str(pathlib.Path(__file__).parent / "examples"))
-from check import RootLength, Warg  # noqa: E402
+sys.path.insert(0, str(pathlib.Path(__file__).parent / "python"))
+from warg import RootLength, Warg  # noqa: E402
 
 ROOT = bytes(32)
 # A bundle with one proof: of node 2 at length 2, with the digest of node 0.
@@ -20,6 +20,8 @@ WRONG = {
     "a number for a bundle": (TypeError, lambda warg: warg.check_absent(7, 0, b"", ROOT)),
     "a text for a key": (TypeError, lambda warg: warg.check_key(BUNDLE, 0, "key", b"", ROOT)),
     "nothing for a root": (TypeError, lambda warg: warg.check_inclusion(BUNDLE, 0, b"", None)),
+    "a number for an old value": (TypeError, lambda warg: warg.check_update(BUNDLE, 0, b"", 7, b"", ROOT, ROOT)),
+    "a place of an insertion below 0": (ValueError, lambda warg: warg.check_insertion(BUNDLE, -1, b"", b"", ROOT, ROOT)),
     "a path's index of 2^64": (ValueError, lambda warg: warg.check_record(ROOT, 2**64, b"", 2, ROOT)),
     "a number for a path": (TypeError, lambda warg: warg.check_tree(7, 1, ROOT, 2, ROOT)),
     "a root of 31 bytes": (RootLength, lambda warg: warg.check_inclusion(BUNDLE, 0, b"", ROOT[1:])),
@@ -36,7 +38,7 @@ def main():
             pass
     if taken:
         sys.exit(f"taken: {', '.join(taken)}")
-    print(f"{len(WRONG)} wrong uses of the Python example are refused")
+    print(f"{len(WRONG)} wrong uses of the Python module are refused")
 
 
 main()

@@ -27,11 +27,21 @@ def hidden_items(folder):
     return {name for path, source in sources.items() for name in items.findall(source) if name not in shown and path not in opened}
 
 
+def whole(lines, at):
+    """Returns the clause that begins in a line, to the brace that ends it."""
+    text = lines[at].strip()
+    while text.count("{") > text.count("}"):
+        at += 1
+        text += " " + lines[at].strip()
+    return text
+
+
 def public_clauses(source, hidden):
     """Yields the clauses of public functions, traits and impls, and their ghost members."""
     block = function = True
     of_trait = False
-    for line in source.split("\n"):
+    lines = source.split("\n")
+    for at, line in enumerate(lines):
         stripped = line.strip()
         header = re.match(r"(?:(pub(?:\(\w+\))?) )?(trait|impl|struct|enum)\b(.*)", line)
         if header:
@@ -43,9 +53,9 @@ def public_clauses(source, hidden):
             if not declared[1]:
                 block = hidden.isdisjoint(re.findall(r"fn (\w+)", line))
         if re.match(r"(requires|ensures)\b", stripped) and block and function:
-            yield stripped
+            yield whole(lines, at)
         elif re.match(r"ghost \w+\s*[:=]", stripped) and block:
-            yield stripped
+            yield whole(lines, at)
 
 
 def named_by_public_clauses(library):

@@ -17,6 +17,8 @@ TITLES = {
     "warg_crypto": "Digests",
     "warg_protobuf": "Messages",
     "warg_log": "The log",
+    "warg_paths": "Paths",
+    "warg_tiles": "Tiles",
     "warg_map": "The map",
     "warg_witness": "Witnesses",
     "warg_check": "Verdicts and the program",

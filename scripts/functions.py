@@ -66,7 +66,8 @@ def word_of(kind, parameters):
         inner = kind[1:].strip()
         return "RefSlice" + word_of(inner[1:-1], parameters) if inner.startswith("[") else "Ref" + word_of(inner, parameters)
     if kind.startswith("["):
-        return "Array" + word_of(parted(kind[1:-1], ";")[0], parameters)
+        item, length = parted(kind[1:-1], ";")
+        return "Array" + word_of(item, parameters) + (length if length.isdigit() else "")
     head, _, arguments = kind.partition("<")
     own = [it for it in parted(arguments.rpartition(">")[0], ",") if "=" not in it]
     name = head.split("::")[-1].strip()

@@ -1,7 +1,8 @@
 #!/usr/bin/env python3
 """The merge gate, on a copy of the tree without what earlier checks left: every proof from nothing, the tests and the
-programs by the kit's own gate, the wrong bodies over the work that it made, the examples for C, Python and Rust, and
-the comparison with Go's checksum database where Go is there.
+programs by the kit's own gate, the wrong bodies over the work that it made, the examples for C, Python, Rust and Go, the
+programs with right and wrong arguments, and the comparisons with Google's protobuf and Go's checksum database where these
+are there.
 
 Prints what each part took in processor minutes, and last 'N passed, M failed'.
 """
@@ -20,6 +21,12 @@ import threading
 import time
 
 ROOT = pathlib.Path(__file__).resolve().parent.parent
+BEFORE = (["foreign_proofs.py"], ["definitions.py", "--check"], ["calls.py", "--check"], ["check_docs.py"], ["check_header.py"])
+# What runs the programs that the kit's gate has just built.
+BEHIND = (
+    ["check_programs.py", "crates/warg_check_cli/out/warg_check_cli", "crates/warg_verdict/out/warg_verdict"],
+    ["check_protobuf.py", "crates/warg_vectors/out/warg_vectors"],
+)
 TICKS = os.sysconf("SC_CLK_TCK")
 CLOSING = re.compile(r"(\d+) passed, (\d+) failed\n?")
 
@@ -143,11 +150,11 @@ def ran(words, folder, **more):
     return lines, not part.returncode, used() - before
 
 
-def install_go():
-    """Tries to install Go and its library where it isn't there. The comparison is left out where that fails."""
-    if shutil.which("go") or os.geteuid() or not shutil.which("apt-get"):
+def install_peers():
+    """Tries to install what the results are compared with, where one lacks. What stays missing is left out."""
+    if shutil.which("go") and shutil.which("protoc") or os.geteuid() or not shutil.which("apt-get"):
         return
-    words = ["apt-get", "install", "-y", "golang-go", "golang-golang-x-mod-dev"]
+    words = ["apt-get", "install", "-y", "golang-go", "golang-golang-x-mod-dev", "protobuf-compiler", "python3-protobuf"]
     try:
         quiet = {"stdin": subprocess.DEVNULL, "stdout": subprocess.DEVNULL, "stderr": subprocess.DEVNULL}
         subprocess.run(words, env={**os.environ, "DEBIAN_FRONTEND": "noninteractive"}, timeout=300, **quiet)
@@ -160,7 +167,6 @@ def compare_with_go(tree):
 
     Returns how many steps passed and failed, and its processor seconds.
     """
-    install_go()
     lines, well, seconds = ran(["interop/run.sh", "crates/warg_interop/out/warg_interop"], tree)
     if well and any(line.startswith("interop: not run") for line in lines):
         return 0, 0, seconds
@@ -181,7 +187,7 @@ def table(watch, rest):
     yield "| all | " + " | ".join(f"{total[it] / 60:.1f}" for it in range(4)) + " |"
     other = rest["kit"] - sum(taken.values())
     yield f"| builds and runs of programs and tests | {other / 60:.1f} | | | |"
-    yield f"| examples for C, Python and Rust | {rest['examples'] / 60:.1f} | | | |"
+    yield f"| examples for C, Python, Rust and Go | {rest['examples'] / 60:.1f} | | | |"
     yield f"| comparison with Go's checksum database | {rest['interop'] / 60:.1f} | | | |"
     everything = rest["kit"] + rest["examples"] + rest["interop"] + sum(rest["rounds"].values())
     yield f"| in all {everything / 60:.0f}, by the clock {rest['clock'] / 60:.0f}, on {len(os.sched_getaffinity(0))} processors | | | | |"
@@ -189,6 +195,7 @@ def table(watch, rest):
 
 def main():
     began = time.monotonic()
+    install_peers()
     with tempfile.TemporaryDirectory(prefix="warg-gate-") as room:
         room = pathlib.Path(room)
         tree = room / "tree"
@@ -196,7 +203,7 @@ def main():
         copy_of_the_tree(tree)
         passed = failed = 0
         rest = {"rounds": {}, "examples": 0.0, "interop": 0.0}
-        for script in (["foreign_proofs.py"], ["definitions.py", "--check"], ["check_docs.py"], ["check_header.py"]):
+        for script in BEFORE:
             _, well, _ = ran([sys.executable, f"scripts/{script[0]}", *script[1:]], tree)
             passed, failed = passed + well, failed + (not well)
         watch = Watch(room)
@@ -214,6 +221,9 @@ def main():
             rest["rounds"] = json.loads((room / "rounds").read_text()) if counted else {}
             _, well, rest["examples"] = ran(["bash", "-ec", "ffi/build.sh --as-proved; ffi/test.sh"], tree)
             passed, failed = passed + well, failed + (not well)
+            for script in BEHIND:
+                _, well, _ = ran([sys.executable, f"scripts/{script[0]}", *script[1:]], tree)
+                passed, failed = passed + well, failed + (not well)
             well, badly, rest["interop"] = compare_with_go(tree)
             passed, failed = passed + well, failed + badly
         rest["clock"] = time.monotonic() - began

@@ -2,11 +2,12 @@
 """Tries each crate's wrong bodies, crates/NAME/wrong-bodies/*.edit: the prover has to refuse every one.
 
 An edit is a line 'file: src/lib.rt' and then pairs of lines 'old: TEXT' and 'new: TEXT', each old text standing
-there once. One check of a copy of the crate carries a round of edits, one a function at most: a function's proof
-rests on its callees' contracts and not on their bodies, and the check names each function with an open goal of its
-own. An edit is refused exactly if the check names such a goal, or an error in its proof files, of the function that
-it changes. What waits for a callee, lacks a name or was cut off goes to the next round. An edit that changes more
-than one function's body goes alone, and so does each that no round has judged. What is still let through fails.
+there once; 'old line: TEXT' stands for a whole line. One check of a copy of the crate carries a round of edits, one a
+function at most: a function's proof rests on its callees' contracts and not on their bodies, and the check names each
+function with an open goal of its own. An edit is refused exactly if the check names such a goal, or an error in its
+proof files, of the function that it changes. What waits for a callee, lacks a name or was cut off goes to the next
+round. An edit that changes more than one function's body goes alone, and so does each that no round has judged. What is
+still let through fails.
 
 The edits in wrong-bodies/planted change no meaning, and show that this script can fail: each must come out as let
 through, and one named waits_* must wait, in its first round, for the broken function that it calls.
@@ -23,6 +24,7 @@ import os
 import pathlib
 import re
 import shutil
+import signal
 import subprocess
 import sys
 import tempfile
@@ -33,6 +35,7 @@ import functions
 import kit
 
 PARTS = ("src", "specs", "proofs")
+UNPROVED = re.compile(r"fn \S+: (?!proved)")
 LACKS_A_NAME = re.compile(r"has no field|is not in scope|has no `|was not admitted|is no name")
 
 
@@ -55,16 +58,16 @@ class Edit:
 
 def read(path):
     """Returns the edit in a file."""
-    file, old, pairs = "", None, []
+    file, old, around, pairs = "", None, "", []
     for line in path.read_text().splitlines():
         key, _, text = line.partition(":")
         text = text.removeprefix(" ")
         if key == "file":
             file = text.strip()
-        elif key == "old":
-            old = text
+        elif key in ("old", "old line"):
+            old, around = text, "\n" if key == "old line" else ""
         elif key == "new" and file and old:
-            pairs.append((file, old, text))
+            pairs.append((file, around + old + around, around + text + around))
             old = None
     return Edit(path, pairs)
 
@@ -96,17 +99,34 @@ def function_of(edit, texts, crate):
     return found.pop() if len(found) == 1 else ""
 
 
+def said_by(ran, stages):
+    """Returns what a check prints, and whether it has named every function.
+
+    Where a function isn't proved it would go on with the proof files to write, for a while: it is ended there.
+    """
+    lines = []
+    reader = threading.Thread(target=lambda: lines.extend(ran.stdout))
+    reader.start()
+    has_named = False
+    while reader.is_alive():
+        reader.join(0.2)
+        has_named = has_named or stages.exists() and "stage lines" in stages.read_text()
+        if has_named and any(UNPROVED.match(line) for line in list(lines)):
+            os.kill(ran.pid, signal.SIGKILL)
+    return "".join(lines), has_named
+
+
 class Check:
     """What the prover says of a copy of a crate with some edits."""
 
-    def __init__(self, said):
+    def __init__(self, said, has_named):
         self.said = said
         self.lines = dict(re.findall(r"^fn (\S+): (.*)$", said, re.M))
         self.faults = collections.defaultdict(list)
         for folder, fault in re.findall(r"^(?:\./)?proofs/(\S*?)/?\w+\.antt:\d+:\d+: error: (.*)$", said, re.M):
             if not LACKS_A_NAME.search(fault):
                 self.faults[folder.replace("+", "")].append(fault)
-        self.is_whole = bool(re.search(r"^logic=(?:not-)?proved", said, re.M))
+        self.is_whole = has_named
         self.is_proved = bool(re.search(r"^logic=proved", said, re.M))
 
     def name_of(self, function):
@@ -154,13 +174,14 @@ class Crate:
             if self.kept.is_dir():
                 shutil.copytree(self.kept, f"{room}/kept", copy_function=os.link, dirs_exist_ok=True)
             words = [kit.RATTLE, "check", *kit.words(self.name), "--jobs", "1", "--incremental", f"{room}/kept"]
-            how = {"stdin": subprocess.DEVNULL, "stdout": subprocess.PIPE, "stderr": subprocess.STDOUT, "errors": "replace"}
+            words += ["--stage-times", f"{room}/stages"]
+            how = {"stdin": subprocess.DEVNULL, "stdout": subprocess.PIPE, "stderr": subprocess.STDOUT, "text": True, "errors": "replace"}
             ran = subprocess.Popen(words, cwd=room, **how)
-            said = ran.stdout.read()
+            said, has_named = said_by(ran, pathlib.Path(room, "stages"))
             _, _, used = os.wait4(ran.pid, 0)
         self.seconds += used.ru_utime + used.ru_stime
         self.checks += 1
-        return Check(said)
+        return Check(said, has_named)
 
     def judge(self, edits):
         """Checks a round, and returns what it says of each edit: refused, proved, or a word why it says nothing yet."""

@@ -86,6 +86,11 @@ static const char *answer(char *w[MOST_WORDS], int count)
         return answer_text(warg_check_key(BYTES(1), number_of(w[2]), BYTES(3), BYTES(4), BYTES(5)));
     if (count == 5 && strcmp(w[0], "check_absent") == 0)
         return answer_text(warg_check_absent(BYTES(1), number_of(w[2]), BYTES(3), BYTES(4)));
+    if (count == 8 && strcmp(w[0], "check_update") == 0)
+        return answer_text(warg_check_update(BYTES(1), number_of(w[2]), BYTES(3), BYTES(4), BYTES(5), BYTES(6),
+                                             BYTES(7)));
+    if (count == 7 && strcmp(w[0], "check_insertion") == 0)
+        return answer_text(warg_check_insertion(BYTES(1), number_of(w[2]), BYTES(3), BYTES(4), BYTES(5), BYTES(6)));
     if (count == 7 && strcmp(w[0], "check_entry") == 0)
         return answer_text(warg_check_entry(BYTES(1), number_of(w[2]), number_of(w[3]), BYTES(4),
                                             number_of(w[5]), BYTES(6)));
@@ -103,6 +108,8 @@ int main(void)
 {
     char *line = NULL;
     size_t room = 0;
+    if (warg_version() != WARG_VERSION)
+        return 2;
     while (getline(&line, &room, stdin) > 0) {
         char *words[MOST_WORDS];
         int count = words_of(line, words);

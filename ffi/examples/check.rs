@@ -31,6 +31,16 @@ unsafe extern "C" {
         bundle: *const u8, bundle_bytes: usize, at: usize, key: *const u8, key_bytes: usize,
         root: *const u8, root_bytes: usize,
     ) -> i32;
+    fn warg_check_update(
+        bundle: *const u8, bundle_bytes: usize, at: usize, key: *const u8, key_bytes: usize,
+        old_value: *const u8, old_value_bytes: usize, new_value: *const u8, new_value_bytes: usize,
+        old_root: *const u8, old_root_bytes: usize, new_root: *const u8, new_root_bytes: usize,
+    ) -> i32;
+    fn warg_check_insertion(
+        bundle: *const u8, bundle_bytes: usize, at: usize, key: *const u8, key_bytes: usize,
+        value: *const u8, value_bytes: usize, old_root: *const u8, old_root_bytes: usize,
+        new_root: *const u8, new_root_bytes: usize,
+    ) -> i32;
     fn warg_check_record(
         path: *const u8, path_bytes: usize, index: usize, value: *const u8, value_bytes: usize,
         length: usize, root: *const u8, root_bytes: usize,
@@ -142,6 +152,30 @@ pub fn check_absent(bundle: &[u8], at: usize, key: &[u8], root: &[u8]) -> Result
     })
 }
 
+/// See `warg_check_update` in `warg.h`.
+pub fn check_update(
+    bundle: &[u8], at: usize, key: &[u8], old_value: &[u8], new_value: &[u8], old: &[u8], new: &[u8],
+) -> Result<bool, Refused> {
+    verdict(unsafe {
+        warg_check_update(
+            bundle.as_ptr(), bundle.len(), at, key.as_ptr(), key.len(), old_value.as_ptr(), old_value.len(),
+            new_value.as_ptr(), new_value.len(), old.as_ptr(), old.len(), new.as_ptr(), new.len(),
+        )
+    })
+}
+
+/// See `warg_check_insertion` in `warg.h`.
+pub fn check_insertion(
+    bundle: &[u8], at: usize, key: &[u8], value: &[u8], old: &[u8], new: &[u8],
+) -> Result<bool, Refused> {
+    verdict(unsafe {
+        warg_check_insertion(
+            bundle.as_ptr(), bundle.len(), at, key.as_ptr(), key.len(), value.as_ptr(), value.len(),
+            old.as_ptr(), old.len(), new.as_ptr(), new.len(),
+        )
+    })
+}
+
 /// See `warg_check_record` in `warg.h`.
 pub fn check_record(
     path: &[u8], index: usize, value: &[u8], length: usize, root: &[u8],
@@ -193,6 +227,12 @@ fn answer(line: &str) -> Option<Result<bool, Refused>> {
         ["check_absent", bundle, at, key, root] => {
             check_absent(&bytes(bundle)?, number(at)?, &bytes(key)?, &bytes(root)?)
         }
+        ["check_update", bundle, at, key, old_value, new_value, old, new] => check_update(
+            &bytes(bundle)?, number(at)?, &bytes(key)?, &bytes(old_value)?, &bytes(new_value)?, &bytes(old)?, &bytes(new)?,
+        ),
+        ["check_insertion", bundle, at, key, value, old, new] => check_insertion(
+            &bytes(bundle)?, number(at)?, &bytes(key)?, &bytes(value)?, &bytes(old)?, &bytes(new)?,
+        ),
         ["check_record", path, index, value, length, root] => {
             check_record(&bytes(path)?, number(index)?, &bytes(value)?, number(length)?, &bytes(root)?)
         }

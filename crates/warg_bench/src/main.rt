@@ -10,6 +10,7 @@ mod maps;
 mod rows;
 mod slow;
 mod times;
+mod updates;
 mod verdicts;
 mod witnesses;
 
@@ -45,6 +46,7 @@ fn measure(rt: &HostRuntime) -> Result<()> {
     maps::measure(rt, 10_000)?;
     bundles::measure(rt)?;
     verdicts::measure(rt)?;
+    updates::measure(rt, branch, 10_000)?;
     witnesses::measure(rt, branch)
 }
 

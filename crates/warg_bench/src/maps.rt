@@ -12,14 +12,15 @@ use warg_map::{Map, Proof, ProofBundle};
 /// A map whose digests are of SHA-256.
 pub type Keys = Map<Sha256, Entry, Entry>;
 
-type KeyProof = Proof<Sha256, Entry, Entry>;
+/// A proof in such a map.
+pub type KeyProof = Proof<Sha256, Entry, Entry>;
 
 /// The map of these keys, each with itself as its value.
 pub fn map_of<D: SupportedDigest>(
     rt: &HostRuntime,
     keys: &[Entry],
 ) -> Result<Map<D, Entry, Entry>> {
-    let mut map = Map::default(rt.alloc())?;
+    let mut map = Map::default(rt.alloc());
     for key in keys {
         map = map.insert(*key, *key)?;
     }
@@ -244,7 +245,8 @@ fn evaluate_one(rt: &HostRuntime, calls: &Evaluation<'_, Sha256>, count: usize) 
     print(rt, &row)
 }
 
-fn bundle_of(rt: &HostRuntime, proof: KeyProof) -> Result<Vec<u8>> {
+/// The bundle of one proof, as bytes.
+pub fn bundle_of(rt: &HostRuntime, proof: KeyProof) -> Result<Vec<u8>> {
     let proofs = vec![in rt.alloc(); proof]?;
     Ok(ProofBundle::bundle(proofs).encode(rt.alloc())?)
 }

@@ -3,3 +3,4 @@ pub mod TextLemmas
 pub mod VerdictLemmas
 pub mod BundledLemmas
 pub mod MapLemmas
+pub mod ShownLemmas

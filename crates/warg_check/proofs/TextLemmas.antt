@@ -1,6 +1,6 @@
 -- The text of some lines and of those behind them.
-use Rattle.std.proofs.Common.{◌≡◌, ℕ, suc, ◌+◌, Bool, true, false, cond, List, [], ◌∷◌, ◌++◌, length, append_assoc, append-nil, length-append, codes, string_bytes, ◌⊎◌, ⊎_elim, Result, Ok, Err, refl, sym, ◌∙◌, ap, arith}
-use Rattle.std.proofs.lemmas.Bool.{and_parts}
+use Rattle.std.proofs.Common.{◌≡◌, ℕ, suc, ◌+◌, Bool, true, false, cond, List, [], ◌∷◌, ◌++◌, length, append_assoc, append-nil, length-append, codes, string_bytes, ◌⊎◌, ⊎_elim, inl, inr, Result, Ok, Err, refl, sym, ◌∙◌, ap, arith}
+use Rattle.std.proofs.lemmas.Bool.{and_parts, true≢false}
 use Rattle.hex.specs.Hex.{encode_lower}
 use Rattle.warg_crypto.specs.Digests.{sha256}
 use Rattle.warg_log.specs.Tree.{own_digest}
@@ -8,13 +8,37 @@ use Rattle.warg_log.specs.Consistency.{consistency}
 use Rattle.warg_log.specs.declared.consistency.ConsistencyProofError.{ConsistencyProofError}
 use Rattle.warg_log.specs.declared.error.DecodeError.{DecodeError}
 use Rattle.warg_check.specs.Words.{lines_of}
-use Rattle.warg_check.specs.Orders.{line_of, consistent}
-use Rattle.warg_check.specs.States.{State, start, log_at, map_at, after_line}
-use Rattle.warg_check.specs.Text.{said, is_not_bad, text_from, text_of, all_good, after_lines, answer, refusal, roots_or_refusal, verdict_or_refusal}
-use Rattle.warg_check.specs.Private.Sessions.{IsInState, Takes}
+use Rattle.warg_check.specs.Orders.{Order, line_of, good, consistent}
+use Rattle.warg_check.specs.States.{State, start, log_at, map_at, after_line, FindsFull}
+use Rattle.warg_check.specs.Text.{said, is_not_bad, text_from, text_of, all_good, after_lines, answer, refusal, roots_or_refusal, verdict_or_refusal, MeetsFull}
+use Rattle.warg_check.specs.Private.Sessions.{IsInState, Takes, LineFindsRoom}
+use Rattle.warg_check.specs.Private.Errors.{LineFindsFull}
 use Rattle.warg_check.specs.declared.program.session.Session.{Session}
 use Rattle.warg_check.specs.declared.verdict.CheckError.{CheckError}
 use Rattle.warg_check.specs.declared.verdict.CheckError.TheVariants as check
+
+-- a line of these, before which all are good, has an order that finds no room
+unfoldable pub Full : State → List (List ℕ) → Type 0
+Full s [] = ⊥
+Full s (line ∷ lines) = LineFindsFull s (line_of line) ⊎ ((is_not_bad (line_of line) ≡ true) × Full (after_line s (line_of line)) lines)
+
+full_at : (s : State) (before behind : List (List ℕ)) (line : List ℕ) (order : Order) → all_good before ≡ true → line_of line ≡ good order → FindsFull (after_lines s before) order → Full s (before ++ line ∷ behind)
+unfolding Full all_good after_lines
+full_at s [] behind line order fine is full = inl (rw is full)
+full_at s (other ∷ before) behind line order fine is full =
+    let both = and_parts (is_not_bad (line_of other)) (all_good before) fine in
+    inr (both.0, full_at (after_line s (line_of other)) before behind line order both.1 is full)
+
+meets : (input : List ℕ) → MeetsFull input → Full start (lines_of input)
+meets input at = rw at.parts (full_at start at.before at.behind at.line at.order at.all_good at.is_order at.full)
+
+full_behind : (s : State) (line : List ℕ) (lines : List (List ℕ)) → ¬ LineFindsFull s (line_of line) → Full s (line ∷ lines) → Full (after_line s (line_of line)) lines
+unfolding Full
+full_behind s line lines room full = ⊎_elim (λ (here : LineFindsFull s (line_of line)). absurd (room here)) (λ (later : (is_not_bad (line_of line) ≡ true) × Full (after_line s (line_of line)) lines). later.1) full
+
+not_at_bad : (s : State) (line : List ℕ) (lines : List (List ℕ)) → ¬ LineFindsFull s (line_of line) → is_not_bad (line_of line) ≡ false → Full s (line ∷ lines) → ⊥
+unfolding Full
+not_at_bad s line lines room is_bad full = ⊎_elim (λ (here : LineFindsFull s (line_of line)). room here) (λ (later : (is_not_bad (line_of line) ≡ true) × Full (after_line s (line_of line)) lines). true≢false (sym later.0 ∙ is_bad)) full
 
 -- the lines so far were good, the session stands at the state after them, and its text is theirs
 pub record Stands {A : Type 0} (input rest : List ℕ) (session : Session A) (number : ℕ) : Type 0 where
@@ -24,6 +48,7 @@ pub record Stands {A : Type 0} (input rest : List ℕ) (session : Session A) (nu
   pub state_is : IsInState session (after_lines start before)
   pub text_is : string_bytes session.text ≡ text_from 1 start before
   pub number_is : number ≡ length before
+  pub room : MeetsFull input → Full (after_lines start before) (lines_of rest)
 
 -- the text of good lines, and of others behind them
 text_from-append : (n : ℕ) (s : State) (before behind : List (List ℕ)) → all_good before ≡ true
@@ -61,6 +86,7 @@ starts input session stands no_text = record {
   state_is = stands;
   text_is = no_text;
   number_is = refl;
+  room = meets input;
 }
 
 one_good : (line : List ℕ) → is_not_bad (line_of line) ≡ true → all_good (line ∷ []) ≡ true
@@ -81,9 +107,9 @@ one_text n s line = sym (ap (λ text. said n s (line_of line) ++ text) (no_text 
 
 -- behind one more good line
 pub goes_on : {A : Type 0} (input rest line behind : List ℕ) (old new : Session A) (number : ℕ) → Stands input rest old number
-    → lines_of rest ≡ line ∷ lines_of behind → Takes old new (number + 1) (line_of line) → is_not_bad (line_of line) ≡ true
+    → lines_of rest ≡ line ∷ lines_of behind → Takes old new (number + 1) (line_of line) → LineFindsRoom old (line_of line) → is_not_bad (line_of line) ≡ true
     → Stands input behind new (number + 1)
-goes_on input rest line behind old new number stands lines takes is_good =
+goes_on input rest line behind old new number stands lines takes room is_good =
     let before = stands.before in
     let s = after_lines start before in
     let step = takes s stands.state_is in
@@ -98,6 +124,7 @@ goes_on input rest line behind old new number stands lines takes is_good =
           ∙ ap (λ text. text_from 1 start before ++ text) (ap (λ m. said m s (line_of line)) at ∙ one_text (1 + length before) s line)
           ∙ sym (text_from-append 1 start before (line ∷ []) stands.good);
       number_is = omega (arith, stands.number_is, length-append before (line ∷ []));
+      room = λ full. rw next (full_behind s line (lines_of behind) (room s stands.state_is) (rw lines at (stands.room full)));
     }
 
 -- behind the last line
@@ -126,6 +153,17 @@ stops input rest line behind old new number stands lines takes is_bad =
           ∙ sym (text_from-append 1 start before (line ∷ lines_of behind) stands.good) ∙ ap (text_from 1 start) (sym whole),
       ap all_good whole ∙ all_good-append before (line ∷ lines_of behind) stands.good ∙ rw is_bad refl,
     )
+
+-- there was room for the orders of all lines, or of those before a bad one
+pub room_to_end : {A : Type 0} (input rest : List ℕ) (session : Session A) (number : ℕ) → Stands input rest session number → length rest ≡ 0 → ¬ MeetsFull input
+unfolding lines_of Full
+room_to_end input [] session number stands none full = stands.room full
+room_to_end input (b ∷ rest) session number stands none full = absurd (omega arith)
+
+pub room_to_bad : {A : Type 0} (input rest line behind : List ℕ) (old : Session A) (number : ℕ) → Stands input rest old number
+    → lines_of rest ≡ line ∷ lines_of behind → LineFindsRoom old (line_of line) → is_not_bad (line_of line) ≡ false → ¬ MeetsFull input
+room_to_bad input rest line behind old number stands lines room is_bad full =
+    not_at_bad (after_lines start stands.before) line (lines_of behind) (room _ stands.state_is) is_bad (rw lines at (stands.room full))
 
 -- the answer where a consistency proof leads to two roots
 pub roots_answer : (log : List (List ℕ)) (s : State) (m n : ℕ) (old new : List ℕ) → log ≡ log_at s

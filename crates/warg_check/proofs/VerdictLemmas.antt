@@ -12,7 +12,11 @@ use Rattle.warg_log.specs.Cut.{cut_root}
 use Rattle.warg_log.specs.Sparse.{Pairs, held_digest}
 use Rattle.warg_log.specs.Bundles.{Bundle}
 use Rattle.warg_log.specs.declared.error.DecodeError.{DecodeError}
-use Rattle.warg_check.specs.Verdicts.{judged, verdict, includes, are_roots}
+use Rattle.warg_map.specs.Bits.{key_bits}
+use Rattle.warg_map.specs.ProofValue.{proof_value}
+use Rattle.warg_map.specs.Bundles.{Peers}
+use Rattle.warg_check.specs.Verdicts.{judged, verdict, is_root, includes, are_roots, leads}
+use Rattle.warg_check.specs.UpdateVerdicts.{leads_both}
 
 -- from a bundle that is read to the verdict on one of its proofs
 pub judged_at : {B P : Type 0} (proofs : B → List P) (holds : B → P → Bool) (at : ℕ) (read : Result B DecodeError) (b : B) (proof : P) (is : Bool)
@@ -58,14 +62,14 @@ refused H value root b node n ps e length_is hashes_are new unknown never =
     sym (refused_is H b value root node e (rw (← length_is) new) (rw (← length_is, ← hashes_are) unknown) never)
 
 -- what a verdict that is true says
-true_judged : {P : Type 0} (holds : P → Bool) (o : Option P) → judged holds o ≡ Ok true → (proof : P) × (holds proof ≡ true)
+true_judged : {P : Type 0} (holds : P → Bool) (o : Option P) → judged holds o ≡ Ok true → (proof : P) × (holds proof ≡ true) × (o ≡ Some proof)
 true_judged holds None is = absurd cc
-true_judged holds (Some proof) is = let holds_is : holds proof ≡ true = cc in (proof, holds_is)
+true_judged holds (Some proof) is = let holds_is : holds proof ≡ true = cc in (proof, holds_is, refl)
 
 pub true_verdict : {B P : Type 0} (proofs : B → List P) (holds : B → P → Bool) (at : ℕ) (read : Result B DecodeError) → verdict proofs holds at read ≡ Ok true
-    → (b : B) × (proof : P) × (read ≡ Ok b) × (holds b proof ≡ true)
+    → (b : B) × (proof : P) × (read ≡ Ok b) × (holds b proof ≡ true) × (slice_get (proofs b) at ≡ Some proof)
 true_verdict proofs holds at (Err e) is = absurd cc
-true_verdict proofs holds at (Ok b) is = let judge = true_judged (holds b) (slice_get (proofs b) at) is in (b, judge.0, refl, judge.1)
+true_verdict proofs holds at (Ok b) is = let judge = true_judged (holds b) (slice_get (proofs b) at) is in (b, judge.0, refl, judge.1, judge.2)
 
 -- two roots that are these
 pub roots_are : (old new : List ℕ) (roots : Result (List ℕ × List ℕ) ConsistencyProofError) → are_roots old new roots ≡ true → roots ≡ Ok (old, new)
@@ -75,3 +79,14 @@ roots_are old new (Ok roots) is =
     let with_old : List ℕ → List ℕ × List ℕ = λ x. (x, roots.1) in
     let with_new : List ℕ → List ℕ × List ℕ = λ y. (old, y) in
     ap Ok (ap with_old (same_text roots.0 old (sym both.0)) ∙ ap with_new (same_text roots.1 new (sym both.1)))
+
+-- peers that lead from both leaves to both roots
+pub both_lead : (H : List ℕ → List ℕ) (key old_leaf new_leaf old_root new_root : List ℕ) (peers : Peers) → leads_both H key old_leaf new_leaf old_root new_root peers ≡ true
+    → (proof_value H peers old_leaf (key_bits H key) ≡ old_root) × (proof_value H peers new_leaf (key_bits H key) ≡ new_root)
+both_lead H key old_leaf new_leaf old_root new_root peers is =
+    let both = and_parts (leads H old_leaf key old_root peers) (leads H new_leaf key new_root peers) is in
+    (same_text (proof_value H peers old_leaf (key_bits H key)) old_root (sym both.0), same_text (proof_value H peers new_leaf (key_bits H key)) new_root (sym both.1))
+
+pub root_is : (root : List ℕ) (found : Option (List ℕ)) → is_root root found ≡ true → found ≡ Some root
+root_is root None is = absurd cc
+root_is root (Some r) is = ap Some (same_text r root (sym is))

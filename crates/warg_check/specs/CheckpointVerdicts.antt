@@ -1,5 +1,5 @@
 -- Verdicts that bind checkpoints.
-use Rattle.std.specs.Prelude.{◌≡◌, ℕ, ◌*◌, Bool, ◌&&◌, ◌==◌, List, ◌∷◌, Some, Result, Ok}
+use Rattle.std.specs.Prelude.{◌≡◌, ℕ, ◌*◌, Bool, ◌&&◌, ◌==◌, List, ◌∷◌, length, Some, Result, Ok}
 use Rattle.warg_log.specs.declared.node.Node.{Node}
 use Rattle.warg_log.specs.Nodes.{ExistsAt}
 use Rattle.warg_log.specs.Cut.{cut_root}
@@ -29,15 +29,22 @@ shows_growth H old_length old new_length new b m = m == old_length && (b.log_len
 abbrev pub growth_verdict : (List ℕ → List ℕ) → List ℕ → ℕ → ℕ → List ℕ → ℕ → List ℕ → Result Bool CheckError
 growth_verdict H bytes at old_length old new_length new = verdict (λ (b : Bundle). b.consistent_lengths) (shows_growth H old_length old new_length new) at (bundle_of bytes)
 
--- The bytes are a bundle by whose digests the cut root is this root, with the value at the leaf of this index.
-pub record IsEntryShown (H : List ℕ → List ℕ) (bytes : List ℕ) (index : ℕ) (value : List ℕ) (length : ℕ) (root : List ℕ) : Type 0 where
+-- Every digest of the bundle has 32 bytes.
+abbrev pub HasHashes : Bundle → Type 0
+HasHashes b = (node : ℕ) (digest : List ℕ) → held_digest b.hashes node ≡ Some digest → length digest ≡ 32
+
+-- The bytes are a bundle by whose digests, of 32 bytes, the cut root is this root, with the value at the leaf of this
+-- index.
+pub record IsEntryShown (H : List ℕ → List ℕ) (bytes : List ℕ) (index : ℕ) (value : List ℕ) (n : ℕ) (root : List ℕ) : Type 0 where
   pub bundle : Bundle
   pub spelled : bundle_of bytes ≡ Ok bundle
-  pub exists : ExistsAt (2 * index) length
-  pub is : cut_root H (held_digest bundle.hashes) (2 * index) (H (0 ∷ value)) length ≡ Some root
+  pub hashes : HasHashes bundle
+  pub exists : ExistsAt (2 * index) n
+  pub is : cut_root H (held_digest bundle.hashes) (2 * index) (H (0 ∷ value)) n ≡ Some root
 
--- The bytes are a bundle by whose digests a consistency proof between these lengths has these roots.
+-- The bytes are a bundle by whose digests, of 32 bytes, a consistency proof between these lengths has these roots.
 pub record IsGrowthShown (H : List ℕ → List ℕ) (bytes : List ℕ) (old_length : ℕ) (old : List ℕ) (new_length : ℕ) (new : List ℕ) : Type 0 where
   pub bundle : Bundle
   pub spelled : bundle_of bytes ≡ Ok bundle
+  pub hashes : HasHashes bundle
   pub roots : IsConsistent H (held_digest bundle.hashes) old_length new_length old new

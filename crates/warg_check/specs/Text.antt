@@ -1,6 +1,7 @@
 -- What the program writes, as a fold over its lines whose state has the entries pushed and the insertions made.
 use Rattle.std.specs.Prelude.{◌≡◌, ℕ, suc, ◌*◌, ◌^◌, nat_eq, nat_le, nat_lt, Bool, true, false, ◌&&◌, if◌then◌else◌, List, [], ◌∷◌, ◌++◌, length, codes, Option, Some, None, Result, Ok, Err}
 use Rattle.std.specs.Fmt.{decimal}
+use Rattle.std.specs.List.{list_all}
 use Rattle.std.specs.FinMap as finite
 use Rattle.std.specs.Cmp.Lexicographic.{pointwise}
 use Rattle.hex.specs.Hex.{encode_lower}
@@ -12,6 +13,10 @@ use Rattle.warg_log.specs.Nodes.{end_of}
 use Rattle.warg_log.specs.Tree.{root_of, own_digest}
 use Rattle.warg_log.specs.Cut.{cut_root}
 use Rattle.warg_log.specs.Consistency.{consistency}
+use Rattle.warg_log.specs.Bundles.{Bundle, bundle_message}
+use Rattle.warg_log.specs.Bundling.{bundled}
+use Rattle.warg_log.specs.declared.error.BundleError.{BundleError}
+use Rattle.warg_log.specs.declared.error.BundleError.TheVariants as failure
 use Rattle.warg_log.specs.declared.consistency.ConsistencyProofError.{ConsistencyProofError}
 use Rattle.warg_log.specs.declared.consistency.ConsistencyProofError.TheVariants.{PointsOutOfOrder, HashNotKnown, InclusionError, DivergingRoots, OldLengthZero, Memory}
 use Rattle.warg_map.specs.Bits.{key_bits}
@@ -20,9 +25,10 @@ use Rattle.warg_check.specs.Words.{lines_of}
 use Rattle.warg_check.specs.Verdicts.{inclusion_verdict}
 use Rattle.warg_check.specs.declared.verdict.CheckError.{CheckError}
 use Rattle.warg_check.specs.declared.verdict.CheckError.TheVariants as check
+use Rattle.warg_check.specs.declared.program.RunError.{RunError}
+use Rattle.warg_check.specs.declared.program.RunError.TheVariants as run
 use Rattle.warg_check.specs.Orders.{Order, push, log, include, consistent, bundle, verify, insert, map, prove, absent, Line, empty, bad, good, line_of}
 use Rattle.warg_check.specs.States.{State, start, log_at, map_at, after, after_line, FindsFull}
-use Rattle.warg_check.specs.Bundled.{needed_ascending, entries_for, proof_message, numbers_fit}
 
 -- The answer to `include` of a leaf that exists.
 abbrev pub root_or_refusal : Option (List ℕ) → List ℕ
@@ -43,14 +49,28 @@ abbrev pub roots_or_refusal : Result (List ℕ × List ℕ) ConsistencyProofErro
 roots_or_refusal (Ok roots) = codes "roots " ++ encode_lower roots.0 ++ 32 ∷ encode_lower roots.1
 roots_or_refusal (Err fault) = refusal fault
 
+-- The numbers of a message's nodes fit in its 32 bits.
+abbrev pub numbers_fit : LogBundle → Bool
+numbers_fit m = list_all (λ x. nat_lt x (2 ^ 32)) m.included_indices && list_all (λ (e : Entry). nat_lt e.index (2 ^ 32)) m.hashes
+
 -- The written form of a message, or that a node's number doesn't fit in it.
 abbrev pub bytes_or_refusal : LogBundle → List ℕ
 bytes_or_refusal m = if numbers_fit m then codes "bundle " ++ encode_lower (log_bytes m) else codes "refused too large"
 
--- The bundle of the proof of a node at a length with these entries, or why there is none.
-abbrev pub bundle_or_refusal : ℕ → ℕ → Option (List Entry) → List ℕ
-bundle_or_refusal node length (Some entries) = bytes_or_refusal (proof_message node length entries)
-bundle_or_refusal node length None = codes "refused hash not known"
+-- Why there is no bundle. One inclusion proof has a new leaf, a large length or a lacking digest at most.
+abbrev pub bundle_refusal : BundleError → List ℕ
+bundle_refusal (failure.Consistency fault) = refusal fault
+bundle_refusal (failure.Inclusion _) = codes "refused leaf too new"
+bundle_refusal failure.DifferentRoots = codes "refused different roots"
+bundle_refusal failure.NoProofs = codes "refused no proofs"
+bundle_refusal failure.TooLarge = codes "refused too large"
+bundle_refusal failure.HashNotFound = codes "refused hash not known"
+bundle_refusal failure.Memory = []
+
+-- The written form of a bundle, or why there is none.
+abbrev pub bundle_or_refusal : Result Bundle BundleError → List ℕ
+bundle_or_refusal (Ok b) = bytes_or_refusal (bundle_message b)
+bundle_or_refusal (Err fault) = bundle_refusal fault
 
 -- A verdict, or why there is none.
 abbrev pub verdict_or_refusal : Result Bool CheckError → List ℕ
@@ -75,12 +95,7 @@ answer s (include node length value) =
     then root_or_refusal (cut_root sha256 (own_digest sha256 (log_at s)) node (sha256 (0 ∷ value)) length)
     else codes "refused leaf too new"
 answer s (consistent old new) = roots_or_refusal (consistency sha256 (own_digest sha256 (log_at s)) old new)
-answer s (bundle node length) =
-    if nat_lt length (end_of node)
-    then codes "refused leaf too new"
-    else if nat_le (2 ^ 32) length
-    then codes "refused too large"
-    else bundle_or_refusal node length (entries_for (own_digest sha256 (log_at s)) (needed_ascending node length))
+answer s (bundle node length) = bundle_or_refusal (bundled (own_digest sha256 (log_at s)) [] (record { leaf = record { 0 = node }; log_length = length } ∷ []))
 answer s (verify root value bytes) = verdict_or_refusal (inclusion_verdict sha256 bytes 0 value root)
 answer s (insert key value) = codes "len " ++ decimal (finite.len (map_at (after s (insert key value))))
 answer s map = codes "map " ++ decimal (finite.len (map_at s)) ++ 32 ∷ encode_lower (sparse_root sha256 256 (map_at s))
@@ -125,6 +140,12 @@ after_lines s (line ∷ lines) = after_lines (after_line s (line_of line)) lines
 -- The text that the program writes for an input.
 abbrev pub text_of : List ℕ → List ℕ
 text_of input = text_from 1 start (lines_of input)
+
+-- A run formed its whole text: it returned, or only writing the text failed.
+abbrev pub HasText : Result Bool RunError → Type 0
+HasText (Ok _) = Unit {0}
+HasText (Err run.Write) = Unit {0}
+HasText (Err _) = ⊥
 
 -- An order in the input finds no room for what it pushes or inserts.
 pub record MeetsFull (input : List ℕ) : Type 0 where

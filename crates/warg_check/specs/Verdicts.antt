@@ -1,5 +1,5 @@
 -- Verdicts on the proofs in the bytes of a log bundle or a map bundle.
-use Rattle.std.specs.Prelude.{◌≡◌, ℕ, Bool, false, ◌&&◌, nat_eq, nat_le, List, ◌∷◌, Option, Some, None, Result, Ok, Err, slice_get}
+use Rattle.std.specs.Prelude.{◌≡◌, ℕ, Bool, false, ◌&&◌, nat_eq, nat_le, List, ◌∷◌, length, Option, Some, None, Result, Ok, Err, slice_get, slice_index_or}
 use Rattle.std.specs.Cmp.Lexicographic.{pointwise}
 use Rattle.warg_log.specs.declared.node.Node.{Node}
 use Rattle.warg_log.specs.declared.error.DecodeError.{DecodeError}
@@ -74,16 +74,27 @@ key_verdict H bytes at key value root = verdict (λ (b : MapBundle). b.proofs) (
 abbrev pub absent_verdict : (List ℕ → List ℕ) → List ℕ → ℕ → List ℕ → List ℕ → Result Bool CheckError
 absent_verdict H bytes at key root = verdict (λ (b : MapBundle). b.absences) (λ b. leads H (empty_root H 0) key root) at (map_bundle_of bytes)
 
--- The bytes are a map bundle with peers that lead from the value under the key to this root.
+-- Every peer that is there has 32 bytes.
+abbrev pub HasHashes : Peers → Type 0
+HasHashes peers = (place : ℕ) (digest : List ℕ) → slice_index_or peers place None ≡ Some digest → length digest ≡ 32
+
+-- The bytes are a map bundle with a proof, of peers of 32 bytes, that lead from the value under the key to this root.
 pub record IsKeyShown (H : List ℕ → List ℕ) (bytes key value root : List ℕ) : Type 0 where
   pub bundle : MapBundle
   pub spelled : map_bundle_of bytes ≡ Ok bundle
   pub peers : Peers
+  pub place : ℕ
+  pub stands : slice_get bundle.proofs place ≡ Some peers
+  pub hashes : HasHashes peers
   pub is : proof_value H peers (leaf_digest H value) (key_bits H key) ≡ root
 
--- The bytes are a map bundle with peers that lead from an empty leaf under the key to this root.
+-- The bytes are a map bundle with an absence, of peers of 32 bytes, that lead from an empty leaf under the key to this
+-- root.
 pub record IsAbsenceShown (H : List ℕ → List ℕ) (bytes key root : List ℕ) : Type 0 where
   pub bundle : MapBundle
   pub spelled : map_bundle_of bytes ≡ Ok bundle
   pub peers : Peers
+  pub place : ℕ
+  pub stands : slice_get bundle.absences place ≡ Some peers
+  pub hashes : HasHashes peers
   pub is : proof_value H peers (empty_root H 0) (key_bits H key) ≡ root

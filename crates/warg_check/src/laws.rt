@@ -3,12 +3,14 @@
 //!
 //! They join the verdicts with the laws of `warg_witness`: where a verdict is true under the checkpoint of
 //! given entries, or under the root of given insertions, its claim is met there, and so it is true of them or
-//! a collision is computed (`value_or_collision`, `consistency_or_collision`, `key_or_collision` and
-//! `absence_or_collision` there).
+//! a collision is computed (`value_or_collision`, `consistency_or_collision`, `key_or_collision`,
+//! `absence_or_collision` and `update_or_collision` there). Those laws ask for digests of 32 bytes, which the bundle's
+//! are (`hashes`).
 
 ghost use Rattle.std.specs.Prelude.{◌≡◌, ℕ, List, Ok, true};
 ghost use Rattle.warg_check.specs.Verdicts.{key_verdict, absent_verdict, IsKeyShown, IsAbsenceShown};
 ghost use Rattle.warg_check.specs.CheckpointVerdicts.{entry_verdict, growth_verdict, IsEntryShown, IsGrowthShown};
+ghost use Rattle.warg_check.specs.UpdateVerdicts.{update_verdict, insertion_verdict, IsUpdateShown, IsInsertionShown};
 
 /// Where the verdict on an entry is true, the bundle's digests lead from the value at its leaf to the root.
 pub fn entry_is_shown()
@@ -29,4 +31,19 @@ pub fn key_is_shown()
 /// root.
 pub fn absence_is_shown()
     ensures { (H : List ℕ → List ℕ) (bytes : List ℕ) (at : ℕ) (key root : List ℕ) → absent_verdict H bytes at key root ≡ Ok true → IsAbsenceShown H bytes key root }
+{}
+
+/// Where the verdict on an update is true, the bundle has peers that lead from both values under the key to the two
+/// roots.
+pub fn update_is_shown()
+    ensures { (H : List ℕ → List ℕ) (bytes : List ℕ) (at : ℕ) (key old_value new_value old_root new_root : List ℕ)
+        → update_verdict H bytes at key old_value new_value old_root new_root ≡ Ok true
+        → IsUpdateShown H bytes key old_value new_value old_root new_root }
+{}
+
+/// Where the verdict on an insertion is true, the bundle has peers that lead under the key from an empty leaf to the old
+/// root, and from the value to the new one.
+pub fn insertion_is_shown()
+    ensures { (H : List ℕ → List ℕ) (bytes : List ℕ) (at : ℕ) (key value old_root new_root : List ℕ)
+        → insertion_verdict H bytes at key value old_root new_root ≡ Ok true → IsInsertionShown H bytes key value old_root new_root }
 {}

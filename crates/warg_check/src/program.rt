@@ -3,7 +3,7 @@
 ghost use Rattle.std.specs.Prelude.{◌≡◌, ◌≢◌, ◌↔◌, ⊤, [], true, IsTrue, IfSome, IfOk, IfErr, OnOk};
 ghost use Rattle.std.specs.Io.KnownBytes.{Appends};
 ghost use Rattle.warg_check.specs.Words.{lines_of};
-ghost use Rattle.warg_check.specs.Text.{text_of, all_good, MeetsFull};
+ghost use Rattle.warg_check.specs.Text.{text_of, all_good, MeetsFull, HasText};
 ghost use Rattle.warg_check.specs.declared.program.RunError.TheVariants.{Memory};
 
 mod command;
@@ -77,6 +77,7 @@ pub fn run<A: Allocator + Copy, R: Read, W: Write>(
     ensures good { IfOk result (λ good. IfSome (R.remaining reader.old) (λ input. good ≡ all_good (lines_of input))) }
     ensures unwritten { IfErr result (λ error. error ≢ RunError.Write → writer.new ≡ writer.old) }
     ensures full { result ≡ Err RunError.Full → IfSome (R.remaining reader.old) MeetsFull }
+    ensures room { HasText result → IfSome (R.remaining reader.old) (λ input. ¬ MeetsFull input) }
 {
     let input = read_all(alloc, reader)?;
     let (text, good) = answers(alloc, input.as_slice())?;

@@ -1,12 +1,53 @@
 //! `warg_check`: reads commands on standard input and writes their answers on standard output.
 //!
-//! The exit status is 0 where every line was good, 1 where one was bad, 2 where a read or a write
-//! failed, and 3 when out of memory or with a full log or map.
+//! The exit status is 0 if every line was good, 1 if one was bad, 2 if an argument is none of the program's or a read or
+//! a write failed, and 3 if memory ran out or a log or map is full. Statuses 2 and 3 come with a line on standard error.
 #![tactic(auto)]
 
+mod arguments;
+
+use arguments::{HELP, Request, VERSION, request_of};
+use std::env;
+use std::io::{self, IsTerminal};
 use std::process::ExitCode;
 use warg_check::program::{exit_code, run};
 
 fn main(rt: HostRuntime) -> ExitCode {
-    exit_code(run(rt.alloc(), &mut rt.stdin(), &mut rt.stdout()))
+    match answer(&rt) {
+        Ok(status) => status,
+        Err(error) => refuse(&rt, &error),
+    }
+}
+
+// Does what the arguments ask for.
+fn answer(rt: &HostRuntime) -> io::Result<ExitCode> {
+    let words = env::args(rt)?.skip(1).collect::<Vec<String>>(rt.alloc())?;
+    match request_of(words.as_slice()) {
+        Request::Run => Ok(run_commands(rt)),
+        Request::Help => rt.print(HELP).map(|()| ExitCode::SUCCESS),
+        Request::Version => rt.println(VERSION).map(|()| ExitCode::SUCCESS),
+        Request::Unknown(word) => {
+            eprintln!(rt; "warg_check: no argument is called {word:?}; see warg_check --help")?;
+            Ok(ExitCode::from(2))
+        }
+    }
+}
+
+// Runs the commands of standard input, and says on standard error what ended the run, if anything did.
+fn run_commands(rt: &HostRuntime) -> ExitCode {
+    if rt.stdin().is_terminal() {
+        let _ = rt.eprintln(
+            "warg_check: reads commands from standard input until its end; see warg_check --help",
+        );
+    }
+    let ended = run(rt.alloc(), &mut rt.stdin(), &mut rt.stdout());
+    if let Err(error) = &ended {
+        let _ = eprintln!(rt; "warg_check: {error}");
+    }
+    exit_code(ended)
+}
+
+fn refuse(rt: &HostRuntime, error: &io::Error) -> ExitCode {
+    let _ = eprintln!(rt; "warg_check: {error}");
+    ExitCode::from(2)
 }

@@ -1,1 +1,3 @@
 pub mod EmptyLemmas
+pub mod ForCallers
+mod FramedLemmas

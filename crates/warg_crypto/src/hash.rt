@@ -13,7 +13,7 @@ use thiserror::Error;
 /// A digest of 32 bytes, by the digest function `D`.
 ///
 /// Equality, order and `Hash` go by the bytes, for every `D`.
-#[derive_where(Debug, PartialEq, Eq, PartialOrd, Ord, Hash)]
+#[derive_where(PartialEq, Eq, PartialOrd, Ord, Hash)]
 pub struct Hash<D> {
     bytes: [u8; 32],
     of: PhantomData<D>,
@@ -125,7 +125,25 @@ impl<D> Hash<D> {
     }
 }
 
-/// That a list of bytes isn't 32 bytes long, and so no hash.
+/// The hash's 32 bytes.
+impl<D> From<Hash<D>> for [u8; 32] {
+    ghost from_gives = { λ hash bytes. bytes ≡ hash };
+
+    fn from(hash: Hash<D>) -> [u8; 32] {
+        hash.bytes
+    }
+}
+
+/// The hash's 32 bytes.
+impl<D> AsRef<[u8; 32]> for Hash<D> {
+    fn as_ref(&self) -> &[u8; 32]
+        ensures { result.now ≡ self.now }
+    {
+        &self.bytes
+    }
+}
+
+/// The bytes are not 32, and so no hash.
 #[derive(Clone, Copy, Debug, PartialEq, Eq, Error)]
 #[error("hash is not 32 bytes")]
 pub struct HashLength;

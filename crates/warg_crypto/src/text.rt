@@ -23,6 +23,18 @@ impl<D> fmt::Display for Hash<D> {
     }
 }
 
+/// The text of [`Display`](fmt::Display).
+impl<D> fmt::Debug for Hash<D> {
+    ghost use Rattle.std.specs.Prelude.{Some};
+    ghost use Rattle.hex.specs.Hex.{encode_lower};
+
+    ghost debug_output = { λ h. Some (encode_lower h) };
+
+    fn fmt<W: fmt::Write>(&self, f: &mut fmt::Formatter<W>) -> fmt::Result {
+        fmt::Display::fmt(self, f)
+    }
+}
+
 /// Reads 64 hexadecimal digits of either case, and refuses any other text with [`HashDigits`].
 impl<D> FromStr for Hash<D> {
     ghost use Rattle.warg_crypto.specs.Text.{SpellsHash};
@@ -39,7 +51,7 @@ impl<D> FromStr for Hash<D> {
     }
 }
 
-/// That a text isn't 64 hexadecimal digits, and so no hash.
+/// The text is not 64 hexadecimal digits, and so no hash.
 #[derive(Clone, Copy, Debug, PartialEq, Eq, Error)]
 #[error("hash is not 64 hexadecimal digits")]
 pub struct HashDigits;

@@ -1,6 +1,7 @@
 //! Values that are seen as bytes, and visitors that take those bytes.
 
 ghost use Rattle.std.specs.Prelude.{◌≡◌, ℕ, List, [], ◌∷◌, ◌++◌, string_bytes};
+ghost use Rattle.std.specs.Int.{to_be_bytes, w32, w64};
 
 use std::alloc::Allocator;
 
@@ -39,6 +40,24 @@ impl VisitBytes for u8 {
 
     fn visit<W: ByteVisitor>(&self, to: &mut W) {
         to.visit_bytes(&[*self]);
+    }
+}
+
+/// Four bytes, the greatest first.
+impl VisitBytes for u32 {
+    ghost bytes = { to_be_bytes w32 };
+
+    fn visit<W: ByteVisitor>(&self, to: &mut W) {
+        to.visit_bytes(&u32::to_be_bytes(*self));
+    }
+}
+
+/// Eight bytes, the greatest first.
+impl VisitBytes for u64 {
+    ghost bytes = { to_be_bytes w64 };
+
+    fn visit<W: ByteVisitor>(&self, to: &mut W) {
+        to.visit_bytes(&u64::to_be_bytes(*self));
     }
 }
 
@@ -84,7 +103,8 @@ impl<A: Allocator> VisitBytes for String<A> {
     }
 }
 
-/// The bytes of the parts, one after the other.
+/// The bytes of the parts, one after the other with nothing between them: `("foo1", "0")` and `("foo", "10")` have the
+/// same bytes. [`Framed`](crate::Framed) tells parts apart.
 impl<S: VisitBytes, T: VisitBytes> VisitBytes for (S, T) {
     ghost bytes = { λ p. S.bytes p.0 ++ T.bytes p.1 };
 
@@ -95,7 +115,8 @@ impl<S: VisitBytes, T: VisitBytes> VisitBytes for (S, T) {
     }
 }
 
-/// The bytes of the parts, one after the other.
+/// The bytes of the parts, one after the other with nothing between them: `("foo1", "0")` and `("foo", "10")` have the
+/// same bytes. [`Framed`](crate::Framed) tells parts apart.
 impl<S: VisitBytes, T: VisitBytes, U: VisitBytes> VisitBytes for (S, T, U) {
     ghost bytes = { λ p. S.bytes p.0 ++ T.bytes p.1 ++ U.bytes p.2 };
 

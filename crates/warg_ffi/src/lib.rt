@@ -10,6 +10,7 @@ ghost use Rattle.std.specs.Prelude.{◌≡◌, ◌+◌, ◌*◌, ◌^◌, [], �
 ghost use Rattle.warg_crypto.specs.Digests.{sha256};
 ghost use Rattle.warg_check.specs.Verdicts.{inclusion_verdict, consistency_verdict, key_verdict, absent_verdict};
 ghost use Rattle.warg_check.specs.CheckpointVerdicts.{entry_verdict, growth_verdict};
+ghost use Rattle.warg_check.specs.UpdateVerdicts.{update_verdict, insertion_verdict};
 ghost use Rattle.warg_ffi.specs.Numbers.{Returns};
 ghost use Rattle.warg_ffi.specs.PathVerdicts.{shows_record, shows_tree, path_verdict};
 
@@ -20,18 +21,19 @@ use number::{ROOT_LENGTH, number};
 use paths::{check_record_in, check_tree_in};
 use std::alloc::Global;
 use warg_check::{
-    check_absent, check_consistency, check_entry, check_growth, check_inclusion, check_key,
+    check_absent, check_consistency, check_entry, check_growth, check_inclusion, check_insertion,
+    check_key, check_update,
 };
 use warg_crypto::{Hash, Sha256};
 use warg_log::Checkpoint;
 
 /// The version of the library, a byte for each number: 0.9.2, the version of the Rust crate whose calls these
-/// are, and 2 for what came here since.
+/// are, and 3 for what came here since.
 #[unsafe(no_mangle)]
 pub extern "C" fn warg_version() -> u32
-    ensures { result ≡ 9 * 2 ^ 16 + 2 * 2 ^ 8 + 2 }
+    ensures { result ≡ 9 * 2 ^ 16 + 2 * 2 ^ 8 + 3 }
 {
-    0x0009_0202
+    0x0009_0203
 }
 
 /// Whether the inclusion proof at a place of a log bundle, counted from 0, shows that entry `index`, from
@@ -162,6 +164,59 @@ pub extern "C" fn warg_check_absent(
     match Hash::<Sha256>::try_from(root) {
         Ok(root) => number(check_absent(alloc, bundle, at, &key, &root)),
         Err(_) => ROOT_LENGTH,
+    }
+}
+
+/// Whether the proof at a place of a map bundle, counted from 0, shows that the map with the new root is the one with
+/// the old root, with the new value under the key in place of the old one: the number of the verdict of
+/// `warg_check::check_update`.
+#[unsafe(no_mangle)]
+pub extern "C" fn warg_check_update(
+    alloc: Global,
+    bundle: &[u8],
+    at: usize,
+    key: &[u8],
+    old_value: &[u8],
+    new_value: &[u8],
+    old_root: &[u8],
+    new_root: &[u8],
+) -> i32
+    ensures { Returns (old_root.now ∷ new_root.now ∷ [])
+        (update_verdict sha256 bundle.now at key.now old_value.now new_value.now old_root.now new_root.now) result }
+{
+    match (
+        Hash::<Sha256>::try_from(old_root),
+        Hash::<Sha256>::try_from(new_root),
+    ) {
+        (Ok(old), Ok(new)) => number(check_update(
+            alloc, bundle, at, &key, &old_value, &new_value, &old, &new,
+        )),
+        _ => ROOT_LENGTH,
+    }
+}
+
+/// Whether the absence at a place of a map bundle, counted from 0, shows that the map with the new root is the one with
+/// the old root, and the value under a key that had none, or one without bytes: the number of the verdict of
+/// `warg_check::check_insertion`.
+#[unsafe(no_mangle)]
+pub extern "C" fn warg_check_insertion(
+    alloc: Global,
+    bundle: &[u8],
+    at: usize,
+    key: &[u8],
+    value: &[u8],
+    old_root: &[u8],
+    new_root: &[u8],
+) -> i32
+    ensures { Returns (old_root.now ∷ new_root.now ∷ [])
+        (insertion_verdict sha256 bundle.now at key.now value.now old_root.now new_root.now) result }
+{
+    match (
+        Hash::<Sha256>::try_from(old_root),
+        Hash::<Sha256>::try_from(new_root),
+    ) {
+        (Ok(old), Ok(new)) => number(check_insertion(alloc, bundle, at, &key, &value, &old, &new)),
+        _ => ROOT_LENGTH,
     }
 }
 

@@ -1,5 +1,5 @@
 -- Lemmas for the proofs of the crates above, over public definitions alone.
-use Rattle.std.proofs.Common.{◌≡◌, ℕ, suc, ◌+◌, ◌-◌, ◌*◌, ◌^◌, ◌<◌, ◌≤◌, List, [], ◌∷◌, length, Option, Some, Ok, slice_index_or, refl, arith}
+use Rattle.std.proofs.Common.{◌≡◌, ℕ, suc, ◌+◌, ◌-◌, ◌*◌, ◌^◌, ◌<◌, ◌≤◌, List, [], ◌∷◌, length, map, Option, Some, Ok, slice_index_or, refl, arith}
 use Rattle.std.specs.List.{AllByRecursion}
 use Rattle.std.proofs.lemmas.Nat.{pow_pos}
 use Rattle.warg_log.specs.Nodes.{IsNode, ExistsAt, height_of, place_of, node_over, balanced_over}
@@ -7,6 +7,10 @@ use Rattle.warg_log.specs.Tree.{branch, front_of, root_over, own_digest}
 use Rattle.warg_log.specs.Cut.{joined, cut_over, old_over, IsFull, IsBeside}
 use Rattle.warg_log.specs.Walks.{needed}
 use Rattle.warg_log.specs.Consistency.{consistency, IsConsistent}
+use Rattle.warg_log.specs.Claims.{ConsistencyClaim, InclusionClaim}
+use Rattle.warg_log.specs.Bundles.{Bundle}
+use Rattle.warg_log.specs.Bundling.{bundled}
+use Rattle.warg_log.proofs.NeededLemmas as bundles
 use Rattle.warg_log.proofs.NodeLemmas as nodes
 use Rattle.warg_log.proofs.RootLemmas as powers
 use Rattle.warg_log.proofs.LawLemmas as laws
@@ -109,3 +113,8 @@ consistency_then = met.consistency-then
 -- the needed nodes exist at the length
 pub needed_exist : (t n : ℕ) → 0 < n → AllByRecursion (λ x. ExistsAt x n) (needed t n)
 needed_exist = laws.needed_exist
+
+-- a bundle has the one length and the nodes of its inclusion proofs
+pub bundled_inclusions : (F : ℕ → Option (List ℕ)) (cs : List ConsistencyClaim) (ps : List InclusionClaim) (b : Bundle) → bundled F cs ps ≡ Ok b
+    → AllByRecursion (λ (p : InclusionClaim). p.log_length ≡ b.log_length) ps × (b.included_nodes ≡ map (λ (p : InclusionClaim). p.leaf) ps)
+bundled_inclusions F cs ps b is = let holds = bundles.bundle_holds F cs ps b is in (holds.log_lengths, holds.nodes)

@@ -17,6 +17,8 @@ pub mod SparseLemmas
 pub mod StackLemmas
 pub mod BundleLemmas
 pub mod EqualLemmas
+pub mod EvaluationFaults
+pub mod FaultLemmas
 pub mod NeededLemmas
 pub mod SameLemmas
 pub mod ImageLemmas

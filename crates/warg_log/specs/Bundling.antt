@@ -1,12 +1,12 @@
--- Which proofs go into one bundle, and which nodes' digests they need.
-use Rattle.std.specs.Prelude.{◌≡◌, ◌⊎◌, ℕ, ◌^◌, Bool, true, false, not, ◌==◌, nat_eq, nat_lt, nat_le, if◌then◌else◌, List, [], ◌∷◌, ◌++◌, map, Option, Some, None, Result, Ok, Err}
-use Rattle.std.specs.List.{AllByRecursion, flat_map, list_any}
+-- The bundle of some proofs, with the digests that they need.
+use Rattle.std.specs.Prelude.{◌≡◌, ℕ, ◌*◌, ◌^◌, ◌==◌, nat_eq, nat_lt, nat_le, if◌then◌else◌, List, [], ◌∷◌, ◌++◌, map, filter, Option, Some, None, is_some, unwrap_or, Result, Ok, Err}
+use Rattle.std.specs.List.{AllByRecursion, flat_map, list_any, range_with_len}
 use Rattle.warg_protobuf.specs.Reading.{◌>>=◌}
 use Rattle.warg_log.specs.declared.node.Node.{Node}
 use Rattle.warg_log.specs.declared.proof.InclusionProofError.TheVariants as inclusion
 use Rattle.warg_log.specs.declared.consistency.ConsistencyProofError.TheVariants as between
 use Rattle.warg_log.specs.declared.error.BundleError.{BundleError}
-use Rattle.warg_log.specs.declared.error.BundleError.TheVariants.{Consistency, Inclusion, DifferentRoots, NoProofs, TooLarge, HashNotFound, Memory}
+use Rattle.warg_log.specs.declared.error.BundleError.TheVariants.{Consistency, Inclusion, DifferentRoots, NoProofs, TooLarge, HashNotFound}
 use Rattle.warg_log.specs.Nodes.{end_of, balanced_roots}
 use Rattle.warg_log.specs.Walks.{needed}
 use Rattle.warg_log.specs.Cut.{cut_root}
@@ -14,6 +14,7 @@ use Rattle.warg_log.specs.Consistency.{consistency}
 use Rattle.warg_log.specs.Claims.{InclusionClaim, ConsistencyClaim}
 use Rattle.warg_log.specs.Sparse.{held_digest}
 use Rattle.warg_log.specs.Bundles.{Bundle}
+use Rattle.warg_log.specs.Decoding.{unless, earlier, first_fault}
 
 -- The nodes that a consistency proof from m to n needs: each balanced root of m, and the nodes that it
 -- needs at n.
@@ -25,53 +26,62 @@ needed_between m n = flat_map (λ t. t ∷ needed t n) (balanced_roots m)
 abbrev pub needed_by : List ℕ → List Node → ℕ → List ℕ
 needed_by old_lengths nodes n = flat_map (λ m. needed_between m n) old_lengths ++ flat_map (λ (node : Node). needed node.0 n) nodes
 
--- A length was met before, and it is another.
-abbrev pub differs : Option ℕ → ℕ → Bool
-differs None n = false
-differs (Some m) n = not (m == n)
+-- The needed nodes ascending, each once: of the numbers below twice the length, those that are needed.
+abbrev pub needed_ascending : List ℕ → List Node → ℕ → List ℕ
+needed_ascending old_lengths nodes n = filter (λ x. list_any (nat_eq x) (needed_by old_lengths nodes n)) (range_with_len 0 (2 * n))
 
--- The one length of consistency proofs, after a length that was met before; or the first fault.
-abbrev pub consistency_length : Option ℕ → List ConsistencyClaim → Result (Option ℕ) BundleError
-consistency_length met [] = Ok met
-consistency_length met (p ∷ ps) =
+-- The fault of a consistency proof in a bundle of proofs at length n.
+abbrev pub consistency_fault : ℕ → ConsistencyClaim → Option BundleError
+consistency_fault n p =
     if nat_lt p.new_length p.old_length
-    then Err (Consistency between.PointsOutOfOrder)
-    else if differs met p.new_length
-    then Err DifferentRoots
-    else consistency_length (Some p.new_length) ps
+    then Some (Consistency between.PointsOutOfOrder)
+    else if p.new_length == n then None else Some DifferentRoots
 
--- The same of inclusion proofs.
-abbrev pub inclusion_length : Option ℕ → List InclusionClaim → Result (Option ℕ) BundleError
-inclusion_length met [] = Ok met
-inclusion_length met (p ∷ ps) =
-    if differs met p.log_length
-    then Err DifferentRoots
-    else if nat_le (end_of p.leaf.0) p.log_length
-    then inclusion_length (Some p.log_length) ps
-    else Err (Inclusion inclusion.LeafTooNew)
+-- The fault of an inclusion proof in a bundle of proofs at length n.
+abbrev pub inclusion_fault : ℕ → InclusionClaim → Option BundleError
+inclusion_fault n p =
+    if p.log_length == n
+    then if nat_le (end_of p.leaf.0) n then None else Some (Inclusion inclusion.LeafTooNew)
+    else Some DifferentRoots
 
--- The length that was met, if it fits in the 32 bits of a message.
-abbrev pub fitting_length : Option ℕ → Result ℕ BundleError
-fitting_length None = Err NoProofs
-fitting_length (Some n) = if nat_lt n (2 ^ 32) then Ok n else Err TooLarge
+-- The fault of a length that doesn't fit in the 32 bits of a message.
+abbrev pub length_fault : ℕ → Option BundleError
+length_fault n = if nat_lt n (2 ^ 32) then None else Some TooLarge
 
--- The one length of the proofs of a bundle, or the first fault: consistency proofs in turn, inclusion
--- proofs in turn, that there are none, that the length is too large.
+-- The length of the first proof, consistency proofs before inclusion proofs.
+abbrev pub first_length : List ConsistencyClaim → List InclusionClaim → Result ℕ BundleError
+first_length (c ∷ cs) ps = Ok c.new_length
+first_length [] (p ∷ ps) = Ok p.log_length
+first_length [] [] = Err NoProofs
+
+-- The first fault of proofs in a bundle at length n.
+abbrev pub proofs_fault : ℕ → List ConsistencyClaim → List InclusionClaim → Option BundleError
+proofs_fault n cs ps = earlier (first_fault (consistency_fault n) cs) (earlier (first_fault (inclusion_fault n) ps) (length_fault n))
+
+-- The one length of the proofs of a bundle, or their first fault.
 abbrev pub bundle_length : List ConsistencyClaim → List InclusionClaim → Result ℕ BundleError
-bundle_length cs ps = consistency_length None cs >>= (λ met. inclusion_length met ps) >>= fitting_length
+bundle_length cs ps = first_length cs ps >>= (λ n. unless (proofs_fault n cs ps) n)
 
--- A digest that the proofs need at their one length isn't held.
-pub record LacksNeeded (F : ℕ → Option (List ℕ)) (cs : List ConsistencyClaim) (ps : List InclusionClaim) : Type 0 where
-  pub log_length : ℕ
-  pub node : ℕ
-  pub length_is : bundle_length cs ps ≡ Ok log_length
-  pub is_needed : list_any (nat_eq node) (needed_by (map (λ p. p.old_length) cs) (map (λ p. p.leaf) ps) log_length) ≡ true
-  pub is_lacking : F node ≡ None
+-- The fault of a node whose digest F lacks.
+abbrev pub node_fault : (ℕ → Option (List ℕ)) → ℕ → Option BundleError
+node_fault F x = if is_some (F x) then None else Some HashNotFound
 
--- Why a bundle of these proofs is refused: memory, the first fault of their lengths, or a digest that
--- isn't held.
-abbrev pub IsBundleFault : (ℕ → Option (List ℕ)) → List ConsistencyClaim → List InclusionClaim → BundleError → Type 0
-IsBundleFault F cs ps e = (e ≡ Memory) ⊎ (bundle_length cs ps ≡ Err e) ⊎ ((e ≡ HashNotFound) × LacksNeeded F cs ps)
+-- A node with the digest that F has for it.
+abbrev pub node_with_digest : (ℕ → Option (List ℕ)) → ℕ → Node × List ℕ
+node_with_digest F x = (record { 0 = x }, unwrap_or (F x) [])
+
+-- The bundle of proofs at length n with their needed nodes' digests, or that F lacks one.
+abbrev pub bundle_at : (ℕ → Option (List ℕ)) → List ℕ → List Node → ℕ → Result Bundle BundleError
+bundle_at F old_lengths nodes n = unless (first_fault (node_fault F) (needed_ascending old_lengths nodes n)) (record {
+  log_length = n;
+  consistent_lengths = old_lengths;
+  included_nodes = nodes;
+  hashes = map (node_with_digest F) (needed_ascending old_lengths nodes n);
+})
+
+-- The bundle of these proofs with the digests of F that they need, or the first fault.
+abbrev pub bundled : (ℕ → Option (List ℕ)) → List ConsistencyClaim → List InclusionClaim → Result Bundle BundleError
+bundled F cs ps = bundle_length cs ps >>= bundle_at F (map (λ p. p.old_length) cs) (map (λ p. p.leaf) ps)
 
 -- The bundle has a digest for exactly the nodes that its proofs need.
 abbrev pub HoldsNeeded : Bundle → Type 0

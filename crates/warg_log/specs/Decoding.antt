@@ -17,17 +17,17 @@ held_in read (Ok m) = read m
 held_in read (Err e) = Err (fault.Wire e)
 
 -- The value, unless there is a fault.
-abbrev pub unless : {X : Type 0} → Option DecodeError → X → Result X DecodeError
+abbrev pub unless : {X E : Type 0} → Option E → X → Result X E
 unless None x = Ok x
 unless (Some e) x = Err e
 
 -- The first of two faults, or the second where there is no first.
-abbrev pub earlier : Option DecodeError → Option DecodeError → Option DecodeError
+abbrev pub earlier : {E : Type 0} → Option E → Option E → Option E
 earlier None second = second
 earlier (Some e) second = Some e
 
 -- The first fault in a list, by the fault of each element.
-abbrev pub first_fault : {X : Type 0} → (X → Option DecodeError) → List X → Option DecodeError
+abbrev pub first_fault : {X E : Type 0} → (X → Option E) → List X → Option E
 first_fault fault_of [] = None
 first_fault fault_of (x ∷ xs) = earlier (fault_of x) (first_fault fault_of xs)
 

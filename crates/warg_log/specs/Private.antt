@@ -1,4 +1,5 @@
 -- What only clauses of private functions name; no public clause or law rests on it.
+pub mod Checks
 pub mod Growth
 pub mod Slices
 pub mod Unions

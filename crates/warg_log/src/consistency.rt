@@ -1,6 +1,6 @@
 //! Consistency proofs.
 
-ghost use Rattle.std.specs.Prelude.{◌≡◌, ⊤, ℕ, ◌+◌, ◌*◌, ◌^◌, ◌<◌, ◌≤◌, ◌↔◌, ◌⊎◌, List, IfOk, All, map};
+ghost use Rattle.std.specs.Prelude.{◌≡◌, ◌≢◌, ⊤, ℕ, ◌+◌, ◌*◌, ◌^◌, ◌<◌, ◌≤◌, ◌↔◌, ◌⊎◌, List, IfOk, All, map};
 ghost use Rattle.std.specs.List.{AllByRecursion};
 ghost use Rattle.warg_log.specs.Nodes.{balanced_roots, end_of};
 ghost use Rattle.warg_log.specs.Tree.{branch};
@@ -156,7 +156,9 @@ impl<D: SupportedDigest, V: VisitBytes> ConsistencyProof<D, V> {
         &self,
         hashes: &L,
     ) -> Result<(Hash<D>, Hash<D>), ConsistencyProofError>
-        ensures { result ≡ consistency D.digest (L.digest_at hashes.now) self.now.old_length self.now.new_length }
+        ensures value { result ≡ consistency D.digest (L.digest_at hashes.now) self.now.old_length self.now.new_length }
+        ensures memory { result ≢ Err ConsistencyProofError.Memory }
+        ensures within { (fault : InclusionProofError) → result ≡ Err (ConsistencyProofError.InclusionError fault) → fault ≡ InclusionProofError.HashNotKnown }
     {
         if self.old_length == 0 {
             return Err(ConsistencyProofError::OldLengthZero);

@@ -13,6 +13,10 @@ ghost use Rattle.warg_log.specs.Cut.{joined, cut_over, cut_root, old_over, old_r
 ghost use Rattle.warg_log.specs.Walks.{needed, needed_over, climbed, joined_all, IsKnown};
 ghost use Rattle.warg_log.specs.Blocks.{Blocks, StandsFor, joined_blocks, pushed};
 ghost use Rattle.warg_log.specs.Consistency.{consistency, IsConsistent};
+ghost use Rattle.warg_log.specs.Claims.{ConsistencyClaim, InclusionClaim};
+ghost use Rattle.warg_log.specs.Sparse.{IsAscending};
+ghost use Rattle.warg_log.specs.Bundles.{Bundle};
+ghost use Rattle.warg_log.specs.Bundling.{bundled, HoldsNeeded, IncludesAs, IsConsistentAs};
 
 use crate::log::Checkpoint;
 use std::cmp::Ordering;
@@ -179,6 +183,33 @@ pub fn consistency_met()
 /// length of at least 1 to one that isn't smaller, up to the log's, has the roots of that many leaves.
 pub fn own_consistency()
     ensures { (H : List ℕ → List ℕ) (ds : List (List ℕ)) (m n : ℕ) → 0 < m → m ≤ n → n ≤ length ds → consistency H (own_digest H ds) m n ≡ Ok (root_of H (take m ds), root_of H (take n ds)) }
+{}
+
+/// The bundle of some proofs has their one length, their old lengths, their nodes, and digests for exactly the
+/// nodes that they need, ascending, each as the source has it.
+pub fn bundled_parts()
+    ensures new_lengths { (F : ℕ → Option (List ℕ)) (cs : List ConsistencyClaim) (ps : List InclusionClaim) (b : Bundle)
+        → bundled F cs ps ≡ Ok b → AllByRecursion (λ p. p.new_length ≡ b.log_length) cs }
+    ensures log_lengths { (F : ℕ → Option (List ℕ)) (cs : List ConsistencyClaim) (ps : List InclusionClaim) (b : Bundle)
+        → bundled F cs ps ≡ Ok b → AllByRecursion (λ p. p.log_length ≡ b.log_length) ps }
+    ensures old_lengths { (F : ℕ → Option (List ℕ)) (cs : List ConsistencyClaim) (ps : List InclusionClaim) (b : Bundle)
+        → bundled F cs ps ≡ Ok b → b.consistent_lengths ≡ map (λ p. p.old_length) cs }
+    ensures nodes { (F : ℕ → Option (List ℕ)) (cs : List ConsistencyClaim) (ps : List InclusionClaim) (b : Bundle)
+        → bundled F cs ps ≡ Ok b → b.included_nodes ≡ map (λ p. p.leaf) ps }
+    ensures ascending { (F : ℕ → Option (List ℕ)) (cs : List ConsistencyClaim) (ps : List InclusionClaim) (b : Bundle)
+        → bundled F cs ps ≡ Ok b → IsAscending b.hashes }
+    ensures exactly { (F : ℕ → Option (List ℕ)) (cs : List ConsistencyClaim) (ps : List InclusionClaim) (b : Bundle)
+        → bundled F cs ps ≡ Ok b → HoldsNeeded b }
+    ensures source { (F : ℕ → Option (List ℕ)) (cs : List ConsistencyClaim) (ps : List InclusionClaim) (b : Bundle)
+        → bundled F cs ps ≡ Ok b → AllByRecursion (λ p. F p.0.0 ≡ Some p.1) b.hashes }
+{}
+
+/// A bundle's proofs evaluate over its own digests as over those that it was made from.
+pub fn bundled_as_source()
+    ensures inclusions { (H : List ℕ → List ℕ) (F : ℕ → Option (List ℕ)) (cs : List ConsistencyClaim) (ps : List InclusionClaim) (b : Bundle)
+        → bundled F cs ps ≡ Ok b → IncludesAs H F b }
+    ensures consistencies { (H : List ℕ → List ℕ) (F : ℕ → Option (List ℕ)) (cs : List ConsistencyClaim) (ps : List InclusionClaim) (b : Bundle)
+        → bundled F cs ps ≡ Ok b → IsConsistentAs H F b }
 {}
 
 /// Blocks that stand for leaf digests stand, after a push of one more, for these and that one behind them.

@@ -20,6 +20,7 @@ mod proof_bundle;
 mod root;
 mod sparse_data;
 mod stack_log;
+mod tested;
 mod vec_log;
 
 pub use consistency::{ConsistencyProof, ConsistencyProofError};
@@ -34,4 +35,5 @@ pub use proof_bundle::{ProofBundle, ProofBundle as LogProofBundle};
 pub use root::{range_root, stored_root};
 pub use sparse_data::{NotAscending, SparseLogData};
 pub use stack_log::StackLog;
+pub use tested::{AppendError, OutOfRange};
 pub use vec_log::VecLog;

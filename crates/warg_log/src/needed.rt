@@ -1,13 +1,15 @@
 //! The one length of proofs, and the nodes whose digests they need.
 
-ghost use Rattle.std.specs.Prelude.{◌≡◌, ℕ, ◌^◌, ◌<◌, ◌≤◌, ◌⊎◌, None, Some, Ok, Err, IfOk, IfErr, OnOk, map, length, slice_index_or, nat_eq, [], ◌++◌};
+ghost use Rattle.std.specs.Prelude.{◌≡◌, ◌^◌, ◌<◌, ◌≤◌, ◌⊎◌, None, Some, IfOk, IfErr, OnOk, map, nat_eq, [], ◌++◌};
 ghost use Rattle.std.specs.List.{AllByRecursion, IsDistinct, flat_map};
 ghost use Rattle.std.specs.List.Sorted.{IsSorted};
 ghost use Rattle.std.specs.Ordering.{nat_cmp};
 ghost use Rattle.warg_log.specs.Nodes.{ExistsAt};
 ghost use Rattle.warg_log.specs.Walks.{needed};
-ghost use Rattle.warg_log.specs.Bundling.{needed_between, consistency_length, inclusion_length, fitting_length, bundle_length, differs};
+ghost use Rattle.warg_log.specs.Decoding.{first_fault};
+ghost use Rattle.warg_log.specs.Bundling.{needed_between, consistency_fault, inclusion_fault, first_length, bundle_length, node_fault, node_with_digest};
 ghost use Rattle.warg_log.specs.Private.Unions.{IsUnion};
+ghost use Rattle.warg_log.specs.Private.Checks.{fault_in};
 
 use crate::consistency::{ConsistencyProof, ConsistencyProofError};
 use crate::error::BundleError;
@@ -22,58 +24,53 @@ use warg_crypto::{Hash, SupportedDigest, VisitBytes};
 // Numbers of nodes.
 pub(crate) type Numbers<A> = IndexSet<usize, BuildHasherDefault<FoldHasher>, A>;
 
-// Whether a length is another than the one that was met before.
-fn is_other(met: Option<usize>, length: usize) -> bool
-    ensures { result ≡ differs met length }
+// The length of the first proof, consistency proofs before inclusion proofs.
+fn length_of_first<D, V>(
+    consistencies: &[ConsistencyProof<D, V>],
+    inclusions: &[InclusionProof<D, V>],
+) -> Result<usize, BundleError>
+    ensures { result ≡ first_length consistencies.now inclusions.now }
 {
-    match met {
-        Some(met) => met != length,
-        None => false,
+    if let Some(proof) = consistencies.first() {
+        return Ok(proof.new_length());
+    }
+    match inclusions.first() {
+        Some(proof) => Ok(proof.log_length()),
+        None => Err(BundleError::NoProofs),
     }
 }
 
-// The one new length of the proofs.
-pub(crate) fn length_of_consistencies<D, V>(
+// Whether all these proofs end at this length.
+fn check_consistencies<D, V>(
     proofs: &[ConsistencyProof<D, V>],
-) -> Result<Option<usize>, BundleError>
-    ensures value { result ≡ consistency_length None proofs.now }
-    ensures checked { IfOk result (λ met. AllByRecursion (λ p. (p.old_length ≤ p.new_length) × (met ≡ Some p.new_length)) proofs.now) }
+    length: usize,
+) -> Result<(), BundleError>
+    ensures { fault_in result ≡ first_fault (consistency_fault length) proofs.now }
 {
-    let mut met = None;
     'proofs: for proof in proofs {
-        let length = proof.new_length();
-        if proof.old_length() > length {
+        if proof.old_length() > proof.new_length() {
             return Err(BundleError::Consistency(ConsistencyProofError::PointsOutOfOrder));
         }
-        if is_other(met, length) {
+        if proof.new_length() != length {
             return Err(BundleError::DifferentRoots);
         }
-        met = Some(length);
     }
-    Ok(met)
+    Ok(())
 }
 
-// The one length of the proofs, after a length that was met before.
-pub(crate) fn length_of_inclusions<D, V>(
-    before: Option<usize>,
-    proofs: &[InclusionProof<D, V>],
-) -> Result<Option<usize>, BundleError>
-    ensures value { result ≡ inclusion_length before proofs.now }
-    ensures checked { IfOk result (λ met. AllByRecursion (λ p. ExistsAt p.leaf.0 p.log_length × (met ≡ Some p.log_length)) proofs.now) }
-    ensures kept { IfOk result (λ met. (n : ℕ) → before ≡ Some n → met ≡ Some n) }
+// Whether all these proofs are of this length, and their nodes exist there.
+fn check_inclusions<D, V>(proofs: &[InclusionProof<D, V>], length: usize) -> Result<(), BundleError>
+    ensures { fault_in result ≡ first_fault (inclusion_fault length) proofs.now }
 {
-    let mut met = before;
     'proofs: for proof in proofs {
-        let length = proof.log_length();
-        if is_other(met, length) {
+        if proof.log_length() != length {
             return Err(BundleError::DifferentRoots);
         }
         if !proof.leaf().exists_at_length(length) {
             return Err(BundleError::Inclusion(InclusionProofError::LeafTooNew));
         }
-        met = Some(length);
     }
-    Ok(met)
+    Ok(())
 }
 
 // Adds the nodes that an inclusion proof needs.
@@ -121,9 +118,9 @@ pub(crate) fn digests_of<D: SupportedDigest, V: VisitBytes, L: LogData<D, V>, A:
     numbers: &[usize],
     hashes: &L,
 ) -> Result<Vec<(Node, Hash<D>), A>, BundleError>
-    ensures numbers { IfOk result (λ pairs. map (λ p. p.0.0) pairs.items ≡ numbers.now) }
-    ensures digests { IfOk result (λ pairs. AllByRecursion (λ p. L.digest_at hashes.now p.0.0 ≡ Some p.1) pairs.items) }
-    ensures fault { IfErr result (λ e. (e ≡ BundleError.Memory) ⊎ ((e ≡ BundleError.HashNotFound) × ((i : ℕ) × (i < length numbers.now) × ((d : ℕ) → L.digest_at hashes.now (slice_index_or numbers.now i d) ≡ None)))) }
+    ensures ok { IfOk result (λ pairs. pairs.items ≡ map (node_with_digest (L.digest_at hashes.now)) numbers.now) }
+    ensures good { OnOk result (first_fault (node_fault (L.digest_at hashes.now)) numbers.now ≡ None) }
+    ensures fault { IfErr result (λ e. (e ≡ BundleError.Memory) ⊎ (first_fault (node_fault (L.digest_at hashes.now)) numbers.now ≡ Some e)) }
 {
     let mut pairs = Vec::new(alloc);
     'numbers: for number in numbers {
@@ -143,16 +140,14 @@ pub(crate) fn one_length<D, V>(
 ) -> Result<u32, BundleError>
     ensures value { result ≡ bundle_length consistencies.now inclusions.now }
     ensures fits { IfOk result (λ n. n < 2 ^ 32) }
-    ensures consistencies { IfOk result (λ n. AllByRecursion (λ p. (p.old_length ≤ p.new_length) × (p.new_length ≡ n)) consistencies.now) }
-    ensures inclusions { IfOk result (λ n. AllByRecursion (λ p. ExistsAt p.leaf.0 p.log_length × (p.log_length ≡ n)) inclusions.now) }
 {
-    let met = length_of_consistencies(consistencies)?;
-    let met = length_of_inclusions(met, inclusions)?;
-    match met {
-        Some(length) if length <= u32::MAX as usize => Ok(length as u32),
-        Some(_) => Err(BundleError::TooLarge),
-        None => Err(BundleError::NoProofs),
+    let length = length_of_first(consistencies, inclusions)?;
+    check_consistencies(consistencies, length)?;
+    check_inclusions(inclusions, length)?;
+    if length > u32::MAX as usize {
+        return Err(BundleError::TooLarge);
     }
+    Ok(length as u32)
 }
 
 // The numbers of the nodes that the proofs need, ascending.

@@ -7,7 +7,7 @@ ghost use Rattle.warg_protobuf.specs.Reading.{Answers};
 ghost use Rattle.warg_protobuf.specs.HashEntry.{entry_view};
 ghost use Rattle.warg_protobuf.specs.LogProofBundle.{log_view, log_bytes};
 ghost use Rattle.warg_log.specs.Sparse.{IsAscending};
-ghost use Rattle.warg_log.specs.Bundling.{bundle_length, IsBundleFault, HoldsNeeded, IncludesAs, IsConsistentAs};
+ghost use Rattle.warg_log.specs.Bundling.{bundled};
 ghost use Rattle.warg_log.specs.Bundles.{bundle_message, log_bundle_in, bundle_of, NodesFit, entry_of, pair_of, entries_fault, same_bundle};
 
 use crate::consistency::ConsistencyProof;
@@ -146,6 +146,8 @@ impl<D: SupportedDigest, V: VisitBytes, A: Allocator + Copy> ProofBundle<D, V, A
     /// `TooLarge` where the length is above `u32::MAX`. Then `HashNotFound` where the data lacks a needed
     /// digest. A consistency proof from length 0 needs none.
     ///
+    /// All of the bundle lies in `alloc`. The lists of proofs are dropped, and may lie in another allocator.
+    ///
     /// ```rust
     /// let proofs = vec![in alloc; releases.prove_inclusion(leaf, releases.length())]?;
     /// let bytes = ProofBundle::bundle(alloc, Vec::new(alloc), proofs, &releases)?.encode(alloc)?;
@@ -156,16 +158,7 @@ impl<D: SupportedDigest, V: VisitBytes, A: Allocator + Copy> ProofBundle<D, V, A
         inclusion_proofs: Vec<InclusionProof<D, V>, A>,
         hashes: &L,
     ) -> Result<Self, BundleError>
-        ensures refused { (e : _) → bundle_length consistency_proofs.items inclusion_proofs.items ≡ Err e → result ≡ Err e }
-        ensures length { IfOk result (λ bundle. bundle_length consistency_proofs.items inclusion_proofs.items ≡ Ok bundle.log_length) }
-        ensures old_lengths { IfOk result (λ bundle. bundle.consistent_lengths ≡ map (λ p. p.old_length) consistency_proofs.items) }
-        ensures nodes { IfOk result (λ bundle. bundle.included_nodes ≡ map (λ p. p.leaf) inclusion_proofs.items) }
-        ensures ascending { IfOk result (λ bundle. IsAscending bundle.hashes) }
-        ensures exactly { IfOk result HoldsNeeded }
-        ensures source { IfOk result (λ bundle. AllByRecursion (λ p. L.digest_at hashes.now p.0.0 ≡ Some p.1) bundle.hashes) }
-        ensures inclusions_as_source { IfOk result (IncludesAs D.digest (L.digest_at hashes.now)) }
-        ensures consistencies_as_source { IfOk result (IsConsistentAs D.digest (L.digest_at hashes.now)) }
-        ensures fault { IfErr result (IsBundleFault (L.digest_at hashes.now) consistency_proofs.items inclusion_proofs.items) }
+        ensures { Answers BundleError.Memory result (bundled (L.digest_at hashes.now) consistency_proofs.items inclusion_proofs.items) }
     {
         let log_length = one_length(&consistency_proofs, &inclusion_proofs)?;
         let nodes = needed_nodes(alloc, &consistency_proofs, &inclusion_proofs)?;

@@ -7,6 +7,7 @@ ghost use Rattle.warg_log.specs.Cut.{old_root};
 ghost use Rattle.warg_log.specs.Blocks.{Blocks, StandsFor, block_at, joined_blocks, pushed};
 ghost use Rattle.warg_log.specs.Private.Growth.{Grows};
 
+mod append;
 mod image;
 
 use crate::log::{Checkpoint, LogBuilder, hash_branch, hash_empty, hash_leaf};

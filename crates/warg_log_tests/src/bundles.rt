@@ -57,6 +57,21 @@ fn parts_in_order(rt: HostRuntime) -> Result<(), Fail> {
     Ok(())
 }
 
+// All parts of a bundle lie in the allocator that is handed over, whichever one the proofs came in.
+#[test]
+fn a_bundle_lies_in_one_allocator(rt: HostRuntime) -> Result<(), Fail> {
+    let memory = Refusing::after(rt.alloc(), 99);
+    let lists = Refusing::after(rt.alloc(), 1);
+    let data = read(rt.alloc(), BOTH)?;
+    let proof = data.hashes().prove_inclusion(Node(0), 3);
+    let proofs = vec![in &lists; proof]?;
+    let bundle: Bundle<'_> = ProofBundle::bundle(&memory, Vec::new(&lists), proofs, data.hashes())?;
+    assert!(rt; all(&[memory.left() < 99, lists.left() == 0, !lists.has_refused()]));
+    assert!(rt; all(&[bundle.unbundle(&memory).is_ok(), !lists.has_refused()]));
+    assert!(rt; all(&[bundle.unbundle(&lists).is_err(), lists.has_refused()]));
+    Ok(())
+}
+
 fn read(alloc: Global, words: &str) -> Result<ProofBundle<Sha256, ()>, Fail> {
     Ok(ProofBundle::decode(alloc, &bytes_of(alloc, words)?)?)
 }

@@ -11,7 +11,7 @@ use std::cmp::Ordering;
 use std::hash::{DefaultHasher, Hasher};
 use std::test::Fail;
 use warg_crypto::weak::{Flat, Own32, Sum};
-use warg_crypto::{Hash, HashLength, Sha256, bytes_of, empty_tree_hash};
+use warg_crypto::{Framed, Hash, HashLength, Sha256, bytes_of, empty_tree_hash};
 
 // Equality and order as a caller has them: by the bytes.
 fn compared<D>(a: &Hash<D>, b: &Hash<D>) -> (bool, Ordering)
@@ -71,6 +71,37 @@ fn values_as_bytes(rt: HostRuntime) -> Result<(), Fail> {
     let twice = "4f8b42c22dd3729b519ba6f68d2da7cc5b2d606d05daed5ad5128cc03e6c6358";
     let hash = Hash::<Sha256>::of(&Hash::<Sha256>::of(b"abc"));
     assert!(rt; is_spelled(rt.alloc(), &hash, twice)?);
+    Ok(())
+}
+
+#[test]
+fn parts_told_apart(rt: HostRuntime) -> Result<(), Fail> {
+    let one = Hash::<Sha256>::of(&Framed(&[b"foo1", b"0"]));
+    let other = Hash::<Sha256>::of(&Framed(&[b"foo", b"10"]));
+    assert!(rt;
+        is_spelled(
+            rt.alloc(),
+            &one,
+            "81c85b0d7696692be40b49d9fa01760d053d159757493c511e665eb134dfe306"
+        )?
+    );
+    assert!(rt;
+        is_spelled(
+            rt.alloc(),
+            &other,
+            "d7fef63f36544036f6d95e5acbff8bbdcf030db129bf2345cdf931aeacc173b2"
+        )?
+    );
+    Ok(())
+}
+
+#[test]
+fn numbers_as_bytes(rt: HostRuntime) -> Result<(), Fail> {
+    let hash = Hash::<Sha256>::of(&(7u32, (1u64 << 40) + 5));
+    let want = "c3b5e2f31249034a5de06ac4fe0a8fa1168a17712c6f682326e8ec770fb96a90";
+    assert!(rt; is_spelled(rt.alloc(), &hash, want)?);
+    let array: &[u8; 32] = hash.as_ref();
+    assert!(rt; *array == <[u8; 32]>::from(hash.copied()));
     Ok(())
 }
 

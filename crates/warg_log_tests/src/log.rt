@@ -7,8 +7,8 @@ use std::test::Fail;
 use warg_crypto::weak::Sum;
 use warg_crypto::{Hash, Sha256};
 use warg_log::{
-    ConsistencyProofError, InclusionProofError, LogBuilder, LogData, Node, SparseLogData, StackLog,
-    VecLog, push_all,
+    AppendError, ConsistencyProofError, InclusionProofError, LogBuilder, LogData, Node,
+    SparseLogData, StackLog, VecLog, push_all,
 };
 
 type TextLog = VecLog<Sha256, &'static str>;
@@ -299,5 +299,56 @@ fn given_digests_without_memory(rt: HostRuntime) -> Result<(), Fail> {
         .evaluate_hash(&data, hash_ending_in(9));
     assert!(rt; root == Ok(hash_ending_in(17)));
     assert!(rt; all(&[memory.left() == 0, !memory.has_refused()]));
+    Ok(())
+}
+
+// Calls that test what others require: what is in range is the proof, and what isn't is refused.
+#[test]
+fn ranges_tested(rt: HostRuntime) -> Result<(), Fail> {
+    let (log, roots) = texts(rt.alloc())?;
+    let proof = log.proof_at(3, 5)?;
+    let found = proof.evaluate_value(&log, &"37").map_err(|_| "no root")?;
+    assert!(rt; roots.len() == 25);
+    assert!(rt; found == roots[4]);
+    let (old, new) = log
+        .growth_between(4, 9)?
+        .evaluate(&log)
+        .map_err(|_| "no roots")?;
+    assert!(rt; all(&[old == roots[3], new == roots[8]]));
+    let refused = [
+        log.proof_at(5, 5).is_err(),
+        log.proof_at(0, 26).is_err(),
+        log.growth_between(0, 9).is_err(),
+        log.growth_between(10, 9).is_err(),
+        log.growth_between(9, 26).is_err(),
+    ];
+    assert!(rt; all(&refused));
+    Ok(())
+}
+
+// An entry is appended as it is pushed, and a refused growth leaves the log as it was.
+#[test]
+fn entries_appended(rt: HostRuntime) -> Result<(), Fail> {
+    let mut log = TextLog::default(rt.alloc());
+    let mut stack: StackLog<Sha256, &str> = StackLog::default(rt.alloc());
+    for text in TEXTS {
+        let leaf = log.append(&text)?;
+        assert!(rt; leaf == stack.append(&text)?);
+    }
+    let root = hash_of(rt.alloc(), ROOTS[24])?;
+    assert!(rt;
+        all(&[
+            log.checkpoint().root() == root,
+            stack.checkpoint().root() == root
+        ])
+    );
+    let memory = Refusing::after(rt.alloc(), 0);
+    let mut refused: VecLog<Sum, &str, Scarce> = VecLog::default(&memory);
+    assert!(rt;
+        all(&[
+            refused.append(&"a") == Err(AppendError::Memory),
+            refused.length() == 0
+        ])
+    );
     Ok(())
 }

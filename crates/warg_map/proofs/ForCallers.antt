@@ -2,21 +2,22 @@
 use Rattle.std.proofs.Common.{◌≡◌, ℕ, ◌+◌, ◌-◌, ◌<◌, ◌≤◌, Bool, true, List, [], ◌∷◌, ◌++◌, length, Option, Some, None}
 use Rattle.std.specs.Ordering.{nat_cmp}
 use Rattle.std.specs.Option.{option_map}
-use Rattle.std.specs.FinMap.{get}
+use Rattle.std.specs.FinMap.{get, insert}
 use Rattle.std.specs.Cmp.Lexicographic.{slice_cmp}
 use Rattle.std.specs.declared.cmp.Ordering.TheVariants.{Equal}
 use Rattle.warg_crypto.specs.Digests.{IsDigest}
 use Rattle.warg_crypto.specs.EmptyTrees.{empty_root}
 use Rattle.warg_map.specs.Bits.{bit_at, last_bits, key_bits}
-use Rattle.warg_map.specs.Sparse.{SparseMap, bits_cmp, root_of_levels, leaf_digest, map_of}
+use Rattle.warg_map.specs.Sparse.{SparseMap, bits_cmp, root_of_levels, sparse_root, leaf_digest, map_of}
 use Rattle.warg_map.specs.Last.{same_bits, last_under}
 use Rattle.warg_map.specs.ProofValue.{proof_value}
-use Rattle.warg_map.specs.Peers.{Proves}
+use Rattle.warg_map.specs.Peers.{Proves, ProvesAbsent}
 use Rattle.warg_map.proofs.SparseTree as tree
 use Rattle.warg_map.proofs.FoundInNode as found
 use Rattle.warg_map.proofs.DigestBits as bits
 use Rattle.warg_map.proofs.LastInserted as last
 use Rattle.warg_map.proofs.RootsAtPrefixes as prefixes
+use Rattle.warg_map.proofs.HonestProofs as honest
 
 -- the last bits of a digest are as many as are asked for, and a key has 256
 pub length-last_bits : (key : List ℕ) (n : ℕ) → length (last_bits key n) ≡ n
@@ -75,3 +76,17 @@ root-same = tree.root-same
 pub root_at_prefix : (H : List ℕ → List ℕ) (m : SparseMap) (prefix rest : List Bool) (peers : List (Option (List ℕ))) (x : List ℕ) → length prefix + length rest ≡ 256 → length peers ≤ 256
     → Proves H 256 m (prefix ++ rest) peers → get m (prefix ++ rest) ≡ Some x → proof_value H peers x rest ≡ root_of_levels H (length rest) (λ q. get m (prefix ++ q))
 root_at_prefix = prefixes.held_after
+
+-- from any leaf digest the proofs of a map lead to the root of the map that holds it
+pub replaced_root : (H : List ℕ → List ℕ) (m : SparseMap) (bits : List Bool) (peers : List (Option (List ℕ))) (x : List ℕ) → length bits ≡ 256 → length peers ≤ 256
+    → Proves H 256 m bits peers → proof_value H peers x bits ≡ sparse_root H 256 (insert m bits x)
+replaced_root H m bits peers x = honest.honest_replaced H 256 bits m peers x
+
+pub absent_replaced_root : (H : List ℕ → List ℕ) (m : SparseMap) (bits : List Bool) (peers : List (Option (List ℕ))) (x : List ℕ) → length bits ≡ 256 → length peers ≤ 256
+    → ProvesAbsent H m bits peers → proof_value H peers x bits ≡ sparse_root H 256 (insert m bits x)
+absent_replaced_root H m bits peers x = honest.absent_replaced H bits m peers x
+
+-- from an empty leaf the proof of an absence leads to the root
+pub absent_root : (H : List ℕ → List ℕ) (m : SparseMap) (bits : List Bool) (peers : List (Option (List ℕ))) → length bits ≡ 256 → length peers ≤ 256
+    → ProvesAbsent H m bits peers → proof_value H peers (empty_root H 0) bits ≡ sparse_root H 256 m
+absent_root H m bits peers = honest.honest_absent H bits m peers

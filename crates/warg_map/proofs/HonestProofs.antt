@@ -149,7 +149,16 @@ pub none_of : (o : Option (List ℕ)) → is_some o ≡ false → o ≡ None
 none_of None e = refl
 none_of (Some x) e = cc
 
--- an absence proof
+-- an absence proof, from any leaf digest
+pub absent_replaced : (H : List ℕ → List ℕ) (bits : List Bool) (m : SparseMap) (peers : List (Option (List ℕ))) (x : List ℕ) → length bits ≡ 256 → length peers ≤ 256 → ProvesAbsent H m bits peers → proof_value H peers x bits ≡ sparse_root H 256 (insert m bits x)
+absent_replaced H bits m peers x n few p =
+    let z : 0 + length bits ≡ 256 = omega (arith, n) in
+    honest H bits (get (insert m bits x)) peers [] (reverse peers) x refl z few
+    (explains_alike H bits (get m) (get (insert m bits x)) (reverse peers) (λ q other. get-insert_other m bits q x other) (explains_absent H bits (get m) (reverse peers) p.peers_from_top))
+    (ap (λ o. unwrap_or o (empty_root H 0)) (get-insert_same m bits x))
+    ∙ ap (λ k. sparse_root H k (insert m bits x)) n
+
+-- and from an empty leaf
 pub honest_absent : (H : List ℕ → List ℕ) (bits : List Bool) (m : SparseMap) (peers : List (Option (List ℕ))) → length bits ≡ 256 → length peers ≤ 256 → ProvesAbsent H m bits peers → proof_value H peers (empty_root H 0) bits ≡ sparse_root H 256 m
 honest_absent H bits m peers n few p =
     let z : 0 + length bits ≡ 256 = omega (arith, n) in

@@ -12,6 +12,7 @@ pub mod PresencePeers
 pub mod NodeCounts
 pub mod AbsencePeers
 pub mod HonestProofs
+pub mod InsertionSteps
 pub mod InsertedPairs
 pub mod UniqueRootsAndProofs
 pub mod ProofMessages

@@ -30,6 +30,6 @@ mod proof_bundle;
 mod singleton;
 mod stem;
 
-pub use map::{Map, MapError};
+pub use map::{Insertion, Map, MapError};
 pub use proof::Proof;
 pub use proof_bundle::{ProofBundle, ProofBundle as MapProofBundle};

@@ -1,20 +1,23 @@
 //! The map.
 
-ghost use Rattle.std.specs.Prelude.{◌≡◌, ◌≢◌, ℕ, List, Option, ◌+◌, ◌*◌, ◌/◌, ◌<◌, ◌≤◌, ◌↔◌, ◌∷◌, ◌++◌, [], IfOk, IsOk, IfSome, IsSome, IsTrue, MatchOption, Some, None, Ok, Err, false};
+ghost use Rattle.std.specs.Prelude.{◌≡◌, ◌≢◌, ℕ, List, Option, ◌+◌, ◌*◌, ◌/◌, ◌<◌, ◌≤◌, ◌↔◌, ◌∷◌, ◌++◌, [], IfOk, IfSome, IsSome, IsTrue, MatchOption, Some, None, Ok, Err, false, not};
 ghost use Rattle.std.specs.FinMap as map;
 ghost use Rattle.std.specs.Iterator.{IsFinite, Drains, Yields};
-ghost use Rattle.warg_map.specs.Bits.{key_bits};
+ghost use Rattle.warg_map.specs.Bits.{key_bits, last_bits};
 ghost use Rattle.warg_crypto.specs.EmptyTrees.{empty_root};
 ghost use Rattle.warg_map.specs.Sparse.{HasLevels, sparse_root, leaf_at, leaf_digest, inserted, pair_bytes};
 ghost use Rattle.warg_map.specs.ProofValue.{proof_value};
 ghost use Rattle.warg_map.specs.Peers.{Proves, ProvesAbsent};
 ghost use Rattle.warg_map.specs.Count.{node_count};
 
+mod insertion;
+
 use crate::grown::spread;
 use crate::link::Link;
 use crate::node::Node;
 use crate::path::Path;
 use crate::proof::Proof;
+pub use insertion::Insertion;
 use std::alloc::{AllocError, Allocator, Global};
 use std::fmt;
 use std::fmt::Debug;
@@ -57,7 +60,7 @@ impl From<AllocError> for MapError {
 /// Contracts see a map as the finite map from key bits to leaf digests.
 ///
 /// ```rust
-/// let none: Map<Sha256, &str, &str> = Map::default(alloc)?;
+/// let none: Map<Sha256, &str, &str> = Map::default(alloc);
 /// let newest = none.insert("left-pad", "1.0.0")?;
 /// if let Some(proof) = newest.prove("left-pad")? {
 ///     let holds = proof.evaluate(&"left-pad", &"1.0.0") == *newest.root();
@@ -206,18 +209,17 @@ impl<D: SupportedDigest, K: VisitBytes + Drop, V: VisitBytes + Drop, A: Allocato
     V,
     A,
 > {
-    /// The empty map, which keeps `alloc` for its nodes and proofs. It takes no memory, and is never refused.
-    pub fn default(alloc: A) -> Result<Map<D, K, V, A>, AllocError>
-        ensures empty { IfOk result (λ m. m ≡ map.empty) }
-        ensures granted { IsOk result }
+    /// The empty map, which keeps `alloc` for its nodes and proofs. It takes no memory.
+    pub fn default(alloc: A) -> Map<D, K, V, A>
+        ensures { result ≡ map.empty }
     {
-        Ok(Map {
+        Map {
             link: Link::new(Node::Empty(256)),
             count: 0,
             alloc,
             key: PhantomData,
             value: PhantomData,
-        })
+        }
     }
 
     /// The proof of what is held under `key`, or `None` exactly where its digest isn't held, which takes no memory.
@@ -295,22 +297,33 @@ impl<D: SupportedDigest, K: VisitBytes + Drop, V: VisitBytes + Drop, A: Allocato
         ensures full { (result ≡ Err MapError.Full)
             ↔ ((map.len self.now ≡ usize.MAX) × (map.contains_key self.now (key_bits D.digest (K.bytes key)) ≡ false)) }
     {
-        let key = Hash::of(&key);
+        let (map, _) = self.with_leaf(&Hash::of(&key), hash_leaf(&val))?;
+        Ok(map)
+    }
+
+    // The map with a leaf digest under a key digest, and whether the key digest is new.
+    fn with_leaf(&self, key: &Hash<D>, leaf: Hash<D>) -> Result<(Map<D, K, V, A>, bool), MapError>
+        ensures ok { IfOk result (λ p. p.0 ≡ map.insert self.now (last_bits key.now 256) leaf) }
+        ensures is_new { IfOk result (λ p. p.1 ≡ not (map.contains_key self.now (last_bits key.now 256))) }
+        ensures full { (result ≡ Err MapError.Full)
+            ↔ ((map.len self.now ≡ usize.MAX) × (map.contains_key self.now (last_bits key.now 256) ≡ false)) }
+    {
         let node = self.link.node();
         let len = self.len();
-        let counted = len < usize::MAX || node.find(Path::new(&key)).is_some();
+        let counted = len < usize::MAX || node.find(Path::new(key)).is_some();
         if !counted {
             return Err(MapError::Full);
         }
-        let (node, fresh) = node.insert(self.alloc, &mut Path::new(&key), hash_leaf(&val))?;
+        let (node, fresh) = node.insert(self.alloc, &mut Path::new(key), leaf)?;
         let count = if fresh { len + 1 } else { len };
-        Ok(Map {
+        let map = Map {
             link: Link::new(node),
             count,
             alloc: self.alloc,
             key: PhantomData,
             value: PhantomData,
-        })
+        };
+        Ok((map, fresh))
     }
 
     /// The map with all the pairs of an iterator inserted, in order.

@@ -67,7 +67,8 @@ fn same_lists<D, K, V, A: Allocator>(
 }
 
 impl<D, K, V, A: Allocator + Copy> ProofBundle<D, K, V, A> {
-    /// The bundle of these proofs in their order, and of no absences. It takes no memory.
+    /// The bundle of these proofs in their order, and of no absences. It takes no memory: the list and each proof stay
+    /// where they lie, and the empty list of absences has the allocator of the list of proofs.
     pub fn bundle(proofs: Vec<Proof<D, K, V, A>, A>) -> Self
         ensures proofs { result.proofs ≡ proofs.items }
         ensures absences { result.absences ≡ [] }
@@ -76,7 +77,8 @@ impl<D, K, V, A: Allocator + Copy> ProofBundle<D, K, V, A> {
         ProofBundle::bundle_with(proofs, absences)
     }
 
-    /// The bundle of these proofs and these absences, each in their order. It takes no memory.
+    /// The bundle of these proofs and these absences, each in their order. It takes no memory: both lists and each proof
+    /// stay where they lie, and may lie in different allocators.
     pub fn bundle_with(
         proofs: Vec<Proof<D, K, V, A>, A>,
         absences: Vec<Proof<D, K, V, A>, A>,

@@ -21,7 +21,7 @@ type TextMap<A = Global> = Map<Sha256, Text, Text, A>;
 type SumMap = Map<Sum, &'static [u8], &'static [u8]>;
 
 fn grown(alloc: Global, pairs: &[(Text, Text)]) -> Result<TextMap, MapError> {
-    let mut map = TextMap::default(alloc)?;
+    let mut map = TextMap::default(alloc);
     for (key, value) in pairs {
         map = map.insert(*key, *value)?;
     }
@@ -67,7 +67,7 @@ fn other_maps(rt: HostRuntime) -> Result<(), Fail> {
 // Maps of other counts are equal where their roots are.
 #[test]
 fn equal_roots_of_weak_digests(rt: HostRuntime) -> Result<(), Fail> {
-    let nothing = SumMap::default(rt.alloc())?;
+    let nothing = SumMap::default(rt.alloc());
     let lone = nothing.insert(&[3], &[9])?;
     let two = nothing.insert(&[1, 2], &[8])?.insert(&[4], &[1])?;
     assert!(rt; all(&[lone == two, lone.len() == 1, two.len() == 2]));
@@ -121,7 +121,7 @@ fn values_of_a_proof(rt: HostRuntime) -> Result<(), Fail> {
 type Scarce<'a> = TextMap<&'a Refusing<Global>>;
 
 fn foo(memory: &Refusing<Global>) -> Result<Scarce<'_>, MapError> {
-    Scarce::default(memory)?.insert("foo", "bar")
+    Scarce::default(memory).insert("foo", "bar")
 }
 
 #[test]
@@ -148,7 +148,7 @@ fn calls_without_memory(rt: HostRuntime) -> Result<(), Fail> {
     );
     assert!(rt; absence.evaluate_absent(&"qux") == *same.root());
     assert!(rt; Vec::from(proof).len() == 1);
-    assert!(rt; Scarce::default(&memory)?.is_empty());
+    assert!(rt; Scarce::default(&memory).is_empty());
     assert!(rt; all(&[memory.left() == 0, !memory.has_refused()]));
     Ok(())
 }
@@ -231,7 +231,7 @@ fn an_extension_with_each_growth_refused(rt: HostRuntime) -> Result<(), Fail> {
 
 #[test]
 fn a_map_as_text(rt: HostRuntime) -> Result<(), Fail> {
-    let map = TextMap::default(rt.alloc())?;
+    let map = TextMap::default(rt.alloc());
     let text = format!(in rt.alloc(); "{map:?}")?;
     assert!(rt; text.as_str().starts_with("Map("));
     Ok(())

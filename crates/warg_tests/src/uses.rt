@@ -21,7 +21,7 @@ fn a_release_s_digest(rt: HostRuntime) -> Result<(), Fail> {
 
 #[test]
 fn a_package_that_is_absent(rt: HostRuntime) -> Result<(), Fail> {
-    let packages = map::release(&Map::default(rt.alloc())?, "left-pad", "1.0.0")?;
+    let packages = map::release(&Map::default(rt.alloc()), "left-pad", "1.0.0")?;
     assert!(rt; map::absence(&packages, "left-pad")?.is_none());
     assert!(rt; map::absence(&packages, "right-pad")?.is_some());
     let proof = packages.prove("left-pad")?.ok_or("no proof")?;

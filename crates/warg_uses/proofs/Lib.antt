@@ -1,1 +1,1 @@
-mod FramedLemmas
+pub mod CollisionLemmas

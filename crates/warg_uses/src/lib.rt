@@ -7,4 +7,5 @@ pub mod crypto;
 pub mod log;
 pub mod map;
 pub mod paths;
+pub mod verdict;
 pub mod witness;

@@ -15,6 +15,8 @@ mod paths;
 mod proofs;
 mod runs;
 mod stored;
+mod tiles;
+mod updates;
 mod values;
 mod witnesses;
 mod wrong;
@@ -43,7 +45,10 @@ pub(crate) fn answer(words: &mut Words<'_>, to: &mut Answer) -> Result<(), Fault
         "check_growth" => each::answer::<checks::CheckGrowth>(words, to),
         "check_record" => each::answer::<paths::CheckRecord>(words, to),
         "check_tree" => each::answer::<paths::CheckTree>(words, to),
+        "check_update" => each::answer::<updates::CheckUpdate>(words, to),
+        "check_insertion" => each::answer::<updates::CheckInsertion>(words, to),
         _ if nodes::has_call(name) => nodes::answer(name, words, to),
+        _ if tiles::has_call(name) => tiles::answer(name, words, to),
         _ => by_digest(name, words, to),
     }
 }
@@ -90,6 +95,8 @@ fn of_path<D: SupportedDigest>(
         "consistency_path" => each::answer::<paths::ConsistencyPath<D>>(words, to),
         "root_of_inclusion" => each::answer::<paths::RootOfInclusion<D>>(words, to),
         "roots_of_consistency" => each::answer::<paths::RootsOfConsistency<D>>(words, to),
+        "tile_hashes" => each::answer::<tiles::TileHashes<D>>(words, to),
+        "tile_data" => each::answer::<tiles::TileDigest<D>>(words, to),
         _ => of_map::<D>(name, words, to),
     }
 }
@@ -110,6 +117,8 @@ fn of_map<D: SupportedDigest>(
         "witness_key" => each::answer::<map_witnesses::WitnessKey<D>>(words, to),
         "witness_absent" => each::answer::<map_witnesses::WitnessAbsent<D>>(words, to),
         "agree_key" => each::answer::<map_witnesses::AgreeKey<D>>(words, to),
+        "insert_with_proof" => each::answer::<updates::InsertWithProof<D>>(words, to),
+        "witness_update" => each::answer::<updates::WitnessUpdate<D>>(words, to),
         _ => Err(Fault::BadCall),
     }
 }

@@ -46,6 +46,11 @@ impl<'a> Words<'a> {
         Words::parted(alloc, line, ' ')
     }
 
+    /// The words of one word that are parted by colons.
+    pub(crate) fn colons(alloc: Global, word: &'a str) -> Words<'a> {
+        Words::parted(alloc, word, ':')
+    }
+
     fn parted(alloc: Global, text: &'a str, parted_by: char) -> Words<'a> {
         Words {
             alloc,

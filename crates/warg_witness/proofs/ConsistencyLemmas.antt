@@ -8,9 +8,10 @@ use Rattle.warg_witness.specs.Inputs.{old_input, cut_input}
 use Rattle.warg_witness.specs.Private.Ranges.{IsAligned}
 use Rattle.warg_witness.proofs.RangeLemmas.{Digest, Data, IsPart-trans, whole_aligned, node_some, wider, part_in}
 use Rattle.warg_witness.proofs.RootLemmas.{Root, node_bounds, rest_aligned, by_root, root_stands, root_at_part}
-use Rattle.std.proofs.lemmas.List.{length-map, get_or-map}
+use Rattle.std.proofs.lemmas.List.{length-map, get_or-map, get_or-take}
 use Rattle.std.proofs.lemmas.List.Elements.{All-from_recursion, All-contains}
 use Rattle.warg_log.specs.Consistency.{LeadsTo, IsConsistent}
+use Rattle.warg_witness.specs.Claims.{Begins}
 use Rattle.warg_witness.specs.Placed.{IsConsistencyPlaced}
 use Rattle.warg_witness.specs.Private.Compared.{DiffersFirst}
 use Rattle.warg_witness.specs.Private.Meeting.{IsConsistencyMeeting, LeadsToBoth}
@@ -139,3 +140,7 @@ entries_shown bytes old new {place = place} is at new_part meets differs e_is d_
     let old_entry = entry_at bytes old place (omega (arith, length-map old bytes)) e_is in
     let new_entry = entry_at bytes new place (omega (arith, length-map new bytes)) d_is in
     rw (first_is, second_is, ← old_entry, ← new_entry) (leaves_shown is at place new_part meets in_old in_new differs.differ)
+
+-- entries that differ from others at a place don't begin them
+pub differs_not_begins : (old new : List (List ℕ)) (place : ℕ) → DiffersFirst old new place → Begins old new → ⊥
+differs_not_begins old new place differs begins = differs.differ (ap (λ xs. get_or xs place []) begins ∙ get_or-take (length old) new place [] differs.within)

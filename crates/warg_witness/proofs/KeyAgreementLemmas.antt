@@ -17,7 +17,7 @@ use Rattle.warg_witness.proofs.PathLemmas.{diverged_on_path}
 pub key_agreement_shown : {D : Type 0} (H : List ℕ → List ℕ) (key : List ℕ) (P : List (Option (List ℕ))) (v : List ℕ) (Q : List (Option (List ℕ))) (u : List ℕ) (p : Divergence D)
     → IsPathDivergence H P (H (0 ∷ v)) Q (H (0 ∷ u)) (key_bits H key) p → (v ≡ u → ⊥) → Shows H (IsKeyAgreementPlaced H key P v Q u) (inputs_of p (0 ∷ v) (0 ∷ u))
 key_agreement_shown H key P v Q u Target is other = (
-  record { differ = λ e. other (cc); same = is },
+  record { differ = λ e. other (cc); same = is.same },
   record { prefix = key_bits H key; rest = []; bits = sym (append-nil (key_bits H key)); first_evaluation = refl; second_evaluation = refl },
 )
 key_agreement_shown H key P v Q u (Branch l r l' r') is other = (

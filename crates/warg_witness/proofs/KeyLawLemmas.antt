@@ -35,7 +35,7 @@ holds_push [] digest size holds (suc place) other e = absurd (cc)
 holds_push (peer ∷ peers) digest size holds zero other e = holds 0 other e
 holds_push (peer ∷ peers) digest size holds (suc place) other e = holds_push peers digest size (λ n. holds (suc n)) place other e
 
-holds_plain : (H : List ℕ → List ℕ) → GivesHashes H → (held : List Bool → Option (List ℕ)) → ((bits : List Bool) (digest : List ℕ) → held bits ≡ Some digest → length digest ≡ 32)
+pub holds_plain : (H : List ℕ → List ℕ) → GivesHashes H → (held : List Bool → Option (List ℕ)) → ((bits : List Bool) (digest : List ℕ) → held bits ≡ Some digest → length digest ≡ 32)
     → (bits : List Bool) → HoldsPeers (plain_peers H held bits)
 unfolding plain_peers
 holds_plain H gives held h [] = λ place digest e. absurd (cc)
@@ -43,7 +43,7 @@ holds_plain H gives held h (b ∷ bits) =
     holds_push (plain_peers H (λ q. held (b ∷ q)) bits) (root_of_levels H (length bits) (λ q. held (not b ∷ q))) (root_len H gives (length bits) (λ q. held (not b ∷ q)) (λ q. h (not b ∷ q)))
     (holds_plain H gives (λ q. held (b ∷ q)) (λ q. h (b ∷ q)) bits)
 
-holds_leaf : (H : List ℕ → List ℕ) → GivesHashes H → (o : Option (List ℕ × List ℕ)) (digest : List ℕ) → option_map (λ e. leaf_digest H e.1) o ≡ Some digest → length digest ≡ 32
+pub holds_leaf : (H : List ℕ → List ℕ) → GivesHashes H → (o : Option (List ℕ × List ℕ)) (digest : List ℕ) → option_map (λ e. leaf_digest H e.1) o ≡ Some digest → length digest ≡ 32
 holds_leaf H gives None digest e = absurd (cc)
 holds_leaf H gives (Some f) digest e = ap length (sym (some_same (leaf_digest H f.1) digest e)) ∙ gives (0 ∷ f.1)
 

@@ -12,10 +12,10 @@ use Rattle.warg_map.specs.Last.{same_bits, last_under}
 use Rattle.warg_map.specs.ProofValue.{proof_value}
 use Rattle.warg_witness.specs.Laws.{GivesDigests}
 use Rattle.warg_witness.specs.MapClaims.{value_in, IsLastValue, IsKeyMet}
-use Rattle.warg_witness.specs.MapPlaced.{IsKeyPlaced}
+use Rattle.warg_witness.specs.MapPlaced.{IsPlacedAtPrefix, IsKeyPlaced}
 use Rattle.warg_witness.specs.Private.MapPaths.{IsPathDivergence, MeetsOnPath, IsLastPlace, plain_peers}
 use Rattle.warg_witness.specs.Private.MapMeeting.{IsKeyMeeting}
-use Rattle.warg_witness.specs.Private.Divergence.{inputs_of}
+use Rattle.warg_witness.specs.Private.Divergence.{Collides, DivergesAtBranch, inputs_of}
 use Rattle.warg_witness.specs.declared.descent.Divergence.{Divergence}
 use Rattle.warg_witness.specs.declared.descent.Divergence.TheVariants.{Target, Branch}
 use Rattle.warg_witness.proofs.LastLemmas.{last_with-passes, last_with-contains, last_of_digest, none_of_digest, last_at, last_none}
@@ -40,26 +40,35 @@ plain_root_is H insertions bits long =
 abbrev pub ShowsKey : (List ℕ → List ℕ) → List (Option (List ℕ)) → List ℕ → List ℕ → List (List ℕ × List ℕ) → List ℕ × List ℕ → Type 0
 ShowsKey H peers key value insertions = Shows H (IsKeyPlaced H peers value key insertions)
 
-pub branch_shown : {D : Type 0} (H : List ℕ → List ℕ) (peers : List (Option (List ℕ))) (key value : List ℕ) (insertions : List (List ℕ × List ℕ)) (p : Divergence D)
-    → DivergesFromPlain H peers key value insertions p → (p ≡ Target → ⊥) → ShowsKey H peers key value insertions (inputs_of p [] [])
-branch_shown H peers key value insertions Target is other = absurd (other refl)
-branch_shown H peers key value insertions (Branch l r l' r') is other = (
+pub branch_placed : {D : Type 0} (H : List ℕ → List ℕ) (peers : List (Option (List ℕ))) (key value : List ℕ) (insertions : List (List ℕ × List ℕ)) (p : Divergence D)
+    → DivergesFromPlain H peers key value insertions p → (p ≡ Target → ⊥) → DivergesAtBranch H p × IsPlacedAtPrefix H peers value key insertions (inputs_of p [] []).0 (inputs_of p [] []).1
+branch_placed H peers key value insertions Target is other = absurd (other refl)
+branch_placed H peers key value insertions (Branch l r l' r') is other = (
   record { differ = is.differ; same = is.same },
-  inl (record {
+  record {
     prefix = is.above;
     rest = is.bit ∷ is.below;
     bits = is.split;
     evaluation = is.first_input;
     plain = is.second_input ∙ plain_input_is H insertions (key_bits H key) is.above (is.bit ∷ is.below) (all_bits H key) is.split;
-  }),
+  },
 )
+
+pub branch_collides : {D : Type 0} (H : List ℕ → List ℕ) (p : Divergence D) → DivergesAtBranch H p → Collides H (inputs_of p [] [])
+branch_collides H Target is = absurd is
+branch_collides H (Branch l r l' r') is = is
+
+pub branch_shown : {D : Type 0} (H : List ℕ → List ℕ) (peers : List (Option (List ℕ))) (key value : List ℕ) (insertions : List (List ℕ × List ℕ)) (p : Divergence D)
+    → DivergesFromPlain H peers key value insertions p → (p ≡ Target → ⊥) → ShowsKey H peers key value insertions (inputs_of p [] [])
+branch_shown H peers key value insertions p is other =
+    let placed = branch_placed H peers key value insertions p is other in (branch_collides H p placed.0, inl placed.1)
 
 -- where it diverges nowhere, and the plain leaf has another value
 pub leaf_shown : {D : Type 0} (H : List ℕ → List ℕ) (peers : List (Option (List ℕ))) (key value : List ℕ) (insertions : List (List ℕ × List ℕ)) (p : Divergence D) (last : List ℕ)
     → DivergesFromPlain H peers key value insertions p → p ≡ Target → value_in (last_under H (key_bits H key) insertions) ≡ last → (value ≡ last → ⊥)
     → ShowsKey H peers key value insertions (inputs_of p (0 ∷ value) (0 ∷ last))
 leaf_shown H peers key value insertions Target last is target plain other = (
-  record { differ = λ e. other (cc); same = is ∙ ap (leaf_digest H) plain },
+  record { differ = λ e. other (cc); same = is.same ∙ ap (leaf_digest H) plain },
   inl (record { prefix = key_bits H key; rest = []; bits = sym (append-nil (key_bits H key)); evaluation = refl; plain = ap (λ w. 0 ∷ w) (sym plain) }),
 )
 leaf_shown H peers key value insertions (Branch l r l' r') last is target plain other = absurd (cc)

@@ -8,10 +8,12 @@ pub mod CollisionLemmas
 pub mod CompareLemmas
 pub mod PathLemmas
 pub mod KeyAgreementLemmas
+pub mod UpdateLemmas
 pub mod PlainPathLemmas
 pub mod LastLemmas
 pub mod KeyLemmas
 pub mod KeyLawLemmas
+pub mod UpdateLawLemmas
 pub mod KeysLemmas
 pub mod TreeLemmas
 pub mod RecordLemmas

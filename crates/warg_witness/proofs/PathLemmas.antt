@@ -7,7 +7,7 @@ use Rattle.warg_witness.specs.Inputs.{branch_input}
 use Rattle.warg_crypto.specs.Collisions.{GivesHashes}
 use Rattle.warg_witness.specs.Laws.{HoldsPeers}
 use Rattle.warg_witness.specs.MapInputs.{fork_input}
-use Rattle.warg_witness.specs.Private.MapPaths.{IsPathDivergence, IsClimb}
+use Rattle.warg_witness.specs.Private.MapPaths.{DivergesNowhere, IsPathDivergence, IsClimb}
 use Rattle.warg_witness.specs.declared.descent.Divergence.{Divergence}
 use Rattle.warg_witness.specs.declared.descent.Divergence.TheVariants.{Target, Branch}
 use Rattle.warg_witness.proofs.DescentLemmas.{inputs_differ}
@@ -15,11 +15,23 @@ use Rattle.warg_witness.proofs.CollisionLemmas.{SomeDivergence, same_or_not}
 use Rattle.warg_map.proofs.ForCallers.{last_bits-more, last_bits-none, length-last_bits}
 use Rattle.warg_map.specs.Bits.{bit_at, last_bits}
 
+-- one bit more with the same digest beside it
+fork_same : (b : Bool) (peer peer' value value' : List ℕ) → peer ≡ peer' → value ≡ value' → cond b (peer ++ value) (value ++ peer) ≡ cond b (peer' ++ value') (value' ++ peer')
+fork_same b peer peer' value value' p v = rw (p, v) refl
+
+nowhere_more : (H : List ℕ → List ℕ) (P : List (Option (List ℕ))) (x : List ℕ) (Q : List (Option (List ℕ))) (y : List ℕ) (b : Bool) (bits : List Bool) → peer_of H P (length bits) ≡ peer_of H Q (length bits)
+    → DivergesNowhere H P x Q y bits → DivergesNowhere H P x Q y (b ∷ bits)
+unfolding proof_value
+nowhere_more H P x Q y b bits peers is = record {
+  same = is.same;
+  beside = λ leaf. ap (λ t. H (1 ∷ t)) (fork_same b _ _ _ _ peers (is.beside leaf));
+}
+
 -- what diverges below a bit diverges above it
 pub widened_path : {D : Type 0} (H : List ℕ → List ℕ) (P : List (Option (List ℕ))) (x : List ℕ) (Q : List (Option (List ℕ))) (y : List ℕ) (b : Bool) (bits : List Bool) (p : Divergence D)
-    → IsPathDivergence H P x Q y bits p → IsPathDivergence H P x Q y (b ∷ bits) p
-widened_path H P x Q y b bits Target is = is
-widened_path H P x Q y b bits (Branch l r l' r') is = record {
+    → peer_of H P (length bits) ≡ peer_of H Q (length bits) → IsPathDivergence H P x Q y bits p → IsPathDivergence H P x Q y (b ∷ bits) p
+widened_path H P x Q y b bits Target peers is = nowhere_more H P x Q y b bits peers is
+widened_path H P x Q y b bits (Branch l r l' r') peers is = record {
   above = b ∷ is.above;
   bit = is.bit;
   below = is.below;
@@ -41,6 +53,11 @@ near_same : (b : Bool) (near far near' far' l r l' r' : List ℕ) → r ≡ cond
 near_same true near far near' far' l r l' r' er el er' el' same = sym er ∙ same.1 ∙ er'
 near_same false near far near' far' l r l' r' er el er' el' same = sym el ∙ same.0 ∙ el'
 
+-- and the one beside the path
+far_same : (b : Bool) (near far near' far' l r l' r' : List ℕ) → r ≡ cond b near far → l ≡ cond b far near → r' ≡ cond b near' far' → l' ≡ cond b far' near' → (l ≡ l') × (r ≡ r') → far ≡ far'
+far_same true near far near' far' l r l' r' er el er' el' same = sym el ∙ same.0 ∙ el'
+far_same false near far near' far' l r l' r' er el er' el' same = sym er ∙ same.1 ∙ er'
+
 -- one bit up, where the inputs are the same
 pub climb_same : {D : Type 0} (H : List ℕ → List ℕ) (P : List (Option (List ℕ))) (x : List ℕ) (Q : List (Option (List ℕ))) (y : List ℕ) (b : Bool) (bits : List Bool)
     (first second peer peer' l r l' r' up up' : List ℕ) (p : Divergence D) → peer_of H P (length bits) ≡ peer → peer_of H Q (length bits) ≡ peer' → IsClimb H P x Q y bits first second p
@@ -50,7 +67,8 @@ unfolding proof_value
 climb_same H P x Q y b bits first second peer peer' l r l' r' up up' p at at' climb parts parts' is is' same = record {
   first_is = is ∙ ap H (fork_is H P x b bits first peer l r climb.first_is at parts.0 parts.1);
   second_is = is' ∙ ap H (fork_is H Q y b bits second peer' l' r' climb.second_is at' parts'.0 parts'.1);
-  diverges = λ _. widened_path H P x Q y b bits p (climb.diverges (near_same b first peer second peer' l r l' r' parts.1 parts.0 parts'.1 parts'.0 same));
+  diverges = λ _. widened_path H P x Q y b bits p (at ∙ far_same b first peer second peer' l r l' r' parts.1 parts.0 parts'.1 parts'.0 same ∙ sym at')
+      (climb.diverges (near_same b first peer second peer' l r l' r' parts.1 parts.0 parts'.1 parts'.0 same));
 }
 
 -- one bit up, where they differ
@@ -99,7 +117,7 @@ peer_len H P gives holds i = ⊎_elim
 pub diverged_on_path : (H : List ℕ → List ℕ) (P : List (Option (List ℕ))) (x : List ℕ) (Q : List (Option (List ℕ))) (y : List ℕ) → GivesHashes H → HoldsPeers P → HoldsPeers Q → length x ≡ 32 → length y ≡ 32
     → (bits : List Bool) → proof_value H P x bits ≡ proof_value H Q y bits → (p : SomeDivergence) × IsPathDivergence H P x Q y bits p
 unfolding proof_value
-diverged_on_path H P x Q y gives holds holds' size size' [] e = (Target, e)
+diverged_on_path H P x Q y gives holds holds' size size' [] e = (Target, record { same = e; beside = λ leaf. refl })
 diverged_on_path H P x Q y gives holds holds' size size' (b ∷ bits) e =
     let peer = peer_of H P (length bits) in
     let peer' = peer_of H Q (length bits) in
@@ -109,7 +127,7 @@ diverged_on_path H P x Q y gives holds holds' size size' (b ∷ bits) e =
     (λ (same : cond b peer value ≡ cond b peer' value'). ⊎_elim
     (λ (same' : cond b value peer ≡ cond b value' peer').
     let deep = diverged_on_path H P x Q y gives holds holds' size size' bits (near_same b value peer value' peer' _ _ _ _ refl refl refl refl (same, same')) in
-    (deep.0, widened_path H P x Q y b bits deep.0 deep.1))
+    (deep.0, widened_path H P x Q y b bits deep.0 (far_same b value peer value' peer' _ _ _ _ refl refl refl refl (same, same')) deep.1))
     (λ (other : cond b value peer ≡ cond b value' peer' → ⊥). here (λ both. other both.1))
     (same_or_not (cond b value peer) (cond b value' peer')))
     (λ (other : cond b peer value ≡ cond b peer' value' → ⊥). here (λ both. other both.0))
@@ -147,7 +165,7 @@ unfolding proof_value
 climb_starts H P x Q y key = record {
   first_is = sym (ap (proof_value H P x) (last_bits-none key));
   second_is = sym (ap (proof_value H Q y) (last_bits-none key));
-  diverges = λ e. e;
+  diverges = λ e. record { same = e; beside = λ leaf. ap (proof_value H P leaf) (last_bits-none key) ∙ sym (ap (proof_value H Q leaf) (last_bits-none key)) };
 }
 
 -- one bit more

@@ -194,6 +194,12 @@ pub whole_leads : {H : Digest} {index : ℕ} {path : List (List ℕ)} {x : List 
 whole_leads {H} {index} {path} {x} {entries} {tree} met =
     rw met.tree_is ((leads_inside H index (length entries) x _ path met.leads).1 ∙ ap Some (whole_root H entries))
 
+-- an entry that is read and has other bytes than the value
+pub read_other : {V : Type 0} (bytes : V → List ℕ) (H : Digest) (index : ℕ) (path : List (List ℕ)) (value x : List ℕ) (entries : List V) (tree : List (List ℕ)) {e : V}
+    → IsPathMeeting H index path x (map bytes entries) tree → e ≡ get_or entries index e → (value ≡ bytes e → ⊥) → IsRecord index value (map bytes entries) → ⊥
+read_other bytes H index path value x entries tree met is other record_is =
+    let count = length-map entries bytes in other (sym record_is ∙ entry_at bytes entries index (rw count at met.inside) is)
+
 -- the same, of entries that are read
 pub read_shown : {V D : Type 0} (bytes : V → List ℕ) (H : Digest) (index : ℕ) (path : List (List ℕ)) (value : List ℕ) (entries : List V) (tree : List (List ℕ)) {e : V} (p : Divergence D)
     → IsPathMeeting H index path (H (0 ∷ value)) (map bytes entries) tree → e ≡ get_or entries index e → (value ≡ bytes e → ⊥)

@@ -4,9 +4,11 @@ pub mod Claims
 pub mod Placed
 pub mod Collisions
 pub mod Laws
+pub mod Findings
 pub mod MapClaims
 pub mod MapInputs
 pub mod MapPlaced
+pub mod UpdateClaims
 pub mod PathClaims
 pub mod PathPlaced
 pub mod Private

@@ -5,15 +5,18 @@
 //! entries or the insertions. They hold for every function from byte lists to 32 bytes, and for all data and
 //! peers of such digests.
 
-ghost use Rattle.std.specs.Prelude.{◌≡◌, ℕ, ◌≤◌, ◌↔◌, IsTrue, List, [], ◌∷◌, length, Option, Some};
+ghost use Rattle.std.specs.Prelude.{◌≡◌, ℕ, ◌≤◌, ◌↔◌, ◌⊎◌, IsTrue, List, [], ◌∷◌, length, Option, Some};
+ghost use Rattle.std.specs.List.{AllByRecursion};
+ghost use Rattle.std.specs.FinMap.{empty};
 ghost use Rattle.warg_witness.specs.Claims.{IsMet, IsEntry, IsRootBelow, IsAgreement, IsConsistencyMet, Begins};
 ghost use Rattle.warg_witness.specs.Placed.{IsValuePlaced, IsHashPlaced, IsAgreementPlaced, IsConsistencyPlaced};
 ghost use Rattle.warg_map.specs.Bits.{key_bits};
 ghost use Rattle.warg_map.specs.Last.{last_under};
-ghost use Rattle.warg_map.specs.Peers.{Proves};
+ghost use Rattle.warg_map.specs.Peers.{Proves, ProvesAbsent};
 ghost use Rattle.warg_map.specs.Sparse.{sparse_root, map_of};
 ghost use Rattle.warg_witness.specs.MapClaims.{IsKeyMet, IsAbsenceMet, IsKeyAgreement, IsLastValue};
-ghost use Rattle.warg_witness.specs.MapPlaced.{IsKeyPlaced, IsKeyAgreementPlaced};
+ghost use Rattle.warg_witness.specs.MapPlaced.{IsPlacedAtPrefix, IsKeyPlaced, IsKeyAgreementPlaced};
+ghost use Rattle.warg_witness.specs.UpdateClaims.{IsUpdated, Step, insertions_of, LeadThrough, CollidesAtStep};
 ghost use Rattle.warg_crypto.specs.Collisions.{GivesHashes, SomeCollision};
 ghost use Rattle.warg_witness.specs.Laws.{GivesDigests, HoldsHashes, HoldsPeers};
 
@@ -61,6 +64,39 @@ pub fn key_or_collision()
 pub fn absence_or_collision()
     ensures { (H : List ℕ → List ℕ) (peers : List (Option (List ℕ))) (key : List ℕ) (insertions : List (List ℕ × List ℕ)) → GivesDigests H → HoldsPeers peers
         → IsAbsenceMet H peers key insertions → (IsLastValue key [] insertions → ⊥) → SomeCollision H (IsKeyPlaced H peers [] key insertions) }
+{}
+
+/// An update's claim that is met and isn't true gives a collision.
+pub fn update_or_collision()
+    ensures { (H : List ℕ → List ℕ) (peers : List (Option (List ℕ))) (key old_value new_value : List ℕ)
+        → (insertions : List (List ℕ × List ℕ)) → GivesHashes H → HoldsPeers peers
+        → IsKeyMet H peers key old_value insertions → ¬ (IsUpdated H peers key new_value insertions)
+        → SomeCollision H (IsPlacedAtPrefix H peers old_value key insertions) }
+{}
+
+/// Steps that lead from the empty map's root to another end at the root of the map of exactly these insertions, in their
+/// order, or two byte strings collide at one of the steps. So whoever checks each step knows that nothing else was
+/// inserted, changed or removed.
+pub fn steps_or_collision()
+    ensures { (H : List ℕ → List ℕ) (steps : List Step) (root : List ℕ) → GivesHashes H → AllByRecursion (λ s. HoldsPeers s.peers) steps
+        → LeadThrough H (sparse_root H 256 empty) steps root
+        → (root ≡ sparse_root H 256 (map_of H (insertions_of steps))) ⊎ CollidesAtStep H steps }
+{}
+
+/// A map's own proof of a key whose value was inserted last of its digest meets the claim of any update of it, and the
+/// claim is true.
+pub fn own_update()
+    ensures { (H : List ℕ → List ℕ) (insertions : List (List ℕ × List ℕ)) (key old_value new_value : List ℕ)
+        → (peers : List (Option (List ℕ))) → last_under H (key_bits H key) insertions ≡ Some (key, old_value)
+        → length peers ≤ 256 → Proves H 256 (map_of H insertions) (key_bits H key) peers
+        → IsKeyMet H peers key old_value insertions × IsUpdated H peers key new_value insertions }
+{}
+
+/// A map's own proof that a key's digest isn't held meets the claim of any insertion under it, and the claim is true.
+pub fn own_insertion()
+    ensures { (H : List ℕ → List ℕ) (insertions : List (List ℕ × List ℕ)) (key value : List ℕ) (peers : List (Option (List ℕ)))
+        → length peers ≤ 256 → ProvesAbsent H (map_of H insertions) (key_bits H key) peers
+        → IsAbsenceMet H peers key insertions × IsUpdated H peers key value insertions }
 {}
 
 /// Where two maps of insertions have equal roots, each value of the one that its map holds, under the key that was

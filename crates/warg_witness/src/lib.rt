@@ -19,5 +19,5 @@ mod plain;
 
 pub use collision::{Collision, Finding};
 pub use log::{agree_value, witness_consistency, witness_hash, witness_value};
-pub use map::{agree_key, witness_absent, witness_key};
+pub use map::{agree_key, witness_absent, witness_key, witness_update};
 pub use paths::{agree_record, witness_record};

@@ -7,6 +7,7 @@ ghost use Rattle.warg_log.specs.Tree.{leaves_of};
 ghost use Rattle.warg_witness.specs.Private.Ranges.{IsNodeRange};
 ghost use Rattle.warg_witness.specs.Private.Compared.{IsAt};
 ghost use Rattle.warg_witness.specs.Inputs.{plain_input};
+ghost use Rattle.warg_witness.specs.Findings.{Finds};
 ghost use Rattle.warg_witness.specs.Claims.{IsMet, IsEntry, IsRootBelow, IsAgreement};
 ghost use Rattle.warg_witness.specs.Placed.{IsValuePlaced, IsHashPlaced, IsAgreementPlaced};
 ghost use Rattle.warg_witness.specs.Private.Divergence.{Collides, DivergesAtBranch, inputs_of};
@@ -135,15 +136,14 @@ pub fn witness_value<D: SupportedDigest, V: VisitBytes, L: LogData<D, V>, A: All
     entries: &[V],
 ) -> Result<Finding<D, A>, AllocError>
     ensures count { (length entries.now ≡ proof.now.log_length → ⊥) → result ≡ Ok Finding.NotMet }
-    ensures fails { ((ExistsAt proof.now.leaf.0 proof.now.log_length → ⊥) ⊎ (cut_root D.digest (L.digest_at hashes.now) proof.now.leaf.0 (D.digest (0 ∷ V.bytes value.now)) proof.now.log_length ≡ None)) → result ≡ Ok Finding.NotMet }
-    ensures not_met { IfOk result (λ f. (f ≡ Finding.NotMet)
-        ↔ (IsMet D.digest (L.digest_at hashes.now) (D.digest (0 ∷ V.bytes value.now)) proof.now.leaf.0 proof.now.log_length (map (λ e. V.bytes e) entries.now) → ⊥)) }
-    ensures holds { IfOk result (λ f. (f ≡ Finding.Holds)
-        ↔ (IsMet D.digest (L.digest_at hashes.now) (D.digest (0 ∷ V.bytes value.now)) proof.now.leaf.0 proof.now.log_length (map (λ e. V.bytes e) entries.now)
-        × IsEntry (V.bytes value.now) proof.now.leaf.0 (map (λ e. V.bytes e) entries.now))) }
-    ensures met { IfOk result (λ f. (c : _) → f ≡ Finding.Collision c → IsMet D.digest (L.digest_at hashes.now) (D.digest (0 ∷ V.bytes value.now)) proof.now.leaf.0 proof.now.log_length (map (λ e. V.bytes e) entries.now)) }
-    ensures collision { IfOk result (λ f. (c : _) → f ≡ Finding.Collision c
-        → IsValuePlaced D.digest (L.digest_at hashes.now) (V.bytes value.now) proof.now.leaf.0 (map (λ e. V.bytes e) entries.now) c.0 c.1) }
+    ensures fails { (¬ (ExistsAt proof.now.leaf.0 proof.now.log_length)
+        ⊎ (cut_root D.digest (L.digest_at hashes.now) proof.now.leaf.0 (D.digest (0 ∷ V.bytes value.now)) proof.now.log_length ≡ None))
+        → result ≡ Ok Finding.NotMet }
+    ensures found { IfOk result (Finds
+        (IsMet D.digest (L.digest_at hashes.now) (D.digest (0 ∷ V.bytes value.now))
+        proof.now.leaf.0 proof.now.log_length (map (λ e. V.bytes e) entries.now))
+        (IsEntry (V.bytes value.now) proof.now.leaf.0 (map (λ e. V.bytes e) entries.now))
+        (IsValuePlaced D.digest (L.digest_at hashes.now) (V.bytes value.now) proof.now.leaf.0 (map (λ e. V.bytes e) entries.now))) }
 {
     let hash = hash_leaf::<D, V>(value);
     let Some(met) = meet_entries(alloc, proof, hashes, &hash, entries)? else {
@@ -173,15 +173,12 @@ pub fn witness_hash<D: SupportedDigest, V: VisitBytes, L: LogData<D, V>, A: Allo
     entries: &[V],
 ) -> Result<Finding<D, A>, AllocError>
     ensures count { (length entries.now ≡ proof.now.log_length → ⊥) → result ≡ Ok Finding.NotMet }
-    ensures fails { ((ExistsAt proof.now.leaf.0 proof.now.log_length → ⊥) ⊎ (cut_root D.digest (L.digest_at hashes.now) proof.now.leaf.0 hash proof.now.log_length ≡ None)) → result ≡ Ok Finding.NotMet }
-    ensures not_met { IfOk result (λ f. (f ≡ Finding.NotMet)
-        ↔ (IsMet D.digest (L.digest_at hashes.now) hash proof.now.leaf.0 proof.now.log_length (map (λ e. V.bytes e) entries.now) → ⊥)) }
-    ensures holds { IfOk result (λ f. (f ≡ Finding.Holds)
-        ↔ (IsMet D.digest (L.digest_at hashes.now) hash proof.now.leaf.0 proof.now.log_length (map (λ e. V.bytes e) entries.now)
-        × IsRootBelow D.digest hash proof.now.leaf.0 (map (λ e. V.bytes e) entries.now))) }
-    ensures met { IfOk result (λ f. (c : _) → f ≡ Finding.Collision c → IsMet D.digest (L.digest_at hashes.now) hash proof.now.leaf.0 proof.now.log_length (map (λ e. V.bytes e) entries.now)) }
-    ensures collision { IfOk result (λ f. (c : _) → f ≡ Finding.Collision c
-        → IsHashPlaced D.digest (L.digest_at hashes.now) hash proof.now.leaf.0 (map (λ e. V.bytes e) entries.now) c.0 c.1) }
+    ensures fails { (¬ (ExistsAt proof.now.leaf.0 proof.now.log_length)
+        ⊎ (cut_root D.digest (L.digest_at hashes.now) proof.now.leaf.0 hash proof.now.log_length ≡ None)) → result ≡ Ok Finding.NotMet }
+    ensures found { IfOk result (Finds
+        (IsMet D.digest (L.digest_at hashes.now) hash proof.now.leaf.0 proof.now.log_length (map (λ e. V.bytes e) entries.now))
+        (IsRootBelow D.digest hash proof.now.leaf.0 (map (λ e. V.bytes e) entries.now))
+        (IsHashPlaced D.digest (L.digest_at hashes.now) hash proof.now.leaf.0 (map (λ e. V.bytes e) entries.now))) }
 {
     let Some(met) = meet_entries(alloc, proof, hashes, &hash, entries)? else {
         return Ok(Finding::NotMet);
@@ -213,15 +210,15 @@ pub fn agree_value<
     second_hashes: &M,
     second_value: &V,
 ) -> Result<Finding<D, A>, AllocError>
-    ensures unmet { (IsAgreement D.digest (L.digest_at first_hashes.now) (D.digest (0 ∷ V.bytes first_value.now)) (M.digest_at second_hashes.now) (D.digest (0 ∷ V.bytes second_value.now)) proof.now.leaf.0 proof.now.log_length → ⊥) → result ≡ Ok Finding.NotMet }
-    ensures not_met { IfOk result (λ f. (f ≡ Finding.NotMet)
-        ↔ (IsAgreement D.digest (L.digest_at first_hashes.now) (D.digest (0 ∷ V.bytes first_value.now)) (M.digest_at second_hashes.now) (D.digest (0 ∷ V.bytes second_value.now)) proof.now.leaf.0 proof.now.log_length → ⊥)) }
-    ensures holds { IfOk result (λ f. (f ≡ Finding.Holds)
-        ↔ (IsAgreement D.digest (L.digest_at first_hashes.now) (D.digest (0 ∷ V.bytes first_value.now)) (M.digest_at second_hashes.now) (D.digest (0 ∷ V.bytes second_value.now)) proof.now.leaf.0 proof.now.log_length
-        × (V.bytes first_value.now ≡ V.bytes second_value.now))) }
-    ensures met { IfOk result (λ f. (c : _) → f ≡ Finding.Collision c → IsAgreement D.digest (L.digest_at first_hashes.now) (D.digest (0 ∷ V.bytes first_value.now)) (M.digest_at second_hashes.now) (D.digest (0 ∷ V.bytes second_value.now)) proof.now.leaf.0 proof.now.log_length) }
-    ensures collision { IfOk result (λ f. (c : _) → f ≡ Finding.Collision c
-        → IsAgreementPlaced D.digest (L.digest_at first_hashes.now) (V.bytes first_value.now) (M.digest_at second_hashes.now) (V.bytes second_value.now) proof.now.leaf.0 proof.now.log_length c.0 c.1) }
+    ensures unmet { ¬ (IsAgreement D.digest (L.digest_at first_hashes.now) (D.digest (0 ∷ V.bytes first_value.now))
+        (M.digest_at second_hashes.now) (D.digest (0 ∷ V.bytes second_value.now)) proof.now.leaf.0 proof.now.log_length)
+        → result ≡ Ok Finding.NotMet }
+    ensures found { IfOk result (Finds
+        (IsAgreement D.digest (L.digest_at first_hashes.now) (D.digest (0 ∷ V.bytes first_value.now))
+        (M.digest_at second_hashes.now) (D.digest (0 ∷ V.bytes second_value.now)) proof.now.leaf.0 proof.now.log_length)
+        (V.bytes first_value.now ≡ V.bytes second_value.now)
+        (IsAgreementPlaced D.digest (L.digest_at first_hashes.now) (V.bytes first_value.now)
+        (M.digest_at second_hashes.now) (V.bytes second_value.now) proof.now.leaf.0 proof.now.log_length)) }
 {
     let first_hash = hash_leaf::<D, V>(first_value);
     let second_hash = hash_leaf::<D, V>(second_value);

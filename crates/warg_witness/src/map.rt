@@ -1,8 +1,9 @@
 //! Witnesses for the map's proofs.
 
-ghost use Rattle.std.specs.Prelude.{◌≡◌, ℕ, ◌≤◌, ◌↔◌, Bool, List, [], length, Option, Ok, IfOk, MatchOption};
+ghost use Rattle.std.specs.Prelude.{◌≡◌, ℕ, ◌≤◌, Bool, List, [], length, Option, Ok, IfOk, MatchOption};
 ghost use Rattle.warg_map.specs.Last.{last_under};
 ghost use Rattle.warg_map.specs.Sparse.{leaf_digest, pair_bytes};
+ghost use Rattle.warg_witness.specs.Findings.{Finds};
 ghost use Rattle.warg_witness.specs.MapClaims.{value_in, IsKeyMet, IsAbsenceMet, IsKeyAgreement, IsLastValue};
 ghost use Rattle.warg_witness.specs.MapPlaced.{IsKeyPlaced, IsKeyAgreementPlaced};
 ghost use Rattle.warg_witness.specs.Private.MapMeeting.{IsKeyMeeting};
@@ -14,6 +15,7 @@ mod keys;
 mod last;
 mod path;
 mod tree;
+mod update;
 
 use crate::collide::{collide_branch, collide_values};
 use crate::collision::{Collision, Finding};
@@ -24,6 +26,7 @@ use last::is_last_value;
 use path::{Evaluation, meet_on_path};
 use std::alloc::{AllocError, Allocator};
 use tree::plain_path;
+pub use update::witness_update;
 use warg_crypto::{Hash, SupportedDigest, VisitBytes, bytes_of};
 use warg_log::hash_leaf;
 use warg_map::Proof;
@@ -141,14 +144,10 @@ fn find<D: SupportedDigest, K: VisitBytes, V: VisitBytes, W: VisitBytes, A: Allo
     insertions: &[(K, V)],
 ) -> Result<Finding<D, A>, AllocError>
     requires { length peers.now ≤ 256 }
-    ensures not_met { IfOk result (λ f. (f ≡ Finding.NotMet)
-        ↔ (IsKeyMet D.digest peers.now (K.bytes key.now) (W.bytes value.now) (pair_bytes K.bytes V.bytes insertions.now) → ⊥)) }
-    ensures holds { IfOk result (λ f. (f ≡ Finding.Holds)
-        ↔ (IsKeyMet D.digest peers.now (K.bytes key.now) (W.bytes value.now) (pair_bytes K.bytes V.bytes insertions.now)
-        × IsLastValue (K.bytes key.now) (W.bytes value.now) (pair_bytes K.bytes V.bytes insertions.now))) }
-    ensures met { IfOk result (λ f. (c : _) → f ≡ Finding.Collision c → IsKeyMet D.digest peers.now (K.bytes key.now) (W.bytes value.now) (pair_bytes K.bytes V.bytes insertions.now)) }
-    ensures collision { IfOk result (λ f. (c : _) → f ≡ Finding.Collision c
-        → IsKeyPlaced D.digest peers.now (W.bytes value.now) (K.bytes key.now) (pair_bytes K.bytes V.bytes insertions.now) c.0 c.1) }
+    ensures { IfOk result (Finds
+        (IsKeyMet D.digest peers.now (K.bytes key.now) (W.bytes value.now) (pair_bytes K.bytes V.bytes insertions.now))
+        (IsLastValue (K.bytes key.now) (W.bytes value.now) (pair_bytes K.bytes V.bytes insertions.now))
+        (IsKeyPlaced D.digest peers.now (W.bytes value.now) (K.bytes key.now) (pair_bytes K.bytes V.bytes insertions.now))) }
 {
     let Some(met) = meet_insertions(alloc, peers, key, value, insertions)? else {
         return Ok(Finding::NotMet);
@@ -184,14 +183,10 @@ pub fn witness_key<
     value: &V,
     insertions: &[(K, V)],
 ) -> Result<Finding<D, A>, AllocError>
-    ensures not_met { IfOk result (λ f. (f ≡ Finding.NotMet)
-        ↔ (IsKeyMet D.digest proof.now (K.bytes key.now) (V.bytes value.now) (pair_bytes K.bytes V.bytes insertions.now) → ⊥)) }
-    ensures holds { IfOk result (λ f. (f ≡ Finding.Holds)
-        ↔ (IsKeyMet D.digest proof.now (K.bytes key.now) (V.bytes value.now) (pair_bytes K.bytes V.bytes insertions.now)
-        × IsLastValue (K.bytes key.now) (V.bytes value.now) (pair_bytes K.bytes V.bytes insertions.now))) }
-    ensures met { IfOk result (λ f. (c : _) → f ≡ Finding.Collision c → IsKeyMet D.digest proof.now (K.bytes key.now) (V.bytes value.now) (pair_bytes K.bytes V.bytes insertions.now)) }
-    ensures collision { IfOk result (λ f. (c : _) → f ≡ Finding.Collision c
-        → IsKeyPlaced D.digest proof.now (V.bytes value.now) (K.bytes key.now) (pair_bytes K.bytes V.bytes insertions.now) c.0 c.1) }
+    ensures found { IfOk result (Finds
+        (IsKeyMet D.digest proof.now (K.bytes key.now) (V.bytes value.now) (pair_bytes K.bytes V.bytes insertions.now))
+        (IsLastValue (K.bytes key.now) (V.bytes value.now) (pair_bytes K.bytes V.bytes insertions.now))
+        (IsKeyPlaced D.digest proof.now (V.bytes value.now) (K.bytes key.now) (pair_bytes K.bytes V.bytes insertions.now))) }
 {
     find(alloc, proof.peers(), key, value, insertions)
 }
@@ -214,14 +209,10 @@ pub fn witness_absent<
     key: &K,
     insertions: &[(K, V)],
 ) -> Result<Finding<D, A>, AllocError>
-    ensures not_met { IfOk result (λ f. (f ≡ Finding.NotMet)
-        ↔ (IsAbsenceMet D.digest proof.now (K.bytes key.now) (pair_bytes K.bytes V.bytes insertions.now) → ⊥)) }
-    ensures holds { IfOk result (λ f. (f ≡ Finding.Holds)
-        ↔ (IsAbsenceMet D.digest proof.now (K.bytes key.now) (pair_bytes K.bytes V.bytes insertions.now)
-        × IsLastValue (K.bytes key.now) [] (pair_bytes K.bytes V.bytes insertions.now))) }
-    ensures met { IfOk result (λ f. (c : _) → f ≡ Finding.Collision c → IsAbsenceMet D.digest proof.now (K.bytes key.now) (pair_bytes K.bytes V.bytes insertions.now)) }
-    ensures collision { IfOk result (λ f. (c : _) → f ≡ Finding.Collision c
-        → IsKeyPlaced D.digest proof.now [] (K.bytes key.now) (pair_bytes K.bytes V.bytes insertions.now) c.0 c.1) }
+    ensures found { IfOk result (Finds
+        (IsAbsenceMet D.digest proof.now (K.bytes key.now) (pair_bytes K.bytes V.bytes insertions.now))
+        (IsLastValue (K.bytes key.now) [] (pair_bytes K.bytes V.bytes insertions.now))
+        (IsKeyPlaced D.digest proof.now [] (K.bytes key.now) (pair_bytes K.bytes V.bytes insertions.now))) }
 {
     find(alloc, proof.peers(), key, &(), insertions)
 }
@@ -247,15 +238,14 @@ pub fn agree_key<
     second_proof: &Proof<D, K, V, C>,
     second_value: &V,
 ) -> Result<Finding<D, A>, AllocError>
-    ensures unmet { (IsKeyAgreement D.digest (K.bytes key.now) first_proof.now (V.bytes first_value.now) second_proof.now (V.bytes second_value.now) → ⊥) → result ≡ Ok Finding.NotMet }
-    ensures not_met { IfOk result (λ f. (f ≡ Finding.NotMet)
-        ↔ (IsKeyAgreement D.digest (K.bytes key.now) first_proof.now (V.bytes first_value.now) second_proof.now (V.bytes second_value.now) → ⊥)) }
-    ensures holds { IfOk result (λ f. (f ≡ Finding.Holds)
-        ↔ (IsKeyAgreement D.digest (K.bytes key.now) first_proof.now (V.bytes first_value.now) second_proof.now (V.bytes second_value.now)
-        × (V.bytes first_value.now ≡ V.bytes second_value.now))) }
-    ensures met { IfOk result (λ f. (c : _) → f ≡ Finding.Collision c → IsKeyAgreement D.digest (K.bytes key.now) first_proof.now (V.bytes first_value.now) second_proof.now (V.bytes second_value.now)) }
-    ensures collision { IfOk result (λ f. (c : _) → f ≡ Finding.Collision c
-        → IsKeyAgreementPlaced D.digest (K.bytes key.now) first_proof.now (V.bytes first_value.now) second_proof.now (V.bytes second_value.now) c.0 c.1) }
+    ensures unmet { ¬ (IsKeyAgreement D.digest (K.bytes key.now) first_proof.now (V.bytes first_value.now)
+        second_proof.now (V.bytes second_value.now)) → result ≡ Ok Finding.NotMet }
+    ensures found { IfOk result (Finds
+        (IsKeyAgreement D.digest (K.bytes key.now) first_proof.now (V.bytes first_value.now)
+        second_proof.now (V.bytes second_value.now))
+        (V.bytes first_value.now ≡ V.bytes second_value.now)
+        (IsKeyAgreementPlaced D.digest (K.bytes key.now) first_proof.now (V.bytes first_value.now)
+        second_proof.now (V.bytes second_value.now))) }
 {
     let digest = Hash::of(key);
     let first = Evaluation {

@@ -3,6 +3,7 @@
 ghost use Rattle.std.specs.Prelude.{◌≡◌, ℕ, ◌+◌, ◌-◌, ◌^◌, ◌<◌, ◌≤◌, ◌↔◌, List, ◌∷◌, length, map, reverse, None, Some, Ok, IfOk, IsSome, MatchOption};
 ghost use Rattle.warg_log.specs.Tree.{front_of, leaves_of, root_of, root_over};
 ghost use Rattle.warg_paths.specs.Paths.{inclusion_root, root_down};
+ghost use Rattle.warg_witness.specs.Findings.{Finds};
 ghost use Rattle.warg_witness.specs.PathClaims.{IsRecord, IsRecordMet};
 ghost use Rattle.warg_witness.specs.PathPlaced.{IsRecordPlaced};
 ghost use Rattle.warg_witness.specs.Private.Ranges.{IsAligned};
@@ -135,15 +136,12 @@ pub fn witness_record<D: SupportedDigest, V: VisitBytes, A: Allocator + Copy>(
     value: &V,
     entries: &[V],
 ) -> Result<Finding<D, A>, AllocError>
-    ensures leads { inclusion_root D.digest index (length entries.now) (D.digest (0 ∷ V.bytes value.now)) path.now ≡ None → result ≡ Ok Finding.NotMet }
-    ensures not_met { IfOk result (λ f. (f ≡ Finding.NotMet)
-        ↔ (IsRecordMet D.digest index path.now (V.bytes value.now) (map (λ e. V.bytes e) entries.now) → ⊥)) }
-    ensures holds { IfOk result (λ f. (f ≡ Finding.Holds)
-        ↔ (IsRecordMet D.digest index path.now (V.bytes value.now) (map (λ e. V.bytes e) entries.now)
-        × IsRecord index (V.bytes value.now) (map (λ e. V.bytes e) entries.now))) }
-    ensures met { IfOk result (λ f. (c : _) → f ≡ Finding.Collision c → IsRecordMet D.digest index path.now (V.bytes value.now) (map (λ e. V.bytes e) entries.now)) }
-    ensures collision { IfOk result (λ f. (c : _) → f ≡ Finding.Collision c
-        → IsRecordPlaced D.digest index path.now (V.bytes value.now) (map (λ e. V.bytes e) entries.now) c.0 c.1) }
+    ensures leads { inclusion_root D.digest index (length entries.now) (D.digest (0 ∷ V.bytes value.now)) path.now ≡ None
+        → result ≡ Ok Finding.NotMet }
+    ensures found { IfOk result (Finds
+        (IsRecordMet D.digest index path.now (V.bytes value.now) (map (λ e. V.bytes e) entries.now))
+        (IsRecord index (V.bytes value.now) (map (λ e. V.bytes e) entries.now))
+        (IsRecordPlaced D.digest index path.now (V.bytes value.now) (map (λ e. V.bytes e) entries.now))) }
 {
     let leaf = hash_leaf::<D, V>(value);
     let Some(tree) = meet_path(alloc, index, path, &leaf, entries)? else {

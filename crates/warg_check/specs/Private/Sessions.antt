@@ -30,6 +30,14 @@ Takes old new number line = (s : State) → IsInState old s → GoesOn old new (
 abbrev pub Refuses : {A : Type 0} → Session A → Order → RunError → Type 0
 Refuses old order error = (s : State) → IsInState old s → IsOrderRefusal (FindsFull s order) error
 
+-- The order found room, at whatever state the session stood.
+abbrev pub FindsRoom : {A : Type 0} → Session A → Order → Type 0
+FindsRoom old order = (s : State) → IsInState old s → ¬ FindsFull s order
+
+-- The line's order found room, at whatever state the session stood.
+abbrev pub LineFindsRoom : {A : Type 0} → Session A → Line → Type 0
+LineFindsRoom old line = (s : State) → IsInState old s → ¬ LineFindsFull s line
+
 -- The line was refused, at whatever state the session stood.
 abbrev pub RefusesLine : {A : Type 0} → Session A → Line → RunError → Type 0
 RefusesLine old line error = (s : State) → IsInState old s → IsRefusal (LineFindsFull s line) error

@@ -1,19 +1,19 @@
 //! A run of commands: the log that they push to, the map that they insert into, and the text that answers them.
 
-ghost use Rattle.std.specs.Prelude.{◌≡◌, ℕ, ◌≤◌, ◌^◌, [], ◌∷◌, ◌++◌, length, IfOk, IfErr, OnOk, codes, string_bytes};
+ghost use Rattle.std.specs.Prelude.{◌≡◌, ◌≢◌, ℕ, ◌≤◌, ◌^◌, [], ◌∷◌, ◌++◌, length, IfOk, IfErr, OnOk, codes, string_bytes};
 ghost use Rattle.warg_log.specs.Bundles.{bundle_message};
 ghost use Rattle.warg_check.specs.Words.{lines_of};
 ghost use Rattle.warg_check.specs.Orders.{line_of, push, log, include, consistent, bundle, verify, insert, map, prove, absent};
 ghost use Rattle.warg_check.specs.States.{start};
 ghost use Rattle.warg_check.specs.Private.Errors.{IsRefusal};
-ghost use Rattle.warg_check.specs.Text.{is_not_bad, refusal, bytes_or_refusal, text_of, all_good, MeetsFull};
+ghost use Rattle.warg_check.specs.Text.{is_not_bad, refusal, bytes_or_refusal, bundle_refusal, text_of, all_good, MeetsFull};
 
 use crate::program::RunError;
 use crate::program::command::{Command, Kind};
 use crate::program::word::{LogLength, next_line};
 use crate::program::words::Unread;
 use crate::verdict::{CheckError, check_inclusion};
-use std::alloc::{AllocError, Allocator};
+use std::alloc::Allocator;
 use std::fmt::Write;
 use warg_crypto::{Hash, Sha256};
 use warg_log::{
@@ -33,18 +33,18 @@ struct Session<A: Allocator> {
 }
 
 impl<A: Allocator + Copy> Session<A> {
-    ghost use Rattle.warg_check.specs.Private.Sessions.{IsInState, AnswersOrder, Takes, Refuses, RefusesLine, AddsText};
+    ghost use Rattle.warg_check.specs.Private.Sessions.{IsInState, AnswersOrder, Takes, FindsRoom, LineFindsRoom, Refuses, RefusesLine, AddsText};
 
-    fn new(alloc: A) -> Result<Session<A>, AllocError>
-        ensures state { IfOk result (λ session. IsInState session start) }
-        ensures text { IfOk result (λ session. string_bytes session.text ≡ []) }
+    fn new(alloc: A) -> Session<A>
+        ensures state { IsInState result start }
+        ensures text { string_bytes result.text ≡ [] }
     {
-        Ok(Session {
+        Session {
             alloc,
             log: VecLog::default(alloc),
-            map: Map::default(alloc)?,
+            map: Map::default(alloc),
             text: String::new(alloc),
-        })
+        }
     }
 
     #[tactic(auto, unfolding(crate::specs::Orders::line_of))]
@@ -52,6 +52,7 @@ impl<A: Allocator + Copy> Session<A> {
     fn line(&mut self, number: usize, line: &[u8]) -> Result<bool, RunError>
         ensures good { IfOk result (λ good. good ≡ is_not_bad (line_of line.now)) }
         ensures ok { OnOk result (Takes self.old self.new number (line_of line.now)) }
+        ensures room { OnOk result (LineFindsRoom self.old (line_of line.now)) }
         ensures errors { IfErr result (RefusesLine self.old (line_of line.now)) }
     {
         if line.is_empty() {
@@ -72,6 +73,7 @@ impl<A: Allocator + Copy> Session<A> {
 
     fn answer(&mut self, command: Command<A>) -> Result<(), RunError>
         ensures ok { OnOk result (AnswersOrder self.old self.new command) }
+        ensures room { OnOk result (FindsRoom self.old command) }
         ensures errors { IfErr result (Refuses self.old command) }
     {
         match command.kind {
@@ -99,6 +101,7 @@ impl<A: Allocator + Copy> Session<A> {
     #[tactic(auto, unfolding(crate::specs::Text::answer))]
     fn push(&mut self, entry: &Vec<u8, A>) -> Result<(), RunError>
         ensures ok { OnOk result (AnswersOrder self.old self.new (push entry.now.items)) }
+        ensures room { OnOk result (FindsRoom self.old (push entry.now.items)) }
         ensures errors { IfErr result (Refuses self.old (push entry.now.items)) }
     {
         if self.log.length() == 1 << 63 {
@@ -175,13 +178,7 @@ impl<A: Allocator + Copy> Session<A> {
         )?;
         match ProofBundle::bundle(self.alloc, Vec::new(self.alloc), proofs, &self.log) {
             Ok(bundle) => self.encode(&bundle)?,
-            Err(BundleError::Inclusion(_)) => writeln!(self.text, "refused leaf too new")?,
-            Err(BundleError::TooLarge) => writeln!(self.text, "refused too large")?,
-            Err(BundleError::HashNotFound) => writeln!(self.text, "refused hash not known")?,
-            Err(BundleError::Memory) => return Err(RunError::Memory),
-            Err(
-                BundleError::Consistency(_) | BundleError::DifferentRoots | BundleError::NoProofs,
-            ) => unreachable!(),
+            Err(fault) => self.refuse_bundle(fault)?,
         }
         Ok(())
     }
@@ -224,6 +221,7 @@ impl<A: Allocator + Copy> Session<A> {
     #[tactic(auto, unfolding(crate::specs::Text::answer), using(crate::proofs::MapLemmas::map_after_insert))]
     fn insert(&mut self, key: Vec<u8, A>, value: Vec<u8, A>) -> Result<(), RunError>
         ensures ok { OnOk result (AnswersOrder self.old self.new (insert key.items value.items)) }
+        ensures room { OnOk result (FindsRoom self.old (insert key.items value.items)) }
         ensures errors { IfErr result (Refuses self.old (insert key.items value.items)) }
     {
         self.map = match self.map.insert(key, value) {
@@ -279,6 +277,23 @@ impl<A: Allocator + Copy> Session<A> {
         Ok(())
     }
 
+    fn refuse_bundle(&mut self, fault: BundleError) -> Result<(), RunError>
+        ensures ok { OnOk result (AddsText self.old self.new (bundle_refusal fault ++ 10 ∷ [])) }
+        ensures named { OnOk result (fault ≢ BundleError.Memory) }
+        ensures errors { IfErr result (λ error. error ≡ RunError.Memory) }
+    {
+        match fault {
+            BundleError::Consistency(fault) => self.refuse(fault)?,
+            BundleError::Inclusion(_) => writeln!(self.text, "refused leaf too new")?,
+            BundleError::DifferentRoots => writeln!(self.text, "refused different roots")?,
+            BundleError::NoProofs => writeln!(self.text, "refused no proofs")?,
+            BundleError::TooLarge => writeln!(self.text, "refused too large")?,
+            BundleError::HashNotFound => writeln!(self.text, "refused hash not known")?,
+            BundleError::Memory => return Err(RunError::Memory),
+        }
+        Ok(())
+    }
+
     fn refuse(&mut self, fault: ConsistencyProofError) -> Result<(), RunError>
         ensures ok { OnOk result (AddsText self.old self.new (refusal fault ++ 10 ∷ [])) }
         ensures errors { IfErr result (λ error. error ≡ RunError.Memory) }
@@ -309,9 +324,10 @@ pub(super) fn answers<A: Allocator + Copy>(
 ) -> Result<(String<A>, bool), RunError>
     ensures text { IfOk result (λ answers. string_bytes answers.0 ≡ text_of input.now) }
     ensures good { IfOk result (λ answers. answers.1 ≡ all_good (lines_of input.now)) }
+    ensures room { OnOk result (¬ MeetsFull input.now) }
     ensures errors { IfErr result (IsRefusal (MeetsFull input.now)) }
 {
-    let mut session = Session::new(alloc)?;
+    let mut session = Session::new(alloc);
     let mut rest = input;
     let mut number = 0usize;
     while !rest.is_empty() {

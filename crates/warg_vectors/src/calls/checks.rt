@@ -7,15 +7,17 @@ use warg_check::CheckError;
 use warg_crypto::{Hash, Sha256};
 use warg_log::Checkpoint;
 
-// The bytes, and the place of the proof in them.
-type Place = (Vec<u8>, usize);
+/// The bytes, and the place of the proof in them.
+pub(super) type Place = (Vec<u8>, usize);
 
-type Root = Hash<Sha256>;
+/// A root under SHA-256.
+pub(super) type Root = Hash<Sha256>;
 
 /// The length and the root of a checkpoint.
 pub(super) type Known = (usize, Root);
 
-fn write(verdict: Result<bool, CheckError>, to: &mut Answer) -> Result<(), AllocError> {
+/// Writes a verdict.
+pub(super) fn write(verdict: Result<bool, CheckError>, to: &mut Answer) -> Result<(), AllocError> {
     match verdict {
         Ok(verdict) => to.shown(&verdict),
         Err(fault) => to.refusal(&fault),

@@ -57,7 +57,7 @@ fn grown_both_ways<'a, D: SupportedDigest, M: Memory>(
     pairs: &'a [Insertion],
 ) -> Result<BytesMap<'a, D, M>, Wrong> {
     let (first, last) = pairs.split_at(pairs.len().saturating_sub(2));
-    let before = grown_by(Map::default(memory)?, memory, first)?;
+    let before = grown_by(Map::default(memory), memory, first)?;
     let map = grown_by(before.clone()?, memory, last)?;
     extend(&before, &map, memory, last)?;
     Ok(map)
@@ -68,7 +68,7 @@ pub(super) fn grown<'a, D: SupportedDigest, M: Memory>(
     memory: M,
     insertions: &'a Insertions,
 ) -> Result<BytesMap<'a, D, M>, Wrong> {
-    grown_by(Map::default(memory)?, memory, insertions.items.as_slice())
+    grown_by(Map::default(memory), memory, insertions.items.as_slice())
 }
 
 // The map with these pairs, inserted one by one.

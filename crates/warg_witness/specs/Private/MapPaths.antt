@@ -25,9 +25,15 @@ pub record DivergesOnPath (H : List ℕ → List ℕ) (P : List (Option (List �
   pub differ : first ≡ second → ⊥
   pub same : H first ≡ H second
 
--- The two evaluations diverge nowhere, and have one digest at the leaf, or they diverge at a branch.
+-- The two evaluations have one leaf digest, and one digest at each place beside the bits: from any one leaf digest both
+-- lead to one value.
+pub record DivergesNowhere (H : List ℕ → List ℕ) (P : List (Option (List ℕ))) (x : List ℕ) (Q : List (Option (List ℕ))) (y : List ℕ) (bits : List Bool) : Type 0 where
+  pub same : x ≡ y
+  pub beside : (leaf : List ℕ) → proof_value H P leaf bits ≡ proof_value H Q leaf bits
+
+-- The two evaluations diverge nowhere, or they diverge at a branch.
 abbrev pub IsPathDivergence : {D : _} → (List ℕ → List ℕ) → List (Option (List ℕ)) → List ℕ → List (Option (List ℕ)) → List ℕ → List Bool → Divergence D → Type 0
-IsPathDivergence H P x Q y bits Target = x ≡ y
+IsPathDivergence H P x Q y bits Target = DivergesNowhere H P x Q y bits
 IsPathDivergence H P x Q y bits (Branch first_left first_right second_left second_right) =
     DivergesOnPath H P x Q y bits (branch_input first_left first_right) (branch_input second_left second_right)
 

@@ -8,6 +8,7 @@ ghost use Rattle.warg_log.specs.Consistency.{IsConsistent, consistency};
 ghost use Rattle.warg_log.specs.declared.consistency.ConsistencyProofError.{ConsistencyProofError};
 ghost use Rattle.warg_witness.specs.Ranges.{IsAround};
 ghost use Rattle.warg_witness.specs.Private.Ranges.{IsAligned, IsNodeRange};
+ghost use Rattle.warg_witness.specs.Findings.{Finds};
 ghost use Rattle.warg_witness.specs.Claims.{Begins, IsConsistencyMet};
 ghost use Rattle.warg_witness.specs.Placed.{IsConsistencyPlaced};
 ghost use Rattle.warg_witness.specs.Private.Compared.{DiffersFirst, IsFirstDifference};
@@ -252,16 +253,14 @@ pub fn witness_consistency<
     old: &[V],
     new: &[V],
 ) -> Result<Finding<D, A>, AllocError>
-    ensures count { ((length old.now ≡ proof.now.old_length) × (length new.now ≡ proof.now.new_length) → ⊥) → result ≡ Ok Finding.NotMet }
-    ensures fails { (fault : ConsistencyProofError) → consistency D.digest (L.digest_at hashes.now) proof.now.old_length proof.now.new_length ≡ Err fault → result ≡ Ok Finding.NotMet }
-    ensures not_met { IfOk result (λ f. (f ≡ Finding.NotMet)
-        ↔ (IsConsistencyMet D.digest (L.digest_at hashes.now) proof.now.old_length proof.now.new_length (map (λ e. V.bytes e) old.now) (map (λ e. V.bytes e) new.now) → ⊥)) }
-    ensures holds { IfOk result (λ f. (f ≡ Finding.Holds)
-        ↔ (IsConsistencyMet D.digest (L.digest_at hashes.now) proof.now.old_length proof.now.new_length (map (λ e. V.bytes e) old.now) (map (λ e. V.bytes e) new.now)
-        × Begins (map (λ e. V.bytes e) old.now) (map (λ e. V.bytes e) new.now))) }
-    ensures met { IfOk result (λ f. (c : _) → f ≡ Finding.Collision c → IsConsistencyMet D.digest (L.digest_at hashes.now) proof.now.old_length proof.now.new_length (map (λ e. V.bytes e) old.now) (map (λ e. V.bytes e) new.now)) }
-    ensures collision { IfOk result (λ f. (c : _) → f ≡ Finding.Collision c
-        → IsConsistencyPlaced D.digest (L.digest_at hashes.now) (map (λ e. V.bytes e) old.now) (map (λ e. V.bytes e) new.now) c.0 c.1) }
+    ensures count { ¬ ((length old.now ≡ proof.now.old_length) × (length new.now ≡ proof.now.new_length)) → result ≡ Ok Finding.NotMet }
+    ensures fails { (fault : ConsistencyProofError)
+        → consistency D.digest (L.digest_at hashes.now) proof.now.old_length proof.now.new_length ≡ Err fault → result ≡ Ok Finding.NotMet }
+    ensures found { IfOk result (Finds
+        (IsConsistencyMet D.digest (L.digest_at hashes.now) proof.now.old_length proof.now.new_length
+        (map (λ e. V.bytes e) old.now) (map (λ e. V.bytes e) new.now))
+        (Begins (map (λ e. V.bytes e) old.now) (map (λ e. V.bytes e) new.now))
+        (IsConsistencyPlaced D.digest (L.digest_at hashes.now) (map (λ e. V.bytes e) old.now) (map (λ e. V.bytes e) new.now))) }
 {
     let Some(trees) = meet_trees(alloc, proof, hashes, old, new)? else {
         return Ok(Finding::NotMet);

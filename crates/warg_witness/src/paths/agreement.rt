@@ -1,6 +1,7 @@
 //! The agreement of two paths that lead to one root.
 
 ghost use Rattle.std.specs.Prelude.{◌≡◌, ℕ, ◌^◌, ◌<◌, ◌≤◌, ◌↔◌, ◌∷◌, reverse, Ok, IfOk};
+ghost use Rattle.warg_witness.specs.Findings.{Finds};
 ghost use Rattle.warg_witness.specs.PathClaims.{IsRecordAgreement};
 ghost use Rattle.warg_witness.specs.PathPlaced.{IsRecordAgreementPlaced};
 ghost use Rattle.warg_witness.specs.Private.PathAgreement.{LeadToOne, IsPathsDivergence};
@@ -96,15 +97,14 @@ pub fn agree_record<D: SupportedDigest, V: VisitBytes, A: Allocator + Copy>(
     second_path: &[Hash<D>],
 ) -> Result<Finding<D, A>, AllocError>
     requires { length ≤ 2 ^ 63 }
-    ensures unmet { (IsRecordAgreement D.digest index length first_path.now (V.bytes first_value.now) second_path.now (V.bytes second_value.now) → ⊥) → result ≡ Ok Finding.NotMet }
-    ensures not_met { IfOk result (λ f. (f ≡ Finding.NotMet)
-        ↔ (IsRecordAgreement D.digest index length first_path.now (V.bytes first_value.now) second_path.now (V.bytes second_value.now) → ⊥)) }
-    ensures holds { IfOk result (λ f. (f ≡ Finding.Holds)
-        ↔ (IsRecordAgreement D.digest index length first_path.now (V.bytes first_value.now) second_path.now (V.bytes second_value.now)
-        × (V.bytes first_value.now ≡ V.bytes second_value.now))) }
-    ensures met { IfOk result (λ f. (c : _) → f ≡ Finding.Collision c → IsRecordAgreement D.digest index length first_path.now (V.bytes first_value.now) second_path.now (V.bytes second_value.now)) }
-    ensures collision { IfOk result (λ f. (c : _) → f ≡ Finding.Collision c
-        → IsRecordAgreementPlaced D.digest index length first_path.now (V.bytes first_value.now) second_path.now (V.bytes second_value.now) c.0 c.1) }
+    ensures unmet { ¬ (IsRecordAgreement D.digest index length first_path.now (V.bytes first_value.now)
+        second_path.now (V.bytes second_value.now)) → result ≡ Ok Finding.NotMet }
+    ensures found { IfOk result (Finds
+        (IsRecordAgreement D.digest index length first_path.now (V.bytes first_value.now)
+        second_path.now (V.bytes second_value.now))
+        (V.bytes first_value.now ≡ V.bytes second_value.now)
+        (IsRecordAgreementPlaced D.digest index length first_path.now (V.bytes first_value.now)
+        second_path.now (V.bytes second_value.now))) }
 {
     let first_leaf = hash_leaf::<D, V>(first_value);
     let second_leaf = hash_leaf::<D, V>(second_value);

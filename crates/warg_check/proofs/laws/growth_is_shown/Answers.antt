@@ -6,6 +6,7 @@ use Rattle.warg_log.specs.Bundles.{Bundle, bundle_of}
 use Rattle.warg_check.specs.Verdicts.{extends}
 use Rattle.warg_check.specs.CheckpointVerdicts.{shows_growth}
 use Rattle.warg_log.proofs.ForCallers.{consistency_only}
+use Rattle.warg_check.proofs.ShownLemmas.{log_hashes}
 use Rattle.warg_check.proofs.VerdictLemmas.{true_verdict, roots_are}
 use Rattle.warg_check.proofs.laws.growth_is_shown.Goals as goal
 
@@ -17,4 +18,4 @@ returns c = λ H bytes at m old n new is.
     let met : IsConsistent H (held_digest t.0.hashes) t.1 t.0.log_length old new =
     consistency_only H (held_digest t.0.hashes) t.1 t.0.log_length old new (roots_are old new (consistency H (held_digest t.0.hashes) t.1 t.0.log_length) roots.1) in
     let from : IsConsistent H (held_digest t.0.hashes) m t.0.log_length old new = subst (λ k. IsConsistent H (held_digest t.0.hashes) k t.0.log_length old new) (eqb-true t.1 m lengths.0) met in
-    record { bundle = t.0; spelled = t.2; roots = subst (λ k. IsConsistent H (held_digest t.0.hashes) m k old new) (eqb-true t.0.log_length n roots.0) from }
+    record { bundle = t.0; spelled = t.2; hashes = log_hashes bytes t.0 t.2; roots = subst (λ k. IsConsistent H (held_digest t.0.hashes) m k old new) (eqb-true t.0.log_length n roots.0) from }

@@ -1,9 +1,10 @@
-use Rattle.std.proofs.Common.{◌≡◌, Some, take, map}
-use Rattle.std.specs.List.{AllByRecursion}
+use Rattle.std.proofs.Common.{◌≡◌, take, drop, map}
+use Rattle.warg_log.specs.Decoding.{first_fault}
+use Rattle.warg_log.specs.Bundling.{node_fault, node_with_digest}
 use Rattle.warg_log.proofs.needed.digests_of.Given as goal
 
 abbrev pub invariant-numbers : goal.invariant-numbers
 invariant-numbers g l = record {
-  numbers : map (λ p. p.0.0) l.pairs.items ≡ take l.number-index l.numbers;
-  digests : AllByRecursion (λ p. g.L.LogData.digest_at l.hashes p.0.0 ≡ Some p.1) l.pairs.items;
+  pairs : l.pairs.items ≡ map (node_with_digest (g.L.LogData.digest_at l.hashes)) (take l.number-index l.numbers);
+  fault : first_fault (node_fault (g.L.LogData.digest_at l.hashes)) l.numbers ≡ first_fault (node_fault (g.L.LogData.digest_at l.hashes)) (drop l.number-index l.numbers);
 }

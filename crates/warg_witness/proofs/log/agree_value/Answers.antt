@@ -28,12 +28,5 @@ returns g c =
     let agrees : IsAgreement _ _ _ _ _ _ _ = record { root = c.in-Ok.first_root; exists = c.in-Ok.ensures.ok.0; first_is = first; second_is = second } in
     let target = rw (c.leaf_range-target.ensures.start, c.leaf_range-target.ensures.count, c.leaf.ensures, c.hash_leaf-first_hash.ensures, c.hash_leaf-second_hash.ensures) at c.descend-divergence.ensures in
     let divergence = rw (c.new-whole.ensures.start, c.new-whole.ensures.count ∙ c.log_length.ensures.value) at target in
-    record {
-      unmet = grind arith;
-      not_met = grind arith;
-      holds = grind arith;
-      met = λ _ _. agrees;
-      collision = λ k is.
-          let same : ◌≡◌ {A = List ℕ × List ℕ} k c.in_ok-pair.pair = cc in
-          let shown = agreement_shown _ _ _ _ _ _ _ _ (grind arith) divergence in rw (same ∙ c.in_ok-pair.ensures) shown.1;
-    }
+    let shown = agreement_shown _ _ _ _ _ _ _ _ (grind arith) divergence in
+    record { unmet = grind arith; found = (agrees, grind arith, rw c.in_ok-pair.ensures shown.1) }

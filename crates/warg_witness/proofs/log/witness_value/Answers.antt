@@ -2,18 +2,17 @@ use Rattle.std.proofs.Common.{◌≡◌, refl, List, ℕ, ◌∙◌, arith}
 use Rattle.warg_witness.proofs.ShownLemmas.{entry_from, value_shown}
 use Rattle.warg_witness.proofs.log.witness_value.Goals as goal
 
-pub returns-then-branch-clause-holds : goal.returns-then-branch-clause-holds
-returns-then-branch-clause-holds g c =
+pub returns-then-branch-clause-found : goal.returns-then-branch-clause-found
+returns-then-branch-clause-found g c =
     let meeting = rw (c.in-Some.is, c.hash_leaf-hash.ensures) at c.in_ok-met.ensures.met in
-    let at = rw (meeting.start_is, meeting.count_is) at (c.in_ok-is_entry.ensures.0 c.if-branch.true) in (λ _. (meeting.met, entry_from _ at), λ _. refl)
+    let at = rw (meeting.start_is, meeting.count_is) at (c.in_ok-is_entry.ensures.0 c.if-branch.true) in (meeting.met, entry_from _ at)
 
 pub collide-requires-clause-collides : goal.collide-requires-clause-collides
 collide-requires-clause-collides g c =
     let meeting = rw (c.in-Some.is, c.hash_leaf-hash.ensures) at c.in_ok-met.ensures.met in
     (value_shown meeting (grind arith)).0
 
-pub returns-clause-collision : goal.returns-clause-collision
-returns-clause-collision g c k is =
+pub returns-clause-found : goal.returns-clause-found
+returns-clause-found g c =
     let meeting = rw (c.in-Some.is, c.hash_leaf-hash.ensures) at c.in_ok-met.ensures.met in
-    let same : ◌≡◌ {A = List ℕ × List ℕ} k c.in_ok-collide.field-0 = cc in
-    rw (same ∙ c.in_ok-collide.ensures) (value_shown meeting (grind arith)).1
+    (meeting.met, grind arith, rw c.in_ok-collide.ensures (value_shown meeting (grind arith)).1)

@@ -1,7 +1,7 @@
 use Rattle.std.proofs.Common.{◌≡◌, ℕ, List, sym, ◌∙◌, arith}
 use Rattle.std.proofs.lemmas.List.{length-map}
 use Rattle.warg_witness.proofs.RangeLemmas.{whole_aligned}
-use Rattle.warg_witness.proofs.RecordLemmas.{whole_leads, read_shown}
+use Rattle.warg_witness.proofs.RecordLemmas.{whole_leads, read_other, read_shown}
 use Rattle.warg_witness.proofs.paths.witness_record.Goals as goal
 
 pub descend_path-divergence-requires-clause-aligned : goal.descend_path-divergence-requires-clause-aligned
@@ -18,10 +18,12 @@ collide_values-requires g c =
     (read_shown (λ e. g.V.VisitBytes.bytes e) _ _ _ _ _ _ _ met c.index-entries-index.is (grind arith)
     (rw (c.hash_leaf-leaf.ensures, c.new-whole.ensures.start, c.new-whole.ensures.count) at c.descend_path-divergence.ensures)).0
 
-pub returns-clause-collision : goal.returns-clause-collision
-returns-clause-collision g c k is =
+pub returns-clause-found : goal.returns-clause-found
+returns-clause-found g c =
     let met = rw (c.in-Some.is, c.hash_leaf-leaf.ensures) at c.in_ok-tree.ensures.met in
-    let same : ◌≡◌ {A = List ℕ × List ℕ} k c.in_ok-pair.pair = cc in
-    rw (same ∙ c.in_ok-pair.ensures)
-    (read_shown (λ e. g.V.VisitBytes.bytes e) _ _ _ _ _ _ _ met c.index-entries-index.is (grind arith)
-    (rw (c.hash_leaf-leaf.ensures, c.new-whole.ensures.start, c.new-whole.ensures.count) at c.descend_path-divergence.ensures)).1
+    let shown = read_shown (λ e. g.V.VisitBytes.bytes e) _ _ _ _ _ _ _ met c.index-entries-index.is (grind arith)
+    (rw (c.hash_leaf-leaf.ensures, c.new-whole.ensures.start, c.new-whole.ensures.count) at c.descend_path-divergence.ensures) in (
+      grind arith,
+      read_other (λ e. g.V.VisitBytes.bytes e) _ _ _ _ _ _ _ met c.index-entries-index.is (grind arith),
+      rw c.in_ok-pair.ensures shown.1,
+    )

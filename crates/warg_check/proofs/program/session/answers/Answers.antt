@@ -1,16 +1,16 @@
 use Rattle.std.proofs.Common.{arith, ◌∙◌, sym, eqb-true}
-use Rattle.warg_check.proofs.TextLemmas.{starts, goes_on, stops, ends}
+use Rattle.warg_check.proofs.TextLemmas.{starts, goes_on, stops, ends, room_to_bad, room_to_end}
 use Rattle.warg_check.proofs.program.session.answers.Goals as goal
 
 pub loop-rest-init : goal.loop-rest-init
 loop-rest-init g c = record {
-  stands = starts _ _ c.in_ok-session.ensures.state c.in_ok-session.ensures.text;
+  stands = starts _ _ c.new-session.ensures.state c.new-session.ensures.text;
   few = omega arith;
 }
 
 pub loop-rest-preserved : goal.loop-rest-preserved
 loop-rest-preserved g c = record {
-  stands = goes_on _ _ _ _ _ _ _ c.loop-rest.invariant.stands c.next_line.ensures.lines c.in_ok-good.ensures.ok (sym c.in_ok-good.ensures.good ∙ c.if-not-good.false);
+  stands = goes_on _ _ _ _ _ _ _ c.loop-rest.invariant.stands c.next_line.ensures.lines c.in_ok-good.ensures.ok c.in_ok-good.ensures.room (sym c.in_ok-good.ensures.good ∙ c.if-not-good.false);
   few = omega (arith, c.loop-rest.invariant.few, c.next_line.ensures.shorter);
 }
 
@@ -27,3 +27,9 @@ returns-clause-text g c = (ends _ _ _ _ c.loop-rest.invariant.stands (eqb-true _
 
 pub returns-clause-good : goal.returns-clause-good
 returns-clause-good g c = sym (ends _ _ _ _ c.loop-rest.invariant.stands (eqb-true _ _ (sym c.is_empty.ensures ∙ c.loop-rest-test.false))).1
+
+pub returns-then-not-good-clause-room : goal.returns-then-not-good-clause-room
+returns-then-not-good-clause-room g c = room_to_bad _ _ _ _ _ _ c.loop-rest.invariant.stands c.next_line.ensures.lines c.in_ok-good.ensures.room (sym c.in_ok-good.ensures.good ∙ c.if-not-good.true)
+
+pub returns-clause-room : goal.returns-clause-room
+returns-clause-room g c = room_to_end _ _ _ _ c.loop-rest.invariant.stands (eqb-true _ _ (sym c.is_empty.ensures ∙ c.loop-rest-test.false))

@@ -20,7 +20,7 @@ returns-clause-met g c =
       met = record {
         old_count = length-map c.args.old.now (λ e. g.V.VisitBytes.bytes e) ∙ lengths.0;
         new_count = length-map c.args.new.now (λ e. g.V.VisitBytes.bytes e) ∙ lengths.1;
-        roots = rw (← old_root, ← new_root) (consistency_only _ _ _ _ _ _ (sym c.evaluate.ensures ∙ c.in-Ok.is));
+        roots = rw (← old_root, ← new_root) (consistency_only _ _ _ _ _ _ (sym c.evaluate.ensures.value ∙ c.in-Ok.is));
       };
       old_is = c.in_ok-old_tree.ensures.tree;
       new_is = c.in_ok-new_tree.ensures.tree;

@@ -1,6 +1,7 @@
-use Rattle.std.proofs.Common.{◌≡◌, ℕ, List}
+use Rattle.warg_witness.proofs.ConsistencyLemmas.{differs_not_begins}
 use Rattle.warg_witness.proofs.log.consistency.witness_consistency.Goals as goal
 
-pub returns-clause-collision : goal.returns-clause-collision
-returns-clause-collision g c k is =
-    let same : ◌≡◌ {A = List ℕ × List ℕ} k c.in_ok-collision.collision = cc in rw same c.in_ok-collision.ensures
+pub returns-clause-found : goal.returns-clause-found
+returns-clause-found g c =
+    let meeting = rw c.in-Some.is at c.in_ok-trees.ensures.met in
+    (meeting.met, differs_not_begins _ _ _ (rw c.in-Some-2.is at c.in_ok-place.ensures), c.in_ok-collision.ensures)

@@ -22,12 +22,5 @@ returns g c =
     let second = rw c.hash_leaf-second_leaf.ensures at (sym c.root_of_inclusion-2.ensures ∙ c.in-Some-root_of_inclusion.is ∙ ap Some (sym same_root)) in
     let agrees : IsRecordAgreement _ _ _ _ _ _ _ = record { root = c.in-Some.first_root; first_is = first; second_is = second } in
     let divergence = rw (c.hash_leaf-first_leaf.ensures, c.hash_leaf-second_leaf.ensures, c.new-whole.ensures.start, c.new-whole.ensures.count) at c.descend_paths-divergence.ensures in
-    record {
-      unmet = grind arith;
-      not_met = grind arith;
-      holds = grind arith;
-      met = λ _ _. agrees;
-      collision = λ k is.
-          let same : ◌≡◌ {A = List ℕ × List ℕ} k c.in_ok-pair.pair = cc in
-          let shown = record_agreement_shown _ c.args.index c.args.length c.args.first_path.now _ c.args.second_path.now _ _ (grind arith) divergence in rw (same ∙ c.in_ok-pair.ensures) shown.1;
-    }
+    let shown = record_agreement_shown _ c.args.index c.args.length c.args.first_path.now _ c.args.second_path.now _ _ (grind arith) divergence in
+    record { unmet = grind arith; found = (agrees, grind arith, rw c.in_ok-pair.ensures shown.1) }

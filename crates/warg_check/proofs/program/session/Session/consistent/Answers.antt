@@ -6,7 +6,7 @@ pub returns-in_ok-refuse-in-Err-clause-ok : goal.returns-in_ok-refuse-in-Err-cla
 returns-in_ok-refuse-in-Err-clause-ok g c s at =
     let refuse = c.in_ok-refuse-in-Err.ensures in
     let proof = c.prove_consistency-proof.ensures in
-    let fails = rw (proof.old_length, proof.new_length) at (sym c.evaluate.ensures ∙ c.in-Err.is) in
+    let fails = rw (proof.old_length, proof.new_length) at (sym c.evaluate.ensures.value ∙ c.in-Err.is) in
     let old = string_bytes c.args.self.now.text in
     record {
       log_is = refuse.ok.0 ∙ at.log_is;
@@ -19,7 +19,7 @@ returns-in_ok-writeln-in-Ok-clause-ok g c s at =
     let proof = c.prove_consistency-proof.ensures in
     let old_shown = rw c.bytes.ensures.value at c.in_ok-old_root-in-Ok.ensures in
     let new_shown = rw c.bytes-in-Ok.ensures.value at c.in_ok-new_root-in-Ok.ensures in
-    let leads = rw (proof.old_length, proof.new_length) at (sym c.evaluate.ensures ∙ c.in-Ok.is) in
+    let leads = rw (proof.old_length, proof.new_length) at (sym c.evaluate.ensures.value ∙ c.in-Ok.is) in
     record {
       log_is = at.log_is;
       map_is = at.map_is;

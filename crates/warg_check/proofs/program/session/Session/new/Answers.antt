@@ -5,5 +5,5 @@ use Rattle.warg_check.proofs.program.session.Session.new.Goals as goal
 pub returns-clause-state : goal.returns-clause-state
 returns-clause-state g c = record {
   log_is = c.default.ensures;
-  map_is = c.in_ok-default.ensures.empty ∙ sym map_of_none;
+  map_is = c.default-2.ensures ∙ sym map_of_none;
 }

@@ -1,0 +1,88 @@
+//! Verdicts on one insertion into a map, for auditors: whoever holds the map's root follows it without the map.
+
+ghost use Rattle.std.specs.Prelude.{◌≢◌, Err};
+ghost use Rattle.warg_protobuf.specs.declared.error.WireError.TheVariants as wire;
+ghost use Rattle.warg_log.specs.declared.error.DecodeError.TheVariants as decoding;
+ghost use Rattle.warg_protobuf.specs.Reading.{Answers};
+ghost use Rattle.warg_check.specs.UpdateVerdicts.{update_verdict, insertion_verdict};
+
+use crate::verdict::CheckError;
+use std::alloc::Allocator;
+use warg_crypto::{Hash, SupportedDigest, VisitBytes};
+use warg_map::MapProofBundle;
+
+/// Whether the proof at a place of a map bundle, counted from 0, shows that the map with the new root is the one with
+/// the old root, with the new value under the key in place of the old one: whether it evaluates from the old value to
+/// the old root, and from the new value to the new root.
+///
+/// So nothing else was inserted, changed or removed between the two roots, up to a collision. The errors are those of
+/// [`check_key`](crate::check_key). Each evaluation takes the digests of the key, of a leaf and of 256 branches, and
+/// where the first leads elsewhere the second isn't made.
+///
+/// ```rust
+/// let holds = check_update(alloc, bytes.as_slice(), 0, &"left-pad", &"1.0.0", &"1.1.0", &old, &new)?;
+/// ```
+pub fn check_update<D: SupportedDigest, K: VisitBytes, V: VisitBytes, A: Allocator + Copy>(
+    alloc: A,
+    bytes: &[u8],
+    at: usize,
+    key: &K,
+    old_value: &V,
+    new_value: &V,
+    old_root: &Hash<D>,
+    new_root: &Hash<D>,
+) -> Result<bool, CheckError>
+    ensures verdict { Answers CheckError.Memory result
+        (update_verdict D.digest bytes.now at (K.bytes key.now) (V.bytes old_value.now) (V.bytes new_value.now) old_root.now new_root.now) }
+    ensures memory { result ≢ Err (CheckError.Decode decoding.Memory) }
+    ensures wire { result ≢ Err (CheckError.Decode (decoding.Wire wire.Memory)) }
+{
+    let bundle = MapProofBundle::<D, K, V, A>::decode(alloc, bytes)?;
+    let proofs = bundle.unbundle();
+    match proofs.as_slice().get(at) {
+        Some(proof) => {
+            Ok(
+                proof.evaluate(key, old_value) == *old_root
+                    && proof.evaluate(key, new_value) == *new_root,
+            )
+        }
+        None => Err(CheckError::NoSuchProof),
+    }
+}
+
+/// Whether the absence at a place of a map bundle, counted from 0, shows that the map with the new root is the one with
+/// the old root, and the value under a key that had none, or one without bytes: whether it evaluates from an empty leaf
+/// to the old root, and from the value to the new root.
+///
+/// What it means, and what it costs, is as for [`check_update`]. The errors are those of
+/// [`check_absent`](crate::check_absent).
+///
+/// ```rust
+/// let holds = check_insertion(alloc, bytes.as_slice(), 0, &"left-pad", &"1.0.0", &old, &new)?;
+/// ```
+pub fn check_insertion<D: SupportedDigest, K: VisitBytes, V: VisitBytes, A: Allocator + Copy>(
+    alloc: A,
+    bytes: &[u8],
+    at: usize,
+    key: &K,
+    value: &V,
+    old_root: &Hash<D>,
+    new_root: &Hash<D>,
+) -> Result<bool, CheckError>
+    ensures verdict { Answers CheckError.Memory result
+        (insertion_verdict D.digest bytes.now at (K.bytes key.now) (V.bytes value.now) old_root.now new_root.now) }
+    ensures memory { result ≢ Err (CheckError.Decode decoding.Memory) }
+    ensures wire { result ≢ Err (CheckError.Decode (decoding.Wire wire.Memory)) }
+{
+    let bundle = MapProofBundle::<D, K, V, A>::decode(alloc, bytes)?;
+    let (_proofs, absences) = bundle.unbundle_all();
+    match absences.as_slice().get(at) {
+        Some(absence) => {
+            Ok(
+                absence.evaluate_absent(key) == *old_root
+                    && absence.evaluate(key, value) == *new_root,
+            )
+        }
+        None => Err(CheckError::NoSuchProof),
+    }
+}

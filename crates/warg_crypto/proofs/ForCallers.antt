@@ -1,0 +1,16 @@
+-- What proofs of other crates use.
+use Rattle.std.proofs.Common.{◌≡◌, ℕ, List, [], ◌∷◌, All}
+use Rattle.std.proofs.lemmas.List.Elements.{All-cons, All-nil}
+use Rattle.warg_crypto.specs.Framed.{framed, IsPart}
+use Rattle.warg_crypto.proofs.FramedLemmas.{framed_parts}
+
+-- Two parts are parts.
+pair : (a b : List ℕ) → IsPart a → IsPart b → All IsPart (a ∷ b ∷ [])
+pair a b fa fb = All-cons IsPart a (b ∷ []) fa (All-cons IsPart b [] fb (All-nil IsPart))
+
+-- Two framed parts are told by their bytes.
+pub framed_pairs : (a b c d : List ℕ) → IsPart a → IsPart b → IsPart c → IsPart d
+    → framed (a ∷ b ∷ []) ≡ framed (c ∷ d ∷ []) → (a ≡ c) × (b ≡ d)
+framed_pairs a b c d fa fb fc fd e =
+    let same = framed_parts (a ∷ b ∷ []) (c ∷ d ∷ []) (pair a b fa fb) (pair c d fc fd) e in
+    (cc, cc)

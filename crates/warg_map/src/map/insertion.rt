@@ -1,0 +1,59 @@
+//! An insertion with the proof of its step.
+
+ghost use Rattle.std.specs.Prelude.{◌≡◌, ◌↔◌, IfOk, Err, false, not};
+ghost use Rattle.std.specs.FinMap as map;
+ghost use Rattle.warg_map.specs.Bits.{key_bits};
+ghost use Rattle.warg_map.specs.Sparse.{sparse_root, leaf_at, leaf_digest};
+ghost use Rattle.warg_map.specs.ProofValue.{proof_value};
+ghost use Rattle.warg_map.specs.Peers.{Proves};
+
+use crate::map::{Map, MapError};
+use crate::path::Path;
+use crate::proof::Proof;
+use std::alloc::{Allocator, Global};
+use warg_crypto::{Hash, SupportedDigest, VisitBytes};
+use warg_log::hash_leaf;
+
+/// One insertion: the map with it, and the proof by which whoever holds the roots alone follows it.
+#[derive(Drop)]
+pub struct Insertion<D: SupportedDigest, K, V, A: Allocator = Global> {
+    /// The map with the pair.
+    pub map: Map<D, K, V, A>,
+    /// The proof of the key in that map.
+    pub proof: Proof<D, K, V, A>,
+    /// Whether the key's digest wasn't held before.
+    pub is_new: bool,
+}
+
+impl<D: SupportedDigest, K: VisitBytes + Drop, V: VisitBytes + Drop, A: Allocator + Copy> Map<
+    D,
+    K,
+    V,
+    A,
+> {
+    /// The map of [`insert`](Map::insert), and the proof of [`prove`](Map::prove) there.
+    ///
+    /// From what was held under the key the proof leads to this map's root, and from `val` to the new one's. For a new
+    /// key that is an empty leaf. It hashes the key once, and no branch beside those of `insert`: a proof is made of the
+    /// digests that the new map keeps. `Full` comes as there.
+    pub fn insert_with_proof(&self, key: K, val: V) -> Result<Insertion<D, K, V, A>, MapError>
+        ensures ok { IfOk result (λ i. i.map ≡ map.insert self.now (key_bits D.digest (K.bytes key)) (leaf_digest D.digest (V.bytes val))) }
+        ensures proof { IfOk result (λ i. Proves D.digest 256 i.map (key_bits D.digest (K.bytes key)) i.proof) }
+        ensures is_new { IfOk result (λ i. i.is_new ≡ not (map.contains_key self.now (key_bits D.digest (K.bytes key)))) }
+        ensures full { (result ≡ Err MapError.Full)
+            ↔ ((map.len self.now ≡ usize.MAX) × (map.contains_key self.now (key_bits D.digest (K.bytes key)) ≡ false)) }
+
+        // The step: from the leaf before to the root before, and from the leaf after to the root after.
+        ensures before { IfOk result (λ i. proof_value D.digest i.proof (leaf_at D.digest self.now (key_bits D.digest (K.bytes key)))
+            (key_bits D.digest (K.bytes key)) ≡ sparse_root D.digest 256 self.now) }
+        ensures after { IfOk result (λ i. proof_value D.digest i.proof (leaf_digest D.digest (V.bytes val))
+            (key_bits D.digest (K.bytes key)) ≡ sparse_root D.digest 256 i.map) }
+    {
+        let key = Hash::of(&key);
+        let (map, is_new) = self.with_leaf(&key, hash_leaf(&val))?;
+        let Some(proof) = map.link.node().prove(map.alloc, Path::new(&key))? else {
+            unreachable!()
+        };
+        Ok(Insertion { map, proof, is_new })
+    }
+}

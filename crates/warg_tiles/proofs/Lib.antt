@@ -1,0 +1,9 @@
+mod TileLemmas
+mod DecimalLemmas
+mod PathLemmas
+mod EntryLemmas
+mod BetweenLemmas
+mod RootLemmas
+mod DataLemmas
+mod OwnLemmas
+mod FetchLemmas

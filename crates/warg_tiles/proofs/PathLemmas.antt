@@ -1,0 +1,272 @@
+-- Numbers in groups of three digits.
+use Rattle.std.proofs.Common.{◌≡◌, ◌≢◌, inl, inr, ℕ, zero, suc, ◌+◌, ◌-◌, ◌*◌, ◌/◌, ◌%◌, ◌^◌, ◌<◌, ◌≤◌, List, [], ◌∷◌, ◌++◌, ◌==◌, length, get_or, true, false, cond, rules, drop, drop-cons, add-one, Option, Some, None, MatchOption, codes, Bor, refl, sym, ap, ◌∙◌, arith}
+use Rattle.std.proofs.lemmas.Bool.{cases_lt, cases_eq, eq-eqb, ne_eqb}
+use Rattle.std.proofs.lemmas.List.{append_assoc, append_cancel_left, append-nil, length-append}
+use Rattle.std.proofs.Math.Seq.{get_or-append_seam}
+use Rattle.std.proofs.lemmas.Str.Pattern.{IsSplitOnceResult, split_after, split_parts}
+use Rattle.std.specs.Char.{is_ascii_digit}
+use Rattle.std.specs.Fmt.{decimal, char_count, padded_integral, format_spec}
+use Rattle.std.proofs.lemmas.Fmt.{decimal_digit, decimal_step, decimal_injective}
+use Rattle.warg_tiles.specs.TilePaths.{three_digits, group_of, groups_within, groups_of, number_path, place_path, tile_path}
+use Rattle.warg_tiles.specs.Tiles.{TileAt, IsTile}
+use Rattle.warg_tiles.proofs.DecimalLemmas.{decimal_without}
+use Rattle.warg_tiles.specs.Private.PathDigits.{number_on}
+
+-- more digits make no smaller number
+pub number_on-le : (n : ℕ) (text : List ℕ) → n ≤ number_on n text
+unfolding number_on
+number_on-le n [] = omega arith
+number_on-le n (byte ∷ bytes) = elim (is_ascii_digit byte) as (λ b. n ≤ cond b (number_on (10 * n + (byte - 48)) bytes) (number_on n bytes)) [
+  | true ↦ omega (arith, number_on-le (10 * n + (byte - 48)) bytes)
+  | false ↦ number_on-le n bytes
+]
+
+-- no text changes nothing
+pub number_on-none : (n : ℕ) → number_on n [] ≡ n
+unfolding number_on
+number_on-none n = refl
+
+-- a digit more
+pub number_on-digit : (n byte : ℕ) (bytes : List ℕ) → is_ascii_digit byte ≡ true → number_on n (byte ∷ bytes) ≡ number_on (10 * n + (byte - 48)) bytes
+unfolding number_on
+number_on-digit n byte bytes is = rw is refl
+
+-- another byte more
+pub number_on-other : (n byte : ℕ) (bytes : List ℕ) → is_ascii_digit byte ≡ false → number_on n (byte ∷ bytes) ≡ number_on n bytes
+unfolding number_on
+number_on-other n byte bytes is = rw is refl
+
+-- a digit of a text more
+pub number_on-drop_digit : (n i : ℕ) (text : List ℕ) → i < length text → is_ascii_digit (get_or text i 0) ≡ true
+    → number_on n (drop i text) ≡ number_on (10 * n + (get_or text i 0 - 48)) (drop (i + 1) text)
+number_on-drop_digit n i text inside is = rw (drop-cons text i 0 inside, add-one) (number_on-digit n (get_or text i 0) (drop (suc i) text) is)
+
+-- another byte of a text more
+pub number_on-drop_other : (n i : ℕ) (text : List ℕ) → i < length text → is_ascii_digit (get_or text i 0) ≡ false → number_on n (drop i text) ≡ number_on n (drop (i + 1) text)
+number_on-drop_other n i text inside is = rw (drop-cons text i 0 inside, add-one) (number_on-other n (get_or text i 0) (drop (suc i) text) is)
+
+-- one text behind another
+pub number_on-append : (n : ℕ) (xs ys : List ℕ) → number_on n (xs ++ ys) ≡ number_on (number_on n xs) ys
+unfolding number_on
+number_on-append n [] ys = refl
+number_on-append n (byte ∷ xs) ys = elim (is_ascii_digit byte) as (λ b. cond b (number_on (10 * n + (byte - 48)) (xs ++ ys)) (number_on n (xs ++ ys)) ≡ number_on (cond b (number_on (10 * n + (byte - 48)) xs) (number_on n xs)) ys) [
+  | true ↦ number_on-append (10 * n + (byte - 48)) xs ys
+  | false ↦ number_on-append n xs ys
+]
+
+-- a digit is one
+digit_is : (d : ℕ) → d < 10 → is_ascii_digit (48 + d) ≡ true
+digit_is d small = search rules
+
+-- three digits more
+pub number_on-three : (n d : ℕ) (rest : List ℕ) → d < 1000 → number_on n (three_digits d ++ rest) ≡ number_on (1000 * n + d) rest
+number_on-three n d rest small =
+    number_on-digit n (48 + d / 100) _ (digit_is (d / 100) (omega arith))
+    ∙ number_on-digit (10 * n + (48 + d / 100 - 48)) (48 + d / 10 % 10) _ (digit_is (d / 10 % 10) (omega arith))
+    ∙ number_on-digit (10 * (10 * n + (48 + d / 100 - 48)) + (48 + d / 10 % 10 - 48)) (48 + d % 10) rest (digit_is (d % 10) (omega arith))
+    ∙ ap (λ m. number_on m rest) (omega arith)
+
+-- the digits of the groups are the number's
+groups_on : (steps n : ℕ) → n ≤ steps → number_on 0 (groups_within steps n) ≡ n
+unfolding groups_within
+groups_on zero n low = number_on-none 0 ∙ omega arith
+groups_on (suc steps) n low = elim (cases_lt 0 n) [
+  | inl some ↦
+      let front = groups_within steps (n / 1000) in
+      let last = three_digits (n % 1000) ++ 47 ∷ [] in
+      rw (ne_eqb n 0 (λ e. omega arith)) (
+      number_on-append 0 front (120 ∷ last)
+      ∙ number_on-other (number_on 0 front) 120 last refl
+      ∙ number_on-three (number_on 0 front) (n % 1000) (47 ∷ []) (omega arith)
+      ∙ number_on-other (1000 * number_on 0 front + n % 1000) 47 [] refl
+      ∙ number_on-none (1000 * number_on 0 front + n % 1000)
+      ∙ omega (arith, groups_on steps (n / 1000) (omega arith)))
+  | inr none ↦ rw (eq-eqb n 0 (omega arith)) (number_on-none 0 ∙ omega arith)
+]
+
+-- the digits of a number's path are the number's
+pub number_on-path : (n : ℕ) → number_on 0 (number_path n) ≡ n
+number_on-path n =
+    number_on-append 0 (groups_of (n / 1000)) (three_digits (n % 1000))
+    ∙ number_on-three (number_on 0 (groups_of (n / 1000))) (n % 1000) [] (omega arith)
+    ∙ number_on-none (1000 * number_on 0 (groups_of (n / 1000)) + n % 1000)
+    ∙ omega (arith, groups_on (n / 1000) (n / 1000) (omega arith))
+
+-- a step more than the number says changes nothing
+groups_enough : (s t n : ℕ) → n ≤ s → n ≤ t → groups_within s n ≡ groups_within t n
+unfolding groups_within
+groups_enough zero zero n low high = refl
+groups_enough zero (suc t) n low high = rw (eq-eqb n 0 (omega arith)) refl
+groups_enough (suc s) zero n low high = rw (eq-eqb n 0 (omega arith)) refl
+groups_enough (suc s) (suc t) n low high = elim (cases_lt 0 n) [
+  | inl some ↦ rw (groups_enough s t (n / 1000) (omega arith) (omega arith)) refl
+  | inr none ↦ rw (eq-eqb n 0 (omega arith)) refl
+]
+
+-- no groups
+pub groups_none : groups_of 0 ≡ []
+unfolding groups_within
+groups_none = refl
+
+-- the groups of a number are those of the number without its last three digits, and these
+pub groups_step : (n : ℕ) → 0 < n → groups_of n ≡ groups_of (n / 1000) ++ group_of (n % 1000)
+unfolding groups_within
+groups_step zero some = absurd (omega arith)
+groups_step (suc n) some = rw (ne_eqb (suc n) 0 (λ e. omega arith), groups_enough n (suc n / 1000) (suc n / 1000) (omega arith) (omega arith)) refl
+
+three_is : (n a b c : ℕ) → n / 100 ≡ a → n / 10 % 10 ≡ b → n % 10 ≡ c → three_digits n ≡ (48 + a) ∷ (48 + b) ∷ (48 + c) ∷ []
+three_is n a b c hundreds tens ones = rw (hundreds, tens, ones) refl
+
+-- three places of zeros and a number's digits
+pub three_padded : (n : ℕ) → n < 1000 → padded_integral (format_spec 32 0 4 3 (2 ^ 64 - 1)) false [] (decimal n) ≡ three_digits n
+unfolding padded_integral char_count
+three_padded n small = elim (cases_lt n 10) [
+  | inl one ↦ rw (decimal_digit n one) (sym (three_is n 0 0 n (omega arith) (omega arith) (omega arith)))
+  | inr two ↦ elim (cases_lt n 100) [
+    | inl two' ↦ rw (decimal_step n two (omega arith), decimal_digit (n / 10) (omega arith)) (sym (three_is n 0 (n / 10) (n % 10) (omega arith) (omega arith) (omega arith)))
+    | inr three ↦
+        rw (decimal_step n two (omega arith), decimal_step (n / 10) (omega arith) (omega arith), decimal_digit (n / 10 / 10) (omega arith))
+        (sym (three_is n (n / 10 / 10) (n / 10 % 10) (n % 10) (omega arith) (omega arith) (omega arith)))
+  ]
+]
+
+-- what stands behind one text more
+pub strip_more : (text front piece rest : List ℕ) (r : Option (Bor (List ℕ))) → text ≡ front ++ rest
+    → MatchOption r ((left : List ℕ) → rest ≢ piece ++ left) (λ x. rest ≡ piece ++ x.now)
+    → MatchOption r ((left : List ℕ) → text ≢ (front ++ piece) ++ left) (λ x. text ≡ (front ++ piece) ++ x.now)
+strip_more text front piece rest None is found = λ left e. found left (append_cancel_left front rest (piece ++ left) (sym is ∙ e ∙ append_assoc front piece left))
+strip_more text front piece rest (Some x) is found = is ∙ ap (λ l. front ++ l) found ∙ sym (append_assoc front piece x.now)
+
+-- a text is no number in groups of three digits, where it doesn't begin with the groups of its digits
+pub no_groups : (text : List ℕ) (n m : ℕ) → number_on 0 text ≡ n → ((rest : List ℕ) → text ≢ groups_of (n / 1000) ++ rest) → text ≢ number_path m
+no_groups text n m digits other is =
+    let same : n ≡ m = sym digits ∙ ap (number_on 0) is ∙ number_on-path m in
+    other (three_digits (m % 1000)) (is ∙ ap (λ k. groups_of (k / 1000) ++ three_digits (m % 1000)) (sym same))
+
+-- nor where its last digits are others
+pub no_last : (text last : List ℕ) (n m : ℕ) → number_on 0 text ≡ n → text ≡ groups_of (n / 1000) ++ last → (last ≡ three_digits (n % 1000) → ⊥) → text ≢ number_path m
+no_last text last n m digits front other is =
+    let same : n ≡ m = sym digits ∙ ap (number_on 0) is ∙ number_on-path m in
+    other (append_cancel_left (groups_of (n / 1000)) last (three_digits (n % 1000)) (sym front ∙ is ∙ ap number_path (sym same)))
+
+-- a number of 64 bits in groups of three digits has digits of such a number
+pub no_digits : (text : List ℕ) (m : ℕ) → 2 ^ 64 ≤ number_on 0 text → m < 2 ^ 64 → text ≢ number_path m
+no_digits text m large small is = omega (arith, ap (number_on 0) is ∙ number_on-path m)
+
+-- where it is
+pub is_number : (text last : List ℕ) (n : ℕ) → text ≡ groups_of (n / 1000) ++ last → last ≡ three_digits (n % 1000) → text ≡ number_path n
+is_number text last n front is = front ∙ ap (λ l. groups_of (n / 1000) ++ l) is
+
+-- a text has no dot
+Dotless : List ℕ → Type 0
+Dotless text = (i : ℕ) → i < length text → get_or text i 0 ≢ 46
+
+dotless_cons : (byte : ℕ) (text : List ℕ) → byte ≢ 46 → Dotless text → Dotless (byte ∷ text)
+unfolding Dotless
+dotless_cons byte text other free zero inside = other
+dotless_cons byte text other free (suc i) inside = free i (omega arith)
+
+dotless_none : Dotless []
+unfolding Dotless
+dotless_none i inside = absurd (omega arith)
+
+dotless_first : (x : ℕ) (xs : List ℕ) → Dotless (x ∷ xs) → x ≢ 46
+unfolding Dotless
+dotless_first x xs free = free 0 (omega arith)
+
+dotless_rest : (x : ℕ) (xs : List ℕ) → Dotless (x ∷ xs) → Dotless xs
+unfolding Dotless
+dotless_rest x xs free = λ i inside. free (suc i) (omega arith)
+
+dotless_append : (xs ys : List ℕ) → Dotless xs → Dotless ys → Dotless (xs ++ ys)
+dotless_append [] ys free more = more
+dotless_append (x ∷ xs) ys free more = dotless_cons x (xs ++ ys) (dotless_first x xs free) (dotless_append xs ys (dotless_rest x xs free) more)
+
+dotless_three : (n : ℕ) (rest : List ℕ) → Dotless rest → Dotless (three_digits n ++ rest)
+dotless_three n rest free = dotless_cons _ _ (λ e. omega (arith, e)) (dotless_cons _ _ (λ e. omega (arith, e)) (dotless_cons _ _ (λ e. omega (arith, e)) free))
+
+dotless_groups : (steps n : ℕ) → Dotless (groups_within steps n)
+unfolding groups_within
+dotless_groups zero n = dotless_none
+dotless_groups (suc steps) n = elim (n == 0) as (λ b. Dotless (cond b [] (groups_within steps (n / 1000) ++ group_of (n % 1000)))) [
+  | true ↦ dotless_none
+  | false ↦ dotless_append _ _ (dotless_groups steps (n / 1000)) (dotless_cons 120 _ (λ e. omega (arith, e)) (dotless_three (n % 1000) _ (dotless_cons 47 [] (λ e. omega (arith, e)) dotless_none)))
+]
+
+-- a number in groups of three digits has no dot
+pub no_dot : (n i : ℕ) → i < length (number_path n) → get_or (number_path n) i 0 ≢ 46
+unfolding Dotless
+no_dot n = dotless_append _ _ (dotless_groups (n / 1000) (n / 1000)) (dotless_three (n % 1000) [] dotless_none)
+
+-- a full tile's place has no dot
+pub full_place : (n : ℕ) → place_path n 256 ≡ number_path n
+full_place n = append-nil (number_path n)
+
+-- a partial tile's has one behind its number
+pub partial_place : (n width : ℕ) → width ≢ 256 → place_path n width ≡ number_path n ++ (46 ∷ (112 ∷ (47 ∷ decimal width)))
+partial_place n width other = rw (ne_eqb width 256 other) refl
+
+-- the place of a text with no dot is that of a full tile
+pub no_partial : (text : List ℕ) (n width : ℕ) → ((i : ℕ) → i < length text → get_or text i 0 ≢ 46) → width ≢ 256 → text ≢ place_path n width
+no_partial text n width free other is =
+    let front = number_path n in
+    let tail = 112 ∷ (47 ∷ decimal width) in
+    let same : text ≡ front ++ (46 ∷ tail) = is ∙ partial_place n width other in
+    free (length front) (omega (arith, ap length same, length-append front (46 ∷ tail))) (ap (λ t. get_or t (length front) 0) same ∙ get_or-append_seam front 46 tail 0)
+
+-- the place of a text with a dot is that of a partial tile
+pub no_full : (text before behind : List ℕ) (n : ℕ) → text ≡ before ++ (46 ∷ behind) → text ≢ place_path n 256
+no_full text before behind n is full =
+    let same : before ++ (46 ∷ behind) ≡ number_path n = sym is ∙ full ∙ full_place n in
+    no_dot n (length before) (omega (arith, ap length same, length-append before (46 ∷ behind))) (ap (λ t. get_or t (length before) 0) (sym same) ∙ get_or-append_seam before 46 behind 0)
+
+-- the place of a partial tile parts at its dot
+pub parts_at_dot : (text : List ℕ) (n width : ℕ) (r : Option (Bor (List ℕ) × Bor (List ℕ))) → IsSplitOnceResult 46 text r → text ≡ place_path n width → width ≢ 256
+    → MatchOption r ⊥ (λ x. (x.0.now ≡ number_path n) × (x.1.now ≡ 112 ∷ (47 ∷ decimal width)))
+parts_at_dot text n width r cut is other = split_after 46 text (number_path n) (112 ∷ (47 ∷ decimal width)) r cut (omega arith) (is ∙ partial_place n width other) (no_dot n)
+
+-- one text has one width
+pub one_width : (text rest : List ℕ) (width other : ℕ) → text ≡ 112 ∷ (47 ∷ rest) → rest ≡ decimal width → width < 2 ^ 64 → other < 2 ^ 64 → text ≡ 112 ∷ (47 ∷ decimal other) → width ≡ other
+one_width text rest width other is read small fits also = decimal_injective width other small fits (let same : rest ≡ decimal other = cc in sym read ∙ same)
+
+-- a text whose part before the dot is no number is no place
+pub no_number : (text : List ℕ) (before behind : Bor (List ℕ)) → IsSplitOnceResult 46 text (Some (before, behind)) → ((n : ℕ) → n < 2 ^ 64 → before.now ≢ number_path n)
+    → (number width : ℕ) → number < 2 ^ 64 → text ≢ place_path number width
+no_number text before behind cut none number width small is = elim (cases_eq width 256) [
+  | inl full ↦ no_full text before.now behind.now number (split_parts 46 text (Some (before, behind)) cut (omega arith)).0 (is ∙ ap (place_path number) full)
+  | inr other ↦ none number small (parts_at_dot text number width (Some (before, behind)) cut is other).0
+]
+
+-- nor is one whose part behind the dot is no width
+pub no_width : (text : List ℕ) (before behind : Bor (List ℕ)) → IsSplitOnceResult 46 text (Some (before, behind)) → ((width : ℕ) → 0 < width → width < 256 → behind.now ≢ 112 ∷ (47 ∷ decimal width))
+    → (number width : ℕ) → 0 < width → width ≤ 256 → text ≢ place_path number width
+no_width text before behind cut none number width some most is = elim (cases_eq width 256) [
+  | inl full ↦ no_full text before.now behind.now number (split_parts 46 text (Some (before, behind)) cut (omega arith)).0 (is ∙ ap (place_path number) full)
+  | inr other ↦ none width some (omega arith) (parts_at_dot text number width (Some (before, behind)) cut is other).1
+]
+
+-- nor is one without a dot that is no number
+pub no_place : (text : List ℕ) → IsSplitOnceResult 46 text None → ((n : ℕ) → n < 2 ^ 64 → text ≢ number_path n) → (number width : ℕ) → number < 2 ^ 64 → text ≢ place_path number width
+no_place text cut none number width small is = elim (cases_eq width 256) [
+  | inl full ↦ none number small (is ∙ ap (place_path number) full ∙ full_place number)
+  | inr other ↦ no_partial text number width (split_parts 46 text None cut (omega arith)) other is
+]
+
+-- a text with a number, a dot and a width is the place of a partial tile
+pub place_is : (text : List ℕ) (before behind : Bor (List ℕ)) (number width : ℕ) → IsSplitOnceResult 46 text (Some (before, behind)) → before.now ≡ number_path number → behind.now ≡ 112 ∷ (47 ∷ decimal width) → width < 256
+    → text ≡ place_path number width
+place_is text before behind number width cut front back part =
+    (split_parts 46 text (Some (before, behind)) cut (omega arith)).0
+    ∙ ap (λ l. l ++ (46 ∷ behind.now)) front ∙ ap (λ l. number_path number ++ (46 ∷ l)) back ∙ sym (partial_place number width (λ e. omega arith))
+
+-- what stands before and behind the slash of a tile's path
+pub parts_at_slash : (text rest : List ℕ) (t : TileAt) (r : Option (Bor (List ℕ) × Bor (List ℕ))) → text ≡ codes "tile/" ++ rest → IsSplitOnceResult 47 rest r → IsTile t → text ≡ tile_path t
+    → MatchOption r ⊥ (λ x. (x.0.now ≡ decimal t.level) × (x.1.now ≡ place_path t.number t.width))
+parts_at_slash text rest t r front cut tile is =
+    split_after 47 rest (decimal t.level) (place_path t.number t.width) r cut (omega arith)
+    (append_cancel_left (codes "tile/") rest (decimal t.level ++ (47 ∷ place_path t.number t.width)) (sym front ∙ is))
+    (λ i inside. decimal_without t.level 47 i (omega (arith, tile.level)) (λ a b. omega arith) inside)
+
+-- one text has one level
+pub one_level : (level : ℕ) (text : List ℕ) (t : TileAt) → text ≡ decimal level → text ≡ decimal t.level → level < 2 ^ 64 → IsTile t → level ≤ 63
+one_level level text t read is fits tile = omega (arith, decimal_injective level t.level fits (omega (arith, tile.level)) (sym read ∙ is), tile.level)

@@ -1,0 +1,12 @@
+use Rattle.std.proofs.Common.{◌≡◌, ◌/◌, ◌∙◌}
+use Rattle.warg_tiles.specs.Between.{filled}
+use Rattle.warg_tiles.proofs.BetweenLemmas.{numbers_more, level_whole, same_tile, last_number}
+use Rattle.warg_tiles.proofs.between.push_level.Goals as goal
+
+pub numbers-preserved : goal.numbers-preserved
+numbers-preserved g c =
+    let tile : c.new.result ≡ filled c.args.level c.args.new_count c.numbers.number = same_tile c.new.result _ _ _ c.new.ensures.level c.new.ensures.number (c.new.ensures.width ∙ c.min-width.ensures) in
+    rw (c.in_ok-push.ensures.items, c.numbers.invariant, tile) (numbers_more c.args.tiles.now.items c.args.level c.args.new_count (c.args.old_count / 256) c.numbers.number c.numbers.auto.number)
+
+pub returns : goal.returns
+returns g c = c.numbers.invariant ∙ level_whole c.args.tiles.now.items c.args.level c.args.old_count c.args.new_count c.numbers.number c.if-old_count-new_count.false (last_number c.args.old_count c.args.new_count c.numbers.number _ c.div_ceil-number-end.ensures c.numbers-test.false c.numbers.auto.number-end c.numbers.auto.number c.requires.order)

@@ -1,0 +1,36 @@
+-- Digests of tiles, and what they come to.
+use Rattle.std.specs.Prelude.{◌≡◌, ℕ, ◌%◌, ◌^◌, ◌<◌, ◌==◌, ◌&&◌, nat_le, if◌then◌else◌, Bool, List, [], ◌∷◌, length, take, drop, Option, Some, None, slice_index_or}
+use Rattle.std.specs.Option.{option_or}
+use Rattle.warg_log.specs.Nodes.{height_of}
+use Rattle.warg_log.specs.Tree.{root_of}
+use Rattle.warg_tiles.specs.Tiles.{TileAt, node_in, place_in_level, tile_over}
+
+-- The digests are those that F has for a tile's nodes.
+pub record IsTileBy (F : ℕ → Option (List ℕ)) (t : TileAt) (digests : List (List ℕ)) : Type 0 where
+  pub count : length digests ≡ t.width
+  pub digest : (i : ℕ) → i < t.width → F (node_in t i) ≡ Some (slice_index_or digests i [])
+
+-- A digest of the tile isn't held.
+abbrev pub LacksOf : (ℕ → Option (List ℕ)) → TileAt → Type 0
+LacksOf F t = (i : ℕ) × (i < t.width) × (F (node_in t i) ≡ None)
+
+-- Tiles with their digests.
+abbrev pub Tiles : Type 0
+Tiles = List (TileAt × List (List ℕ))
+
+-- The tile has all digests of its level below a node.
+abbrev pub has_below : TileAt → ℕ → Bool
+has_below t x = t.level == (tile_over x).level && (t.number == (tile_over x).number && nat_le (tile_over x).width t.width)
+
+-- The root over the digests of a node's tile that are below the node.
+abbrev pub root_below : (List ℕ → List ℕ) → List (List ℕ) → ℕ → List ℕ
+root_below H digests x = root_of H (take (2 ^ (height_of x % 8)) (drop (place_in_level x % 256) digests))
+
+-- The digest of a node by one tile, where it has all digests of its level below the node.
+abbrev pub digest_of : (List ℕ → List ℕ) → TileAt × List (List ℕ) → ℕ → Option (List ℕ)
+digest_of H t x = if has_below t.0 x then Some (root_below H t.1 x) else None
+
+-- The digest of a node by the first of some tiles that gives one.
+abbrev pub digest_by : (List ℕ → List ℕ) → Tiles → ℕ → Option (List ℕ)
+digest_by H [] x = None
+digest_by H (t ∷ ts) x = option_or (digest_of H t x) (digest_by H ts x)

@@ -1,0 +1,128 @@
+//! Digests of tiles: made out of a log's data, and data of proofs.
+
+ghost use Rattle.std.specs.Prelude.{◌≡◌, ℕ, ◌^◌, ◌<◌, ◌≤◌, ◌↔◌, List, [], ◌∷◌, ◌++◌, length, map, Err, Option, IfOk, OnOk, OnErr};
+ghost use Rattle.warg_tiles.specs.Tiles.{tile_end};
+ghost use Rattle.warg_tiles.specs.TileData.{IsTileBy, LacksOf, digest_of, digest_by};
+
+use crate::error::TileError;
+use crate::root::root_over;
+use crate::tile::Tile;
+use std::alloc::{AllocError, Allocator, Global};
+use std::marker::{Model, PhantomData};
+use warg_crypto::{Hash, SupportedDigest, VisitBytes};
+use warg_log::{LogData, Node};
+
+/// The digests of a tile by the data: of each of its nodes, from left to right. `HashNotKnown` exactly where the data lacks
+/// one of them, before memory is taken; else memory is the only error.
+pub fn tile_hashes<D: SupportedDigest, V: VisitBytes, L: LogData<D, V>, A: Allocator>(
+    alloc: A,
+    hashes: &L,
+    tile: &Tile,
+) -> Result<Vec<Hash<D>, A>, TileError>
+    requires { tile_end tile.now ≤ 2 ^ 63 }
+    ensures ok { IfOk result (λ digests. IsTileBy (L.digest_at hashes.now) tile.now digests.items) }
+    ensures not_known { (result ≡ Err TileError.HashNotKnown) ↔ LacksOf (L.digest_at hashes.now) tile.now }
+{
+    'known: for place in 0..tile.width() {
+        if !hashes.has_hash(tile.node(place)) {
+            return Err(TileError::HashNotKnown);
+        }
+    }
+    let mut digests = Vec::new(alloc);
+    'places: for place in 0..tile.width() {
+        match hashes.hash_for(tile.node(place)) {
+            Some(digest) => digests.push(digest)?,
+            None => unreachable!(),
+        }
+    }
+    Ok(digests)
+}
+
+// A tile with its digests.
+#[derive(Drop)]
+struct Held<D, A: Allocator> {
+    tile: Tile,
+    digests: Vec<Hash<D>, A>,
+    ghost count: { length digests.items ≡ tile.width },
+}
+
+impl<D: SupportedDigest, A: Allocator> Held<D, A> {
+    // The digest of a node by the tile, where it has all digests of its level below the node.
+    fn digest_of(&self, node: Node) -> Option<Hash<D>>
+        ensures { result ≡ digest_of D.digest (self.now.tile, self.now.digests.items) node.0 }
+    {
+        let least = Tile::over(node);
+        if !self.tile.covers(&least) {
+            return None;
+        }
+        let end = least.width();
+        let start = end - (1 << (node.height() % 8));
+        Some(root_over(&self.digests.as_slice()[start..end]))
+    }
+}
+
+/// The digests of tiles that were fetched, as data of proofs: the digest of a node is the root over those of the first tile
+/// that has all digests of the node's level below it. So each proof and each path of a log is made out of its tiles.
+///
+/// A search goes through the tiles, of which a proof needs a few.
+#[derive(Drop)]
+pub struct TileData<D: SupportedDigest, V: VisitBytes, A: Allocator = Global> {
+    tiles: Vec<Held<D, A>, A>,
+    of: PhantomData<V>,
+}
+
+// Contracts see the data as the list of the tiles with their digests.
+impl<D: SupportedDigest, V: VisitBytes, A: Allocator> Model for TileData<D, V, A> {
+    ghost use Rattle.std.specs.Prelude.{map};
+    ghost use Rattle.warg_tiles.specs.TileData.{Tiles};
+
+    ghost Value = { Tiles };
+
+    ghost view = { λ d. map (λ h. (h.tile, h.digests.items)) d.tiles.items };
+}
+
+impl<D: SupportedDigest, V: VisitBytes, A: Allocator> TileData<D, V, A> {
+    /// The data of no tiles. It takes no memory yet.
+    pub fn new(alloc: A) -> Self
+        ensures { result ≡ [] }
+    {
+        TileData {
+            tiles: Vec::new(alloc),
+            of: PhantomData,
+        }
+    }
+
+    /// Adds a tile with its digests. A refused call leaves the data as it was; memory is the only error.
+    pub fn insert(&mut self, tile: Tile, digests: Vec<Hash<D>, A>) -> Result<(), AllocError>
+        requires { length digests.items ≡ tile.width }
+        ensures ok { OnOk result (self.new ≡ self.old ++ (tile, digests.items) ∷ []) }
+        ensures err { OnErr result (self.new ≡ self.old) }
+    {
+        self.tiles.push(Held { tile, digests })?;
+        Ok(())
+    }
+}
+
+impl<D: SupportedDigest, V: VisitBytes, A: Allocator> LogData<D, V> for TileData<D, V, A> {
+    ghost digest_at = { λ d x. digest_by D.digest d x };
+
+    fn has_hash(&self, node: Node) -> bool {
+        LogData::<D, V>::hash_for(self, node).is_some()
+    }
+
+    fn hash_for(&self, node: Node) -> Option<Hash<D>> {
+        digest_in(self.tiles.as_slice(), node)
+    }
+}
+
+// The digest of a node by the first of the tiles that gives one.
+fn digest_in<D: SupportedDigest, A: Allocator>(tiles: &[Held<D, A>], node: Node) -> Option<Hash<D>>
+    ensures { result ≡ digest_by D.digest (map (λ h. (h.tile, h.digests.items)) tiles.now) node.0 }
+{
+    'tiles: for held in tiles {
+        if let Some(digest) = held.digest_of(node) {
+            return Some(digest);
+        }
+    }
+    None
+}

@@ -1,0 +1,13 @@
+//! Laws of the tiles: the contract of each function is the law, and it has no effect.
+
+ghost use Rattle.std.specs.Prelude.{◌≡◌, ℕ, List, Some};
+ghost use Rattle.std.specs.List.{AllByRecursion};
+ghost use Rattle.warg_log.specs.Tree.{own_digest};
+ghost use Rattle.warg_tiles.specs.TileData.{Tiles, IsTileBy, digest_by};
+
+/// A digest that the tiles of a log give is the node's: where each tile has the log's own digests, and they give a digest for
+/// a node, the log has the node, and this is its digest.
+pub fn digest_by_own_tiles()
+    ensures { (H : List ℕ → List ℕ) (ds : List (List ℕ)) (tiles : Tiles) (x : ℕ) (d : List ℕ) → AllByRecursion (λ t. IsTileBy (own_digest H ds) t.0 t.1) tiles
+        → digest_by H tiles x ≡ Some d → own_digest H ds x ≡ Some d }
+{}

@@ -1,0 +1,24 @@
+//! Tiles, entry bundles and checkpoint texts: the fixed files in which deployed logs are stored and served (C2SP tlog-tiles
+//! and tlog-checkpoint).
+//!
+//! The definitions that the contracts cite stand in `specs/`: read Tiles first.
+#![tactic(auto)]
+
+mod between;
+mod data;
+mod decimal;
+mod entries;
+mod error;
+mod fetch;
+pub mod laws;
+mod path;
+mod root;
+mod tile;
+
+pub use between::tiles_between;
+pub use data::{TileData, tile_hashes};
+pub use entries::{read_entries, write_entries};
+pub use error::{EntriesError, TileError};
+pub use fetch::{tiles_for_consistency, tiles_for_inclusion};
+pub use path::BadPath;
+pub use tile::Tile;

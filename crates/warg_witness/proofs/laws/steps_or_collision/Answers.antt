@@ -1,0 +1,5 @@
+use Rattle.warg_witness.proofs.UpdateLawLemmas.{steps_end}
+use Rattle.warg_witness.proofs.laws.steps_or_collision.Goals as goal
+
+pub returns : goal.returns
+returns c = steps_end

@@ -1,0 +1,76 @@
+//! The witness for one insertion more.
+
+ghost use Rattle.std.specs.Prelude.{IfOk};
+ghost use Rattle.warg_map.specs.Sparse.{pair_bytes};
+ghost use Rattle.warg_witness.specs.Findings.{Finds};
+ghost use Rattle.warg_witness.specs.MapClaims.{IsKeyMet};
+ghost use Rattle.warg_witness.specs.MapPlaced.{IsPlacedAtPrefix};
+ghost use Rattle.warg_witness.specs.UpdateClaims.{IsUpdated};
+
+use crate::collide::collide_branch;
+use crate::collision::Finding;
+use crate::map::empty::empty_trees;
+use crate::map::path::{Evaluation, meet_on_path};
+use crate::map::plain_leaf;
+use crate::map::tree::plain_path;
+use std::alloc::{AllocError, Allocator};
+use warg_crypto::{Hash, SupportedDigest, VisitBytes};
+use warg_log::hash_leaf;
+use warg_map::Proof;
+
+/// Whether a proof that leads from the old value to the root of the map of the insertions leads from the new value to
+/// the root of the map with the new value inserted too. An absence is a proof with an old value of no bytes.
+///
+/// `NotMet` exactly where the proof doesn't lead from the old value to the root of the map of the insertions. `Holds`
+/// exactly where it does, and leads from the new value to the new root. Else a collision: what the digest function takes
+/// in the evaluation from the old value (first) and in the plain tree over the insertions (second) at one prefix of the
+/// key's bits.
+///
+/// It costs what [`witness_key`](crate::witness_key) does, and at most 512 branches more. Out of memory is the only
+/// error.
+pub fn witness_update<
+    D: SupportedDigest,
+    K: VisitBytes,
+    V: VisitBytes,
+    A: Allocator + Copy,
+    B: Allocator,
+>(
+    alloc: A,
+    proof: &Proof<D, K, V, B>,
+    key: &K,
+    old_value: &V,
+    new_value: &V,
+    insertions: &[(K, V)],
+) -> Result<Finding<D, A>, AllocError>
+    ensures found { IfOk result (Finds
+        (IsKeyMet D.digest proof.now (K.bytes key.now) (V.bytes old_value.now) (pair_bytes K.bytes V.bytes insertions.now))
+        (IsUpdated D.digest proof.now (K.bytes key.now) (V.bytes new_value.now) (pair_bytes K.bytes V.bytes insertions.now))
+        (IsPlacedAtPrefix D.digest proof.now (V.bytes old_value.now) (K.bytes key.now) (pair_bytes K.bytes V.bytes insertions.now))) }
+{
+    let digest = Hash::of(key);
+    let empty = empty_trees(alloc)?;
+    let plain = plain_path(alloc, insertions, &empty, &digest)?;
+    let old = Evaluation {
+        peers: proof.peers(),
+        leaf: hash_leaf(old_value),
+    };
+    let old_tree = Evaluation {
+        peers: &plain.peers,
+        leaf: plain_leaf(insertions, plain.last),
+    };
+    let Some(divergence) = meet_on_path(&digest, old, old_tree) else {
+        return Ok(Finding::NotMet);
+    };
+    let new = Evaluation {
+        peers: proof.peers(),
+        leaf: hash_leaf(new_value),
+    };
+    let new_tree = Evaluation {
+        peers: &plain.peers,
+        leaf: hash_leaf(new_value),
+    };
+    if divergence.is_target() || meet_on_path(&digest, new, new_tree).is_some() {
+        return Ok(Finding::Holds);
+    }
+    Ok(Finding::Collision(collide_branch(alloc, &divergence)?))
+}

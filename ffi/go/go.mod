@@ -1,0 +1,3 @@
+module warg
+
+go 1.19

@@ -1,0 +1,84 @@
+#!/usr/bin/env python3
+"""Runs the programs as their users do, with right and wrong arguments and on devices that fail, and compares statuses.
+
+Usage: check_programs.py WARG_CHECK WARG_VERDICT, with the built programs.
+"""
+
+import pathlib
+import resource
+import subprocess
+import sys
+import tempfile
+
+ROOT = pathlib.Path(__file__).resolve().parent.parent
+COMMANDS = b"push 6f6e65\npush 74776f\nlog\n"
+ANSWERS = b"node 0\nnode 2\nlog 2 4f55f619d9215235778b2b9f17d6f4915b16171214d152381293669764de722e\n"
+
+
+def little_memory():
+    resource.setrlimit(resource.RLIMIT_AS, (1 << 28, 1 << 28))
+
+
+def ran(words, **how):
+    """Returns the status, the output and the errors of a run."""
+    how = {"input": b"", "stdout": subprocess.PIPE, "stderr": subprocess.PIPE, "timeout": 100, **how}
+    done = subprocess.run(words, **how)
+    return done.returncode, done.stdout or b"", done.stderr
+
+
+def of_check(program):
+    """Yields what is tried of warg_check, and whether it came out."""
+    status, out, err = ran([program], input=COMMANDS)
+    yield "commands", (status, out, err) == (0, ANSWERS, b"")
+    status, out, err = ran([program], input=b"log\nlogs\n")
+    yield "a bad line", status == 1 and out.endswith(b"bad line 2\n") and not err
+    for word in ("--help", "-h"):
+        status, out, err = ran([program, word])
+        yield word, status == 0 and b"push BYTES" in out and not err
+    for word in ("--version", "-V"):
+        yield word, ran([program, word]) == (0, b"warg_check 0.9.2-rattle.1\n", b"")
+    for words in (["--helpp"], ["lines.txt"], ["--help", "x"]):
+        status, out, err = ran([program, *words])
+        yield f"arguments {words}", status == 2 and not out and words[-1].encode() in err
+    with open("/proc/self/mem", "rb") as broken:  # its first byte can't be read
+        status, out, err = ran([program], input=None, stdin=broken)
+    yield "a read that fails", (status, out, err) == (2, b"", b"warg_check: read failed\n")
+    with open("/dev/full", "wb") as full:
+        status, out, err = ran([program], input=COMMANDS, stdout=full)
+    yield "a write that fails", (status, err) == (2, b"warg_check: write failed\n")
+    status, out, err = ran([program], input=b"\n" * (1 << 28), preexec_fn=little_memory)
+    yield "little memory", (status, out, err) == (3, b"", b"warg_check: out of memory\n")
+
+
+def of_verdict(program):
+    """Yields what is tried of warg_verdict, and whether it came out."""
+    words = (ROOT / "crates/warg_verdict/args").read_text().splitlines()
+    bundle = (ROOT / "crates/warg_verdict/data/proof.bundle").read_bytes()
+    with tempfile.TemporaryDirectory() as room:
+        file = pathlib.Path(room, "proof.bundle")
+        file.write_bytes(bundle)
+        given = [program, words[0], str(file), *words[2:]]
+        yield "true", ran(given) == (0, b"true\n", b"")
+        yield "false", ran([*given[:-1], "hex:00"]) == (1, b"false\n", b"")
+        value = pathlib.Path(room, "value")
+        value.write_bytes(words[-1].removeprefix("text:").encode())
+        yield "a value's file", ran([*given[:-1], f"file:{value}"]) == (0, b"true\n", b"")
+        yield "another place", ran([*given, "--at", "1"]) == (2, b"refused: no such proof\n", b"")
+        file.write_bytes(bundle[:-1])
+        yield "a cut bundle", ran(given) == (2, b"refused: truncated\n", b"")
+        for wrong in ([*given[:-1], "left-pad"], [*given, "--index", "-1"], [program, "entry"], [program], [*given[:2], "none", *given[3:]]):
+            status, out, err = ran(wrong)
+            yield f"wrong: {wrong[1:]}", status == 3 and not out and bool(err)
+
+
+def main():
+    tried = [*of_check(sys.argv[1]), *of_verdict(sys.argv[2])]
+    failed = [name for name, came in tried if not came]
+    for name in failed:
+        print(f"not as it should be: {name}")
+    print(f"{len(tried) - len(failed)} of {len(tried)} runs of the programs end as they should")
+    sys.exit(1 if failed else 0)
+
+
+if __name__ == "__main__":
+    main()
