@@ -3,7 +3,8 @@ use Rattle.std.proofs.Common.{◌≡◌, ℕ, List, [], ◌∷◌, ◌++◌, ref
 use Rattle.std.specs.FinMap as finite
 use Rattle.warg_crypto.specs.Digests.{sha256}
 use Rattle.warg_map.specs.Bits.{key_bits}
-use Rattle.warg_map.specs.Sparse.{SparseMap, leaf_digest, inserted}
+use Rattle.warg_crypto.specs.Tree.{leaf_digest}
+use Rattle.warg_map.specs.Sparse.{SparseMap, inserted}
 use Rattle.warg_check.specs.Orders.{insert}
 use Rattle.warg_check.specs.States.{State, start, map_at, after}
 

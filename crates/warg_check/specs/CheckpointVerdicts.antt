@@ -1,5 +1,6 @@
 -- Verdicts that bind checkpoints.
 use Rattle.std.specs.Prelude.{◌≡◌, ℕ, ◌*◌, Bool, ◌&&◌, ◌==◌, List, ◌∷◌, length, Some, Result, Ok}
+use Rattle.warg_crypto.specs.Tree.{leaf_digest}
 use Rattle.warg_log.specs.declared.node.Node.{Node}
 use Rattle.warg_log.specs.Nodes.{ExistsAt}
 use Rattle.warg_log.specs.Cut.{cut_root}
@@ -40,7 +41,7 @@ pub record IsEntryShown (H : List ℕ → List ℕ) (bytes : List ℕ) (index : 
   pub spelled : bundle_of bytes ≡ Ok bundle
   pub hashes : HasHashes bundle
   pub exists : ExistsAt (2 * index) n
-  pub is : cut_root H (held_digest bundle.hashes) (2 * index) (H (0 ∷ value)) n ≡ Some root
+  pub is : cut_root H (held_digest bundle.hashes) (2 * index) (leaf_digest H value) n ≡ Some root
 
 -- The bytes are a bundle by whose digests, of 32 bytes, a consistency proof between these lengths has these roots.
 pub record IsGrowthShown (H : List ℕ → List ℕ) (bytes : List ℕ) (old_length : ℕ) (old : List ℕ) (new_length : ℕ) (new : List ℕ) : Type 0 where

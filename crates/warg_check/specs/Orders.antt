@@ -1,7 +1,8 @@
 -- The program's commands: which lines are which, and no other line is good.
 use Rattle.std.specs.Prelude.{ℕ, if◌then◌else◌, List, [], ◌∷◌, codes, Option, Some, None, option_and_then}
 use Rattle.std.specs.Option.{option_map}
-use Rattle.warg_check.specs.Words.{is_word, number_in, length_in, hex_bytes_in, root_in, words_of}
+use Rattle.warg_crypto.specs.Bytes.{same_bytes}
+use Rattle.warg_check.specs.Words.{number_in, length_in, hex_bytes_in, root_in, words_of}
 
 -- What a good line orders.
 pub data Order : Type 0 where
@@ -84,25 +85,25 @@ absent_in words = next hex_bytes_in (λ key. done (absent key)) words
 unfoldable pub order_of : List (List ℕ) → Option Order
 order_of [] = None
 order_of (name ∷ words) =
-    if is_word name (codes "push")
+    if same_bytes name (codes "push")
     then push_in words
-    else if is_word name (codes "log")
+    else if same_bytes name (codes "log")
     then log_in words
-    else if is_word name (codes "include")
+    else if same_bytes name (codes "include")
     then include_in words
-    else if is_word name (codes "consistent")
+    else if same_bytes name (codes "consistent")
     then consistent_in words
-    else if is_word name (codes "bundle")
+    else if same_bytes name (codes "bundle")
     then bundle_in words
-    else if is_word name (codes "verify")
+    else if same_bytes name (codes "verify")
     then verify_in words
-    else if is_word name (codes "insert")
+    else if same_bytes name (codes "insert")
     then insert_in words
-    else if is_word name (codes "map")
+    else if same_bytes name (codes "map")
     then map_in words
-    else if is_word name (codes "prove")
+    else if same_bytes name (codes "prove")
     then prove_in words
-    else if is_word name (codes "absent")
+    else if same_bytes name (codes "absent")
     then absent_in words
     else None
 

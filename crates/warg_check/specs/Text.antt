@@ -3,7 +3,6 @@ use Rattle.std.specs.Prelude.{◌≡◌, ℕ, suc, ◌*◌, ◌^◌, nat_eq, nat
 use Rattle.std.specs.Fmt.{decimal}
 use Rattle.std.specs.List.{list_all}
 use Rattle.std.specs.FinMap as finite
-use Rattle.std.specs.Cmp.Lexicographic.{pointwise}
 use Rattle.hex.specs.Hex.{encode_lower}
 use Rattle.warg_crypto.specs.Digests.{sha256}
 use Rattle.warg_crypto.specs.EmptyTrees.{empty_root}
@@ -20,7 +19,9 @@ use Rattle.warg_log.specs.declared.error.BundleError.TheVariants as failure
 use Rattle.warg_log.specs.declared.consistency.ConsistencyProofError.{ConsistencyProofError}
 use Rattle.warg_log.specs.declared.consistency.ConsistencyProofError.TheVariants.{PointsOutOfOrder, HashNotKnown, InclusionError, DivergingRoots, OldLengthZero, Memory}
 use Rattle.warg_map.specs.Bits.{key_bits}
-use Rattle.warg_map.specs.Sparse.{leaf_digest, leaf_at, sparse_root}
+use Rattle.warg_crypto.specs.Tree.{leaf_digest}
+use Rattle.warg_crypto.specs.Bytes.{same_bytes}
+use Rattle.warg_map.specs.Sparse.{leaf_at, sparse_root}
 use Rattle.warg_check.specs.Words.{lines_of}
 use Rattle.warg_check.specs.Verdicts.{inclusion_verdict}
 use Rattle.warg_check.specs.declared.verdict.CheckError.{CheckError}
@@ -92,7 +93,7 @@ answer s (push entry) = codes "node " ++ decimal (2 * length s.entries)
 answer s log = codes "log " ++ decimal (length s.entries) ++ 32 ∷ encode_lower (root_of sha256 (log_at s))
 answer s (include node length value) =
     if nat_le (end_of node) length
-    then root_or_refusal (cut_root sha256 (own_digest sha256 (log_at s)) node (sha256 (0 ∷ value)) length)
+    then root_or_refusal (cut_root sha256 (own_digest sha256 (log_at s)) node (leaf_digest sha256 value) length)
     else codes "refused leaf too new"
 answer s (consistent old new) = roots_or_refusal (consistency sha256 (own_digest sha256 (log_at s)) old new)
 answer s (bundle node length) = bundle_or_refusal (bundled (own_digest sha256 (log_at s)) [] (record { leaf = record { 0 = node }; log_length = length } ∷ []))
@@ -104,7 +105,7 @@ answer s (prove key value) =
     then codes "root " ++ encode_lower (sparse_root sha256 256 (finite.insert (map_at s) (key_bits sha256 key) (leaf_digest sha256 value)))
     else codes "absent"
 answer s (absent key) =
-    if pointwise nat_eq (leaf_at sha256 (map_at s) (key_bits sha256 key)) (empty_root sha256 0)
+    if same_bytes (leaf_at sha256 (map_at s) (key_bits sha256 key)) (empty_root sha256 0)
     then codes "empty " ++ encode_lower (sparse_root sha256 256 (map_at s))
     else codes "refused present"
 

@@ -4,7 +4,7 @@ use Rattle.std.specs.Prelude.{◌≡◌, ℕ, Bool, ◌&&◌, List, Result, Ok}
 use Rattle.warg_crypto.specs.EmptyTrees.{empty_root}
 use Rattle.warg_protobuf.specs.MapProofBundle.{MapBundle}
 use Rattle.warg_map.specs.Bits.{key_bits}
-use Rattle.warg_map.specs.Sparse.{leaf_digest}
+use Rattle.warg_crypto.specs.Tree.{leaf_digest}
 use Rattle.warg_map.specs.ProofValue.{proof_value}
 use Rattle.warg_map.specs.Bundles.{Peers, map_bundle_of}
 use Rattle.warg_check.specs.declared.verdict.CheckError.{CheckError}

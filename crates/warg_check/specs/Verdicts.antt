@@ -1,6 +1,5 @@
 -- Verdicts on the proofs in the bytes of a log bundle or a map bundle.
 use Rattle.std.specs.Prelude.{◌≡◌, ℕ, Bool, false, ◌&&◌, nat_eq, nat_le, List, ◌∷◌, length, Option, Some, None, Result, Ok, Err, slice_get, slice_index_or}
-use Rattle.std.specs.Cmp.Lexicographic.{pointwise}
 use Rattle.warg_log.specs.declared.node.Node.{Node}
 use Rattle.warg_log.specs.declared.error.DecodeError.{DecodeError}
 use Rattle.warg_log.specs.declared.error.DecodeError.TheVariants as decoding
@@ -13,7 +12,8 @@ use Rattle.warg_log.specs.Bundles.{Bundle, bundle_of}
 use Rattle.warg_crypto.specs.EmptyTrees.{empty_root}
 use Rattle.warg_protobuf.specs.MapProofBundle.{MapBundle}
 use Rattle.warg_map.specs.Bits.{key_bits}
-use Rattle.warg_map.specs.Sparse.{leaf_digest}
+use Rattle.warg_crypto.specs.Tree.{leaf_digest}
+use Rattle.warg_crypto.specs.Bytes.{same_bytes}
 use Rattle.warg_map.specs.ProofValue.{proof_value}
 use Rattle.warg_map.specs.Bundles.{Peers}
 use Rattle.warg_map.specs.Bundles.{map_bundle_of}
@@ -38,12 +38,12 @@ verdict proofs holds at (Err e) = Err (fault.Decode e)
 -- The root is there, and is this one.
 abbrev pub is_root : List ℕ → Option (List ℕ) → Bool
 is_root root None = false
-is_root root (Some r) = pointwise nat_eq r root
+is_root root (Some r) = same_bytes r root
 
 -- The node exists at the bundle's length, and with the value as its leaf the cut root over the bundle's
 -- digests is this root.
 abbrev pub includes : (List ℕ → List ℕ) → List ℕ → List ℕ → Bundle → Node → Bool
-includes H value root b node = nat_le (end_of node.0) b.log_length && is_root root (cut_root H (held_digest b.hashes) node.0 (H (0 ∷ value)) b.log_length)
+includes H value root b node = nat_le (end_of node.0) b.log_length && is_root root (cut_root H (held_digest b.hashes) node.0 (leaf_digest H value) b.log_length)
 
 -- The verdict on the inclusion proof at a place of a log bundle's bytes.
 abbrev pub inclusion_verdict : (List ℕ → List ℕ) → List ℕ → ℕ → List ℕ → List ℕ → Result Bool CheckError
@@ -51,7 +51,7 @@ inclusion_verdict H bytes at value root = verdict (λ (b : Bundle). b.included_n
 
 -- The two roots are there, and are these.
 abbrev pub are_roots : List ℕ → List ℕ → Result (List ℕ × List ℕ) ConsistencyProofError → Bool
-are_roots old new (Ok roots) = pointwise nat_eq roots.0 old && pointwise nat_eq roots.1 new
+are_roots old new (Ok roots) = same_bytes roots.0 old && same_bytes roots.1 new
 are_roots old new (Err e) = false
 
 -- The consistency proof from an old length evaluates, over the bundle's digests, to these two roots.
@@ -64,7 +64,7 @@ consistency_verdict H bytes at old new = verdict (λ (b : Bundle). b.consistent_
 
 -- The peers lead from this leaf digest under the key to this root.
 abbrev pub leads : (List ℕ → List ℕ) → List ℕ → List ℕ → List ℕ → Peers → Bool
-leads H leaf key root peers = pointwise nat_eq (proof_value H peers leaf (key_bits H key)) root
+leads H leaf key root peers = same_bytes (proof_value H peers leaf (key_bits H key)) root
 
 -- The verdict on the proof at a place of a map bundle's bytes: from the value's leaf digest.
 abbrev pub key_verdict : (List ℕ → List ℕ) → List ℕ → ℕ → List ℕ → List ℕ → List ℕ → Result Bool CheckError

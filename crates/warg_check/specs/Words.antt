@@ -2,7 +2,7 @@
 use Rattle.std.specs.Prelude.{ℕ, ◌+◌, ◌-◌, ◌*◌, ◌^◌, ◌==◌, ◌&&◌, nat_eq, nat_le, nat_lt, Bool, if◌then◌else◌, List, [], ◌∷◌, length, codes, Option, Some, None, Result, Ok, Err}
 use Rattle.std.specs.List.{list_all}
 use Rattle.std.specs.Char.{is_ascii_digit}
-use Rattle.std.specs.Cmp.Lexicographic.{pointwise}
+use Rattle.warg_crypto.specs.Bytes.{same_bytes}
 use Rattle.hex.specs.Hex.{decode_of, decode_sized}
 use Rattle.hex.specs.declared.error.FromHexError.{FromHexError}
 
@@ -27,10 +27,6 @@ words_of (b ∷ bytes) = if b == 32 then [] ∷ words_of bytes else onto_first b
 abbrev pub words_left : Option (List ℕ) → List (List ℕ)
 words_left None = []
 words_left (Some rest) = words_of rest
-
--- The word is this text.
-abbrev pub is_word : List ℕ → List ℕ → Bool
-is_word word text = pointwise nat_eq word text
 
 -- The value of decimal digits behind digits of value n.
 unfoldable pub value_from : ℕ → List ℕ → ℕ
@@ -64,7 +60,7 @@ decoded (Err _) = None
 -- The bytes that a word says: none for `-`, else those of its hexadecimal digits, of which there are an
 -- even, positive number, in either case.
 unfoldable pub hex_bytes_in : List ℕ → Option (List ℕ)
-hex_bytes_in word = if is_word word (codes "-") then Some [] else if length word == 0 then None else decoded (decode_of word)
+hex_bytes_in word = if same_bytes word (codes "-") then Some [] else if length word == 0 then None else decoded (decode_of word)
 
 -- The root that a word says: the 32 bytes of 64 hexadecimal digits, in either case.
 abbrev pub root_in : List ℕ → Option (List ℕ)

@@ -1,6 +1,7 @@
 -- What proofs of other crates use.
-use Rattle.std.proofs.Common.{◌≡◌, ℕ, List, [], ◌∷◌, All}
+use Rattle.std.proofs.Common.{◌≡◌, ℕ, List, [], ◌∷◌, length, All}
 use Rattle.std.proofs.lemmas.List.Elements.{All-cons, All-nil}
+use Rattle.warg_crypto.specs.Collisions.{GivesHashes}
 use Rattle.warg_crypto.specs.Framed.{framed, IsPart}
 use Rattle.warg_crypto.proofs.FramedLemmas.{framed_parts}
 
@@ -14,3 +15,10 @@ pub framed_pairs : (a b c d : List ℕ) → IsPart a → IsPart b → IsPart c �
 framed_pairs a b c d fa fb fc fd e =
     let same = framed_parts (a ∷ b ∷ []) (c ∷ d ∷ []) (pair a b fa fb) (pair c d fc fd) e in
     (cc, cc)
+
+-- Every digest has 32 bytes.
+abbrev pub HasSize : (List ℕ → List ℕ) → Type 0
+HasSize H = (m : List ℕ) → length (H m) ≡ 32
+
+pub sizes : {H : List ℕ → List ℕ} → GivesHashes H → HasSize H
+sizes gives m = (gives m).has_32

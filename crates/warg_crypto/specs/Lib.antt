@@ -1,5 +1,7 @@
+pub mod Bytes
 pub mod DigestFacts
 pub mod Digests
+pub mod Tree
 pub mod Collisions
 pub mod EmptyTrees
 pub mod Framed

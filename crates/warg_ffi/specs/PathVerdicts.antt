@@ -1,6 +1,7 @@
 -- Verdicts on the bytes of paths.
 use Rattle.std.specs.Prelude.{ℕ, Bool, false, ◌&&◌, nat_eq, List, ◌∷◌, Option, Some, None, Result, Ok, Err}
-use Rattle.std.specs.Cmp.Lexicographic.{pointwise}
+use Rattle.warg_crypto.specs.Tree.{leaf_digest}
+use Rattle.warg_crypto.specs.Bytes.{same_bytes}
 use Rattle.warg_log.specs.declared.error.DecodeError.TheVariants as decoding
 use Rattle.warg_paths.specs.Paths.{inclusion_root, consistency_roots}
 use Rattle.warg_paths.specs.Pieces.{hashes_of}
@@ -10,12 +11,12 @@ use Rattle.warg_check.specs.Verdicts.{is_root}
 
 -- The path leads from the value's leaf digest, at this index and length, to the root.
 abbrev pub shows_record : (List ℕ → List ℕ) → ℕ → List ℕ → ℕ → List ℕ → List (List ℕ) → Bool
-shows_record H index value length root path = is_root root (inclusion_root H index length (H (0 ∷ value)) path)
+shows_record H index value length root path = is_root root (inclusion_root H index length (leaf_digest H value) path)
 
 -- The two roots are there, and are these.
 abbrev pub are_both : List ℕ → List ℕ → Option (List ℕ × List ℕ) → Bool
 are_both old new None = false
-are_both old new (Some roots) = pointwise nat_eq roots.0 old && pointwise nat_eq roots.1 new
+are_both old new (Some roots) = same_bytes roots.0 old && same_bytes roots.1 new
 
 -- The path leads from the old root, between these lengths, to both roots.
 abbrev pub shows_tree : (List ℕ → List ℕ) → ℕ → List ℕ → ℕ → List ℕ → List (List ℕ) → Bool

@@ -6,9 +6,10 @@ use Rattle.std.proofs.lemmas.List.{take-append-le, drop-append-le, length-drop, 
 use Rattle.std.proofs.lemmas.Bool.Decides.{nat_tests}
 use Rattle.std.proofs.lemmas.Nat.{pow_pos}
 use Rattle.warg_log.specs.Nodes.{height_of, place_of, start_of, end_of}
-use Rattle.warg_log.specs.Tree.{root_of, leaves_below, leaves_in, IsSlice, digest_or_spacer}
+use Rattle.warg_log.specs.Tree.{root_of, leaves_below, leaves_in, slice_of, digest_or_spacer}
 use Rattle.warg_log.specs.Private.Slices.{IsSliceUpTo}
 use Rattle.warg_log.proofs.NodeLemmas.{node_is, node_at, last_leaf}
+use Rattle.warg_log.proofs.SliceLemmas.{slice_of-is}
 use Rattle.warg_log.proofs.RootLemmas.{root_of-one}
 use Rattle.warg_log.proofs.BalancedLemmas.{end_is}
 
@@ -43,13 +44,14 @@ pub record HasRoom (H : List ℕ → List ℕ) (ds base : List (List ℕ)) : Typ
   pub holds : (z : ℕ) → z < length base → get_or base z [] ≡ digest_or_spacer H ds z
   pub leaves : (d : List ℕ) → leaves_in (base ++ d ∷ []) ≡ ds ++ d ∷ []
 
-pub room_empty : (H : List ℕ → List ℕ) (tree : List (List ℕ)) → IsSlice H (leaves_in tree) tree → length (leaves_in tree) ≡ 0 → HasRoom H (leaves_in tree) tree
+pub room_empty : (H : List ℕ → List ℕ) (tree : List (List ℕ)) → tree ≡ slice_of H (leaves_in tree) → length (leaves_in tree) ≡ 0 → HasRoom H (leaves_in tree) tree
 room_empty H [] slice none = record { len = refl; holds = λ z lt. absurd (omega arith); leaves = λ d. refl }
 room_empty H (x ∷ []) slice none = absurd (omega arith)
 room_empty H (x ∷ y ∷ t) slice none = absurd (omega arith)
 
-pub room_more : (H : List ℕ → List ℕ) (tree : List (List ℕ)) → IsSlice H (leaves_in tree) tree → 0 < length (leaves_in tree) → HasRoom H (leaves_in tree) (tree ++ H [] ∷ [])
-room_more H tree slice some =
+pub room_more : (H : List ℕ → List ℕ) (tree : List (List ℕ)) → tree ≡ slice_of H (leaves_in tree) → 0 < length (leaves_in tree) → HasRoom H (leaves_in tree) (tree ++ H [] ∷ [])
+room_more H tree is some =
+    let slice = slice_of-is H (leaves_in tree) tree is in
     let len = length_push tree (H []) in
     record {
       len = omega (arith, len, slice.len);

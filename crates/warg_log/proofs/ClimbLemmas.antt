@@ -6,12 +6,12 @@ use Rattle.std.proofs.lemmas.Nat.{pow_pos}
 use Rattle.std.proofs.lemmas.Bool.{cases_Bool}
 use Rattle.std.proofs.lemmas.List.{map-append}
 use Rattle.warg_log.specs.Nodes.{height_of, place_of, start_of, end_of, node_over, number_of, balanced_over, balanced_roots, Follow, Fall}
-use Rattle.warg_log.specs.Cut.{top_of, cut_over, cut_root, old_root, IsFull, IsBeside}
+use Rattle.warg_log.specs.Cut.{top_of, cut_over, cut_root, old_root, IsFull}
 use Rattle.warg_log.specs.Walks.{climbed, joined_all}
 use Rattle.warg_protobuf.proofs.ForCallers.{all_weaken}
 use Rattle.warg_log.proofs.NodeLemmas.{node_is, only_number, over_at, over_ends}
 use Rattle.warg_log.proofs.CutLemmas.{cut_over-read, cut_over-split, nothing_beside}
-use Rattle.warg_log.proofs.WayLemmas.{missed}
+use Rattle.warg_log.proofs.WayLemmas.{IsBeside, missed}
 use Rattle.warg_log.proofs.BalancedLemmas.{end_is, balanced_first, none_left, roots, roots_end, balanced_roots-row}
 use Rattle.warg_log.proofs.OrderLemmas.{above, climb, not_power}
 

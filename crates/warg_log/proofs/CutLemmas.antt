@@ -5,11 +5,12 @@ use Rattle.std.proofs.Math.Seq.{take-length}
 use Rattle.std.proofs.lemmas.List.{length-drop, length-take-le, drop-drop, drop-take, take-take}
 use Rattle.std.proofs.lemmas.Bool.{le-leb}
 use Rattle.warg_log.specs.Nodes.{height_of, start_of, node_over}
-use Rattle.warg_log.specs.Tree.{branch, front_of, root_of, own_digest, leaves_below, root_over}
-use Rattle.warg_log.specs.Cut.{joined, top_of, cut_over, cut_root, IsFull, IsBeside, old_over, old_root}
+use Rattle.warg_crypto.specs.Tree.{branch}
+use Rattle.warg_log.specs.Tree.{front_of, root_of, own_digest, leaves_below, root_over}
+use Rattle.warg_log.specs.Cut.{joined, top_of, cut_over, cut_root, IsFull, old_over, old_root}
 use Rattle.warg_log.proofs.NodeLemmas.{over_at}
 use Rattle.warg_log.proofs.RootLemmas.{below_pow, root_of-split}
-use Rattle.warg_log.proofs.WayLemmas.{way_over-target, way_over-read, way_over-split, way_over-parts, ways}
+use Rattle.warg_log.proofs.WayLemmas.{IsBeside, way_over-target, way_over-read, way_over-split, way_over-parts, ways}
 
 -- the range of the target, a range that is read, and any other, split at its front
 module _ (H : List ℕ → List ℕ) (F : ℕ → Option (List ℕ)) (x : List ℕ) (s w : ℕ) where

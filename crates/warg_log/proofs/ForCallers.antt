@@ -1,10 +1,12 @@
 -- Lemmas for the proofs of the crates above, over public definitions alone.
-use Rattle.std.proofs.Common.{◌≡◌, ℕ, suc, ◌+◌, ◌-◌, ◌*◌, ◌^◌, ◌<◌, ◌≤◌, List, [], ◌∷◌, length, map, Option, Some, Ok, slice_index_or, refl, arith}
+use Rattle.std.proofs.Common.{◌≡◌, ℕ, suc, ◌+◌, ◌-◌, ◌*◌, ◌^◌, ◌<◌, ◌≤◌, List, [], ◌∷◌, length, map, Option, Some, Ok, slice_index_or, refl, arith, ◌⊎◌}
 use Rattle.std.specs.List.{AllByRecursion}
 use Rattle.std.proofs.lemmas.Nat.{pow_pos}
 use Rattle.warg_log.specs.Nodes.{IsNode, ExistsAt, height_of, place_of, node_over, balanced_over}
-use Rattle.warg_log.specs.Tree.{branch, front_of, root_over, own_digest}
-use Rattle.warg_log.specs.Cut.{joined, cut_over, old_over, IsFull, IsBeside}
+use Rattle.warg_crypto.specs.Tree.{branch}
+use Rattle.warg_log.specs.Ranges.{IsAligned}
+use Rattle.warg_log.specs.Tree.{front_of, root_over, own_digest}
+use Rattle.warg_log.specs.Cut.{joined, cut_over, old_over, IsFull}
 use Rattle.warg_log.specs.Walks.{needed}
 use Rattle.warg_log.specs.Consistency.{consistency, IsConsistent}
 use Rattle.warg_log.specs.Claims.{ConsistencyClaim, InclusionClaim}
@@ -70,12 +72,12 @@ pub cut_target : (H : List ℕ → List ℕ) (F : ℕ → Option (List ℕ)) (x 
 cut_target = cuts.cut_over-target
 
 -- the cut root of a range that isn't read is the branch over those of its parts
-pub cut_parts : (H : List ℕ → List ℕ) (F : ℕ → Option (List ℕ)) (x : List ℕ) (s w a n : ℕ) → 1 < n → (a ≡ s → n ≡ w → ⊥) → (IsFull n → IsBeside s w a n → ⊥)
+pub cut_parts : (H : List ℕ → List ℕ) (F : ℕ → Option (List ℕ)) (x : List ℕ) (s w a n : ℕ) → 1 < n → (a ≡ s → n ≡ w → ⊥) → (IsFull n → (a + n ≤ s) ⊎ (s + w ≤ a) → ⊥)
     → cut_over H F x s w a n ≡ joined H (cut_over H F x s w a (front_of n)) (cut_over H F x s w (a + front_of n) (n - front_of n))
 cut_parts = cuts.cut_over-parts
 
 -- the cut root of a range that misses the target is its old root
-pub cut_old : (H : List ℕ → List ℕ) (F : ℕ → Option (List ℕ)) (x : List ℕ) (s w a n : ℕ) → 0 < w → 0 < n → IsBeside s w a n → cut_over H F x s w a n ≡ old_over H F a n
+pub cut_old : (H : List ℕ → List ℕ) (F : ℕ → Option (List ℕ)) (x : List ℕ) (s w a n : ℕ) → 0 < w → 0 < n → (a + n ≤ s) ⊎ (s + w ≤ a) → cut_over H F x s w a n ≡ old_over H F a n
 cut_old = laws.cut_old
 
 -- where all digests have 32 bytes, so has each cut root
@@ -84,9 +86,9 @@ pub cut_size : (H : List ℕ → List ℕ) (F : ℕ → Option (List ℕ)) (x : 
 cut_size H F x s w a n r gives holds own = laws.top_of-size H F x gives holds own _ r
 
 -- over a log's own digests the cut root of a range of its recursion is the root over it
-pub cut_own_range : (H : List ℕ → List ℕ) (ds : List (List ℕ)) (s w k c n : ℕ) → 0 < n → n ≤ 2 ^ k → c * 2 ^ k + n ≤ length ds
-    → cut_over H (own_digest H ds) (root_over H ds s w) s w (c * 2 ^ k) n ≡ Some (root_over H ds (c * 2 ^ k) n)
-cut_own_range H ds s w k j n = cuts.own_at H ds _ s w k j (j * 2 ^ k) n refl refl
+pub cut_own_range : (H : List ℕ → List ℕ) (ds : List (List ℕ)) (s w a n : ℕ) → 0 < n → IsAligned a n → a + n ≤ length ds
+    → cut_over H (own_digest H ds) (root_over H ds s w) s w a n ≡ Some (root_over H ds a n)
+cut_own_range H ds s w a n some aligned = cuts.own_at H ds _ s w aligned.height aligned.place a n refl aligned.start some aligned.most
 
 -- the old root of a power of two of leaves is the digest that is held for them
 pub old_full : (H : List ℕ → List ℕ) (F : ℕ → Option (List ℕ)) (a n : ℕ) → IsFull n → old_over H F a n ≡ F (node_over a n)
@@ -98,9 +100,9 @@ pub old_parts : (H : List ℕ → List ℕ) (F : ℕ → Option (List ℕ)) (a n
 old_parts = cuts.old_over-parts
 
 -- over a log's own digests the old root of a range of its recursion is the root over it
-pub old_own_range : (H : List ℕ → List ℕ) (ds : List (List ℕ)) (k c n : ℕ) → 0 < n → n ≤ 2 ^ k → c * 2 ^ k + n ≤ length ds
-    → old_over H (own_digest H ds) (c * 2 ^ k) n ≡ Some (root_over H ds (c * 2 ^ k) n)
-old_own_range H ds k j n = cuts.own_at H ds _ 0 0 k j (j * 2 ^ k) n refl refl
+pub old_own_range : (H : List ℕ → List ℕ) (ds : List (List ℕ)) (a n : ℕ) → 0 < n → IsAligned a n → a + n ≤ length ds
+    → old_over H (own_digest H ds) a n ≡ Some (root_over H ds a n)
+old_own_range H ds a n some aligned = cuts.own_at H ds _ 0 0 aligned.height aligned.place a n refl aligned.start some aligned.most
 
 -- a consistency proof evaluates to the roots that meet it alone
 pub consistency_only : (H : List ℕ → List ℕ) (F : ℕ → Option (List ℕ)) (m n : ℕ) (old new : List ℕ) → consistency H F m n ≡ Ok (old, new) → IsConsistent H F m n old new

@@ -4,13 +4,14 @@ use Rattle.std.specs.List.{AllByRecursion}
 use Rattle.std.proofs.lemmas.Nat.{pow_pos}
 use Rattle.std.proofs.lemmas.Bool.{cond_both}
 use Rattle.warg_log.specs.Nodes.{IsNode, ExistsAt, height_of, start_of, end_of, node_over}
-use Rattle.warg_log.specs.Tree.{branch, root_over}
-use Rattle.warg_log.specs.Cut.{joined, is_beside, Way, at_target, at_node, at_parts, top_of, cut_over, old_over, IsBeside}
+use Rattle.warg_crypto.specs.Tree.{branch}
+use Rattle.warg_log.specs.Tree.{root_over}
+use Rattle.warg_log.specs.Cut.{joined, is_beside, Way, at_target, at_node, at_parts, top_of, cut_over, old_over}
 use Rattle.warg_log.specs.Walks.{needed, read_on}
 use Rattle.warg_protobuf.proofs.ForCallers.{all_append}
 use Rattle.warg_log.proofs.NodeLemmas.{over_ends}
 use Rattle.warg_log.proofs.RootLemmas.{root_of-one}
-use Rattle.warg_log.proofs.WayLemmas.{ways_from, front_missed, rest_missed}
+use Rattle.warg_log.proofs.WayLemmas.{IsBeside, ways_from, front_missed, rest_missed}
 use Rattle.warg_log.proofs.CutLemmas.{old_over-full, old_over-split}
 
 pub root_over-one : (H : List ℕ → List ℕ) (ds : List (List ℕ)) (a : ℕ) → a < length ds → root_over H ds a 1 ≡ slice_index_or ds a []

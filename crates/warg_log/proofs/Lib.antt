@@ -24,3 +24,5 @@ pub mod SameLemmas
 pub mod ImageLemmas
 pub mod TreeLemmas
 pub mod ForCallers
+mod DecimalLemmas
+mod TextLemmas

@@ -8,12 +8,12 @@ use Rattle.std.proofs.lemmas.List.{length-append, append-nil, length-reverse}
 use Rattle.std.proofs.lemmas.Bool.{ne_eqb, eq-eqb, cond_both, cases_lt, cases_eq}
 use Rattle.std.proofs.lemmas.Nat.{pow_pos, pow-add, shl-shr, shr-shr, le-div, div_below}
 use Rattle.warg_log.specs.Nodes.{sibling_place, node_over, number_of, balanced_within, balanced_over, balanced_roots}
-use Rattle.warg_log.specs.Cut.{Way, at_target, at_node, at_parts, way_over, is_beside, IsBeside}
+use Rattle.warg_log.specs.Cut.{Way, at_target, at_node, at_parts, way_over, is_beside}
 use Rattle.warg_log.specs.Walks.{read_on, needed_over, siblings_up}
 use Rattle.warg_protobuf.proofs.ForCallers.{all_append, all_weaken}
 use Rattle.warg_log.proofs.RootLemmas.{below_pow, same_power}
 use Rattle.warg_log.proofs.BalancedLemmas.{balanced_none, balanced_first, balanced_at, balanced_full, roots}
-use Rattle.warg_log.proofs.WayLemmas.{beside_decides, beside_false, cases_beside, missed, front_missed, rest_missed, way_over-target, way_over-read, way_over-split, ways_from}
+use Rattle.warg_log.proofs.WayLemmas.{IsBeside, beside_decides, beside_false, cases_beside, missed, front_missed, rest_missed, way_over-target, way_over-read, way_over-split, ways_from}
 use Rattle.warg_log.proofs.NodeLemmas.{pow_below_pow}
 
 pub reverse-cons : (xs : List ℕ) (x : ℕ) → reverse (x ∷ xs) ≡ reverse xs ++ x ∷ []

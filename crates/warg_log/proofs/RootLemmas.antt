@@ -3,7 +3,8 @@ use Rattle.std.proofs.Common.{◌≡◌, ℕ, zero, suc, ◌+◌, ◌-◌, ◌*�
 use Rattle.std.proofs.Math.Nat.{add-suc, add_comm, pow-suc, pow-le-pow_right}
 use Rattle.std.proofs.lemmas.Bool.{le-leb, lt-leb, cases_lt}
 use Rattle.std.proofs.lemmas.Nat.{pow_pos}
-use Rattle.warg_log.specs.Tree.{branch, front_within, front_of, root_within, root_of}
+use Rattle.warg_crypto.specs.Tree.{branch}
+use Rattle.warg_log.specs.Tree.{front_within, front_of, root_within, root_of}
 use Rattle.warg_log.proofs.NodeLemmas.{pow_below_pow}
 
 pub below_pow : (n : ℕ) → n < 2 ^ n

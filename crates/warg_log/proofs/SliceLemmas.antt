@@ -4,9 +4,11 @@ use Rattle.std.proofs.lemmas.Bool.{le-leb, cases_lt, cases_eq}
 use Rattle.std.proofs.lemmas.List.{get_or_default, get_or-set_same, get_or-set_other, length-set}
 use Rattle.std.proofs.Math.Nat.{pow-suc, eq_of_mul-eq-mul_left}
 use Rattle.std.proofs.lemmas.Nat.{pow_pos, pow-add}
+use Rattle.std.proofs.lemmas.List.FromFn.{fill_by_all, length-map-range_with_len, get_or-map-range_with_len}
 use Rattle.std.proofs.Math.ListN.{get_or}
 use Rattle.warg_log.specs.Nodes.{IsNode, height_of, place_of, end_of}
-use Rattle.warg_log.specs.Tree.{branch, root_of, root_over, leaves_below, leaves_in, IsSlice, own_digest}
+use Rattle.warg_crypto.specs.Tree.{branch}
+use Rattle.warg_log.specs.Tree.{root_of, root_over, leaves_below, leaves_in, digest_or_spacer, slice_of, own_digest}
 use Rattle.warg_log.specs.Private.Slices.{IsSliceUpTo}
 use Rattle.warg_log.proofs.NodeLemmas.{parts, node_is, node_at}
 use Rattle.warg_log.proofs.CutLemmas.{root_over-split}
@@ -15,9 +17,29 @@ use Rattle.warg_log.proofs.CutLemmas.{root_over-split}
 pub inside_slice : (x n m : ℕ) → end_of x ≤ n → m ≡ 2 * n - 1 → x < m
 inside_slice x n m exists is = omega (arith, pow_pos, node_is x)
 
+-- a slice place by place
+pub record IsSlice (H : List ℕ → List ℕ) (ds tree : List (List ℕ)) : Type 0 where
+  pub len : length tree ≡ 2 * length ds - 1
+  pub holds : (x : ℕ) → x < length tree → get_or tree x [] ≡ digest_or_spacer H ds x
+
+pub slice_is : (H : List ℕ → List ℕ) (ds tree : List (List ℕ)) → IsSlice H ds tree → tree ≡ slice_of H ds
+slice_is H ds tree s = fill_by_all (digest_or_spacer H ds) tree (2 * length ds - 1) [] s.len (λ k lt. s.holds k (rw s.len lt))
+
+pub slice_of-is : (H : List ℕ → List ℕ) (ds tree : List (List ℕ)) → tree ≡ slice_of H ds → IsSlice H ds tree
+slice_of-is H ds tree e =
+    let len : length tree ≡ 2 * length ds - 1 = ap length e ∙ length-map-range_with_len (digest_or_spacer H ds) 0 (2 * length ds - 1) in
+    record {
+      len = len;
+      holds = λ x lt. ap (λ l. get_or l x []) e ∙ get_or-map-range_with_len (digest_or_spacer H ds) 0 (2 * length ds - 1) x x [] (rw len at lt) (omega arith);
+    }
+
+pub slice_size : (H : List ℕ → List ℕ) (ds tree : List (List ℕ)) → tree ≡ slice_of H ds → length tree ≡ 2 * length ds - 1
+slice_size H ds tree is = (slice_of-is H ds tree is).len
+
 -- a log holds what stands at the place of a node that exists
-pub own_digest_held : (H : List ℕ → List ℕ) (ds tree : List (List ℕ)) (x : ℕ) (d : List ℕ) → IsSlice H ds tree → end_of x ≤ length ds → d ≡ get_or tree x d → Some d ≡ own_digest H ds x
-own_digest_held H ds tree x d slice exists read =
+pub own_digest_held : (H : List ℕ → List ℕ) (ds tree : List (List ℕ)) (x : ℕ) (d : List ℕ) → tree ≡ slice_of H ds → end_of x ≤ length ds → d ≡ get_or tree x d → Some d ≡ own_digest H ds x
+own_digest_held H ds tree x d is exists read =
+    let slice = slice_of-is H ds tree is in
     let inside = inside_slice x (length ds) (length tree) exists slice.len in
     rw (read ∙ get_or_default tree x d [] inside ∙ slice.holds x inside, le-leb (end_of x) (length ds) exists) refl
 
@@ -100,8 +122,8 @@ not_above x z even ends tall =
     omega arith
 
 -- at a left node nothing is left to be done
-pub finished : (H : List ℕ → List ℕ) (ds tree : List (List ℕ)) (x : ℕ) → end_of x ≡ length ds → place_of x % 2 ≡ 0 → IsSliceUpTo H ds tree (height_of x) → IsSlice H ds tree
-finished H ds tree x last even slice = record {
+pub finished : (H : List ℕ → List ℕ) (ds tree : List (List ℕ)) (x : ℕ) → end_of x ≡ length ds → place_of x % 2 ≡ 0 → IsSliceUpTo H ds tree (height_of x) → tree ≡ slice_of H ds
+finished H ds tree x last even slice = slice_is H ds tree (record {
   len = slice.len;
   holds = λ z z_in. slice.holds z z_in (λ ends. ⊎_elim (λ tall. absurd (not_above x z even (ends ∙ sym last) tall)) (λ low. low) (cases_lt (height_of x) (height_of z)));
-}
+})

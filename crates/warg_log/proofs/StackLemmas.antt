@@ -8,7 +8,8 @@ use Rattle.std.proofs.lemmas.Nat.{pow_pos, pow-add}
 use Rattle.std.proofs.lemmas.Simd.{map-map}
 use Rattle.std.proofs.lemmas.Bool.{le-leb, eq-eqb, ne_eqb, cases_eq}
 use Rattle.warg_log.specs.Nodes.{height_of, place_of, start_of, end_of, node_over, balanced_over, balanced_roots}
-use Rattle.warg_log.specs.Tree.{branch, root_of, root_over, leaves_below, own_digest}
+use Rattle.warg_crypto.specs.Tree.{branch}
+use Rattle.warg_log.specs.Tree.{root_of, root_over, leaves_below, own_digest}
 use Rattle.warg_log.specs.Cut.{joined, old_root}
 use Rattle.warg_log.specs.Walks.{joined_all}
 use Rattle.warg_log.specs.Blocks.{Blocks, StandsFor, digest_beside, block_at, block_over, joined_blocks, pushed}

@@ -7,8 +7,9 @@ use Rattle.std.proofs.lemmas.List.{map_push, append-nil, length-append, length-m
 use Rattle.std.proofs.lemmas.Nat.{pow_pos, pow-add, shr-shr}
 use Rattle.warg_log.specs.declared.node.Node.{Node}
 use Rattle.warg_log.specs.Nodes.{IsNode, ExistsAt, height_of, place_of, start_of, end_of, sibling_place, node_over, number_of, balanced_over}
-use Rattle.warg_log.specs.Cut.{IsBeside}
+use Rattle.warg_log.specs.Ranges.{IsAligned}
 use Rattle.warg_log.specs.Walks.{needed, needed_over, siblings_up, IsWalk, IsWalkOver}
+use Rattle.warg_log.proofs.WayLemmas.{IsBeside}
 use Rattle.warg_log.proofs.NodeLemmas.{node_at, only_number, pow_below_pow, parts}
 use Rattle.warg_log.proofs.RootLemmas.{same_power}
 use Rattle.warg_log.proofs.BalancedLemmas.{IsFirst, first_cut}
@@ -33,21 +34,16 @@ step_pushed x p xs ys y old k j le place sib par pushed so_far =
     let number : y.0 ≡ number_of (k + (height_of x - k)) (sibling_place (j / 2 ^ (height_of x - k))) = only_number y.0 _ _ sib ∙ rw (add-sub_of_le le, place) refl in
     rw (pushed, map_push, so_far, number, up) (append_assoc old (siblings_up (height_of x - k) k j) _)
 
--- the leaves from a up to e are fewer than a power of two, and begin at a multiple of it
-abbrev pub IsAligned : ℕ → ℕ → Type 0
-IsAligned a e = (h c : ℕ) × (a ≡ c * 2 ^ h) × (e - a < 2 ^ h)
-
 -- where the first balanced root begins, and the next one
-pub root_start : (a e n : ℕ) → IsAligned a e → (first : IsFirst a e n) → (c : ℕ) × (a ≡ c * 2 ^ first.0)
+pub root_start : (a e n : ℕ) → IsAligned a (e - a) → (first : IsFirst a e n) → (c : ℕ) × (a ≡ c * 2 ^ first.0)
 root_start a e n aligned first =
-    let lt : first.0 < aligned.0 = pow_below_pow first.0 aligned.0 (omega arith) in
-    (aligned.1 * 2 ^ (aligned.0 - first.0), aligned.2 ∙ rw (parts first.0 aligned.0 (omega arith)) (omega arith))
+    let le : first.0 < suc aligned.height = pow_below_pow first.0 (suc aligned.height) (omega (arith, aligned.most, pow-suc 2 aligned.height, pow_pos aligned.height)) in
+    (aligned.place * 2 ^ (aligned.height - first.0), aligned.start ∙ rw (parts first.0 aligned.height (omega arith)) (omega arith))
 
-pub aligned_next : (a e n : ℕ) → IsAligned a e → IsFirst a e n → IsAligned (a + n) e
+pub aligned_next : (a e n : ℕ) → IsAligned a (e - a) → IsFirst a e n → IsAligned (a + n) (e - (a + n))
 aligned_next a e n aligned first =
     let c = root_start a e n aligned first in
-    let at = c.1 in
-    (first.0, c.0 + 1, omega arith, omega (arith, pow-add 2 first.0 1))
+    let at = c.1 in record { height = first.0; place = c.0 + 1; start = omega arith; most = omega (arith, pow-add 2 first.0 1) }
 
 -- the first balanced root of the leaves from a up to e, of n leaves, misses the node x
 pub record HasMissed (x a e n : ℕ) : Type 0 where
@@ -78,7 +74,7 @@ pub record HasFound (x a e n h : ℕ) : Type 0 where
   pub needs : needed_over (start_of x) (2 ^ height_of x) a (e - a) ≡ siblings_up (h - height_of x) (height_of x) (place_of x) ++ reverse (balanced_over (a + n) (e - (a + n)))
   pub roots : balanced_over a (e - a) ≡ number_of (height_of x + (h - height_of x)) (place_of x / 2 ^ (h - height_of x)) ∷ balanced_over (a + n) (e - (a + n))
 
-pub found_first : (x a e n h : ℕ) → IsAligned a e → IsFirst a e n → a ≤ start_of x → end_of x ≤ e → 2 ^ h ≤ n → n < 2 * 2 ^ h
+pub found_first : (x a e n h : ℕ) → IsAligned a (e - a) → IsFirst a e n → a ≤ start_of x → end_of x ≤ e → 2 ^ h ≤ n → n < 2 * 2 ^ h
     → (IsBeside (start_of x) (2 ^ height_of x) a n → ⊥) → HasFound x a e n h
 found_first x a e n h aligned first starts ends below above inside =
     let width : n ≡ 2 ^ h = same_power n h first.0 below above first.1 in

@@ -6,42 +6,28 @@ use Rattle.std.specs.Cmp.Lexicographic.{pointwise, pointwise_decides, bytes_deci
 use Rattle.std.proofs.Math.Nat.{pow-suc}
 use Rattle.std.proofs.lemmas.Nat.{pow_pos}
 use Rattle.std.proofs.lemmas.List.{ext_get_or, get_or_read}
-use Rattle.std.proofs.lemmas.List.FromFn.{fill_by_all, length-map-range_with_len, get_or-map-range_with_len}
 use Rattle.std.proofs.lemmas.Bool.{cases_lt, cases_eq, le-leb, lt-leb, false≢true}
 use Rattle.std.proofs.lemmas.Bool.Decides.{Decides-and, Decides-eqb}
 use Rattle.warg_protobuf.specs.VecLog.{VecImage}
 use Rattle.warg_log.specs.Nodes.{IsNode, height_of, place_of, end_of, number_of}
-use Rattle.warg_log.specs.Tree.{branch, root_over, leaves_in, IsSlice, digest_or_spacer}
-use Rattle.warg_log.specs.Images.{slice_of, vec_message, is_slice_of_length, vec_in}
+use Rattle.warg_crypto.specs.Tree.{branch}
+use Rattle.warg_log.specs.Tree.{root_over, leaves_in, slice_of, digest_or_spacer}
+use Rattle.warg_log.specs.Images.{vec_message, is_slice_of_length, vec_in}
 use Rattle.warg_log.specs.Private.Slices.{IsHeld}
 use Rattle.warg_log.proofs.ImageLemmas.{all_good}
 use Rattle.warg_log.proofs.NodeLemmas.{parts, node_is, only_number, over_at}
-use Rattle.warg_log.proofs.SliceLemmas.{root_below}
+use Rattle.warg_log.proofs.SliceLemmas.{IsSlice, slice_is, slice_of-is, root_below}
 use Rattle.warg_log.proofs.LawLemmas.{root_over-one}
-
--- the slice as a list
-slice_is : (H : List ℕ → List ℕ) (ds tree : List (List ℕ)) → IsSlice H ds tree → tree ≡ slice_of H ds
-slice_is H ds tree s = fill_by_all (digest_or_spacer H ds) tree (2 * length ds - 1) [] s.len (λ k lt. s.holds k (rw s.len lt))
-
-slice_of-is : (H : List ℕ → List ℕ) (ds tree : List (List ℕ)) → tree ≡ slice_of H ds → IsSlice H ds tree
-slice_of-is H ds tree e =
-    let len : length tree ≡ 2 * length ds - 1 = ap length e ∙ length-map-range_with_len (digest_or_spacer H ds) 0 (2 * length ds - 1) in
-    record {
-      len = len;
-      holds = λ x lt. ap (λ l. get_or l x []) e ∙ get_or-map-range_with_len (digest_or_spacer H ds) 0 (2 * length ds - 1) x x [] (rw len at lt) (omega arith);
-    }
 
 -- a tree and a length, and the message of a log, which is read as the log
 module _ (H : List ℕ → List ℕ) (n : ℕ) (tree : List (List ℕ)) where
-  pub slice_decides : Decides (is_slice_of_length H n tree) ((length (leaves_in tree) ≡ n) × IsSlice H (leaves_in tree) tree)
-  slice_decides =
-      let texts = pointwise_decides {E = pointwise nat_eq} bytes_decides tree (slice_of H (leaves_in tree)) in
-      Decides-and _ _ (Decides-eqb (length (leaves_in tree)) n) ((λ e. slice_of-is H (leaves_in tree) tree (texts.0 e)), (λ s. texts.1 (slice_is H (leaves_in tree) tree s)))
+  pub slice_decides : Decides (is_slice_of_length H n tree) ((length (leaves_in tree) ≡ n) × (tree ≡ slice_of H (leaves_in tree)))
+  slice_decides = Decides-and _ _ (Decides-eqb (length (leaves_in tree)) n) (pointwise_decides {E = pointwise nat_eq} bytes_decides tree (slice_of H (leaves_in tree)))
 
-  pub message_is : length (leaves_in tree) ≡ n → IsSlice H (leaves_in tree) tree → vec_message H (leaves_in tree) ≡ record { length = n; tree = tree }
-  message_is count slice = rw (← slice_is H (leaves_in tree) tree slice, count) refl
+  pub message_is : length (leaves_in tree) ≡ n → tree ≡ slice_of H (leaves_in tree) → vec_message H (leaves_in tree) ≡ record { length = n; tree = tree }
+  message_is count slice = rw (← slice, count) refl
 
-  pub vec_again : length (leaves_in tree) ≡ n → IsSlice H (leaves_in tree) tree → AllByRecursion (λ d. length d ≡ 32) tree → vec_in H (record { length = n; tree = tree }) ≡ Ok (leaves_in tree)
+  pub vec_again : length (leaves_in tree) ≡ n → tree ≡ slice_of H (leaves_in tree) → AllByRecursion (λ d. length d ≡ 32) tree → vec_in H (record { length = n; tree = tree }) ≡ Ok (leaves_in tree)
   vec_again count slice lens = rw (all_good tree lens, slice_decides.1 (count, slice)) refl
 
 -- ---- the leaves of a tree
@@ -116,18 +102,19 @@ module _ (H : List ℕ → List ℕ) (n : ℕ) (tree : List (List ℕ)) (len : l
       ∙ rw (held_all k (2 * j) inside.0, held_all k (2 * j + 1) inside.1) (sym (own_branch H (leaves_in tree) k j (rw count ends))))
       (cases_lt n ((j + 1) * 2 ^ suc k))
 
-  pub held_slice : IsSlice H (leaves_in tree) tree
-  held_slice = record {
+  pub held_slice : tree ≡ slice_of H (leaves_in tree)
+  held_slice = slice_is H (leaves_in tree) tree (record {
     len = rw count len;
     holds = λ x lt.
         let number : x ≡ number_of (height_of x) (place_of x) = only_number x (height_of x) (place_of x) (node_is x) in
         rw number (held_all (height_of x) (place_of x) (rw (← number) lt));
-  }
+  })
 
 -- and a slice's branches do
-pub slice_held : (H : List ℕ → List ℕ) (n : ℕ) (tree : List (List ℕ)) → length (leaves_in tree) ≡ n → IsSlice H (leaves_in tree) tree → (x : ℕ) → x < length tree → x % 2 ≡ 1 → IsHeld H n tree x
-slice_held H n tree count slice x lt odd =
+pub slice_held : (H : List ℕ → List ℕ) (n : ℕ) (tree : List (List ℕ)) → length (leaves_in tree) ≡ n → tree ≡ slice_of H (leaves_in tree) → (x : ℕ) → x < length tree → x % 2 ≡ 1 → IsHeld H n tree x
+slice_held H n tree count is x lt odd =
     let ds = leaves_in tree in
+    let slice = slice_of-is H ds tree is in
     let k = height_of x - 1 in
     let j = place_of x in
     let tall : suc (height_of x - 1) ≡ height_of x = omega (arith, is_branch x odd) in
@@ -150,6 +137,6 @@ slice_leaves H ds tree slice = ext_get_or [] (leaves_in tree) ds (leaves_count t
 -- a message whose tree is no slice is no log's
 pub no_log : (H : List ℕ → List ℕ) (m : VecImage) (ds : List (List ℕ)) → is_slice_of_length H m.length m.tree ≡ false → vec_message H ds ≡ m → ⊥
 no_log H m ds other is =
-    let slice : IsSlice H ds m.tree = slice_of-is H ds m.tree (sym (ap (λ (i : VecImage). i.tree) is)) in
-    let leaves : leaves_in m.tree ≡ ds = slice_leaves H ds m.tree slice in
+    let slice : m.tree ≡ slice_of H ds = sym (ap (λ (i : VecImage). i.tree) is) in
+    let leaves : leaves_in m.tree ≡ ds = slice_leaves H ds m.tree (slice_of-is H ds m.tree slice) in
     false≢true (sym other ∙ (slice_decides H m.length m.tree).1 (ap length leaves ∙ ap (λ (i : VecImage). i.length) is, rw leaves slice))

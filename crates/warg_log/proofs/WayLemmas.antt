@@ -1,5 +1,6 @@
 -- The way of an evaluation down a range.
 use Rattle.std.proofs.Common.{◌≡◌, ℕ, zero, suc, ◌+◌, ◌-◌, ◌*◌, ◌^◌, ◌<◌, ◌≤◌, ◌==◌, ◌&&◌, true, false, if◌then◌else◌, refl, sym, ◌∙◌, arith, ⊎_elim, ◌⊎◌, inl, inr}
+use Rattle.std.specs.Prelude.{IsTrue}
 use Rattle.std.specs.Bool.{Decides}
 use Rattle.std.proofs.Math.Nat.{pow-suc}
 use Rattle.std.proofs.lemmas.Bool.{le-leb, lt-leb, leb-true, false_from_ne_true, false≢true, cond_both, cases_Bool, cases_lt}
@@ -7,8 +8,12 @@ use Rattle.std.proofs.lemmas.Bool.Decides.{Decides-and, Decides-or, Decides-eqb,
 use Rattle.std.proofs.lemmas.Nat.{pow_pos}
 use Rattle.warg_log.specs.Nodes.{node_over}
 use Rattle.warg_log.specs.Tree.{front_of}
-use Rattle.warg_log.specs.Cut.{is_target, is_beside, Way, at_target, at_node, at_parts, way_within, way_over, IsFull, IsBeside}
+use Rattle.warg_log.specs.Cut.{is_target, is_beside, Way, at_target, at_node, at_parts, way_within, way_over, IsFull}
 use Rattle.warg_log.proofs.RootLemmas.{below_pow, settled_at, front_is}
+
+-- the range misses the target
+abbrev pub IsBeside : ℕ → ℕ → ℕ → ℕ → Type 0
+IsBeside s w a n = (a + n ≤ s) ⊎ (s + w ≤ a)
 
 -- the tests
 target_decides : (s w a n : ℕ) → Decides (is_target s w a n) ((a ≡ s) × (n ≡ w))
@@ -22,6 +27,16 @@ read_decides s w h a n = Decides-and _ _ (Decides-eqb n (2 ^ suc h)) (beside_dec
 
 target_false : (s w a n : ℕ) → (a ≡ s → n ≡ w → ⊥) → is_target s w a n ≡ false
 target_false s w a n other = false_from_ne_true (is_target s w a n) (λ e. let p = (target_decides s w a n).0 e in other p.0 p.1)
+
+pub is_beside-true : (s w a n : ℕ) → IsBeside s w a n → IsTrue (is_beside s w a n)
+is_beside-true s w a n beside = (beside_decides s w a n).1 beside
+
+pub is_beside-so : (s w a n : ℕ) → IsTrue (is_beside s w a n) → IsBeside s w a n
+is_beside-so s w a n beside = (beside_decides s w a n).0 beside
+
+pub read_so : (s w a n : ℕ) → (n ≡ 1) ⊎ (IsFull n × IsTrue (is_beside s w a n)) → (n ≡ 1) ⊎ (IsFull n × IsBeside s w a n)
+read_so s w a n (inl one) = inl one
+read_so s w a n (inr full) = inr (full.0, is_beside-so s w a n full.1)
 
 pub beside_false : (s w a n : ℕ) → (IsBeside s w a n → ⊥) → is_beside s w a n ≡ false
 beside_false s w a n inside = false_from_ne_true (is_beside s w a n) (λ e. inside ((beside_decides s w a n).0 e))

@@ -1,7 +1,8 @@
 -- A log that holds the digests of its balanced roots alone.
 use Rattle.std.specs.Prelude.{◌≡◌, ℕ, zero, suc, ◌+◌, ◌^◌, ◌==◌, if◌then◌else◌, List, [], ◌∷◌, length, map, Option, Some, None, unwrap_or}
 use Rattle.warg_log.specs.Nodes.{height_of, start_of, node_over, balanced_roots}
-use Rattle.warg_log.specs.Tree.{branch, root_of, leaves_below}
+use Rattle.warg_crypto.specs.Tree.{branch}
+use Rattle.warg_log.specs.Tree.{from_right, root_of, leaves_below}
 
 -- A length, and a digest for each balanced root of it, from left to right.
 pub record Blocks : Type 0 where
@@ -36,8 +37,6 @@ pub record StandsFor (H : List ℕ → List ℕ) (b : Blocks) (ds : List (List �
   pub count : length ds ≡ b.len
   pub roots : b.digests ≡ map (λ t. root_of H (leaves_below t ds)) (balanced_roots b.len)
 
--- Blocks joined from the right: the first, and then those behind it as one; H of no bytes of none.
+-- Blocks joined from the right, and the digest of no bytes where there is none.
 abbrev pub joined_blocks : (List ℕ → List ℕ) → List (List ℕ) → List ℕ
-joined_blocks H [] = H []
-joined_blocks H (d ∷ []) = d
-joined_blocks H (d ∷ e ∷ ds) = branch H d (joined_blocks H (e ∷ ds))
+joined_blocks H = from_right (branch H) (H [])

@@ -13,7 +13,7 @@ use Rattle.warg_log.specs.Cut.{cut_root}
 use Rattle.warg_log.specs.Consistency.{consistency}
 use Rattle.warg_log.specs.Claims.{InclusionClaim, ConsistencyClaim}
 use Rattle.warg_log.specs.Sparse.{held_digest}
-use Rattle.warg_log.specs.Bundles.{Bundle}
+use Rattle.warg_log.specs.Bundles.{Bundle, bundle_of}
 use Rattle.warg_log.specs.Decoding.{unless, earlier, first_fault}
 
 -- The nodes that a consistency proof from m to n needs: each balanced root of m, and the nodes that it
@@ -82,6 +82,12 @@ bundle_at F old_lengths nodes n = unless (first_fault (node_fault F) (needed_asc
 -- The bundle of these proofs with the digests of F that they need, or the first fault.
 abbrev pub bundled : (ℕ → Option (List ℕ)) → List ConsistencyClaim → List InclusionClaim → Result Bundle BundleError
 bundled F cs ps = bundle_length cs ps >>= bundle_at F (map (λ p. p.old_length) cs) (map (λ p. p.leaf) ps)
+
+-- The bytes spell the bundle of these proofs with the digests of F that they need.
+pub record SpellsBundle (F : ℕ → Option (List ℕ)) (cs : List ConsistencyClaim) (ps : List InclusionClaim) (bytes : List ℕ) : Type 0 where
+  pub bundle : Bundle
+  pub is : bundled F cs ps ≡ Ok bundle
+  pub spells : bundle_of bytes ≡ Ok bundle
 
 -- The bundle has a digest for exactly the nodes that its proofs need.
 abbrev pub HoldsNeeded : Bundle → Type 0

@@ -1,5 +1,5 @@
 -- What contracts see of checkpoints, proofs and walks.
-use Rattle.std.specs.Prelude.{ℕ, List, Bool, nat_eq}
+use Rattle.std.specs.Prelude.{ℕ, ◌*◌, List, Bool, nat_eq}
 use Rattle.std.specs.Ordering.{on, eq_of_both}
 use Rattle.std.specs.Cmp.Lexicographic.{pointwise}
 use Rattle.warg_log.specs.declared.node.Node.{Node}
@@ -13,6 +13,10 @@ pub record RootAndLength : Type 0 where
 pub record InclusionClaim : Type 0 where
   pub leaf : Node
   pub log_length : ℕ
+
+-- The claim that the entry at an index, counted from 0, is part of the log of a length.
+abbrev pub leaf_claim : ℕ → ℕ → InclusionClaim
+leaf_claim index n = record { leaf = record { 0 = 2 * index }; log_length = n }
 
 -- The claim that the log of an old length is a beginning of the log of a new one.
 pub record ConsistencyClaim : Type 0 where

@@ -1,8 +1,8 @@
 -- What a consistency proof from a length m to a length n claims and evaluates to, over digests F.
 use Rattle.std.specs.Prelude.{◌≡◌, ℕ, ◌<◌, ◌≤◌, ◌==◌, nat_eq, nat_lt, if◌then◌else◌, List, [], ◌∷◌, Option, Some, Result, Ok, Err}
 use Rattle.std.specs.Option.{ok_or}
-use Rattle.std.specs.Cmp.Lexicographic.{pointwise}
 use Rattle.std.specs.List.{AllByRecursion}
+use Rattle.warg_crypto.specs.Bytes.{same_bytes}
 use Rattle.warg_protobuf.specs.Reading.{◌>>=◌}
 use Rattle.warg_log.specs.declared.proof.InclusionProofError.TheVariants as Inclusion
 use Rattle.warg_log.specs.declared.consistency.ConsistencyProofError.{ConsistencyProofError}
@@ -33,7 +33,7 @@ abbrev pub agreed_root : (List ℕ → List ℕ) → (ℕ → Option (List ℕ))
 agreed_root H F n agreed [] = Ok agreed
 agreed_root H F n agreed (t ∷ ts) = do
   r ← root_to H F n t
-  if pointwise nat_eq r agreed then agreed_root H F n agreed ts else Err Consistency.DivergingRoots
+  if same_bytes r agreed then agreed_root H F n agreed ts else Err Consistency.DivergingRoots
 
 -- The new root: that to which all the balanced roots of the old length lead, as the first one does.
 abbrev pub new_root_of : (List ℕ → List ℕ) → (ℕ → Option (List ℕ)) → ℕ → List ℕ → Result (List ℕ) ConsistencyProofError

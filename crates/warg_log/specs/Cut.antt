@@ -1,14 +1,13 @@
 -- The tree with a digest put in the place of one node, from the digests of other nodes. A range is
 -- given by its first leaf a and its count n of leaves, the target by s and w. F has a digest for some
 -- of the nodes.
-use Rattle.std.specs.Prelude.{◌≡◌, ℕ, zero, suc, ◌+◌, ◌-◌, ◌^◌, ◌≤◌, ◌⊎◌, Bool, ◌&&◌, ◌||◌, ◌==◌, nat_le, if◌then◌else◌, List, [], Option, Some, None}
+use Rattle.std.specs.Prelude.{◌≡◌, ℕ, zero, suc, ◌+◌, ◌-◌, ◌^◌, Bool, ◌&&◌, ◌||◌, ◌==◌, nat_le, if◌then◌else◌, List, [], Option, Some, None}
 use Rattle.warg_log.specs.Nodes.{height_of, start_of, node_over}
-use Rattle.warg_log.specs.Tree.{branch}
+use Rattle.warg_crypto.specs.Tree.{branch, where_both}
 
 -- The digest of a branch, where both its parts have one.
 abbrev pub joined : (List ℕ → List ℕ) → Option (List ℕ) → Option (List ℕ) → Option (List ℕ)
-joined H (Some left) (Some right) = Some (branch H left right)
-joined H _ _ = None
+joined H = where_both (branch H)
 
 -- The range is the target.
 abbrev pub is_target : ℕ → ℕ → ℕ → ℕ → Bool
@@ -62,10 +61,6 @@ cut_root H F t x n = cut_over H F x (start_of t) (2 ^ height_of t) 0 n
 -- The range has a power of two of leaves.
 abbrev pub IsFull : ℕ → Type 0
 IsFull n = (h : ℕ) × (n ≡ 2 ^ h)
-
--- The range misses the target.
-abbrev pub IsBeside : ℕ → ℕ → ℕ → ℕ → Type 0
-IsBeside s w a n = (a + n ≤ s) ⊎ (s + w ≤ a)
 
 -- The old root of a range: F's digest where the range has a power of two of leaves, else the branch of its
 -- parts. It is the cut root for a target of no leaves, which each range misses. `laws::old_full` and

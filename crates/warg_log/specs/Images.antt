@@ -1,6 +1,6 @@
 -- Images of the two logs: their messages, and what messages and bytes are read as.
-use Rattle.std.specs.Prelude.{ℕ, ◌-◌, ◌*◌, ◌^◌, ◌<◌, ◌&&◌, Bool, ◌==◌, nat_eq, if◌then◌else◌, List, length, map, Option, Some, None, Result}
-use Rattle.std.specs.List.{AllByRecursion, zip, range_with_len}
+use Rattle.std.specs.Prelude.{ℕ, ◌^◌, ◌<◌, ◌&&◌, Bool, ◌==◌, nat_eq, if◌then◌else◌, List, length, map, Option, Some, None, Result}
+use Rattle.std.specs.List.{AllByRecursion, zip}
 use Rattle.std.specs.Cmp.Lexicographic.{pointwise}
 use Rattle.warg_protobuf.specs.HashEntry.{Entry}
 use Rattle.warg_protobuf.specs.StackLog.{StackImage, stack_schema}
@@ -9,7 +9,7 @@ use Rattle.warg_protobuf.specs.Schema.{message_of}
 use Rattle.warg_log.specs.declared.error.DecodeError.{DecodeError}
 use Rattle.warg_log.specs.declared.error.DecodeError.TheVariants.{NotALog, NotAStack}
 use Rattle.warg_log.specs.Nodes.{balanced_roots}
-use Rattle.warg_log.specs.Tree.{digest_or_spacer, leaves_in}
+use Rattle.warg_log.specs.Tree.{slice_of, leaves_in}
 use Rattle.warg_log.specs.Blocks.{Blocks}
 use Rattle.warg_log.specs.Decoding.{held_in, unless, earlier, first_fault, digest_fault}
 
@@ -45,11 +45,6 @@ abbrev pub stack_of : List ℕ → Result Blocks DecodeError
 stack_of bytes = held_in stack_in (message_of stack_schema bytes)
 
 -- ---- a log that keeps the digest of every node
-
--- The slice of a log of these leaf digests: at each place below 2 * n - 1 the digest of its node, or that of
--- no bytes where the node doesn't exist yet.
-abbrev pub slice_of : (List ℕ → List ℕ) → List (List ℕ) → List (List ℕ)
-slice_of H ds = map (digest_or_spacer H ds) (range_with_len 0 (2 * length ds - 1))
 
 -- The message of such a log: its length, and its slice.
 abbrev pub vec_message : (List ℕ → List ℕ) → List (List ℕ) → VecImage

@@ -1,9 +1,11 @@
 pub mod Nodes
+pub mod Ranges
 pub mod Tree
 pub mod Cut
 pub mod Walks
 pub mod Consistency
 pub mod Claims
+pub mod Text
 pub mod Sparse
 pub mod Blocks
 pub mod Decoding

@@ -1,14 +1,12 @@
 -- The tree over a list of leaf digests (RFC 6962, section 2.1), and a log's digests by node.
-use Rattle.std.specs.Prelude.{◌≡◌, ℕ, zero, suc, ◌-◌, ◌*◌, ◌^◌, ◌<◌, nat_le, if◌then◌else◌, List, [], ◌∷◌, ◌++◌, length, take, drop, map, Option, Some, None, slice_index_or}
+use Rattle.std.specs.Prelude.{ℕ, zero, suc, ◌-◌, ◌*◌, ◌^◌, nat_le, if◌then◌else◌, List, [], ◌∷◌, ◌++◌, length, take, drop, map, Option, Some, None}
+use Rattle.std.specs.List.{range_with_len}
+use Rattle.warg_crypto.specs.Tree.{leaf_digest, branch}
 use Rattle.warg_log.specs.Nodes.{height_of, start_of, end_of}
 
--- The digest of a branch over two digests: H of the byte 1 and then both (RFC 6962, section 2.1).
-abbrev pub branch : (List ℕ → List ℕ) → List ℕ → List ℕ → List ℕ
-branch H left right = H (1 ∷ left ++ right)
-
--- The leaf digests of entries: each is H of the byte 0 and then the entry (RFC 6962, section 2.1).
+-- The leaf digests of entries (RFC 6962, section 2.1).
 abbrev pub leaves_of : (List ℕ → List ℕ) → List (List ℕ) → List (List ℕ)
-leaves_of H entries = map (λ e. H (0 ∷ e)) entries
+leaves_of H entries = map (leaf_digest H) entries
 
 -- The greatest power of two below n that is at most 2 ^ h, or 1. `laws::front_is_greatest` says so of
 -- `front_of`.
@@ -40,6 +38,12 @@ abbrev pub root_of : (List ℕ → List ℕ) → List (List ℕ) → List ℕ
 root_of H [] = H []
 root_of H (d ∷ ds) = root_within H (length (d ∷ ds)) (d ∷ ds)
 
+-- Digests joined from the right: the first, and then those behind it as one; `none` of none.
+abbrev pub from_right : {X : Type 0} → (X → X → X) → X → List X → X
+from_right join none [] = none
+from_right join none (d ∷ []) = d
+from_right join none (d ∷ e ∷ ds) = join d (from_right join none (e ∷ ds))
+
 -- The root of n of the leaf digests from a on.
 abbrev pub root_over : (List ℕ → List ℕ) → List (List ℕ) → ℕ → ℕ → List ℕ
 root_over H ds a n = root_of H (take n (drop a ds))
@@ -59,9 +63,8 @@ digest_or_spacer H ds x = if nat_le (end_of x) (length ds) then root_of H (leave
 
 -- The slice of a log of these leaf digests: the digests of the nodes by their numbers, up to the last
 -- leaf's, 2 * n - 1 for n leaves.
-pub record IsSlice (H : List ℕ → List ℕ) (ds tree : List (List ℕ)) : Type 0 where
-  pub len : length tree ≡ 2 * length ds - 1
-  pub holds : (x : ℕ) → x < length tree → slice_index_or tree x [] ≡ digest_or_spacer H ds x
+abbrev pub slice_of : (List ℕ → List ℕ) → List (List ℕ) → List (List ℕ)
+slice_of H ds = map (digest_or_spacer H ds) (range_with_len 0 (2 * length ds - 1))
 
 -- The leaf digests of a slice: those at its even places.
 abbrev pub leaves_in : List (List ℕ) → List (List ℕ)

@@ -1,6 +1,7 @@
 -- The nodes that the cut root reads.
 use Rattle.std.specs.Prelude.{◌≡◌, ℕ, zero, suc, length, reverse, ◌/◌, ◌%◌, ◌+◌, ◌^◌, ◌==◌, if◌then◌else◌, List, [], ◌∷◌, ◌++◌, Option, None, IsSome}
 use Rattle.warg_log.specs.Nodes.{height_of, place_of, sibling_place, start_of, number_of, balanced_over}
+use Rattle.warg_log.specs.Tree.{from_right}
 use Rattle.warg_log.specs.Cut.{joined, Way, at_target, at_node, at_parts, way_over}
 
 -- The nodes at which a way reads. Those of the part that holds the target come first; where neither does,
@@ -53,8 +54,6 @@ climbed H F x k j (suc c) =
     then joined H (climbed H F x k j c) (F (number_of (k + c) (sibling_place (j / 2 ^ c))))
     else joined H (F (number_of (k + c) (sibling_place (j / 2 ^ c)))) (climbed H F x k j c)
 
--- Digests joined from the right.
+-- Digests joined from the right, where all are there.
 abbrev pub joined_all : (List ℕ → List ℕ) → List (Option (List ℕ)) → Option (List ℕ)
-joined_all H [] = None
-joined_all H (d ∷ []) = d
-joined_all H (d ∷ e ∷ ds) = joined H d (joined_all H (e ∷ ds))
+joined_all H = from_right (joined H) None

@@ -2,7 +2,7 @@
 
 ghost use Rattle.std.specs.Prelude.{◌≡◌, ⊤, ℕ, ◌<◌, ◌∷◌, ◌++◌, [], List, IsTrue, IsSome, IfSome, ◌↔◌};
 ghost use Rattle.std.specs.List.{AllByRecursion};
-ghost use Rattle.warg_log.specs.Tree.{branch};
+ghost use Rattle.warg_crypto.specs.Tree.{branch};
 
 use crate::leaf_range::LeafRange;
 use crate::log::hash_branch;

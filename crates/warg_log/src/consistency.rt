@@ -3,7 +3,7 @@
 ghost use Rattle.std.specs.Prelude.{◌≡◌, ◌≢◌, ⊤, ℕ, ◌+◌, ◌*◌, ◌^◌, ◌<◌, ◌≤◌, ◌↔◌, ◌⊎◌, List, IfOk, All, map};
 ghost use Rattle.std.specs.List.{AllByRecursion};
 ghost use Rattle.warg_log.specs.Nodes.{balanced_roots, end_of};
-ghost use Rattle.warg_log.specs.Tree.{branch};
+ghost use Rattle.warg_crypto.specs.Tree.{branch};
 ghost use Rattle.warg_log.specs.Consistency.{root_to, new_root_of, consistency};
 
 use crate::balanced_roots::BalancedRoots;

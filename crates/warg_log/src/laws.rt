@@ -8,8 +8,10 @@ ghost use Rattle.std.specs.List.{AllByRecursion};
 ghost use Rattle.std.specs.Ordering.{nat_cmp, ordering_then};
 ghost use Rattle.std.specs.Cmp.Lexicographic.{slice_cmp};
 ghost use Rattle.warg_log.specs.Nodes.{IsNode, ExistsAt, sibling_place, height_of, place_of, start_of, end_of, node_over, number_of, balanced_over, balanced_roots, Follow, Fall};
-ghost use Rattle.warg_log.specs.Tree.{branch, front_of, root_of, root_over, leaves_of, leaves_below, own_digest};
-ghost use Rattle.warg_log.specs.Cut.{joined, cut_over, cut_root, old_over, old_root, IsFull, IsBeside};
+ghost use Rattle.warg_crypto.specs.Tree.{branch, leaf_digest};
+ghost use Rattle.warg_log.specs.Ranges.{IsAligned};
+ghost use Rattle.warg_log.specs.Tree.{front_of, root_of, root_over, leaves_of, leaves_below, own_digest};
+ghost use Rattle.warg_log.specs.Cut.{joined, cut_over, cut_root, old_over, old_root, IsFull, is_beside};
 ghost use Rattle.warg_log.specs.Walks.{needed, needed_over, climbed, joined_all, IsKnown};
 ghost use Rattle.warg_log.specs.Blocks.{Blocks, StandsFor, joined_blocks, pushed};
 ghost use Rattle.warg_log.specs.Consistency.{consistency, IsConsistent};
@@ -86,12 +88,12 @@ pub fn cut_target()
 /// The cut root of a range that misses the target and has a power of two of leaves is the digest that
 /// is held for it.
 pub fn cut_beside()
-    ensures { (H : List ℕ → List ℕ) (F : ℕ → Option (List ℕ)) (x : List ℕ) (s w a n : ℕ) → 0 < w → IsFull n → IsBeside s w a n → cut_over H F x s w a n ≡ F (node_over a n) }
+    ensures { (H : List ℕ → List ℕ) (F : ℕ → Option (List ℕ)) (x : List ℕ) (s w a n : ℕ) → 0 < w → IsFull n → IsTrue (is_beside s w a n) → cut_over H F x s w a n ≡ F (node_over a n) }
 {}
 
 /// The cut root of any other range is the branch over those of its two parts.
 pub fn cut_parts()
-    ensures { (H : List ℕ → List ℕ) (F : ℕ → Option (List ℕ)) (x : List ℕ) (s w a n : ℕ) → 1 < n → (a ≡ s → n ≡ w → ⊥) → (IsFull n → IsBeside s w a n → ⊥) → cut_over H F x s w a n ≡ joined H (cut_over H F x s w a (front_of n)) (cut_over H F x s w (a + front_of n) (n - front_of n)) }
+    ensures { (H : List ℕ → List ℕ) (F : ℕ → Option (List ℕ)) (x : List ℕ) (s w a n : ℕ) → 1 < n → (a ≡ s → n ≡ w → ⊥) → (IsFull n → IsTrue (is_beside s w a n) → ⊥) → cut_over H F x s w a n ≡ joined H (cut_over H F x s w a (front_of n)) (cut_over H F x s w (a + front_of n) (n - front_of n)) }
 {}
 
 /// The target's own range needs no node.
@@ -101,15 +103,15 @@ pub fn needed_target()
 
 /// A range that misses the target and has a power of two of leaves needs the node over it.
 pub fn needed_beside()
-    ensures { (s w a n : ℕ) → 0 < w → IsFull n → IsBeside s w a n → needed_over s w a n ≡ node_over a n ∷ [] }
+    ensures { (s w a n : ℕ) → 0 < w → IsFull n → IsTrue (is_beside s w a n) → needed_over s w a n ≡ node_over a n ∷ [] }
 {}
 
 /// Any other range needs what its two parts need: the rest's nodes stand first where the first part misses
 /// the target, and else the first part's.
 pub fn needed_parts()
-    ensures rest_first { (s w a n : ℕ) → 1 < n → (a ≡ s → n ≡ w → ⊥) → (IsFull n → IsBeside s w a n → ⊥) → IsBeside s w a (front_of n)
+    ensures rest_first { (s w a n : ℕ) → 1 < n → (a ≡ s → n ≡ w → ⊥) → (IsFull n → IsTrue (is_beside s w a n) → ⊥) → IsTrue (is_beside s w a (front_of n))
         → needed_over s w a n ≡ needed_over s w (a + front_of n) (n - front_of n) ++ needed_over s w a (front_of n) }
-    ensures front_first { (s w a n : ℕ) → 1 < n → (a ≡ s → n ≡ w → ⊥) → (IsFull n → IsBeside s w a n → ⊥) → (IsBeside s w a (front_of n) → ⊥)
+    ensures front_first { (s w a n : ℕ) → 1 < n → (a ≡ s → n ≡ w → ⊥) → (IsFull n → IsTrue (is_beside s w a n) → ⊥) → (IsTrue (is_beside s w a (front_of n)) → ⊥)
         → needed_over s w a n ≡ needed_over s w a (front_of n) ++ needed_over s w (a + front_of n) (n - front_of n) }
 {}
 
@@ -141,14 +143,14 @@ pub fn cut_own()
 /// The same of a range that begins at a multiple of a power of two and has at most so many leaves, as each
 /// range of the recursion does: its cut root is the root over it, whichever the target is.
 pub fn cut_own_range()
-    ensures { (H : List ℕ → List ℕ) (ds : List (List ℕ)) (s w k c n : ℕ) → 0 < n → n ≤ 2 ^ k → c * 2 ^ k + n ≤ length ds
-        → cut_over H (own_digest H ds) (root_over H ds s w) s w (c * 2 ^ k) n ≡ Some (root_over H ds (c * 2 ^ k) n) }
+    ensures { (H : List ℕ → List ℕ) (ds : List (List ℕ)) (s w a n : ℕ) → 0 < n → IsAligned a n → a + n ≤ length ds
+        → cut_over H (own_digest H ds) (root_over H ds s w) s w a n ≡ Some (root_over H ds a n) }
 {}
 
 /// A log's proof of an entry of its own leads to the log's root: over the log's own digests, leaf `i`
 /// with entry `i` has, at each length above `i` up to the log's, the root of that many entries.
 pub fn own_inclusion()
-    ensures { (H : List ℕ → List ℕ) (entries : List (List ℕ)) (i n : ℕ) → i < n → n ≤ length entries → ExistsAt (2 * i) n × (cut_root H (own_digest H (leaves_of H entries)) (2 * i) (H (0 ∷ slice_index_or entries i [])) n ≡ Some (root_of H (leaves_of H (take n entries)))) }
+    ensures { (H : List ℕ → List ℕ) (entries : List (List ℕ)) (i n : ℕ) → i < n → n ≤ length entries → ExistsAt (2 * i) n × (cut_root H (own_digest H (leaves_of H entries)) (2 * i) (leaf_digest H (slice_index_or entries i [])) n ≡ Some (root_of H (leaves_of H (take n entries)))) }
 {}
 
 /// The old root of a range of a power of two of leaves is the digest that is held for it.
@@ -169,8 +171,8 @@ pub fn old_own()
 
 /// The same of a range that begins at a multiple of a power of two and has at most so many leaves.
 pub fn old_own_range()
-    ensures { (H : List ℕ → List ℕ) (ds : List (List ℕ)) (k c n : ℕ) → 0 < n → n ≤ 2 ^ k → c * 2 ^ k + n ≤ length ds
-        → old_over H (own_digest H ds) (c * 2 ^ k) n ≡ Some (root_over H ds (c * 2 ^ k) n) }
+    ensures { (H : List ℕ → List ℕ) (ds : List (List ℕ)) (a n : ℕ) → 0 < n → IsAligned a n → a + n ≤ length ds
+        → old_over H (own_digest H ds) a n ≡ Some (root_over H ds a n) }
 {}
 
 /// A consistency proof evaluates to two roots exactly where these meet it.

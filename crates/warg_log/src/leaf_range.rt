@@ -2,7 +2,7 @@
 
 ghost use Rattle.std.specs.Prelude.{◌≡◌, ℕ, ◌+◌, ◌-◌, ◌*◌, ◌^◌, ◌<◌, ◌≤◌, ◌⊎◌, ◌↔◌, IsTrue};
 ghost use Rattle.warg_log.specs.Tree.{front_of};
-ghost use Rattle.warg_log.specs.Cut.{IsBeside, IsFull};
+ghost use Rattle.warg_log.specs.Cut.{is_beside, IsFull};
 
 /// Leaves in a row, at least one: a range of the recursion of RFC 6962, section 2.1, which splits the
 /// leaves of a log at the greatest power of two below their count.
@@ -70,7 +70,7 @@ impl LeafRange {
 
     /// Whether the range has no leaf of the other one.
     pub fn is_beside(&self, other: &LeafRange) -> bool
-        ensures { IsTrue result ↔ IsBeside other.now.start other.now.count self.now.start self.now.count }
+        ensures { result ≡ is_beside other.now.start other.now.count self.now.start self.now.count }
     {
         self.end() <= other.start || other.end() <= self.start
     }
@@ -78,7 +78,7 @@ impl LeafRange {
     // Whether an evaluation with this target reads the range's digest: the range is one leaf, or has a
     // power of two of leaves and misses the target.
     pub(crate) fn is_read(&self, target: &LeafRange) -> bool
-        ensures { IsTrue result ↔ ((self.now.count ≡ 1) ⊎ (IsFull self.now.count × IsBeside target.now.start target.now.count self.now.start self.now.count)) }
+        ensures { IsTrue result ↔ ((self.now.count ≡ 1) ⊎ (IsFull self.now.count × IsTrue (is_beside target.now.start target.now.count self.now.start self.now.count))) }
     {
         self.count == 1 || self.is_full() && self.is_beside(target)
     }

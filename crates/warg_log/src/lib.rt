@@ -8,6 +8,7 @@
 mod balanced_roots;
 mod branches;
 mod consistency;
+mod decimal;
 mod error;
 pub mod laws;
 mod leaf_range;
@@ -18,12 +19,15 @@ mod node;
 mod proof;
 mod proof_bundle;
 mod root;
+mod serve;
 mod sparse_data;
 mod stack_log;
 mod tested;
+mod text;
 mod vec_log;
 
 pub use consistency::{ConsistencyProof, ConsistencyProofError};
+pub use decimal::decimal_in;
 pub use error::{BundleError, DecodeError, EncodeError};
 pub use leaf_range::LeafRange;
 pub use log::{
@@ -33,7 +37,9 @@ pub use node::{Node, Side};
 pub use proof::{InclusionProof, InclusionProofError, InclusionProofWalk};
 pub use proof_bundle::{ProofBundle, ProofBundle as LogProofBundle};
 pub use root::{range_root, stored_root};
+pub use serve::ServeError;
 pub use sparse_data::{NotAscending, SparseLogData};
 pub use stack_log::StackLog;
 pub use tested::{AppendError, OutOfRange};
+pub use text::BadCheckpoint;
 pub use vec_log::VecLog;

@@ -1,7 +1,8 @@
 //! What all logs have in common: the hashes of the tree, checkpoints, and the two traits.
 
 ghost use Rattle.std.specs.Prelude.{◌≡◌, ℕ, ◌+◌, ◌*◌, ◌^◌, ◌<◌, ◌≤◌, ◌↔◌, map, take, List, [], ◌∷◌, ◌++◌, length, Option, IsTrue, IsSome, IfOk, OnOk, OnErr};
-ghost use Rattle.warg_log.specs.Tree.{branch, root_of, leaves_of};
+ghost use Rattle.warg_crypto.specs.Tree.{branch, leaf_digest};
+ghost use Rattle.warg_log.specs.Tree.{root_of, leaves_of};
 
 use crate::consistency::ConsistencyProof;
 use crate::node::Node;
@@ -22,7 +23,7 @@ pub fn hash_empty<D: SupportedDigest>() -> Hash<D>
 
 /// The digest of a leaf: that of the byte 00 and the entry's bytes (RFC 6962, section 2.1).
 pub fn hash_leaf<D: SupportedDigest, V: VisitBytes>(entry: &V) -> Hash<D>
-    ensures { result ≡ D.digest (0 ∷ V.bytes entry.now) }
+    ensures { result ≡ leaf_digest D.digest (V.bytes entry.now) }
 {
     let mut digest = D::start();
     digest.visit_bytes(&[0]);
@@ -107,7 +108,7 @@ pub trait LogBuilder<D: SupportedDigest, V: VisitBytes> {
         requires { len self.old < 2 ^ 63 }
         ensures node { IfOk result (λ node. node.0 ≡ 2 * len self.old) }
         ensures length { OnOk result (len self.new ≡ len self.old + 1) }
-        ensures ok { OnOk result ((ds : List (List ℕ)) → stands_for self.old ds → stands_for self.new (ds ++ D.digest (0 ∷ V.bytes entry.now) ∷ [])) }
+        ensures ok { OnOk result ((ds : List (List ℕ)) → stands_for self.old ds → stands_for self.new (ds ++ leaf_digest D.digest (V.bytes entry.now) ∷ [])) }
         ensures err { OnErr result (self.new ≡ self.old) };
 
     // Each list that the log stands for has as many digests as the log has entries.

@@ -2,6 +2,8 @@
 
 ghost use Rattle.std.specs.Prelude.{◌≡◌, ◌≢◌, ⊤, ℕ, ◌+◌, ◌-◌, ◌*◌, ◌^◌, ◌<◌, ◌≤◌, ◌∷◌, [], ◌++◌, ◌↔◌, None, Some, IfOk, OnOk, map, length, reverse, nat_eq};
 ghost use Rattle.std.specs.List.{IsDistinct};
+ghost use Rattle.warg_crypto.specs.Tree.{leaf_digest};
+ghost use Rattle.warg_log.specs.Ranges.{IsAligned};
 ghost use Rattle.warg_log.specs.Nodes.{ExistsAt, height_of, place_of, start_of, end_of};
 ghost use Rattle.warg_log.specs.Cut.{cut_root};
 ghost use Rattle.warg_log.specs.Walks.{needed, needed_over, siblings_up, IsWalk, IsWalkOver};
@@ -139,8 +141,8 @@ impl<D: SupportedDigest, V: VisitBytes> InclusionProof<D, V> {
         value: &V,
     ) -> Result<Hash<D>, InclusionProofError>
         ensures too_new { (result ≡ Err InclusionProofError.LeafTooNew) ↔ ¬ ExistsAt self.now.leaf.0 self.now.log_length }
-        ensures not_known { (result ≡ Err InclusionProofError.HashNotKnown) ↔ (ExistsAt self.now.leaf.0 self.now.log_length × (cut_root D.digest (L.digest_at hashes.now) self.now.leaf.0 (D.digest (0 ∷ V.bytes value.now)) self.now.log_length ≡ None)) }
-        ensures ok { IfOk result (λ root. ExistsAt self.now.leaf.0 self.now.log_length × (cut_root D.digest (L.digest_at hashes.now) self.now.leaf.0 (D.digest (0 ∷ V.bytes value.now)) self.now.log_length ≡ Some root)) }
+        ensures not_known { (result ≡ Err InclusionProofError.HashNotKnown) ↔ (ExistsAt self.now.leaf.0 self.now.log_length × (cut_root D.digest (L.digest_at hashes.now) self.now.leaf.0 (leaf_digest D.digest (V.bytes value.now)) self.now.log_length ≡ None)) }
+        ensures ok { IfOk result (λ root. ExistsAt self.now.leaf.0 self.now.log_length × (cut_root D.digest (L.digest_at hashes.now) self.now.leaf.0 (leaf_digest D.digest (V.bytes value.now)) self.now.log_length ≡ Some root)) }
         ensures memory { result ≢ Err InclusionProofError.Memory }
     {
         self.evaluate_hash(hashes, hash_leaf::<D, V>(value))
@@ -273,7 +275,7 @@ fn add_walk<A: Allocator>(
     end: usize,
 ) -> Result<WalkParts, AllocError>
     requires empty { nodes.old.items ≡ [] }
-    requires aligned { (h c : ℕ) × (start ≡ c * 2 ^ h) × (end - start < 2 ^ h) }
+    requires aligned { IsAligned start (end - start) }
     requires starts { start ≤ start_of leaf.0 }
     requires ends { end_of leaf.0 ≤ end }
     requires fits { end ≤ 2 ^ 63 }

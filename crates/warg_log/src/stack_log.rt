@@ -2,7 +2,8 @@
 
 ghost use Rattle.std.specs.Prelude.{◌≡◌, ℕ, ◌+◌, ◌*◌, ◌^◌, ◌<◌, ◌≤◌, ◌↔◌, List, [], ◌∷◌, ◌++◌, Some, length, map, IsTrue, IfOk, OnOk, OnErr, vec_capacity, vec_len};
 ghost use Rattle.warg_log.specs.Nodes.{height_of, start_of, balanced_roots};
-ghost use Rattle.warg_log.specs.Tree.{branch, root_of};
+ghost use Rattle.warg_crypto.specs.Tree.{branch, leaf_digest};
+ghost use Rattle.warg_log.specs.Tree.{root_of};
 ghost use Rattle.warg_log.specs.Cut.{old_root};
 ghost use Rattle.warg_log.specs.Blocks.{Blocks, StandsFor, block_at, joined_blocks, pushed};
 ghost use Rattle.warg_log.specs.Private.Growth.{Grows};
@@ -100,8 +101,8 @@ impl<D: SupportedDigest, V: VisitBytes, A: Allocator> LogBuilder<D, V> for Stack
     fn push(&mut self, entry: &V) -> Result<Node, AllocError>
         requires { self.old.len < 2 ^ 63 }
         ensures node { IfOk result (λ node. node.0 ≡ 2 * self.old.len) }
-        ensures ok { OnOk result (self.new ≡ pushed D.digest self.old (D.digest (0 ∷ V.bytes entry.now))) }
-        ensures stands { OnOk result ((ds : List (List ℕ)) → StandsFor D.digest self.old ds → StandsFor D.digest self.new (ds ++ D.digest (0 ∷ V.bytes entry.now) ∷ [])) }
+        ensures ok { OnOk result (self.new ≡ pushed D.digest self.old (leaf_digest D.digest (V.bytes entry.now))) }
+        ensures stands { OnOk result ((ds : List (List ℕ)) → StandsFor D.digest self.old ds → StandsFor D.digest self.new (ds ++ leaf_digest D.digest (V.bytes entry.now) ∷ [])) }
         ensures err { OnErr result (self.new ≡ self.old) }
     {
         let digest = hash_leaf::<D, V>(entry);

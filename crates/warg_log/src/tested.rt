@@ -2,6 +2,7 @@
 //! the log's.
 
 ghost use Rattle.std.specs.Prelude.{◌≡◌, ℕ, ◌*◌, ◌^◌, ◌<◌, ◌≤◌, ◌↔◌, [], ◌∷◌, ◌++◌, length, Err, IsOk, IfOk, OnOk, OnErr};
+ghost use Rattle.warg_crypto.specs.Tree.{leaf_digest};
 ghost use Rattle.warg_log.specs.declared.tested.AppendError.TheVariants.{Memory};
 
 use crate::consistency::ConsistencyProof;
@@ -41,7 +42,7 @@ impl<D: SupportedDigest, V: VisitBytes, A: Allocator> VecLog<D, V, A> {
     /// Adds an entry at the end, as [`push`](LogBuilder::push), and returns its leaf's node: `Full` exactly if the log has
     /// 2^63 entries. A refusal leaves the log as it was.
     pub fn append(&mut self, entry: &V) -> Result<Node, AppendError>
-        ensures ok { OnOk result (self.new ≡ self.old ++ D.digest (0 ∷ V.bytes entry.now) ∷ []) }
+        ensures ok { OnOk result (self.new ≡ self.old ++ leaf_digest D.digest (V.bytes entry.now) ∷ []) }
         ensures node { IfOk result (λ node. node.0 ≡ 2 * length self.old) }
         ensures full { (result ≡ Err AppendError.Full) ↔ (length self.old ≡ 2 ^ 63) }
         ensures err { OnErr result (self.new ≡ self.old) }

@@ -2,8 +2,9 @@
 
 ghost use Rattle.std.specs.Prelude.{◌≡◌, ℕ, ◌+◌, ◌*◌, ◌^◌, ◌<◌, ◌≤◌, List, [], ◌∷◌, ◌++◌, length, IfOk, OnOk, OnErr};
 ghost use Rattle.std.proofs.Common.{ap, sym};
+ghost use Rattle.warg_crypto.specs.Tree.{leaf_digest};
 ghost use Rattle.warg_log.specs.Nodes.{height_of, end_of};
-ghost use Rattle.warg_log.specs.Tree.{IsSlice, root_of, leaves_below, leaves_in, own_digest};
+ghost use Rattle.warg_log.specs.Tree.{slice_of, root_of, leaves_below, leaves_in, own_digest};
 ghost use Rattle.warg_log.specs.Private.Slices.{IsSliceUpTo};
 
 mod image;
@@ -38,13 +39,13 @@ pub struct VecLog<D: SupportedDigest, V: VisitBytes, A: Allocator = Global> {
 // Contracts see the log as the list of its leaf digests.
 impl<D: SupportedDigest, V: VisitBytes, A: Allocator> Model for VecLog<D, V, A> {
     ghost use Rattle.std.specs.Prelude.{◌≡◌, ℕ, List, [], length};
-    ghost use Rattle.warg_log.specs.Tree.{IsSlice, leaves_in};
+    ghost use Rattle.warg_log.specs.Tree.{slice_of, leaves_in};
 
     ghost Value = { List (List ℕ) };
 
     ghost view = { λ l. leaves_in l.tree.items };
 
-    ghost invariant = { λ l. (l.count ≡ length (leaves_in l.tree.items)) × IsSlice D.digest (leaves_in l.tree.items) l.tree.items × (l.spacer ≡ D.digest []) };
+    ghost invariant = { λ l. (l.count ≡ length (leaves_in l.tree.items)) × (l.tree.items ≡ slice_of D.digest (leaves_in l.tree.items)) × (l.spacer ≡ D.digest []) };
 }
 
 impl<D: SupportedDigest, V: VisitBytes, A: Allocator> VecLog<D, V, A> {
@@ -71,7 +72,7 @@ impl<D: SupportedDigest, V: VisitBytes, A: Allocator> VecLog<D, V, A> {
     /// The digests of the nodes by their numbers, up to the last leaf's: `2 * n - 1` for `n` entries. A
     /// node that doesn't exist yet has the digest of no bytes.
     pub fn as_ref(&self) -> &[Hash<D>]
-        ensures { IsSlice D.digest self.now result.now }
+        ensures { result.now ≡ slice_of D.digest self.now }
     {
         self.tree.as_slice()
     }
@@ -115,7 +116,7 @@ impl<D: SupportedDigest, V: VisitBytes, A: Allocator> LogBuilder<D, V> for VecLo
     fn push(&mut self, entry: &V) -> Result<Node, AllocError>
         requires { length self.old < 2 ^ 63 }
         ensures node { IfOk result (λ node. node.0 ≡ 2 * length self.old) }
-        ensures ok { OnOk result (self.new ≡ self.old ++ D.digest (0 ∷ V.bytes entry.now) ∷ []) }
+        ensures ok { OnOk result (self.new ≡ self.old ++ leaf_digest D.digest (V.bytes entry.now) ∷ []) }
         ensures err { OnErr result (self.new ≡ self.old) }
     {
         let digest = hash_leaf::<D, V>(entry);
@@ -159,7 +160,7 @@ fn join_up<D: SupportedDigest, A: Allocator>(
     requires slice { IsSliceUpTo D.digest (leaves_in tree.old.items) tree.old.items (height_of leaf.0) }
     requires digest { digest ≡ root_of D.digest (leaves_below leaf.0 (leaves_in tree.old.items)) }
     ensures leaves { leaves_in tree.new.items ≡ leaves_in tree.old.items }
-    ensures slice { IsSlice D.digest (leaves_in tree.old.items) tree.new.items }
+    ensures slice { tree.new.items ≡ slice_of D.digest (leaves_in tree.old.items) }
 {
     let mut node = leaf;
     let mut digest = digest;

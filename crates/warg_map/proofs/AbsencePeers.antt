@@ -14,12 +14,12 @@ use Rattle.warg_map.specs.Bits.{bit_at, bits_from, last_bits}
 use Rattle.warg_map.specs.Sparse.{SparseMap, bits_cmp, sparse_root}
 use Rattle.warg_map.specs.Private.Under.{join_at, under, HoldsKey}
 use Rattle.warg_map.specs.Private.Seen.{seen, tree_height, held_by, IsWellFormed}
-use Rattle.warg_map.specs.Peers.{shared, IsOther, IsAbsentPeers, IsAbsentCount, ProvesAbsent}
+use Rattle.warg_map.specs.Peers.{shared, IsOther, IsAbsentPeers, IsPeerCount, ProvesAbsent}
 use Rattle.warg_map.proofs.SparseTree.{get-join_at, contains_key-join_at, contains_key-empty, contains_key-insert_same, length-bits_from}
 use Rattle.warg_map.proofs.BitsInFront.{join_at-other, get-under, under-append, holds-under, no_some, lone-under, bits_from-part, last_bits-at}
 use Rattle.warg_map.proofs.TreeForm.{stem_holds}
 use Rattle.warg_map.proofs.FoundInNode.{finds_lone, stem_held, stem_bits, lone_same}
-use Rattle.warg_map.proofs.PresencePeers.{join_holds, holds_near, holds_far, shared_same, shared_other, get-far, nothing_more, length_peers}
+use Rattle.warg_map.proofs.PresencePeers.{fork_count, stem_count, recount, get-far, nothing_more, length_peers}
 
 -- nothing is held
 pub nothing_absent : (H : List ℕ → List ℕ) (p : List Bool) → ProvesAbsent H empty p []
@@ -27,47 +27,20 @@ unfolding IsAbsentPeers
 nothing_absent H p = record {
   absent = contains_key-empty p;
   peers_from_top = λ q. get-empty bits_cmp q;
-  count = record { above = λ q h. absurd (no_some _ (get-empty bits_cmp q) h); reached = inl (refl, λ q. contains_key-empty q) };
+  count = record { above = λ q h _. absurd (no_some _ (get-empty bits_cmp q) h); reached = inl (refl, λ q h. absurd (no_some _ (get-empty bits_cmp q) h)) };
 }
 
--- the count over a fork
-above_fork : (b : Bool) (near far : SparseMap) (p : List Bool) (n : ℕ) → IsAbsentCount near p n → (q : List Bool) → IsTrue (contains_key (join_at b near far) q) → shared (b ∷ p) q < n + 1
-above_fork b near far p n h q c =
-    elim (join_holds b near far q c) [
-      | inl w ↦ let x : shared (b ∷ p) q ≡ suc (shared p w.0) = ap (shared (b ∷ p)) w.1 ∙ shared_same b p w.0 in
-          let y : shared p w.0 < n = h.above w.0 w.2 in
-          omega (arith, x, y)
-      | inr w ↦ let x : shared (b ∷ p) q ≡ 0 = ap (shared (b ∷ p)) w.1 ∙ shared_other b p w.0 in omega (arith, x)
-    ]
-
-fork_absent_count : (b : Bool) (near far : SparseMap) (p : List Bool) (n : ℕ) → HoldsKey far → IsAbsentCount near p n → IsAbsentCount (join_at b near far) (b ∷ p) (n + 1)
-fork_absent_count b near far p n o h = record {
-  above = above_fork b near far p n h;
-  reached = elim h.reached [
-    | inl w ↦ inr (not b ∷ o.0, holds_far b near far o.0 o.1, ap (λ x. x + 1) (w.0 ∙ sym (shared_other b p o.0)))
-    | inr w ↦ inr (b ∷ w.0, holds_near b near far w.0 w.1, (let x = shared_same b p w.0 in omega (arith, x, w.2)))
-  ];
-}
-
+-- what is held isn't absent
 held_not : (m : SparseMap) (q : List Bool) → contains_key m q ≡ false → contains_key m q ≡ true → ⊥
 held_not m q n h = let e : false ≡ true = sym n ∙ h in cc
 
-step_absent_count : (b : Bool) (near : SparseMap) (p : List Bool) (n : ℕ) → HoldsKey near → IsAbsentCount near p n → IsAbsentCount (join_at b near empty) (b ∷ p) (n + 1)
-step_absent_count b near p n o h = record {
-  above = above_fork b near empty p n h;
-  reached = elim h.reached [
-    | inl w ↦ absurd (held_not near o.0 (w.1 o.0) o.1)
-    | inr w ↦ inr (b ∷ w.0, holds_near b near empty w.0 w.1, (let x = shared_same b p w.0 in omega (arith, x, w.2)))
-  ];
-}
-
-stem_absent_count : (a : List Bool) (m : SparseMap) (p : List Bool) (n : ℕ) → HoldsKey m → IsAbsentCount m p n → IsAbsentCount (under a m) (a ++ p) (n + length a)
-unfolding under
-stem_absent_count [] m p n o h = let y : n ≡ n + 0 = omega arith in subst (λ (j : ℕ). IsAbsentCount m p j) y h
-stem_absent_count (b ∷ a) m p n o h =
-    let y : n + length a + 1 ≡ n + length (b ∷ a) = omega arith in
-    subst (λ (j : ℕ). IsAbsentCount (under (b ∷ a) m) (b ∷ (a ++ p)) j) y
-    (step_absent_count b (under a m) (a ++ p) (n + length a) (holds-under a m o) (stem_absent_count a m p n o h))
+-- the count below bits
+stem_absent_count : (a : List Bool) (m : SparseMap) (p : List Bool) (n : ℕ) → HoldsKey m → contains_key (under a m) (a ++ p) ≡ false → IsPeerCount 0 m p n → IsPeerCount 0 (under a m) (a ++ p) (n + length a)
+stem_absent_count a m p n holds none h =
+    let held = holds-under a m holds in
+    recount (0 + length a) 0 (under a m) (a ++ p) (n + length a)
+    (λ _ only. absurd (held_not (under a m) (a ++ p) none (subst (λ (q : List Bool). IsTrue (contains_key (under a m) q)) (only held.0 held.1) held.1)))
+    (stem_count 0 a m p n h)
 
 -- the peers over a fork
 more_absent : (H : List ℕ → List ℕ) (b : Bool) (m l o : List Bool → Option (List ℕ)) (p : List Bool) (x : Option (List ℕ)) (os : List (Option (List ℕ))) → ((q : List Bool) → m (b ∷ q) ≡ l q) → ((q : List Bool) → m (not b ∷ q) ≡ o q) → IsOther H (length p) o x → IsAbsentPeers H l p os → IsAbsentPeers H m (b ∷ p) (x ∷ os)
@@ -96,14 +69,15 @@ fork_proves_absent : (H : List ℕ → List ℕ) (b : Bool) (near far : SparseMa
 fork_proves_absent H b near far p ps d o e pr = record {
   absent = contains_key-join_at b near far p ∙ pr.absent;
   peers_from_top = join_absent H b near far p ps (Some d) (inr (ap Some e, o)) pr.peers_from_top;
-  count = subst (IsAbsentCount (join_at b near far) (b ∷ p)) (sym (length_peers ps (Some d ∷ []))) (fork_absent_count b near far p (length ps) o pr.count);
+  count = subst (IsPeerCount 0 (join_at b near far) (b ∷ p)) (sym (length_peers ps (Some d ∷ []))) (fork_count 0 b near far p (length ps) o pr.count);
 }
 
 stem_proves_absent : (H : List ℕ → List ℕ) (a p : List Bool) (m : SparseMap) (ps : List (Option (List ℕ))) → HoldsKey m → ProvesAbsent H m p ps → ProvesAbsent H (under a m) (a ++ p) (ps ++ replicate (length a) None)
 stem_proves_absent H a p m ps o pr = record {
   absent = ap is_some (get-under a p m) ∙ pr.absent;
   peers_from_top = stem_absent_peers H a p m ps pr.peers_from_top;
-  count = subst (IsAbsentCount (under a m) (a ++ p)) (sym (length_peers ps (replicate (length a) None) ∙ ap (λ j. length ps + j) (length-replicate (length a) None))) (stem_absent_count a m p (length ps) o pr.count);
+  count = subst (IsPeerCount 0 (under a m) (a ++ p)) (sym (length_peers ps (replicate (length a) None) ∙ ap (λ j. length ps + j) (length-replicate (length a) None)))
+    (stem_absent_count a m p (length ps) o (ap is_some (get-under a p m) ∙ pr.absent) pr.count);
 }
 
 parts_absent : (H : List ℕ → List ℕ) (a : List Bool) (b c : Bool) (cs p : List Bool) (m : SparseMap) (d : List ℕ) → ¬ (c ≡ b) → HoldsKey m → d ≡ sparse_root H (length p) (under cs m) → ProvesAbsent H (under (a ++ c ∷ cs) m) (a ++ b ∷ p) (Some d ∷ replicate (length a) None)

@@ -8,7 +8,8 @@ use Rattle.std.specs.declared.cmp.Ordering.TheVariants.{Equal}
 use Rattle.warg_crypto.specs.Digests.{IsDigest}
 use Rattle.warg_crypto.specs.EmptyTrees.{empty_root}
 use Rattle.warg_map.specs.Bits.{bit_at, last_bits, key_bits}
-use Rattle.warg_map.specs.Sparse.{SparseMap, bits_cmp, root_of_levels, sparse_root, leaf_digest, map_of}
+use Rattle.warg_crypto.specs.Tree.{leaf_digest}
+use Rattle.warg_map.specs.Sparse.{SparseMap, bits_cmp, root_of_levels, sparse_root, map_of}
 use Rattle.warg_map.specs.Last.{same_bits, last_under}
 use Rattle.warg_map.specs.ProofValue.{proof_value}
 use Rattle.warg_map.specs.Peers.{Proves, ProvesAbsent}

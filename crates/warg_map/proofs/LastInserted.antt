@@ -3,7 +3,8 @@ use Rattle.std.proofs.Common.{◌≡◌, ℕ, Bool, true, false, cond, List, [],
 use Rattle.std.specs.Option.{option_or, option_map}
 use Rattle.std.specs.FinMap.{get, insert, empty, get-empty, get-insert}
 use Rattle.warg_map.specs.Bits.{key_bits}
-use Rattle.warg_map.specs.Sparse.{SparseMap, bits_cmp, leaf_digest, inserted, map_of}
+use Rattle.warg_crypto.specs.Tree.{leaf_digest}
+use Rattle.warg_map.specs.Sparse.{SparseMap, bits_cmp, inserted, map_of}
 use Rattle.warg_map.specs.Last.{last_with, same_bits, last_under}
 use Rattle.warg_map.proofs.SparseTree.{bits_total}
 

@@ -9,7 +9,8 @@ use Rattle.warg_map.specs.declared.node.Node.TheVariants.{Fork}
 use Rattle.warg_map.specs.declared.fork.Fork.{Fork as Fork'}
 use Rattle.warg_map.specs.Private.Seen.{seen, tree_height, held_by, IsWellFormed, IsSeen, Inserts}
 use Rattle.warg_map.specs.Bits.{bit_at, bits_from, last_bits, key_bits}
-use Rattle.warg_map.specs.Sparse.{SparseMap, HasLevels, bits_cmp, leaf_digest, inserted, pair_bytes}
+use Rattle.warg_crypto.specs.Tree.{leaf_digest}
+use Rattle.warg_map.specs.Sparse.{SparseMap, HasLevels, bits_cmp, inserted, pair_bytes}
 use Rattle.warg_map.proofs.HeldKeys.{levels-insert, len-insert_fresh}
 use Rattle.warg_map.specs.Private.Under.{join, join_at, under, HoldsKey}
 use Rattle.warg_map.specs.Private.Grown.{with_leaves, ShareBits, is_bit, on_side}

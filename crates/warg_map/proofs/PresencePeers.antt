@@ -102,7 +102,7 @@ step_count L b near p n h = record {
   ];
 }
 
-stem_count : (L : ℕ) (a : List Bool) (m : SparseMap) (p : List Bool) (n : ℕ) → IsPeerCount L m p n → IsPeerCount (L + length a) (under a m) (a ++ p) (n + length a)
+pub stem_count : (L : ℕ) (a : List Bool) (m : SparseMap) (p : List Bool) (n : ℕ) → IsPeerCount L m p n → IsPeerCount (L + length a) (under a m) (a ++ p) (n + length a)
 unfolding under
 stem_count L [] m p n h =
     let x : L ≡ L + 0 = omega arith in
@@ -118,7 +118,7 @@ cancel : (a p q : List Bool) → a ++ p ≡ a ++ q → p ≡ q
 cancel [] p q e = e
 cancel (x ∷ a) p q e = cancel a p q (tail_same _ _ _ _ e)
 
-recount : (L L' : ℕ) (m : SparseMap) (bits : List Bool) (n : ℕ) → ((n ≡ L) → ((q : List Bool) → IsTrue (contains_key m q) → q ≡ bits) → n ≡ L') → IsPeerCount L m bits n → IsPeerCount L' m bits n
+pub recount : (L L' : ℕ) (m : SparseMap) (bits : List Bool) (n : ℕ) → ((n ≡ L) → ((q : List Bool) → IsTrue (contains_key m q) → q ≡ bits) → n ≡ L') → IsPeerCount L m bits n → IsPeerCount L' m bits n
 recount L L' m bits n f h = record {
   above = h.above;
   reached = elim h.reached [ inl w ↦ inl (f w.0 w.1, w.1) | inr w ↦ inr w ];

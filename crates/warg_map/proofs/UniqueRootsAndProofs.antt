@@ -5,7 +5,7 @@ use Rattle.std.specs.Prelude.{reverse}
 use Rattle.std.specs.FinMap.{get, contains_key}
 use Rattle.warg_crypto.specs.EmptyTrees.{empty_root}
 use Rattle.warg_map.specs.Sparse.{SparseMap, root_of_levels, sparse_root, leaf_at}
-use Rattle.warg_map.specs.Peers.{IsPeers, IsPeerCount, Proves, IsOther, IsAbsentPeers, IsAbsentCount, ProvesAbsent}
+use Rattle.warg_map.specs.Peers.{IsPeers, IsPeerCount, Proves, IsOther, IsAbsentPeers, ProvesAbsent}
 use Rattle.warg_map.proofs.BitsInFront.{no_some}
 
 -- the leaf digests decide the root
@@ -50,19 +50,6 @@ same_proof H height m bits ps qs g h =
     turned ps qs (same_peers H bits (get m) (reverse ps) (reverse qs) (turned_lengths ps qs (same_count _ m bits (length ps) (length qs) g.count h.count)) g.peers_from_top h.peers_from_top)
 
 -- proofs of absence
-same_absent_count : (m : SparseMap) (bits : List Bool) (n k : ℕ) → IsAbsentCount m bits n → IsAbsentCount m bits k → n ≡ k
-same_absent_count m bits n k g h =
-    elim g.reached [
-      | inl w ↦ elim h.reached [ inl x ↦ w.0 ∙ sym x.0 | inr x ↦ absurd (both m x.0 (w.1 x.0) x.1) ]
-      | inr w ↦ elim h.reached [
-        | inl x ↦ absurd (both m w.0 (x.1 w.0) w.1)
-        | inr x ↦ let up = h.above w.0 w.1 in let down = g.above x.0 x.1 in omega (arith, up, down, w.2, x.2)
-      ]
-    ]
-  where
-    both : (m : SparseMap) (q : List Bool) → contains_key m q ≡ false → contains_key m q ≡ true → ⊥
-    both m q n h = let e : false ≡ true = sym n ∙ h in cc
-
 same_other : (H : List ℕ → List ℕ) (k : ℕ) (m : List Bool → Option (List ℕ)) (o p : Option (List ℕ)) → IsOther H k m o → IsOther H k m p → o ≡ p
 same_other H k m o p (inl g) (inl h) = g.0 ∙ sym h.0
 same_other H k m o p (inl g) (inr h) = absurd (no_some (m h.1.0) (g.1 h.1.0) h.1.1)
@@ -80,4 +67,4 @@ same_absent_peers H (b ∷ bits) m (p ∷ ps) (q ∷ qs) n g h =
 
 pub same_absence : (H : List ℕ → List ℕ) (m : SparseMap) (bits : List Bool) (ps qs : List (Option (List ℕ))) → ProvesAbsent H m bits ps → ProvesAbsent H m bits qs → ps ≡ qs
 same_absence H m bits ps qs g h =
-    turned ps qs (same_absent_peers H bits (get m) (reverse ps) (reverse qs) (turned_lengths ps qs (same_absent_count m bits (length ps) (length qs) g.count h.count)) g.peers_from_top h.peers_from_top)
+    turned ps qs (same_absent_peers H bits (get m) (reverse ps) (reverse qs) (turned_lengths ps qs (same_count 0 m bits (length ps) (length qs) g.count h.count)) g.peers_from_top h.peers_from_top)

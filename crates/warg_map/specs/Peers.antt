@@ -18,7 +18,7 @@ IsPeers H held bits [] = (q : List Bool) → ¬ (q ≡ bits) → held q ≡ None
 IsPeers H held [] (o ∷ os) = ⊥
 IsPeers H held (b ∷ bits) (o ∷ os) = (o ≡ Some (root_of_levels H (length bits) (λ q. held (not b ∷ q)))) × IsPeers H (λ q. held (b ∷ q)) bits os
 
--- The number of peers of held bits: one more than the most bits that they share with others that are held, or `lone` where no others are.
+-- The number of peers of bits: one more than the most bits that they share with others that are held, or `lone` where no others are.
 pub record IsPeerCount (lone : ℕ) (m : SparseMap) (bits : List Bool) (n : ℕ) : Type 0 where
   pub above : (q : List Bool) → IsTrue (contains_key m q) → ¬ (q ≡ bits) → shared bits q < n
   pub reached : ((n ≡ lone) × ((q : List Bool) → IsTrue (contains_key m q) → q ≡ bits)) ⊎ ((q : List Bool) × IsTrue (contains_key m q) × ¬ (q ≡ bits) × (n ≡ shared bits q + 1))
@@ -43,13 +43,8 @@ IsAbsentPeers H held bits [] = (q : List Bool) → held q ≡ None
 IsAbsentPeers H held [] (o ∷ os) = ⊥
 IsAbsentPeers H held (b ∷ bits) (o ∷ os) = IsOther H (length bits) (λ q. held (not b ∷ q)) o × IsAbsentPeers H (λ q. held (b ∷ q)) bits os
 
--- The number of peers of bits that are not held: one more than the most bits that they share with any that are held, and none where nothing is held.
-pub record IsAbsentCount (m : SparseMap) (bits : List Bool) (n : ℕ) : Type 0 where
-  pub above : (q : List Bool) → IsTrue (contains_key m q) → shared bits q < n
-  pub reached : ((n ≡ 0) × ((q : List Bool) → contains_key m q ≡ false)) ⊎ ((q : List Bool) × IsTrue (contains_key m q) × (n ≡ shared bits q + 1))
-
 -- The peers, from the bottom to the top, prove that the bits are not held in a map.
 pub record ProvesAbsent (H : List ℕ → List ℕ) (m : SparseMap) (bits : List Bool) (peers : List (Option (List ℕ))) : Type 0 where
   pub absent : contains_key m bits ≡ false
   pub peers_from_top : IsAbsentPeers H (get m) bits (reverse peers)
-  pub count : IsAbsentCount m bits (length peers)
+  pub count : IsPeerCount 0 m bits (length peers)

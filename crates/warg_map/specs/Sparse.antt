@@ -7,6 +7,7 @@ use Rattle.std.specs.Cmp.Lexicographic.{slice_cmp}
 use Rattle.std.specs.Coded.{Coded, coded_list, coded_ℕ, coded_bool}
 use Rattle.std.specs.declared.cmp.Ordering.{Ordering}
 use Rattle.warg_crypto.specs.EmptyTrees.{empty_root}
+use Rattle.warg_crypto.specs.Tree.{leaf_digest, branch}
 use Rattle.warg_map.specs.Bits.{key_bits}
 
 -- The order of bit lists: that of dictionaries.
@@ -21,10 +22,10 @@ SparseMap = FinMap bits_cmp (List ℕ)
 abbrev pub sparse_map_code : Coded SparseMap
 sparse_map_code = code (coded_list coded_bool) (coded_list coded_ℕ)
 
--- The digest of the tree of k levels over what is held under each bit list: at no level the one leaf digest, or that of an empty leaf; above, the branch H(01 ++ left ++ right) over what is held after 0 and after 1.
+-- The digest of the tree of k levels over what is held under each bit list: at no level the one leaf digest, or that of an empty leaf; above, the branch over what is held after 0 and after 1.
 unfoldable pub root_of_levels : (List ℕ → List ℕ) → ℕ → (List Bool → Option (List ℕ)) → List ℕ
 root_of_levels H zero held = unwrap_or (held []) (empty_root H 0)
-root_of_levels H (suc k) held = H (1 ∷ (root_of_levels H k (λ bits. held (false ∷ bits)) ++ root_of_levels H k (λ bits. held (true ∷ bits))))
+root_of_levels H (suc k) held = branch H (root_of_levels H k (λ bits. held (false ∷ bits))) (root_of_levels H k (λ bits. held (true ∷ bits)))
 
 -- All bits that a map holds are as many as its levels.
 abbrev pub HasLevels : ℕ → SparseMap → Type 0
@@ -37,10 +38,6 @@ sparse_root H k m = root_of_levels H k (get m)
 -- The leaf digest of bits: the one that is held, or else that of an empty leaf.
 abbrev pub leaf_at : (List ℕ → List ℕ) → SparseMap → List Bool → List ℕ
 leaf_at H m bits = unwrap_or (get m bits) (empty_root H 0)
-
--- The digest of a leaf: H(00 ++ value).
-abbrev pub leaf_digest : (List ℕ → List ℕ) → List ℕ → List ℕ
-leaf_digest H value = H (0 ∷ value)
 
 -- A map after insertions of keys with values in order: under the bits of each key the leaf digest of the value inserted last.
 unfoldable pub inserted : (List ℕ → List ℕ) → SparseMap → List (List ℕ × List ℕ) → SparseMap

@@ -1,6 +1,7 @@
 //! The way of a key digest through the tree, as the sides that its bits choose.
 
 ghost use Rattle.std.specs.Prelude.{◌≡◌, ℕ, ◌+◌, ◌-◌, ◌<◌, ◌≤◌, ◌∷◌, ◌++◌, not, if◌then◌else◌};
+ghost use Rattle.warg_crypto.specs.Tree.{input_beside};
 ghost use Rattle.warg_map.specs.Bits.{bit_at, bits_from};
 ghost use Rattle.warg_map.specs.Private.Side.{side_bit};
 
@@ -32,7 +33,7 @@ impl Side {
 impl Side {
     /// The digest of the branch with `near` on this side and `far` on the other.
     pub(crate) fn branch<D: SupportedDigest>(&self, near: &Hash<D>, far: &Hash<D>) -> Hash<D>
-        ensures { result ≡ D.digest (1 ∷ (if side_bit self.now then far.now ++ near.now else near.now ++ far.now)) }
+        ensures { result ≡ D.digest (input_beside (side_bit self.now) far.now near.now) }
     {
         match self {
             Side::Left => hash_branch(near, far),

@@ -3,7 +3,7 @@
 ghost use Rattle.std.specs.Prelude.{◌≡◌, ℕ, ◌+◌, ◌<◌, ◌≤◌, ◌∷◌, ◌++◌, [], length, IfOk, OnOk, Some, None, replicate};
 ghost use Rattle.warg_crypto.specs.EmptyTrees.{empty_root};
 ghost use Rattle.warg_map.specs.Bits.{key_bits, last_bits};
-ghost use Rattle.warg_map.specs.Sparse.{leaf_digest};
+ghost use Rattle.warg_crypto.specs.Tree.{leaf_digest};
 ghost use Rattle.warg_map.specs.ProofValue.{peer_of, proof_value};
 ghost use Rattle.warg_map.specs.Private.Under.{empty_peers};
 ghost use Rattle.warg_map.specs.Bundles.{same_peers};

@@ -3,7 +3,8 @@ use Rattle.std.proofs.Common.{◌≡◌, inl, inr, ℕ, zero, suc, ◌+◌, ◌-
 use Rattle.std.proofs.lemmas.Bool.{lt-ltb, le-leb, cases_lt}
 use Rattle.std.proofs.Math.Nat.{pow-suc}
 use Rattle.std.proofs.lemmas.Nat.{pow_pos}
-use Rattle.warg_log.specs.Tree.{branch, front_of, root_of, root_over, own_digest}
+use Rattle.warg_crypto.specs.Tree.{branch}
+use Rattle.warg_log.specs.Tree.{front_of, root_of, root_over, own_digest}
 use Rattle.warg_log.specs.Cut.{old_over}
 use Rattle.warg_log.proofs.ForCallers.{below_pow, front_of_is, root_over_parts, old_own_range}
 use Rattle.warg_paths.specs.Paths.{beside, path_at_end, consistency_over, consistency_of, roots_down, grown, both_over, led_to_both}
@@ -44,7 +45,7 @@ rest_at a c h at = omega (arith, front_at a c h at)
 
 -- over a log's own digests a range's stored root is the root over it
 stored : (H : List ℕ → List ℕ) (ds : List (List ℕ)) (h a c n : ℕ) → a ≡ c * 2 ^ h → 0 < n → n ≤ 2 ^ h → a + n ≤ length ds → old_over H (own_digest H ds) a n ≡ Some (root_over H ds a n)
-stored H ds h a c n at some most fits = rw at (old_own_range H ds h c n some most (rw (← at) fits))
+stored H ds h a c n at some most = old_own_range H ds a n some (record { height = h; place = c; start = at; most = most })
 
 -- the path over all leaves of a range
 all : (H : List ℕ → List ℕ) (ds : List (List ℕ)) (h a c : ℕ) (whole : Bool) (m n : ℕ) → a ≡ c * 2 ^ h → m ≡ n → 0 < n → n ≤ 2 ^ h → a + n ≤ length ds

@@ -79,8 +79,6 @@ pub own_leads : (H : List ℕ → List ℕ) (ds : List (List ℕ)) (m n : ℕ) �
     → led_to H m n (slice_index_or ds m []) (inclusion_of (old_over H (own_digest H ds)) m n) ≡ Some (root_of H (take n ds))
 own_leads H ds m n inside fits =
     let x = slice_index_or ds m [] in
-    let none : 0 * 2 ^ n ≡ 0 = omega arith in
     led_is H m n x (inclusion_of (old_over H (own_digest H ds)) m n) inside ∙ climbs H (own_digest H ds) x n m 0 n (omega arith) inside
     ∙ ap (λ s. cut_over H (own_digest H ds) x s 1 0 n) (omega arith) ∙ ap (λ d. cut_over H (own_digest H ds) d m 1 0 n) (sym (root_over_one H ds m (omega arith)))
-    ∙ ap (λ a. cut_over H (own_digest H ds) (root_over H ds m 1) m 1 a n) (sym none) ∙ cut_own_range H ds m 1 n 0 n (omega arith) (omega (arith, below_pow n)) (omega arith)
-    ∙ ap (λ a. Some (root_over H ds a n)) none
+    ∙ cut_own_range H ds m 1 0 n (omega arith) (record { height = n; place = 0; start = omega arith; most = omega (arith, below_pow n) }) (omega arith)

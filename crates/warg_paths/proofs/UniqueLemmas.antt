@@ -7,12 +7,14 @@ use Rattle.std.proofs.lemmas.Bool.{lt-ltb, le-ltb, le-leb, lt-leb, eq-eqb, ne_eq
 use Rattle.std.proofs.lemmas.Bool.Decides.{eqb_tells}
 use Rattle.std.proofs.lemmas.Bool.Decides.{not_from_Decides}
 use Rattle.std.proofs.lemmas.List.{take_at, drop_at, reverse-reverse, reverse-append, length-append}
-use Rattle.warg_crypto.specs.Collisions.{GivesHashes, AreHashes, SomeCollision, Anywhere}
-use Rattle.warg_log.specs.Tree.{branch, front_of}
+use Rattle.warg_crypto.specs.Collisions.{AreHashes, SomeCollision, Anywhere}
+use Rattle.warg_crypto.specs.Tree.{branch}
+use Rattle.warg_log.specs.Tree.{front_of}
 use Rattle.warg_log.specs.Cut.{joined}
 use Rattle.warg_log.proofs.ForCallers.{front_is_greatest, pow_below_pow}
 use Rattle.warg_paths.specs.Paths.{beside, inclusion_over, inclusion_of, inclusion_root, root_down}
 use Rattle.warg_paths.proofs.MakeLemmas.{inclusion_one, inclusion_front, inclusion_rest}
+use Rattle.warg_crypto.proofs.ForCallers.{HasSize}
 
 -- lists of numbers are the same or not
 same_or_not : (xs ys : List ℕ) → (xs ≡ ys) ⊎ (xs ≡ ys → ⊥)
@@ -109,7 +111,7 @@ unfolding root_down
 down_rest H m n x t ts more rest = rw (lt-leb n 1 more, le-ltb m (front_of n) rest) refl
 
 -- the root that is reckoned has 32 bytes
-root_size : (H : List ℕ → List ℕ) → GivesHashes H → (m n : ℕ) (x root : List ℕ) (hs : List (List ℕ)) → length x ≡ 32 → root_down H m n x hs ≡ Some root → length root ≡ 32
+root_size : (H : List ℕ → List ℕ) → HasSize H → (m n : ℕ) (x root : List ℕ) (hs : List (List ℕ)) → length x ≡ 32 → root_down H m n x hs ≡ Some root → length root ≡ 32
 root_size H gives m n x root [] size is = elim (eqb_tells n 1) [
   | inl one ↦ sym (ap length (down_one H m n x root one.1 is)) ∙ size
   | inr other ↦ absurd (down_none H m n x root other.1 is)
@@ -126,11 +128,11 @@ root_size H gives m n x root (t ∷ ts) size is = elim (cases_lt 1 n) [
 branches_meet : (H : List ℕ → List ℕ) (a b c d root : List ℕ) → length a ≡ length c → branch H a b ≡ root → branch H c d ≡ root → ((a ≡ c) × (b ≡ d)) ⊎ SomeCollision H Anywhere
 branches_meet H a b c d root size first second = elim (same_or_not (1 ∷ a ++ b) (1 ∷ c ++ d)) [
   | inl same ↦ inl (branch_parts a b c d size same)
-  | inr differ ↦ inr (record { first = 1 ∷ a ++ b; second = 1 ∷ c ++ d; differ = differ; same = first ∙ sym second; placed = tt })
+  | inr differ ↦ inr (record { first = 1 ∷ a ++ b; second = 1 ∷ c ++ d; collide = record { differ = differ; same = first ∙ sym second }; placed = tt })
 ]
 
 -- two ways down to one root come from one digest along one path, or collide
-unique_down : (H : List ℕ → List ℕ) → GivesHashes H → (m n : ℕ) (x y root : List ℕ) (xs ys : List (List ℕ)) → AreHashes (x ∷ xs) → AreHashes (y ∷ ys)
+unique_down : (H : List ℕ → List ℕ) → HasSize H → (m n : ℕ) (x y root : List ℕ) (xs ys : List (List ℕ)) → AreHashes (x ∷ xs) → AreHashes (y ∷ ys)
     → root_down H m n x xs ≡ Some root → root_down H m n y ys ≡ Some root → ((x ≡ y) × (xs ≡ ys)) ⊎ SomeCollision H Anywhere
 unique_down H gives m n x y root [] [] ax ay ex ey = elim (eqb_tells n 1) [
   | inl one ↦ inl (down_one H m n x root one.1 ex ∙ sym (down_one H m n y root one.1 ey), refl)
@@ -189,7 +191,7 @@ turned P (d ∷ ds) all = rw (reverse-append (d ∷ []) ds) (both (reverse ds) (
     both [] hold last = (last, tt)
     both (h ∷ hs) hold last = (hold.0, both hs hold.1 last)
 
-pub unique : (H : List ℕ → List ℕ) (m n : ℕ) (x y root : List ℕ) (xs ys : List (List ℕ)) → GivesHashes H → AreHashes (x ∷ xs) → AreHashes (y ∷ ys)
+pub unique : (H : List ℕ → List ℕ) (m n : ℕ) (x y root : List ℕ) (xs ys : List (List ℕ)) → HasSize H → AreHashes (x ∷ xs) → AreHashes (y ∷ ys)
     → inclusion_root H m n x xs ≡ Some root → inclusion_root H m n y ys ≡ Some root → ((x ≡ y) × (xs ≡ ys)) ⊎ SomeCollision H Anywhere
 unique H m n x y root xs ys gives ax ay ex ey = elim (cases_lt m n) [
   | inr outside ↦ let none : None ≡ Some root = rw (le-ltb m n outside) at ex in absurd (cc)

@@ -2,7 +2,8 @@
 -- is a list of digests from the bottom up. R has the root of each range of leaves by its first leaf and its
 -- count, if there is one.
 use Rattle.std.specs.Prelude.{ℕ, zero, suc, ◌+◌, ◌-◌, ◌==◌, Bool, true, false, ◌&&◌, nat_le, nat_lt, if◌then◌else◌, List, [], ◌∷◌, ◌++◌, reverse, Option, Some, None}
-use Rattle.warg_log.specs.Tree.{branch, front_of}
+use Rattle.warg_crypto.specs.Tree.{branch}
+use Rattle.warg_log.specs.Tree.{front_of}
 use Rattle.warg_log.specs.Cut.{joined}
 
 -- A path with one more digest above it, where both are there.

@@ -1,6 +1,7 @@
 //! Inclusion paths.
 
 ghost use Rattle.std.specs.Prelude.{◌≡◌, ◌≢◌, ℕ, ◌+◌, ◌^◌, ◌<◌, ◌≤◌, ◌↔◌, ◌∷◌, List, reverse, Option, Some, None, Err, IfOk, IsTrue};
+ghost use Rattle.warg_crypto.specs.Tree.{leaf_digest};
 ghost use Rattle.warg_log.specs.Cut.{old_over};
 ghost use Rattle.warg_paths.specs.Paths.{beside, inclusion_over, inclusion_of, inclusion_root, root_down};
 
@@ -146,7 +147,7 @@ pub fn check_record<D: SupportedDigest, V: VisitBytes>(
     value: &V,
     path: &[Hash<D>],
 ) -> bool
-    ensures { IsTrue result ↔ (inclusion_root D.digest index checkpoint.now.length (D.digest (0 ∷ V.bytes value.now)) path.now ≡ Some checkpoint.now.root) }
+    ensures { IsTrue result ↔ (inclusion_root D.digest index checkpoint.now.length (leaf_digest D.digest (V.bytes value.now)) path.now ≡ Some checkpoint.now.root) }
 {
     let leaf = hash_leaf::<D, V>(value);
     root_of_inclusion(index, checkpoint.length(), &leaf, path) == Some(checkpoint.root())

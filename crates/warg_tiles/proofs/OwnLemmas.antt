@@ -6,7 +6,8 @@ use Rattle.std.proofs.lemmas.Nat.{pow_pos, pow-add}
 use Rattle.std.proofs.lemmas.Bool.{leb-true, le-leb, eqb-true, cases_lt, lt-leb}
 use Rattle.std.proofs.lemmas.List.{get_or-take, get_or-drop, length-take-le, length-drop}
 use Rattle.warg_log.specs.Nodes.{height_of, place_of, start_of, end_of}
-use Rattle.warg_log.specs.Tree.{branch, front_of, root_of, root_over, own_digest}
+use Rattle.warg_crypto.specs.Tree.{branch}
+use Rattle.warg_log.specs.Tree.{front_of, root_of, root_over, own_digest}
 use Rattle.warg_log.proofs.ForCallers.{root_over_parts, front_of_is, over_at}
 use Rattle.warg_tiles.specs.Tiles.{TileAt, node_in, place_in_level, tile_over}
 use Rattle.std.specs.Option.{option_or}

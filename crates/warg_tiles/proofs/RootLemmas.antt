@@ -1,7 +1,8 @@
 -- The root over digests in a row.
 use Rattle.std.proofs.Common.{◌≡◌, ℕ, suc, zero-add, ◌+◌, ◌-◌, ◌^◌, ◌<◌, ◌≤◌, List, [], ◌∷◌, length, take, drop, slice_index_or, sym, ap, ◌∙◌, arith}
 use Rattle.std.proofs.lemmas.List.{take_all, length-drop}
-use Rattle.warg_log.specs.Tree.{branch, front_of, root_of, root_over}
+use Rattle.warg_crypto.specs.Tree.{branch}
+use Rattle.warg_log.specs.Tree.{front_of, root_of, root_over}
 use Rattle.warg_log.proofs.ForCallers.{root_over_one, root_over_parts, front_of_is}
 
 -- the root over all digests

@@ -2,6 +2,7 @@
 
 ghost use Rattle.std.specs.Prelude.{◌≡◌, ◌^◌, ◌*◌, ◌<◌, [], ◌∷◌, ◌++◌, length, string_bytes, IfOk, OnOk, OnErr};
 ghost use Rattle.warg_crypto.specs.Digests.{sha256};
+ghost use Rattle.warg_crypto.specs.Tree.{leaf_digest};
 ghost use Rattle.warg_log.specs.Tree.{root_of};
 ghost use Rattle.warg_log.specs.Bundles.{bundle_of};
 
@@ -17,7 +18,7 @@ pub type Releases = VecLog<Sha256, String>;
 /// Adds a release at the log's end, and answers the checkpoint with it.
 pub fn publish(log: &mut Releases, release: &String) -> Result<Checkpoint<Sha256>, AllocError>
     requires { length log.old < 2 ^ 63 }
-    ensures grown { OnOk result (log.new ≡ log.old ++ sha256 (0 ∷ string_bytes release.now) ∷ []) }
+    ensures grown { OnOk result (log.new ≡ log.old ++ leaf_digest sha256 (string_bytes release.now) ∷ []) }
     ensures root { IfOk result (λ checkpoint. checkpoint.root ≡ root_of sha256 log.new) }
     ensures refused { OnErr result (log.new ≡ log.old) }
 {

@@ -5,7 +5,8 @@ ghost use Rattle.std.specs.FinMap as map;
 ghost use Rattle.warg_crypto.specs.Digests.{sha256};
 ghost use Rattle.warg_crypto.specs.EmptyTrees.{empty_root};
 ghost use Rattle.warg_map.specs.Bits.{key_bits};
-ghost use Rattle.warg_map.specs.Sparse.{leaf_digest, sparse_root, leaf_at};
+ghost use Rattle.warg_crypto.specs.Tree.{leaf_digest};
+ghost use Rattle.warg_map.specs.Sparse.{sparse_root, leaf_at};
 ghost use Rattle.warg_map.specs.ProofValue.{proof_value};
 
 use std::alloc::AllocError;

@@ -34,7 +34,7 @@ pub fn shows_release(
     checkpoint: &Checkpoint<Sha256>,
 ) -> Result<bool, HashesError>
     ensures { result ≡ Ok true → (digests : List (List ℕ)) × (hashes_of path.now ≡ Some digests)
-        × (inclusion_root sha256 index checkpoint.now.length (sha256 (0 ∷ release.now)) digests ≡ Some checkpoint.now.root) }
+        × (inclusion_root sha256 index checkpoint.now.length (leaf_digest sha256 release.now) digests ≡ Some checkpoint.now.root) }
 {
     let path = hashes_in(alloc, path)?;
     Ok(check_record(checkpoint, index, &release, path.as_slice()))

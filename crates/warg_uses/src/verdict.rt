@@ -7,7 +7,6 @@ ghost use Rattle.warg_log.specs.Tree.{leaves_of, root_of};
 ghost use Rattle.warg_map.specs.Sparse.{sparse_root, map_of};
 ghost use Rattle.warg_witness.specs.Claims.{IsEntry, Begins};
 ghost use Rattle.warg_witness.specs.MapClaims.{IsLastValue};
-ghost use Rattle.warg_witness.specs.Laws.{GivesDigests};
 ghost use Rattle.warg_check.specs.Verdicts.{key_verdict, absent_verdict};
 ghost use Rattle.warg_check.specs.CheckpointVerdicts.{entry_verdict, growth_verdict};
 
@@ -38,7 +37,7 @@ pub fn true_growth_or_collision()
 
 /// Under the root of given insertions a true verdict on a key is true of them, or two byte strings collide.
 pub fn true_key_or_collision()
-    ensures { (H : List ℕ → List ℕ) (bytes : List ℕ) (at : ℕ) (key value : List ℕ) (insertions : List (List ℕ × List ℕ)) → GivesDigests H
+    ensures { (H : List ℕ → List ℕ) (bytes : List ℕ) (at : ℕ) (key value : List ℕ) (insertions : List (List ℕ × List ℕ)) → GivesHashes H
         → key_verdict H bytes at key value (sparse_root H 256 (map_of H insertions)) ≡ Ok true
         → ¬ IsLastValue key value insertions → SomeCollision H Anywhere }
 {
@@ -48,7 +47,7 @@ pub fn true_key_or_collision()
 
 /// Under the root of given insertions a true verdict on an absence is true of them, or two byte strings collide.
 pub fn true_absence_or_collision()
-    ensures { (H : List ℕ → List ℕ) (bytes : List ℕ) (at : ℕ) (key : List ℕ) (insertions : List (List ℕ × List ℕ)) → GivesDigests H
+    ensures { (H : List ℕ → List ℕ) (bytes : List ℕ) (at : ℕ) (key : List ℕ) (insertions : List (List ℕ × List ℕ)) → GivesHashes H
         → absent_verdict H bytes at key (sparse_root H 256 (map_of H insertions)) ≡ Ok true
         → ¬ IsLastValue key [] insertions → SomeCollision H Anywhere }
 {

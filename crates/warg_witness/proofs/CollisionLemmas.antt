@@ -7,10 +7,11 @@ use Rattle.warg_log.specs.Tree.{front_of, leaves_of, root_of, root_over, own_dig
 use Rattle.warg_log.specs.Cut.{cut_over}
 use Rattle.warg_witness.specs.Ranges.{IsPart, IsAround}
 use Rattle.warg_witness.specs.Claims.{Begins, IsMet, IsEntry, IsRootBelow, IsAgreement, IsConsistencyMet}
-use Rattle.warg_witness.specs.Inputs.{branch_input}
-use Rattle.warg_crypto.specs.Collisions.{GivesHashes, SomeCollision}
+use Rattle.warg_crypto.specs.Tree.{branch_input}
+use Rattle.warg_crypto.specs.Collisions.{SomeCollision}
 use Rattle.warg_witness.specs.Laws.{HoldsHashes}
-use Rattle.warg_witness.specs.Private.Ranges.{IsAligned, IsNodeRange}
+use Rattle.warg_log.specs.Ranges.{IsAligned}
+use Rattle.warg_witness.specs.Private.Ranges.{IsNodeRange}
 use Rattle.warg_witness.specs.Private.Divergence.{HaveOneDigest, MeetAt, DivergesAt}
 use Rattle.warg_witness.specs.declared.descent.Divergence.{Divergence}
 use Rattle.warg_witness.proofs.RangeLemmas.{Digest, Data, more_than_one, node_some, wider, side_is_part, side_aligned, side_around, leaf_node, node_aligned, whole_aligned}
@@ -25,6 +26,7 @@ use Rattle.warg_witness.specs.declared.descent.Divergence.TheVariants.{Target}
 use Rattle.warg_witness.proofs.ShownLemmas.{Shows, entry_from, value_placed, value_meets, hash_placed, agreement_placed, agreement_meets}
 use Rattle.warg_witness.proofs.ConsistencyLemmas.{trees_consistent, root_leads, old_placed, new_placed, below_placed, leaves_shown}
 use Rattle.warg_log.proofs.ForCallers.{cut_size, front_is_greatest}
+use Rattle.warg_crypto.proofs.ForCallers.{HasSize}
 
 -- lists of numbers are the same or not, and a range is the target or not
 pub same_or_not : (xs ys : List ℕ) → (xs ≡ ys) ⊎ (xs ≡ ys → ⊥)
@@ -48,7 +50,7 @@ difference (x ∷ old) (y ∷ new) order other = elim (same_or_not x y) [
 
 -- two trees of one digest at a range diverge on the way down to the target, or have one digest there
 module _ (H : Digest) (F : Data) (x : List ℕ) (G : Data) (y : List ℕ) (s w a₀ n₀ : ℕ) (P : List ℕ → List ℕ → Type 0) where
-  pub diverged : GivesHashes H → HoldsHashes F → HoldsHashes G → length x ≡ 32 → length y ≡ 32 → IsNodeRange s w
+  pub diverged : HasSize H → HoldsHashes F → HoldsHashes G → length x ≡ 32 → length y ≡ 32 → IsNodeRange s w
       → ((first second : List ℕ) → DivergesAt H F x G y s w a₀ n₀ first second → P first second)
       → (MeetAt x y s w a₀ n₀ → SomeCollision H P) → (k a n : ℕ) → n ≤ k → IsPart a₀ n₀ a n → IsAligned a n → IsAround s w a n → HaveOneDigest H F x G y s w a n → SomeCollision H P
   diverged gives holds holds' size size' node place meets zero a n le part aligned around one = let some = node_some node in absurd (omega arith)
@@ -69,7 +71,7 @@ module _ (H : Digest) (F : Data) (x : List ℕ) (G : Data) (y : List ℕ) (s w a
               (same_at_side side.0 side.1 first.2 second.2 (branch_parts first.0 first.1 second.0 second.1 (first_size ∙ sym second_size) same) side.2)
           | inr differ ↦
               let at = diverges_at H some around other part one first.2 second.2 differ in
-              record { first = branch_input first.0 first.1; second = branch_input second.0 second.1; differ = differ; same = at.same; placed = place _ _ at }
+              record { first = branch_input first.0 first.1; second = branch_input second.0 second.1; collide = record { differ = differ; same = at.same }; placed = place _ _ at }
         ]
   ]
 
@@ -99,18 +101,18 @@ target_or_not p = grind arith
 
 -- what is shown is a collision
 pub shown_collides : {H : Digest} {P : List ℕ → List ℕ → Type 0} (pair : List ℕ × List ℕ) → Shows H P pair → SomeCollision H P
-shown_collides pair shown = record { first = pair.0; second = pair.1; differ = shown.0.differ; same = shown.0.same; placed = shown.1 }
+shown_collides pair shown = record { first = pair.0; second = pair.1; collide = shown.0; placed = shown.1 }
 
 module _ (H : Digest) where
   -- each root over the entries has 32 bytes, and so has what their log holds
-  root_size : (entries : List (List ℕ)) (a n : ℕ) → GivesHashes H → 0 < n → a + n ≤ length (leaves_of H entries) → length (root_over H (leaves_of H entries) a n) ≡ 32
+  root_size : (entries : List (List ℕ)) (a n : ℕ) → HasSize H → 0 < n → a + n ≤ length (leaves_of H entries) → length (root_over H (leaves_of H entries) a n) ≡ 32
   root_size entries a n gives some within = grind (arith, plain_digest_is H entries a n some, length-leaves H entries)
 
-  own_holds : (entries : List (List ℕ)) → GivesHashes H → HoldsHashes (own_digest H (leaves_of H entries))
+  own_holds : (entries : List (List ℕ)) → HasSize H → HoldsHashes (own_digest H (leaves_of H entries))
   own_holds entries gives node digest is = grind (arith, nat_tests, pow_pos (height_of node), root_size entries (start_of node) (2 ^ height_of node) gives)
 
   -- an evaluation that leads to the root of a tree, and that tree
-  from_tree : {F : Data} {x : List ℕ} (entries : List (List ℕ)) {s w : ℕ} {P : List ℕ → List ℕ → Type 0} → GivesHashes H → HoldsHashes F → length x ≡ 32 → IsNodeRange s w
+  from_tree : {F : Data} {x : List ℕ} (entries : List (List ℕ)) {s w : ℕ} {P : List ℕ → List ℕ → Type 0} → HasSize H → HoldsHashes F → length x ≡ 32 → IsNodeRange s w
       → s + w ≤ length (leaves_of H entries) → cut_over H F x s w 0 (length (leaves_of H entries)) ≡ Some (root_of H (leaves_of H entries))
       → ((first second : List ℕ) → DivergesFrom H F x (leaves_of H entries) s w first second → P first second) → (Meets H x (leaves_of H entries) s w → SomeCollision H P) → SomeCollision H P
   from_tree {F} {x} entries {s} {w} gives holds size node within leads place meets =
@@ -125,20 +127,20 @@ module _ (H : Digest) where
       (start_of node + 2 ^ height_of node ≤ length ds) × (cut_over H F digest (start_of node) (2 ^ height_of node) 0 (length ds) ≡ Some (root_of H ds))
   leads_to {entries = entries} met = grind (arith, length-leaves H entries)
 
-  pub value_collides : (F : Data) (value : List ℕ) (node n : ℕ) (entries : List (List ℕ)) → GivesHashes H → HoldsHashes F → IsMet H F (H (0 ∷ value)) node n entries
+  pub value_collides : (F : Data) (value : List ℕ) (node n : ℕ) (entries : List (List ℕ)) → HasSize H → HoldsHashes F → IsMet H F (H (0 ∷ value)) node n entries
       → (IsEntry value node entries → ⊥) → SomeCollision H (IsValuePlaced H F value node entries)
   value_collides F value node n entries gives holds met false_claim =
       let leads = leads_to met in
       from_tree entries gives holds (gives (0 ∷ value)) (node_range node) leads.0 leads.1 (value_placed H F entries _ refl node value)
       (λ meets. shown_collides _ (value_meets H F entries _ refl node value (λ at. false_claim (entry_from node at)) meets))
 
-  pub hash_collides : (F : Data) (hash : List ℕ) (node n : ℕ) (entries : List (List ℕ)) → GivesHashes H → HoldsHashes F → length hash ≡ 32 → IsMet H F hash node n entries
+  pub hash_collides : (F : Data) (hash : List ℕ) (node n : ℕ) (entries : List (List ℕ)) → HasSize H → HoldsHashes F → length hash ≡ 32 → IsMet H F hash node n entries
       → (IsRootBelow H hash node entries → ⊥) → SomeCollision H (IsHashPlaced H F hash node entries)
   hash_collides F hash node n entries gives holds size met false_claim =
       let leads = leads_to met in
       from_tree entries gives holds size (node_range node) leads.0 leads.1 (hash_placed H F entries _ refl node hash) (λ meets. absurd (false_claim meets.same))
 
-  pub agreement_collides : (F : Data) (value : List ℕ) (G : Data) (other : List ℕ) (node n : ℕ) → GivesHashes H → HoldsHashes F → HoldsHashes G
+  pub agreement_collides : (F : Data) (value : List ℕ) (G : Data) (other : List ℕ) (node n : ℕ) → HasSize H → HoldsHashes F → HoldsHashes G
       → IsAgreement H F (H (0 ∷ value)) G (H (0 ∷ other)) node n → (value ≡ other → ⊥) → SomeCollision H (IsAgreementPlaced H F value G other node n)
   agreement_collides F value G other node n gives holds holds' met false_claim =
       diverged H F (H (0 ∷ value)) G (H (0 ∷ other)) (start_of node) (2 ^ height_of node) 0 n _ gives holds holds' (gives (0 ∷ value)) (gives (0 ∷ other)) (node_range node)
@@ -146,7 +148,7 @@ module _ (H : Digest) where
       n 0 n (omega arith) whole (whole_aligned n) (omega arith) (record { digest = met.root; first = met.first_is; second = met.second_is })
 
   -- the balanced root around a difference shows a collision
-  pub consistency_collides : (F : Data) (m n : ℕ) (old new : List (List ℕ)) → GivesHashes H → HoldsHashes F → IsConsistencyMet H F m n old new → (Begins old new → ⊥)
+  pub consistency_collides : (F : Data) (m n : ℕ) (old new : List (List ℕ)) → HasSize H → HoldsHashes F → IsConsistencyMet H F m n old new → (Begins old new → ⊥)
       → SomeCollision H (IsConsistencyPlaced H F old new)
   consistency_collides F m n old new gives holds met false_claim =
       let ds = leaves_of H old in

@@ -5,7 +5,7 @@ use Rattle.warg_log.specs.Tree.{front_of, leaves_of, root_of, root_over, own_dig
 use Rattle.warg_log.specs.Cut.{cut_over, old_over, IsFull}
 use Rattle.warg_witness.specs.Ranges.{IsPart}
 use Rattle.warg_witness.specs.Inputs.{old_input, cut_input}
-use Rattle.warg_witness.specs.Private.Ranges.{IsAligned}
+use Rattle.warg_log.specs.Ranges.{IsAligned}
 use Rattle.warg_witness.proofs.RangeLemmas.{Digest, Data, IsPart-trans, whole_aligned, node_some, wider, part_in}
 use Rattle.warg_witness.proofs.RootLemmas.{Root, node_bounds, rest_aligned, by_root, root_stands, root_at_part}
 use Rattle.std.proofs.lemmas.List.{length-map, get_or-map, get_or-take}

@@ -5,8 +5,10 @@ use Rattle.std.proofs.lemmas.Bool.Decides.{nat_tests}
 use Rattle.warg_log.specs.Tree.{front_of, leaves_of, root_of, root_over, own_digest}
 use Rattle.warg_log.specs.Cut.{joined, cut_over}
 use Rattle.warg_witness.specs.Ranges.{IsPart, IsAround}
-use Rattle.warg_witness.specs.Inputs.{branch_input, plain_input, cut_input}
-use Rattle.warg_witness.specs.Private.Ranges.{IsSide, IsAligned, IsNodeRange}
+use Rattle.warg_crypto.specs.Tree.{branch_input}
+use Rattle.warg_witness.specs.Inputs.{plain_input, cut_input}
+use Rattle.warg_log.specs.Ranges.{IsAligned}
+use Rattle.warg_witness.specs.Private.Ranges.{IsSide, IsNodeRange}
 use Rattle.warg_witness.specs.Private.Divergence.{HaveOneDigest, MeetAt, DivergesAt, IsDivergence}
 use Rattle.warg_witness.specs.declared.descent.Divergence.{Divergence}
 use Rattle.warg_witness.specs.declared.descent.Divergence.TheVariants.{Target, Branch}
@@ -73,7 +75,7 @@ Meets H x ds s w = MeetAt x (root_over H ds s w) s w 0 (length ds)
 module _ (H : Digest) where
   -- over a log's own digests, with the target's own digest, the cut root of a range is the plain root
   pub own_cut : (ds : List (List ℕ)) (s w : ℕ) {a n : ℕ} → IsAligned a n → 0 < n → a + n ≤ length ds → cut_over H (own_digest H ds) (root_over H ds s w) s w a n ≡ Some (root_over H ds a n)
-  own_cut ds s w {a} {n} aligned some within = grind (arith, cut_own_range H ds s w aligned.height aligned.place n some aligned.most)
+  own_cut ds s w {a} {n} aligned some = cut_own_range H ds s w a n some aligned
 
   -- an evaluation that leads to a tree's root and the tree have the root in common, and two trees have a node at which they have one digest
   pub have_root : {F : Data} {x : List ℕ} (ds : List (List ℕ)) (s w : ℕ) → cut_over H F x s w 0 (length ds) ≡ Some (root_of H ds) → 0 < length ds

@@ -2,7 +2,7 @@
 use Rattle.std.proofs.Common.{◌≡◌, ℕ, List, [], ◌∷◌, Option, refl, sym}
 use Rattle.std.proofs.lemmas.List.{append-nil}
 use Rattle.warg_map.specs.Bits.{key_bits}
-use Rattle.warg_crypto.specs.Collisions.{GivesHashes, SomeCollision}
+use Rattle.warg_crypto.specs.Collisions.{SomeCollision}
 use Rattle.warg_witness.specs.Laws.{HoldsPeers}
 use Rattle.warg_witness.specs.MapClaims.{IsKeyAgreement}
 use Rattle.warg_witness.specs.MapPlaced.{IsKeyAgreementPlaced}
@@ -13,6 +13,7 @@ use Rattle.warg_witness.specs.declared.descent.Divergence.TheVariants.{Target, B
 use Rattle.warg_witness.proofs.ShownLemmas.{Shows}
 use Rattle.warg_witness.proofs.CollisionLemmas.{shown_collides}
 use Rattle.warg_witness.proofs.PathLemmas.{diverged_on_path}
+use Rattle.warg_crypto.proofs.ForCallers.{HasSize}
 
 pub key_agreement_shown : {D : Type 0} (H : List ℕ → List ℕ) (key : List ℕ) (P : List (Option (List ℕ))) (v : List ℕ) (Q : List (Option (List ℕ))) (u : List ℕ) (p : Divergence D)
     → IsPathDivergence H P (H (0 ∷ v)) Q (H (0 ∷ u)) (key_bits H key) p → (v ≡ u → ⊥) → Shows H (IsKeyAgreementPlaced H key P v Q u) (inputs_of p (0 ∷ v) (0 ∷ u))
@@ -25,7 +26,7 @@ key_agreement_shown H key P v Q u (Branch l r l' r') is other = (
   record { prefix = is.above; rest = is.bit ∷ is.below; bits = is.split; first_evaluation = is.first_input; second_evaluation = is.second_input },
 )
 
-pub key_agreement_collides : (H : List ℕ → List ℕ) (key : List ℕ) (P : List (Option (List ℕ))) (v : List ℕ) (Q : List (Option (List ℕ))) (u : List ℕ) → GivesHashes H → HoldsPeers P → HoldsPeers Q
+pub key_agreement_collides : (H : List ℕ → List ℕ) (key : List ℕ) (P : List (Option (List ℕ))) (v : List ℕ) (Q : List (Option (List ℕ))) (u : List ℕ) → HasSize H → HoldsPeers P → HoldsPeers Q
     → IsKeyAgreement H key P v Q u → (v ≡ u → ⊥) → SomeCollision H (IsKeyAgreementPlaced H key P v Q u)
 key_agreement_collides H key P v Q u gives holds holds' met other =
     let found = diverged_on_path H P (H (0 ∷ v)) Q (H (0 ∷ u)) gives holds holds' (gives (0 ∷ v)) (gives (0 ∷ u)) (key_bits H key) met in

@@ -4,11 +4,12 @@ use Rattle.std.specs.FinMap.{get}
 use Rattle.std.specs.Option.{option_map}
 use Rattle.warg_crypto.specs.EmptyTrees.{empty_root}
 use Rattle.warg_map.specs.Bits.{key_bits}
-use Rattle.warg_map.specs.Sparse.{root_of_levels, sparse_root, leaf_digest, map_of}
+use Rattle.warg_crypto.specs.Tree.{leaf_digest}
+use Rattle.warg_map.specs.Sparse.{root_of_levels, sparse_root, map_of}
 use Rattle.warg_map.specs.Peers.{Proves}
 use Rattle.warg_map.specs.Last.{last_under}
 use Rattle.warg_crypto.specs.Collisions.{GivesHashes, SomeCollision}
-use Rattle.warg_witness.specs.Laws.{GivesDigests, HoldsPeers}
+use Rattle.warg_witness.specs.Laws.{HoldsPeers}
 use Rattle.warg_witness.specs.MapClaims.{value_in, IsLastValue, IsKeyMet, IsAbsenceMet}
 use Rattle.warg_witness.specs.MapPlaced.{IsKeyPlaced}
 use Rattle.warg_witness.specs.Private.MapPaths.{plain_peers}
@@ -18,9 +19,10 @@ use Rattle.warg_witness.proofs.LastLemmas.{some_same}
 use Rattle.warg_witness.proofs.PathLemmas.{diverged_on_path}
 use Rattle.warg_witness.proofs.KeyLemmas.{DivergesFromPlain, plain_root_is, branch_shown, leaf_shown, none_differs, keys_shown}
 use Rattle.warg_map.proofs.ForCallers.{all_bits, last_held, root_at_prefix}
+use Rattle.warg_crypto.proofs.ForCallers.{HasSize}
 
 -- a root has 32 bytes where each leaf digest has
-root_len : (H : List ℕ → List ℕ) → GivesHashes H → (k : ℕ) (held : List Bool → Option (List ℕ)) → ((bits : List Bool) (digest : List ℕ) → held bits ≡ Some digest → length digest ≡ 32) → length (root_of_levels H k held) ≡ 32
+root_len : (H : List ℕ → List ℕ) → HasSize H → (k : ℕ) (held : List Bool → Option (List ℕ)) → ((bits : List Bool) (digest : List ℕ) → held bits ≡ Some digest → length digest ≡ 32) → length (root_of_levels H k held) ≡ 32
 unfolding root_of_levels empty_root
 root_len H gives zero held h = leaf (held []) (h [])
   where
@@ -35,7 +37,7 @@ holds_push [] digest size holds (suc place) other e = absurd (cc)
 holds_push (peer ∷ peers) digest size holds zero other e = holds 0 other e
 holds_push (peer ∷ peers) digest size holds (suc place) other e = holds_push peers digest size (λ n. holds (suc n)) place other e
 
-pub holds_plain : (H : List ℕ → List ℕ) → GivesHashes H → (held : List Bool → Option (List ℕ)) → ((bits : List Bool) (digest : List ℕ) → held bits ≡ Some digest → length digest ≡ 32)
+pub holds_plain : (H : List ℕ → List ℕ) → HasSize H → (held : List Bool → Option (List ℕ)) → ((bits : List Bool) (digest : List ℕ) → held bits ≡ Some digest → length digest ≡ 32)
     → (bits : List Bool) → HoldsPeers (plain_peers H held bits)
 unfolding plain_peers
 holds_plain H gives held h [] = λ place digest e. absurd (cc)
@@ -43,15 +45,15 @@ holds_plain H gives held h (b ∷ bits) =
     holds_push (plain_peers H (λ q. held (b ∷ q)) bits) (root_of_levels H (length bits) (λ q. held (not b ∷ q))) (root_len H gives (length bits) (λ q. held (not b ∷ q)) (λ q. h (not b ∷ q)))
     (holds_plain H gives (λ q. held (b ∷ q)) (λ q. h (b ∷ q)) bits)
 
-pub holds_leaf : (H : List ℕ → List ℕ) → GivesHashes H → (o : Option (List ℕ × List ℕ)) (digest : List ℕ) → option_map (λ e. leaf_digest H e.1) o ≡ Some digest → length digest ≡ 32
+pub holds_leaf : (H : List ℕ → List ℕ) → HasSize H → (o : Option (List ℕ × List ℕ)) (digest : List ℕ) → option_map (λ e. leaf_digest H e.1) o ≡ Some digest → length digest ≡ 32
 holds_leaf H gives None digest e = absurd (cc)
 holds_leaf H gives (Some f) digest e = ap length (sym (some_same (leaf_digest H f.1) digest e)) ∙ gives (0 ∷ f.1)
 
-pub key_collides : (H : List ℕ → List ℕ) (peers : List (Option (List ℕ))) (key value : List ℕ) (insertions : List (List ℕ × List ℕ)) → GivesDigests H → HoldsPeers peers
+pub key_collides : (H : List ℕ → List ℕ) (peers : List (Option (List ℕ))) (key value : List ℕ) (insertions : List (List ℕ × List ℕ)) → GivesHashes H → HoldsPeers peers
     → IsKeyMet H peers key value insertions → (IsLastValue key value insertions → ⊥) → SomeCollision H (IsKeyPlaced H peers value key insertions)
 key_collides H peers key value insertions digests holds met untrue =
     let bits = key_bits H key in
-    let gives : GivesHashes H = λ m. (digests m).has_32 in
+    let gives : HasSize H = λ m. (digests m).has_32 in
     let plain = plain_peers H (get (map_of H insertions)) bits in
     let last = value_in (last_under H bits insertions) in
     let found = diverged_on_path H peers (leaf_digest H value) plain (leaf_digest H last) gives holds
@@ -70,7 +72,7 @@ key_collides H peers key value insertions digests holds met untrue =
         (λ (other : value ≡ f.1 → ⊥). shown_collides _ (leaf_shown H peers key value insertions p f.1 diverges target (ap value_in e) other))
         (same_or_not value f.1)
 
-pub absence_collides : (H : List ℕ → List ℕ) (peers : List (Option (List ℕ))) (key : List ℕ) (insertions : List (List ℕ × List ℕ)) → GivesDigests H → HoldsPeers peers
+pub absence_collides : (H : List ℕ → List ℕ) (peers : List (Option (List ℕ))) (key : List ℕ) (insertions : List (List ℕ × List ℕ)) → GivesHashes H → HoldsPeers peers
     → IsAbsenceMet H peers key insertions → (IsLastValue key [] insertions → ⊥) → SomeCollision H (IsKeyPlaced H peers [] key insertions)
 unfolding empty_root
 absence_collides H peers key insertions digests holds met untrue = key_collides H peers key [] insertions digests holds met untrue

@@ -7,15 +7,16 @@ use Rattle.std.specs.declared.result.Result.{Result}
 use Rattle.std.proofs.lemmas.Result.{IfOk-weaker}
 use Rattle.warg_crypto.specs.EmptyTrees.{empty_root}
 use Rattle.warg_map.specs.Bits.{key_bits, last_bits}
-use Rattle.warg_map.specs.Sparse.{sparse_root, leaf_digest, map_of, pair_bytes}
+use Rattle.warg_crypto.specs.Tree.{leaf_digest}
+use Rattle.warg_map.specs.Sparse.{sparse_root, map_of, pair_bytes}
 use Rattle.warg_map.specs.Last.{same_bits, last_under}
 use Rattle.warg_map.specs.ProofValue.{proof_value}
-use Rattle.warg_witness.specs.Laws.{GivesDigests}
 use Rattle.warg_witness.specs.MapClaims.{value_in, IsLastValue, IsKeyMet}
 use Rattle.warg_witness.specs.MapPlaced.{IsPlacedAtPrefix, IsKeyPlaced}
 use Rattle.warg_witness.specs.Private.MapPaths.{IsPathDivergence, MeetsOnPath, IsLastPlace, plain_peers}
 use Rattle.warg_witness.specs.Private.MapMeeting.{IsKeyMeeting}
-use Rattle.warg_witness.specs.Private.Divergence.{Collides, DivergesAtBranch, inputs_of}
+use Rattle.warg_crypto.specs.Collisions.{GivesHashes, Collides}
+use Rattle.warg_witness.specs.Private.Divergence.{DivergesAtBranch, inputs_of}
 use Rattle.warg_witness.specs.declared.descent.Divergence.{Divergence}
 use Rattle.warg_witness.specs.declared.descent.Divergence.TheVariants.{Target, Branch}
 use Rattle.warg_witness.proofs.LastLemmas.{last_with-passes, last_with-contains, last_of_digest, none_of_digest, last_at, last_none}
@@ -79,7 +80,7 @@ none_differs H key value insertions none untrue empty = untrue (ap value_in (non
 
 -- where the last insertion under the key's digest has the value, it is of another key
 pub keys_shown : (H : List ℕ → List ℕ) (peers : List (Option (List ℕ))) (key value : List ℕ) (insertions : List (List ℕ × List ℕ)) (e : List ℕ × List ℕ)
-    → GivesDigests H → last_under H (key_bits H key) insertions ≡ Some e → value ≡ e.1 → (IsLastValue key value insertions → ⊥) → ShowsKey H peers key value insertions (key, e.0)
+    → GivesHashes H → last_under H (key_bits H key) insertions ≡ Some e → value ≡ e.1 → (IsLastValue key value insertions → ⊥) → ShowsKey H peers key value insertions (key, e.0)
 keys_shown H peers key value insertions e digests last same untrue = (
   record {
     differ = λ is. untrue (ap value_in (last_of_digest H key insertions e last is) ∙ sym same);
@@ -114,7 +115,7 @@ leaf_met H kb vb peers key value es divergence last place e met target is at oth
     leaf_shown H peers key value (pair_bytes kb vb es) divergence (vb e.1) met.diverges target (ap value_in (last_at H kb vb es (key_bits H key) last place e met.last_is is at)) other
 
 pub keys_met : {D K V : Type 0} (H : List ℕ → List ℕ) (kb : K → List ℕ) (vb : V → List ℕ) (peers : List (Option (List ℕ))) (key value : List ℕ) (es : List (K × V)) (divergence : Divergence D) (last : Option ℕ) (place : ℕ) (e : K × V)
-    → IsKeyMeeting {D = D} H peers key value (pair_bytes kb vb es) divergence last → GivesDigests H → last ≡ Some place → e ≡ get_or es place e
+    → IsKeyMeeting {D = D} H peers key value (pair_bytes kb vb es) divergence last → GivesHashes H → last ≡ Some place → e ≡ get_or es place e
     → value ≡ vb e.1 → (IsLastValue key value (pair_bytes kb vb es) → ⊥) → ShowsKey H peers key value (pair_bytes kb vb es) (key, kb e.0)
 keys_met H kb vb peers key value es divergence last place e met digests is at same untrue =
     keys_shown H peers key value (pair_bytes kb vb es) (kb e.0, vb e.1) digests (last_at H kb vb es (key_bits H key) last place e met.last_is is at) same untrue

@@ -11,9 +11,9 @@ use Rattle.std.specs.Ordering.{is_lt, nat_cmp, ordering_then}
 use Rattle.std.specs.Cmp.Lexicographic.{slice_cmp, nat_list_cmp_total}
 use Rattle.warg_map.specs.Bits.{bit_at, bits_from, key_bits}
 use Rattle.warg_map.specs.Sparse.{bits_cmp}
-use Rattle.warg_witness.specs.Laws.{GivesDigests}
 use Rattle.warg_witness.specs.Private.MapPaths.{key_at, entry_at, entry_cmp, IsKeyUnder, AreKeysUnder}
 use Rattle.warg_map.proofs.ForCallers.{all_bits, order_of_bits}
+use Rattle.warg_crypto.specs.Collisions.{GivesHashes}
 
 -- one bit of a digest
 bits_from-at : (bytes : List ℕ) (i n k : ℕ) → k < n → get_or (bits_from bytes i n) k false ≡ bit_at bytes (i + k)
@@ -61,7 +61,7 @@ entry_bits H insertions prefix e lt under =
     (next.0, under.begins ∙ ap (λ q. prefix ++ q) (next.1 ∙ ap (λ d. bit_at d (length prefix) ∷ next.0) (sym under.digest)))
 
 -- the bits after the prefix ascend
-ascends : (H : List ℕ → List ℕ) → GivesDigests H → (insertions : List (List ℕ × List ℕ)) (prefix : List Bool) (keys : List (List ℕ × ℕ)) → length prefix < 256
+ascends : (H : List ℕ → List ℕ) → GivesHashes H → (insertions : List (List ℕ × List ℕ)) (prefix : List Bool) (keys : List (List ℕ × ℕ)) → length prefix < 256
     → AreKeysUnder H insertions prefix keys → (i j : ℕ) → i ≤ j → j < length keys → bit_at (entry_at keys j).0 (length prefix) ≡ false → bit_at (entry_at keys i).0 (length prefix) ≡ false
 ascends H digests insertions prefix keys lt are i j le less zero_bit =
     let e = entry_at keys i in
@@ -90,7 +90,7 @@ is_not : (b : Bool) → b ≡ false → not b ≡ true
 is_not false e = refl
 is_not true e = cc
 
-pub are_partitioned : (H : List ℕ → List ℕ) → GivesDigests H → (insertions : List (List ℕ × List ℕ)) (prefix : List Bool) (keys : List (List ℕ × ℕ)) → length prefix < 256
+pub are_partitioned : (H : List ℕ → List ℕ) → GivesHashes H → (insertions : List (List ℕ × List ℕ)) (prefix : List Bool) (keys : List (List ℕ × ℕ)) → length prefix < 256
     → AreKeysUnder H insertions prefix keys → IsPartitionedBy (λ e. not (bit_at e.0 (length prefix))) keys
 are_partitioned H digests insertions prefix keys lt are i j d le less is =
     let here = get_or_default keys j d ([], 0) less in

@@ -8,7 +8,8 @@ use Rattle.std.proofs.lemmas.Slice.Eq.{bytes_eq-Decides}
 use Rattle.warg_map.specs.Bits.{key_bits}
 use Rattle.warg_map.specs.Sparse.{pair_bytes}
 use Rattle.warg_map.specs.Last.{last_with, same_bits, last_under}
-use Rattle.warg_witness.specs.MapClaims.{same_bytes, last_insertion}
+use Rattle.warg_crypto.specs.Bytes.{same_bytes}
+use Rattle.warg_witness.specs.MapClaims.{last_insertion}
 use Rattle.warg_witness.specs.Private.MapPaths.{IsLastPlace}
 use Rattle.warg_map.proofs.ForCallers.{same_bits-itself}
 

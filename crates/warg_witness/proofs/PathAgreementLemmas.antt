@@ -2,7 +2,7 @@
 use Rattle.std.proofs.Common.{◌≡◌, ℕ, ◌+◌, ◌-◌, ◌<◌, ◌≤◌, List, [], ◌∷◌, Some, refl, sym, ap, ◌∙◌, arith, reverse}
 use Rattle.warg_log.specs.Tree.{front_of}
 use Rattle.warg_paths.specs.Paths.{inclusion_root}
-use Rattle.warg_witness.specs.Inputs.{branch_input}
+use Rattle.warg_crypto.specs.Tree.{branch_input}
 use Rattle.warg_witness.specs.PathPlaced.{IsRecordAgreementPlaced}
 use Rattle.warg_witness.specs.PathPlaced.IsOnWay.{whole, front, rest}
 use Rattle.warg_witness.specs.Private.Divergence.{inputs_of}

@@ -3,8 +3,7 @@ use Rattle.std.proofs.Common.{◌≡◌, ℕ, zero, suc, ◌+◌, ◌-◌, ◌<�
 use Rattle.std.proofs.lemmas.Bool.{cases_Bool}
 use Rattle.warg_crypto.specs.EmptyTrees.{empty_root}
 use Rattle.warg_map.specs.ProofValue.{peer_of, proof_value}
-use Rattle.warg_witness.specs.Inputs.{branch_input}
-use Rattle.warg_crypto.specs.Collisions.{GivesHashes}
+use Rattle.warg_crypto.specs.Tree.{branch_input}
 use Rattle.warg_witness.specs.Laws.{HoldsPeers}
 use Rattle.warg_witness.specs.MapInputs.{fork_input}
 use Rattle.warg_witness.specs.Private.MapPaths.{DivergesNowhere, IsPathDivergence, IsClimb}
@@ -14,6 +13,7 @@ use Rattle.warg_witness.proofs.DescentLemmas.{inputs_differ}
 use Rattle.warg_witness.proofs.CollisionLemmas.{SomeDivergence, same_or_not}
 use Rattle.warg_map.proofs.ForCallers.{last_bits-more, last_bits-none, length-last_bits}
 use Rattle.warg_map.specs.Bits.{bit_at, last_bits}
+use Rattle.warg_crypto.proofs.ForCallers.{HasSize}
 
 -- one bit more with the same digest beside it
 fork_same : (b : Bool) (peer peer' value value' : List ℕ) → peer ≡ peer' → value ≡ value' → cond b (peer ++ value) (value ++ peer) ≡ cond b (peer' ++ value') (value' ++ peer')
@@ -93,17 +93,17 @@ climb_diverges H P x Q y b bits first second peer peer' l r l' r' up up' p at at
 }
 
 -- the values and the peers have 32 bytes
-value_len : (H : List ℕ → List ℕ) (P : List (Option (List ℕ))) (x : List ℕ) → GivesHashes H → length x ≡ 32 → (bits : List Bool) → length (proof_value H P x bits) ≡ 32
+value_len : (H : List ℕ → List ℕ) (P : List (Option (List ℕ))) (x : List ℕ) → HasSize H → length x ≡ 32 → (bits : List Bool) → length (proof_value H P x bits) ≡ 32
 unfolding proof_value
 value_len H P x gives size [] = size
 value_len H P x gives size (b ∷ bits) = gives (fork_input H P x b bits)
 
-empty_len : (H : List ℕ → List ℕ) → GivesHashes H → (k : ℕ) → length (empty_root H k) ≡ 32
+empty_len : (H : List ℕ → List ℕ) → HasSize H → (k : ℕ) → length (empty_root H k) ≡ 32
 unfolding empty_root
 empty_len H gives zero = gives (0 ∷ [])
 empty_len H gives (suc k) = gives (1 ∷ (empty_root H k ++ empty_root H k))
 
-peer_len : (H : List ℕ → List ℕ) (P : List (Option (List ℕ))) → GivesHashes H → HoldsPeers P → (i : ℕ) → length (peer_of H P i) ≡ 32
+peer_len : (H : List ℕ → List ℕ) (P : List (Option (List ℕ))) → HasSize H → HoldsPeers P → (i : ℕ) → length (peer_of H P i) ≡ 32
 peer_len H P gives holds i = ⊎_elim
     (λ (t : nat_lt i (256 - length P) ≡ true). rw t (empty_len H gives i))
     (λ (t : nat_lt i (256 - length P) ≡ false). rw t (there (get_or P (i - (256 - length P)) None) (holds (i - (256 - length P)))))
@@ -114,7 +114,7 @@ peer_len H P gives holds i = ⊎_elim
     there (Some digest) h = h digest refl
 
 -- two evaluations of one root diverge at a branch, or have one leaf digest
-pub diverged_on_path : (H : List ℕ → List ℕ) (P : List (Option (List ℕ))) (x : List ℕ) (Q : List (Option (List ℕ))) (y : List ℕ) → GivesHashes H → HoldsPeers P → HoldsPeers Q → length x ≡ 32 → length y ≡ 32
+pub diverged_on_path : (H : List ℕ → List ℕ) (P : List (Option (List ℕ))) (x : List ℕ) (Q : List (Option (List ℕ))) (y : List ℕ) → HasSize H → HoldsPeers P → HoldsPeers Q → length x ≡ 32 → length y ≡ 32
     → (bits : List Bool) → proof_value H P x bits ≡ proof_value H Q y bits → (p : SomeDivergence) × IsPathDivergence H P x Q y bits p
 unfolding proof_value
 diverged_on_path H P x Q y gives holds holds' size size' [] e = (Target, record { same = e; beside = λ leaf. refl })

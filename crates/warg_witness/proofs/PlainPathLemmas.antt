@@ -5,10 +5,10 @@ use Rattle.std.proofs.lemmas.Bool.{le-ltb}
 use Rattle.std.specs.Option.{option_map}
 use Rattle.std.specs.FinMap.{get}
 use Rattle.warg_crypto.specs.EmptyTrees.{empty_root}
-use Rattle.warg_map.specs.Sparse.{root_of_levels, leaf_digest, map_of}
+use Rattle.warg_crypto.specs.Tree.{leaf_digest, branch_input}
+use Rattle.warg_map.specs.Sparse.{root_of_levels, map_of}
 use Rattle.warg_map.specs.Last.{last_under}
 use Rattle.warg_map.specs.ProofValue.{peer_of, proof_value}
-use Rattle.warg_witness.specs.Inputs.{branch_input}
 use Rattle.warg_witness.specs.MapClaims.{value_in}
 use Rattle.warg_witness.specs.MapInputs.{fork_input, path_input, plain_input_at}
 use Rattle.warg_witness.specs.Private.MapPaths.{plain_peers}

@@ -6,7 +6,8 @@ use Rattle.warg_log.specs.Cut.{IsFull}
 use Rattle.warg_log.specs.Tree.{front_of}
 use Rattle.warg_witness.specs.Ranges.{IsPart, IsAround}
 use Rattle.warg_witness.specs.Ranges.IsPart.{whole, front, rest}
-use Rattle.warg_witness.specs.Private.Ranges.{IsAligned, IsNodeRange, IsSide}
+use Rattle.warg_log.specs.Ranges.{IsAligned}
+use Rattle.warg_witness.specs.Private.Ranges.{IsNodeRange, IsSide}
 use Rattle.warg_log.proofs.ForCallers.{below_pow, front_is_greatest}
 
 -- A digest function, and digests by node, as data holds them.

@@ -8,7 +8,7 @@ use Rattle.warg_log.specs.Cut.{joined}
 use Rattle.warg_log.proofs.ForCallers.{root_over_parts}
 use Rattle.warg_paths.specs.Paths.{inclusion_root, root_down}
 use Rattle.warg_paths.proofs.ForCallers.{root_short}
-use Rattle.warg_witness.specs.Inputs.{branch_input}
+use Rattle.warg_crypto.specs.Tree.{branch_input}
 use Rattle.warg_witness.specs.PathClaims.{IsRecord}
 use Rattle.warg_witness.specs.PathPlaced.{IsOnWay, turn_input, IsRecordPlaced}
 use Rattle.warg_witness.specs.PathPlaced.IsOnWay.{whole, front, rest}

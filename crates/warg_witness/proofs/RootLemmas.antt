@@ -8,7 +8,8 @@ use Rattle.warg_log.specs.Tree.{front_of}
 use Rattle.warg_log.specs.Cut.{IsFull}
 use Rattle.warg_witness.specs.Ranges.{IsPart, IsAround}
 use Rattle.warg_witness.specs.Ranges.IsPart.{whole, front, rest}
-use Rattle.warg_witness.specs.Private.Ranges.{IsAligned, IsNodeRange, IsSide}
+use Rattle.warg_log.specs.Ranges.{IsAligned}
+use Rattle.warg_witness.specs.Private.Ranges.{IsNodeRange, IsSide}
 use Rattle.warg_witness.proofs.RangeLemmas.{multiple, more_than_one, IsPart-trans, side_aligned, node_some, part_in}
 use Rattle.warg_log.proofs.ForCallers.{balanced_full, balanced_parts, front_is_greatest, over_at, pow_below_pow}
 

@@ -10,7 +10,8 @@ use Rattle.warg_witness.specs.Inputs.{plain_input, cut_input, value_input}
 use Rattle.warg_witness.specs.Placed.{IsValuePlaced, IsHashPlaced, IsAgreementPlaced}
 use Rattle.warg_witness.specs.Private.Compared.{IsAt}
 use Rattle.warg_witness.specs.Private.Meeting.{IsMeeting}
-use Rattle.warg_witness.specs.Private.Divergence.{MeetAt, DivergesAt, IsDivergence, Collides, DivergesAtBranch, inputs_of}
+use Rattle.warg_crypto.specs.Collisions.{Collides}
+use Rattle.warg_witness.specs.Private.Divergence.{MeetAt, DivergesAt, IsDivergence, DivergesAtBranch, inputs_of}
 use Rattle.warg_witness.specs.declared.descent.Divergence.{Divergence}
 use Rattle.warg_witness.specs.declared.descent.Divergence.TheVariants.{Target, Branch}
 use Rattle.warg_witness.proofs.RangeLemmas.{Digest, Data, part_in}

@@ -8,14 +8,14 @@ use Rattle.std.specs.Option.{option_map}
 use Rattle.std.specs.FinMap.{get}
 use Rattle.std.specs.Cmp.Lexicographic.{slice_cmp}
 use Rattle.warg_crypto.specs.EmptyTrees.{empty_root}
-use Rattle.warg_log.specs.Tree.{branch}
+use Rattle.warg_crypto.specs.Tree.{branch, leaf_digest}
 use Rattle.warg_map.specs.Bits.{bit_at, key_bits, last_bits}
-use Rattle.warg_map.specs.Sparse.{SparseMap, bits_cmp, root_of_levels, leaf_digest, map_of, pair_bytes}
+use Rattle.warg_map.specs.Sparse.{SparseMap, bits_cmp, root_of_levels, map_of, pair_bytes}
 use Rattle.warg_map.specs.Last.{same_bits, last_under}
-use Rattle.warg_witness.specs.Laws.{GivesDigests}
 use Rattle.warg_witness.specs.Private.MapPaths.{key_at, entry_at, entry_cmp, AreKeysUnder, AreEmptyTrees, IsPlaceOfLast, IsLastPlace, plain_peers}
 use Rattle.warg_witness.proofs.LastLemmas.{last_with-none, last_with-at, pair_at, length-pair_bytes}
 use Rattle.warg_map.proofs.ForCallers.{all_bits, bits_cmp-itself, bits_left-more, bits_left-none, last_held, length-last_bits, order_of_bits, root-nothing, root-same, same_bits-itself, same_bits-true}
+use Rattle.warg_crypto.specs.Collisions.{GivesHashes}
 
 none_under : (H : List ℕ → List ℕ) (insertions : List (List ℕ × List ℕ)) (prefix q : List Bool) (keys : List (List ℕ × ℕ)) → length keys ≡ 0 → AreKeysUnder H insertions prefix keys
     → last_under H (prefix ++ q) insertions ≡ None
@@ -39,7 +39,7 @@ whole_prefix H key prefix (b ∷ rest) size e =
 nat_less : (a b : ℕ) → a < b → is_lt (nat_cmp a b) ≡ true
 nat_less a b lt = rw (lt-ltb a b lt) refl
 
-pub last_is : (H : List ℕ → List ℕ) → GivesDigests H → (insertions : List (List ℕ × List ℕ)) (prefix : List Bool) (keys : List (List ℕ × ℕ)) (n : ℕ) → length prefix ≡ 256
+pub last_is : (H : List ℕ → List ℕ) → GivesHashes H → (insertions : List (List ℕ × List ℕ)) (prefix : List Bool) (keys : List (List ℕ × ℕ)) (n : ℕ) → length prefix ≡ 256
     → AreKeysUnder H insertions prefix keys → length keys ≡ n + 1
     → ((entry_at keys n).1 < length insertions) × (last_under H prefix insertions ≡ Some (get_or insertions (entry_at keys n).1 ([], [])))
 last_is H digests insertions prefix keys n size are count =
@@ -69,7 +69,7 @@ last_is H digests insertions prefix keys n size are count =
         true_not_false f = cc
 
 -- the leaf of a whole digest
-pub root_leaf : (H : List ℕ → List ℕ) → GivesDigests H → (insertions : List (List ℕ × List ℕ)) (prefix : List Bool) (keys : List (List ℕ × ℕ)) (n : ℕ) → length prefix ≡ 256
+pub root_leaf : (H : List ℕ → List ℕ) → GivesHashes H → (insertions : List (List ℕ × List ℕ)) (prefix : List Bool) (keys : List (List ℕ × ℕ)) (n : ℕ) → length prefix ≡ 256
     → AreKeysUnder H insertions prefix keys → length keys ≡ n + 1
     → leaf_digest H (get_or insertions (entry_at keys n).1 ([], [])).1 ≡ root_of_levels H 0 (λ q. get (map_of H insertions) (prefix ++ q))
 unfolding root_of_levels
@@ -125,7 +125,7 @@ place_within H kb vb es prefix keys place are last =
     let within = (are.each last.before (omega (arith, count))).within in
     omega (arith, is, within, length-pair_bytes kb vb es)
 
-pub leaf_root : {K V : Type 0} → (H : List ℕ → List ℕ) → GivesDigests H → (kb : K → List ℕ) (vb : V → List ℕ) (es : List (K × V)) (prefix : List Bool) (keys : List (List ℕ × ℕ))
+pub leaf_root : {K V : Type 0} → (H : List ℕ → List ℕ) → GivesHashes H → (kb : K → List ℕ) (vb : V → List ℕ) (es : List (K × V)) (prefix : List Bool) (keys : List (List ℕ × ℕ))
     (depth place : ℕ) (e : K × V) (leaf : List ℕ) → depth ≡ 256 → length prefix ≡ depth → AreKeysUnder H (pair_bytes kb vb es) prefix keys → IsPlaceOfLast keys place → e ≡ get_or es place e → leaf ≡ H (0 ∷ vb e.1)
     → leaf ≡ root_of_levels H (256 - depth) (λ q. get (map_of H (pair_bytes kb vb es)) (prefix ++ q))
 leaf_root H digests kb vb es prefix keys depth place e leaf whole size are last at is =
@@ -135,7 +135,7 @@ leaf_root H digests kb vb es prefix keys depth place e leaf whole size are last 
     ∙ ap (λ k. root_of_levels H k (λ q. get (map_of H (pair_bytes kb vb es)) (prefix ++ q))) (let z : 0 ≡ 256 - depth = omega (arith, whole) in z)
 
 -- the place of the last insertion, where the bits are whole
-pub last_place_is : (H : List ℕ → List ℕ) → GivesDigests H → (insertions : List (List ℕ × List ℕ)) (prefix : List Bool) (keys : List (List ℕ × ℕ)) (key : List ℕ) (depth : ℕ) (found : Option ℕ)
+pub last_place_is : (H : List ℕ → List ℕ) → GivesHashes H → (insertions : List (List ℕ × List ℕ)) (prefix : List Bool) (keys : List (List ℕ × ℕ)) (key : List ℕ) (depth : ℕ) (found : Option ℕ)
     → depth ≡ 256 → length prefix ≡ depth → AreKeysUnder H insertions prefix keys → MatchOption found (length keys ≡ 0) (IsPlaceOfLast keys) → IsLastPlace H insertions (prefix ++ last_bits key (256 - depth)) found
 last_place_is H digests insertions prefix keys key depth None whole size are none =
     none_under H insertions prefix (last_bits key (256 - depth)) keys none are

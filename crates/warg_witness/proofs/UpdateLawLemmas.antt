@@ -5,9 +5,10 @@ use Rattle.std.specs.List.{AllByRecursion}
 use Rattle.std.specs.Option.{option_map}
 use Rattle.std.specs.FinMap.{get, insert, empty}
 use Rattle.warg_crypto.specs.EmptyTrees.{empty_root}
-use Rattle.warg_crypto.specs.Collisions.{GivesHashes, SomeCollision}
+use Rattle.warg_crypto.specs.Collisions.{SomeCollision, Collides}
 use Rattle.warg_map.specs.Bits.{key_bits}
-use Rattle.warg_map.specs.Sparse.{SparseMap, sparse_root, leaf_digest, inserted, map_of}
+use Rattle.warg_crypto.specs.Tree.{leaf_digest}
+use Rattle.warg_map.specs.Sparse.{SparseMap, sparse_root, inserted, map_of}
 use Rattle.warg_map.specs.Last.{last_under}
 use Rattle.warg_map.specs.Peers.{Proves, ProvesAbsent}
 use Rattle.warg_map.specs.ProofValue.{proof_value}
@@ -16,7 +17,7 @@ use Rattle.warg_witness.specs.MapClaims.{value_in, IsKeyMet, IsAbsenceMet}
 use Rattle.warg_witness.specs.MapPlaced.{IsPlacedAtPrefix}
 use Rattle.warg_witness.specs.UpdateClaims.{IsUpdated, Step, insertions_of, LeadThrough, CollidesAtStep}
 use Rattle.warg_witness.specs.Private.MapPaths.{IsPathDivergence, plain_peers}
-use Rattle.warg_witness.specs.Private.Divergence.{Collides, inputs_of}
+use Rattle.warg_witness.specs.Private.Divergence.{inputs_of}
 use Rattle.warg_witness.specs.declared.descent.Divergence.TheVariants.{Target}
 use Rattle.warg_witness.proofs.CollisionLemmas.{same_or_not, target_or_not, SomeDivergence}
 use Rattle.warg_witness.proofs.PathLemmas.{diverged_on_path}
@@ -24,9 +25,10 @@ use Rattle.warg_witness.proofs.KeyLemmas.{plain_root_is, branch_placed, branch_c
 use Rattle.warg_witness.proofs.KeyLawLemmas.{holds_plain, holds_leaf}
 use Rattle.warg_witness.proofs.UpdateLemmas.{grown_root_is, beside_at_target}
 use Rattle.warg_map.proofs.ForCallers.{all_bits, last_held, root_at_prefix, replaced_root, absent_replaced_root, absent_root}
+use Rattle.warg_crypto.proofs.ForCallers.{HasSize}
 
 -- a claim that is met and isn't true
-pub update_collides : (H : List ℕ → List ℕ) (peers : List (Option (List ℕ))) (key old new : List ℕ) (insertions : List (List ℕ × List ℕ)) → GivesHashes H → HoldsPeers peers
+pub update_collides : (H : List ℕ → List ℕ) (peers : List (Option (List ℕ))) (key old new : List ℕ) (insertions : List (List ℕ × List ℕ)) → HasSize H → HoldsPeers peers
     → IsKeyMet H peers key old insertions → ¬ (IsUpdated H peers key new insertions) → SomeCollision H (IsPlacedAtPrefix H peers old key insertions)
 update_collides H peers key old new insertions gives holds met untrue =
     let bits = key_bits H key in
@@ -40,7 +42,7 @@ update_collides H peers key old new insertions gives holds met untrue =
     (λ (other : found.0 ≡ Target → ⊥).
     let placed = branch_placed H peers key old insertions found.0 found.1 other in
     let pair = branch_collides H found.0 placed.0 in
-    record { first = (inputs_of found.0 [] []).0; second = (inputs_of found.0 [] []).1; differ = pair.differ; same = pair.same; placed = placed.1 })
+    record { first = (inputs_of found.0 [] []).0; second = (inputs_of found.0 [] []).1; collide = record { differ = pair.differ; same = pair.same }; placed = placed.1 })
     (target_or_not found.0)
 
 -- one insertion more
@@ -83,7 +85,7 @@ plain_at H steps = sparse_root H 256 (map_of H (insertions_of steps))
 abbrev Ends : (List ℕ → List ℕ) → List ℕ → List Step → Type 0
 Ends H root steps = (root ≡ plain_at H steps) ⊎ CollidesAtStep H steps
 
-steps_lead : (H : List ℕ → List ℕ) → GivesHashes H → (before steps : List Step) (root end : List ℕ) → AllByRecursion (λ (s : Step). HoldsPeers s.peers) steps
+steps_lead : (H : List ℕ → List ℕ) → HasSize H → (before steps : List Step) (root end : List ℕ) → AllByRecursion (λ (s : Step). HoldsPeers s.peers) steps
     → root ≡ plain_at H before → LeadThrough H root steps end → Ends H end (before ++ steps)
 unfolding LeadThrough
 steps_lead H gives before [] root end all is through = inl (sym through ∙ is ∙ ap (plain_at H) (sym (append-nil before)))
@@ -101,6 +103,6 @@ root_of_none : (H : List ℕ → List ℕ) → sparse_root H 256 empty ≡ plain
 unfolding inserted
 root_of_none H = refl
 
-pub steps_end : (H : List ℕ → List ℕ) (steps : List Step) (root : List ℕ) → GivesHashes H → AllByRecursion (λ (s : Step). HoldsPeers s.peers) steps
+pub steps_end : (H : List ℕ → List ℕ) (steps : List Step) (root : List ℕ) → HasSize H → AllByRecursion (λ (s : Step). HoldsPeers s.peers) steps
     → LeadThrough H (sparse_root H 256 empty) steps root → (root ≡ sparse_root H 256 (map_of H (insertions_of steps))) ⊎ CollidesAtStep H steps
 steps_end H steps root gives all through = steps_lead H gives [] steps (sparse_root H 256 empty) root all (root_of_none H) through

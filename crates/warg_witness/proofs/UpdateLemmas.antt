@@ -6,7 +6,8 @@ use Rattle.std.specs.Option.{option_map, option_or}
 use Rattle.std.specs.FinMap.{get}
 use Rattle.warg_crypto.specs.EmptyTrees.{empty_root}
 use Rattle.warg_map.specs.Bits.{key_bits, last_bits}
-use Rattle.warg_map.specs.Sparse.{root_of_levels, sparse_root, leaf_digest, map_of}
+use Rattle.warg_crypto.specs.Tree.{leaf_digest}
+use Rattle.warg_map.specs.Sparse.{root_of_levels, sparse_root, map_of}
 use Rattle.warg_map.specs.Last.{last_with, same_bits, last_under}
 use Rattle.warg_map.specs.ProofValue.{proof_value}
 use Rattle.warg_witness.specs.UpdateClaims.{IsUpdated}

@@ -1,17 +1,14 @@
 -- What a map's proof claims of given insertions, and when the claim is met: where the evaluation leads to the
 -- plain sparse root of them.
-use Rattle.std.specs.Prelude.{◌≡◌, ℕ, Bool, nat_eq, List, [], Option}
+use Rattle.std.specs.Prelude.{◌≡◌, ℕ, List, [], Option}
 use Rattle.std.specs.Option.{option_map_or}
-use Rattle.std.specs.Cmp.Lexicographic.{pointwise}
+use Rattle.warg_crypto.specs.Bytes.{same_bytes}
 use Rattle.warg_crypto.specs.EmptyTrees.{empty_root}
 use Rattle.warg_map.specs.Bits.{key_bits}
-use Rattle.warg_map.specs.Sparse.{sparse_root, leaf_digest, map_of}
+use Rattle.warg_crypto.specs.Tree.{leaf_digest}
+use Rattle.warg_map.specs.Sparse.{sparse_root, map_of}
 use Rattle.warg_map.specs.Last.{last_with}
 use Rattle.warg_map.specs.ProofValue.{proof_value}
-
--- Whether two lists of bytes are the same.
-abbrev pub same_bytes : List ℕ → List ℕ → Bool
-same_bytes xs ys = pointwise nat_eq xs ys
 
 -- The last of the insertions of a key, by the key's bytes, or nothing.
 abbrev pub last_insertion : List ℕ → List (List ℕ × List ℕ) → Option (List ℕ × List ℕ)

@@ -3,7 +3,8 @@
 use Rattle.std.specs.Prelude.{◌≡◌, ℕ, ◌+◌, ◌-◌, ◌<◌, ◌≤◌, nat_lt, if◌then◌else◌, List, [], ◌∷◌, length, reverse, Option, Some}
 use Rattle.warg_log.specs.Tree.{front_of}
 use Rattle.warg_paths.specs.Paths.{root_down}
-use Rattle.warg_witness.specs.Inputs.{plain_input, both_input}
+use Rattle.warg_crypto.specs.Tree.{where_both, leaf_input, leaf_digest, branch_input}
+use Rattle.warg_witness.specs.Inputs.{plain_input}
 
 -- The ranges of the recursion on the way to leaf m₀ of the n₀ leaves from a₀ on, each with the leaf's number m in
 -- it, its first leaf, its count and the digests that are left there: the whole with all digests, and of each range
@@ -20,14 +21,14 @@ pub data IsOnWay (m₀ a₀ n₀ : ℕ) (digests₀ : List (List ℕ)) : ℕ →
 abbrev pub turn_input : (List ℕ → List ℕ) → List ℕ → ℕ → ℕ → List ℕ → List (List ℕ) → Option (List ℕ)
 turn_input H x m n top below =
     if nat_lt m (front_of n)
-    then both_input (root_down H m (front_of n) x below) (Some top)
-    else both_input (Some top) (root_down H (m - front_of n) (n - front_of n) x below)
+    then where_both branch_input (root_down H m (front_of n) x below) (Some top)
+    else where_both branch_input (Some top) (root_down H (m - front_of n) (n - front_of n) x below)
 
 -- The evaluation's input at a range of n leaves, of which leaf m has the value v: at the leaf, where no digests are
 -- left, the byte 00 and v.
 abbrev pub record_input : (List ℕ → List ℕ) → List ℕ → ℕ → ℕ → List (List ℕ) → Option (List ℕ)
-record_input H v m n [] = Some (0 ∷ v)
-record_input H v m n (top ∷ below) = turn_input H (H (0 ∷ v)) m n top below
+record_input H v m n [] = Some (leaf_input v)
+record_input H v m n (top ∷ below) = turn_input H (leaf_digest H v) m n top below
 
 -- For a record: the evaluation's input (first) and the plain input (second) at one range on the way to the leaf.
 pub record IsRecordPlaced (H : List ℕ → List ℕ) (index : ℕ) (path : List (List ℕ)) (value : List ℕ) (entries : List (List ℕ)) (first second : List ℕ) : Type 0 where

@@ -2,7 +2,7 @@
 use Rattle.std.specs.Prelude.{◌≡◌, ℕ, List, [], ◌∷◌, ◌++◌, map, Option}
 use Rattle.warg_crypto.specs.Collisions.{SomeCollision}
 use Rattle.warg_map.specs.Bits.{key_bits}
-use Rattle.warg_map.specs.Sparse.{leaf_digest}
+use Rattle.warg_crypto.specs.Tree.{leaf_digest}
 use Rattle.warg_map.specs.ProofValue.{proof_value}
 use Rattle.warg_witness.specs.MapClaims.{IsKeyMet}
 use Rattle.warg_witness.specs.MapPlaced.{IsPlacedAtPrefix}

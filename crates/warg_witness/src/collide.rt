@@ -1,7 +1,9 @@
 //! The collision that two evaluations show where they diverge.
 
 ghost use Rattle.std.specs.Prelude.{◌≡◌, [], ◌∷◌, IfOk};
-ghost use Rattle.warg_witness.specs.Private.Divergence.{Collides, DivergesAtBranch, inputs_of};
+ghost use Rattle.warg_crypto.specs.Tree.{leaf_input};
+ghost use Rattle.warg_crypto.specs.Collisions.{Collides};
+ghost use Rattle.warg_witness.specs.Private.Divergence.{DivergesAtBranch, inputs_of};
 
 use crate::collision::{Collision, branch_bytes, leaf_bytes};
 use crate::descent::Divergence;
@@ -15,8 +17,8 @@ pub(crate) fn collide_values<D: SupportedDigest, V: VisitBytes, W: VisitBytes, A
     first: &V,
     second: &W,
 ) -> Result<Collision<D, A>, AllocError>
-    requires { Collides D.digest (inputs_of divergence.now (0 ∷ V.bytes first.now) (0 ∷ W.bytes second.now)) }
-    ensures { IfOk result (λ c. c ≡ inputs_of divergence.now (0 ∷ V.bytes first.now) (0 ∷ W.bytes second.now)) }
+    requires { Collides D.digest (inputs_of divergence.now (leaf_input (V.bytes first.now)) (leaf_input (W.bytes second.now))) }
+    ensures { IfOk result (λ c. c ≡ inputs_of divergence.now (leaf_input (V.bytes first.now)) (leaf_input (W.bytes second.now))) }
 {
     if !divergence.is_target() {
         return collide_branch(alloc, divergence);

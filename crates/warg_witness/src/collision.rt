@@ -1,7 +1,7 @@
 //! Collisions, and what a witness found.
 
 ghost use Rattle.std.specs.Prelude.{◌≡◌, ℕ, List, [], ◌∷◌, ◌++◌, IfOk};
-ghost use Rattle.warg_witness.specs.Inputs.{branch_input};
+ghost use Rattle.warg_crypto.specs.Tree.{branch_input, leaf_input};
 
 use std::alloc::{AllocError, Allocator, Global};
 use std::marker::{Model, PhantomData};
@@ -17,13 +17,14 @@ pub struct Collision<D: SupportedDigest, A: Allocator = Global> {
 
 // Contracts see the pair of the two byte strings.
 impl<D: SupportedDigest, A: Allocator> Model for Collision<D, A> {
-    ghost use Rattle.std.specs.Prelude.{◌≡◌, ℕ, List};
+    ghost use Rattle.std.specs.Prelude.{ℕ, List};
+    ghost use Rattle.warg_crypto.specs.Collisions.{Collides};
 
     ghost Value = { List ℕ × List ℕ };
 
     ghost view = { λ c. (c.first.items, c.second.items) };
 
-    ghost invariant = { λ c. (c.first.items ≡ c.second.items → ⊥) × (D.digest c.first.items ≡ D.digest c.second.items) };
+    ghost invariant = { λ c. Collides D.digest (c.first.items, c.second.items) };
 }
 
 /// By both byte strings, each with the one in its place.
@@ -102,7 +103,7 @@ pub enum Finding<D: SupportedDigest, A: Allocator = Global> {
 struct Leaf<'a, V>(&'a V);
 
 impl<V: VisitBytes> VisitBytes for Leaf<'_, V> {
-    ghost bytes = { λ leaf. 0 ∷ V.bytes leaf.0.now };
+    ghost bytes = { λ leaf. leaf_input (V.bytes leaf.0.now) };
 
     fn visit<W: ByteVisitor>(&self, to: &mut W) {
         to.visit_bytes(&[0]);
@@ -115,7 +116,7 @@ pub(crate) fn leaf_bytes<V: VisitBytes, A: Allocator>(
     alloc: A,
     value: &V,
 ) -> Result<Vec<u8, A>, AllocError>
-    ensures { IfOk result (λ bytes. bytes.items ≡ 0 ∷ V.bytes value.now) }
+    ensures { IfOk result (λ bytes. bytes.items ≡ leaf_input (V.bytes value.now)) }
 {
     bytes_of(alloc, &Leaf(value))
 }

@@ -5,7 +5,8 @@ ghost use Rattle.warg_log.specs.Tree.{front_of};
 ghost use Rattle.warg_log.specs.Cut.{cut_over};
 ghost use Rattle.warg_witness.specs.Private.Divergence.{HaveOneDigest, IsDivergence};
 ghost use Rattle.warg_witness.specs.Ranges.{IsAround};
-ghost use Rattle.warg_witness.specs.Private.Ranges.{IsAligned, IsNodeRange, IsSide};
+ghost use Rattle.warg_log.specs.Ranges.{IsAligned};
+ghost use Rattle.warg_witness.specs.Private.Ranges.{IsNodeRange, IsSide};
 
 use warg_crypto::{Hash, SupportedDigest, VisitBytes};
 use warg_log::{LeafRange, LogData, range_root};

@@ -18,7 +18,7 @@ ghost use Rattle.warg_witness.specs.MapClaims.{IsKeyMet, IsAbsenceMet, IsKeyAgre
 ghost use Rattle.warg_witness.specs.MapPlaced.{IsPlacedAtPrefix, IsKeyPlaced, IsKeyAgreementPlaced};
 ghost use Rattle.warg_witness.specs.UpdateClaims.{IsUpdated, Step, insertions_of, LeadThrough, CollidesAtStep};
 ghost use Rattle.warg_crypto.specs.Collisions.{GivesHashes, SomeCollision};
-ghost use Rattle.warg_witness.specs.Laws.{GivesDigests, HoldsHashes, HoldsPeers};
+ghost use Rattle.warg_witness.specs.Laws.{HoldsHashes, HoldsPeers};
 
 use crate::collision::Finding;
 use std::alloc::Allocator;
@@ -27,7 +27,7 @@ use warg_crypto::SupportedDigest;
 /// A value's claim that is met and isn't true gives a collision.
 pub fn value_or_collision()
     ensures { (H : List ℕ → List ℕ) (F : ℕ → Option (List ℕ)) (value : List ℕ) (node n : ℕ) (entries : List (List ℕ)) → GivesHashes H → HoldsHashes F
-        → IsMet H F (H (0 ∷ value)) node n entries → (IsEntry value node entries → ⊥) → SomeCollision H (IsValuePlaced H F value node entries) }
+        → IsMet H F (leaf_digest H value) node n entries → (IsEntry value node entries → ⊥) → SomeCollision H (IsValuePlaced H F value node entries) }
 {}
 
 /// A hash's claim that is met and isn't true gives a collision.
@@ -39,7 +39,7 @@ pub fn hash_or_collision()
 /// Two different values that lead to one root over two data give a collision.
 pub fn agreement_or_collision()
     ensures { (H : List ℕ → List ℕ) (F : ℕ → Option (List ℕ)) (value : List ℕ) (G : ℕ → Option (List ℕ)) (other : List ℕ) (node n : ℕ) → GivesHashes H → HoldsHashes F → HoldsHashes G
-        → IsAgreement H F (H (0 ∷ value)) G (H (0 ∷ other)) node n → (value ≡ other → ⊥) → SomeCollision H (IsAgreementPlaced H F value G other node n) }
+        → IsAgreement H F (leaf_digest H value) G (leaf_digest H other) node n → (value ≡ other → ⊥) → SomeCollision H (IsAgreementPlaced H F value G other node n) }
 {}
 
 /// A claim of consistency that is met and isn't true gives a collision.
@@ -56,13 +56,13 @@ pub fn key_agreement_or_collision()
 
 /// A key's claim that is met and isn't true gives a collision.
 pub fn key_or_collision()
-    ensures { (H : List ℕ → List ℕ) (peers : List (Option (List ℕ))) (key value : List ℕ) (insertions : List (List ℕ × List ℕ)) → GivesDigests H → HoldsPeers peers
+    ensures { (H : List ℕ → List ℕ) (peers : List (Option (List ℕ))) (key value : List ℕ) (insertions : List (List ℕ × List ℕ)) → GivesHashes H → HoldsPeers peers
         → IsKeyMet H peers key value insertions → (IsLastValue key value insertions → ⊥) → SomeCollision H (IsKeyPlaced H peers value key insertions) }
 {}
 
 /// An absence's claim that is met and isn't true gives a collision.
 pub fn absence_or_collision()
-    ensures { (H : List ℕ → List ℕ) (peers : List (Option (List ℕ))) (key : List ℕ) (insertions : List (List ℕ × List ℕ)) → GivesDigests H → HoldsPeers peers
+    ensures { (H : List ℕ → List ℕ) (peers : List (Option (List ℕ))) (key : List ℕ) (insertions : List (List ℕ × List ℕ)) → GivesHashes H → HoldsPeers peers
         → IsAbsenceMet H peers key insertions → (IsLastValue key [] insertions → ⊥) → SomeCollision H (IsKeyPlaced H peers [] key insertions) }
 {}
 

@@ -1,6 +1,7 @@
 //! Witnesses for the log's proofs.
 
 ghost use Rattle.std.specs.Prelude.{◌≡◌, ℕ, ◌+◌, ◌^◌, ◌≤◌, ◌↔◌, List, [], ◌∷◌, length, map, None, Ok, IfOk, IsTrue, MatchOption, ◌⊎◌};
+ghost use Rattle.warg_crypto.specs.Tree.{leaf_input, leaf_digest};
 ghost use Rattle.warg_log.specs.Nodes.{ExistsAt};
 ghost use Rattle.warg_log.specs.Cut.{cut_root};
 ghost use Rattle.warg_log.specs.Tree.{leaves_of};
@@ -10,7 +11,8 @@ ghost use Rattle.warg_witness.specs.Inputs.{plain_input};
 ghost use Rattle.warg_witness.specs.Findings.{Finds};
 ghost use Rattle.warg_witness.specs.Claims.{IsMet, IsEntry, IsRootBelow, IsAgreement};
 ghost use Rattle.warg_witness.specs.Placed.{IsValuePlaced, IsHashPlaced, IsAgreementPlaced};
-ghost use Rattle.warg_witness.specs.Private.Divergence.{Collides, DivergesAtBranch, inputs_of};
+ghost use Rattle.warg_crypto.specs.Collisions.{Collides};
+ghost use Rattle.warg_witness.specs.Private.Divergence.{DivergesAtBranch, inputs_of};
 ghost use Rattle.warg_witness.specs.Private.Meeting.{IsMeeting};
 
 mod consistency;
@@ -99,8 +101,8 @@ fn collide<D: SupportedDigest, V: VisitBytes, A: Allocator + Copy>(
     requires tree { met.now.tree ≡ leaves_of D.digest (map (λ e. V.bytes e) entries.now) }
     requires node { IsNodeRange met.now.target.start met.now.target.count }
     requires within { met.now.target.start + met.now.target.count ≤ length entries.now }
-    requires collides { Collides D.digest (inputs_of met.now.divergence (0 ∷ V.bytes value.now) (plain_input D.digest (map (λ e. V.bytes e) entries.now) met.now.target.start met.now.target.count)) }
-    ensures { IfOk result (λ c. c ≡ inputs_of met.now.divergence (0 ∷ V.bytes value.now) (plain_input D.digest (map (λ e. V.bytes e) entries.now) met.now.target.start met.now.target.count)) }
+    requires collides { Collides D.digest (inputs_of met.now.divergence (leaf_input (V.bytes value.now)) (plain_input D.digest (map (λ e. V.bytes e) entries.now) met.now.target.start met.now.target.count)) }
+    ensures { IfOk result (λ c. c ≡ inputs_of met.now.divergence (leaf_input (V.bytes value.now)) (plain_input D.digest (map (λ e. V.bytes e) entries.now) met.now.target.start met.now.target.count)) }
 {
     if !met.divergence.is_target() {
         return collide_branch(alloc, &met.divergence);
@@ -137,10 +139,10 @@ pub fn witness_value<D: SupportedDigest, V: VisitBytes, L: LogData<D, V>, A: All
 ) -> Result<Finding<D, A>, AllocError>
     ensures count { (length entries.now ≡ proof.now.log_length → ⊥) → result ≡ Ok Finding.NotMet }
     ensures fails { (¬ (ExistsAt proof.now.leaf.0 proof.now.log_length)
-        ⊎ (cut_root D.digest (L.digest_at hashes.now) proof.now.leaf.0 (D.digest (0 ∷ V.bytes value.now)) proof.now.log_length ≡ None))
+        ⊎ (cut_root D.digest (L.digest_at hashes.now) proof.now.leaf.0 (leaf_digest D.digest (V.bytes value.now)) proof.now.log_length ≡ None))
         → result ≡ Ok Finding.NotMet }
     ensures found { IfOk result (Finds
-        (IsMet D.digest (L.digest_at hashes.now) (D.digest (0 ∷ V.bytes value.now))
+        (IsMet D.digest (L.digest_at hashes.now) (leaf_digest D.digest (V.bytes value.now))
         proof.now.leaf.0 proof.now.log_length (map (λ e. V.bytes e) entries.now))
         (IsEntry (V.bytes value.now) proof.now.leaf.0 (map (λ e. V.bytes e) entries.now))
         (IsValuePlaced D.digest (L.digest_at hashes.now) (V.bytes value.now) proof.now.leaf.0 (map (λ e. V.bytes e) entries.now))) }
@@ -210,12 +212,12 @@ pub fn agree_value<
     second_hashes: &M,
     second_value: &V,
 ) -> Result<Finding<D, A>, AllocError>
-    ensures unmet { ¬ (IsAgreement D.digest (L.digest_at first_hashes.now) (D.digest (0 ∷ V.bytes first_value.now))
-        (M.digest_at second_hashes.now) (D.digest (0 ∷ V.bytes second_value.now)) proof.now.leaf.0 proof.now.log_length)
+    ensures unmet { ¬ (IsAgreement D.digest (L.digest_at first_hashes.now) (leaf_digest D.digest (V.bytes first_value.now))
+        (M.digest_at second_hashes.now) (leaf_digest D.digest (V.bytes second_value.now)) proof.now.leaf.0 proof.now.log_length)
         → result ≡ Ok Finding.NotMet }
     ensures found { IfOk result (Finds
-        (IsAgreement D.digest (L.digest_at first_hashes.now) (D.digest (0 ∷ V.bytes first_value.now))
-        (M.digest_at second_hashes.now) (D.digest (0 ∷ V.bytes second_value.now)) proof.now.leaf.0 proof.now.log_length)
+        (IsAgreement D.digest (L.digest_at first_hashes.now) (leaf_digest D.digest (V.bytes first_value.now))
+        (M.digest_at second_hashes.now) (leaf_digest D.digest (V.bytes second_value.now)) proof.now.leaf.0 proof.now.log_length)
         (V.bytes first_value.now ≡ V.bytes second_value.now)
         (IsAgreementPlaced D.digest (L.digest_at first_hashes.now) (V.bytes first_value.now)
         (M.digest_at second_hashes.now) (V.bytes second_value.now) proof.now.leaf.0 proof.now.log_length)) }

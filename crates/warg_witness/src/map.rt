@@ -2,13 +2,14 @@
 
 ghost use Rattle.std.specs.Prelude.{◌≡◌, ℕ, ◌≤◌, Bool, List, [], length, Option, Ok, IfOk, MatchOption};
 ghost use Rattle.warg_map.specs.Last.{last_under};
-ghost use Rattle.warg_map.specs.Sparse.{leaf_digest, pair_bytes};
+ghost use Rattle.warg_crypto.specs.Tree.{leaf_digest};
+ghost use Rattle.warg_map.specs.Sparse.{pair_bytes};
 ghost use Rattle.warg_witness.specs.Findings.{Finds};
 ghost use Rattle.warg_witness.specs.MapClaims.{value_in, IsKeyMet, IsAbsenceMet, IsKeyAgreement, IsLastValue};
 ghost use Rattle.warg_witness.specs.MapPlaced.{IsKeyPlaced, IsKeyAgreementPlaced};
 ghost use Rattle.warg_witness.specs.Private.MapMeeting.{IsKeyMeeting};
 ghost use Rattle.warg_witness.specs.Private.MapPaths.{IsLastPlace};
-ghost use Rattle.warg_witness.specs.Private.Divergence.{Collides};
+ghost use Rattle.warg_crypto.specs.Collisions.{Collides};
 
 mod empty;
 mod keys;

@@ -1,12 +1,13 @@
 //! Witnesses for paths.
 
 ghost use Rattle.std.specs.Prelude.{◌≡◌, ℕ, ◌+◌, ◌-◌, ◌^◌, ◌<◌, ◌≤◌, ◌↔◌, List, ◌∷◌, length, map, reverse, None, Some, Ok, IfOk, IsSome, MatchOption};
+ghost use Rattle.warg_crypto.specs.Tree.{leaf_digest};
 ghost use Rattle.warg_log.specs.Tree.{front_of, leaves_of, root_of, root_over};
 ghost use Rattle.warg_paths.specs.Paths.{inclusion_root, root_down};
 ghost use Rattle.warg_witness.specs.Findings.{Finds};
 ghost use Rattle.warg_witness.specs.PathClaims.{IsRecord, IsRecordMet};
 ghost use Rattle.warg_witness.specs.PathPlaced.{IsRecordPlaced};
-ghost use Rattle.warg_witness.specs.Private.Ranges.{IsAligned};
+ghost use Rattle.warg_log.specs.Ranges.{IsAligned};
 ghost use Rattle.warg_witness.specs.Private.PathDivergence.{IsPathMeeting, AreSides, IsRecordDivergence};
 
 mod agreement;
@@ -136,7 +137,7 @@ pub fn witness_record<D: SupportedDigest, V: VisitBytes, A: Allocator + Copy>(
     value: &V,
     entries: &[V],
 ) -> Result<Finding<D, A>, AllocError>
-    ensures leads { inclusion_root D.digest index (length entries.now) (D.digest (0 ∷ V.bytes value.now)) path.now ≡ None
+    ensures leads { inclusion_root D.digest index (length entries.now) (leaf_digest D.digest (V.bytes value.now)) path.now ≡ None
         → result ≡ Ok Finding.NotMet }
     ensures found { IfOk result (Finds
         (IsRecordMet D.digest index path.now (V.bytes value.now) (map (λ e. V.bytes e) entries.now))

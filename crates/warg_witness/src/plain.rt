@@ -2,7 +2,7 @@
 
 ghost use Rattle.std.specs.Prelude.{◌≡◌, ℕ, ◌+◌, ◌^◌, ◌<◌, ◌≤◌, List, length, map, IfOk};
 ghost use Rattle.warg_log.specs.Tree.{leaves_of, root_of, root_over};
-ghost use Rattle.warg_witness.specs.Private.Ranges.{IsAligned};
+ghost use Rattle.warg_log.specs.Ranges.{IsAligned};
 ghost use Rattle.warg_witness.specs.Inputs.{plain_input};
 
 use crate::collision::{branch_bytes, leaf_bytes};

@@ -1,7 +1,7 @@
 -- The blocks of a log while a push joins them.
 use Rattle.std.specs.Prelude.{◌≡◌, ℕ, suc, ◌+◌, ◌*◌, ◌^◌, List, map}
 use Rattle.warg_log.specs.Nodes.{height_of, start_of, balanced_roots}
-use Rattle.warg_log.specs.Tree.{branch}
+use Rattle.warg_crypto.specs.Tree.{branch}
 
 -- G gives the digests of ranges, by height and first leaf, once the leaf digest d is behind the digests
 -- of the blocks of length n.

@@ -4,7 +4,6 @@ ghost use Rattle.std.specs.Prelude.{◌≡◌, ◌≢◌, ℕ, ◌-◌, ◌*◌,
 ghost use Rattle.std.specs.List.{AllByRecursion};
 ghost use Rattle.warg_protobuf.specs.declared.error.WireError.TheVariants as wire;
 ghost use Rattle.warg_protobuf.specs.VecLog.{vec_view, vec_bytes};
-ghost use Rattle.warg_log.specs.Tree.{IsSlice};
 ghost use Rattle.warg_protobuf.specs.Reading.{Answers};
 ghost use Rattle.warg_log.specs.Decoding.{first_fault, digest_fault};
 ghost use Rattle.warg_log.specs.Images.{is_slice_of_length, vec_message, vec_in, vec_of};

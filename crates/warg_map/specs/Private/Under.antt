@@ -2,6 +2,7 @@
 use Rattle.std.specs.Prelude.{◌≡◌, ℕ, zero, suc, ◌+◌, Bool, true, false, cond, Option, Some, List, [], ◌∷◌, ◌++◌, map, length, IsTrue}
 use Rattle.std.specs.FinMap.{from_entries, entries, contains_key, insert, empty}
 use Rattle.warg_crypto.specs.EmptyTrees.{empty_root}
+use Rattle.warg_crypto.specs.Tree.{input_beside}
 use Rattle.warg_map.specs.Sparse.{SparseMap}
 
 -- One map after the bit 0 and another after the bit 1.
@@ -20,7 +21,7 @@ under (b ∷ bits) m = join_at b (under bits m) empty
 -- The digest above a tree of k levels with digest x, along bits beside which all is empty.
 unfoldable pub stem_root : (List ℕ → List ℕ) → ℕ → List ℕ → List Bool → List ℕ
 stem_root H k x [] = x
-stem_root H k x (b ∷ bits) = H (1 ∷ cond b (empty_root H (k + length bits) ++ stem_root H k x bits) (stem_root H k x bits ++ empty_root H (k + length bits)))
+stem_root H k x (b ∷ bits) = H (input_beside b (empty_root H (k + length bits)) (stem_root H k x bits))
 
 -- The digests of the empty trees of n heights from k on, as peers.
 unfoldable pub empty_peers : (List ℕ → List ℕ) → ℕ → ℕ → List (Option (List ℕ))

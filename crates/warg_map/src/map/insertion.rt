@@ -3,7 +3,8 @@
 ghost use Rattle.std.specs.Prelude.{◌≡◌, ◌↔◌, IfOk, Err, false, not};
 ghost use Rattle.std.specs.FinMap as map;
 ghost use Rattle.warg_map.specs.Bits.{key_bits};
-ghost use Rattle.warg_map.specs.Sparse.{sparse_root, leaf_at, leaf_digest};
+ghost use Rattle.warg_crypto.specs.Tree.{leaf_digest};
+ghost use Rattle.warg_map.specs.Sparse.{sparse_root, leaf_at};
 ghost use Rattle.warg_map.specs.ProofValue.{proof_value};
 ghost use Rattle.warg_map.specs.Peers.{Proves};
 

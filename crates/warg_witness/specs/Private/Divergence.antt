@@ -2,7 +2,8 @@
 use Rattle.std.specs.Prelude.{◌≡◌, ℕ, List, Option, Some}
 use Rattle.warg_log.specs.Cut.{cut_over}
 use Rattle.warg_witness.specs.Ranges.{IsPart, IsAround}
-use Rattle.warg_witness.specs.Inputs.{branch_input, cut_input}
+use Rattle.warg_crypto.specs.Tree.{branch_input}
+use Rattle.warg_witness.specs.Inputs.{cut_input}
 use Rattle.warg_witness.specs.declared.descent.Divergence.{Divergence}
 use Rattle.warg_witness.specs.declared.descent.Divergence.TheVariants.{Target, Branch}
 
@@ -39,11 +40,6 @@ IsDivergence H F x G y s w a₀ n₀ (Branch first_left first_right second_left 
 abbrev pub inputs_of : {D : _} → Divergence D → List ℕ → List ℕ → List ℕ × List ℕ
 inputs_of Target first second = (first, second)
 inputs_of (Branch first_left first_right second_left second_right) first second = (branch_input first_left first_right, branch_input second_left second_right)
-
--- Two byte lists that differ and have one digest.
-pub record Collides (H : List ℕ → List ℕ) (pair : List ℕ × List ℕ) : Type 0 where
-  pub differ : pair.0 ≡ pair.1 → ⊥
-  pub same : H pair.0 ≡ H pair.1
 
 -- The trees diverge at a branch, and its inputs collide.
 abbrev pub DivergesAtBranch : {D : _} → (List ℕ → List ℕ) → Divergence D → Type 0

@@ -2,7 +2,8 @@
 use Rattle.std.specs.Prelude.{ℕ, List, Option}
 use Rattle.std.specs.FinMap.{get}
 use Rattle.warg_map.specs.Bits.{key_bits}
-use Rattle.warg_map.specs.Sparse.{leaf_digest, map_of}
+use Rattle.warg_crypto.specs.Tree.{leaf_digest}
+use Rattle.warg_map.specs.Sparse.{map_of}
 use Rattle.warg_map.specs.Last.{last_under}
 use Rattle.warg_witness.specs.MapClaims.{value_in, IsKeyMet}
 use Rattle.warg_witness.specs.Private.MapPaths.{IsPathDivergence, IsLastPlace, plain_peers}

@@ -2,7 +2,7 @@
 -- digests of a path are given from the topmost down.
 use Rattle.std.specs.Prelude.{◌≡◌, ℕ, ◌+◌, List, [], ◌∷◌, Some}
 use Rattle.warg_paths.specs.Paths.{root_down}
-use Rattle.warg_witness.specs.Inputs.{branch_input}
+use Rattle.warg_crypto.specs.Tree.{branch_input}
 use Rattle.warg_witness.specs.PathPlaced.{IsOnWay, turn_input}
 use Rattle.warg_witness.specs.declared.descent.Divergence.{Divergence}
 use Rattle.warg_witness.specs.declared.descent.Divergence.TheVariants.{Target, Branch}

@@ -3,7 +3,7 @@
 use Rattle.std.specs.Prelude.{◌≡◌, ℕ, ◌+◌, ◌-◌, ◌<◌, ◌≤◌, ◌^◌, List, [], ◌∷◌, length, Some}
 use Rattle.warg_log.specs.Tree.{front_of, leaves_of, root_of, root_over}
 use Rattle.warg_paths.specs.Paths.{root_down, inclusion_root}
-use Rattle.warg_witness.specs.Inputs.{branch_input}
+use Rattle.warg_crypto.specs.Tree.{branch_input}
 use Rattle.warg_witness.specs.PathPlaced.{IsOnWay, turn_input}
 use Rattle.warg_witness.specs.declared.descent.Divergence.{Divergence}
 use Rattle.warg_witness.specs.declared.descent.Divergence.TheVariants.{Target, Branch}

@@ -1,14 +1,6 @@
 -- Ranges of the tree's recursion, as the private functions speak of them.
-use Rattle.std.specs.Prelude.{◌≡◌, ℕ, ◌+◌, ◌-◌, ◌*◌, ◌^◌, ◌≤◌, ◌⊎◌}
+use Rattle.std.specs.Prelude.{◌≡◌, ℕ, ◌+◌, ◌-◌, ◌*◌, ◌^◌, ◌⊎◌}
 use Rattle.warg_log.specs.Tree.{front_of}
-
--- The range is one that the recursion over some log could meet: at most a power of two of leaves, from a
--- multiple of it on.
-pub record IsAligned (a n : ℕ) : Type 0 where
-  pub height : ℕ
-  pub place : ℕ
-  pub start : a ≡ place * 2 ^ height
-  pub most : n ≤ 2 ^ height
 
 -- The range is a node's: a power of two of leaves, from a multiple of it on.
 pub record IsNodeRange (s w : ℕ) : Type 0 where

@@ -1,13 +1,15 @@
 //! The witness for consistency proofs.
 
 ghost use Rattle.std.specs.Prelude.{◌≡◌, ℕ, ◌+◌, ◌^◌, ◌<◌, ◌≤◌, ◌↔◌, List, [], ◌∷◌, length, map, None, Some, Ok, Err, IfOk, IsTrue, MatchOption, slice_index_or, Contains};
+ghost use Rattle.warg_crypto.specs.Tree.{leaf_digest};
 ghost use Rattle.warg_log.specs.Nodes.{node_over, balanced_over};
 ghost use Rattle.warg_log.specs.Tree.{leaves_of, root_of, root_over, own_digest};
 ghost use Rattle.warg_log.specs.Cut.{cut_over};
 ghost use Rattle.warg_log.specs.Consistency.{IsConsistent, consistency};
 ghost use Rattle.warg_log.specs.declared.consistency.ConsistencyProofError.{ConsistencyProofError};
 ghost use Rattle.warg_witness.specs.Ranges.{IsAround};
-ghost use Rattle.warg_witness.specs.Private.Ranges.{IsAligned, IsNodeRange};
+ghost use Rattle.warg_log.specs.Ranges.{IsAligned};
+ghost use Rattle.warg_witness.specs.Private.Ranges.{IsNodeRange};
 ghost use Rattle.warg_witness.specs.Findings.{Finds};
 ghost use Rattle.warg_witness.specs.Claims.{Begins, IsConsistencyMet};
 ghost use Rattle.warg_witness.specs.Placed.{IsConsistencyPlaced};
@@ -87,8 +89,8 @@ fn is_same_entry<D: SupportedDigest, V: VisitBytes, A: Allocator>(
     requires fits { place < 2 ^ 63 }
     requires in_old { place < length trees.now.old }
     requires in_new { place < length trees.now.new }
-    requires old_leaf { slice_index_or trees.now.old place [] ≡ D.digest (0 ∷ V.bytes old.now) }
-    requires new_leaf { slice_index_or trees.now.new place [] ≡ D.digest (0 ∷ V.bytes new.now) }
+    requires old_leaf { slice_index_or trees.now.old place [] ≡ leaf_digest D.digest (V.bytes old.now) }
+    requires new_leaf { slice_index_or trees.now.new place [] ≡ leaf_digest D.digest (V.bytes new.now) }
     ensures { IfOk result (λ same. IsTrue same ↔ (V.bytes old.now ≡ V.bytes new.now)) }
 {
     let leaf = LeafRange::new(place, 1);

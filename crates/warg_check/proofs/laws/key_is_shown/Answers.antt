@@ -1,6 +1,6 @@
 use Rattle.std.proofs.Common.{sym}
 use Rattle.std.specs.Cmp.Lexicographic.{same_text}
-use Rattle.warg_map.specs.Sparse.{leaf_digest}
+use Rattle.warg_crypto.specs.Tree.{leaf_digest}
 use Rattle.warg_protobuf.specs.MapProofBundle.{MapBundle}
 use Rattle.warg_map.specs.Bits.{key_bits}
 use Rattle.warg_map.specs.ProofValue.{proof_value}

@@ -1,5 +1,5 @@
 use Rattle.std.proofs.Common.{◌≡◌, refl, ◌∙◌, arith}
-use Rattle.warg_log.specs.Tree.{branch}
+use Rattle.warg_crypto.specs.Tree.{branch}
 use Rattle.warg_log.proofs.NodeLemmas.{node_at, low_by_end}
 use Rattle.warg_log.proofs.SideLemmas.{left_side}
 use Rattle.warg_log.proofs.SliceLemmas.{inside_slice, sibling_ends, parent_ends, climbed, finished}

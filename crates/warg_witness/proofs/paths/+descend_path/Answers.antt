@@ -2,7 +2,7 @@ use Rattle.std.proofs.Common.{rules, ◌≡◌, ◌-◌, Some, reverse, sym, ap,
 use Rattle.std.specs.Cmp.Lexicographic.{bytes_decides}
 use Rattle.warg_log.specs.Tree.{root_over}
 use Rattle.warg_paths.specs.Paths.{root_down}
-use Rattle.warg_witness.specs.Private.Ranges.{IsAligned}
+use Rattle.warg_log.specs.Ranges.{IsAligned}
 use Rattle.warg_witness.proofs.HashLemmas.{ne_false}
 use Rattle.warg_witness.proofs.RangeLemmas.{side_aligned}
 use Rattle.warg_witness.proofs.DescentLemmas.{inputs_differ}

@@ -1,7 +1,7 @@
 use Rattle.std.proofs.Common.{◌^◌, ◌≡◌, ◌≤◌}
 use Rattle.std.specs.List.{AllByRecursion}
 use Rattle.warg_log.specs.Nodes.{balanced_roots, end_of}
-use Rattle.warg_log.specs.Tree.{branch}
+use Rattle.warg_crypto.specs.Tree.{branch}
 use Rattle.warg_log.specs.Consistency.{agreed_root, new_root_of}
 use Rattle.warg_log.proofs.consistency.ConsistencyProof.new_root.Given as goal
 

@@ -7,7 +7,7 @@ use Rattle.warg_log.proofs.StepLemmas.{walk_whole, needed_once, needed_most}
 use Rattle.warg_log.proofs.proof.InclusionProof.walk.Goals as goal
 
 pub add_walk-requires-clause-aligned : goal.add_walk-requires-clause-aligned
-add_walk-requires-clause-aligned g c = (64, 0, let e : 0 ≡ 0 * 2 ^ 64 = omega arith in e, omega arith)
+add_walk-requires-clause-aligned g c = record { height = 64; place = 0; start = omega arith; most = omega arith }
 
 pub overflow_sub-result : goal.overflow_sub-result
 overflow_sub-result g c = (walk_whole _ _ _ _ c.len.result _ c.in-Ok.ensures.order (c.len.ensures ∙ c.add_walk.new.nodes.ok.0)).0

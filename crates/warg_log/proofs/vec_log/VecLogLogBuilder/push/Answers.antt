@@ -6,8 +6,8 @@ use Rattle.warg_log.proofs.vec_log.VecLogLogBuilder.push.Goals.{After-push_reser
 
 room : (g : _) (c : After-push_reserved-2 g) → HasRoom g.D.SupportedDigest.digest (leaves_in c.self.inside.tree.items) c.if-self-ne0.self-inside.tree.items
 room g c = elim c.if-self-ne0.branch [
-  | then-self-ne0 w ↦ rw (w.self-inside-is, w.push_reserved.ensures.items, c.reserve.ensures.items, w.copied.ensures, c.self.invariant.2) (room_more _ _ c.self.invariant.1 (omega arith))
-  | else-self-ne0 w ↦ rw (w.self-inside-is, c.reserve.ensures.items) (room_empty _ _ c.self.invariant.1 (sym c.self.invariant.0 ∙ w.if-self-ne0.false))
+  | then-self-ne0 w ↦ rw (w.self-inside-is, w.push_reserved.ensures.items, c.reserve.ensures.items, w.copied.ensures, c.self.invariant.2) (room_more g.D.SupportedDigest.digest _ c.self.invariant.1 (omega arith))
+  | else-self-ne0 w ↦ rw (w.self-inside-is, c.reserve.ensures.items) (room_empty g.D.SupportedDigest.digest _ c.self.invariant.1 (sym c.self.invariant.0 ∙ w.if-self-ne0.false))
 ]
 
 ready : (g : _) (c : After-push_reserved-2 g) → IsAppended g.D.SupportedDigest.digest (leaves_in c.self.inside.tree.items) c.push_reserved-2.new.self.items c.hash_leaf-digest.result

@@ -1,10 +1,10 @@
 use Rattle.std.proofs.Common.{arith, Some, ap, ◌∙◌}
-use Rattle.warg_log.proofs.SliceLemmas.{inside_slice, own_digest_held}
+use Rattle.warg_log.proofs.SliceLemmas.{inside_slice, slice_size, own_digest_held}
 use Rattle.warg_log.proofs.vec_log.VecLogLogData.hash_for.Goals as goal
 
 pub index-requires : goal.index-requires
-index-requires g c = inside_slice _ _ _ (c.exists_at_length.ensures.0 c.if-exists_at_length.true) (omega arith)
+index-requires g c = inside_slice _ _ _ (c.exists_at_length.ensures.0 c.if-exists_at_length.true) (omega (arith, slice_size g.D.SupportedDigest.digest _ _ c.self.invariant.1))
 
 pub returns-then-exists_at_length : goal.returns-then-exists_at_length
 returns-then-exists_at_length g c = rw (← c.self.view_is)
-    (ap Some c.copied.ensures ∙ own_digest_held _ _ _ _ _ c.self.invariant.1 (rw (← c.self.invariant.0) (c.exists_at_length.ensures.0 c.if-exists_at_length.true)) c.index.ensures)
+    (ap Some c.copied.ensures ∙ own_digest_held g.D.SupportedDigest.digest _ _ _ _ c.self.invariant.1 (rw (← c.self.invariant.0) (c.exists_at_length.ensures.0 c.if-exists_at_length.true)) c.index.ensures)

@@ -4,7 +4,7 @@ use Rattle.std.specs.Iterator.{Yields}
 use Rattle.std.proofs.iter.Next.{Yields-more}
 use Rattle.std.specs.FinMap.{insert, len, contains_key}
 use Rattle.warg_map.specs.Bits.{key_bits}
-use Rattle.warg_map.specs.Sparse.{leaf_digest}
+use Rattle.warg_crypto.specs.Tree.{leaf_digest}
 use Rattle.warg_map.proofs.InsertedPairs.{inserted-none, inserted-pair}
 use Rattle.warg_map.proofs.map.Map.extended.Goals as goal
 

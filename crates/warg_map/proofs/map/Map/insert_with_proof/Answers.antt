@@ -1,7 +1,7 @@
 use Rattle.std.proofs.Common.{◌≡◌, ◌≤◌, false, length, ap, ◌∙◌, arith, rules}
 use Rattle.std.specs.FinMap.{contains_key, insert}
 use Rattle.warg_map.specs.Bits.{key_bits}
-use Rattle.warg_map.specs.Sparse.{leaf_digest}
+use Rattle.warg_crypto.specs.Tree.{leaf_digest}
 use Rattle.warg_map.specs.Peers.{Proves}
 use Rattle.warg_map.specs.Private.Seen.{tree_height}
 use Rattle.warg_map.proofs.SparseTree.{length-last_bits}

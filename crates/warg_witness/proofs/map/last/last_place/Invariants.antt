@@ -1,6 +1,6 @@
 use Rattle.std.proofs.Common.{◌≡◌, ℕ, ◌<◌, ◌≤◌, [], length, get_or, false}
 use Rattle.warg_map.specs.Sparse.{pair_bytes}
-use Rattle.warg_witness.specs.MapClaims.{same_bytes}
+use Rattle.warg_crypto.specs.Bytes.{same_bytes}
 use Rattle.warg_witness.proofs.map.last.last_place.Given as goal
 
 abbrev pub invariant-loop-place : goal.invariant-loop-place
