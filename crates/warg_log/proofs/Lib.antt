@@ -26,3 +26,4 @@ pub mod TreeLemmas
 pub mod ForCallers
 mod DecimalLemmas
 mod TextLemmas
+mod ServeLemmas

@@ -9,7 +9,7 @@ use crate::error::{BundleError, EncodeError};
 use crate::proof_bundle::ProofBundle;
 use crate::tested::OutOfRange;
 use crate::vec_log::VecLog;
-use std::alloc::{AllocError, Allocator};
+use std::alloc::{AllocError, AllocFailed, Allocator};
 use thiserror::Error;
 use warg_crypto::{SupportedDigest, VisitBytes};
 
@@ -45,6 +45,17 @@ impl From<AllocError> for ServeError {
     ghost from_gives = { λ _ error. error ≡ serve.Memory };
 
     fn from(_error: AllocError) -> ServeError {
+        ServeError::Memory
+    }
+}
+
+impl<T: Drop> From<AllocFailed<T>> for ServeError {
+    ghost use Rattle.std.specs.Prelude.{◌≡◌};
+    ghost use Rattle.warg_log.specs.declared.serve.ServeError.TheVariants as serve;
+
+    ghost from_gives = { λ _ error. error ≡ serve.Memory };
+
+    fn from(_error: AllocFailed<T>) -> ServeError {
         ServeError::Memory
     }
 }
