@@ -3,7 +3,7 @@
 //! with the line and the reason.
 //!
 //! A step is a key, its value before if it had one, the value, the map's root with it, and a bundle as hexadecimal
-//! digits, parted by tabs. Where all steps are shown nothing else was inserted, changed or removed.
+//! digits, separated by tabs. Where all steps are shown nothing else was inserted, changed or removed.
 #![tactic(auto)]
 
 use anyhow::{Result, bail};

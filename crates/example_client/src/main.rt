@@ -1,13 +1,13 @@
 //! A client of a registry: reads what the registry printed, a line for each release, and says whether each is shown to
 //! be in the registry's log. It keeps the last checkpoint under which all was true, and nothing else.
 //!
-//! A line has the release, the log's length and root, and a bundle as hexadecimal digits, parted by tabs.
+//! A line has the release, the log's checkpoint, and a bundle as hexadecimal digits, separated by tabs.
 #![tactic(auto)]
 
 use anyhow::{Result, anyhow};
 use std::alloc::Global;
 use warg_check::{CheckError, check_entry, check_growth};
-use warg_crypto::{Hash, Sha256};
+use warg_crypto::Sha256;
 use warg_log::Checkpoint;
 
 // A registry's log as a client sees it.
@@ -25,10 +25,10 @@ fn main(rt: HostRuntime) -> Result<()> {
     for line in rt.lines(rt.alloc()) {
         let line = line?;
         let words: Vec<&str> = line.split('\t').collect(rt.alloc())?;
-        let [release, length, root, bundle] = words.as_slice() else {
-            return Err(anyhow!("not four words"));
+        let [release, checkpoint, bundle] = words.as_slice() else {
+            return Err(anyhow!("not three words"));
         };
-        let checkpoint = Checkpoint::new(root.parse::<Hash<Sha256>>()?, length.parse::<usize>()?);
+        let checkpoint = checkpoint.parse::<Checkpoint<Sha256>>()?;
         let bytes = hex::decode(rt.alloc(), bundle)?;
         let is_shown = client.follow(checkpoint, release, bytes.as_slice())?;
         println!(rt; "{release}: {is_shown}")?;

@@ -4,22 +4,19 @@
 use anyhow::Result;
 use warg_check::check_entry;
 use warg_crypto::Sha256;
-use warg_log::{LogBuilder, LogData, ProofBundle, VecLog};
+use warg_log::{LogBuilder, VecLog};
 
 fn main(rt: HostRuntime) -> Result<()> {
     let alloc = rt.alloc();
 
     // A registry keeps a log of entries, and tells everyone its checkpoint: root and length.
     let mut log: VecLog<Sha256, &str> = VecLog::default(alloc);
-    log.push(&"one")?;
-    let leaf = log.push(&"two")?;
+    log.append(&"one")?;
+    log.append(&"two")?;
     let checkpoint = log.checkpoint();
 
-    // It sends a proof that "two" is in the log, as bytes.
-    let proof = log.prove_inclusion(leaf, log.length());
-    let proofs = vec![in alloc; proof]?;
-    let bundle = ProofBundle::bundle(alloc, Vec::new(alloc), proofs, &log)?;
-    let bytes = bundle.encode(alloc)?;
+    // It sends a proof of entry 1, as bytes.
+    let bytes = log.inclusion_bytes(alloc, 1, log.length())?;
 
     // A client checks the bytes: is entry 1 of the log with this checkpoint "two"?
     let verdict = check_entry(alloc, bytes.as_slice(), 0, 1, &"two", &checkpoint)?;

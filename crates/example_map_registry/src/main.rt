@@ -1,6 +1,6 @@
-//! A registry of one value a key: reads keys with values, a line each, parted by a tab, and keeps them in a map. For each
+//! A registry of one value a key: reads keys with values, a line each, separated by a tab, and keeps them in a map. For each
 //! it prints a step, for auditors: the key, its value before if it had one, the value, the map's root with it, and a
-//! bundle as hexadecimal digits, parted by tabs.
+//! bundle as hexadecimal digits, separated by tabs.
 //!
 //! The bundle has the proof of the step: a proof where the key had a value, and an absence where it had none.
 #![tactic(auto)]

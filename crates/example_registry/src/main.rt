@@ -1,13 +1,13 @@
 //! A registry: reads releases, a line each, and keeps them in a log. For each release it prints what a client needs:
-//! the release, the log's length and root, and a bundle of proofs as hexadecimal digits, parted by tabs.
+//! the release, the log's checkpoint, and a bundle of proofs as hexadecimal digits, separated by tabs.
 //!
 //! The bundle proves that the release is the log's last entry, and that the log before it is a beginning of the log.
 #![tactic(auto)]
 
-use anyhow::{Result, bail};
+use anyhow::Result;
 use std::alloc::Global;
 use warg_crypto::Sha256;
-use warg_log::{BundleError, GREATEST_LENGTH, LogBuilder, LogData, Node, ProofBundle, VecLog};
+use warg_log::{BundleError, LogBuilder, LogData, Node, ProofBundle, VecLog};
 
 type Log = VecLog<Sha256, String>;
 
@@ -21,18 +21,11 @@ fn main(rt: HostRuntime) -> Result<()> {
 
 // Adds a release to the log, and prints it with its proofs.
 fn publish(rt: &HostRuntime, log: &mut Log, release: &String) -> Result<()> {
-    if log.length() == GREATEST_LENGTH {
-        bail!("the log is full");
-    }
-    log.push(release)?;
+    log.append(release)?;
     let checkpoint = log.checkpoint();
     let bytes = last_entry(rt.alloc(), log)?.encode(rt.alloc())?;
     let bundle = hex::encode(rt.alloc(), bytes.as_slice())?;
-    println!(rt;
-        "{release}\t{}\t{}\t{bundle}",
-        checkpoint.length(),
-        checkpoint.root()
-    )?;
+    println!(rt; "{release}\t{checkpoint}\t{bundle}")?;
     Ok(())
 }
 

@@ -77,7 +77,7 @@ stem_proves_absent H a p m ps o pr = record {
   absent = ap is_some (get-under a p m) ∙ pr.absent;
   peers_from_top = stem_absent_peers H a p m ps pr.peers_from_top;
   count = subst (IsPeerCount 0 (under a m) (a ++ p)) (sym (length_peers ps (replicate (length a) None) ∙ ap (λ j. length ps + j) (length-replicate (length a) None)))
-    (stem_absent_count a m p (length ps) o (ap is_some (get-under a p m) ∙ pr.absent) pr.count);
+      (stem_absent_count a m p (length ps) o (ap is_some (get-under a p m) ∙ pr.absent) pr.count);
 }
 
 parts_absent : (H : List ℕ → List ℕ) (a : List Bool) (b c : Bool) (cs p : List Bool) (m : SparseMap) (d : List ℕ) → ¬ (c ≡ b) → HoldsKey m → d ≡ sparse_root H (length p) (under cs m) → ProvesAbsent H (under (a ++ c ∷ cs) m) (a ++ b ∷ p) (Some d ∷ replicate (length a) None)

@@ -2,6 +2,7 @@
 use Rattle.std.proofs.Common.{◌≡◌, ℕ, zero, suc, length, ◌+◌, ◌-◌, ◌<◌, Bool, true, false, cond, List, [], ◌∷◌, ◌++◌, Option, None, is_some, refl, sym, ap, ◌∙◌, arith, add-one}
 use Rattle.std.specs.FinMap.{get, insert, empty, contains_key, get-empty}
 use Rattle.warg_crypto.specs.EmptyTrees.{empty_root}
+use Rattle.warg_crypto.specs.Tree.{input_beside}
 use Rattle.warg_map.specs.Bits.{bit_at, bits_from, last_bits}
 use Rattle.warg_map.specs.Sparse.{SparseMap, bits_cmp, sparse_root}
 use Rattle.warg_map.specs.Private.Under.{join_at, under, stem_root, HoldsKey}
@@ -128,7 +129,7 @@ pub holds-under : (bs : List Bool) (m : SparseMap) → HoldsKey m → HoldsKey (
 holds-under bs m h = (bs ++ h.0, ap is_some (get-under bs h.0 m) ∙ h.1)
 
 -- roots
-step_root : (H : List ℕ → List ℕ) (k : ℕ) (b : Bool) (m : SparseMap) → sparse_root H (k + 1) (join_at b m empty) ≡ H (1 ∷ cond b (empty_root H k ++ sparse_root H k m) (sparse_root H k m ++ empty_root H k))
+step_root : (H : List ℕ → List ℕ) (k : ℕ) (b : Bool) (m : SparseMap) → sparse_root H (k + 1) (join_at b m empty) ≡ H (input_beside b (empty_root H k) (sparse_root H k m))
 step_root H k true m = sparse_root-join H k empty m ∙ ap (λ e. H (1 ∷ (e ++ sparse_root H k m))) (sparse_root-empty H k)
 step_root H k false m = sparse_root-join H k m empty ∙ ap (λ e. H (1 ∷ (sparse_root H k m ++ e))) (sparse_root-empty H k)
 
@@ -137,7 +138,7 @@ unfolding stem_root under
 stem_root-under H k [] m = let e : k ≡ k + 0 = omega arith in ap (λ j. sparse_root H j m) e
 stem_root-under H k (b ∷ bs) m =
     let e : k + length bs + 1 ≡ k + length (b ∷ bs) = omega arith in
-    ap (λ r. H (1 ∷ cond b (empty_root H (k + length bs) ++ r) (r ++ empty_root H (k + length bs)))) (stem_root-under H k bs m)
+    ap (λ r. H (input_beside b (empty_root H (k + length bs)) r)) (stem_root-under H k bs m)
     ∙ sym (step_root H (k + length bs) b (under bs m))
     ∙ ap (λ j. sparse_root H j (under (b ∷ bs) m)) e
 
@@ -145,8 +146,8 @@ pub stem_root-none : (H : List ℕ → List ℕ) (k : ℕ) (x key : List ℕ) (i
 unfolding stem_root
 stem_root-none H k x key i = ap (stem_root H k x) (bits_from-none key i)
 
-pub stem_root-more : (H : List ℕ → List ℕ) (k : ℕ) (x key : List ℕ) (i n : ℕ) → stem_root H k x (bits_from key i (n + 1)) ≡ H (1 ∷ cond (bit_at key i) (empty_root H (k + n) ++ stem_root H k x (bits_from key (i + 1) n)) (stem_root H k x (bits_from key (i + 1) n) ++ empty_root H (k + n)))
+pub stem_root-more : (H : List ℕ → List ℕ) (k : ℕ) (x key : List ℕ) (i n : ℕ) → stem_root H k x (bits_from key i (n + 1)) ≡ H (input_beside (bit_at key i) (empty_root H (k + n)) (stem_root H k x (bits_from key (i + 1) n)))
 unfolding stem_root
 stem_root-more H k x key i n =
     ap (stem_root H k x) (bits_from-first key i n)
-    ∙ ap (λ j. H (1 ∷ cond (bit_at key i) (empty_root H (k + j) ++ stem_root H k x (bits_from key (i + 1) n)) (stem_root H k x (bits_from key (i + 1) n) ++ empty_root H (k + j)))) (length-bits_from key (i + 1) n)
+    ∙ ap (λ j. H (input_beside (bit_at key i) (empty_root H (k + j)) (stem_root H k x (bits_from key (i + 1) n)))) (length-bits_from key (i + 1) n)

@@ -7,6 +7,7 @@ use Rattle.std.specs.Prelude.{reverse}
 use Rattle.std.specs.FinMap.{get, insert, get-insert}
 use Rattle.std.specs.Ordering.{eq_by_cmp}
 use Rattle.warg_crypto.specs.EmptyTrees.{empty_root}
+use Rattle.warg_crypto.specs.Tree.{input_beside}
 use Rattle.warg_map.specs.Sparse.{SparseMap, bits_cmp, root_of_levels, sparse_root}
 use Rattle.warg_map.specs.ProofValue.{peer_of, proof_value}
 use Rattle.warg_map.specs.Peers.{IsPeers, IsAbsentPeers, IsOther, Proves, ProvesAbsent}
@@ -52,7 +53,7 @@ peer_there H peers before os o i e place few =
 other_none : (H : List ℕ → List ℕ) (k : ℕ) (m : List Bool → Option (List ℕ)) → ((q : List Bool) → m q ≡ None) → root_of_levels H k m ≡ empty_root H k
 other_none H k m h = root-same H k m (λ q. None) h ∙ root-nothing H k
 
-branch : (H : List ℕ → List ℕ) (b : Bool) (k : ℕ) (m : List Bool → Option (List ℕ)) (x y : List ℕ) → x ≡ root_of_levels H k (λ q. m (not b ∷ q)) → y ≡ root_of_levels H k (λ q. m (b ∷ q)) → H (1 ∷ cond b (x ++ y) (y ++ x)) ≡ root_of_levels H (suc k) m
+branch : (H : List ℕ → List ℕ) (b : Bool) (k : ℕ) (m : List Bool → Option (List ℕ)) (x y : List ℕ) → x ≡ root_of_levels H k (λ q. m (not b ∷ q)) → y ≡ root_of_levels H k (λ q. m (b ∷ q)) → H (input_beside b x y) ≡ root_of_levels H (suc k) m
 unfolding root_of_levels
 branch H true k m x y e f = ap (λ z. H (1 ∷ (z ++ y))) e ∙ ap (λ z. H (1 ∷ (root_of_levels H k (λ q. m (false ∷ q)) ++ z))) f
 branch H false k m x y e f = ap (λ z. H (1 ∷ (z ++ x))) f ∙ ap (λ z. H (1 ∷ (root_of_levels H k (λ q. m (false ∷ q)) ++ z))) e

@@ -5,4 +5,5 @@ pub mod ProofValue
 pub mod Peers
 pub mod Count
 pub mod Bundles
+pub mod Served
 pub mod Private

@@ -12,6 +12,7 @@ ghost use Rattle.warg_map.specs.Peers.{Proves, ProvesAbsent};
 ghost use Rattle.warg_map.specs.Count.{node_count};
 
 mod insertion;
+mod serve;
 
 use crate::grown::spread;
 use crate::link::Link;

@@ -5,8 +5,10 @@ use std::alloc::{Allocator, Global};
 use std::cell::Cell;
 use std::hash::{DefaultHasher, Hasher};
 use std::test::Fail;
+use warg_check::{check_absent, check_key};
 use warg_crypto::Sha256;
 use warg_crypto::weak::Sum;
+use warg_log::EncodeError;
 use warg_map::{Map, MapError, MapProofBundle, Proof};
 
 // Whether all of these are true. Each of them is looked at.
@@ -76,8 +78,26 @@ fn equal_roots_of_weak_digests(rt: HostRuntime) -> Result<(), Fail> {
 
 type TextProof = Proof<Sha256, Text, Text>;
 
+type LentProof<'a> = Proof<Sha256, Text, Text, &'a Refusing<Global>>;
+
 fn proven(alloc: Global, pairs: &[(Text, Text)], key: Text) -> Result<TextProof, Fail> {
     Ok(grown(alloc, pairs)?.prove(key)?.ok_or("held")?)
+}
+
+// A bundle's lists stay in the allocators that they lie in, and bundling takes no memory.
+#[test]
+fn lists_of_a_bundle_stay_where_they_lie(rt: HostRuntime) -> Result<(), Fail> {
+    let held = Refusing::after(rt.alloc(), 1);
+    let absent = Refusing::after(rt.alloc(), 1);
+    let proofs: Vec<LentProof<'_>, &Refusing<Global>> = Vec::new(&held);
+    let absences: Vec<LentProof<'_>, &Refusing<Global>> = Vec::new(&absent);
+    let (mut proofs, mut absences) = MapProofBundle::bundle_with(proofs, absences).unbundle_all();
+    assert!(rt; all(&[held.left() == 1, absent.left() == 1]));
+    proofs.reserve(1)?;
+    assert!(rt; all(&[held.left() == 0, absent.left() == 1]));
+    absences.reserve(1)?;
+    assert!(rt; all(&[absent.left() == 0, !held.has_refused(), !absent.has_refused()]));
+    Ok(())
 }
 
 // Proofs are equal exactly where their peers are, and bundles where their proofs and their absences are.
@@ -95,6 +115,42 @@ fn equal_proofs_and_bundles(rt: HostRuntime) -> Result<(), Fail> {
     assert!(rt; bundle == MapProofBundle::bundle(again));
     assert!(rt; bundle != MapProofBundle::bundle_with(Vec::new(rt.alloc()), lone));
     Ok(())
+}
+
+// The bytes of a key's proof pass the verdict on the key, or that on its absence.
+#[test]
+fn proofs_of_keys_as_bytes(rt: HostRuntime) -> Result<(), Fail> {
+    let map = grown(rt.alloc(), &[("foo", "bar"), ("baz", "bat"), ("nil", "")])?;
+    let root = map.root();
+    for (key, value) in [("foo", "bar"), ("baz", "bat"), ("nil", "")] {
+        let bytes = map.key_bytes(&key)?;
+        assert!(rt; check_key(rt.alloc(), bytes.as_slice(), 0, &key, &value, root)?);
+    }
+    let absent = map.key_bytes(&"bar")?;
+    assert!(rt; check_absent(rt.alloc(), absent.as_slice(), 0, &"bar", root)?);
+    let nothing = grown(rt.alloc(), &[])?;
+    let absent = nothing.key_bytes(&"foo")?;
+    assert!(rt; check_absent(rt.alloc(), absent.as_slice(), 0, &"foo", nothing.root())?);
+    Ok(())
+}
+
+// Each growth of the bytes of a proof is refused in turn, until none is.
+#[test]
+fn bytes_of_a_key_with_each_growth_refused(rt: HostRuntime) -> Result<(), Fail> {
+    for growths in 0..90 {
+        let memory = Refusing::after(rt.alloc(), 90);
+        let map = TextMap::default(&memory).insert("foo", "bar")?.insert("baz", "bat")?;
+        memory.exhaust();
+        memory.grant(growths);
+        let held = map.key_bytes(&"foo");
+        let absent = map.key_bytes(&"bar");
+        if !memory.has_refused() {
+            assert!(rt; all(&[held?.len() > 2, absent?.len() > 2]));
+            return Ok(());
+        }
+        assert!(rt; absent == Err(EncodeError::Memory));
+    }
+    Err("all growths were refused")?
 }
 
 // A proof leads to the root from the value that is held, and from no other one.

@@ -5,7 +5,7 @@ use Rattle.std.proofs.lemmas.Bool.{le-ltb}
 use Rattle.std.specs.Option.{option_map}
 use Rattle.std.specs.FinMap.{get}
 use Rattle.warg_crypto.specs.EmptyTrees.{empty_root}
-use Rattle.warg_crypto.specs.Tree.{leaf_digest, branch_input}
+use Rattle.warg_crypto.specs.Tree.{leaf_digest, branch_input, input_beside}
 use Rattle.warg_map.specs.Sparse.{root_of_levels, map_of}
 use Rattle.warg_map.specs.Last.{last_under}
 use Rattle.warg_map.specs.ProofValue.{peer_of, proof_value}
@@ -40,7 +40,7 @@ peer_there H peers before after digest i e n all =
 
 -- the branch over both halves
 both_halves : (H : List ℕ → List ℕ) (held : List Bool → Option (List ℕ)) (b : Bool) (k : ℕ) (peer value : List ℕ) → peer ≡ root_of_levels H k (λ q. held (not b ∷ q)) → value ≡ root_of_levels H k (λ q. held (b ∷ q))
-    → ◌≡◌ {A = List ℕ} (1 ∷ cond b (peer ++ value) (value ++ peer)) (branch_input (root_of_levels H k (λ q. held (false ∷ q))) (root_of_levels H k (λ q. held (true ∷ q))))
+    → ◌≡◌ {A = List ℕ} (input_beside b peer value) (branch_input (root_of_levels H k (λ q. held (false ∷ q))) (root_of_levels H k (λ q. held (true ∷ q))))
 both_halves H held true k peer value p v = ap (λ t. 1 ∷ t ++ value) p ∙ ap (λ t. 1 ∷ root_of_levels H k (λ q. held (false ∷ q)) ++ t) v
 both_halves H held false k peer value p v = ap (λ t. 1 ∷ t ++ peer) v ∙ ap (λ t. 1 ∷ root_of_levels H k (λ q. held (false ∷ q)) ++ t) p
 

@@ -1,5 +1,6 @@
 use Rattle.std.proofs.Common.{◌≡◌, ◌+◌, ◌-◌, cond, ◌++◌, ◌∷◌, ap, ◌∙◌, sym, arith}
 use Rattle.warg_crypto.specs.EmptyTrees.{empty_root}
+use Rattle.warg_crypto.specs.Tree.{input_beside}
 use Rattle.warg_map.specs.Bits.{bit_at, bits_from}
 use Rattle.warg_map.specs.Private.Under.{stem_root}
 use Rattle.warg_map.proofs.BitsInFront.{stem_root-none, stem_root-more}
@@ -25,9 +26,9 @@ loop-above-preserved g c =
     let r : c.loop-above.hash ≡ stem_root H k c.args.below.now (bits_from c.args.key.now (i + 1) n) = c.loop-above.invariant.0 ∙ sym (ap (λ j. stem_root H k c.args.below.now (bits_from c.args.key.now j n)) up) in
     let z : k + n + 1 ≡ k + (n + 1) = omega arith in (
       c.branch-hash.ensures
-          ∙ ap (λ b. H (1 ∷ cond b (c.loop-above.empty ++ c.loop-above.hash) (c.loop-above.hash ++ c.loop-above.empty))) (c.side_at.ensures ∙ ap (bit_at c.args.key.now) at)
-          ∙ ap (λ e. H (1 ∷ cond (bit_at c.args.key.now i) (e ++ c.loop-above.hash) (c.loop-above.hash ++ e))) c.loop-above.invariant.1
-          ∙ ap (λ h. H (1 ∷ cond (bit_at c.args.key.now i) (empty_root H (k + n) ++ h) (h ++ empty_root H (k + n)))) r
+          ∙ ap (λ b. H (input_beside b c.loop-above.empty c.loop-above.hash)) (c.side_at.ensures ∙ ap (bit_at c.args.key.now) at)
+          ∙ ap (λ e. H (input_beside (bit_at c.args.key.now i) e c.loop-above.hash)) c.loop-above.invariant.1
+          ∙ ap (λ h. H (input_beside (bit_at c.args.key.now i) (empty_root H (k + n)) h)) r
           ∙ sym (stem_root-more H k c.args.below.now c.args.key.now i n),
       c.empty_above-empty.ensures ∙ ap (empty_root H) z,
     )

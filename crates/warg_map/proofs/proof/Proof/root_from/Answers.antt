@@ -1,4 +1,5 @@
 use Rattle.std.proofs.Common.{◌≡◌, ◌-◌, ◌<◌, ◌∷◌, ◌++◌, cond, sym, ap, ◌∙◌, arith}
+use Rattle.warg_crypto.specs.Tree.{input_beside}
 use Rattle.warg_map.specs.Bits.{bit_at, last_bits}
 use Rattle.warg_map.specs.ProofValue.{peer_of, proof_value}
 use Rattle.warg_map.proofs.ProofValue.{proof_value-none, proof_value-more}
@@ -26,9 +27,9 @@ loop-side-preserved g c =
       omega (arith, c.loop-side.invariant.0, c.in-Some.ensures.steps.index),
       step.digest ∙ inv.1,
       c.branch-hash.ensures
-          ∙ ap (λ b. H (1 ∷ cond b (c.peer.result.now ++ c.loop-side.hash) (c.loop-side.hash ++ c.peer.result.now))) (step.side ∙ ap (λ h. bit_at h c.next.new.self.index) inv.1 ∙ ap (bit_at key) at)
-          ∙ ap (λ p. H (1 ∷ cond (bit_at key (255 - i)) (p ++ c.loop-side.hash) (c.loop-side.hash ++ p))) c.peer.ensures
-          ∙ ap (λ h. H (1 ∷ cond (bit_at key (255 - i)) (peer_of H ps i ++ h) (h ++ peer_of H ps i))) inv.2
+          ∙ ap (λ b. H (input_beside b c.peer.result.now c.loop-side.hash)) (step.side ∙ ap (λ h. bit_at h c.next.new.self.index) inv.1 ∙ ap (bit_at key) at)
+          ∙ ap (λ p. H (input_beside (bit_at key (255 - i)) p c.loop-side.hash)) c.peer.ensures
+          ∙ ap (λ h. H (input_beside (bit_at key (255 - i)) (peer_of H ps i) h)) inv.2
           ∙ sym (proof_value-more H ps c.args.leaf key i lt),
       c.empty_above-empty.ensures,
     )
