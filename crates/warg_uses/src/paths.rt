@@ -2,6 +2,7 @@
 
 ghost use Rattle.std.specs.Prelude.{◌≡◌, true, ◌∷◌, [], List, ℕ, length, Some, Ok, IfOk, slice_index_or};
 ghost use Rattle.warg_crypto.specs.Digests.{sha256};
+ghost use Rattle.warg_crypto.specs.Tree.{leaf_digest};
 ghost use Rattle.warg_log.specs.Tree.{root_of};
 ghost use Rattle.warg_paths.specs.Paths.{inclusion_root};
 ghost use Rattle.warg_paths.specs.Pieces.{hashes_of};

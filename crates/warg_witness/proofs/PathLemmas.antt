@@ -3,7 +3,7 @@ use Rattle.std.proofs.Common.{◌≡◌, ℕ, zero, suc, ◌+◌, ◌-◌, ◌<�
 use Rattle.std.proofs.lemmas.Bool.{cases_Bool}
 use Rattle.warg_crypto.specs.EmptyTrees.{empty_root}
 use Rattle.warg_map.specs.ProofValue.{peer_of, proof_value}
-use Rattle.warg_crypto.specs.Tree.{branch_input}
+use Rattle.warg_crypto.specs.Tree.{branch_input, input_beside}
 use Rattle.warg_witness.specs.Laws.{HoldsPeers}
 use Rattle.warg_witness.specs.MapInputs.{fork_input}
 use Rattle.warg_witness.specs.Private.MapPaths.{DivergesNowhere, IsPathDivergence, IsClimb}
@@ -16,7 +16,7 @@ use Rattle.warg_map.specs.Bits.{bit_at, last_bits}
 use Rattle.warg_crypto.proofs.ForCallers.{HasSize}
 
 -- one bit more with the same digest beside it
-fork_same : (b : Bool) (peer peer' value value' : List ℕ) → peer ≡ peer' → value ≡ value' → cond b (peer ++ value) (value ++ peer) ≡ cond b (peer' ++ value') (value' ++ peer')
+fork_same : (b : Bool) (peer peer' value value' : List ℕ) → peer ≡ peer' → value ≡ value' → input_beside b peer value ≡ input_beside b peer' value'
 fork_same b peer peer' value value' p v = rw (p, v) refl
 
 nowhere_more : (H : List ℕ → List ℕ) (P : List (Option (List ℕ))) (x : List ℕ) (Q : List (Option (List ℕ))) (y : List ℕ) (b : Bool) (bits : List Bool) → peer_of H P (length bits) ≡ peer_of H Q (length bits)
@@ -24,7 +24,7 @@ nowhere_more : (H : List ℕ → List ℕ) (P : List (Option (List ℕ))) (x : L
 unfolding proof_value
 nowhere_more H P x Q y b bits peers is = record {
   same = is.same;
-  beside = λ leaf. ap (λ t. H (1 ∷ t)) (fork_same b _ _ _ _ peers (is.beside leaf));
+  beside = λ leaf. ap H (fork_same b _ _ _ _ peers (is.beside leaf));
 }
 
 -- what diverges below a bit diverges above it

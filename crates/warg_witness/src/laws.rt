@@ -18,6 +18,7 @@ ghost use Rattle.warg_witness.specs.MapClaims.{IsKeyMet, IsAbsenceMet, IsKeyAgre
 ghost use Rattle.warg_witness.specs.MapPlaced.{IsPlacedAtPrefix, IsKeyPlaced, IsKeyAgreementPlaced};
 ghost use Rattle.warg_witness.specs.UpdateClaims.{IsUpdated, Step, insertions_of, LeadThrough, CollidesAtStep};
 ghost use Rattle.warg_crypto.specs.Collisions.{GivesHashes, SomeCollision};
+ghost use Rattle.warg_crypto.specs.Tree.{leaf_digest};
 ghost use Rattle.warg_witness.specs.Laws.{HoldsHashes, HoldsPeers};
 
 use crate::collision::Finding;

@@ -2,6 +2,7 @@
 use Rattle.std.specs.Prelude.{◌≡◌, ℕ, List, Option, Some}
 use Rattle.warg_log.specs.Cut.{cut_over}
 use Rattle.warg_witness.specs.Ranges.{IsPart, IsAround}
+use Rattle.warg_crypto.specs.Collisions.{Collides}
 use Rattle.warg_crypto.specs.Tree.{branch_input}
 use Rattle.warg_witness.specs.Inputs.{cut_input}
 use Rattle.warg_witness.specs.declared.descent.Divergence.{Divergence}
