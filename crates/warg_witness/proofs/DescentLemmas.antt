@@ -75,19 +75,16 @@ module _ (H : Digest) where
   pub own_cut : (ds : List (List ℕ)) (s w : ℕ) {a n : ℕ} → IsAligned a n → 0 < n → a + n ≤ length ds → cut_over H (own_digest H ds) (root_over H ds s w) s w a n ≡ Some (root_over H ds a n)
   own_cut ds s w {a} {n} aligned some within = grind (arith, cut_own_range H ds s w aligned.height aligned.place n some aligned.most)
 
-  -- an evaluation that leads to a tree's root and the tree have the root in common, and two trees have a node at which they have one digest
+  -- an evaluation that leads to a tree's root and the tree have the root in common, and two trees have a range at which they have one digest
   pub have_root : {F : Data} {x : List ℕ} (ds : List (List ℕ)) (s w : ℕ) → cut_over H F x s w 0 (length ds) ≡ Some (root_of H ds) → 0 < length ds
       → HaveOneDigest H F x (own_digest H ds) (root_over H ds s w) s w 0 (length ds)
   have_root ds s w leads some =
       record { digest = root_of H ds; first = leads; second = own_cut ds s w (whole_aligned (length ds)) some (omega arith) ∙ ap (λ l. Some (root_of H l)) (take-length ds) }
 
-  pub have_node : (ds es : List (List ℕ)) (p q : ℕ) {s w : ℕ} → IsNodeRange s w → s + w ≤ length ds → s + w ≤ length es → root_over H ds s w ≡ root_over H es s w
-      → HaveOneDigest H (own_digest H ds) (root_over H ds p q) (own_digest H es) (root_over H es p q) p q s w
-  have_node ds es p q {s} {w} node in_first in_second same = record {
-    digest = root_over H ds s w;
-    first = own_cut ds p q (node_aligned node) (node_some node) in_first;
-    second = own_cut es p q (node_aligned node) (node_some node) in_second ∙ ap Some (sym same);
-  }
+  pub have_range : (ds es : List (List ℕ)) (p q : ℕ) {a n : ℕ} → IsAligned a n → 0 < n → a + n ≤ length ds → a + n ≤ length es → root_over H ds a n ≡ root_over H es a n
+      → HaveOneDigest H (own_digest H ds) (root_over H ds p q) (own_digest H es) (root_over H es p q) p q a n
+  have_range ds es p q {a} {n} aligned some in_first in_second same =
+      record { digest = root_over H ds a n; first = own_cut ds p q aligned some in_first; second = own_cut es p q aligned some in_second ∙ ap Some (sym same) }
 
   -- the root over a range is the digest of the plain input there
   pub plain_digest_is : (entries : List (List ℕ)) (a n : ℕ) → 0 < n → a + n ≤ length entries → root_over H (leaves_of H entries) a n ≡ H (plain_input H entries a n)

@@ -10,6 +10,7 @@ ghost use Rattle.warg_witness.specs.Private.Ranges.{IsAligned};
 ghost use Rattle.warg_witness.specs.Private.PathDivergence.{IsPathMeeting, AreSides, IsRecordDivergence};
 
 mod agreement;
+mod tree;
 
 use crate::collide::collide_values;
 use crate::collision::Finding;
@@ -21,6 +22,7 @@ use std::alloc::{AllocError, Allocator};
 use warg_crypto::{Hash, SupportedDigest, VisitBytes};
 use warg_log::{LeafRange, VecLog, hash_leaf};
 use warg_paths::root_of_inclusion;
+pub use tree::witness_tree;
 
 // The most leaves that a tree has.
 const MOST_LEAVES: usize = 1 << 63;
