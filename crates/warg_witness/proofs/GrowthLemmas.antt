@@ -14,12 +14,14 @@ use Rattle.warg_witness.specs.Inputs.{plain_input}
 use Rattle.warg_witness.specs.PathClaims.{IsTreeMet}
 use Rattle.warg_witness.specs.TreePlaced.{IsOnGrowth}
 use Rattle.warg_witness.specs.TreePlaced.IsOnGrowth.{whole, front, rest}
+use Rattle.warg_witness.specs.Private.Compared.{DiffersFirst}
 use Rattle.warg_witness.specs.Private.Divergence.{IsDivergence, inputs_of}
-use Rattle.warg_witness.specs.Private.TreeDivergence.{IsTreeMeeting, LeadsOver, tree_input, IsBranchDivergence, LeadsBelow, IsTurnDivergence, IsOnWayOver, IsTreeShown}
+use Rattle.warg_witness.specs.Private.TreeDivergence.{IsTreeMeeting, LeadsOver, tree_input, IsBranchDivergence, LeadsBelow, IsTurnDivergence, IsOnWayOver, IsTreeShown, IsTreeDivergence}
 use Rattle.warg_witness.specs.declared.descent.Divergence.{Divergence}
 use Rattle.warg_witness.specs.declared.descent.Divergence.TheVariants.{Target, Branch}
 use Rattle.warg_witness.proofs.RangeLemmas.{Digest}
 use Rattle.warg_witness.proofs.ShownLemmas.{shown}
+use Rattle.warg_witness.proofs.ConsistencyLemmas.{entry_at}
 use Rattle.warg_witness.proofs.RecordLemmas.{whole_root}
 use Rattle.warg_witness.proofs.BothLemmas.{both_placed, both_meet}
 
@@ -93,12 +95,6 @@ module _ {V : Type 0} (bytes : V → List ℕ) (H : Digest) (path : List (List �
       let old_count = length-map old bytes in
       let new_count = length-map new bytes in
       rw (old_count, new_count, ← is, ← new_root) (led ∙ ap (λ o. Some (o, q)) old_root)
-
--- a path that leads to the trees' roots leads to them over all leaves
-pub whole_growth : {H : Digest} {path old new old_tree new_tree : List (List ℕ)} → IsTreeMeeting H path old new old_tree new_tree
-    → LeadsOver H old_tree new_tree (Some (root_over H old_tree 0 (length old))) (length old) 0 (length new) (reverse path)
-whole_growth {H} {path} {old} {new} {old_tree} {new_tree} meeting =
-    rw (meeting.old_is, meeting.new_is, ← whole_root H old, ← whole_root H new) (sym (subproof_is H (Some (root_of H (leaves_of H old))) (length old) (length new) path meeting.some meeting.order) ∙ meeting.met)
 
 -- leaves that end in the rest of a range split where it does
 pub same_front : (m n : ℕ) → 1 < n → front_of n < m → m ≤ n → front_of m ≡ front_of n
@@ -254,3 +250,29 @@ pub both_shown : {D : Type 0} (H : Digest) (path old new old_tree new_tree : Lis
 both_shown H path old new old_tree new_tree place a n p old_is new_is differ in_old in_new diverges =
     let pair = shown p _ _ (both_placed H old new place a n in_old in_new) (λ _ meets. both_meet H old new place a n in_old in_new meets differ) (rw (old_is, new_is) at diverges) in
     record { collides = pair.0; placed = inr (inr pair.1) }
+
+-- a path that leads to the roots of the trees over entries leads to them over all leaves, and what a divergence from there shows, of entries that are read
+module _ {V : Type 0} (bytes : V → List ℕ) (H : Digest) (path : List (List ℕ)) (old new : List V) (old_tree new_tree : List (List ℕ))
+    (meeting : IsTreeMeeting H path (map bytes old) (map bytes new) old_tree new_tree) where
+  pub whole_growth : LeadsOver H old_tree new_tree (Some (root_over H old_tree 0 (length old))) (length old) 0 (length new) (reverse path)
+  whole_growth =
+      let old_count = length-map old bytes in
+      let new_count = length-map new bytes in
+      rw (meeting.old_is, meeting.new_is, ← old_count, ← new_count, ← whole_root H (map bytes old), ← whole_root H (map bytes new))
+      (sym (subproof_is H (Some (root_of H (leaves_of H (map bytes old)))) _ _ path meeting.some meeting.order) ∙ meeting.met)
+
+  whole_way : IsOnGrowth (Some (root_of H (leaves_of H (map bytes old)))) (length (map bytes old)) (length (map bytes new)) (reverse path) (Some (root_over H old_tree 0 (length old))) (length old) 0 (length new) (reverse path)
+  whole_way =
+      let old_count = length-map old bytes in
+      let new_count = length-map new bytes in
+      rw (meeting.old_is, ← old_count, ← new_count, ← whole_root H (map bytes old)) whole
+
+  pub growth_shown : {D : Type 0} {e d : V} (place : ℕ) (p : Divergence D) → DiffersFirst (map bytes old) (map bytes new) place → e ≡ get_or old place e → d ≡ get_or new place d
+      → IsTreeDivergence H old_tree new_tree place (Some (root_over H old_tree 0 (length old))) (length old) 0 (length new) (reverse path) p
+      → IsTreeShown H path (map bytes old) (map bytes new) (inputs_of p (0 ∷ bytes e) (0 ∷ bytes d))
+  growth_shown place p differs e_is d_is diverges =
+      let within = differs.within in
+      let order = meeting.order in
+      let old_entry = entry_at bytes old place (omega (arith, length-map old bytes)) e_is in
+      let new_entry = entry_at bytes new place (omega (arith, length-map old bytes, length-map new bytes)) d_is in
+      rw (← old_entry, ← new_entry) (diverges path (map bytes old) (map bytes new) (record { old_is = meeting.old_is; new_is = meeting.new_is; differ = differs.differ; on_way = whole_way }))
