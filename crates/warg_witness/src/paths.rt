@@ -19,10 +19,10 @@ use crate::descent::Divergence;
 use crate::plain::{plain_digest, plain_tree};
 pub use agreement::agree_record;
 use std::alloc::{AllocError, Allocator};
+pub use tree::witness_tree;
 use warg_crypto::{Hash, SupportedDigest, VisitBytes};
 use warg_log::{LeafRange, VecLog, hash_leaf};
 use warg_paths::root_of_inclusion;
-pub use tree::witness_tree;
 
 // The most leaves that a tree has.
 const MOST_LEAVES: usize = 1 << 63;

@@ -50,7 +50,12 @@ fn meet_trees<D: SupportedDigest, V: VisitBytes, A: Allocator + Copy>(
         return Err(AllocError);
     }
     let (old_tree, old_plain_root) = plain_tree(alloc, old)?;
-    let Some((old_root, new_root)) = roots_of_consistency(old.len(), new.len(), &old_plain_root, path) else {
+    let Some((old_root, new_root)) = roots_of_consistency(
+        old.len(),
+        new.len(),
+        &old_plain_root,
+        path,
+    ) else {
         return Ok(None);
     };
     if old_root != old_plain_root {
@@ -118,10 +123,16 @@ fn turn_divergence<D: SupportedDigest, V: VisitBytes, A: Allocator>(
             None => unreachable!(),
         };
     }
-    let Some((old, new)) = roots_of_subproof(None, old_length - front.count, rest.count, below) else {
+    let Some((old, new)) = roots_of_subproof(None, old_length - front.count, rest.count, below)
+    else {
         unreachable!()
     };
-    let from_old = branch_divergence(top, &old, &trees.old, &LeafRange::new(range.start, old_length));
+    let from_old = branch_divergence(
+        top,
+        &old,
+        &trees.old,
+        &LeafRange::new(range.start, old_length),
+    );
     if !from_old.is_target() {
         return from_old;
     }
