@@ -1,5 +1,5 @@
 -- What two trees of one digest at a range of both show, where an old and a new entry below it differ.
-use Rattle.std.proofs.Common.{◌≡◌, ℕ, ◌+◌, ◌<◌, List, [], ◌∷◌, length, get_or, sym, ◌∙◌, arith}
+use Rattle.std.proofs.Common.{◌≡◌, ℕ, List, [], ◌∷◌, length, get_or, sym, ◌∙◌, arith}
 use Rattle.warg_log.specs.Tree.{leaves_of, root_over, own_digest}
 use Rattle.warg_witness.specs.Ranges.{IsPart}
 use Rattle.warg_witness.specs.Placed.{IsPlacedInBoth}

@@ -6,7 +6,7 @@ use Rattle.warg_log.specs.Cut.{cut_over, old_over, IsFull}
 use Rattle.warg_witness.specs.Ranges.{IsPart}
 use Rattle.warg_witness.specs.Inputs.{old_input, cut_input}
 use Rattle.warg_witness.specs.Private.Ranges.{IsAligned}
-use Rattle.warg_witness.proofs.RangeLemmas.{Digest, Data, IsPart-trans, whole_aligned, node_some, wider, part_in}
+use Rattle.warg_witness.proofs.RangeLemmas.{Digest, Data, whole_aligned, node_some, part_in}
 use Rattle.warg_witness.proofs.RootLemmas.{Root, node_bounds, rest_aligned, by_root, root_stands, root_at_part}
 use Rattle.std.proofs.lemmas.List.{length-map, get_or-map, get_or-take}
 use Rattle.std.proofs.lemmas.List.Elements.{All-from_recursion, All-contains}
@@ -16,7 +16,7 @@ use Rattle.warg_witness.specs.Placed.{IsConsistencyPlaced}
 use Rattle.warg_witness.specs.Private.Compared.{DiffersFirst}
 use Rattle.warg_witness.specs.Private.Meeting.{IsConsistencyMeeting, LeadsToBoth}
 use Rattle.warg_witness.specs.Private.Divergence.{MeetAt, DivergesAt}
-use Rattle.warg_witness.proofs.DescentLemmas.{length-leaves, DivergesFrom, plain_digest_is, own_input, own_second}
+use Rattle.warg_witness.proofs.DescentLemmas.{length-leaves, DivergesFrom, own_second}
 use Rattle.warg_witness.proofs.ShownLemmas.{Shows, hash_placed}
 use Rattle.warg_witness.proofs.BothLemmas.{both_placed, both_meet}
 use Rattle.warg_log.proofs.ForCallers.{cut_old, cut_parts, cut_target, front_is_greatest, old_full, old_parts}

@@ -6,11 +6,11 @@ use Rattle.warg_log.specs.Tree.{front_of, leaves_of, root_of, root_over, own_dig
 use Rattle.warg_log.specs.Cut.{joined, cut_over}
 use Rattle.warg_witness.specs.Ranges.{IsPart, IsAround}
 use Rattle.warg_witness.specs.Inputs.{branch_input, plain_input, cut_input}
-use Rattle.warg_witness.specs.Private.Ranges.{IsSide, IsAligned, IsNodeRange}
+use Rattle.warg_witness.specs.Private.Ranges.{IsSide, IsAligned}
 use Rattle.warg_witness.specs.Private.Divergence.{HaveOneDigest, MeetAt, DivergesAt, IsDivergence}
 use Rattle.warg_witness.specs.declared.descent.Divergence.{Divergence}
 use Rattle.warg_witness.specs.declared.descent.Divergence.TheVariants.{Target, Branch}
-use Rattle.warg_witness.proofs.RangeLemmas.{Digest, Data, wider, at_side, IsPart-trans, node_aligned, whole_aligned, node_some, side_aligned, part_in}
+use Rattle.warg_witness.proofs.RangeLemmas.{Digest, Data, wider, at_side, IsPart-trans, whole_aligned, side_aligned, part_in}
 use Rattle.std.proofs.Math.Seq.{take-length}
 use Rattle.warg_log.proofs.ForCallers.{cut_own_range, cut_parts, cut_target, front_is_greatest, root_over_one, root_over_parts}
 

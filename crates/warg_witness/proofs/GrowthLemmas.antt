@@ -1,5 +1,5 @@
 -- The way down a consistency path and the trees over the old and the new entries.
-use Rattle.std.proofs.Common.{◌≡◌, ℕ, suc, ◌+◌, ◌-◌, ◌^◌, ◌<◌, ◌≤◌, ◌==◌, ◌&&◌, ◌↔◌, true, false, nat_lt, nat_le, List, [], ◌∷◌, length, map, reverse, get_or, Option, Some, None, inl, inr, refl, sym, ap, ◌∙◌, arith}
+use Rattle.std.proofs.Common.{◌≡◌, ℕ, ◌+◌, ◌-◌, ◌<◌, ◌≤◌, ◌==◌, ◌&&◌, ◌↔◌, true, false, nat_lt, nat_le, List, [], ◌∷◌, length, map, reverse, get_or, Option, Some, None, inl, inr, refl, sym, ap, ◌∙◌, arith}
 use Rattle.std.specs.Option.{is_some}
 use Rattle.std.proofs.lemmas.Nat.{pow_pos}
 use Rattle.std.proofs.lemmas.List.{length-map}
@@ -16,7 +16,7 @@ use Rattle.warg_witness.specs.TreePlaced.{IsOnGrowth}
 use Rattle.warg_witness.specs.TreePlaced.IsOnGrowth.{whole, front, rest}
 use Rattle.warg_witness.specs.Private.Compared.{DiffersFirst}
 use Rattle.warg_witness.specs.Private.Divergence.{IsDivergence, inputs_of}
-use Rattle.warg_witness.specs.Private.TreeDivergence.{IsTreeMeeting, LeadsOver, tree_input, IsBranchDivergence, LeadsBelow, IsTurnDivergence, IsOnWayOver, IsTreeShown, IsTreeDivergence}
+use Rattle.warg_witness.specs.Private.TreeDivergence.{IsTreeMeeting, LeadsOver, tree_input, IsBranchDivergence, IsTurnDivergence, IsOnWayOver, IsTreeShown, IsTreeDivergence}
 use Rattle.warg_witness.specs.declared.descent.Divergence.{Divergence}
 use Rattle.warg_witness.specs.declared.descent.Divergence.TheVariants.{Target, Branch}
 use Rattle.warg_witness.proofs.RangeLemmas.{Digest}

@@ -1,4 +1,4 @@
-use Rattle.std.proofs.Common.{rules, ◌≡◌, ◌+◌, ◌-◌, ◌<◌, ◌≤◌, None, length, reverse, refl, sym, ◌∙◌, arith, inr}
+use Rattle.std.proofs.Common.{rules, ◌+◌, ◌-◌, ◌<◌, ◌≤◌, None, length, reverse, refl, arith, inr}
 use Rattle.warg_witness.specs.Ranges.{IsAround}
 use Rattle.warg_witness.specs.Ranges.IsPart.{front as part_front}
 use Rattle.warg_witness.specs.TreePlaced.IsOnGrowth.{front, rest}
