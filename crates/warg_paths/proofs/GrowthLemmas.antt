@@ -17,7 +17,7 @@ led H old m n None = None
 led H old m n (Some path) = roots_down H old m n (reverse path)
 
 -- the root of the old log is known, and that of a part of it isn't
-abbrev known : Bool → List ℕ → Option (List ℕ)
+abbrev pub known : Bool → List ℕ → Option (List ℕ)
 known true root = Some root
 known false root = None
 

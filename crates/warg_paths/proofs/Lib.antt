@@ -5,3 +5,4 @@ mod BytesLemmas
 mod LawLemmas
 mod GrowthLemmas
 mod UniqueLemmas
+mod UniqueGrowthLemmas

@@ -125,7 +125,7 @@ root_size H gives m n x root (t ∷ ts) size is = elim (cases_lt 1 n) [
 ]
 
 -- two branches of one digest have the same parts, or collide
-branches_meet : (H : List ℕ → List ℕ) (a b c d root : List ℕ) → length a ≡ length c → branch H a b ≡ root → branch H c d ≡ root → ((a ≡ c) × (b ≡ d)) ⊎ SomeCollision H Anywhere
+pub branches_meet : (H : List ℕ → List ℕ) (a b c d root : List ℕ) → length a ≡ length c → branch H a b ≡ root → branch H c d ≡ root → ((a ≡ c) × (b ≡ d)) ⊎ SomeCollision H Anywhere
 branches_meet H a b c d root size first second = elim (same_or_not (1 ∷ a ++ b) (1 ∷ c ++ d)) [
   | inl same ↦ inl (branch_parts a b c d size same)
   | inr differ ↦ inr (record { first = 1 ∷ a ++ b; second = 1 ∷ c ++ d; collide = record { differ = differ; same = first ∙ sym second }; placed = tt })
@@ -183,7 +183,7 @@ unique_down H gives m n x y root (t ∷ ts) (u ∷ us) ax ay ex ey = elim (cases
     cons_same {c = c} {ds = ds} e f = ap (λ hs. c ∷ hs) f ∙ ap (λ h. h ∷ ds) e
 
 -- all of a list's elements, in the other order
-turned : (P : List ℕ → Type 0) (ds : List (List ℕ)) → AllByRecursion P ds → AllByRecursion P (reverse ds)
+pub turned : (P : List ℕ → Type 0) (ds : List (List ℕ)) → AllByRecursion P ds → AllByRecursion P (reverse ds)
 turned P [] all = tt
 turned P (d ∷ ds) all = rw (reverse-append (d ∷ []) ds) (both (reverse ds) (turned P ds all.1) all.0)
   where

@@ -105,9 +105,13 @@ roots_down H old m n (top ∷ below) =
     then grown H (roots_down H old m (front_of n) below) top
     else both_over H top (roots_down H None (m - front_of n) (n - front_of n) below)
 
+-- The roots of the first m of n leaves and of all n, by the root of the m, where it is known, and a path.
+abbrev pub subproof_roots : (List ℕ → List ℕ) → Option (List ℕ) → ℕ → ℕ → List (List ℕ) → Option (List ℕ × List ℕ)
+subproof_roots H old m n path = if nat_lt 0 m && nat_le m n then roots_down H old m n (reverse path) else None
+
 -- The roots by a consistency path from m leaves, whose root is `old`, to n.
 abbrev pub consistency_roots : (List ℕ → List ℕ) → ℕ → ℕ → List ℕ → List (List ℕ) → Option (List ℕ × List ℕ)
-consistency_roots H m n old path = if nat_lt 0 m && nat_le m n then roots_down H (Some old) m n (reverse path) else None
+consistency_roots H m n old path = subproof_roots H (Some old) m n path
 
 -- The roots to which a path from m leaves to n leads from the root of the m, if there is a path.
 abbrev pub led_to_both : (List ℕ → List ℕ) → ℕ → ℕ → List ℕ → Option (List (List ℕ)) → Option (List ℕ × List ℕ)

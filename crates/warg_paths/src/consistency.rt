@@ -2,7 +2,7 @@
 
 ghost use Rattle.std.specs.Prelude.{◌≡◌, ◌≢◌, ℕ, ◌+◌, ◌^◌, ◌<◌, ◌≤◌, ◌⊎◌, ◌↔◌, List, [], reverse, Option, Some, None, Err, IfOk, IsTrue};
 ghost use Rattle.warg_log.specs.Cut.{old_over};
-ghost use Rattle.warg_paths.specs.Paths.{beside, path_at_end, consistency_over, consistency_of, consistency_roots, roots_down, one_root};
+ghost use Rattle.warg_paths.specs.Paths.{beside, path_at_end, consistency_over, consistency_of, consistency_roots, subproof_roots, roots_down, one_root};
 
 use crate::error::PathError;
 use crate::front::front_of;
@@ -148,13 +148,28 @@ pub fn roots_of_consistency<D: SupportedDigest>(
 ) -> Option<(Hash<D>, Hash<D>)>
     ensures { result ≡ consistency_roots D.digest old_length new_length old_root.now path.now }
 {
+    roots_of_subproof(Some(old_root.copied()), old_length, new_length, path)
+}
+
+/// The roots over the first `old_length` leaves and over all `new_length` of a part of a log, in this order, by what a
+/// consistency path has for that part (RFC 6962, section 2.1.2: SUBPROOF). The old root is None where these leaves
+/// aren't the whole old log, so that the path begins with their root. None where the path has another length than that
+/// of these lengths, and where the old length isn't between 1 and the new one. It takes no memory.
+pub fn roots_of_subproof<D: SupportedDigest>(
+    old_root: Option<Hash<D>>,
+    old_length: usize,
+    new_length: usize,
+    path: &[Hash<D>],
+) -> Option<(Hash<D>, Hash<D>)>
+    ensures { result ≡ subproof_roots D.digest old_root old_length new_length path.now }
+{
     if old_length == 0 || old_length > new_length {
         return None;
     }
-    roots_within(Some(old_root.copied()), old_length, new_length, path)
+    roots_within(old_root, old_length, new_length, path)
 }
 
-// The same, for an old length between 1 and the new one, where the old root may have to be read from the path.
+// The same, for an old length between 1 and the new one.
 fn roots_within<D: SupportedDigest>(
     old_root: Option<Hash<D>>,
     old_length: usize,

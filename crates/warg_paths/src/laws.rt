@@ -4,7 +4,7 @@ ghost use Rattle.std.specs.Prelude.{◌≡◌, ℕ, ◌+◌, ◌-◌, ◌*◌, �
 ghost use Rattle.warg_log.specs.Tree.{front_of, root_of, own_digest};
 ghost use Rattle.warg_log.specs.Cut.{cut_root, old_over};
 ghost use Rattle.warg_crypto.specs.Collisions.{GivesHashes, AreHashes, SomeCollision, Anywhere};
-ghost use Rattle.warg_paths.specs.Paths.{beside, inclusion_over, inclusion_of, path_at_end, consistency_over, consistency_of, inclusion_root, led_to, led_to_both};
+ghost use Rattle.warg_paths.specs.Paths.{beside, inclusion_over, inclusion_of, path_at_end, consistency_over, consistency_of, inclusion_root, consistency_roots, led_to, led_to_both};
 
 /// The inclusion path of one leaf is empty (RFC 6962, section 2.1.1).
 pub fn inclusion_of_one()
@@ -61,6 +61,13 @@ pub fn own_consistency_path()
 pub fn path_is_unique()
     ensures { (H : List ℕ → List ℕ) (m n : ℕ) (x y root : List ℕ) (xs ys : List (List ℕ)) → GivesHashes H → AreHashes (x ∷ xs) → AreHashes (y ∷ ys)
         → inclusion_root H m n x xs ≡ Some root → inclusion_root H m n y ys ≡ Some root → ((x ≡ y) × (xs ≡ ys)) ⊎ SomeCollision H Anywhere }
+{}
+
+/// A consistency path is unique: two between one pair of lengths that lead to the same roots are one, or two byte
+/// strings collide.
+pub fn consistency_path_is_unique()
+    ensures { (H : List ℕ → List ℕ) (m n : ℕ) (r s old new : List ℕ) (xs ys : List (List ℕ)) → GivesHashes H → AreHashes (r ∷ xs) → AreHashes (s ∷ ys)
+        → consistency_roots H m n r xs ≡ Some (old, new) → consistency_roots H m n s ys ≡ Some (old, new) → (xs ≡ ys) ⊎ SomeCollision H Anywhere }
 {}
 
 /// An inclusion path of a log of at most 2^h entries has at most h digests, so one of at most 2^63 has 63.

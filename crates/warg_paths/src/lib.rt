@@ -15,6 +15,6 @@ mod inclusion;
 pub mod laws;
 
 pub use bytes::hashes_in;
-pub use consistency::{check_tree, consistency_path, roots_of_consistency};
+pub use consistency::{check_tree, consistency_path, roots_of_consistency, roots_of_subproof};
 pub use error::{HashesError, PathError};
 pub use inclusion::{check_record, inclusion_path, root_of_inclusion};

@@ -4,6 +4,7 @@ mod bundles;
 mod checks;
 mod data;
 mod digests;
+mod growths;
 mod logs;
 mod map_bundles;
 mod map_proofs;
@@ -90,6 +91,7 @@ fn of_path<D: SupportedDigest>(
 ) -> Result<(), Fault> {
     match name {
         "witness_record" => each::answer::<witnesses::WitnessRecord<D>>(words, to),
+        "witness_tree" => each::answer::<growths::WitnessTree<D>>(words, to),
         "agree_record" => each::answer::<witnesses::AgreeRecord<D>>(words, to),
         "inclusion_path" => each::answer::<paths::InclusionPath<D>>(words, to),
         "consistency_path" => each::answer::<paths::ConsistencyPath<D>>(words, to),

@@ -16,7 +16,7 @@ use Rattle.warg_witness.specs.Private.Divergence.{HaveOneDigest, MeetAt, Diverge
 use Rattle.warg_witness.specs.declared.descent.Divergence.{Divergence}
 use Rattle.warg_witness.proofs.RangeLemmas.{Digest, Data, more_than_one, node_some, wider, side_is_part, side_aligned, side_around, leaf_node, node_aligned, whole_aligned}
 use Rattle.warg_witness.proofs.RootLemmas.{Root, full_node, full_or_not, front_node, rest_aligned, root_full, root_front, root_rest}
-use Rattle.warg_witness.proofs.DescentLemmas.{branch_parts, same_at_side, meets_here, sides_of, diverges_at, length-leaves, DivergesFrom, Meets, have_root, have_node, plain_digest_is}
+use Rattle.warg_witness.proofs.DescentLemmas.{branch_parts, same_at_side, meets_here, sides_of, diverges_at, length-leaves, DivergesFrom, Meets, have_root, have_range, plain_digest_is}
 use Rattle.std.proofs.lemmas.Nat.{pow_pos}
 use Rattle.warg_log.specs.Nodes.{height_of, place_of, start_of, node_over}
 use Rattle.warg_witness.specs.Ranges.IsPart.{whole}
@@ -165,5 +165,5 @@ module _ (H : Digest) where
       (λ in_new. diverged H (own_digest H ds) (root_over H ds place 1) (own_digest H es) (root_over H es place 1) place 1 root.0 root.1 _ gives (own_holds old gives) (own_holds new gives)
       (root_size old place 1 gives (omega arith) (omega arith)) (root_size new place 1 gives (omega arith) (omega arith)) (leaf_node place)
       (below_placed is at place in_new.part)
-      (λ meets. shown_collides _ (leaves_shown is at place in_new.part meets found.1 (omega arith) found.2))
-      root.1 root.0 root.1 (omega arith) whole (node_aligned at.node) root.3 (have_node H ds es place 1 at.node at.in_old at.in_new (sym in_old.same ∙ in_new.same))))
+      (λ meets. shown_collides _ (leaves_shown is at place in_new.part meets found.2))
+      root.1 root.0 root.1 (omega arith) whole (node_aligned at.node) root.3 (have_range H ds es place 1 (node_aligned at.node) (node_some at.node) at.in_old at.in_new (sym in_old.same ∙ in_new.same))))

@@ -6,7 +6,7 @@ use Rattle.warg_log.specs.Cut.{cut_over, old_over, IsFull}
 use Rattle.warg_witness.specs.Ranges.{IsPart}
 use Rattle.warg_witness.specs.Inputs.{old_input, cut_input}
 use Rattle.warg_log.specs.Ranges.{IsAligned}
-use Rattle.warg_witness.proofs.RangeLemmas.{Digest, Data, IsPart-trans, whole_aligned, node_some, wider, part_in}
+use Rattle.warg_witness.proofs.RangeLemmas.{Digest, Data, whole_aligned, node_some, part_in}
 use Rattle.warg_witness.proofs.RootLemmas.{Root, node_bounds, rest_aligned, by_root, root_stands, root_at_part}
 use Rattle.std.proofs.lemmas.List.{length-map, get_or-map, get_or-take}
 use Rattle.std.proofs.lemmas.List.Elements.{All-from_recursion, All-contains}
@@ -16,8 +16,9 @@ use Rattle.warg_witness.specs.Placed.{IsConsistencyPlaced}
 use Rattle.warg_witness.specs.Private.Compared.{DiffersFirst}
 use Rattle.warg_witness.specs.Private.Meeting.{IsConsistencyMeeting, LeadsToBoth}
 use Rattle.warg_witness.specs.Private.Divergence.{MeetAt, DivergesAt}
-use Rattle.warg_witness.proofs.DescentLemmas.{length-leaves, DivergesFrom, plain_digest_is, own_input, own_second}
+use Rattle.warg_witness.proofs.DescentLemmas.{length-leaves, DivergesFrom, own_second}
 use Rattle.warg_witness.proofs.ShownLemmas.{Shows, hash_placed}
+use Rattle.warg_witness.proofs.BothLemmas.{both_placed, both_meet}
 use Rattle.warg_log.proofs.ForCallers.{cut_old, cut_parts, cut_target, front_is_greatest, old_full, old_parts}
 
 -- The cut root and the old root of a range are one, and so are their inputs, unless it is the target; then it isn't full.
@@ -98,36 +99,24 @@ module _ {H : Digest} {F : Data} {m n : ℕ} {old new old_tree new_tree : List (
       let is_root = rw (is.old_is, length-leaves H old) at at.root in
       let hashed = hash_placed H F new new_tree is.new_is (node_over s w) x first second (rw (numbers.0, numbers.1) diverges) in inr (inl (search (is_root, at.held, hashed)))
 
-  -- a part of the root's range is one of both trees
-  in_both : {a k : ℕ} → IsPart 0 (length new_tree) s w → IsPart s w a k → IsPart 0 (length old) a k × IsPart 0 (length new) a k
-  in_both new_part part =
+  -- the root's range is a part of both logs
+  in_both : IsPart 0 (length new_tree) s w → IsPart 0 (length old) s w × IsPart 0 (length new) s w
+  in_both new_part =
       let some = node_some at.node in
-      let old_part = (root_stands root (omega arith) (whole_aligned (length old_tree))).part in (
-        rw (is.old_is, length-leaves H old) at (IsPart-trans old_part part),
-        rw (is.new_is, length-leaves H new) at (IsPart-trans new_part part),
-      )
+      let old_part = (root_stands root (omega arith) (whole_aligned (length old_tree))).part in (rw (is.old_is, length-leaves H old) at old_part, rw (is.new_is, length-leaves H new) at new_part)
 
   -- where both trees diverge below the root, or their leaves have one digest, and other entries
   pub below_placed : (place : ℕ) → IsPart 0 (length new_tree) s w → (first second : List ℕ)
       → DivergesAt H (own_digest H old_tree) (root_over H old_tree place 1) (own_digest H new_tree) (root_over H new_tree place 1) place 1 s w first second
       → IsConsistencyPlaced H F old new first second
   below_placed place new_part first second diverges =
-      let both = in_both new_part diverges.part in
-      let more = wider diverges.around diverges.other in
-      let old_plain = own_input H old place 1 first both.0 more (rw is.old_is at diverges.first_input) in
-      let new_plain = own_input H new place 1 second both.1 more (rw is.new_is at diverges.second_input) in inr (inr (search (both, old_plain, new_plain)))
+      let both = in_both new_part in inr (inr (both_placed H old new place s w both.0 both.1 first second (rw (is.old_is, is.new_is) at diverges)))
 
   pub leaves_shown : (place : ℕ) → IsPart 0 (length new_tree) s w → MeetAt (root_over H old_tree place 1) (root_over H new_tree place 1) place 1 s w
-      → place < length old → place < length new → (get_or old place [] ≡ get_or new place [] → ⊥) → Shows H (IsConsistencyPlaced H F old new) (0 ∷ get_or old place [], 0 ∷ get_or new place [])
-  leaves_shown place new_part meets in_old in_new differ =
-      let both = in_both new_part meets.part in
-      let same = rw (is.old_is, is.new_is) at meets.same in (
-        record {
-          differ = λ e. differ (cc);
-          same = sym (plain_digest_is H old place 1 (omega arith) (omega arith)) ∙ same ∙ plain_digest_is H new place 1 (omega arith) (omega arith);
-        },
-        inr (inr (search both)),
-      )
+      → (get_or old place [] ≡ get_or new place [] → ⊥) → Shows H (IsConsistencyPlaced H F old new) (0 ∷ get_or old place [], 0 ∷ get_or new place [])
+  leaves_shown place new_part meets differ =
+      let both = in_both new_part in
+      let pair = both_meet H old new place s w both.0 both.1 (rw (is.old_is, is.new_is) at meets) differ in (pair.0, inr (inr pair.1))
 
 -- the same, of entries that are read
 pub entries_shown : {V : Type 0} (bytes : V → List ℕ) (old new : List V) {H : Digest} {F : Data} {m n : ℕ} {old_tree new_tree : List (List ℕ)} {s w place : ℕ} {x : List ℕ}
@@ -139,7 +128,7 @@ entries_shown bytes old new {place = place} is at new_part meets differs e_is d_
     let in_new : place < length (map bytes new) = omega arith in
     let old_entry = entry_at bytes old place (omega (arith, length-map old bytes)) e_is in
     let new_entry = entry_at bytes new place (omega (arith, length-map new bytes)) d_is in
-    rw (first_is, second_is, ← old_entry, ← new_entry) (leaves_shown is at place new_part meets in_old in_new differs.differ)
+    rw (first_is, second_is, ← old_entry, ← new_entry) (leaves_shown is at place new_part meets differs.differ)
 
 -- entries that differ from others at a place don't begin them
 pub differs_not_begins : (old new : List (List ℕ)) (place : ℕ) → DiffersFirst old new place → Begins old new → ⊥

@@ -8,11 +8,11 @@ use Rattle.warg_witness.specs.Ranges.{IsPart, IsAround}
 use Rattle.warg_crypto.specs.Tree.{branch_input}
 use Rattle.warg_witness.specs.Inputs.{plain_input, cut_input}
 use Rattle.warg_log.specs.Ranges.{IsAligned}
-use Rattle.warg_witness.specs.Private.Ranges.{IsSide, IsNodeRange}
+use Rattle.warg_witness.specs.Private.Ranges.{IsSide}
 use Rattle.warg_witness.specs.Private.Divergence.{HaveOneDigest, MeetAt, DivergesAt, IsDivergence}
 use Rattle.warg_witness.specs.declared.descent.Divergence.{Divergence}
 use Rattle.warg_witness.specs.declared.descent.Divergence.TheVariants.{Target, Branch}
-use Rattle.warg_witness.proofs.RangeLemmas.{Digest, Data, wider, at_side, IsPart-trans, node_aligned, whole_aligned, node_some, side_aligned, part_in}
+use Rattle.warg_witness.proofs.RangeLemmas.{Digest, Data, wider, at_side, IsPart-trans, whole_aligned, side_aligned, part_in}
 use Rattle.std.proofs.Math.Seq.{take-length}
 use Rattle.warg_log.proofs.ForCallers.{cut_own_range, cut_parts, cut_target, front_is_greatest, root_over_one, root_over_parts}
 
@@ -77,19 +77,16 @@ module _ (H : Digest) where
   pub own_cut : (ds : List (List ℕ)) (s w : ℕ) {a n : ℕ} → IsAligned a n → 0 < n → a + n ≤ length ds → cut_over H (own_digest H ds) (root_over H ds s w) s w a n ≡ Some (root_over H ds a n)
   own_cut ds s w {a} {n} aligned some = cut_own_range H ds s w a n some aligned
 
-  -- an evaluation that leads to a tree's root and the tree have the root in common, and two trees have a node at which they have one digest
+  -- an evaluation that leads to a tree's root and the tree have the root in common, and two trees have a range at which they have one digest
   pub have_root : {F : Data} {x : List ℕ} (ds : List (List ℕ)) (s w : ℕ) → cut_over H F x s w 0 (length ds) ≡ Some (root_of H ds) → 0 < length ds
       → HaveOneDigest H F x (own_digest H ds) (root_over H ds s w) s w 0 (length ds)
   have_root ds s w leads some =
       record { digest = root_of H ds; first = leads; second = own_cut ds s w (whole_aligned (length ds)) some (omega arith) ∙ ap (λ l. Some (root_of H l)) (take-length ds) }
 
-  pub have_node : (ds es : List (List ℕ)) (p q : ℕ) {s w : ℕ} → IsNodeRange s w → s + w ≤ length ds → s + w ≤ length es → root_over H ds s w ≡ root_over H es s w
-      → HaveOneDigest H (own_digest H ds) (root_over H ds p q) (own_digest H es) (root_over H es p q) p q s w
-  have_node ds es p q {s} {w} node in_first in_second same = record {
-    digest = root_over H ds s w;
-    first = own_cut ds p q (node_aligned node) (node_some node) in_first;
-    second = own_cut es p q (node_aligned node) (node_some node) in_second ∙ ap Some (sym same);
-  }
+  pub have_range : (ds es : List (List ℕ)) (p q : ℕ) {a n : ℕ} → IsAligned a n → 0 < n → a + n ≤ length ds → a + n ≤ length es → root_over H ds a n ≡ root_over H es a n
+      → HaveOneDigest H (own_digest H ds) (root_over H ds p q) (own_digest H es) (root_over H es p q) p q a n
+  have_range ds es p q {a} {n} aligned some in_first in_second same =
+      record { digest = root_over H ds a n; first = own_cut ds p q aligned some in_first; second = own_cut es p q aligned some in_second ∙ ap Some (sym same) }
 
   -- the root over a range is the digest of the plain input there
   pub plain_digest_is : (entries : List (List ℕ)) (a n : ℕ) → 0 < n → a + n ≤ length entries → root_over H (leaves_of H entries) a n ≡ H (plain_input H entries a n)

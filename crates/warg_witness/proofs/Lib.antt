@@ -2,6 +2,7 @@ pub mod RangeLemmas
 pub mod DescentLemmas
 pub mod HashLemmas
 pub mod ShownLemmas
+pub mod BothLemmas
 pub mod RootLemmas
 pub mod ConsistencyLemmas
 pub mod CollisionLemmas
@@ -18,3 +19,4 @@ pub mod KeysLemmas
 pub mod TreeLemmas
 pub mod RecordLemmas
 pub mod PathAgreementLemmas
+pub mod GrowthLemmas

@@ -186,7 +186,7 @@ record_shown H index path value entries (Branch l r l' r') inside other is = (
 )
 
 -- a path that leads to the root of the tree over the entries leads to the root over all leaves
-whole_root : (H : Digest) (entries : List (List ℕ)) → root_of H (leaves_of H entries) ≡ root_over H (leaves_of H entries) 0 (length entries)
+pub whole_root : (H : Digest) (entries : List (List ℕ)) → root_of H (leaves_of H entries) ≡ root_over H (leaves_of H entries) 0 (length entries)
 whole_root H entries = rw (← length-leaves H entries) (sym (ap (root_of H) (take-length (leaves_of H entries))))
 
 pub whole_leads : {H : Digest} {index : ℕ} {path : List (List ℕ)} {x : List ℕ} {entries tree : List (List ℕ)} → IsPathMeeting H index path x entries tree

@@ -1,11 +1,10 @@
 -- What the laws of updates state.
-use Rattle.std.proofs.Common.{◌≡◌, ℕ, ◌+◌, ◌≤◌, Bool, List, [], ◌∷◌, ◌++◌, length, map, Option, Some, ◌⊎◌, inl, inr, ⊎_elim, refl, sym, ap, subst, ◌∙◌, arith, append_assoc}
+use Rattle.std.proofs.Common.{◌≡◌, ℕ, ◌+◌, ◌≤◌, List, [], ◌∷◌, ◌++◌, length, Option, Some, ◌⊎◌, inl, inr, ⊎_elim, refl, sym, ap, subst, ◌∙◌, arith, append_assoc}
 use Rattle.std.proofs.lemmas.List.{append-nil}
 use Rattle.std.specs.List.{AllByRecursion}
 use Rattle.std.specs.Option.{option_map}
 use Rattle.std.specs.FinMap.{get, insert, empty}
-use Rattle.warg_crypto.specs.EmptyTrees.{empty_root}
-use Rattle.warg_crypto.specs.Collisions.{SomeCollision, Collides}
+use Rattle.warg_crypto.specs.Collisions.{SomeCollision}
 use Rattle.warg_map.specs.Bits.{key_bits}
 use Rattle.warg_crypto.specs.Tree.{leaf_digest}
 use Rattle.warg_map.specs.Sparse.{SparseMap, sparse_root, inserted, map_of}
@@ -16,10 +15,10 @@ use Rattle.warg_witness.specs.Laws.{HoldsPeers}
 use Rattle.warg_witness.specs.MapClaims.{value_in, IsKeyMet, IsAbsenceMet}
 use Rattle.warg_witness.specs.MapPlaced.{IsPlacedAtPrefix}
 use Rattle.warg_witness.specs.UpdateClaims.{IsUpdated, Step, insertions_of, LeadThrough, CollidesAtStep}
-use Rattle.warg_witness.specs.Private.MapPaths.{IsPathDivergence, plain_peers}
+use Rattle.warg_witness.specs.Private.MapPaths.{plain_peers}
 use Rattle.warg_witness.specs.Private.Divergence.{inputs_of}
 use Rattle.warg_witness.specs.declared.descent.Divergence.TheVariants.{Target}
-use Rattle.warg_witness.proofs.CollisionLemmas.{same_or_not, target_or_not, SomeDivergence}
+use Rattle.warg_witness.proofs.CollisionLemmas.{same_or_not, target_or_not}
 use Rattle.warg_witness.proofs.PathLemmas.{diverged_on_path}
 use Rattle.warg_witness.proofs.KeyLemmas.{plain_root_is, branch_placed, branch_collides}
 use Rattle.warg_witness.proofs.KeyLawLemmas.{holds_plain, holds_leaf}

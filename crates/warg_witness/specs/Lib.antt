@@ -11,4 +11,5 @@ pub mod MapPlaced
 pub mod UpdateClaims
 pub mod PathClaims
 pub mod PathPlaced
+pub mod TreePlaced
 pub mod Private

@@ -7,3 +7,4 @@ pub mod Divergence
 pub mod Compared
 pub mod PathDivergence
 pub mod PathAgreement
+pub mod TreeDivergence

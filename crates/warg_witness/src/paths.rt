@@ -11,6 +11,7 @@ ghost use Rattle.warg_log.specs.Ranges.{IsAligned};
 ghost use Rattle.warg_witness.specs.Private.PathDivergence.{IsPathMeeting, AreSides, IsRecordDivergence};
 
 mod agreement;
+mod tree;
 
 use crate::collide::collide_values;
 use crate::collision::Finding;
@@ -19,6 +20,7 @@ use crate::descent::Divergence;
 use crate::plain::{plain_digest, plain_tree};
 pub use agreement::agree_record;
 use std::alloc::{AllocError, Allocator};
+pub use tree::witness_tree;
 use warg_crypto::{Hash, SupportedDigest, VisitBytes};
 use warg_log::{LeafRange, VecLog, hash_leaf};
 use warg_paths::root_of_inclusion;

@@ -11,7 +11,8 @@ use warg_crypto::{Hash, SupportedDigest};
 use warg_log::LogData;
 use warg_witness::{Collision, Finding};
 
-type Entries = List<Vec<u8>>;
+/// The entries of a log.
+pub(super) type Entries = List<Vec<u8>>;
 
 /// The pairs of byte strings that may be answered as a collision.
 pub(super) type Pairs = List<(Vec<u8>, Vec<u8>)>;

@@ -1,7 +1,6 @@
 //! The witness for consistency proofs.
 
-ghost use Rattle.std.specs.Prelude.{◌≡◌, ℕ, ◌+◌, ◌^◌, ◌<◌, ◌≤◌, ◌↔◌, List, [], ◌∷◌, length, map, None, Some, Ok, Err, IfOk, IsTrue, MatchOption, slice_index_or, Contains};
-ghost use Rattle.warg_crypto.specs.Tree.{leaf_digest};
+ghost use Rattle.std.specs.Prelude.{◌≡◌, ℕ, ◌+◌, ◌^◌, ◌<◌, ◌≤◌, ◌↔◌, List, [], ◌∷◌, length, map, None, Some, Ok, Err, IfOk, IsTrue, MatchOption, Contains};
 ghost use Rattle.warg_log.specs.Nodes.{node_over, balanced_over};
 ghost use Rattle.warg_log.specs.Tree.{leaves_of, root_of, root_over, own_digest};
 ghost use Rattle.warg_log.specs.Cut.{cut_over};
@@ -13,25 +12,18 @@ ghost use Rattle.warg_witness.specs.Private.Ranges.{IsNodeRange};
 ghost use Rattle.warg_witness.specs.Findings.{Finds};
 ghost use Rattle.warg_witness.specs.Claims.{Begins, IsConsistencyMet};
 ghost use Rattle.warg_witness.specs.Placed.{IsConsistencyPlaced};
-ghost use Rattle.warg_witness.specs.Private.Compared.{DiffersFirst, IsFirstDifference};
+ghost use Rattle.warg_witness.specs.Private.Compared.{DiffersFirst};
 ghost use Rattle.warg_witness.specs.Private.Divergence.{IsDivergence};
 ghost use Rattle.warg_witness.specs.Private.Meeting.{IsConsistencyMeeting, LeadsToBoth};
 
 use crate::collide::collide_branch;
 use crate::collision::{Collision, Finding, leaf_bytes};
-use crate::compare::have_same_bytes;
 use crate::descent::{Divergence, descend};
 use crate::plain::{plain_digest, plain_tree};
+use crate::trees::{Trees, divergence_below, first_difference};
 use std::alloc::{AllocError, Allocator};
 use warg_crypto::{Hash, SupportedDigest, VisitBytes};
 use warg_log::{ConsistencyProof, LeafRange, LogData, Node, VecLog};
-
-/// The trees over the old and the new entries.
-#[derive(Drop)]
-pub(crate) struct Trees<D: SupportedDigest, V: VisitBytes, A: Allocator> {
-    old: VecLog<D, V, A>,
-    new: VecLog<D, V, A>,
-}
 
 // Whether the entries are as many as the proof's lengths say.
 fn have_lengths<D, V>(proof: &ConsistencyProof<D, V>, old: &[V], new: &[V]) -> bool
@@ -76,48 +68,6 @@ fn meet_trees<D: SupportedDigest, V: VisitBytes, L: LogData<D, V>, A: Allocator 
         old: old_tree,
         new: new_tree,
     }))
-}
-
-// Whether an old and a new entry at one place have the same bytes. They don't where their leaf digests
-// differ; else their bytes are compared.
-fn is_same_entry<D: SupportedDigest, V: VisitBytes, A: Allocator>(
-    trees: &Trees<D, V, A>,
-    place: usize,
-    old: &V,
-    new: &V,
-) -> Result<bool, AllocError>
-    requires fits { place < 2 ^ 63 }
-    requires in_old { place < length trees.now.old }
-    requires in_new { place < length trees.now.new }
-    requires old_leaf { slice_index_or trees.now.old place [] ≡ leaf_digest D.digest (V.bytes old.now) }
-    requires new_leaf { slice_index_or trees.now.new place [] ≡ leaf_digest D.digest (V.bytes new.now) }
-    ensures { IfOk result (λ same. IsTrue same ↔ (V.bytes old.now ≡ V.bytes new.now)) }
-{
-    let leaf = LeafRange::new(place, 1);
-    if plain_digest(&trees.old, &leaf) != plain_digest(&trees.new, &leaf) {
-        return Ok(false);
-    }
-    have_same_bytes(old, new)
-}
-
-// The first place at which the new entries have other bytes than the old ones, if there is one.
-fn first_difference<D: SupportedDigest, V: VisitBytes, A: Allocator>(
-    trees: &Trees<D, V, A>,
-    old: &[V],
-    new: &[V],
-) -> Result<Option<usize>, AllocError>
-    requires order { length old.now ≤ length new.now }
-    requires fits { length old.now ≤ 2 ^ 63 }
-    requires old_tree { trees.now.old ≡ leaves_of D.digest (map (λ e. V.bytes e) old.now) }
-    requires new_tree { trees.now.new ≡ leaves_of D.digest (map (λ e. V.bytes e) new.now) }
-    ensures { IfOk result (IsFirstDifference (map (λ e. V.bytes e) old.now) (map (λ e. V.bytes e) new.now)) }
-{
-    for (place, entry) in old.iter().enumerate() {
-        if !is_same_entry(trees, place, entry, &new[place])? {
-            return Ok(Some(place));
-        }
-    }
-    Ok(None)
 }
 
 // The balanced root of a range that has the leaf at `place`.
@@ -174,26 +124,6 @@ fn divergence_from<D: SupportedDigest, V: VisitBytes, L: LogData<D, V>, A: Alloc
     let plain = plain_digest(tree, node);
     let whole = LeafRange::new(0, tree.length());
     descend(hashes, hash, tree, &plain, node, &whole)
-}
-
-// Where two trees that have one digest at a node diverge on the way to the leaf at `place`.
-fn divergence_below<D: SupportedDigest, V: VisitBytes, A: Allocator>(
-    trees: &Trees<D, V, A>,
-    node: &LeafRange,
-    place: usize,
-) -> Divergence<D>
-    requires node { IsNodeRange node.now.start node.now.count }
-    requires around { IsAround place 1 node.now.start node.now.count }
-    requires in_old { node.now.start + node.now.count ≤ length trees.now.old }
-    requires in_new { node.now.start + node.now.count ≤ length trees.now.new }
-    requires same { root_over D.digest trees.now.old node.now.start node.now.count ≡ root_over D.digest trees.now.new node.now.start node.now.count }
-    ensures { IsDivergence D.digest (own_digest D.digest trees.now.old) (root_over D.digest trees.now.old place 1) (own_digest D.digest trees.now.new) (root_over D.digest trees.now.new place 1)
-        place 1 node.now.start node.now.count result }
-{
-    let leaf = LeafRange::new(place, 1);
-    let old = plain_digest(&trees.old, &leaf);
-    let new = plain_digest(&trees.new, &leaf);
-    descend(&trees.old, &old, &trees.new, &new, &leaf, node)
 }
 
 // The collision that a difference at `place` shows: where the evaluation diverges from the old tree or from the

@@ -1,4 +1,4 @@
-use Rattle.std.proofs.Common.{Some, sym, ◌≡◌, List, ℕ, ◌∙◌, ap, arith}
+use Rattle.std.proofs.Common.{Some, sym, ◌∙◌, ap, arith}
 use Rattle.warg_witness.specs.Claims.{IsAgreement}
 use Rattle.warg_witness.proofs.HashLemmas.{ne_false}
 use Rattle.warg_witness.proofs.RangeLemmas.{whole_aligned}

@@ -1,4 +1,4 @@
-use Rattle.std.proofs.Common.{◌≡◌, refl, List, ℕ, ◌∙◌, arith}
+use Rattle.std.proofs.Common.{arith}
 use Rattle.warg_witness.proofs.ShownLemmas.{entry_from, value_shown}
 use Rattle.warg_witness.proofs.log.witness_value.Goals as goal
 

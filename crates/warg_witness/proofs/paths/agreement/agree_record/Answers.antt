@@ -1,4 +1,4 @@
-use Rattle.std.proofs.Common.{Some, sym, ◌≡◌, List, ℕ, ◌∙◌, ap, arith}
+use Rattle.std.proofs.Common.{Some, sym, ◌∙◌, ap, arith}
 use Rattle.warg_witness.specs.PathClaims.{IsRecordAgreement}
 use Rattle.warg_witness.proofs.HashLemmas.{ne_false}
 use Rattle.warg_witness.proofs.PathAgreementLemmas.{lead_to_one, record_agreement_shown}

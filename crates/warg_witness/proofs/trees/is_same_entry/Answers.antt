@@ -1,7 +1,7 @@
 use Rattle.std.proofs.Common.{arith}
 use Rattle.warg_witness.proofs.RangeLemmas.{leaf_node, node_aligned}
 use Rattle.warg_witness.proofs.HashLemmas.{ne_true}
-use Rattle.warg_witness.proofs.log.consistency.is_same_entry.Goals as goal
+use Rattle.warg_witness.proofs.trees.is_same_entry.Goals as goal
 use Rattle.warg_log.proofs.ForCallers.{root_over_one}
 
 pub plain_digest-requires-clause-aligned : goal.plain_digest-requires-clause-aligned

@@ -1,6 +1,6 @@
 use Rattle.warg_witness.proofs.RangeLemmas.{leaf_node, node_aligned}
-use Rattle.warg_witness.proofs.DescentLemmas.{have_node}
-use Rattle.warg_witness.proofs.log.consistency.divergence_below.Goals as goal
+use Rattle.warg_witness.proofs.DescentLemmas.{have_range}
+use Rattle.warg_witness.proofs.trees.divergence_below.Goals as goal
 
 pub plain_digest-old-requires-clause-aligned : goal.plain_digest-old-requires-clause-aligned
 plain_digest-old-requires-clause-aligned g c = rw c.new-leaf.ensures.count (node_aligned (leaf_node _))
@@ -13,7 +13,7 @@ descend-requires-clause-node g c = rw c.new-leaf.ensures.count (leaf_node _)
 
 pub descend-requires-clause-one : goal.descend-requires-clause-one
 descend-requires-clause-one g c =
-    rw (c.plain_digest-old.ensures, c.plain_digest-new.ensures) (have_node _ _ _ _ _ c.requires.node c.requires.in_old c.requires.in_new c.requires.same)
+    rw (c.plain_digest-old.ensures, c.plain_digest-new.ensures) (have_range _ _ _ _ _ c.requires.aligned c.args.range.now.some c.requires.in_old c.requires.in_new c.requires.same)
 
 pub returns : goal.returns
 returns g c =

@@ -1,0 +1,85 @@
+//! The trees over old and new entries, where the entries differ, and where the trees diverge.
+
+ghost use Rattle.std.specs.Prelude.{◌≡◌, ℕ, ◌+◌, ◌^◌, ◌<◌, ◌≤◌, ◌↔◌, List, [], ◌∷◌, length, map, IfOk, IsTrue, slice_index_or};
+ghost use Rattle.warg_crypto.specs.Tree.{leaf_digest};
+ghost use Rattle.warg_log.specs.Tree.{leaves_of, root_over, own_digest};
+ghost use Rattle.warg_witness.specs.Ranges.{IsAround};
+ghost use Rattle.warg_log.specs.Ranges.{IsAligned};
+ghost use Rattle.warg_witness.specs.Private.Compared.{IsFirstDifference};
+ghost use Rattle.warg_witness.specs.Private.Divergence.{IsDivergence};
+
+use crate::compare::have_same_bytes;
+use crate::descent::{Divergence, descend};
+use crate::plain::plain_digest;
+use std::alloc::{AllocError, Allocator};
+use warg_crypto::{SupportedDigest, VisitBytes};
+use warg_log::{LeafRange, VecLog};
+
+/// The trees over the old and the new entries.
+#[derive(Drop)]
+pub(crate) struct Trees<D: SupportedDigest, V: VisitBytes, A: Allocator> {
+    pub(crate) old: VecLog<D, V, A>,
+    pub(crate) new: VecLog<D, V, A>,
+}
+
+// Whether an old and a new entry at one place have the same bytes. They don't where their leaf digests
+// differ; else their bytes are compared.
+fn is_same_entry<D: SupportedDigest, V: VisitBytes, A: Allocator>(
+    trees: &Trees<D, V, A>,
+    place: usize,
+    old: &V,
+    new: &V,
+) -> Result<bool, AllocError>
+    requires fits { place < 2 ^ 63 }
+    requires in_old { place < length trees.now.old }
+    requires in_new { place < length trees.now.new }
+    requires old_leaf { slice_index_or trees.now.old place [] ≡ leaf_digest D.digest (V.bytes old.now) }
+    requires new_leaf { slice_index_or trees.now.new place [] ≡ leaf_digest D.digest (V.bytes new.now) }
+    ensures { IfOk result (λ same. IsTrue same ↔ (V.bytes old.now ≡ V.bytes new.now)) }
+{
+    let leaf = LeafRange::new(place, 1);
+    if plain_digest(&trees.old, &leaf) != plain_digest(&trees.new, &leaf) {
+        return Ok(false);
+    }
+    have_same_bytes(old, new)
+}
+
+/// The first place at which the new entries have other bytes than the old ones, if there is one.
+pub(crate) fn first_difference<D: SupportedDigest, V: VisitBytes, A: Allocator>(
+    trees: &Trees<D, V, A>,
+    old: &[V],
+    new: &[V],
+) -> Result<Option<usize>, AllocError>
+    requires order { length old.now ≤ length new.now }
+    requires fits { length old.now ≤ 2 ^ 63 }
+    requires old_tree { trees.now.old ≡ leaves_of D.digest (map (λ e. V.bytes e) old.now) }
+    requires new_tree { trees.now.new ≡ leaves_of D.digest (map (λ e. V.bytes e) new.now) }
+    ensures { IfOk result (IsFirstDifference (map (λ e. V.bytes e) old.now) (map (λ e. V.bytes e) new.now)) }
+{
+    for (place, entry) in old.iter().enumerate() {
+        if !is_same_entry(trees, place, entry, &new[place])? {
+            return Ok(Some(place));
+        }
+    }
+    Ok(None)
+}
+
+/// Where two trees that have one digest at a range diverge on the way to the leaf at `place`.
+pub(crate) fn divergence_below<D: SupportedDigest, V: VisitBytes, A: Allocator>(
+    trees: &Trees<D, V, A>,
+    range: &LeafRange,
+    place: usize,
+) -> Divergence<D>
+    requires aligned { IsAligned range.now.start range.now.count }
+    requires around { IsAround place 1 range.now.start range.now.count }
+    requires in_old { range.now.start + range.now.count ≤ length trees.now.old }
+    requires in_new { range.now.start + range.now.count ≤ length trees.now.new }
+    requires same { root_over D.digest trees.now.old range.now.start range.now.count ≡ root_over D.digest trees.now.new range.now.start range.now.count }
+    ensures { IsDivergence D.digest (own_digest D.digest trees.now.old) (root_over D.digest trees.now.old place 1) (own_digest D.digest trees.now.new) (root_over D.digest trees.now.new place 1)
+        place 1 range.now.start range.now.count result }
+{
+    let leaf = LeafRange::new(place, 1);
+    let old = plain_digest(&trees.old, &leaf);
+    let new = plain_digest(&trees.new, &leaf);
+    descend(&trees.old, &old, &trees.new, &new, &leaf, range)
+}
