@@ -1,6 +1,6 @@
 //! The witness for consistency proofs.
 
-ghost use Rattle.std.specs.Prelude.{◌≡◌, ℕ, ◌+◌, ◌^◌, ◌<◌, ◌≤◌, ◌↔◌, List, [], ◌∷◌, length, map, None, Some, Ok, Err, IfOk, IsTrue, MatchOption, Contains};
+ghost use Rattle.std.specs.Prelude.{◌≡◌, ℕ, ◌+◌, ◌^◌, ◌<◌, ◌≤◌, ◌↔◌, List, [], ◌∷◌, length, map, None, Some, Ok, Err, IfOk, IsTrue, MatchOption, IfSome, Contains};
 ghost use Rattle.warg_log.specs.Nodes.{node_over, balanced_over};
 ghost use Rattle.warg_log.specs.Tree.{leaves_of, root_of, root_over, own_digest};
 ghost use Rattle.warg_log.specs.Cut.{cut_over};
@@ -49,6 +49,7 @@ fn meet_trees<D: SupportedDigest, V: VisitBytes, L: LogData<D, V>, A: Allocator 
     ensures met { IfOk result (λ met. MatchOption met
         (IsConsistencyMet D.digest (L.digest_at hashes.now) proof.now.old_length proof.now.new_length (map (λ e. V.bytes e) old.now) (map (λ e. V.bytes e) new.now) → ⊥)
         (λ trees. IsConsistencyMeeting D.digest (L.digest_at hashes.now) proof.now.old_length proof.now.new_length (map (λ e. V.bytes e) old.now) (map (λ e. V.bytes e) new.now) trees.old trees.new)) }
+    ensures fits { IfOk result (λ met. IfSome met (λ _. (length old.now ≤ 2 ^ 63) × (length new.now ≤ 2 ^ 63))) }
 {
     if !have_lengths(proof, old, new) {
         return Ok(None);
