@@ -1,5 +1,5 @@
 -- The tree over a list of leaf digests (RFC 6962, section 2.1), and a log's digests by node.
-use Rattle.std.specs.Prelude.{ℕ, zero, suc, ◌-◌, ◌*◌, ◌^◌, nat_le, if◌then◌else◌, List, [], ◌∷◌, ◌++◌, length, take, drop, map, Option, Some, None}
+use Rattle.std.specs.Prelude.{ℕ, zero, suc, ◌-◌, ◌*◌, ◌^◌, nat_le, if◌then◌else◌, List, [], ◌∷◌, ◌++◌, length, take, drop, map, Option, Some, None, unwrap_or}
 use Rattle.std.specs.List.{range_with_len}
 use Rattle.warg_crypto.specs.Tree.{leaf_digest, branch}
 use Rattle.warg_log.specs.Nodes.{height_of, start_of, end_of}
@@ -56,10 +56,9 @@ leaves_below x ds = take (2 ^ height_of x) (drop (start_of x) ds)
 abbrev pub own_digest : (List ℕ → List ℕ) → List (List ℕ) → ℕ → Option (List ℕ)
 own_digest H ds x = if nat_le (end_of x) (length ds) then Some (root_of H (leaves_below x ds)) else None
 
--- What stands at a node's place of a log's slice: the root of the leaves below it if it exists, else
--- the digest of no bytes.
+-- What stands at a node's place of a log's slice: what the log holds there, else the digest of no bytes.
 abbrev pub digest_or_spacer : (List ℕ → List ℕ) → List (List ℕ) → ℕ → List ℕ
-digest_or_spacer H ds x = if nat_le (end_of x) (length ds) then root_of H (leaves_below x ds) else H []
+digest_or_spacer H ds x = unwrap_or (own_digest H ds x) (H [])
 
 -- The slice of a log of these leaf digests: the digests of the nodes by their numbers, up to the last
 -- leaf's, 2 * n - 1 for n leaves.
