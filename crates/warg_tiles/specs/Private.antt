@@ -1,1 +1,2 @@
 pub mod PathDigits
+pub mod Edges
