@@ -84,7 +84,12 @@ fn consistency<'a>(alloc: Global) -> Result<Command<'a>, AllocError> {
         "Prints the consistency path from an old length, a line of hexadecimal digits for each digest",
     )?
     .arg(number(alloc, "old", "OLD", "The old length, from 1").required(true))?
-    .arg(number(alloc, "new", "NEW", "The new length, if not the checkpoint's"))
+    .arg(number(
+        alloc,
+        "new",
+        "NEW",
+        "The new length, if not the checkpoint's",
+    ))
 }
 
 fn verify<'a>(alloc: Global) -> Command<'a> {
@@ -94,7 +99,11 @@ fn verify<'a>(alloc: Global) -> Command<'a> {
 }
 
 // A command on a log's folder.
-fn over_folder<'a>(alloc: Global, name: &'a str, about: &'a str) -> Result<Command<'a>, AllocError> {
+fn over_folder<'a>(
+    alloc: Global,
+    name: &'a str,
+    about: &'a str,
+) -> Result<Command<'a>, AllocError> {
     Command::new(alloc, name)
         .about(about)
         .arg(word(alloc, "folder", "FOLDER", "The log's folder"))
