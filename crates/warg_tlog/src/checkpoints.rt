@@ -94,7 +94,8 @@ fn fault_of(error: &CheckpointTextError) -> Result<&'static str, Refusal> {
     }
 }
 
-/// Writes the log's checkpoint, once all that it stands over is written, and then the copy.
+/// Writes the log's checkpoint, once all that it stands over is written, and then the copy. Where only the copy can't be
+/// written, the log has its checkpoint, and an older copy refuses less.
 pub fn write_checkpoint(
     rt: &HostRuntime,
     folder: &Folder,
@@ -108,7 +109,8 @@ pub fn write_checkpoint(
     };
     let bytes = text.write(rt.alloc())?;
     folder.write(rt, CHECKPOINT, bytes.as_slice())?;
-    folder.write(rt, NEWEST, bytes.as_slice())
+    let _ = folder.write(rt, NEWEST, bytes.as_slice());
+    Ok(())
 }
 
 fn origin_refused(rt: &HostRuntime) -> Refusal {

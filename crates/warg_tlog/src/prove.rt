@@ -6,7 +6,7 @@ use crate::folder::Folder;
 use crate::growing::{open_log, right_edge};
 use crate::refusal::Refusal;
 use warg_crypto::{Hash, Sha256};
-use warg_log::{Checkpoint, LeafRange, stored_root};
+use warg_log::{Checkpoint, GREATEST_LENGTH, LeafRange, stored_root};
 use warg_paths::{
     PathError, check_tree, consistency_path, inclusion_path, root_of_inclusion,
     roots_of_consistency,
@@ -34,10 +34,10 @@ pub fn prove(
     let checkpoint = read_checkpoint(rt, folder)?.checkpoint();
     let length = length.unwrap_or(checkpoint.length());
     if length > checkpoint.length() {
-        return Err(out_of_range("no such length", &checkpoint));
+        return Err(out_of_range("LENGTH has to be at most", checkpoint.length()));
     }
     if index >= length {
-        return Err(out_of_range("no such entry", &checkpoint));
+        return Err(out_of_range("INDEX has to be below the length,", length));
     }
     let mut tiles = Fetched::new(rt.alloc());
     let named = tiles_for_inclusion(rt.alloc(), index, length)?;
@@ -64,10 +64,10 @@ pub fn consistency(
     let checkpoint = read_checkpoint(rt, folder)?.checkpoint();
     let new = new.unwrap_or(checkpoint.length());
     if new > checkpoint.length() {
-        return Err(out_of_range("no such new length", &checkpoint));
+        return Err(out_of_range("NEW has to be at most", checkpoint.length()));
     }
     if old == 0 || old > new {
-        return Err(out_of_range("no such old length", &checkpoint));
+        return Err(out_of_range("OLD has to be between 1 and", new));
     }
     let mut tiles = Fetched::new(rt.alloc());
     let named = tiles_for_consistency(rt.alloc(), old, new)?;
@@ -85,11 +85,8 @@ pub fn consistency(
     Ok(path)
 }
 
-fn out_of_range(what: &'static str, checkpoint: &Checkpoint<Sha256>) -> Refusal {
-    Refusal::OutOfRange {
-        what,
-        length: checkpoint.length(),
-    }
+fn out_of_range(rule: &'static str, bound: usize) -> Refusal {
+    Refusal::OutOfRange { rule, bound }
 }
 
 // The path that was made, or the refusal for tiles that give none.
@@ -126,24 +123,37 @@ fn check_root(
     let Some(root) = root else {
         return Err(no_root(rt, folder));
     };
-    if length > checkpoint.length() {
-        return Err(out_of_range("no such length", checkpoint));
-    }
-    let named = tiles_for_consistency(rt.alloc(), length, checkpoint.length())?;
-    tiles.fetch(rt, folder, named.as_slice(), checkpoint.length())?;
-    let path = consistency_path(rt.alloc(), tiles.data(), length, checkpoint.length());
-    let path = made(rt, folder, path)?;
-    if check_tree(&Checkpoint::new(root, length), checkpoint, path.as_slice()) {
+    let old = Checkpoint::new(root, length);
+    if old == *checkpoint || is_beginning(rt, folder, tiles, &old, checkpoint)? {
         Ok(())
     } else {
         Err(no_root(rt, folder))
     }
 }
 
+// Whether the log of an older checkpoint is a beginning of the log of the checkpoint, by its tiles.
+fn is_beginning(
+    rt: &HostRuntime,
+    folder: &Folder,
+    tiles: &mut Fetched,
+    old: &Checkpoint<Sha256>,
+    checkpoint: &Checkpoint<Sha256>,
+) -> Result<bool, Refusal> {
+    let (old_length, length) = (old.length(), checkpoint.length());
+    if old_length >= length || length > GREATEST_LENGTH {
+        return Ok(false);
+    }
+    let named = tiles_for_consistency(rt.alloc(), old_length, length)?;
+    tiles.fetch(rt, folder, named.as_slice(), length)?;
+    let path = consistency_path(rt.alloc(), tiles.data(), old_length, length);
+    let path = made(rt, folder, path)?;
+    Ok(check_tree(old, checkpoint, path.as_slice()))
+}
+
 fn no_root(rt: &HostRuntime, folder: &Folder) -> Refusal {
     folder.damaged(
         rt.alloc(),
         "tile",
-        "doesn't lead to the checkpoint's root; warg_tlog audit names the file",
+        "doesn't lead to the checkpoint's root, and warg_tlog audit FOLDER says which file differs",
     )
 }

@@ -27,10 +27,10 @@ pub enum Refusal {
     #[error("another append is at work in {0}: wait for its end, and append again")]
     AtWork(String),
     /// The log has no such entry or length.
-    #[error("{what} where the log has {length} entries")]
+    #[error("{rule} {bound}: see warg_tlog checkpoint FOLDER")]
     OutOfRange {
-        what: &'static str,
-        length: usize,
+        rule: &'static str,
+        bound: usize,
     },
     /// A file of the log lacks, or isn't what it is to be.
     #[error("{path} {fault}: put it back from a copy of the log")]

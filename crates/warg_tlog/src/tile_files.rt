@@ -39,7 +39,7 @@ pub fn compare_tile(
         rt.alloc(),
         folder,
         &stored.tile,
-        "isn't the tile of the log's entries",
+        "isn't the tile over the entries of their bundles, so one of these files differs",
     ))
 }
 
