@@ -1,5 +1,7 @@
 //! The command that makes each tile again.
 
+ghost use Rattle.std.specs.Prelude.{◌≡◌};
+
 use crate::bundle::{entries_of, read_bundle};
 use crate::checkpoints::read_checkpoint;
 use crate::folder::Folder;
@@ -44,7 +46,9 @@ fn push_bundle(
     log: &mut TileLog<Sha256, Vec<u8>>,
     tile: &Tile,
     progress: &mut Progress,
-) -> Result<(), Refusal> {
+) -> Result<(), Refusal>
+    requires { tile.now.level ≡ 0 }
+{
     let bytes = read_bundle(rt, folder, tile)?;
     let entries = entries_of(rt, folder, tile, bytes.as_slice())?;
     let mut bytes = Vec::new(rt.alloc());

@@ -1,6 +1,6 @@
 //! The entries below a tile of level 0, as a file.
 
-ghost use Rattle.std.specs.Prelude.{◌≡◌, ◌<◌, ◌≤◌};
+ghost use Rattle.std.specs.Prelude.{◌≡◌};
 
 use crate::folder::Folder;
 use crate::refusal::Refusal;

@@ -1,5 +1,7 @@
 //! Tiles that were read for a proof.
 
+ghost use Rattle.std.specs.Prelude.{◌<◌, ◌^◌};
+
 use crate::folder::Folder;
 use crate::refusal::Refusal;
 use crate::tile_files::read_tile;
@@ -55,7 +57,9 @@ impl Fetched {
         folder: &Folder,
         index: usize,
         length: usize,
-    ) -> Result<Hash<Sha256>, Refusal> {
+    ) -> Result<Hash<Sha256>, Refusal>
+        requires { index < 2 ^ 63 }
+    {
         let tile = Tile::new(0, index / 256, index % 256 + 1);
         let leaf = Node::leaf(index);
         if !self.data.has_hash(leaf) {

@@ -1,5 +1,7 @@
 //! A log in a folder that goes on from its right edge.
 
+ghost use Rattle.std.specs.Prelude.{◌≡◌};
+
 use crate::bundle::{Bundle, damaged_bundle, entries_of, read_bundle};
 use crate::folder::Folder;
 use crate::refusal::Refusal;
@@ -125,7 +127,9 @@ fn bundle_below(
     rt: &HostRuntime,
     folder: &Folder,
     stored: &StoredTile<Sha256>,
-) -> Result<Bundle, Refusal> {
+) -> Result<Bundle, Refusal>
+    requires { stored.now.tile.level ≡ 0 }
+{
     let bytes = read_bundle(rt, folder, &stored.tile)?;
     check_entries(rt, folder, stored, bytes.as_slice())?;
     Ok(Bundle::new(stored.tile.width(), bytes))
@@ -137,7 +141,9 @@ fn check_entries(
     folder: &Folder,
     stored: &StoredTile<Sha256>,
     bytes: &[u8],
-) -> Result<(), Refusal> {
+) -> Result<(), Refusal>
+    requires { stored.now.tile.level ≡ 0 }
+{
     let entries = entries_of(rt, folder, &stored.tile, bytes)?;
     let digests = stored.digests.as_slice().iter();
     for (entry, digest) in entries.as_slice().iter().zip(digests) {
