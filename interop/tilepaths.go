@@ -30,8 +30,9 @@ func compareTilePaths() {
 	fmt.Printf("interop: of %d paths of tiles, %d good and %d bad, both read the same tiles\n", goodPaths+badPaths, goodPaths, badPaths)
 }
 
+// A random tile. tlog's numbers go up to 2^63 and ours to 2^64: these stay far below, so that a changed one does, too.
 func randomTile() tlog.Tile {
-	tile := tlog.Tile{H: 8, L: random.Intn(65) - 1, N: random.Int63() >> uint(random.Intn(63)), W: 256}
+	tile := tlog.Tile{H: 8, L: random.Intn(65) - 1, N: random.Int63() >> uint(5+random.Intn(58)), W: 256}
 	if random.Intn(2) == 0 {
 		tile.W = 1 + random.Intn(256)
 	}

@@ -5,6 +5,7 @@ ghost use Rattle.std.specs.Prelude.{◌≡◌};
 use crate::bundle::{entries_of, read_bundle};
 use crate::checkpoints::read_checkpoint;
 use crate::folder::Folder;
+use crate::growing::push_entry;
 use crate::progress::Progress;
 use crate::refusal::Refusal;
 use crate::tile_files::compare_tile;
@@ -55,7 +56,7 @@ fn push_bundle(
     for entry in entries.as_slice() {
         bytes.clear();
         bytes.extend_from_slice(entry)?;
-        log.push(&bytes)?;
+        push_entry(log, &bytes)?;
         progress.step(rt);
     }
     Ok(())

@@ -37,11 +37,8 @@ impl GrowingLog {
         folder: &Folder,
         entry: &Vec<u8>,
     ) -> Result<(), Refusal> {
-        if self.log.length() >= GREATEST_LENGTH {
-            return Err(Refusal::NoMoreEntries);
-        }
+        push_entry(&mut self.log, entry)?;
         self.bundle.push(rt.alloc(), entry.as_slice())?;
-        self.log.push(entry)?;
         if self.bundle.is_full() {
             self.bundle.write(rt, folder, self.log.length())?;
             self.bundle.clear();
@@ -60,6 +57,15 @@ impl GrowingLog {
         write_tiles(rt, folder, self.log.partial(rt.alloc())?.as_slice())?;
         Ok(self.log.checkpoint())
     }
+}
+
+/// Adds an entry to a log, unless it is full.
+pub fn push_entry(log: &mut TileLog<Sha256, Vec<u8>>, entry: &Vec<u8>) -> Result<(), Refusal> {
+    if log.length() >= GREATEST_LENGTH {
+        return Err(Refusal::NoMoreEntries);
+    }
+    log.push(entry)?;
+    Ok(())
 }
 
 fn write_tiles(
