@@ -14,3 +14,5 @@ mod images;
 mod log;
 #[cfg(test)]
 mod messages;
+#[cfg(test)]
+mod tiles;

@@ -7,3 +7,4 @@ mod RootLemmas
 mod DataLemmas
 mod OwnLemmas
 mod FetchLemmas
+mod TextLemmas

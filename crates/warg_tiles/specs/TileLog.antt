@@ -41,8 +41,8 @@ abbrev pub edge_digests : (List ℕ → List ℕ) → List (List ℕ) → List (
 edge_digests H ds = flat_map (λ level. tile_digests H ds (last_tile (length ds) level)) (7 ∷ 6 ∷ 5 ∷ 4 ∷ 3 ∷ 2 ∷ 1 ∷ 0 ∷ [])
 
 -- Tiles with their digests are these of a log of these leaf digests.
-pub record AreTilesOf (H : List ℕ → List ℕ) (ds : List (List ℕ)) (places : List TileAt) (tiles : Tiles) : Type 0 where
-  pub places : map (λ (t : TileAt × List (List ℕ)). t.0) tiles ≡ places
+pub record AreTilesOf (H : List ℕ → List ℕ) (ds : List (List ℕ)) (expected : List TileAt) (tiles : Tiles) : Type 0 where
+  pub places : map (λ (t : TileAt × List (List ℕ)). t.0) tiles ≡ expected
   pub digests : AllByRecursion (λ (t : TileAt × List (List ℕ)). IsTileBy (own_digest H ds) t.0 t.1) tiles
 
 -- The log stands for these leaf digests: it has the digests of their partial tiles, and the full tiles since the last ones

@@ -1,12 +1,13 @@
 //! Checkpoint texts.
 
-ghost use Rattle.std.specs.Prelude.{◌≡◌, ℕ, ◌^◌, ◌<◌, ◌≤◌, ◌↔◌, List, [], ◌∷◌, ◌++◌, length, map, Option, Ok, Err, IfOk, IfErr, OnOk, OnErr, MatchOption, vec_len};
+ghost use Rattle.std.specs.Prelude.{◌≡◌, ◌≢◌, ℕ, ◌^◌, ◌<◌, ◌≤◌, ◌↔◌, List, [], ◌∷◌, ◌++◌, length, map, Option, Ok, Err, IfOk, IfErr, OnOk, OnErr, MatchOption, IsTrue};
 ghost use Rattle.std.specs.Fmt.{decimal};
 ghost use Rattle.std.specs.List.{AllByRecursion};
 ghost use Rattle.std.specs.Option.{option_copied};
 ghost use Rattle.warg_crypto.specs.Digests.{IsDigest};
 ghost use Rattle.warg_tiles.specs.CheckpointText.{Said, HasNoNewline, IsLine, CanBeSaid, line, length_line, root_line, lines, behind, text_of, text_before};
-ghost use Rattle.warg_tiles.specs.CheckpointFaults.{IsFirstFault};
+ghost use Rattle.warg_tiles.specs.Private.Texts.{IsExtensionFault};
+ghost use Rattle.warg_tiles.specs.CheckpointFaults.{HasOrigin, IsFirstFault};
 
 use crate::decimal::decimal_in;
 use crate::error::CheckpointTextError;
@@ -95,9 +96,15 @@ impl<D, A: Allocator + Copy> CheckpointText<D, A> {
         ensures ok { IfOk result (λ read. CanBeSaid read.0 × (bytes.now ≡ text_before read.0 (option_copied read.1))) }
         ensures err { IfErr result (IsFirstFault bytes.now) }
     {
-        let (origin, rest) = first_line(bytes).ok_or(CheckpointTextError::Origin)?;
-        let (length, rest) = length_in(rest).ok_or(CheckpointTextError::Length)?;
-        let (root, rest) = root_in(rest).ok_or(CheckpointTextError::Root)?;
+        let Some((origin, rest)) = first_line(bytes) else {
+            return Err(CheckpointTextError::Origin);
+        };
+        let Some((length, rest)) = length_in(rest) else {
+            return Err(CheckpointTextError::Length);
+        };
+        let Some((root, rest)) = root_in(rest) else {
+            return Err(CheckpointTextError::Root);
+        };
         let mut text = CheckpointText::new(alloc, origin, Checkpoint::new(root, length))?;
         let behind = text.read_extensions(rest)?;
         Ok((text, behind))
@@ -107,10 +114,15 @@ impl<D, A: Allocator + Copy> CheckpointText<D, A> {
     fn read_extensions<'a>(
         &mut self,
         bytes: &'a [u8],
-    ) -> Result<Option<&'a [u8]>, CheckpointTextError> {
+    ) -> Result<Option<&'a [u8]>, CheckpointTextError>
+        ensures ok { IfOk result (λ rest. (more : List (List ℕ)) × AllByRecursion IsLine more × (self.new ≡ record self.old { extensions = self.old.extensions ++ more }) × (bytes.now ≡ lines more (behind (option_copied rest)))) }
+        ensures err { IfErr result (IsExtensionFault bytes.now) }
+    {
         let mut rest = bytes;
         'lines: while !rest.is_empty() {
-            let (line, behind) = split_line(rest).ok_or(CheckpointTextError::Extension)?;
+            let Some((line, behind)) = split_line(rest) else {
+                return Err(CheckpointTextError::Extension);
+            };
             if line.is_empty() {
                 return Ok(Some(behind));
             }
@@ -132,9 +144,7 @@ impl<D, A: Allocator> CheckpointText<D, A> {
         push_line(&mut bytes, length.as_bytes())?;
         let root = STANDARD.encode(alloc, self.checkpoint.root().bytes())?;
         push_line(&mut bytes, root.as_bytes())?;
-        'extensions: for extension in self.extensions.as_slice() {
-            push_line(&mut bytes, extension.as_slice())?;
-        }
+        push_lines(&mut bytes, self.extensions.as_slice())?;
         Ok(bytes)
     }
 
@@ -165,7 +175,9 @@ impl<D, A: Allocator> CheckpointText<D, A> {
 }
 
 // Whether bytes can be a line: there is one, and none is a newline.
-fn is_line(bytes: &[u8]) -> bool {
+fn is_line(bytes: &[u8]) -> bool
+    ensures { IsTrue result ↔ IsLine bytes.now }
+{
     !bytes.is_empty() && bytes.iter().all(|byte| *byte != b'\n')
 }
 
@@ -178,7 +190,9 @@ fn split_line(bytes: &[u8]) -> Option<(&[u8], &[u8])>
 }
 
 // The first line of bytes, if it isn't empty, and the bytes behind it.
-fn first_line(bytes: &[u8]) -> Option<(&[u8], &[u8])> {
+fn first_line(bytes: &[u8]) -> Option<(&[u8], &[u8])>
+    ensures { MatchOption result (HasOrigin bytes.now → ⊥) (λ parts. IsLine parts.0.now × (bytes.now ≡ line parts.0.now parts.1.now)) }
+{
     let (line, rest) = split_line(bytes)?;
     if line.is_empty() {
         None
@@ -188,7 +202,9 @@ fn first_line(bytes: &[u8]) -> Option<(&[u8], &[u8])> {
 }
 
 // The length that the first line of bytes says, and the bytes behind it.
-fn length_in(bytes: &[u8]) -> Option<(usize, &[u8])> {
+fn length_in(bytes: &[u8]) -> Option<(usize, &[u8])>
+    ensures { MatchOption result ((n : ℕ) (rest : List ℕ) → n ≤ 2 ^ 63 → bytes.now ≢ length_line n rest) (λ parts. (parts.0 ≤ 2 ^ 63) × (bytes.now ≡ length_line parts.0 parts.1.now)) }
+{
     let (line, rest) = split_line(bytes)?;
     let length = decimal_in(str::from_utf8(line).ok()?)?;
     if length > GREATEST_LENGTH {
@@ -199,18 +215,40 @@ fn length_in(bytes: &[u8]) -> Option<(usize, &[u8])> {
 }
 
 // The root that the first line of bytes says, and the bytes behind it.
-fn root_in<D>(bytes: &[u8]) -> Option<(Hash<D>, &[u8])> {
+fn root_in<D>(bytes: &[u8]) -> Option<(Hash<D>, &[u8])>
+    ensures { MatchOption result ((root rest : List ℕ) → IsDigest root → bytes.now ≢ root_line root rest) (λ parts. IsDigest parts.0 × (bytes.now ≡ root_line parts.0 parts.1.now)) }
+{
     let (line, rest) = split_line(bytes)?;
-    let mut root = [0; 32];
-    match STANDARD.decode_slice(line, &mut root) {
-        Ok(32) => Some((Hash::from_array(root), rest)),
-        _ => None,
+    if line.len() > 44 {
+        return None;
     }
+    let mut decoded = [0; 33];
+    let Ok(count) = STANDARD.decode_slice_unchecked(line, &mut decoded) else {
+        return None;
+    };
+    let root = Hash::try_from(&decoded[..count]).ok()?;
+    let _digest = root.bytes();
+    Some((root, rest))
 }
 
 // Writes a line and its newline.
-fn push_line<A: Allocator>(bytes: &mut Vec<u8, A>, line: &[u8]) -> Result<(), AllocError> {
+fn push_line<A: Allocator>(bytes: &mut Vec<u8, A>, line: &[u8]) -> Result<(), AllocError>
+    ensures { OnOk result (bytes.new.items ≡ bytes.old.items ++ (line.now ++ 10 ∷ [])) }
+{
     bytes.extend_from_slice(line)?;
     bytes.push(b'\n')?;
+    Ok(())
+}
+
+// Writes lines and their newlines.
+fn push_lines<A: Allocator, B: Allocator>(
+    bytes: &mut Vec<u8, A>,
+    extensions: &[Vec<u8, B>],
+) -> Result<(), AllocError>
+    ensures { OnOk result (bytes.new.items ≡ bytes.old.items ++ lines (map (λ l. l.items) extensions.now) []) }
+{
+    'extensions: for extension in extensions {
+        push_line(bytes, extension.as_slice())?;
+    }
     Ok(())
 }

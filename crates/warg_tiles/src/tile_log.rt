@@ -62,15 +62,15 @@ impl<D: SupportedDigest, V: VisitBytes, A: Allocator + Copy> TileLog<D, V, A> {
     /// or its width, `Count` where there are more or fewer; before memory is taken. Else memory is the only error.
     ///
     /// The digests are taken on trust: whoever keeps the log's checkpoint compares it.
-    pub fn open(alloc: A, length: usize, tiles: &[StoredTile<D, A>]) -> Result<Self, OpenError>
-        requires { length ≤ 2 ^ 63 }
-        ensures length { IfOk result (λ log. (log.len ≡ length) × (log.taken ≡ length) × (log.full ≡ [])) }
-        ensures stands { IfOk result (λ log. (ds : List (List ℕ)) → ds.length ≡ length → AllByRecursion (λ t. IsTileBy (own_digest D.digest ds) t.tile t.digests.items) tiles.now → StandsFor D.digest log ds) }
-        ensures count { (result ≡ Err OpenError.Count) ↔ (tiles_fault (partial_tiles length) (map (λ t. t.tile) tiles.now) ≡ Some OpenError.Count) }
-        ensures place { (result ≡ Err OpenError.Place) ↔ (tiles_fault (partial_tiles length) (map (λ t. t.tile) tiles.now) ≡ Some OpenError.Place) }
-        ensures width { (result ≡ Err OpenError.Width) ↔ (tiles_fault (partial_tiles length) (map (λ t. t.tile) tiles.now) ≡ Some OpenError.Width) }
+    pub fn open(alloc: A, log_length: usize, tiles: &[StoredTile<D, A>]) -> Result<Self, OpenError>
+        requires { log_length ≤ 2 ^ 63 }
+        ensures length { IfOk result (λ log. (log.len ≡ log_length) × (log.taken ≡ log_length) × (log.full ≡ [])) }
+        ensures stands { IfOk result (λ log. (ds : List (List ℕ)) → length ds ≡ log_length → AllByRecursion (λ t. IsTileBy (own_digest D.digest ds) t.tile t.digests.items) tiles.now → StandsFor D.digest log ds) }
+        ensures count { (result ≡ Err OpenError.Count) ↔ (tiles_fault (partial_tiles log_length) (map (λ t. t.tile) tiles.now) ≡ Some OpenError.Count) }
+        ensures place { (result ≡ Err OpenError.Place) ↔ (tiles_fault (partial_tiles log_length) (map (λ t. t.tile) tiles.now) ≡ Some OpenError.Place) }
+        ensures width { (result ≡ Err OpenError.Width) ↔ (tiles_fault (partial_tiles log_length) (map (λ t. t.tile) tiles.now) ≡ Some OpenError.Width) }
     {
-        check_tiles(length, tiles)?;
+        check_tiles(log_length, tiles)?;
         let mut edge = Vec::new(alloc);
         'tiles: for tile in tiles.iter().rev() {
             'digests: for digest in tile.digests.as_slice() {
@@ -78,8 +78,8 @@ impl<D: SupportedDigest, V: VisitBytes, A: Allocator + Copy> TileLog<D, V, A> {
             }
         }
         Ok(TileLog {
-            count: length,
-            taken: length,
+            count: log_length,
+            taken: log_length,
             edge,
             full: Vec::new(alloc),
             of: PhantomData,
