@@ -66,20 +66,23 @@ func answerFor(origin string, tree tlog.Tree, extension string, behind []byte) s
 		orNone(hex.EncodeToString([]byte(extension))), orNone(hex.EncodeToString(behind)))
 }
 
-// Flips a bit behind the origin. Where tlog reads the text still, ours reads the same tree; tlog reads no line behind it.
+// Flips a bit behind the origin. Where tlog reads the text still, ours reads the same tree, unless its root is another base64
+// of the same bytes, which tlog takes, and ours doesn't.
 func flippedText(text []byte) int {
 	other := copyOf(text)
 	at := len(goOrigin) + 1 + random.Intn(len(text)-len(goOrigin)-2)
 	other[at] ^= 1 << uint(random.Intn(8))
 	tree, err := tlog.ParseTree(other)
-	if err != nil {
+	lines := bytes.Split(other, []byte("\n"))
+	if err != nil || len(lines) != 4 {
 		return 0
 	}
-	if bytes.Count(other, []byte("\n")) == 3 && bytes.HasSuffix(other, []byte("\n")) {
-		checkpointText(other, tree, "", []byte{})
+	if string(lines[2]) != tree.Hash.String() {
+		ask("checkpoint_text "+hex.EncodeToString(other), "refused Root", nil)
 		return 1
 	}
-	return 0
+	checkpointText(other, tree, "", []byte{})
+	return 1
 }
 
 func copyOf(text []byte) []byte { return append([]byte{}, text...) }
