@@ -1,6 +1,7 @@
 //! The entries below a tile of level 0, as a file.
 
-ghost use Rattle.std.specs.Prelude.{◌≡◌};
+ghost use Rattle.std.specs.Prelude.{◌≡◌, [], ◌∷◌, ◌++◌, OnOk, OnErr};
+ghost use Rattle.warg_tiles.specs.EntryBundles.{bundle_of};
 
 use crate::folder::Folder;
 use crate::refusal::Refusal;
@@ -23,8 +24,11 @@ impl Bundle {
         Bundle { count, bytes }
     }
 
-    /// Adds an entry behind the others.
-    pub fn push(&mut self, alloc: Global, entry: &[u8]) -> Result<(), Refusal> {
+    /// Adds an entry behind the others. A refused call leaves the bundle as it was.
+    pub fn push(&mut self, alloc: Global, entry: &[u8]) -> Result<(), Refusal>
+        ensures ok { OnOk result (self.new.bytes.items ≡ self.old.bytes.items ++ bundle_of (entry.now ∷ [])) }
+        ensures err { OnErr result ((self.new.bytes.items ≡ self.old.bytes.items) × (self.new.count ≡ self.old.count)) }
+    {
         let bytes = match write_entries(alloc, &[entry]) {
             Ok(bytes) => bytes,
             Err(_) => return Err(Refusal::Memory),

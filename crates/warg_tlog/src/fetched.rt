@@ -1,6 +1,6 @@
 //! Tiles that were read for a proof.
 
-ghost use Rattle.std.specs.Prelude.{◌<◌, ◌^◌};
+ghost use Rattle.std.specs.Prelude.{◌≡◌, ◌^◌, ◌<◌, ◌≤◌};
 
 use crate::folder::Folder;
 use crate::refusal::Refusal;
@@ -77,7 +77,11 @@ impl Fetched {
 }
 
 // The tile as wide as it is in a log of this length.
-fn tile_at(tile: &Tile, length: usize) -> Tile {
+fn tile_at(tile: &Tile, length: usize) -> Tile
+    ensures level { result.level ≡ tile.now.level }
+    ensures number { result.number ≡ tile.now.number }
+    ensures width { tile.now.width ≤ result.width }
+{
     if tile.level() >= 8 {
         return *tile;
     }

@@ -1,5 +1,9 @@
 //! The commands that make paths out of the folder's tiles.
 
+ghost use Rattle.std.specs.Prelude.{◌≡◌, Some, IfSome};
+ghost use Rattle.warg_crypto.specs.Digests.{sha256};
+ghost use Rattle.warg_paths.specs.Paths.{consistency_roots};
+
 use crate::checkpoints::read_checkpoint;
 use crate::fetched::Fetched;
 use crate::folder::Folder;
@@ -104,7 +108,9 @@ fn new_root(
     new: usize,
     root: &Hash<Sha256>,
     path: &[Hash<Sha256>],
-) -> Option<Hash<Sha256>> {
+) -> Option<Hash<Sha256>>
+    ensures { IfSome result (λ to. consistency_roots sha256 old new root.now path.now ≡ Some (root.now, to)) }
+{
     match roots_of_consistency(old, new, root, path) {
         Some((old_root, new_root)) if old_root == *root => Some(new_root),
         _ => None,
