@@ -8,3 +8,4 @@ mod DataLemmas
 mod OwnLemmas
 mod FetchLemmas
 mod TextLemmas
+mod EdgeLemmas

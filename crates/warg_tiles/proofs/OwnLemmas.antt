@@ -26,7 +26,7 @@ root_twice H ds a e fits =
     ∙ ap (λ n. branch H (root_over H ds a (2 ^ e)) (root_over H ds (a + 2 ^ e) n)) rest
 
 -- the root over the roots of parts of one size is the root over all
-roots_of_parts : (H : List ℕ → List ℕ) (ds xs : List (List ℕ)) (m k a : ℕ) → a + 2 ^ (k + m) ≤ length ds → length xs ≡ 2 ^ k
+pub roots_of_parts : (H : List ℕ → List ℕ) (ds xs : List (List ℕ)) (m k a : ℕ) → a + 2 ^ (k + m) ≤ length ds → length xs ≡ 2 ^ k
     → ((i : ℕ) → i < 2 ^ k → slice_index_or xs i [] ≡ root_over H ds (a + i * 2 ^ m) (2 ^ m)) → root_of H xs ≡ root_over H ds a (2 ^ (k + m))
 roots_of_parts H ds xs m zero a fits count each =
     let at : a + 0 * 2 ^ m ≡ a = omega arith in

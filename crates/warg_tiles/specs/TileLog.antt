@@ -24,9 +24,18 @@ last_tile n level = record { level = level; number = n / 2 ^ (8 * level) / 256; 
 abbrev pub partial_tiles : ℕ → List TileAt
 partial_tiles n = filter (λ t. nat_lt 0 t.width) (map (last_tile n) (range_with_len 0 8))
 
--- The full tiles that a length's last entry completes: at each level where the length's nodes fill the last tile.
+-- The full tiles that the last of so many nodes of a level completes: the level's last tile, where the nodes fill it, and
+-- then those that this tile's root completes on the levels above.
+unfoldable pub completed_from : ℕ → ℕ → ℕ → List TileAt
+completed_from zero level count = []
+completed_from (suc levels) level count =
+    if count % 256 == 0
+    then record { level = level; number = count / 256 - 1; width = 256 } ∷ completed_from levels (level + 1) (count / 256)
+    else []
+
+-- The full tiles that a length's last entry completes.
 abbrev pub completed_at : ℕ → List TileAt
-completed_at n = map (λ level. record { level = level; number = n / 2 ^ (8 * (level + 1)) - 1; width = 256 }) (filter (λ level. n % 2 ^ (8 * (level + 1)) == 0) (range_with_len 0 8))
+completed_at n = completed_from 8 0 n
 
 -- The full tiles that a length has and an older one hasn't, in the order in which the entries complete them.
 abbrev pub full_between : ℕ → ℕ → List TileAt

@@ -1,10 +1,11 @@
 //! A log that keeps its right edge alone.
 
-ghost use Rattle.std.specs.Prelude.{◌≡◌, ℕ, ◌+◌, ◌*◌, ◌^◌, ◌<◌, ◌≤◌, ◌↔◌, List, [], ◌∷◌, ◌++◌, Some, None, length, map, Err, IsTrue, IfOk, OnOk, OnErr};
+ghost use Rattle.std.specs.Prelude.{◌≡◌, ℕ, ◌+◌, ◌-◌, ◌*◌, ◌^◌, ◌<◌, ◌≤◌, ◌↔◌, List, [], ◌∷◌, ◌++◌, Some, None, length, map, take, Err, IsTrue, IfOk, OnOk, OnErr};
 ghost use Rattle.std.specs.List.{AllByRecursion};
 ghost use Rattle.warg_log.specs.Tree.{root_of, own_digest};
 ghost use Rattle.warg_tiles.specs.TileData.{IsTileBy};
-ghost use Rattle.warg_tiles.specs.TileLog.{StandsFor, AreTilesOf, partial_tiles, full_between, tiles_fault};
+ghost use Rattle.warg_tiles.specs.TileLog.{StandsFor, AreTilesOf, partial_tiles, full_between, completed_from, tiles_fault};
+ghost use Rattle.warg_tiles.specs.Private.Edges.{width_from, edge_from, EndsWith, AreAdded};
 
 use crate::error::OpenError;
 use crate::root::root_over;
@@ -234,12 +235,18 @@ fn fill<D: SupportedDigest, A: Allocator + Copy>(
     level: u32,
     count: usize,
     digest: Hash<D>,
-) -> Result<(usize, Hash<D>), AllocError> {
+) -> Result<(usize, Hash<D>), AllocError>
+    requires fits { (count + 1) * 2 ^ (8 * level) ≤ 2 ^ 63 }
+    requires width { length edge.now ≡ width_from level count }
+    ensures kept { IfOk result (λ r. (r.0 ≤ length edge.now) × (r.0 + 1 ≡ width_from level (count + 1))) }
+    ensures edge { IfOk result (λ r. (ds : List (List ℕ)) → EndsWith D.digest ds level count edge.now digest → take r.0 edge.now ++ r.1 ∷ [] ≡ edge_from D.digest ds level (count + 1)) }
+    ensures filled { OnOk result ((ds : List (List ℕ)) → EndsWith D.digest ds level count edge.now digest → AreAdded D.digest ds (completed_from (8 - level) level (count + 1)) (map (λ t. (t.tile, t.digests.items)) filled.old.items) (map (λ t. (t.tile, t.digests.items)) filled.new.items)) }
+{
     if count % 256 < 255 {
         return Ok((edge.len(), digest));
     }
-    let (above, digests) = edge.split_at(edge.len() - 255);
-    let mut digests = copies(alloc, digests)?;
+    let (above, partial) = edge.split_at(edge.len() - 255);
+    let mut digests = copies(alloc, partial)?;
     digests.push(digest)?;
     let root = root_over(digests.as_slice());
     filled.push(StoredTile::new(Tile::new(level, count / 256, 256), digests))?;
