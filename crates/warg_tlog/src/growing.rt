@@ -25,8 +25,8 @@ impl GrowingLog {
         text: &CheckpointText<Sha256>,
     ) -> Result<GrowingLog, Refusal> {
         let edge = right_edge(rt, folder, text)?;
-        let bundle = last_bundle(rt, folder, edge.as_slice())?;
         let log = open_log(rt, folder, text, edge.as_slice())?;
+        let bundle = last_bundle(rt, folder, edge.as_slice())?;
         Ok(GrowingLog { log, bundle })
     }
 
