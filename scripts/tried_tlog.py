@@ -108,6 +108,22 @@ def of_damage(program, room):
         yield f"an older checkpoint: {words}", status_of(program, words[0], str(log), *words[1:], input=MORE) == 9
 
 
+def of_leftovers(program, room):
+    """Yields what is tried of files that no checkpoint stands over: of older lengths, and of an append that was killed."""
+    log = room / "leftovers"
+    ran([program, "init", str(log), "example.com/log"])
+    ran([program, "append", str(log)], input=LINES)
+    (log / "unfinished").write_bytes(b"half a tile")
+    (log / "tile/0/002").write_bytes(b"of another try")
+    (log / "tile/entries/002").write_bytes(b"of another try")
+    yield "an append behind a killed one", ran([program, "append", str(log)], input=LINES) == (0, b"", b"")
+    for path in ("tile/0/002.p/88", "tile/entries/002.p/88", "tile/1/000.p/2"):
+        (log / path).unlink()
+    for words in (["audit"], ["checkpoint"], ["prove", "599", "600"], ["consistency", "600"], ["consistency", "1", "600"]):
+        status, out, err = ran([program, words[0], str(log), *words[1:]])
+        yield f"without partial tiles of an older length: {words}", status == 0 and out and not err
+
+
 def of_devices(program, room):
     """Yields what is tried of disks and streams that fail, little memory, and two appends at once."""
     log = room / "devices"
@@ -146,6 +162,6 @@ def of_tlog(program):
     """Yields what is tried of warg_tlog, and whether it came out."""
     with tempfile.TemporaryDirectory() as room:
         room = pathlib.Path(room)
-        for part in (of_commands, of_wrong_ones, of_damage, of_devices):
+        for part in (of_commands, of_wrong_ones, of_damage, of_leftovers, of_devices):
             for name, came in part(program, room):
                 yield f"warg_tlog, {name}", came
