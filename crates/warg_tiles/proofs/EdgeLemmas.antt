@@ -241,3 +241,8 @@ filled_count items edge digest long is = omega (arith, ap length is, length-appe
 -- a tile behind others by its parts
 pub pair_put : (old : Tiles) (a b : TileAt) (ds es : List (List ℕ)) → a ≡ b → ds ≡ es → old ++ (a, ds) ∷ [] ≡ old ++ (b, es) ∷ []
 pair_put old a b ds es p q = ap (λ u. old ++ (u, ds) ∷ []) p ∙ ap (λ d. old ++ (b, d) ∷ []) q
+
+-- no nodes
+pub width_none : edge_width 8 0 ≡ 0
+unfolding edge_width
+width_none = refl

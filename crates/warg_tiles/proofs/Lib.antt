@@ -9,3 +9,5 @@ mod OwnLemmas
 mod FetchLemmas
 mod TextLemmas
 mod EdgeLemmas
+mod PushLemmas
+mod ChunkLemmas

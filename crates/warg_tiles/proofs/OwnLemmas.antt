@@ -49,7 +49,7 @@ roots_of_parts H ds xs m (suc k) a fits count each =
     ∙ sym (root_twice H ds a (k + m) (omega (arith, size, pow-suc 2 (k + m)))) ∙ ap (λ n. root_over H ds a (2 ^ n)) (sym exponent)
 
 -- a log's own digest of a node is the root over its leaves, which are there
-own_is : (H : List ℕ → List ℕ) (ds : List (List ℕ)) (x : ℕ) (d : List ℕ) → own_digest H ds x ≡ Some d → (end_of x ≤ length ds) × (d ≡ root_over H ds (start_of x) (2 ^ height_of x))
+pub own_is : (H : List ℕ → List ℕ) (ds : List (List ℕ)) (x : ℕ) (d : List ℕ) → own_digest H ds x ≡ Some d → (end_of x ≤ length ds) × (d ≡ root_over H ds (start_of x) (2 ^ height_of x))
 own_is H ds x d is = elim (cases_lt (length ds) (end_of x)) [
   | inl beyond ↦ absurd (none_some (sym (ap (λ b. if b then Some (root_over H ds (start_of x) (2 ^ height_of x)) else None) (lt-leb (end_of x) (length ds) beyond)) ∙ is))
   | inr within ↦ (within, some_same (sym is ∙ ap (λ b. if b then Some (root_over H ds (start_of x) (2 ^ height_of x)) else None) (le-leb (end_of x) (length ds) within)))

@@ -2,10 +2,11 @@
 
 ghost use Rattle.std.specs.Prelude.{◌≡◌, ℕ, ◌+◌, ◌-◌, ◌*◌, ◌^◌, ◌<◌, ◌≤◌, ◌↔◌, List, [], ◌∷◌, ◌++◌, Some, None, length, map, take, Err, IsTrue, IfOk, OnOk, OnErr};
 ghost use Rattle.std.specs.List.{AllByRecursion};
+ghost use Rattle.std.specs.Option.{option_to_list};
 ghost use Rattle.warg_log.specs.Tree.{root_of, own_digest};
 ghost use Rattle.warg_tiles.specs.TileData.{IsTileBy};
 ghost use Rattle.warg_tiles.specs.TileLog.{StandsFor, AreTilesOf, partial_tiles, full_between, completed_from, tiles_fault};
-ghost use Rattle.warg_tiles.specs.Private.Edges.{width_from, edge_from, EndsWith, AreAdded};
+ghost use Rattle.warg_tiles.specs.Private.Edges.{width_from, edge_from, EndsWith, AreAdded, root_if};
 
 use crate::error::OpenError;
 use crate::root::root_over;
@@ -265,7 +266,9 @@ fn copies<D, A: Allocator>(alloc: A, digests: &[Hash<D>]) -> Result<Vec<Hash<D>,
 }
 
 // The root over digests and one more behind them, if there is one; none of no digest.
-fn root_with<D: SupportedDigest>(digests: &[Hash<D>], last: Option<Hash<D>>) -> Option<Hash<D>> {
+fn root_with<D: SupportedDigest>(digests: &[Hash<D>], last: Option<Hash<D>>) -> Option<Hash<D>>
+    ensures { result ≡ root_if D.digest (digests.now ++ option_to_list last) }
+{
     match last {
         Some(last) => Some(root_before(digests, last)),
         None => {
@@ -279,7 +282,9 @@ fn root_with<D: SupportedDigest>(digests: &[Hash<D>], last: Option<Hash<D>>) -> 
 }
 
 // The root over digests and one more behind them.
-fn root_before<D: SupportedDigest>(digests: &[Hash<D>], last: Hash<D>) -> Hash<D> {
+fn root_before<D: SupportedDigest>(digests: &[Hash<D>], last: Hash<D>) -> Hash<D>
+    ensures { result ≡ root_of D.digest (digests.now ++ last ∷ []) }
+{
     if digests.is_empty() {
         return last;
     }

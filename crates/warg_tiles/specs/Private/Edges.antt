@@ -1,5 +1,5 @@
 -- The right edge of a log, level by level.
-use Rattle.std.specs.Prelude.{◌≡◌, ℕ, zero, suc, ◌+◌, ◌-◌, ◌*◌, ◌/◌, ◌%◌, ◌^◌, List, [], ◌++◌, length}
+use Rattle.std.specs.Prelude.{◌≡◌, ℕ, zero, suc, ◌+◌, ◌-◌, ◌*◌, ◌/◌, ◌%◌, ◌^◌, List, [], ◌∷◌, ◌++◌, length, Option, Some, None}
 use Rattle.warg_log.specs.Nodes.{number_of}
 use Rattle.warg_log.specs.Tree.{root_of, leaves_below}
 use Rattle.warg_tiles.specs.Tiles.{TileAt}
@@ -35,3 +35,8 @@ pub record EndsWith (H : List ℕ → List ℕ) (ds : List (List ℕ)) (level co
 -- Behind old tiles were put these of a log of these leaf digests.
 abbrev pub AreAdded : (List ℕ → List ℕ) → List (List ℕ) → List TileAt → Tiles → Tiles → Type 0
 AreAdded H ds expected old new = (more : Tiles) × (new ≡ old ++ more) × AreTilesOf H ds expected more
+
+-- The root of digests, if there is one.
+abbrev pub root_if : (List ℕ → List ℕ) → List (List ℕ) → Option (List ℕ)
+root_if H [] = None
+root_if H (d ∷ ds) = Some (root_of H (d ∷ ds))
