@@ -1,5 +1,5 @@
 # Entry points; 'make' alone lists them. The first line of a target's comment is its help.
-.PHONY: help run verdict try test wrong-bodies bench ffi ffi-test install interop
+.PHONY: help run verdict tlog try test wrong-bodies bench ffi ffi-test install interop
 
 # Lists the targets.
 help:
@@ -22,6 +22,12 @@ verdict:
 	@cd crates/warg_verdict && rt run -- --version > /dev/null && cd ../.. && \
 	mkdir -p bin && cp crates/warg_verdict/out/warg_verdict bin/warg_verdict && \
 	echo "bin/warg_verdict judges a bundle's file; see bin/warg_verdict --help"
+
+# Proves and builds the program that keeps a log in a folder, as bin/warg_tlog.
+tlog:
+	@cd crates/warg_tlog && rt run -- --version > /dev/null && cd ../.. && \
+	mkdir -p bin && cp crates/warg_tlog/out/warg_tlog bin/warg_tlog && \
+	echo "bin/warg_tlog keeps a log in a folder; see bin/warg_tlog --help"
 
 # Runs the merge gate: each proof from nothing, the tests, the programs, the wrong bodies, the examples.
 test:
@@ -47,6 +53,6 @@ ffi-test: ffi
 install: ffi
 	@ffi/install.sh "$(or $(PREFIX),/usr/local)"
 
-# Compares paths with those of Go's checksum database; BENCH=1 prints times, too.
+# Compares paths, tiles and checkpoints with those of Go's checksum database; BENCH=1 prints times, too.
 interop:
 	@interop/run.sh

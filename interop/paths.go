@@ -1,45 +1,25 @@
-// paths compares the paths of warg_interop, and its verdicts on paths, with those of Go's checksum database.
-//
-// Usage: paths PROGRAM. With BENCH=1 in the environment it prints times too. docs/INTEROP.md says what is compared.
+// Paths, and the verdicts on paths.
 package main
 
 import (
-	"bytes"
-	"encoding/hex"
 	"fmt"
-	"math/rand"
-	"os"
-	"os/exec"
 	"sort"
-	"strconv"
-	"strings"
-	"time"
 
 	"golang.org/x/mod/sumdb/tlog"
 )
 
 const (
-	mostInFull  = 300     // Every index of every length up to this.
-	mostPairs   = 60      // Every pair of lengths up to this.
-	morePairs   = 1000    // Random pairs of lengths up to mostInFull.
-	randomLogs  = 200     // Random logs, each with random indices and old lengths.
-	most        = 1 << 20 // The greatest of these logs.
-	perLog      = 4       // So many indices and old lengths of each.
-	batch       = 20000   // So many calls go to one run of the program.
-	benchLength = 100000
-	benchLines  = 50000
-	benchTurns  = 7
+	mostInFull = 300     // Every index of every length up to this.
+	mostPairs  = 60      // Every pair of lengths up to this.
+	morePairs  = 1000    // Random pairs of lengths up to mostInFull.
+	randomLogs = 200     // Random logs, each with random indices and old lengths.
+	most       = 1 << 20 // The greatest of these logs.
+	perLog     = 4       // So many indices and old lengths of each.
 )
 
-func main() {
-	if len(os.Args) != 2 {
-		fmt.Fprintln(os.Stderr, "usage: paths PROGRAM")
-		os.Exit(2)
-	}
-	program = os.Args[1]
-	random = rand.New(rand.NewSource(1))
-	// One entry more, since a log one longer is tried too.
-	grow(most + 1)
+var roots, records, trees, accepted, refused int
+
+func comparePaths() {
 	for length := int64(1); length <= mostInFull; length++ {
 		wholeLog(length)
 	}
@@ -53,9 +33,6 @@ func main() {
 	send()
 	fmt.Printf("interop: %d roots, %d inclusion paths and %d consistency paths are the same; of %d verdicts, %d true and %d false, all agree\n",
 		roots, records, trees, accepted+refused, accepted, refused)
-	if os.Getenv("BENCH") == "1" {
-		bench()
-	}
 }
 
 // Compares the log of one length with every index, and, where it is short, every old length.
@@ -89,43 +66,6 @@ func randomOnes() {
 		}
 	}
 }
-
-// The log of Go's side.
-
-var hashes []tlog.Hash
-
-var stored = tlog.HashReaderFunc(func(places []int64) ([]tlog.Hash, error) {
-	found := make([]tlog.Hash, len(places))
-	for i, place := range places {
-		found[i] = hashes[place]
-	}
-	return found, nil
-})
-
-func grow(length int64) {
-	for i := int64(0); i < length; i++ {
-		more, err := tlog.StoredHashes(i, []byte(value(i)), stored)
-		stop(err)
-		hashes = append(hashes, more...)
-	}
-}
-
-func value(index int64) string { return strconv.FormatInt(index, 10) }
-
-func rootOf(length int64) tlog.Hash {
-	root, err := tlog.TreeHash(length, stored)
-	stop(err)
-	return root
-}
-
-// What is compared.
-
-var (
-	program                                  string
-	random                                   *rand.Rand
-	roots, records, trees, accepted, refused int
-	flips                                    int
-)
 
 // Compares the roots of one length. The lengths ascend.
 func root(length int64) {
@@ -191,240 +131,3 @@ func tree(old, new int64) {
 	check(old, oldRoot, new, flipped(newRoot), path)
 	check(new, newRoot, old, oldRoot, path)
 }
-
-// The paths that differ a little from one: a bit flipped in each digest, neighbours swapped, one digest more, one less.
-func wrongPaths(path []tlog.Hash) [][]tlog.Hash {
-	var wrong [][]tlog.Hash
-	for i := range path {
-		other := copied(path)
-		other[i] = flipped(other[i])
-		wrong = append(wrong, other)
-	}
-	for i := 1; i < len(path); i++ {
-		other := copied(path)
-		other[i-1], other[i] = other[i], other[i-1]
-		wrong = append(wrong, other)
-	}
-	more := tlog.RecordHash([]byte("more"))
-	wrong = append(wrong, append(copied(path), more), append([]tlog.Hash{more}, path...))
-	if len(path) > 0 {
-		wrong = append(wrong, copied(path)[1:], copied(path)[:len(path)-1])
-	}
-	return wrong
-}
-
-func copied(path []tlog.Hash) []tlog.Hash { return append([]tlog.Hash{}, path...) }
-
-// The hash with one bit flipped: each time the next bit, of 256.
-func flipped(hash tlog.Hash) tlog.Hash {
-	hash[flips/8%32] ^= 1 << (flips % 8)
-	flips++
-	return hash
-}
-
-// Calls of the program. They are gathered, and go to it together.
-
-type call struct {
-	line, wanted string
-	judge        func(answer string) error
-}
-
-var (
-	calls  []call
-	pushed int64
-)
-
-// Gathers a call with the answer that is wanted, unless something is wrong already.
-func ask(line, wanted string, err error) {
-	stop(err)
-	calls = append(calls, call{line, wanted, nil})
-}
-
-// Gathers a call for a path, which is the one that is wanted, and is accepted as our side spells it.
-func askPath(line string, path []tlog.Hash, check func([]tlog.Hash) error) {
-	calls = append(calls, call{line, list(path), func(answer string) error {
-		ours, err := read(answer)
-		if err != nil {
-			return err
-		}
-		return check(ours)
-	}})
-}
-
-// Gathers a call for a verdict, which is to be that of Go's side.
-func askVerdict(line string, err error) {
-	if err == nil {
-		accepted++
-	} else {
-		refused++
-	}
-	calls = append(calls, call{line, strconv.FormatBool(err == nil), nil})
-}
-
-// Sends what was gathered to a new run of the program, and compares its answers. The log of the next run is pushed anew.
-func send() {
-	lines := make([]string, len(calls))
-	for i, call := range calls {
-		lines[i] = call.line
-	}
-	answers := run(lines)
-	for i, call := range calls {
-		if answers[i] != call.wanted {
-			differ(call.line, answers[i], call.wanted)
-		}
-		if call.judge == nil {
-			continue
-		}
-		if err := call.judge(answers[i]); err != nil {
-			differ(call.line, answers[i], err.Error())
-		}
-	}
-	calls, pushed = nil, 0
-}
-
-// Runs the program on lines, and returns its answers. Both pipes are served at once, so neither side waits for ever.
-func run(lines []string) []string {
-	command := exec.Command(program)
-	command.Stdin = strings.NewReader(strings.Join(lines, "\n") + "\n")
-	command.Stderr = os.Stderr
-	output, err := command.Output()
-	stop(err)
-	answers := strings.Split(strings.TrimSuffix(string(output), "\n"), "\n")
-	if len(answers) != len(lines) {
-		stop(fmt.Errorf("%d answers to %d calls", len(answers), len(lines)))
-	}
-	return answers
-}
-
-func differ(line, ours, theirs string) {
-	fmt.Printf("interop: they differ at: %s\nours:   %s\ntlog's: %s\n", line, ours, theirs)
-	os.Exit(1)
-}
-
-func stop(err error) {
-	if err != nil {
-		fmt.Printf("interop: %v\n", err)
-		os.Exit(1)
-	}
-}
-
-// Whether a call of Go's side was refused, as it is to be.
-func errs[T any](_ T, err error) error {
-	if err == nil {
-		return fmt.Errorf("tlog gives a path of no place")
-	}
-	return nil
-}
-
-// Hashes as text.
-
-func digits(hash tlog.Hash) string { return hex.EncodeToString(hash[:]) }
-
-func list(path []tlog.Hash) string {
-	if len(path) == 0 {
-		return "[]"
-	}
-	var text bytes.Buffer
-	for i, hash := range path {
-		if i > 0 {
-			text.WriteByte(',')
-		}
-		text.WriteString(digits(hash))
-	}
-	return text.String()
-}
-
-func read(text string) ([]tlog.Hash, error) {
-	if text == "[]" {
-		return nil, nil
-	}
-	var path []tlog.Hash
-	for _, word := range strings.Split(text, ",") {
-		bytes, err := hex.DecodeString(word)
-		if err != nil || len(bytes) != tlog.HashSize {
-			return nil, fmt.Errorf("no hash: %s", word)
-		}
-		var hash tlog.Hash
-		copy(hash[:], bytes)
-		path = append(path, hash)
-	}
-	return path, nil
-}
-
-// Times. Ours are those of many lines, less those of as many lines of the same length that are refused by their
-// lengths alone, before anything is hashed but the leaf.
-
-type row struct {
-	name           string
-	right, refused string
-	theirs         func()
-}
-
-func bench() {
-	const length, index, old = benchLength, 12345, 65535
-	path, err := tlog.ProveRecord(length, index, stored)
-	stop(err)
-	growth, err := tlog.ProveTree(length, old, stored)
-	stop(err)
-	top, oldRoot := rootOf(length), rootOf(old)
-	leaf := tlog.RecordHash([]byte(value(index)))
-	pair := tlog.NodeHash(leaf, top)
-	one := []tlog.Hash{top}
-	rows := []row{
-		{
-			fmt.Sprintf("CheckRecord, %d digests", len(path)),
-			fmt.Sprintf("check_record %d %d %d %s %s", index, index, length, digits(top), list(path)),
-			fmt.Sprintf("check_record %d %d %d %s %s", length, index, index, digits(top), list(path)),
-			func() { stop(tlog.CheckRecord(path, length, top, index, leaf)) },
-		},
-		{
-			fmt.Sprintf("CheckTree, %d digests", len(growth)),
-			fmt.Sprintf("check_tree %d %s %d %s %s", old, digits(oldRoot), length, digits(top), list(growth)),
-			fmt.Sprintf("check_tree %d %s %d %s %s", length, digits(oldRoot), old, digits(top), list(growth)),
-			func() { stop(tlog.CheckTree(growth, length, top, old, oldRoot)) },
-		},
-		{
-			"one branch hash",
-			fmt.Sprintf("check_record 0 %d 2 %s %s", index, digits(pair), list(one)),
-			fmt.Sprintf("check_record 2 %d 0 %s %s", index, digits(pair), list(one)),
-			func() { tlog.NodeHash(leaf, top) },
-		},
-	}
-	for _, row := range rows {
-		right, refused, theirs := time.Hour, time.Hour, time.Hour
-		for i := 0; i < benchTurns; i++ {
-			right = least(right, func() { same(row.right, "true") })
-			theirs = least(theirs, func() {
-				for i := 0; i < benchLines; i++ {
-					row.theirs()
-				}
-			})
-			refused = least(refused, func() { same(row.refused, "false") })
-		}
-		fmt.Printf("%s: ours %.2f µs, tlog's %.2f µs\n", row.name, each(right-refused), each(theirs))
-	}
-}
-
-// Sends one line many times.
-func same(line, wanted string) {
-	lines := make([]string, benchLines)
-	for i := range lines {
-		lines[i] = line
-	}
-	for _, answer := range run(lines) {
-		if answer != wanted {
-			differ(line, answer, wanted)
-		}
-	}
-}
-
-func least(before time.Duration, work func()) time.Duration {
-	began := time.Now()
-	work()
-	if taken := time.Since(began); taken < before {
-		return taken
-	}
-	return before
-}
-
-func each(all time.Duration) float64 { return float64(all.Nanoseconds()) / benchLines / 1000 }

@@ -1,9 +1,10 @@
 #!/usr/bin/env bash
-# Compares the paths of warg_interop with those of Go's checksum database: of the given program, or of one that it
-# proves and builds. Where Go or its library isn't there it says so, and that is no failure. It installs and fetches
-# nothing, and what it makes of Go's goes into a temporary folder.
+# Compares paths, tiles and checkpoint texts with those of Go's checksum database: of the given programs, warg_interop and
+# warg_tlog, or of those that it proves and builds. Where Go or its library isn't there it says so, and that is no failure.
+# It installs and fetches nothing, and what it makes of Go's goes into a temporary folder.
 set -eu
-program="$(realpath "${1:-/dev/null}")"
+programs=("$@")
+for i in "${!programs[@]}"; do programs[i]="$(realpath "${programs[i]}")"; done
 cd "$(dirname "$0")/.."
 not_run() { echo "interop: not run, $1 is missing"; exit 0; }
 command -v go > /dev/null || not_run go
@@ -14,10 +15,12 @@ trap 'rm -rf "$work"' EXIT
 settings=(GO111MODULE=off GOPATH=/usr/share/gocode GOFLAGS= GOENV=off GOPROXY=off GOTOOLCHAIN=local)
 settings+=(GOCACHE="$work/cache" GOTMPDIR="$work" XDG_CONFIG_HOME="$work")
 env "${settings[@]}" go list golang.org/x/mod/sumdb/tlog > /dev/null 2>&1 || not_run golang-golang-x-mod-dev
-env "${settings[@]}" go build -o "$work/paths" interop/paths.go
+env "${settings[@]}" go build -o "$work/interop" interop/*.go
 
+built() { (cd "crates/$1" && rt run "${@:2}") > "$work/run.log" 2>&1 || { tail -20 "$work/run.log"; exit 1; }; }
 if [ $# = 0 ]; then
-    (cd crates/warg_interop && rt run < stdin) > "$work/run.log" 2>&1 || { tail -20 "$work/run.log"; exit 1; }
-    program=crates/warg_interop/out/warg_interop
+    built warg_interop < crates/warg_interop/stdin
+    built warg_tlog -- --version < /dev/null
+    programs=(crates/warg_interop/out/warg_interop crates/warg_tlog/out/warg_tlog)
 fi
-"$work/paths" "$program"
+"$work/interop" "${programs[@]}"

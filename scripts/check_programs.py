@@ -1,29 +1,19 @@
 #!/usr/bin/env python3
 """Runs the programs as their users do, with right and wrong arguments and on devices that fail, and compares statuses.
 
-Usage: check_programs.py WARG_CHECK WARG_VERDICT, with the built programs.
+Usage: check_programs.py WARG_CHECK WARG_VERDICT WARG_TLOG, with the built programs.
 """
 
 import pathlib
-import resource
-import subprocess
 import sys
 import tempfile
+
+import tried_tlog
+from running import little_memory, ran
 
 ROOT = pathlib.Path(__file__).resolve().parent.parent
 COMMANDS = b"push 6f6e65\npush 74776f\nlog\n"
 ANSWERS = b"node 0\nnode 2\nlog 2 4f55f619d9215235778b2b9f17d6f4915b16171214d152381293669764de722e\n"
-
-
-def little_memory():
-    resource.setrlimit(resource.RLIMIT_AS, (1 << 28, 1 << 28))
-
-
-def ran(words, **how):
-    """Returns the status, the output and the errors of a run."""
-    how = {"input": b"", "stdout": subprocess.PIPE, "stderr": subprocess.PIPE, "timeout": 100, **how}
-    done = subprocess.run(words, **how)
-    return done.returncode, done.stdout or b"", done.stderr
 
 
 def of_check(program):
@@ -72,7 +62,7 @@ def of_verdict(program):
 
 
 def main():
-    tried = [*of_check(sys.argv[1]), *of_verdict(sys.argv[2])]
+    tried = [*of_check(sys.argv[1]), *of_verdict(sys.argv[2]), *tried_tlog.of_tlog(sys.argv[3])]
     failed = [name for name, came in tried if not came]
     for name in failed:
         print(f"not as it should be: {name}")

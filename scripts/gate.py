@@ -24,7 +24,8 @@ ROOT = pathlib.Path(__file__).resolve().parent.parent
 BEFORE = (["foreign_proofs.py"], ["definitions.py", "--check"], ["calls.py", "--check"], ["check_docs.py"], ["check_header.py"])
 # What runs the programs that the kit's gate has just built.
 BEHIND = (
-    ["check_programs.py", "crates/warg_check_cli/out/warg_check_cli", "crates/warg_verdict/out/warg_verdict"],
+    ["check_programs.py", *(f"crates/{name}/out/{name}" for name in ("warg_check_cli", "warg_verdict", "warg_tlog"))],
+    ["tlog_kills.py", "crates/warg_tlog/out/warg_tlog", "20"],
     ["check_protobuf.py", "crates/warg_vectors/out/warg_vectors"],
 )
 TICKS = os.sysconf("SC_CLK_TCK")
@@ -163,11 +164,11 @@ def install_peers():
 
 
 def compare_with_go(tree):
-    """Runs the comparison over the program that the kit's gate has just proved and built.
+    """Runs the comparison over the programs that the kit's gate has just proved and built.
 
     Returns how many steps passed and failed, and its processor seconds.
     """
-    lines, well, seconds = ran(["interop/run.sh", "crates/warg_interop/out/warg_interop"], tree)
+    lines, well, seconds = ran(["interop/run.sh", "crates/warg_interop/out/warg_interop", "crates/warg_tlog/out/warg_tlog"], tree)
     if well and any(line.startswith("interop: not run") for line in lines):
         return 0, 0, seconds
     return int(well), int(not well), seconds

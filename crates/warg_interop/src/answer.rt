@@ -4,6 +4,7 @@ use std::fmt;
 use warg_crypto::{Hash, Sha256};
 use warg_log::Checkpoint;
 use warg_paths::PathError;
+use warg_tiles::{CheckpointTextError, Tile};
 
 /// The hashes of a path, from the bottom up.
 pub(crate) type Path = Vec<Hash<Sha256>>;
@@ -15,7 +16,21 @@ pub(crate) enum Answer {
     Path(Path),
     Refused(PathError),
     Verdict(bool),
+    Tile(Tile),
+    Bundle(Tile),
+    BadPath,
+    Checkpoint(Said),
+    BadCheckpoint(CheckpointTextError),
     BadCall,
+}
+
+/// What a checkpoint text says, bytes as hexadecimal digits: with its first further line, and what is behind it.
+#[derive(Drop)]
+pub(crate) struct Said {
+    pub(crate) origin: String,
+    pub(crate) checkpoint: Checkpoint<Sha256>,
+    pub(crate) extension: String,
+    pub(crate) behind: String,
 }
 
 impl fmt::Display for Answer {
@@ -25,8 +40,46 @@ impl fmt::Display for Answer {
             Answer::Path(path) => write_path(path.as_slice(), f),
             Answer::Refused(error) => write!(f, "refused {error:?}"),
             Answer::Verdict(verdict) => write!(f, "{verdict}"),
+            Answer::Tile(tile) => {
+                let level = tile.level();
+                write!(f, "{level}:")?;
+                write_place(tile, f)
+            }
+            Answer::Bundle(tile) => {
+                write!(f, "entries:")?;
+                write_place(tile, f)
+            }
+            Answer::BadPath => write!(f, "refused BadPath"),
+            Answer::Checkpoint(said) => write_said(said, f),
+            Answer::BadCheckpoint(error) => write!(f, "refused {error:?}"),
             Answer::BadCall => write!(f, "bad call"),
         }
+    }
+}
+
+// Writes a tile's number and width.
+fn write_place<W: fmt::Write>(tile: &Tile, f: &mut fmt::Formatter<W>) -> fmt::Result {
+    let number = tile.number();
+    let width = tile.width();
+    write!(f, "{number}:{width}")
+}
+
+fn write_said<W: fmt::Write>(said: &Said, f: &mut fmt::Formatter<W>) -> fmt::Result {
+    let length = said.checkpoint.length();
+    let root = said.checkpoint.root();
+    write_digits(&said.origin, f)?;
+    write!(f, " {length} {root} ")?;
+    write_digits(&said.extension, f)?;
+    write!(f, " ")?;
+    write_digits(&said.behind, f)
+}
+
+// Writes digits, or `-` for none.
+fn write_digits<W: fmt::Write>(digits: &String, f: &mut fmt::Formatter<W>) -> fmt::Result {
+    if digits.is_empty() {
+        write!(f, "-")
+    } else {
+        write!(f, "{digits}")
     }
 }
 

@@ -3,6 +3,7 @@
 ghost use Rattle.std.specs.Prelude.{◌≤◌, ◌^◌};
 
 use crate::answer::Path;
+use hex::FromHexError;
 use std::alloc::{AllocError, AllocFailed, Global};
 use thiserror::Error;
 use warg_crypto::{Hash, Sha256};
@@ -31,6 +32,8 @@ pub(crate) enum Call<'a> {
         new: Checkpoint<Sha256>,
         path: Path,
     },
+    TilePath(Vec<u8>),
+    CheckpointText(Vec<u8>),
 }
 
 /// Why a line gives no call.
@@ -88,6 +91,8 @@ impl<'a> Call<'a> {
                 new: checkpoint(new, new_root)?,
                 path: read_path(alloc, path)?,
             }),
+            ["tile_path", digits] => Ok(Call::TilePath(bytes(alloc, digits)?)),
+            ["checkpoint_text", digits] => Ok(Call::CheckpointText(bytes(alloc, digits)?)),
             _ => Err(CallError::BadCall),
         }
     }
@@ -100,6 +105,18 @@ impl Length {
             return Err(CallError::BadCall);
         }
         Ok(Length { value })
+    }
+}
+
+// The bytes of hexadecimal digits, none for `-`.
+fn bytes(alloc: Global, word: &str) -> Result<Vec<u8>, CallError> {
+    if word == "-" {
+        return Ok(Vec::new(alloc));
+    }
+    match hex::decode(alloc, word) {
+        Ok(bytes) => Ok(bytes),
+        Err(FromHexError::OutOfMemory) => Err(CallError::Memory),
+        Err(_) => Err(CallError::BadCall),
     }
 }
 

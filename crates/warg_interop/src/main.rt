@@ -9,16 +9,20 @@
 //! | `tree OLD NEW` | the consistency path, or `refused` and the name of the error |
 //! | `check_record INDEX VALUE LENGTH ROOT PATH` | `true` or `false` |
 //! | `check_tree OLD OLD_ROOT NEW NEW_ROOT PATH` | `true` or `false` |
+//! | `tile_path BYTES` | `LEVEL:NUMBER:WIDTH` of the tile with this path, `entries:NUMBER:WIDTH` of the bundle, or `refused BadPath` |
+//! | `checkpoint_text BYTES` | origin, length, root, the first further line and what is behind the text, or `refused` and the fault |
 //!
 //! A root is 64 hexadecimal digits, and a path such roots that are parted by commas, `[]` for none. A value is a text
-//! without spaces. A line that is none of these, or has a length above 2^63, is answered `bad call`.
+//! without spaces, BYTES hexadecimal digits or `-` for none. A line that is none of these, or has a length above 2^63, is answered `bad call`.
 #![tactic(auto)]
 
 mod answer;
 mod call;
+mod read;
 
 use crate::answer::Answer;
 use crate::call::{Call, CallError, Length};
+use crate::read::{checkpoint_text, tile_path};
 use anyhow::{Error, Result, bail};
 use std::alloc::Global;
 use std::io;
@@ -64,6 +68,8 @@ fn answer_call(alloc: Global, log: &mut Log, call: &Call<'_>) -> Result<Answer> 
         Call::CheckTree { old, new, path } => {
             Ok(Answer::Verdict(check_tree(old, new, path.as_slice())))
         }
+        Call::TilePath(bytes) => Ok(tile_path(bytes.as_slice())),
+        Call::CheckpointText(bytes) => Ok(checkpoint_text(alloc, bytes.as_slice())?),
     }
 }
 

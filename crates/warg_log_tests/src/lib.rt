@@ -16,3 +16,4 @@ mod log;
 mod messages;
 #[cfg(test)]
 mod serve;
+mod tiles;

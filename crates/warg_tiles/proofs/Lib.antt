@@ -7,3 +7,7 @@ mod RootLemmas
 mod DataLemmas
 mod OwnLemmas
 mod FetchLemmas
+mod TextLemmas
+mod EdgeLemmas
+mod PushLemmas
+mod ChunkLemmas

@@ -27,7 +27,7 @@ root_twice H ds a e fits =
     ∙ ap (λ n. branch H (root_over H ds a (2 ^ e)) (root_over H ds (a + 2 ^ e) n)) rest
 
 -- the root over the roots of parts of one size is the root over all
-roots_of_parts : (H : List ℕ → List ℕ) (ds xs : List (List ℕ)) (m k a : ℕ) → a + 2 ^ (k + m) ≤ length ds → length xs ≡ 2 ^ k
+pub roots_of_parts : (H : List ℕ → List ℕ) (ds xs : List (List ℕ)) (m k a : ℕ) → a + 2 ^ (k + m) ≤ length ds → length xs ≡ 2 ^ k
     → ((i : ℕ) → i < 2 ^ k → slice_index_or xs i [] ≡ root_over H ds (a + i * 2 ^ m) (2 ^ m)) → root_of H xs ≡ root_over H ds a (2 ^ (k + m))
 roots_of_parts H ds xs m zero a fits count each =
     let at : a + 0 * 2 ^ m ≡ a = omega arith in
@@ -50,7 +50,7 @@ roots_of_parts H ds xs m (suc k) a fits count each =
     ∙ sym (root_twice H ds a (k + m) (omega (arith, size, pow-suc 2 (k + m)))) ∙ ap (λ n. root_over H ds a (2 ^ n)) (sym exponent)
 
 -- a log's own digest of a node is the root over its leaves, which are there
-own_is : (H : List ℕ → List ℕ) (ds : List (List ℕ)) (x : ℕ) (d : List ℕ) → own_digest H ds x ≡ Some d → (end_of x ≤ length ds) × (d ≡ root_over H ds (start_of x) (2 ^ height_of x))
+pub own_is : (H : List ℕ → List ℕ) (ds : List (List ℕ)) (x : ℕ) (d : List ℕ) → own_digest H ds x ≡ Some d → (end_of x ≤ length ds) × (d ≡ root_over H ds (start_of x) (2 ^ height_of x))
 own_is H ds x d is = elim (cases_lt (length ds) (end_of x)) [
   | inl beyond ↦ absurd (none_some (sym (ap (λ b. if b then Some (root_over H ds (start_of x) (2 ^ height_of x)) else None) (lt-leb (end_of x) (length ds) beyond)) ∙ is))
   | inr within ↦ (within, some_same (sym is ∙ ap (λ b. if b then Some (root_over H ds (start_of x) (2 ^ height_of x)) else None) (le-leb (end_of x) (length ds) within)))

@@ -5,3 +5,6 @@ pub mod Between
 pub mod TileData
 pub mod Fetching
 pub mod Private
+pub mod CheckpointText
+pub mod CheckpointFaults
+pub mod TileLog

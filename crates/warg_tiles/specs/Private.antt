@@ -1,1 +1,3 @@
 pub mod PathDigits
+pub mod Edges
+pub mod Texts

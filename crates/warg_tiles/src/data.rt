@@ -2,10 +2,10 @@
 
 ghost use Rattle.std.specs.Prelude.{◌≡◌, ℕ, ◌^◌, ◌<◌, ◌≤◌, ◌↔◌, List, [], ◌∷◌, ◌++◌, length, map, Err, Option, IfOk, OnOk, OnErr};
 ghost use Rattle.warg_tiles.specs.Tiles.{tile_end};
-ghost use Rattle.warg_tiles.specs.TileData.{IsTileBy, LacksOf, digest_of, digest_by};
+ghost use Rattle.warg_tiles.specs.TileData.{IsTileBy, LacksOf, digest_by};
 
 use crate::error::TileError;
-use crate::root::root_over;
+use crate::stored::StoredTile;
 use crate::tile::Tile;
 use std::alloc::{AllocError, Allocator, Global};
 use std::marker::{Model, PhantomData};
@@ -38,36 +38,13 @@ pub fn tile_hashes<D: SupportedDigest, V: VisitBytes, L: LogData<D, V>, A: Alloc
     Ok(digests)
 }
 
-// A tile with its digests.
-#[derive(Drop)]
-struct Held<D, A: Allocator> {
-    tile: Tile,
-    digests: Vec<Hash<D>, A>,
-    ghost count: { length digests.items ≡ tile.width },
-}
-
-impl<D: SupportedDigest, A: Allocator> Held<D, A> {
-    // The digest of a node by the tile, where it has all digests of its level below the node.
-    fn digest_of(&self, node: Node) -> Option<Hash<D>>
-        ensures { result ≡ digest_of D.digest (self.now.tile, self.now.digests.items) node.0 }
-    {
-        let least = Tile::over(node);
-        if !self.tile.covers(&least) {
-            return None;
-        }
-        let end = least.width();
-        let start = end - (1 << (node.height() % 8));
-        Some(root_over(&self.digests.as_slice()[start..end]))
-    }
-}
-
 /// The digests of tiles that were fetched, as data of proofs: the digest of a node is the root over those of the first tile
 /// that has all digests of the node's level below it. So each proof and each path of a log is made out of its tiles.
 ///
 /// A search goes through the tiles, of which a proof needs a few.
 #[derive(Drop)]
 pub struct TileData<D: SupportedDigest, V: VisitBytes, A: Allocator = Global> {
-    tiles: Vec<Held<D, A>, A>,
+    tiles: Vec<StoredTile<D, A>, A>,
     of: PhantomData<V>,
 }
 
@@ -98,7 +75,7 @@ impl<D: SupportedDigest, V: VisitBytes, A: Allocator> TileData<D, V, A> {
         ensures ok { OnOk result (self.new ≡ self.old ++ (tile, digests.items) ∷ []) }
         ensures err { OnErr result (self.new ≡ self.old) }
     {
-        self.tiles.push(Held { tile, digests })?;
+        self.tiles.push(StoredTile { tile, digests })?;
         Ok(())
     }
 }
@@ -116,7 +93,10 @@ impl<D: SupportedDigest, V: VisitBytes, A: Allocator> LogData<D, V> for TileData
 }
 
 // The digest of a node by the first of the tiles that gives one.
-fn digest_in<D: SupportedDigest, A: Allocator>(tiles: &[Held<D, A>], node: Node) -> Option<Hash<D>>
+fn digest_in<D: SupportedDigest, A: Allocator>(
+    tiles: &[StoredTile<D, A>],
+    node: Node,
+) -> Option<Hash<D>>
     ensures { result ≡ digest_by D.digest (map (λ h. (h.tile, h.digests.items)) tiles.now) node.0 }
 {
     'tiles: for held in tiles {

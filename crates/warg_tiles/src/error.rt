@@ -59,3 +59,70 @@ impl<T: Drop> From<AllocFailed<T>> for TileError {
         TileError::Memory
     }
 }
+
+/// Why bytes are no checkpoint text, or what was to be said can't be said in one.
+#[derive(Debug, PartialEq, Eq, Drop, Error)]
+pub enum CheckpointTextError {
+    /// The first line isn't an origin: it is empty, or has no newline behind it.
+    #[error("origin is not a line")]
+    Origin,
+    /// The second line isn't a length in decimal up to 2^63.
+    #[error("length is not a decimal number up to 2^63")]
+    Length,
+    /// The third line isn't the base64 of 32 bytes.
+    #[error("root is not the base64 of 32 bytes")]
+    Root,
+    /// A further line is empty, has a newline in it, or none behind it.
+    #[error("extension is not a line")]
+    Extension,
+    /// Memory was refused.
+    #[error("out of memory")]
+    Memory,
+}
+
+impl From<AllocError> for CheckpointTextError {
+    ghost use Rattle.warg_tiles.specs.declared.error.CheckpointTextError.TheVariants.{Memory};
+
+    ghost from_gives = { λ _ error. error ≡ Memory };
+
+    fn from(_error: AllocError) -> Self {
+        CheckpointTextError::Memory
+    }
+}
+
+impl<T: Drop> From<AllocFailed<T>> for CheckpointTextError {
+    ghost use Rattle.warg_tiles.specs.declared.error.CheckpointTextError.TheVariants.{Memory};
+
+    ghost from_gives = { λ _ error. error ≡ Memory };
+
+    fn from(_error: AllocFailed<T>) -> Self {
+        CheckpointTextError::Memory
+    }
+}
+
+/// Why tiles are not the partial tiles of a length, from which a log goes on.
+#[derive(Debug, PartialEq, Eq, Drop, Error)]
+pub enum OpenError {
+    /// There are more or fewer tiles.
+    #[error("not as many tiles as the length has partial ones")]
+    Count,
+    /// A tile has another level or another number.
+    #[error("tile of another place")]
+    Place,
+    /// A tile has another width.
+    #[error("tile of another width")]
+    Width,
+    /// Memory was refused.
+    #[error("out of memory")]
+    Memory,
+}
+
+impl From<AllocError> for OpenError {
+    ghost use Rattle.warg_tiles.specs.declared.error.OpenError.TheVariants.{Memory};
+
+    ghost from_gives = { λ _ error. error ≡ Memory };
+
+    fn from(_error: AllocError) -> Self {
+        OpenError::Memory
+    }
+}

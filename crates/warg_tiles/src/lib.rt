@@ -5,6 +5,7 @@
 #![tactic(auto)]
 
 mod between;
+mod checkpoint_text;
 mod data;
 mod decimal;
 mod entries;
@@ -13,12 +14,17 @@ mod fetch;
 pub mod laws;
 mod path;
 mod root;
+mod stored;
 mod tile;
+mod tile_log;
 
 pub use between::tiles_between;
+pub use checkpoint_text::CheckpointText;
 pub use data::{TileData, tile_hashes};
 pub use entries::{read_entries, write_entries};
-pub use error::{EntriesError, TileError};
+pub use error::{CheckpointTextError, EntriesError, OpenError, TileError};
 pub use fetch::{tiles_for_consistency, tiles_for_inclusion};
 pub use path::BadPath;
+pub use stored::StoredTile;
 pub use tile::Tile;
+pub use tile_log::TileLog;

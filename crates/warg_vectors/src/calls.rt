@@ -1,6 +1,7 @@
 //! The calls, by their names.
 
 mod bundles;
+mod checkpoint_texts;
 mod checks;
 mod data;
 mod digests;
@@ -48,6 +49,8 @@ pub(crate) fn answer(words: &mut Words<'_>, to: &mut Answer) -> Result<(), Fault
         "check_tree" => each::answer::<paths::CheckTree>(words, to),
         "check_update" => each::answer::<updates::CheckUpdate>(words, to),
         "check_insertion" => each::answer::<updates::CheckInsertion>(words, to),
+        "checkpoint_text" => each::answer::<checkpoint_texts::WriteText>(words, to),
+        "read_checkpoint_text" => each::answer::<checkpoint_texts::ReadText>(words, to),
         _ if nodes::has_call(name) => nodes::answer(name, words, to),
         _ if tiles::has_call(name) => tiles::answer(name, words, to),
         _ => by_digest(name, words, to),

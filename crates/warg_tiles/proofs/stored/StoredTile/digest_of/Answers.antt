@@ -1,6 +1,6 @@
 use Rattle.std.proofs.Common.{sym, ◌∙◌}
 use Rattle.warg_tiles.proofs.DataLemmas.{held_digest}
-use Rattle.warg_tiles.proofs.data.Held.digest_of.Goals as goal
+use Rattle.warg_tiles.proofs.stored.StoredTile.digest_of.Goals as goal
 
 pub returns : goal.returns
 returns g c =

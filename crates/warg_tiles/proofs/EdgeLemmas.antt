@@ -1,0 +1,248 @@
+-- The right edge of a log, level by level.
+use Rattle.std.proofs.Common.{◌≡◌, ℕ, zero, suc, ◌+◌, ◌-◌, ◌*◌, ◌/◌, ◌%◌, ◌^◌, ◌<◌, ◌≤◌, ◌==◌, nat_le, true, false, if◌then◌else◌, List, [], ◌∷◌, ◌++◌, length, take, drop, map, slice_index_or, Option, Some, None, Result, Ok, Err, refl, sym, ap, subst, ◌∙◌, arith}
+use Rattle.std.specs.Prelude.{IfOk, OnOk}
+use Rattle.std.specs.List.{AllByRecursion, flat_map, range_with_len}
+use Rattle.std.proofs.Math.Nat.{div-div-eq-div-mul}
+use Rattle.std.proofs.Math.Seq.{take-append_seam, drop-append_seam}
+use Rattle.std.proofs.lemmas.Nat.{pow_pos, pow-add}
+use Rattle.std.proofs.lemmas.Bool.{le-leb, ne_eqb, eq-eqb}
+use Rattle.std.proofs.lemmas.List.{append_assoc, append-nil, length-append, take-append-le, drop-append-le, take-append-drop, length-drop}
+use Rattle.std.proofs.lemmas.List.FromFn.{length-map-range_with_len, get_or-map-range_with_len, map-range_with_len_more}
+use Rattle.warg_log.specs.Nodes.{height_of, place_of, start_of, end_of, number_of}
+use Rattle.warg_log.specs.Tree.{root_of, root_over, leaves_below, own_digest}
+use Rattle.warg_log.proofs.ForCallers.{over_at, root_over_one, pow_below_pow}
+use Rattle.warg_tiles.specs.Tiles.{TileAt, node_in}
+use Rattle.warg_tiles.specs.TileData.{Tiles, IsTileBy}
+use Rattle.warg_tiles.specs.TileLog.{last_tile, completed_from, tile_digests, edge_digests, AreTilesOf}
+use Rattle.warg_tiles.specs.Private.Edges.{edge_width, width_from, edge_within, edge_from, EndsWith, AreAdded}
+use Rattle.warg_tiles.proofs.OwnLemmas.{roots_of_parts}
+
+-- the digest of a node is the root over its leaves
+pub node_root : (H : List ℕ → List ℕ) (ds : List (List ℕ)) (k j : ℕ) → root_of H (leaves_below (number_of k j) ds) ≡ root_over H ds (j * 2 ^ k) (2 ^ k)
+node_root H ds k j =
+    let at = over_at k j in
+    ap (λ p. root_over H ds (p * 2 ^ height_of (number_of k j)) (2 ^ height_of (number_of k j))) at.1 ∙ ap (λ h. root_over H ds (j * 2 ^ h) (2 ^ h)) at.0
+
+-- the leaves below a node of the next level
+pub pow_up : (level : ℕ) → 2 ^ (8 * (level + 1)) ≡ 256 * 2 ^ (8 * level)
+pow_up level = let sum : 8 * (level + 1) ≡ 8 + 8 * level = omega arith in ap (λ n. 2 ^ n) sum ∙ pow-add 2 8 (8 * level)
+
+-- the edge's width by levels
+pub width_step : (level count : ℕ) → level < 8 → width_from level count ≡ count % 256 + width_from (level + 1) (count / 256)
+unfolding edge_width
+width_step level count low = let one : 8 - level ≡ suc (8 - (level + 1)) = omega arith in rw one refl
+
+-- the edge by levels
+pub edge_step : (H : List ℕ → List ℕ) (ds : List (List ℕ)) (level count : ℕ) → level < 8
+    → edge_from H ds level count ≡ edge_from H ds (level + 1) (count / 256) ++ tile_digests H ds (record { level = level; number = count / 256; width = count % 256 })
+unfolding edge_within
+edge_step H ds level count low = let one : 8 - level ≡ suc (8 - (level + 1)) = omega arith in rw one refl
+
+-- the tiles that are completed by levels
+completed_step : (level count : ℕ) → level < 8
+    → completed_from (8 - level) level count ≡ (if count % 256 == 0 then record { level = level; number = count / 256 - 1; width = 256 } ∷ completed_from (8 - (level + 1)) (level + 1) (count / 256) else [])
+unfolding completed_from
+completed_step level count low = let one : 8 - level ≡ suc (8 - (level + 1)) = omega arith in rw one refl
+
+pub completed_none : (level count : ℕ) → level < 8 → count % 256 < 255 → completed_from (8 - level) level (count + 1) ≡ []
+completed_none level count low less = completed_step level (count + 1) low ∙ rw (ne_eqb ((count + 1) % 256) 0 (λ nought. omega (arith, nought))) refl
+
+pub completed_more : (level count : ℕ) → level < 8 → count % 256 ≡ 255
+    → completed_from (8 - level) level (count + 1) ≡ record { level = level; number = count / 256; width = 256 } ∷ completed_from (8 - (level + 1)) (level + 1) (count / 256 + 1)
+completed_more level count low full =
+    let nought : (count + 1) % 256 ≡ 0 = omega (arith, full) in
+    let next : (count + 1) / 256 ≡ count / 256 + 1 = omega (arith, full) in
+    let place : count / 256 + 1 - 1 ≡ count / 256 = omega arith in
+    completed_step level (count + 1) low ∙ rw (eq-eqb ((count + 1) % 256) 0 nought, next, place) refl
+
+-- a tile has as many digests as its width
+pub tile_count : (H : List ℕ → List ℕ) (ds : List (List ℕ)) (t : TileAt) → length (tile_digests H ds t) ≡ t.width
+tile_count H ds t = length-map-range_with_len (λ i. root_of H (leaves_below (node_in t i) ds)) 0 t.width
+
+-- the edge has as many digests as its width
+pub edge_count : (H : List ℕ → List ℕ) (ds : List (List ℕ)) (levels level count : ℕ) → length (edge_within H ds levels level count) ≡ edge_width levels count
+unfolding edge_within edge_width
+edge_count H ds zero level count = refl
+edge_count H ds (suc levels) level count =
+    omega (
+      arith,
+      length-append (edge_within H ds levels (level + 1) (count / 256)) (tile_digests H ds (record { level = level; number = count / 256; width = count % 256 })),
+      tile_count H ds (record { level = level; number = count / 256; width = count % 256 }),
+      edge_count H ds levels (level + 1) (count / 256),
+    )
+
+-- a digest of a tile more
+pub digests_more : (H : List ℕ → List ℕ) (ds : List (List ℕ)) (level number width : ℕ)
+    → tile_digests H ds (record { level = level; number = number; width = width + 1 })
+      ≡ tile_digests H ds (record { level = level; number = number; width = width }) ++ root_of H (leaves_below (number_of (8 * level) (256 * number + width)) ds) ∷ []
+digests_more H ds level number width = map-range_with_len_more (λ i. root_of H (leaves_below (number_of (8 * level) (256 * number + i)) ds)) 0 width width (omega arith)
+
+-- a tile's digest at a place
+pub digest_at_place : (H : List ℕ → List ℕ) (ds : List (List ℕ)) (t : TileAt) (i : ℕ) → i < t.width → slice_index_or (tile_digests H ds t) i [] ≡ root_of H (leaves_below (node_in t i) ds)
+digest_at_place H ds t i low = get_or-map-range_with_len (λ i. root_of H (leaves_below (node_in t i) ds)) 0 t.width i i [] low (omega arith)
+
+-- the digests of a tile that is there are the log's own
+pub own_tile : (H : List ℕ → List ℕ) (ds : List (List ℕ)) (t : TileAt) → (256 * t.number + t.width) * 2 ^ (8 * t.level) ≤ length ds → IsTileBy (own_digest H ds) t (tile_digests H ds t)
+own_tile H ds t fits = record {
+  count = tile_count H ds t;
+  digest = λ i low.
+      let at = over_at (8 * t.level) (256 * t.number + i) in
+      let within : (256 * t.number + i + 1) * 2 ^ (8 * t.level) ≤ (256 * t.number + t.width) * 2 ^ (8 * t.level) = grind arith in
+      let place : end_of (node_in t i) ≡ (256 * t.number + i + 1) * 2 ^ (8 * t.level) = ap (λ j. (j + 1) * 2 ^ height_of (node_in t i)) at.1 ∙ ap (λ k. (256 * t.number + i + 1) * 2 ^ k) at.0 in
+      ap (λ b. if b then Some (root_of H (leaves_below (node_in t i) ds)) else None) (le-leb (end_of (node_in t i)) (length ds) (omega (arith, place, within, fits)))
+      ∙ ap Some (sym (digest_at_place H ds t i low));
+}
+
+-- a node's digest goes behind a partial tile
+pub edge_partial : (H : List ℕ → List ℕ) (ds edge : List (List ℕ)) (digest : List ℕ) (level count : ℕ) → level < 8 → count % 256 < 255 → EndsWith H ds level count edge digest
+    → edge ++ digest ∷ [] ≡ edge_from H ds level (count + 1)
+edge_partial H ds edge digest level count low less is =
+    let number : (count + 1) / 256 ≡ count / 256 = omega (arith, less) in
+    let width : (count + 1) % 256 ≡ count % 256 + 1 = omega (arith, less) in
+    let place : count ≡ 256 * (count / 256) + count % 256 = omega arith in
+    let above = edge_from H ds (level + 1) (count / 256) in
+    let digests = tile_digests H ds (record { level = level; number = count / 256; width = count % 256 }) in
+    ap (λ e. e ++ digest ∷ []) (is.before ∙ edge_step H ds level count low) ∙ append_assoc above digests (digest ∷ [])
+    ∙ ap (λ d. above ++ (digests ++ d ∷ [])) (is.last ∙ ap (λ j. root_of H (leaves_below (number_of (8 * level) j) ds)) place)
+    ∙ ap (λ l. above ++ l) (sym (digests_more H ds level (count / 256) (count % 256)))
+    ∙ ap (λ w. above ++ tile_digests H ds (record { level = level; number = count / 256; width = w })) (sym width)
+    ∙ ap (λ j. edge_from H ds (level + 1) j ++ tile_digests H ds (record { level = level; number = j; width = (count + 1) % 256 })) (sym number)
+    ∙ sym (edge_step H ds level (count + 1) low)
+
+-- the parts of an edge whose last tile is filled
+pub edge_parts : (H : List ℕ → List ℕ) (ds edge : List (List ℕ)) (digest : List ℕ) (level count : ℕ) → level < 8 → count % 256 ≡ 255 → EndsWith H ds level count edge digest
+    → (take (length edge - 255) edge ≡ edge_from H ds (level + 1) (count / 256)) × (drop (length edge - 255) edge ++ digest ∷ [] ≡ tile_digests H ds (record { level = level; number = count / 256; width = 256 }))
+edge_parts H ds edge digest level count low full is =
+    let above = edge_from H ds (level + 1) (count / 256) in
+    let digests = tile_digests H ds (record { level = level; number = count / 256; width = 255 }) in
+    let whole : edge ≡ above ++ digests = is.before ∙ edge_step H ds level count low ∙ ap (λ w. above ++ tile_digests H ds (record { level = level; number = count / 256; width = w })) full in
+    let size : length edge - 255 ≡ length above = omega (arith, ap length whole, length-append above digests, tile_count H ds (record { level = level; number = count / 256; width = 255 })) in
+    let place : count ≡ 256 * (count / 256) + 255 = omega (arith, full) in (
+      ap (λ n. take n edge) size ∙ ap (take (length above)) whole ∙ take-append_seam above digests,
+      ap (λ l. l ++ digest ∷ []) (ap (λ n. drop n edge) size ∙ ap (drop (length above)) whole ∙ drop-append_seam above digests)
+          ∙ ap (λ d. digests ++ d ∷ []) (is.last ∙ ap (λ j. root_of H (leaves_below (number_of (8 * level) j) ds)) place)
+          ∙ sym (digests_more H ds level (count / 256) 255),
+    )
+
+-- the root of a full tile is the digest of the node above it
+pub root_up : (H : List ℕ → List ℕ) (ds : List (List ℕ)) (level number : ℕ) → (256 * number + 256) * 2 ^ (8 * level) ≤ length ds
+    → root_of H (tile_digests H ds (record { level = level; number = number; width = 256 })) ≡ root_of H (leaves_below (number_of (8 * (level + 1)) number) ds)
+root_up H ds level number fits =
+    let t : TileAt = record { level = level; number = number; width = 256 } in
+    let unit = 2 ^ (8 * level) in
+    let sum : 8 + 8 * level ≡ 8 * (level + 1) = omega arith in
+    let start : number * 2 ^ (8 * (level + 1)) ≡ 256 * number * unit = omega (arith, ap (λ p. number * p) (pow_up level)) in
+    let size : 2 ^ (8 + 8 * level) ≡ 256 * unit = pow-add 2 8 (8 * level) in
+    roots_of_parts H ds (tile_digests H ds t) (8 * level) 8 (number * 2 ^ (8 * (level + 1))) (omega (arith, start, size, fits)) (tile_count H ds t)
+    (λ i low.
+    let at : (256 * number + i) * unit ≡ number * 2 ^ (8 * (level + 1)) + i * unit = omega (arith, start) in
+    digest_at_place H ds t i low ∙ node_root H ds (8 * level) (256 * number + i) ∙ ap (λ a. root_over H ds a unit) at)
+    ∙ ap (λ n. root_over H ds (number * 2 ^ (8 * (level + 1))) (2 ^ n)) sum ∙ sym (node_root H ds (8 * (level + 1)) number)
+
+-- the level of a node that is there is below 8
+pub fits_low : (level count : ℕ) → (count + 1) * 2 ^ (8 * level) ≤ 2 ^ 63 → level < 8
+fits_low level count fits =
+    let least : 2 ^ (8 * level) ≤ (count + 1) * 2 ^ (8 * level) = grind arith in
+    let low : 8 * level < 64 = pow_below_pow (8 * level) 64 (omega arith) in
+    omega arith
+
+-- and so is that above it, where the node is the last of a tile
+pub up_low : (level count : ℕ) → (count + 1) * 2 ^ (8 * level) ≤ 2 ^ 63 → count % 256 ≡ 255 → level + 1 < 8
+up_low level count fits full =
+    let whole : count + 1 ≡ 256 * (count / 256 + 1) = omega (arith, full) in
+    let size : (count + 1) * 2 ^ (8 * level) ≡ (count / 256 + 1) * 2 ^ (8 * (level + 1)) = omega (arith, ap (λ n. n * 2 ^ (8 * level)) whole, ap (λ p. (count / 256 + 1) * p) (pow_up level)) in
+    fits_low (level + 1) (count / 256) (omega (arith, fits, size))
+
+pub next_fits : (level count : ℕ) → (count + 1) * 2 ^ (8 * level) ≤ 2 ^ 63 → count % 256 ≡ 255 → (count / 256 + 1) * 2 ^ (8 * (level + 1)) ≤ 2 ^ 63
+next_fits level count fits full =
+    let whole : count + 1 ≡ 256 * (count / 256 + 1) = omega (arith, full) in
+    omega (arith, fits, ap (λ n. n * 2 ^ (8 * level)) whole, ap (λ p. (count / 256 + 1) * p) (pow_up level))
+
+-- the width with a node more
+pub width_more : (level count : ℕ) → level < 8 → count % 256 < 255 → width_from level (count + 1) ≡ width_from level count + 1
+width_more level count low less =
+    let number : (count + 1) / 256 ≡ count / 256 = omega (arith, less) in
+    let width : (count + 1) % 256 ≡ count % 256 + 1 = omega (arith, less) in
+    omega (arith, width_step level count low, width_step level (count + 1) low, ap (width_from (level + 1)) number, width)
+
+-- the width with a full tile more
+pub width_full : (level count : ℕ) → level < 8 → count % 256 ≡ 255 → (width_from level count ≡ 255 + width_from (level + 1) (count / 256)) × (width_from level (count + 1) ≡ width_from (level + 1) (count / 256 + 1))
+width_full level count low full =
+    let number : (count + 1) / 256 ≡ count / 256 + 1 = omega (arith, full) in
+    let width : (count + 1) % 256 ≡ 0 = omega (arith, full) in
+    (omega (arith, width_step level count low, full), omega (arith, width_step level (count + 1) low, ap (width_from (level + 1)) number, width))
+
+-- no tile is filled
+pub nothing_added : (H : List ℕ → List ℕ) (ds : List (List ℕ)) (old : Tiles) (level count : ℕ) → level < 8 → count % 256 < 255 → AreAdded H ds (completed_from (8 - level) level (count + 1)) old old
+nothing_added H ds old level count low less = ([], sym (append-nil old), record { places = sym (completed_none level count low less); digests = tt })
+
+-- the first digests of an edge whose last tile was filled, with the digest above it
+pub edge_full : (H : List ℕ → List ℕ) (ds edge above : List (List ℕ)) (last : List ℕ) (level count kept : ℕ) → level < 8 → count % 256 ≡ 255
+    → above ≡ take (length edge - 255) edge → kept ≤ length above → take kept above ++ last ∷ [] ≡ edge_from H ds (level + 1) (count / 256 + 1)
+    → take kept edge ++ last ∷ [] ≡ edge_from H ds level (count + 1)
+edge_full H ds edge above last level count kept low full front few is =
+    let n = length edge - 255 in
+    let number : (count + 1) / 256 ≡ count / 256 + 1 = omega (arith, full) in
+    let width : (count + 1) % 256 ≡ 0 = omega (arith, full) in
+    let few_taken : kept ≤ length (take n edge) = omega (arith, few, ap length front) in
+    let same : take kept edge ≡ take kept above = ap (take kept) (sym (take-append-drop n edge)) ∙ take-append-le kept (take n edge) (drop n edge) few_taken ∙ ap (take kept) (sym front) in
+    ap (λ l. l ++ last ∷ []) same ∙ is ∙ sym (append-nil (edge_from H ds (level + 1) (count / 256 + 1)))
+    ∙ ap (λ w. edge_from H ds (level + 1) (count / 256 + 1) ++ tile_digests H ds (record { level = level; number = count / 256 + 1; width = w })) (sym width)
+    ∙ ap (λ j. edge_from H ds (level + 1) j ++ tile_digests H ds (record { level = level; number = j; width = (count + 1) % 256 })) (sym number)
+    ∙ sym (edge_step H ds level (count + 1) low)
+
+-- the nodes of a full tile
+whole_nodes : (count : ℕ) → count % 256 ≡ 255 → count + 1 ≡ 256 * (count / 256) + 256
+whole_nodes count full = omega (arith, full)
+
+-- the edge above a tile that was filled ends with the tile's root
+pub ends_up : (H : List ℕ → List ℕ) (ds edge above digests : List (List ℕ)) (digest root : List ℕ) (level count : ℕ) → level < 8 → count % 256 ≡ 255 → EndsWith H ds level count edge digest
+    → above ≡ take (length edge - 255) edge → digests ≡ drop (length edge - 255) edge ++ digest ∷ [] → root ≡ root_of H digests → EndsWith H ds (level + 1) (count / 256) above root
+ends_up H ds edge above digests digest root level count low full is front rest made =
+    let parts = edge_parts H ds edge digest level count low full is in
+    let whole : count + 1 ≡ 256 * (count / 256) + 256 = whole_nodes count full in
+    let fits : (256 * (count / 256) + 256) * 2 ^ (8 * level) ≤ length ds = omega (arith, is.ends, ap (λ n. n * 2 ^ (8 * level)) whole) in
+    record {
+      ends = omega (arith, is.ends, ap (λ n. n * 2 ^ (8 * level)) whole, ap (λ p. (count / 256 + 1) * p) (pow_up level));
+      before = front ∙ parts.0;
+      last = made ∙ ap (root_of H) (rest ∙ parts.1) ∙ root_up H ds level (count / 256) fits;
+    }
+
+-- the tiles with one that was filled
+pub tile_added : (H : List ℕ → List ℕ) (ds edge digests : List (List ℕ)) (digest : List ℕ) (old new pushed : Tiles) (tile : TileAt) (level count : ℕ) → level < 8 → count % 256 ≡ 255 → EndsWith H ds level count edge digest
+    → digests ≡ drop (length edge - 255) edge ++ digest ∷ [] → tile ≡ record { level = level; number = count / 256; width = 256 } → pushed ≡ old ++ (tile, digests) ∷ []
+    → AreAdded H ds (completed_from (8 - (level + 1)) (level + 1) (count / 256 + 1)) pushed new → AreAdded H ds (completed_from (8 - level) level (count + 1)) old new
+tile_added H ds edge digests digest old new pushed tile level count low full is rest at put added =
+    let parts = edge_parts H ds edge digest level count low full is in
+    let t : TileAt = record { level = level; number = count / 256; width = 256 } in
+    let whole : count + 1 ≡ 256 * (count / 256) + 256 = whole_nodes count full in
+    let own : IsTileBy (own_digest H ds) t (tile_digests H ds t) = own_tile H ds t (omega (arith, is.ends, ap (λ n. n * 2 ^ (8 * level)) whole)) in (
+      (tile, digests) ∷ added.0,
+      added.1 ∙ ap (λ l. l ++ added.0) put ∙ append_assoc old ((tile, digests) ∷ []) added.0,
+      record {
+        places = ap (λ u. u ∷ map (λ (s : TileAt × List (List ℕ)). s.0) added.0) at ∙ ap (λ l. t ∷ l) added.2.places ∙ sym (completed_more level count low full);
+        digests = (subst (λ u. IsTileBy (own_digest H ds) u digests) (sym at) (subst (IsTileBy (own_digest H ds) t) (sym (rest ∙ parts.1)) own), added.2.digests);
+      },
+    )
+
+-- two facts of a value that may be there
+pub both : {X E : Type 0} (r : Result X E) (P Q R : X → Type 0) → ((x : X) → P x → Q x → R x) → IfOk r P → IfOk r Q → IfOk r R
+both (Ok x) P Q R f p q = f x p q
+both (Err e) P Q R f p q = tt
+
+-- the greatest digit
+pub full_of : (count : ℕ) → 255 ≤ count % 256 → count % 256 ≡ 255
+full_of count most = omega arith
+
+-- a tile that was filled has 256 digests
+pub filled_count : (items edge : List (List ℕ)) (digest : List ℕ) → 255 ≤ length edge → items ≡ drop (length edge - 255) edge ++ digest ∷ [] → length items ≡ 256
+filled_count items edge digest long is = omega (arith, ap length is, length-append (drop (length edge - 255) edge) (digest ∷ []), length-drop (length edge - 255) edge)
+
+-- a tile behind others by its parts
+pub pair_put : (old : Tiles) (a b : TileAt) (ds es : List (List ℕ)) → a ≡ b → ds ≡ es → old ++ (a, ds) ∷ [] ≡ old ++ (b, es) ∷ []
+pair_put old a b ds es p q = ap (λ u. old ++ (u, ds) ∷ []) p ∙ ap (λ d. old ++ (b, d) ∷ []) q
+
+-- no nodes
+pub width_none : edge_width 8 0 ≡ 0
+unfolding edge_width
+width_none = refl

@@ -1,0 +1,288 @@
+-- Checkpoint texts, line by line.
+use Rattle.std.proofs.Common.{◌≡◌, ◌≢◌, ℕ, zero, suc, ◌+◌, ◌*◌, ◌/◌, ◌%◌, ◌^◌, ◌<◌, ◌≤◌, ◌==◌, Bool, true, false, if◌then◌else◌, List, [], ◌∷◌, ◌++◌, length, get_or, map, take, replicate, Option, Some, None, Result, Ok, Err, Bor, refl, sym, ap, subst, ◌∙◌, inl, inr, arith}
+use Rattle.std.specs.List.{AllByRecursion}
+use Rattle.std.proofs.lemmas.Bool.{cases_lt}
+use Rattle.std.proofs.lemmas.List.Elements.{All-get_or}
+use Rattle.std.specs.Fmt.{decimal}
+use Rattle.std.proofs.lemmas.Fmt.{decimal_injective, IsAscii-decimal}
+use Rattle.std.proofs.lemmas.Str.{IsUtf8-from_ascii}
+use Rattle.std.specs.Str.{IsUtf8}
+use Rattle.std.specs.Prelude.{MatchResult, IfOk, IfErr, IsOk, IsErrAnd, ◌↔◌}
+use Rattle.std.specs.Result.{result_ok}
+use Rattle.std.proofs.lemmas.List.{append_assoc, append-nil, get_or_past, length-append, length-replicate, take_more, map-append}
+use Rattle.base64.specs.Engines.{standard}
+use Rattle.base64.specs.GeneralPurpose.{encode_of, decode_of, IsBytes}
+use Rattle.base64.specs.Rfc4648.{encode_symbols, padding_len}
+use Rattle.base64.proofs.EngineFacts.{decode_of-encode_of, decode_of_strict, front_bytes}
+use Rattle.base64.proofs.RoundTrip.{length-encode_symbols}
+use Rattle.warg_crypto.specs.Digests.{IsDigest, IsByte}
+use Rattle.warg_tiles.specs.CheckpointText.{Said, HasNoNewline, IsLine, CanBeSaid, line, length_line, root_line, lines, behind, text_before}
+use Rattle.warg_tiles.specs.CheckpointFaults.{HasLength, HasRoot, IsFirstFault}
+use Rattle.warg_tiles.specs.Private.Texts.{IsExtensionFault}
+use Rattle.warg_tiles.specs.declared.error.CheckpointTextError.{CheckpointTextError}
+use Rattle.warg_tiles.specs.declared.error.CheckpointTextError.TheVariants.{Origin, Length, Root, Extension, Memory}
+use Rattle.warg_tiles.proofs.DecimalLemmas.{decimal_without}
+
+-- bytes with no newline are no line with its newline
+pub no_line : (bytes a r : List ℕ) → HasNoNewline bytes → bytes ≢ line a r
+no_line [] [] r none is = cc
+no_line [] (x ∷ a) r none is = cc
+no_line (b ∷ bytes) [] r none is = none.0 cc
+no_line (b ∷ bytes) (x ∷ a) r none is = let e : bytes ≡ line a r = cc in no_line bytes a r none.1 e
+
+-- a line is read in one way
+pub line_once : (a r b s : List ℕ) → HasNoNewline a → HasNoNewline b → line a r ≡ line b s → (a ≡ b) × (r ≡ s)
+line_once [] r [] s p q is = (refl, cc)
+line_once [] r (y ∷ b) s p q is = absurd (q.0 cc)
+line_once (x ∷ a) r [] s p q is = absurd (p.0 cc)
+line_once (x ∷ a) r (y ∷ b) s p q is =
+    let e : line a r ≡ line b s = cc in
+    let rest = line_once a r b s p.1 q.1 e in
+    let first : x ≡ y = cc in
+    (cc (rest.0, first), rest.1)
+
+-- bytes that are no newline at any place
+by_places : (xs : List ℕ) → ((i : ℕ) → i < length xs → get_or xs i 0 ≢ 10) → HasNoNewline xs
+by_places [] each = tt
+by_places (x ∷ xs) each = (each 0 (omega arith), by_places xs (λ i low. each (suc i) (omega arith)))
+
+-- a number in decimal has no newline
+pub no_newline-decimal : (n : ℕ) → n < 2 ^ 64 → HasNoNewline (decimal n)
+no_newline-decimal n small = by_places (decimal n) (λ i low. decimal_without n 10 i small (λ a b. omega arith) low)
+
+no_newline-append : (xs ys : List ℕ) → HasNoNewline xs → HasNoNewline ys → HasNoNewline (xs ++ ys)
+no_newline-append [] ys p q = q
+no_newline-append (x ∷ xs) ys p q = (p.0, no_newline-append xs ys p.1 q)
+
+no_newline-replicate : (n x : ℕ) → x ≢ 10 → HasNoNewline (replicate n x)
+no_newline-replicate zero x p = tt
+no_newline-replicate (suc n) x p = (p, no_newline-replicate n x p)
+
+abbrev lacks : List ℕ → Bool
+lacks [] = true
+lacks (x ∷ xs) = if x == 10 then false else lacks xs
+
+lacks_cons : (x : ℕ) (rest b : Bool) → (x == 10) ≡ b → (if b then false else rest) ≡ true → (x ≢ 10) × (rest ≡ true)
+lacks_cons x rest true e is = cc
+lacks_cons x rest false e is = (λ (ten : x ≡ 10). let t : (10 == 10) ≡ false = ap (λ n. n == 10) (sym ten) ∙ e in cc, is)
+
+never : (xs : List ℕ) → lacks xs ≡ true → (k : ℕ) → get_or xs k 0 ≢ 10
+never [] is k = omega arith
+never (x ∷ xs) is zero = (lacks_cons x (lacks xs) (x == 10) refl is).0
+never (x ∷ xs) is (suc k) = never xs (lacks_cons x (lacks xs) (x == 10) refl is).1 k
+
+symbol : (k : ℕ) → get_or standard.encode_table k 0 ≢ 10
+symbol k = never standard.encode_table refl k
+
+symbols : (m : List ℕ) → HasNoNewline (encode_symbols standard.encode_table m)
+unfolding encode_symbols
+symbols [] = tt
+symbols (a ∷ []) = (symbol (a / 4), (symbol (a % 4 * 16), tt))
+symbols (a ∷ b ∷ []) = (symbol (a / 4), (symbol (a % 4 * 16 + b / 16), (symbol (b % 16 * 4), tt)))
+symbols (a ∷ b ∷ c ∷ rest) = (symbol (a / 4), (symbol (a % 4 * 16 + b / 16), (symbol (b % 16 * 4 + c / 64), (symbol (c % 64), symbols rest))))
+
+-- base64 has no newline
+pub no_newline-encode : (m : List ℕ) → HasNoNewline (encode_of standard m)
+no_newline-encode m = no_newline-append (encode_symbols standard.encode_table m) (replicate (padding_len (length m)) 61) (symbols m) (no_newline-replicate (padding_len (length m)) 61 (omega arith))
+
+-- a digest's bytes are bytes
+pub digest_bytes : (root : List ℕ) → IsDigest root → IsBytes root
+digest_bytes root is i = elim (cases_lt i (length root)) [
+  | inl low ↦ All-get_or IsByte root i 0 low is.are_bytes
+  | inr out ↦ rw (get_or_past root i 0 out) (omega arith)
+]
+
+-- base64 is read in one way
+pub encode_once : (a b : List ℕ) → IsDigest a → IsDigest b → encode_of standard a ≡ encode_of standard b → a ≡ b
+encode_once a b p q is =
+    let one = decode_of-encode_of standard a refl (digest_bytes a p) in
+    let two = decode_of-encode_of standard b refl (digest_bytes b q) in
+    let e = sym one ∙ ap (decode_of standard) is ∙ two in
+    cc e
+
+-- bytes that aren't read as text are no text
+pub not_utf8 : {S E : Type 0} (P : S → Type 0) (Q : E → Type 0) (bytes : List ℕ) (r : Result S E) (o : Option S) → MatchResult r P (λ e. (IsUtf8 bytes → ⊥) × Q e) → o ≡ result_ok r → o ≡ None → IsUtf8 bytes → ⊥
+not_utf8 P Q bytes (Ok s) o cases is none = let e = sym is ∙ none in cc e
+not_utf8 P Q bytes (Err e) o cases is none = cases.0
+
+-- and a text that is read has those bytes
+pub text_read : {E : Type 0} (P : Bor (List ℕ) → Type 0) (Q : E → Type 0) (bytes : List ℕ) (r : Result (Bor (List ℕ)) E) (o : Option (Bor (List ℕ))) (t : Bor (List ℕ)) → MatchResult r (λ s. (s.now ≡ bytes) × P s) Q → o ≡ result_ok r → o ≡ Some t → t.now ≡ bytes
+text_read P Q bytes (Ok s) o t cases is some = let e : s ≡ t = cc (is, some) in ap (λ (b : Bor (List ℕ)). b.now) (sym e) ∙ cases.0
+text_read P Q bytes (Err e) o t cases is some = let f = sym is ∙ some in cc f
+
+-- the number in decimal on a line is in its bytes alone
+pub decimal_line : (bytes text rest more : List ℕ) (n : ℕ) → HasNoNewline text → bytes ≡ line text rest → n ≤ 2 ^ 63 → bytes ≡ length_line n more → text ≡ decimal n
+decimal_line bytes text rest more n none is most other = (line_once text rest (decimal n) more none (no_newline-decimal n (omega arith)) (sym is ∙ other)).0
+
+-- and is UTF-8
+pub utf8-decimal : (n : ℕ) → n ≤ 2 ^ 63 → IsUtf8 (decimal n)
+utf8-decimal n most = IsUtf8-from_ascii (decimal n) (IsAscii-decimal n (omega arith))
+
+-- the base64 of a digest on a line is in its bytes alone
+pub root_line_is : (bytes text rest more root : List ℕ) → HasNoNewline text → bytes ≡ line text rest → bytes ≡ root_line root more → text ≡ encode_of standard root
+root_line_is bytes text rest more root none is other = (line_once text rest (encode_of standard root) more none (no_newline-encode root) (sym is ∙ other)).0
+
+-- the base64 of 32 bytes has 44
+pub encode_length : (root : List ℕ) → IsDigest root → length (encode_of standard root) ≡ 44
+encode_length root is =
+    let all = length-append (encode_symbols standard.encode_table root) (replicate (padding_len (length root)) 61) in
+    let letters = length-encode_symbols standard.encode_table root in
+    omega (arith, all, letters, is.has_32, length-replicate {A = ℕ} (padding_len (length root)) 61)
+
+-- it is decoded
+pub encode_decoded : (root : List ℕ) → IsDigest root → decode_of standard (encode_of standard root) ≡ Ok root
+encode_decoded root is = decode_of-encode_of standard root refl (digest_bytes root is)
+
+-- a text that was decoded is the base64 of what it gave
+pub root_read : (bytes text rest decoded root : List ℕ) → IsBytes bytes → bytes ≡ line text rest → decode_of standard text ≡ Ok decoded → root ≡ decoded → bytes ≡ root_line root rest
+root_read bytes text rest decoded root all front is same =
+    front ∙ ap (λ l. line l rest) (decode_of_strict standard text decoded (refl, refl) (front_bytes text (10 ∷ rest) (subst IsBytes front all)) is ∙ ap (encode_of standard) (sym same))
+
+-- what is read as a hash
+pub hash_read : {E : Type 0} (r : Result (List ℕ) E) (o : Option (List ℕ)) (root items : List ℕ) → IfOk r (λ h. h ≡ items) → IsOk r ↔ (length items ≡ 32) → o ≡ result_ok r → o ≡ Some root → (root ≡ items) × (length items ≡ 32)
+hash_read (Ok h) o root items ok exactly is some = let e : h ≡ root = cc (is, some) in (sym e ∙ ok, exactly.0 refl)
+hash_read (Err e) o root items ok exactly is some = let f = sym is ∙ some in cc f
+
+-- and what isn't
+pub hash_unread : {E : Type 0} (r : Result (List ℕ) E) (o : Option (List ℕ)) (items : List ℕ) → IsOk r ↔ (length items ≡ 32) → o ≡ result_ok r → o ≡ None → length items ≡ 32 → ⊥
+hash_unread (Ok h) o items exactly is none count = let f = sym is ∙ none in cc f
+hash_unread {E} (Err e) o items exactly is none count = let f = exactly.1 count in cc f
+
+-- a digest that was decoded has 32 bytes
+pub decoded_length : {E : Type 0} (r : Result (List ℕ) E) (root decoded : List ℕ) → r ≡ Ok root → r ≡ Ok decoded → IsDigest root → length decoded ≡ 32
+decoded_length r root decoded one two is = let e = sym one ∙ two in let same : root ≡ decoded = cc e in omega (arith, ap length same, is.has_32)
+
+-- lines before other bytes
+lines-append : (xs : List (List ℕ)) (rest : List ℕ) → lines xs rest ≡ lines xs [] ++ rest
+unfolding lines
+lines-append [] rest = refl
+lines-append (x ∷ xs) rest = ap (line x) (lines-append xs rest) ∙ sym (append_assoc x (10 ∷ lines xs []) rest)
+
+-- one line more behind lines
+pub lines-last : (xs : List (List ℕ)) (x rest : List ℕ) → lines (xs ++ x ∷ []) rest ≡ lines xs (line x rest)
+unfolding lines
+lines-last [] x rest = refl
+lines-last (y ∷ xs) x rest = ap (line y) (lines-last xs x rest)
+
+-- the four parts of a text
+pub text_written : (said : Said) (b1 b2 b3 b4 : List ℕ) → b1 ≡ [] ++ (said.origin ++ 10 ∷ []) → b2 ≡ b1 ++ (decimal said.length ++ 10 ∷ []) → b3 ≡ b2 ++ (encode_of standard said.root ++ 10 ∷ [])
+    → b4 ≡ b3 ++ lines said.extensions [] → b4 ≡ text_before said None
+text_written said b1 b2 b3 b4 one two three four =
+    four ∙ ap (λ b. b ++ lines said.extensions []) (three ∙ ap (λ b. b ++ (encode_of standard said.root ++ 10 ∷ [])) (two ∙ ap (λ b. b ++ (decimal said.length ++ 10 ∷ [])) one)) ∙ simp append_assoc
+
+-- lines up to one more of a list
+pub lines-take : {X : Type 0} (f : X → List ℕ) (xs : List X) (x : X) (i : ℕ) → i < length xs → x ≡ get_or xs i x → lines (map f (take (i + 1) xs)) [] ≡ lines (map f (take i xs)) [] ++ (f x ++ 10 ∷ [])
+lines-take f xs x i inside is =
+    ap (λ l. lines (map f l) []) (take_more xs i x inside) ∙ ap (λ y. lines (map f (take i xs ++ y ∷ [])) []) (sym is) ∙ ap (λ l. lines l []) (map-append f (take i xs) (x ∷ []))
+    ∙ lines-last (map f (take i xs)) (f x) [] ∙ lines-append (map f (take i xs)) (f x ++ 10 ∷ [])
+
+-- no lines
+pub lines-none : {X : Type 0} (f : X → List ℕ) (xs : List X) (b : List ℕ) → b ≡ b ++ lines (map f (take 0 xs)) []
+unfolding lines
+lines-none f xs b = sym (append-nil b)
+
+-- a line is no end of lines
+line_not_behind : (x r : List ℕ) (b : Option (List ℕ)) → IsLine x → line x r ≢ behind b
+line_not_behind [] r b is e = omega (arith, is.some)
+line_not_behind (c ∷ x) r None is e = cc
+line_not_behind (c ∷ x) r (Some rest) is e = is.no_newline.0 cc
+
+-- what lacks a newline at its end is no lines
+pub not_lines : (xs ys : List (List ℕ)) (rest : List ℕ) (b : Option (List ℕ)) → AllByRecursion IsLine xs → AllByRecursion IsLine ys → HasNoNewline rest → 0 < length rest → lines xs rest ≢ lines ys (behind b)
+unfolding lines
+not_lines [] [] rest None p q none some e = omega (arith, ap length e)
+not_lines [] [] [] (Some r) p q none some e = cc
+not_lines [] [] (c ∷ rest) (Some r) p q none some e = none.0 cc
+not_lines [] (y ∷ ys) rest b p q none some e = no_line rest y (lines ys (behind b)) none e
+not_lines (x ∷ xs) [] rest b p q none some e = line_not_behind x (lines xs rest) b p.0 e
+not_lines (x ∷ xs) (y ∷ ys) rest b p q none some e = not_lines xs ys rest b p.1 q.1 none some (line_once x (lines xs rest) y (lines ys (behind b)) p.0.no_newline q.0.no_newline e).1
+
+-- lines are read in one way
+pub lines_once : (xs ys : List (List ℕ)) (a b : Option (List ℕ)) → AllByRecursion IsLine xs → AllByRecursion IsLine ys → lines xs (behind a) ≡ lines ys (behind b) → (xs ≡ ys) × (a ≡ b)
+unfolding lines
+lines_once [] [] None None p q e = (refl, refl)
+lines_once [] [] None (Some s) p q e = cc
+lines_once [] [] (Some r) None p q e = cc
+lines_once [] [] (Some r) (Some s) p q e = let same : r ≡ s = cc in (refl, ap Some same)
+lines_once [] (y ∷ ys) a b p q e = absurd (line_not_behind y (lines ys (behind b)) a q.0 (sym e))
+lines_once (x ∷ xs) [] a b p q e = absurd (line_not_behind x (lines xs (behind a)) b p.0 e)
+lines_once (x ∷ xs) (y ∷ ys) a b p q e =
+    let first = line_once x (lines xs (behind a)) y (lines ys (behind b)) p.0.no_newline q.0.no_newline e in
+    let rest = lines_once xs ys a b p.1 q.1 first.1 in
+    (cc (first.0, rest.0), rest.1)
+
+-- a text t is the text s with lines more, which were read from bytes up to the rest
+abbrev pub Added : Said → Said → List ℕ → List ℕ → Type 0
+Added s t bytes rest = (more : List (List ℕ)) × AllByRecursion IsLine more × (t ≡ record s { extensions = s.extensions ++ more }) × (bytes ≡ lines more rest)
+
+pub added_none : (s : Said) (bytes : List ℕ) → Added s s bytes bytes
+unfolding lines
+added_none s bytes = ([], tt, ap (λ e. record s { extensions = e }) (sym (append-nil s.extensions)), refl)
+
+all_last : (xs : List (List ℕ)) (x : List ℕ) → AllByRecursion IsLine xs → IsLine x → AllByRecursion IsLine (xs ++ x ∷ [])
+all_last [] x p q = (q, tt)
+all_last (y ∷ xs) x p q = (p.0, all_last xs x p.1 q)
+
+pub added_line : (s t u : Said) (bytes rest x more : List ℕ) → Added s t bytes rest → rest ≡ line x more → IsLine x → u ≡ record t { extensions = t.extensions ++ x ∷ [] } → Added s u bytes more
+added_line s t u bytes rest x more added is one grown = (
+  added.0 ++ x ∷ [],
+  all_last added.0 x added.1 one,
+  grown ∙ ap (λ (a : Said). record a { extensions = a.extensions ++ x ∷ [] }) added.2 ∙ ap (λ e. record s { extensions = e }) (append_assoc s.extensions added.0 (x ∷ [])),
+  added.3 ∙ ap (lines added.0) is ∙ sym (lines-last added.0 x more),
+)
+
+-- a text is read in one way
+pub text_once : (s t : Said) (a b : Option (List ℕ)) → CanBeSaid s → CanBeSaid t → text_before s a ≡ text_before t b → (s ≡ t) × (a ≡ b)
+text_once s t a b p q e =
+    let one = line_once s.origin _ t.origin _ p.origin.no_newline q.origin.no_newline e in
+    let two = line_once (decimal s.length) _ (decimal t.length) _ (no_newline-decimal s.length (omega (arith, p.length))) (no_newline-decimal t.length (omega (arith, q.length))) one.1 in
+    let three = line_once (encode_of standard s.root) _ (encode_of standard t.root) _ (no_newline-encode s.root) (no_newline-encode t.root) two.1 in
+    let four = lines_once s.extensions t.extensions a b p.extensions q.extensions three.1 in
+    let length : s.length ≡ t.length = decimal_injective s.length t.length (omega (arith, p.length)) (omega (arith, q.length)) two.0 in
+    let root : s.root ≡ t.root = encode_once s.root t.root p.root q.root three.0 in (
+      ap (λ o. record s { origin = o }) one.0 ∙ ap (λ n. record s { origin = t.origin; length = n }) length
+          ∙ ap (λ r. record s { origin = t.origin; length = t.length; root = r }) root ∙ ap (λ x. record t { extensions = x }) four.0,
+      four.1,
+    )
+
+-- bytes that aren't tested as empty
+pub some_of : (xs : List ℕ) (b : Bool) → b ≡ (length xs == 0) → b ≡ false → 0 < length xs
+some_of [] b is none = let e : true ≡ false = sym is ∙ none in cc e
+some_of (x ∷ xs) b is none = omega arith
+
+-- an error that is handed on
+pub err_same : {X E : Type 0} (P : E → Type 0) (e : E) (r : Result X E) → IsErrAnd r (λ f. f ≡ e) → P e → IfErr r P
+err_same P e (Ok x) is holds = tt
+err_same P e (Err f) is holds = subst P (sym is) holds
+
+-- no length's line is behind an origin's
+pub no_length : (bytes origin rest : List ℕ) → IsLine origin → bytes ≡ line origin rest → ((n : ℕ) (more : List ℕ) → n ≤ 2 ^ 63 → rest ≢ length_line n more) → HasLength bytes → ⊥
+no_length bytes origin rest is first none h =
+    let behind_origin = (line_once h.0 (length_line h.1 h.2) origin rest h.3.no_newline is.no_newline (sym h.5 ∙ first)).1 in
+    none h.1 h.2 h.4 (sym behind_origin)
+
+-- no root's line is behind a length's
+pub no_root : (bytes origin rest more : List ℕ) (length : ℕ) → IsLine origin → bytes ≡ line origin rest → length ≤ 2 ^ 63 → rest ≡ length_line length more
+    → ((root last : List ℕ) → IsDigest root → more ≢ root_line root last) → HasRoot bytes → ⊥
+no_root bytes origin rest more length is first most second none h =
+    let behind_origin = (line_once h.0 (length_line h.1 (root_line h.2 h.3)) origin rest h.4.no_newline is.no_newline (sym h.7 ∙ first)).1 in
+    let behind_length = (line_once (decimal h.1) (root_line h.2 h.3) (decimal length) more (no_newline-decimal h.1 (omega (arith, h.5))) (no_newline-decimal length (omega (arith, most))) (behind_origin ∙ second)).1 in
+    none h.2 h.3 h.6 (sym behind_length)
+
+-- what is behind the root's line is no further lines
+pub no_extensions : (bytes origin rest more root last : List ℕ) (length : ℕ) → IsLine origin → bytes ≡ line origin rest → length ≤ 2 ^ 63 → rest ≡ length_line length more
+    → IsDigest root → more ≡ root_line root last → (e : CheckpointTextError) → IsExtensionFault last e → IsFirstFault bytes e
+no_extensions bytes origin rest more root last length is first most second digest third Extension fault =
+    let whole : bytes ≡ line origin (length_line length (root_line root last)) = first ∙ ap (line origin) (second ∙ ap (length_line length) third) in (
+      (origin, length, root, last, is, most, digest, whole),
+      λ h.
+          let one = (line_once h.0.origin _ origin _ h.2.origin.no_newline is.no_newline (sym h.3 ∙ whole)).1 in
+          let two = (line_once (decimal h.0.length) _ (decimal length) _ (no_newline-decimal h.0.length (omega (arith, h.2.length))) (no_newline-decimal length (omega (arith, most))) one).1 in
+          let three = (line_once (encode_of standard h.0.root) _ (encode_of standard root) _ (no_newline-encode h.0.root) (no_newline-encode root) two).1 in
+          fault h.0.extensions h.1 h.2.extensions (sym three),
+    )
+no_extensions bytes origin rest more root last length is first most second digest third Memory fault =
+    (origin, length, root, last, is, most, digest, first ∙ ap (line origin) (second ∙ ap (length_line length) third))
+no_extensions bytes origin rest more root last length is first most second digest third Origin fault = absurd fault
+no_extensions bytes origin rest more root last length is first most second digest third Length fault = absurd fault
+no_extensions bytes origin rest more root last length is first most second digest third Root fault = absurd fault

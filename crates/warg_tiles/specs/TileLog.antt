@@ -1,0 +1,73 @@
+-- A log that keeps the digests of its right edge alone: those of its partial tiles.
+use Rattle.std.specs.Prelude.{◌≡◌, ℕ, zero, suc, ◌+◌, ◌-◌, ◌*◌, ◌/◌, ◌%◌, ◌^◌, ◌<◌, ◌==◌, ◌&&◌, nat_lt, if◌then◌else◌, List, [], ◌∷◌, ◌++◌, length, map, filter, Option, Some, None}
+use Rattle.std.specs.List.{AllByRecursion, flat_map, range_with_len}
+use Rattle.warg_log.specs.Tree.{root_of, leaves_below, own_digest}
+use Rattle.warg_log.specs.Decoding.{earlier}
+use Rattle.warg_tiles.specs.Tiles.{TileAt, node_in}
+use Rattle.warg_tiles.specs.TileData.{Tiles, IsTileBy}
+use Rattle.warg_tiles.specs.declared.error.OpenError.{OpenError}
+use Rattle.warg_tiles.specs.declared.error.OpenError.TheVariants.{Count, Place, Width}
+
+-- The length of a log, the length at which its full tiles were last handed out, the digests of its partial tiles, those of
+-- the greatest level first, and the full tiles since then.
+pub record RightEdge : Type 0 where
+  pub len : ℕ
+  pub taken : ℕ
+  pub digests : List (List ℕ)
+  pub full : Tiles
+
+-- The tile of a level at the end of a length: as wide as there are nodes of the level behind the last full tile.
+abbrev pub last_tile : ℕ → ℕ → TileAt
+last_tile n level = record { level = level; number = n / 2 ^ (8 * level) / 256; width = n / 2 ^ (8 * level) % 256 }
+
+-- The partial tiles of a length, by level. A length up to 2 ^ 63 has eight levels.
+abbrev pub partial_tiles : ℕ → List TileAt
+partial_tiles n = filter (λ t. nat_lt 0 t.width) (map (last_tile n) (range_with_len 0 8))
+
+-- The full tiles that the last of so many nodes of a level completes: the level's last tile, where the nodes fill it, and
+-- then those that this tile's root completes on the levels above.
+unfoldable pub completed_from : ℕ → ℕ → ℕ → List TileAt
+completed_from zero level count = []
+completed_from (suc levels) level count =
+    if count % 256 == 0
+    then record { level = level; number = count / 256 - 1; width = 256 } ∷ completed_from levels (level + 1) (count / 256)
+    else []
+
+-- The full tiles that a length's last entry completes.
+abbrev pub completed_at : ℕ → List TileAt
+completed_at n = completed_from 8 0 n
+
+-- The full tiles that a length has and an older one hasn't, in the order in which the entries complete them.
+abbrev pub full_between : ℕ → ℕ → List TileAt
+full_between old new = flat_map completed_at (range_with_len (old + 1) (new - old))
+
+-- The digests of a tile's nodes in a log of these leaf digests, from left to right: each the root of the leaves below.
+abbrev pub tile_digests : (List ℕ → List ℕ) → List (List ℕ) → TileAt → List (List ℕ)
+tile_digests H ds t = map (λ i. root_of H (leaves_below (node_in t i) ds)) (range_with_len 0 t.width)
+
+-- The digests of the partial tiles of a log of these leaf digests, those of the greatest level first.
+abbrev pub edge_digests : (List ℕ → List ℕ) → List (List ℕ) → List (List ℕ)
+edge_digests H ds = flat_map (λ level. tile_digests H ds (last_tile (length ds) level)) (7 ∷ 6 ∷ 5 ∷ 4 ∷ 3 ∷ 2 ∷ 1 ∷ 0 ∷ [])
+
+-- Tiles with their digests are these of a log of these leaf digests.
+pub record AreTilesOf (H : List ℕ → List ℕ) (ds : List (List ℕ)) (expected : List TileAt) (tiles : Tiles) : Type 0 where
+  pub places : map (λ (t : TileAt × List (List ℕ)). t.0) tiles ≡ expected
+  pub digests : AllByRecursion (λ (t : TileAt × List (List ℕ)). IsTileBy (own_digest H ds) t.0 t.1) tiles
+
+-- The log stands for these leaf digests: it has the digests of their partial tiles, and the full tiles since the last ones
+-- were handed out.
+pub record StandsFor (H : List ℕ → List ℕ) (e : RightEdge) (ds : List (List ℕ)) : Type 0 where
+  pub count : length ds ≡ e.len
+  pub edge : e.digests ≡ edge_digests H ds
+  pub full : AreTilesOf H ds (full_between e.taken e.len) e.full
+
+-- The fault of a tile in another's place: another place, and then another width.
+abbrev pub tile_fault : TileAt → TileAt → Option OpenError
+tile_fault wanted given = if wanted.level == given.level && wanted.number == given.number then (if wanted.width == given.width then None else Some Width) else Some Place
+
+-- The first fault of tiles that aren't these: of a tile, or that there are more or fewer.
+abbrev pub tiles_fault : List TileAt → List TileAt → Option OpenError
+tiles_fault [] [] = None
+tiles_fault [] (given ∷ more) = Some Count
+tiles_fault (wanted ∷ others) [] = Some Count
+tiles_fault (wanted ∷ others) (given ∷ more) = earlier (tile_fault wanted given) (tiles_fault others more)

@@ -1,0 +1,293 @@
+//! A log that keeps its right edge alone.
+
+ghost use Rattle.std.specs.Prelude.{◌≡◌, ℕ, ◌+◌, ◌-◌, ◌*◌, ◌^◌, ◌<◌, ◌≤◌, ◌↔◌, List, [], ◌∷◌, ◌++◌, Some, None, length, map, take, Err, IsTrue, IfOk, OnOk, OnErr};
+ghost use Rattle.std.specs.List.{AllByRecursion};
+ghost use Rattle.std.specs.Option.{option_to_list};
+ghost use Rattle.warg_log.specs.Tree.{root_of, own_digest};
+ghost use Rattle.warg_tiles.specs.TileData.{IsTileBy};
+ghost use Rattle.warg_tiles.specs.TileLog.{StandsFor, AreTilesOf, partial_tiles, full_between, completed_from, tiles_fault};
+ghost use Rattle.warg_tiles.specs.Private.Edges.{width_from, edge_from, EndsWith, AreAdded, root_if};
+
+use crate::error::OpenError;
+use crate::root::root_over;
+use crate::stored::StoredTile;
+use crate::tile::Tile;
+use std::alloc::{AllocError, Allocator, Global};
+use std::marker::{Model, PhantomData};
+use std::mem;
+use warg_crypto::{Hash, SupportedDigest, VisitBytes};
+use warg_log::{Checkpoint, LogBuilder, Node, hash_branch, hash_empty, hash_leaf};
+
+/// A log that keeps its right edge alone, the digests of its partial tiles: at most 255 of each level, whatever the log's
+/// length. Full tiles wait until they are taken, for whoever stores them.
+///
+/// It answers checkpoints, but no digests for proofs: these are made out of the stored tiles.
+#[derive(Drop)]
+pub struct TileLog<D: SupportedDigest, V: VisitBytes, A: Allocator = Global> {
+    count: usize,
+    taken: usize,
+    edge: Vec<Hash<D>, A>,
+    full: Vec<StoredTile<D, A>, A>,
+    of: PhantomData<V>,
+}
+
+// Contracts see the log as its length, that at the last call of `take_full`, and the digests of its tiles.
+impl<D: SupportedDigest, V: VisitBytes, A: Allocator> Model for TileLog<D, V, A> {
+    ghost use Rattle.std.specs.Prelude.{◌≡◌, ◌^◌, ◌≤◌, length, map};
+    ghost use Rattle.warg_tiles.specs.TileLog.{RightEdge};
+    ghost use Rattle.warg_tiles.specs.Private.Edges.{edge_width};
+
+    ghost Value = { RightEdge };
+
+    ghost view = { λ l. record { len = l.count; taken = l.taken; digests = l.edge.items; full = map (λ t. (t.tile, t.digests.items)) l.full.items } };
+
+    ghost invariant = { λ l. (length l.edge.items ≡ edge_width 8 l.count) × (l.count ≤ 2 ^ 63) × (l.taken ≤ l.count) };
+}
+
+impl<D: SupportedDigest, V: VisitBytes, A: Allocator + Copy> TileLog<D, V, A> {
+    /// The log of no entries. It takes no memory yet.
+    pub fn new(alloc: A) -> Self
+        ensures value { result ≡ record { len = 0; taken = 0; digests = []; full = [] } }
+        ensures stands { StandsFor D.digest result [] }
+    {
+        TileLog {
+            count: 0,
+            taken: 0,
+            edge: Vec::new(alloc),
+            full: Vec::new(alloc),
+            of: PhantomData,
+        }
+    }
+
+    /// The log of this length whose partial tiles these are, by level, as `partial` gives them: it goes on from there, and
+    /// its full tiles count as taken. The first fault by name: `Place` and `Width` of a tile that isn't the one of its place
+    /// or its width, `Count` where there are more or fewer; before memory is taken. Else memory is the only error.
+    ///
+    /// The digests are taken on trust: whoever keeps the log's checkpoint compares it.
+    pub fn open(alloc: A, log_length: usize, tiles: &[StoredTile<D, A>]) -> Result<Self, OpenError>
+        requires { log_length ≤ 2 ^ 63 }
+        ensures length { IfOk result (λ log. (log.len ≡ log_length) × (log.taken ≡ log_length) × (log.full ≡ [])) }
+        ensures stands { IfOk result (λ log. (ds : List (List ℕ)) → length ds ≡ log_length → AllByRecursion (λ t. IsTileBy (own_digest D.digest ds) t.tile t.digests.items) tiles.now → StandsFor D.digest log ds) }
+        ensures count { (result ≡ Err OpenError.Count) ↔ (tiles_fault (partial_tiles log_length) (map (λ t. t.tile) tiles.now) ≡ Some OpenError.Count) }
+        ensures place { (result ≡ Err OpenError.Place) ↔ (tiles_fault (partial_tiles log_length) (map (λ t. t.tile) tiles.now) ≡ Some OpenError.Place) }
+        ensures width { (result ≡ Err OpenError.Width) ↔ (tiles_fault (partial_tiles log_length) (map (λ t. t.tile) tiles.now) ≡ Some OpenError.Width) }
+    {
+        check_tiles(log_length, tiles)?;
+        let mut edge = Vec::new(alloc);
+        'tiles: for tile in tiles.iter().rev() {
+            'digests: for digest in tile.digests.as_slice() {
+                edge.push(digest.copied()).map_err(AllocError::from)?;
+            }
+        }
+        Ok(TileLog {
+            count: log_length,
+            taken: log_length,
+            edge,
+            full: Vec::new(alloc),
+            of: PhantomData,
+        })
+    }
+
+    /// The number of entries, at most [`GREATEST_LENGTH`](warg_log::GREATEST_LENGTH).
+    pub fn length(&self) -> usize
+        ensures value { result ≡ self.now.len }
+        ensures fits { self.now.len ≤ 2 ^ 63 }
+    {
+        self.count
+    }
+
+    /// Whether the log has no entry.
+    pub fn is_empty(&self) -> bool
+        ensures { IsTrue result ↔ (self.now.len ≡ 0) }
+    {
+        self.count == 0
+    }
+
+    /// Takes the tiles that were filled since the last call, each once, in the order in which entries filled them. The log
+    /// goes on with none of them.
+    pub fn take_full(&mut self) -> Vec<StoredTile<D, A>, A>
+        ensures value { map (λ t. (t.tile, t.digests.items)) result.items ≡ self.old.full }
+        ensures tiles { (ds : List (List ℕ)) → StandsFor D.digest self.old ds → AreTilesOf D.digest ds (full_between self.old.taken self.old.len) (map (λ t. (t.tile, t.digests.items)) result.items) }
+        ensures rest { self.new ≡ record self.old { taken = self.old.len; full = [] } }
+        ensures stands { (ds : List (List ℕ)) → StandsFor D.digest self.old ds → StandsFor D.digest self.new ds }
+    {
+        self.taken = self.count;
+        let alloc = *self.full.allocator();
+        mem::replace(&mut self.full, Vec::new(alloc))
+    }
+
+    /// The partial tiles, those of the right edge, by level: none for a level whose nodes fill tiles. Memory is the only
+    /// error.
+    pub fn partial(&self, alloc: A) -> Result<Vec<StoredTile<D, A>, A>, AllocError>
+        ensures { IfOk result (λ tiles. (ds : List (List ℕ)) → StandsFor D.digest self.now ds → AreTilesOf D.digest ds (partial_tiles self.now.len) (map (λ t. (t.tile, t.digests.items)) tiles.items)) }
+    {
+        let mut tiles = Vec::new(alloc);
+        let mut rest = self.edge.as_slice();
+        'levels: for level in 0..8 {
+            let count = self.count >> (8 * level);
+            let (above, digests) = rest.split_at(rest.len() - count % 256);
+            if !digests.is_empty() {
+                let tile = Tile::new(level, count / 256, digests.len());
+                tiles.push(StoredTile::new(tile, copies(alloc, digests)?))?;
+            }
+            rest = above;
+        }
+        Ok(tiles)
+    }
+}
+
+impl<D: SupportedDigest, V: VisitBytes, A: Allocator + Copy> LogBuilder<D, V> for TileLog<D, V, A> {
+    ghost len = { λ l. l.len };
+
+    ghost stands_for = { λ l ds. StandsFor D.digest l ds };
+
+    /// A push hashes the leaf and, of each tile that it fills, the branches: an entry has one branch on average.
+    fn push(&mut self, entry: &V) -> Result<Node, AllocError>
+        requires { self.old.len < 2 ^ 63 }
+        ensures node { IfOk result (λ node. node.0 ≡ 2 * self.old.len) }
+        ensures length { OnOk result ((self.new.len ≡ self.old.len + 1) × (self.new.taken ≡ self.old.taken)) }
+        ensures stands { OnOk result ((ds : List (List ℕ)) → StandsFor D.digest self.old ds → StandsFor D.digest self.new (ds ++ D.digest (0 ∷ V.bytes entry.now) ∷ [])) }
+        ensures err { OnErr result (self.new ≡ self.old) }
+    {
+        let digest = hash_leaf::<D, V>(entry);
+        let alloc = *self.full.allocator();
+        let mut filled = Vec::new(alloc);
+        let (kept, digest) = fill(
+            alloc,
+            &mut filled,
+            self.edge.as_slice(),
+            0,
+            self.count,
+            digest,
+        )?;
+        self.edge.reserve(1)?;
+        self.full.append(&mut filled)?;
+        let leaf = Node::leaf(self.count);
+        self.edge.truncate(kept);
+        self.edge.push_reserved(digest);
+        self.count += 1;
+        Ok(leaf)
+    }
+
+    /// The root is made of the digests of the right edge.
+    fn checkpoint(&self) -> Checkpoint<D>
+        ensures root { (ds : List (List ℕ)) → StandsFor D.digest self.now ds → result.root ≡ root_of D.digest ds }
+        ensures length { result.length ≡ self.now.len }
+        ensures fits { self.now.len ≤ 2 ^ 63 }
+    {
+        let mut root = None;
+        let mut rest = self.edge.as_slice();
+        'levels: for level in 0..8 {
+            let width = (self.count >> (8 * level)) % 256;
+            let (above, digests) = rest.split_at(rest.len() - width);
+            root = root_with(digests, root);
+            rest = above;
+        }
+        match root {
+            Some(root) => Checkpoint::new(root, self.count),
+            None => Checkpoint::new(hash_empty(), self.count),
+        }
+    }
+
+    ghost stands_len = { λ s ds stands. stands.count };
+}
+
+// The first fault of tiles that aren't the partial tiles of a length.
+fn check_tiles<D, A: Allocator>(
+    length: usize,
+    tiles: &[StoredTile<D, A>],
+) -> Result<(), OpenError> {
+    let mut rest = tiles;
+    'levels: for level in 0..8 {
+        let count = length >> (8 * level);
+        if count % 256 != 0 {
+            let Some((first, others)) = rest.split_first() else {
+                return Err(OpenError::Count);
+            };
+            check_tile(&Tile::new(level, count / 256, count % 256), &first.tile)?;
+            rest = others;
+        }
+    }
+    if rest.is_empty() {
+        Ok(())
+    } else {
+        Err(OpenError::Count)
+    }
+}
+
+// The fault of a tile in another's place.
+fn check_tile(wanted: &Tile, given: &Tile) -> Result<(), OpenError> {
+    if wanted.level() != given.level() || wanted.number() != given.number() {
+        return Err(OpenError::Place);
+    }
+    if wanted.width() != given.width() {
+        return Err(OpenError::Width);
+    }
+    Ok(())
+}
+
+// Puts a node's digest behind the right edge from a level on, where so many nodes of the level stand before it. Each tile
+// that this fills goes behind the others, and its root up by one level. What is left are the first digests of the edge, so
+// many, and the digest behind them.
+fn fill<D: SupportedDigest, A: Allocator + Copy>(
+    alloc: A,
+    filled: &mut Vec<StoredTile<D, A>, A>,
+    edge: &[Hash<D>],
+    level: u32,
+    count: usize,
+    digest: Hash<D>,
+) -> Result<(usize, Hash<D>), AllocError>
+    requires fits { (count + 1) * 2 ^ (8 * level) ≤ 2 ^ 63 }
+    requires width { length edge.now ≡ width_from level count }
+    ensures kept { IfOk result (λ r. (r.0 ≤ length edge.now) × (r.0 + 1 ≡ width_from level (count + 1))) }
+    ensures edge { IfOk result (λ r. (ds : List (List ℕ)) → EndsWith D.digest ds level count edge.now digest → take r.0 edge.now ++ r.1 ∷ [] ≡ edge_from D.digest ds level (count + 1)) }
+    ensures filled { OnOk result ((ds : List (List ℕ)) → EndsWith D.digest ds level count edge.now digest → AreAdded D.digest ds (completed_from (8 - level) level (count + 1)) (map (λ t. (t.tile, t.digests.items)) filled.old.items) (map (λ t. (t.tile, t.digests.items)) filled.new.items)) }
+{
+    if count % 256 < 255 {
+        return Ok((edge.len(), digest));
+    }
+    let (above, partial) = edge.split_at(edge.len() - 255);
+    let mut digests = copies(alloc, partial)?;
+    digests.push(digest)?;
+    let root = root_over(digests.as_slice());
+    filled.push(StoredTile::new(Tile::new(level, count / 256, 256), digests))?;
+    fill(alloc, filled, above, level + 1, count / 256, root)
+}
+
+// The same digests once more.
+fn copies<D, A: Allocator>(alloc: A, digests: &[Hash<D>]) -> Result<Vec<Hash<D>, A>, AllocError>
+    ensures { IfOk result (λ copies. copies.items ≡ digests.now) }
+{
+    let mut copies = Vec::with_capacity(alloc, digests.len())?;
+    'digests: for digest in digests {
+        copies.push(digest.copied())?;
+    }
+    Ok(copies)
+}
+
+// The root over digests and one more behind them, if there is one; none of no digest.
+fn root_with<D: SupportedDigest>(digests: &[Hash<D>], last: Option<Hash<D>>) -> Option<Hash<D>>
+    ensures { result ≡ root_if D.digest (digests.now ++ option_to_list last) }
+{
+    match last {
+        Some(last) => Some(root_before(digests, last)),
+        None => {
+            if digests.is_empty() {
+                None
+            } else {
+                Some(root_over(digests))
+            }
+        }
+    }
+}
+
+// The root over digests and one more behind them.
+fn root_before<D: SupportedDigest>(digests: &[Hash<D>], last: Hash<D>) -> Hash<D>
+    ensures { result ≡ root_of D.digest (digests.now ++ last ∷ []) }
+{
+    if digests.is_empty() {
+        return last;
+    }
+    let (front, rest) = digests.split_at(1 << digests.len().ilog2());
+    hash_branch(&root_over(front), &root_before(rest, last))
+}

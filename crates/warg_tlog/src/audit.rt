@@ -1,0 +1,74 @@
+//! The command that makes each tile again.
+
+ghost use Rattle.std.specs.Prelude.{◌≡◌};
+
+use crate::bundle::{entries_of, read_bundle};
+use crate::checkpoints::read_checkpoint;
+use crate::folder::Folder;
+use crate::growing::push_entry;
+use crate::progress::Progress;
+use crate::refusal::Refusal;
+use crate::tile_files::compare_tile;
+use warg_crypto::Sha256;
+use warg_log::{Checkpoint, LogBuilder};
+use warg_tiles::{StoredTile, Tile, TileLog};
+
+/// Reads every entry of the log, makes each tile again, and compares. `Damaged` names the first file that differs.
+pub fn audit(rt: &HostRuntime, folder: &Folder) -> Result<Checkpoint<Sha256>, Refusal> {
+    let checkpoint = read_checkpoint(rt, folder)?.checkpoint();
+    let mut log = TileLog::new(rt.alloc());
+    let mut progress = Progress::new();
+    for number in 0..checkpoint.length().div_ceil(256) {
+        let width = (checkpoint.length() - 256 * number).min(256);
+        push_bundle(
+            rt,
+            folder,
+            &mut log,
+            &Tile::new(0, number, width),
+            &mut progress,
+        )?;
+        compare_tiles(rt, folder, log.take_full().as_slice())?;
+    }
+    compare_tiles(rt, folder, log.partial(rt.alloc())?.as_slice())?;
+    if log.checkpoint() != checkpoint {
+        return Err(folder.damaged(
+            rt.alloc(),
+            "checkpoint",
+            "has another root than the log's entries",
+        ));
+    }
+    Ok(checkpoint)
+}
+
+// Adds the entries of a bundle.
+fn push_bundle(
+    rt: &HostRuntime,
+    folder: &Folder,
+    log: &mut TileLog<Sha256, Vec<u8>>,
+    tile: &Tile,
+    progress: &mut Progress,
+) -> Result<(), Refusal>
+    requires { tile.now.level ≡ 0 }
+{
+    let bytes = read_bundle(rt, folder, tile)?;
+    let entries = entries_of(rt, folder, tile, bytes.as_slice())?;
+    let mut bytes = Vec::new(rt.alloc());
+    for entry in entries.as_slice() {
+        bytes.clear();
+        bytes.extend_from_slice(entry)?;
+        push_entry(log, &bytes)?;
+        progress.step(rt);
+    }
+    Ok(())
+}
+
+fn compare_tiles(
+    rt: &HostRuntime,
+    folder: &Folder,
+    tiles: &[StoredTile<Sha256>],
+) -> Result<(), Refusal> {
+    'tiles: for tile in tiles {
+        compare_tile(rt, folder, tile)?;
+    }
+    Ok(())
+}

@@ -1,0 +1,90 @@
+//! Standard input, line by line.
+
+use crate::refusal::Refusal;
+use hex::FromHexError;
+use std::alloc::Global;
+use std::io::{BufRead, BufReader, ErrorKind, Input, Read};
+
+// The greatest number of bytes of an entry.
+const MOST: usize = 65_535;
+
+// A line of the greatest entry, with a carriage return, a newline and one byte more.
+const LONGEST: u64 = 131_073;
+
+// How many bytes are read at a time.
+const AT_ONCE: usize = 1 << 16;
+
+type Reader = <HostRuntime as Input>::Reader;
+
+/// The lines of standard input, one at a time.
+#[derive(Drop)]
+pub struct Lines {
+    input: BufReader<Reader>,
+    line: Vec<u8>,
+    number: usize,
+}
+
+impl Lines {
+    /// The lines of standard input, before the first.
+    pub fn new(rt: &HostRuntime) -> Result<Lines, Refusal> {
+        let Ok(input) = BufReader::with_capacity(rt.alloc(), AT_ONCE, rt.reader()) else {
+            return Err(Refusal::Memory);
+        };
+        Ok(Lines {
+            input,
+            line: Vec::new(rt.alloc()),
+            number: 0,
+        })
+    }
+
+    /// Goes on to the next line. False at the end of the input.
+    pub fn go_on(&mut self, alloc: Global) -> Result<bool, Refusal> {
+        self.line.clear();
+        let read = self
+            .input
+            .by_ref()
+            .take(LONGEST)
+            .read_until(b'\n', &mut self.line);
+        match read {
+            Ok(0) => return Ok(false),
+            Ok(_) => {}
+            Err(error) if error.kind() == ErrorKind::OutOfMemory => return Err(Refusal::Memory),
+            Err(error) => {
+                let path = String::from_str(alloc, "standard input")?;
+                return Err(Refusal::of_read(path, error));
+            }
+        }
+        self.number = self.number.saturating_add(1);
+        Ok(true)
+    }
+
+    /// The line's bytes, without its end.
+    pub fn line(&self) -> &[u8] {
+        let line = self.line.as_slice();
+        let line = line.strip_suffix(b"\n").unwrap_or(line);
+        line.strip_suffix(b"\r").unwrap_or(line)
+    }
+
+    /// The refusal for this line.
+    pub fn refused(&self, fault: &'static str) -> Refusal {
+        Refusal::Line {
+            number: self.number,
+            fault,
+        }
+    }
+
+    /// The entry whose hexadecimal digits the line has.
+    pub fn entry(&self, alloc: Global) -> Result<Vec<u8>, Refusal> {
+        let line = self.line();
+        if line.len() > 2 * MOST {
+            return Err(self.refused("is too long: an entry has at most 65,535 bytes"));
+        }
+        match hex::decode(alloc, line) {
+            Ok(entry) => Ok(entry),
+            Err(FromHexError::OutOfMemory) => Err(Refusal::Memory),
+            Err(_) => Err(self.refused(
+                "isn't an entry: write two hexadecimal digits for each byte",
+            )),
+        }
+    }
+}

@@ -1,0 +1,115 @@
+//! The command that judges a path from standard input alone.
+
+use crate::lines::Lines;
+use crate::refusal::Refusal;
+use base64::engine::general_purpose::STANDARD;
+use std::alloc::Global;
+use warg_crypto::{Hash, Sha256};
+use warg_log::Checkpoint;
+use warg_paths::{check_record, check_tree};
+
+// What the first line of standard input claims.
+#[derive(Drop)]
+enum Claim {
+    Inclusion {
+        index: usize,
+        checkpoint: Checkpoint<Sha256>,
+    },
+    Consistency {
+        old: Checkpoint<Sha256>,
+        new: Checkpoint<Sha256>,
+    },
+}
+
+/// Whether the path on standard input shows the claim above it.
+pub fn verify(rt: &HostRuntime) -> Result<bool, Refusal> {
+    let alloc = rt.alloc();
+    let mut lines = Lines::new(rt)?;
+    next(alloc, &mut lines)?;
+    match claim_in(lines.line()) {
+        Some(Claim::Inclusion { index, checkpoint }) => {
+            next(alloc, &mut lines)?;
+            let entry = lines.entry(alloc)?;
+            let path = path_in(alloc, &mut lines)?;
+            Ok(check_record(&checkpoint, index, &entry, path.as_slice()))
+        }
+        Some(Claim::Consistency { old, new }) => {
+            let path = path_in(alloc, &mut lines)?;
+            Ok(check_tree(&old, &new, path.as_slice()))
+        }
+        None => Err(lines.refused(
+            "isn't a claim: write inclusion INDEX LENGTH ROOT, or consistency OLD OLD_ROOT NEW NEW_ROOT",
+        )),
+    }
+}
+
+// Goes on to a line that has to be there.
+fn next(alloc: Global, lines: &mut Lines) -> Result<(), Refusal> {
+    if lines.go_on(alloc)? {
+        return Ok(());
+    }
+    Err(lines.refused(
+        "is the last one: a claim and, for an entry, its digits have to stand before the path",
+    ))
+}
+
+// The path of the lines that are left.
+fn path_in(alloc: Global, lines: &mut Lines) -> Result<Vec<Hash<Sha256>>, Refusal> {
+    let mut path = Vec::new(alloc);
+    for _ in 0..u64::MAX {
+        if !lines.go_on(alloc)? {
+            break;
+        }
+        match text_in(lines.line()).and_then(|text| text.parse::<Hash<Sha256>>().ok()) {
+            Some(digest) => path.push(digest)?,
+            None => return Err(lines.refused(
+                "isn't a digest of the path: write 64 hexadecimal digits",
+            )),
+        }
+    }
+    Ok(path)
+}
+
+fn claim_in(line: &[u8]) -> Option<Claim> {
+    let (kind, words) = text_in(line)?.split_once(' ')?;
+    match kind {
+        "inclusion" => {
+            let (index, words) = words.split_once(' ')?;
+            let checkpoint = checkpoint_in(words)?;
+            Some(Claim::Inclusion {
+                index: index.parse().ok()?,
+                checkpoint,
+            })
+        }
+        "consistency" => {
+            let (old_length, words) = words.split_once(' ')?;
+            let (old_root, new) = words.split_once(' ')?;
+            Some(Claim::Consistency {
+                old: Checkpoint::new(root_in(old_root)?, old_length.parse().ok()?),
+                new: checkpoint_in(new)?,
+            })
+        }
+        _ => None,
+    }
+}
+
+fn checkpoint_in(words: &str) -> Option<Checkpoint<Sha256>> {
+    let (length, root) = words.split_once(' ')?;
+    Some(Checkpoint::new(root_in(root)?, length.parse().ok()?))
+}
+
+// The root that a word spells: in base64, as in a checkpoint, or in hexadecimal digits.
+fn root_in(word: &str) -> Option<Hash<Sha256>> {
+    if let Ok(root) = word.parse::<Hash<Sha256>>() {
+        return Some(root);
+    }
+    let mut root = [0; 32];
+    match STANDARD.decode_slice(word.as_bytes(), &mut root) {
+        Ok(32) => Some(Hash::from_array(root)),
+        _ => None,
+    }
+}
+
+fn text_in(line: &[u8]) -> Option<&str> {
+    str::from_utf8(line).ok()
+}

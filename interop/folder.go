@@ -1,0 +1,163 @@
+// Logs in folders, as warg_tlog keeps them, read by tlog.TileHashReader.
+package main
+
+import (
+	"bytes"
+	"encoding/hex"
+	"fmt"
+	"os"
+	"os/exec"
+	"path/filepath"
+	"sort"
+	"strings"
+
+	"golang.org/x/mod/sumdb/tlog"
+)
+
+const (
+	folderInFull = 600 // Every index and every old length of every length up to this.
+	folderLogs   = 20  // Random lengths up to most, in one folder.
+	perFolderLog = 50  // So many random indices and old lengths of each.
+)
+
+var (
+	folderProgram              string
+	folderRecords, folderTrees int
+)
+
+func compareFolders() {
+	room, err := os.MkdirTemp("", "warg-tlog-")
+	stop(err)
+	defer os.RemoveAll(room)
+	log := newFolder(filepath.Join(room, "every"))
+	for length := int64(1); length <= folderInFull; length++ {
+		log.append(length)
+		for i := int64(0); i < length; i++ {
+			log.record(i)
+			log.tree(i + 1)
+		}
+		log.ours(random.Int63n(length), 1+random.Int63n(length))
+	}
+	log = newFolder(filepath.Join(room, "random"))
+	for _, length := range folderLengths() {
+		log.append(length)
+		for i := 0; i < perFolderLog; i++ {
+			log.record(random.Int63n(length))
+			log.tree(1 + random.Int63n(length))
+			log.ours(random.Int63n(length), 1+random.Int63n(length))
+		}
+	}
+	fmt.Printf("interop: out of folders of %d lengths, tlog.TileHashReader proves %d records and %d trees\n",
+		folderInFull+folderLogs, folderRecords, folderTrees)
+}
+
+// Random lengths, in ascending order, the greatest one last.
+func folderLengths() []int64 {
+	lengths := []int64{most}
+	for len(lengths) < folderLogs {
+		lengths = append(lengths, 1+random.Int63n(most))
+	}
+	sort.Slice(lengths, func(i, j int) bool { return lengths[i] < lengths[j] })
+	return lengths
+}
+
+// A log's files: in a folder, or behind a server.
+type files interface {
+	// The bytes of the file with this path.
+	get(path string) ([]byte, error)
+}
+
+// A log in a folder, at the checkpoint that it has.
+type folder struct {
+	name   string
+	length int64
+	reader *tileReader
+}
+
+func newFolder(name string) *folder {
+	tlogRun(nil, "init", name, goOrigin)
+	return &folder{name: name}
+}
+
+func (f *folder) get(path string) ([]byte, error) { return os.ReadFile(filepath.Join(f.name, path)) }
+
+// Appends entries up to a length, and reads the checkpoint, which has to be tlog's.
+func (f *folder) append(length int64) {
+	var lines bytes.Buffer
+	for ; f.length < length; f.length++ {
+		lines.WriteString(hex.EncodeToString([]byte(value(f.length))) + "\n")
+	}
+	tlogRun(lines.Bytes(), "append", f.name)
+	f.reader = readerOf(f, length)
+}
+
+// The reader of a log's tiles, at the checkpoint that the files have.
+func readerOf(from files, length int64) *tileReader {
+	text, err := from.get("checkpoint")
+	stop(err)
+	tree, err := tlog.ParseTree(text)
+	stop(err)
+	if tree.N != length || tree.Hash != rootOf(length) {
+		stop(fmt.Errorf("the checkpoint has %d entries and root %s", tree.N, digits(tree.Hash)))
+	}
+	if string(text) != string(tlog.FormatTree(tree)) {
+		stop(fmt.Errorf("tlog.FormatTree writes another text than %q", text))
+	}
+	return &tileReader{from: from, tree: tree, kept: map[tlog.Tile][]byte{}}
+}
+
+// Proves an entry by the tiles alone, and reads it out of its bundle.
+func (r *tileReader) record(index int64) {
+	hashes := tlog.TileHashReader(r.tree, r)
+	path, err := tlog.ProveRecord(r.tree.N, index, hashes)
+	stop(err)
+	entry := r.entry(index)
+	if string(entry) != value(index) {
+		stop(fmt.Errorf("entry %d is %q", index, entry))
+	}
+	stop(tlog.CheckRecord(path, r.tree.N, r.tree.Hash, index, tlog.RecordHash(entry)))
+}
+
+func (f *folder) record(index int64) {
+	f.reader.record(index)
+	folderRecords++
+}
+
+// Proves an old length by the tiles alone.
+func (f *folder) tree(old int64) {
+	path, err := tlog.ProveTree(f.length, old, tlog.TileHashReader(f.reader.tree, f.reader))
+	stop(err)
+	stop(tlog.CheckTree(path, f.length, f.reader.tree.Hash, old, rootOf(old)))
+	folderTrees++
+}
+
+// Compares the paths that our program prints, at the log's length and at an older one, with tlog's.
+func (f *folder) ours(index, old int64) {
+	path, err := tlog.ProveRecord(f.length, index, stored)
+	stop(err)
+	f.same(path, "prove", f.name, fmt.Sprint(index))
+	growth, err := tlog.ProveTree(f.length, old, stored)
+	stop(err)
+	f.same(growth, "consistency", f.name, fmt.Sprint(old))
+	if index < old {
+		path, err = tlog.ProveRecord(old, index, stored)
+		stop(err)
+		f.same(path, "prove", f.name, fmt.Sprint(index), fmt.Sprint(old))
+	}
+}
+
+func (f *folder) same(path []tlog.Hash, words ...string) {
+	ours := strings.Fields(string(tlogRun(nil, words...)))
+	if theirs := list(path); strings.Join(ours, ",") != strings.Trim(theirs, "[]") {
+		differ(strings.Join(words, " "), strings.Join(ours, ","), theirs)
+	}
+}
+
+// Runs warg_tlog, and returns what it writes.
+func tlogRun(input []byte, words ...string) []byte {
+	command := exec.Command(folderProgram, words...)
+	command.Stdin, command.Stderr = bytes.NewReader(input), os.Stderr
+	output, err := command.Output()
+	stop(err)
+	return output
+}

@@ -1,0 +1,51 @@
+// The comparison of this project's paths, tiles and checkpoint texts with those of Go's checksum database.
+//
+// Usage: interop WARG_INTEROP WARG_TLOG. With BENCH=1 in the environment it prints times too. docs/INTEROP.md says what is
+// compared.
+package main
+
+import (
+	"fmt"
+	"math/rand"
+	"os"
+)
+
+var random = rand.New(rand.NewSource(1))
+
+func main() {
+	if len(os.Args) != 3 {
+		fmt.Fprintln(os.Stderr, "usage: interop WARG_INTEROP WARG_TLOG")
+		os.Exit(2)
+	}
+	program, folderProgram = os.Args[1], os.Args[2]
+	// One entry more, since a log one longer is tried too.
+	grow(most + 1)
+	comparePaths()
+	compareTilePaths()
+	compareCheckpoints()
+	compareFolders()
+	compareServed()
+	if os.Getenv("BENCH") == "1" {
+		bench()
+	}
+}
+
+func differ(line, ours, theirs string) {
+	fmt.Printf("interop: they differ at: %s\nours:   %s\ntlog's: %s\n", line, ours, theirs)
+	os.Exit(1)
+}
+
+func stop(err error) {
+	if err != nil {
+		fmt.Printf("interop: %v\n", err)
+		os.Exit(1)
+	}
+}
+
+// Whether a call of Go's side was refused, as it is to be.
+func errs[T any](_ T, err error) error {
+	if err == nil {
+		return fmt.Errorf("tlog gives a path of no place")
+	}
+	return nil
+}
