@@ -7,6 +7,7 @@ mod counts;
 mod growth;
 mod logs;
 mod maps;
+mod paths;
 mod rows;
 mod slow;
 mod times;
@@ -42,6 +43,7 @@ fn measure(rt: &HostRuntime) -> Result<()> {
     )?;
     counts::measure(rt)?;
     logs::measure(rt, branch)?;
+    paths::measure(rt, branch)?;
     maps::measure(rt, 1_000)?;
     maps::measure(rt, 10_000)?;
     bundles::measure(rt)?;

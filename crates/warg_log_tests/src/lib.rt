@@ -16,4 +16,5 @@ mod log;
 mod messages;
 #[cfg(test)]
 mod serve;
+#[cfg(test)]
 mod tiles;

@@ -6,7 +6,8 @@ use Rattle.std.proofs.Math.Seq.{get_or-append_seam}
 use Rattle.std.proofs.lemmas.Nat.{pow_pos, pow-add}
 use Rattle.std.proofs.lemmas.Bool.{cases_lt}
 use Rattle.std.proofs.lemmas.List.{take_all, length-drop, length-take-le, get_or-take, get_or-drop, take-append-le, drop-append-le, length-append, append-nil}
-use Rattle.warg_log.specs.Tree.{branch, root_of, root_over, leaves_below}
+use Rattle.warg_crypto.specs.Tree.{branch}
+use Rattle.warg_log.specs.Tree.{root_of, root_over, leaves_below}
 use Rattle.warg_log.specs.Nodes.{number_of}
 use Rattle.warg_tiles.specs.Tiles.{TileAt, node_in}
 use Rattle.warg_tiles.specs.TileLog.{last_tile, tile_digests}

@@ -3,6 +3,7 @@
 ghost use Rattle.std.specs.Prelude.{◌≡◌, ℕ, ◌+◌, ◌-◌, ◌*◌, ◌^◌, ◌<◌, ◌≤◌, ◌↔◌, List, [], ◌∷◌, ◌++◌, Some, None, length, map, take, Err, IsTrue, IfOk, OnOk, OnErr};
 ghost use Rattle.std.specs.List.{AllByRecursion};
 ghost use Rattle.std.specs.Option.{option_to_list};
+ghost use Rattle.warg_crypto.specs.Tree.{leaf_digest};
 ghost use Rattle.warg_log.specs.Tree.{root_of, own_digest};
 ghost use Rattle.warg_tiles.specs.TileData.{IsTileBy};
 ghost use Rattle.warg_tiles.specs.TileLog.{StandsFor, AreTilesOf, partial_tiles, full_between, completed_from, tiles_fault};
@@ -146,7 +147,7 @@ impl<D: SupportedDigest, V: VisitBytes, A: Allocator + Copy> LogBuilder<D, V> fo
         requires { self.old.len < 2 ^ 63 }
         ensures node { IfOk result (λ node. node.0 ≡ 2 * self.old.len) }
         ensures length { OnOk result ((self.new.len ≡ self.old.len + 1) × (self.new.taken ≡ self.old.taken)) }
-        ensures stands { OnOk result ((ds : List (List ℕ)) → StandsFor D.digest self.old ds → StandsFor D.digest self.new (ds ++ D.digest (0 ∷ V.bytes entry.now) ∷ [])) }
+        ensures stands { OnOk result ((ds : List (List ℕ)) → StandsFor D.digest self.old ds → StandsFor D.digest self.new (ds ++ leaf_digest D.digest (V.bytes entry.now) ∷ [])) }
         ensures err { OnErr result (self.new ≡ self.old) }
     {
         let digest = hash_leaf::<D, V>(entry);
