@@ -28,7 +28,9 @@ pub fn check_entry<D: SupportedDigest, V: VisitBytes, A: Allocator + Copy>(
     value: &V,
     checkpoint: &Checkpoint<D>,
 ) -> Result<bool, CheckError>
-    ensures verdict { Answers CheckError.Memory result (entry_verdict D.digest bytes.now at index (V.bytes value.now) checkpoint.now.length checkpoint.now.root) }
+    ensures verdict { Answers CheckError.Memory result
+        (entry_verdict D.digest bytes.now at index
+        (V.bytes value.now) checkpoint.now.length checkpoint.now.root) }
     ensures memory { result ≢ Err (CheckError.Decode decoding.Memory) }
     ensures wire { result ≢ Err (CheckError.Decode (decoding.Wire wire.Memory)) }
 {
@@ -48,7 +50,8 @@ fn is_entry<D: SupportedDigest, V: VisitBytes, A: Allocator>(
     checkpoint: &Checkpoint<D>,
 ) -> bool
     requires { proof.now.log_length ≡ bundle.now.log_length }
-    ensures { result ≡ shows_entry D.digest index (V.bytes value.now) checkpoint.now.length checkpoint.now.root bundle.now proof.now.leaf }
+    ensures { result ≡ shows_entry D.digest index
+        (V.bytes value.now) checkpoint.now.length checkpoint.now.root bundle.now proof.now.leaf }
 {
     is_leaf(proof.leaf(), index)
         && proof.log_length() == checkpoint.length()
@@ -78,7 +81,8 @@ pub fn check_growth<D: SupportedDigest, A: Allocator + Copy>(
     old: &Checkpoint<D>,
     new: &Checkpoint<D>,
 ) -> Result<bool, CheckError>
-    ensures verdict { Answers CheckError.Memory result (growth_verdict D.digest bytes.now at old.now.length old.now.root new.now.length new.now.root) }
+    ensures verdict { Answers CheckError.Memory result
+        (growth_verdict D.digest bytes.now at old.now.length old.now.root new.now.length new.now.root) }
     ensures memory { result ≢ Err (CheckError.Decode decoding.Memory) }
     ensures wire { result ≢ Err (CheckError.Decode (decoding.Wire wire.Memory)) }
 {
@@ -97,7 +101,8 @@ fn is_growth<D: SupportedDigest, A: Allocator>(
     new: &Checkpoint<D>,
 ) -> bool
     requires { proof.now.new_length ≡ bundle.now.log_length }
-    ensures { result ≡ shows_growth D.digest old.now.length old.now.root new.now.length new.now.root bundle.now proof.now.old_length }
+    ensures { result
+        ≡ shows_growth D.digest old.now.length old.now.root new.now.length new.now.root bundle.now proof.now.old_length }
 {
     proof.old_length() == old.length()
         && proof.new_length() == new.length()

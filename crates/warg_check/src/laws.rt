@@ -14,29 +14,36 @@ ghost use Rattle.warg_check.specs.UpdateVerdicts.{update_verdict, insertion_verd
 
 /// Where the verdict on an entry is true, the bundle's digests lead from the value at its leaf to the root.
 pub fn entry_is_shown()
-    ensures { (H : List ℕ → List ℕ) (bytes : List ℕ) (at index : ℕ) (value : List ℕ) (length : ℕ) (root : List ℕ) → entry_verdict H bytes at index value length root ≡ Ok true → IsEntryShown H bytes index value length root }
+    ensures { (H : List ℕ → List ℕ) (bytes : List ℕ) (at index : ℕ) (value : List ℕ) (length : ℕ)
+        (root : List ℕ) → entry_verdict H bytes at index value length root ≡ Ok true
+        → IsEntryShown H bytes index value length root }
 {}
 
 /// Where the verdict on two checkpoints is true, the bundle's digests lead to both roots.
 pub fn growth_is_shown()
-    ensures { (H : List ℕ → List ℕ) (bytes : List ℕ) (at old_length : ℕ) (old : List ℕ) (new_length : ℕ) (new : List ℕ) → growth_verdict H bytes at old_length old new_length new ≡ Ok true → IsGrowthShown H bytes old_length old new_length new }
+    ensures { (H : List ℕ → List ℕ) (bytes : List ℕ) (at old_length : ℕ) (old : List ℕ)
+        (new_length : ℕ) (new : List ℕ) → growth_verdict H bytes at old_length old new_length new
+        ≡ Ok true → IsGrowthShown H bytes old_length old new_length new }
 {}
 
 /// Where the verdict on a key is true, the bundle has peers that lead from the value under the key to the root.
 pub fn key_is_shown()
-    ensures { (H : List ℕ → List ℕ) (bytes : List ℕ) (at : ℕ) (key value root : List ℕ) → key_verdict H bytes at key value root ≡ Ok true → IsKeyShown H bytes key value root }
+    ensures { (H : List ℕ → List ℕ) (bytes : List ℕ) (at : ℕ) (key value root : List ℕ)
+        → key_verdict H bytes at key value root ≡ Ok true → IsKeyShown H bytes key value root }
 {}
 
 /// Where the verdict on an absence is true, the bundle has peers that lead from an empty leaf under the key to the
 /// root.
 pub fn absence_is_shown()
-    ensures { (H : List ℕ → List ℕ) (bytes : List ℕ) (at : ℕ) (key root : List ℕ) → absent_verdict H bytes at key root ≡ Ok true → IsAbsenceShown H bytes key root }
+    ensures { (H : List ℕ → List ℕ) (bytes : List ℕ) (at : ℕ) (key root : List ℕ)
+        → absent_verdict H bytes at key root ≡ Ok true → IsAbsenceShown H bytes key root }
 {}
 
 /// Where the verdict on an update is true, the bundle has peers that lead from both values under the key to the two
 /// roots.
 pub fn update_is_shown()
-    ensures { (H : List ℕ → List ℕ) (bytes : List ℕ) (at : ℕ) (key old_value new_value old_root new_root : List ℕ)
+    ensures { (H : List ℕ → List ℕ) (bytes : List ℕ) (at : ℕ)
+        (key old_value new_value old_root new_root : List ℕ)
         → update_verdict H bytes at key old_value new_value old_root new_root ≡ Ok true
         → IsUpdateShown H bytes key old_value new_value old_root new_root }
 {}
@@ -45,5 +52,6 @@ pub fn update_is_shown()
 /// root, and from the value to the new one.
 pub fn insertion_is_shown()
     ensures { (H : List ℕ → List ℕ) (bytes : List ℕ) (at : ℕ) (key value old_root new_root : List ℕ)
-        → insertion_verdict H bytes at key value old_root new_root ≡ Ok true → IsInsertionShown H bytes key value old_root new_root }
+        → insertion_verdict H bytes at key value old_root new_root ≡ Ok true
+        → IsInsertionShown H bytes key value old_root new_root }
 {}

@@ -45,7 +45,7 @@ impl From<AllocError> for RunError {
 
 /// Reads all the input, forms the whole text, writes it and flushes.
 ///
-/// It answers whether every line was good. The commands:
+/// It returns whether every line was good. The commands:
 ///
 /// | line | answer |
 /// |---|---|
@@ -73,8 +73,10 @@ pub fn run<A: Allocator + Copy, R: Read, W: Write>(
     reader: &mut R,
     writer: &mut W,
 ) -> Result<bool, RunError>
-    ensures text { OnOk result (IfSome (R.remaining reader.old) (λ input. Appends (W.contents writer.old) (W.contents writer.new) (text_of input))) }
-    ensures good { IfOk result (λ good. IfSome (R.remaining reader.old) (λ input. good ≡ all_good (lines_of input))) }
+    ensures text { OnOk result (IfSome (R.remaining reader.old)
+        (λ input. Appends (W.contents writer.old) (W.contents writer.new) (text_of input))) }
+    ensures good { IfOk result (λ good. IfSome (R.remaining reader.old)
+        (λ input. good ≡ all_good (lines_of input))) }
     ensures unwritten { IfErr result (λ error. error ≢ RunError.Write → writer.new ≡ writer.old) }
     ensures full { result ≡ Err RunError.Full → IfSome (R.remaining reader.old) MeetsFull }
     ensures room { HasText result → IfSome (R.remaining reader.old) (λ input. ¬ MeetsFull input) }
@@ -89,7 +91,8 @@ pub fn run<A: Allocator + Copy, R: Read, W: Write>(
 
 // All that a reader gives up to its end. An error of a read isn't tried again.
 fn read_all<A: Allocator, R: Read>(alloc: A, reader: &mut R) -> Result<Vec<u8, A>, RunError>
-    ensures bytes { IfOk result (λ bytes. IfSome (R.remaining reader.old) (λ input. bytes.items ≡ input)) }
+    ensures bytes { IfOk result (λ bytes. IfSome (R.remaining reader.old)
+        (λ input. bytes.items ≡ input)) }
     ensures errors { IfErr result (λ error. (error ≢ RunError.Write) × (error ≢ RunError.Full)) }
 {
     let mut bytes = Vec::new(alloc);

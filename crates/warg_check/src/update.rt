@@ -33,7 +33,8 @@ pub fn check_update<D: SupportedDigest, K: VisitBytes, V: VisitBytes, A: Allocat
     new_root: &Hash<D>,
 ) -> Result<bool, CheckError>
     ensures verdict { Answers CheckError.Memory result
-        (update_verdict D.digest bytes.now at (K.bytes key.now) (V.bytes old_value.now) (V.bytes new_value.now) old_root.now new_root.now) }
+        (update_verdict D.digest bytes.now at (K.bytes key.now) (V.bytes old_value.now)
+        (V.bytes new_value.now) old_root.now new_root.now) }
     ensures memory { result ≢ Err (CheckError.Decode decoding.Memory) }
     ensures wire { result ≢ Err (CheckError.Decode (decoding.Wire wire.Memory)) }
 {
@@ -70,7 +71,8 @@ pub fn check_insertion<D: SupportedDigest, K: VisitBytes, V: VisitBytes, A: Allo
     new_root: &Hash<D>,
 ) -> Result<bool, CheckError>
     ensures verdict { Answers CheckError.Memory result
-        (insertion_verdict D.digest bytes.now at (K.bytes key.now) (V.bytes value.now) old_root.now new_root.now) }
+        (insertion_verdict D.digest bytes.now at (K.bytes key.now)
+        (V.bytes value.now) old_root.now new_root.now) }
     ensures memory { result ≢ Err (CheckError.Decode decoding.Memory) }
     ensures wire { result ≢ Err (CheckError.Decode (decoding.Wire wire.Memory)) }
 {

@@ -49,7 +49,8 @@ pub fn check_inclusion<D: SupportedDigest, V: VisitBytes, A: Allocator + Copy>(
     value: &V,
     root: &Hash<D>,
 ) -> Result<bool, CheckError>
-    ensures verdict { Answers CheckError.Memory result (inclusion_verdict D.digest bytes.now at (V.bytes value.now) root.now) }
+    ensures verdict { Answers CheckError.Memory result
+        (inclusion_verdict D.digest bytes.now at (V.bytes value.now) root.now) }
     ensures memory { result ≢ Err (CheckError.Decode decoding.Memory) }
     ensures wire { result ≢ Err (CheckError.Decode (decoding.Wire wire.Memory)) }
 {
@@ -88,7 +89,8 @@ pub fn check_consistency<D: SupportedDigest, A: Allocator + Copy>(
     old: &Hash<D>,
     new: &Hash<D>,
 ) -> Result<bool, CheckError>
-    ensures verdict { Answers CheckError.Memory result (consistency_verdict D.digest bytes.now at old.now new.now) }
+    ensures verdict { Answers CheckError.Memory result
+        (consistency_verdict D.digest bytes.now at old.now new.now) }
     ensures memory { result ≢ Err (CheckError.Decode decoding.Memory) }
     ensures wire { result ≢ Err (CheckError.Decode (decoding.Wire wire.Memory)) }
 {
@@ -127,7 +129,8 @@ pub fn check_key<D: SupportedDigest, K: VisitBytes, V: VisitBytes, A: Allocator 
     value: &V,
     root: &Hash<D>,
 ) -> Result<bool, CheckError>
-    ensures verdict { Answers CheckError.Memory result (key_verdict D.digest bytes.now at (K.bytes key.now) (V.bytes value.now) root.now) }
+    ensures verdict { Answers CheckError.Memory result
+        (key_verdict D.digest bytes.now at (K.bytes key.now) (V.bytes value.now) root.now) }
     ensures memory { result ≢ Err (CheckError.Decode decoding.Memory) }
     ensures wire { result ≢ Err (CheckError.Decode (decoding.Wire wire.Memory)) }
 {
@@ -150,7 +153,8 @@ pub fn check_absent<D: SupportedDigest, K: VisitBytes, A: Allocator + Copy>(
     key: &K,
     root: &Hash<D>,
 ) -> Result<bool, CheckError>
-    ensures verdict { Answers CheckError.Memory result (absent_verdict D.digest bytes.now at (K.bytes key.now) root.now) }
+    ensures verdict { Answers CheckError.Memory result
+        (absent_verdict D.digest bytes.now at (K.bytes key.now) root.now) }
     ensures memory { result ≢ Err (CheckError.Decode decoding.Memory) }
     ensures wire { result ≢ Err (CheckError.Decode (decoding.Wire wire.Memory)) }
 {

@@ -14,7 +14,7 @@ use sha2::Digest;
 
 /// A function from byte lists to 32 bytes.
 ///
-/// A value of the type takes bytes as a [`ByteVisitor`], and answers the digest of all of them.
+/// A value of the type takes bytes as a [`ByteVisitor`], and returns the digest of all of them.
 pub trait SupportedDigest: ByteVisitor {
     // The digest of a list of bytes.
     ghost digest: { List ℕ → List ℕ };

@@ -29,7 +29,8 @@ impl VisitBytes for Framed<'_> {
 
 // Visits a part's length and then the part.
 fn visit_part<W: ByteVisitor>(part: &[u8], to: &mut W)
-    ensures { (m : List ℕ) → W.stands_for to.old m → W.stands_for to.new (m ++ framed_part part.now) }
+    ensures { (m : List ℕ) → W.stands_for to.old m
+        → W.stands_for to.new (m ++ framed_part part.now) }
 {
     to.visit_bytes(&(part.len() as u64).to_be_bytes());
     to.visit_bytes(part);

@@ -82,7 +82,7 @@ impl<D> Hash<D> {
         }
     }
 
-    /// The hash with the bytes of a list or a slice: `HashLength` exactly where they aren't 32.
+    /// The hash with the bytes of a list or a slice: `HashLength` exactly if they aren't 32.
     pub fn try_from<T: AsSlice<u8> + Drop>(bytes: T) -> Result<Hash<D>, HashLength>
         ensures ok { IfOk result (λ h. h ≡ T.items bytes) }
         ensures exactly { IsOk result ↔ (length (T.items bytes) ≡ 32) }

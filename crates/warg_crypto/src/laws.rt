@@ -15,7 +15,7 @@ pub fn order_by_bytes<D>(first: &Hash<D>, second: &Hash<D>) -> Ordering
     first.cmp(second)
 }
 
-/// Hashes are equal exactly where their bytes are.
+/// Hashes are equal exactly if their bytes are.
 pub fn equal_by_bytes<D>(first: &Hash<D>, second: &Hash<D>) -> bool
     ensures { IsTrue result ↔ (first.now ≡ second.now) }
 {
@@ -25,5 +25,6 @@ pub fn equal_by_bytes<D>(first: &Hash<D>, second: &Hash<D>) -> bool
 /// Framed parts of the same bytes are the same parts: as many, and each the same.
 #[tactic(auto, using(crate::proofs::FramedLemmas::framed_parts))]
 pub fn framed_apart()
-    ensures { (xs ys : List (List ℕ)) → All IsPart xs → All IsPart ys → framed xs ≡ framed ys → xs ≡ ys }
+    ensures { (xs ys : List (List ℕ)) → All IsPart xs → All IsPart ys → framed xs ≡ framed ys
+        → xs ≡ ys }
 {}

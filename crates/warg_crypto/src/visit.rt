@@ -24,7 +24,8 @@ pub trait VisitBytes {
 
     /// Hands exactly the value's bytes to a visitor, in order and in any number of pieces.
     fn visit<W: ByteVisitor>(&self, to: &mut W)
-        ensures { (m : List ℕ) → W.stands_for to.old m → W.stands_for to.new (m ++ bytes self.now) };
+        ensures { (m : List ℕ) → W.stands_for to.old m
+            → W.stands_for to.new (m ++ bytes self.now) };
 }
 
 /// No bytes.

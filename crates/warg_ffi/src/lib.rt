@@ -49,7 +49,8 @@ pub extern "C" fn warg_check_entry(
     length: usize,
     root: &[u8],
 ) -> i32
-    ensures { Returns (root.now ∷ []) (entry_verdict sha256 bundle.now at index value.now length root.now) result }
+    ensures { Returns (root.now ∷ [])
+        (entry_verdict sha256 bundle.now at index value.now length root.now) result }
 {
     match Hash::<Sha256>::try_from(root) {
         Ok(root) => {
@@ -73,7 +74,8 @@ pub extern "C" fn warg_check_growth(
     new_length: usize,
     new_root: &[u8],
 ) -> i32
-    ensures { Returns (old_root.now ∷ new_root.now ∷ []) (growth_verdict sha256 bundle.now at old_length old_root.now new_length new_root.now) result }
+    ensures { Returns (old_root.now ∷ new_root.now ∷ [])
+        (growth_verdict sha256 bundle.now at old_length old_root.now new_length new_root.now) result }
 {
     match (
         Hash::<Sha256>::try_from(old_root),
@@ -99,7 +101,8 @@ pub extern "C" fn warg_check_inclusion(
     value: &[u8],
     root: &[u8],
 ) -> i32
-    ensures { Returns (root.now ∷ []) (inclusion_verdict sha256 bundle.now at value.now root.now) result }
+    ensures { Returns (root.now ∷ [])
+        (inclusion_verdict sha256 bundle.now at value.now root.now) result }
 {
     match Hash::<Sha256>::try_from(root) {
         Ok(root) => number(check_inclusion(alloc, bundle, at, &value, &root)),
@@ -118,7 +121,8 @@ pub extern "C" fn warg_check_consistency(
     old_root: &[u8],
     new_root: &[u8],
 ) -> i32
-    ensures { Returns (old_root.now ∷ new_root.now ∷ []) (consistency_verdict sha256 bundle.now at old_root.now new_root.now) result }
+    ensures { Returns (old_root.now ∷ new_root.now ∷ [])
+        (consistency_verdict sha256 bundle.now at old_root.now new_root.now) result }
 {
     match (
         Hash::<Sha256>::try_from(old_root),
@@ -140,7 +144,8 @@ pub extern "C" fn warg_check_key(
     value: &[u8],
     root: &[u8],
 ) -> i32
-    ensures { Returns (root.now ∷ []) (key_verdict sha256 bundle.now at key.now value.now root.now) result }
+    ensures { Returns (root.now ∷ [])
+        (key_verdict sha256 bundle.now at key.now value.now root.now) result }
 {
     match Hash::<Sha256>::try_from(root) {
         Ok(root) => number(check_key(alloc, bundle, at, &key, &value, &root)),
@@ -159,7 +164,8 @@ pub extern "C" fn warg_check_absent(
     key: &[u8],
     root: &[u8],
 ) -> i32
-    ensures { Returns (root.now ∷ []) (absent_verdict sha256 bundle.now at key.now root.now) result }
+    ensures { Returns (root.now ∷ [])
+        (absent_verdict sha256 bundle.now at key.now root.now) result }
 {
     match Hash::<Sha256>::try_from(root) {
         Ok(root) => number(check_absent(alloc, bundle, at, &key, &root)),
@@ -232,7 +238,8 @@ pub extern "C" fn warg_check_record(
     length: usize,
     root: &[u8],
 ) -> i32
-    ensures { Returns (root.now ∷ []) (path_verdict (shows_record sha256 index value.now length root.now) path.now) result }
+    ensures { Returns (root.now ∷ []) (path_verdict
+        (shows_record sha256 index value.now length root.now) path.now) result }
 {
     match Hash::<Sha256>::try_from(root) {
         Ok(root) => {
@@ -255,7 +262,9 @@ pub extern "C" fn warg_check_tree(
     new_length: usize,
     new_root: &[u8],
 ) -> i32
-    ensures { Returns (old_root.now ∷ new_root.now ∷ []) (path_verdict (shows_tree sha256 old_length old_root.now new_length new_root.now) path.now) result }
+    ensures { Returns (old_root.now ∷ new_root.now ∷ [])
+        (path_verdict
+        (shows_tree sha256 old_length old_root.now new_length new_root.now) path.now) result }
 {
     match (
         Hash::<Sha256>::try_from(old_root),

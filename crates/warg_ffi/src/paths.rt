@@ -18,7 +18,9 @@ pub(crate) fn check_record_in(
     value: &[u8],
     checkpoint: &Checkpoint<Sha256>,
 ) -> Result<bool, CheckError>
-    ensures { Answers CheckError.Memory result (path_verdict (shows_record sha256 index value.now checkpoint.now.length checkpoint.now.root) path.now) }
+    ensures { Answers CheckError.Memory result
+        (path_verdict
+        (shows_record sha256 index value.now checkpoint.now.length checkpoint.now.root) path.now) }
 {
     match hashes_in::<Sha256, Global>(alloc, path) {
         Ok(path) => Ok(check_record(checkpoint, index, &value, path.as_slice())),
@@ -34,7 +36,9 @@ pub(crate) fn check_tree_in(
     old: &Checkpoint<Sha256>,
     new: &Checkpoint<Sha256>,
 ) -> Result<bool, CheckError>
-    ensures { Answers CheckError.Memory result (path_verdict (shows_tree sha256 old.now.length old.now.root new.now.length new.now.root) path.now) }
+    ensures { Answers CheckError.Memory result
+        (path_verdict
+        (shows_tree sha256 old.now.length old.now.root new.now.length new.now.root) path.now) }
 {
     match hashes_in::<Sha256, Global>(alloc, path) {
         Ok(path) => Ok(check_tree(old, new, path.as_slice())),

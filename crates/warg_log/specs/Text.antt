@@ -13,7 +13,7 @@ length_and_digits n digits = decimal n ++ 32 ∷ digits
 abbrev pub checkpoint_text : RootAndLength → List ℕ
 checkpoint_text c = length_and_digits c.length (encode_lower c.root)
 
--- A text is read exactly where it is a length below 2 ^ 64 and 64 hexadecimal digits, and then it is that length and the
+-- A text is read exactly if it is a length below 2 ^ 64 and 64 hexadecimal digits, and then it is that length and the
 -- bytes that the digits spell.
 pub record SpellsCheckpoint {E : Type 0} (text : List ℕ) (r : Result RootAndLength E) : Type 0 where
   pub value : IfOk r (λ c. (digits : List ℕ) × (text ≡ length_and_digits c.length digits) × (decode_of digits ≡ Ok c.root))

@@ -84,7 +84,8 @@ pub(crate) struct BranchCache<D> {
 
 impl<D: SupportedDigest> BranchCache<D> {
     pub(crate) fn new() -> Self
-        ensures { AllByRecursion (λ b. b.digest ≡ branch D.digest b.left b.right) result.joined.items }
+        ensures { AllByRecursion (λ b. b.digest
+            ≡ branch D.digest b.left b.right) result.joined.items }
     {
         BranchCache {
             joined: ArrayVec::new(),
@@ -95,7 +96,8 @@ impl<D: SupportedDigest> BranchCache<D> {
     // The digest of the branch, if it is the last one of the slot.
     fn find(&self, slot: usize, left: &Hash<D>, right: &Hash<D>) -> Option<Hash<D>>
         requires slot { slot < 128 }
-        requires true_so_far { AllByRecursion (λ b. b.digest ≡ branch D.digest b.left b.right) self.now.joined.items }
+        requires true_so_far { AllByRecursion
+            (λ b. b.digest ≡ branch D.digest b.left b.right) self.now.joined.items }
         ensures { IfSome result (λ digest. digest ≡ branch D.digest left.now right.now) }
     {
         let branch = self.joined.as_slice().get(self.last[slot])?;

@@ -125,16 +125,21 @@ impl<D: SupportedDigest, V: VisitBytes> ConsistencyProof<D, V> {
     /// The inclusion proofs that make up this one: one at the new length for each balanced root of the
     /// old length, from left to right. None for the old length zero.
     ///
-    /// `PointsOutOfOrder` exactly where the old length is above the new one; else memory is the only
+    /// `PointsOutOfOrder` exactly if the old length is above the new one; else memory is the only
     /// error.
     pub fn inclusions<A: Allocator>(
         &self,
         alloc: A,
     ) -> Result<Vec<InclusionProof<D, V>, A>, ConsistencyProofError>
-        ensures order { (result ≡ Err ConsistencyProofError.PointsOutOfOrder) ↔ (self.now.new_length < self.now.old_length) }
-        ensures others { (fault : ConsistencyProofError) → result ≡ Err fault → (fault ≡ ConsistencyProofError.PointsOutOfOrder) ⊎ (fault ≡ ConsistencyProofError.Memory) }
-        ensures leaves { IfOk result (λ proofs. map (λ p. p.leaf.0) proofs.items ≡ balanced_roots self.now.old_length) }
-        ensures lengths { IfOk result (λ proofs. AllByRecursion (λ p. p.log_length ≡ self.now.new_length) proofs.items) }
+        ensures order { (result ≡ Err ConsistencyProofError.PointsOutOfOrder)
+            ↔ (self.now.new_length < self.now.old_length) }
+        ensures others { (fault : ConsistencyProofError) → result ≡ Err fault
+            → (fault ≡ ConsistencyProofError.PointsOutOfOrder)
+            ⊎ (fault ≡ ConsistencyProofError.Memory) }
+        ensures leaves { IfOk result (λ proofs.
+            map (λ p. p.leaf.0) proofs.items ≡ balanced_roots self.now.old_length) }
+        ensures lengths { IfOk result (λ proofs.
+            AllByRecursion (λ p. p.log_length ≡ self.now.new_length) proofs.items) }
     {
         if self.old_length > self.new_length {
             return Err(ConsistencyProofError::PointsOutOfOrder);
@@ -156,9 +161,12 @@ impl<D: SupportedDigest, V: VisitBytes> ConsistencyProof<D, V> {
         &self,
         hashes: &L,
     ) -> Result<(Hash<D>, Hash<D>), ConsistencyProofError>
-        ensures value { result ≡ consistency D.digest (L.digest_at hashes.now) self.now.old_length self.now.new_length }
+        ensures value { result ≡ consistency D.digest
+            (L.digest_at hashes.now) self.now.old_length self.now.new_length }
         ensures memory { result ≢ Err ConsistencyProofError.Memory }
-        ensures within { (fault : InclusionProofError) → result ≡ Err (ConsistencyProofError.InclusionError fault) → fault ≡ InclusionProofError.HashNotKnown }
+        ensures within { (fault : InclusionProofError)
+            → result ≡ Err (ConsistencyProofError.InclusionError fault)
+            → fault ≡ InclusionProofError.HashNotKnown }
     {
         if self.old_length == 0 {
             return Err(ConsistencyProofError::OldLengthZero);
@@ -178,7 +186,8 @@ impl<D: SupportedDigest, V: VisitBytes> ConsistencyProof<D, V> {
     fn new_root<L: LogData<D, V>>(&self, hashes: &L) -> Result<Hash<D>, ConsistencyProofError>
         requires some { 0 < self.now.old_length }
         requires order { self.now.old_length ≤ self.now.new_length }
-        ensures { result ≡ new_root_of D.digest (L.digest_at hashes.now) self.now.new_length (balanced_roots self.now.old_length) }
+        ensures { result ≡ new_root_of D.digest (L.digest_at hashes.now) self.now.new_length
+            (balanced_roots self.now.old_length) }
     {
         let mut branches = BranchCache::new();
         let whole = LeafRange::new(0, self.new_length);
@@ -205,8 +214,10 @@ fn inclusions_of<D, V, A: Allocator>(
 ) -> Result<Vec<InclusionProof<D, V>, A>, AllocError>
     requires old_fits { old_length ≤ 2 ^ 63 }
     requires new_fits { new_length ≤ 2 ^ 63 }
-    ensures leaves { IfOk result (λ proofs. map (λ p. p.leaf.0) proofs.items ≡ balanced_roots old_length) }
-    ensures lengths { IfOk result (λ proofs. AllByRecursion (λ p. p.log_length ≡ new_length) proofs.items) }
+    ensures leaves { IfOk result (λ proofs. map (λ p. p.leaf.0) proofs.items
+        ≡ balanced_roots old_length) }
+    ensures lengths { IfOk result (λ proofs.
+        AllByRecursion (λ p. p.log_length ≡ new_length) proofs.items) }
 {
     let mut proofs = Vec::new(alloc);
     'roots: for root in BalancedRoots::of(old_length) {
@@ -222,11 +233,13 @@ fn root_from<D: SupportedDigest, V: VisitBytes, L: LogData<D, V>>(
     root: Node,
     whole: &LeafRange,
 ) -> Result<Hash<D>, ConsistencyProofError>
-    requires true_branches { AllByRecursion (λ b. b.digest ≡ branch D.digest b.left b.right) branches.old.joined.items }
+    requires true_branches { AllByRecursion (λ b.
+        b.digest ≡ branch D.digest b.left b.right) branches.old.joined.items }
     requires ends { end_of root.0 ≤ 2 ^ 63 }
     requires whole { whole.now.start ≡ 0 }
     ensures value { result ≡ root_to D.digest (L.digest_at hashes.now) whole.now.count root.0 }
-    ensures kept { AllByRecursion (λ b. b.digest ≡ branch D.digest b.left b.right) branches.new.joined.items }
+    ensures kept { AllByRecursion (λ b. b.digest
+        ≡ branch D.digest b.left b.right) branches.new.joined.items }
 {
     match hashes.hash_for(root) {
         Some(hash) => match range_root_by(branches, hashes, &root.leaf_range(), &hash, whole) {

@@ -36,7 +36,9 @@ pub fn root_of_one()
 /// The root of more digests is the branch over the root of the first k and that of the rest, k the
 /// greatest power of two below their number (RFC 6962, section 2.1).
 pub fn root_of_more()
-    ensures { (H : List ℕ → List ℕ) (ds : List (List ℕ)) → 1 < length ds → root_of H ds ≡ branch H (root_of H (take (front_of (length ds)) ds)) (root_of H (drop (front_of (length ds)) ds)) }
+    ensures { (H : List ℕ → List ℕ) (ds : List (List ℕ)) → 1 < length ds
+        → root_of H ds ≡ branch H (root_of H (take (front_of (length ds)) ds))
+        (root_of H (drop (front_of (length ds)) ds)) }
 {}
 
 /// `front_of n` is the greatest power of two below `n`: it is one, it lies below `n`, and its double
@@ -53,13 +55,16 @@ pub fn number_is_node()
 
 /// A node and its sibling have one parent: the node of the height above over either is the same.
 pub fn parent_of_sibling()
-    ensures { (x y k j : ℕ) → IsNode x (k + 1) (sibling_place j / 2) → IsNode y (k + 1) (j / 2) → x ≡ y }
+    ensures { (x y k j : ℕ) → IsNode x (k + 1) (sibling_place j / 2) → IsNode y (k + 1) (j / 2)
+        → x ≡ y }
 {}
 
 /// The halves of the parent are the node and its sibling, in the order of their places.
 pub fn children_of_parent()
-    ensures left { (l r x s k j : ℕ) → IsNode l k (2 * (j / 2)) → IsNode r k (2 * (j / 2) + 1) → IsNode x k j → IsNode s k (sibling_place j) → j % 2 ≡ 0 → (l ≡ x) × (r ≡ s) }
-    ensures right { (l r x s k j : ℕ) → IsNode l k (2 * (j / 2)) → IsNode r k (2 * (j / 2) + 1) → IsNode x k j → IsNode s k (sibling_place j) → j % 2 ≡ 1 → (l ≡ s) × (r ≡ x) }
+    ensures left { (l r x s k j : ℕ) → IsNode l k (2 * (j / 2)) → IsNode r k (2 * (j / 2) + 1)
+        → IsNode x k j → IsNode s k (sibling_place j) → j % 2 ≡ 0 → (l ≡ x) × (r ≡ s) }
+    ensures right { (l r x s k j : ℕ) → IsNode l k (2 * (j / 2)) → IsNode r k (2 * (j / 2) + 1)
+        → IsNode x k j → IsNode s k (sibling_place j) → j % 2 ≡ 1 → (l ≡ s) × (r ≡ x) }
 {}
 
 /// The balanced roots of a length: their leaves follow one another from the first to the last one, and
@@ -77,23 +82,30 @@ pub fn balanced_full()
 
 /// The balanced roots of any other range are the node over its first part, and those of the rest.
 pub fn balanced_parts()
-    ensures { (a n : ℕ) → 1 < n → (IsFull n → ⊥) → balanced_over a n ≡ node_over a (front_of n) ∷ balanced_over (a + front_of n) (n - front_of n) }
+    ensures { (a n : ℕ) → 1 < n → (IsFull n → ⊥)
+        → balanced_over a n ≡ node_over a (front_of n) ∷ balanced_over (a + front_of n)
+        (n - front_of n) }
 {}
 
 /// The cut root of the target's own range is the digest in its place.
 pub fn cut_target()
-    ensures { (H : List ℕ → List ℕ) (F : ℕ → Option (List ℕ)) (x : List ℕ) (s w : ℕ) → cut_over H F x s w s w ≡ Some x }
+    ensures { (H : List ℕ → List ℕ) (F : ℕ → Option (List ℕ)) (x : List ℕ) (s w : ℕ)
+        → cut_over H F x s w s w ≡ Some x }
 {}
 
 /// The cut root of a range that misses the target and has a power of two of leaves is the digest that
 /// is held for it.
 pub fn cut_beside()
-    ensures { (H : List ℕ → List ℕ) (F : ℕ → Option (List ℕ)) (x : List ℕ) (s w a n : ℕ) → 0 < w → IsFull n → IsTrue (is_beside s w a n) → cut_over H F x s w a n ≡ F (node_over a n) }
+    ensures { (H : List ℕ → List ℕ) (F : ℕ → Option (List ℕ)) (x : List ℕ) (s w a n : ℕ) → 0 < w
+        → IsFull n → IsTrue (is_beside s w a n) → cut_over H F x s w a n ≡ F (node_over a n) }
 {}
 
 /// The cut root of any other range is the branch over those of its two parts.
 pub fn cut_parts()
-    ensures { (H : List ℕ → List ℕ) (F : ℕ → Option (List ℕ)) (x : List ℕ) (s w a n : ℕ) → 1 < n → (a ≡ s → n ≡ w → ⊥) → (IsFull n → IsTrue (is_beside s w a n) → ⊥) → cut_over H F x s w a n ≡ joined H (cut_over H F x s w a (front_of n)) (cut_over H F x s w (a + front_of n) (n - front_of n)) }
+    ensures { (H : List ℕ → List ℕ) (F : ℕ → Option (List ℕ)) (x : List ℕ) (s w a n : ℕ) → 1 < n
+        → (a ≡ s → n ≡ w → ⊥) → (IsFull n → IsTrue (is_beside s w a n) → ⊥)
+        → cut_over H F x s w a n ≡ joined H (cut_over H F x s w a (front_of n))
+        (cut_over H F x s w (a + front_of n) (n - front_of n)) }
 {}
 
 /// The target's own range needs no node.
@@ -103,16 +115,21 @@ pub fn needed_target()
 
 /// A range that misses the target and has a power of two of leaves needs the node over it.
 pub fn needed_beside()
-    ensures { (s w a n : ℕ) → 0 < w → IsFull n → IsTrue (is_beside s w a n) → needed_over s w a n ≡ node_over a n ∷ [] }
+    ensures { (s w a n : ℕ) → 0 < w → IsFull n → IsTrue (is_beside s w a n)
+        → needed_over s w a n ≡ node_over a n ∷ [] }
 {}
 
 /// Any other range needs what its two parts need: the rest's nodes stand first where the first part misses
 /// the target, and else the first part's.
 pub fn needed_parts()
-    ensures rest_first { (s w a n : ℕ) → 1 < n → (a ≡ s → n ≡ w → ⊥) → (IsFull n → IsTrue (is_beside s w a n) → ⊥) → IsTrue (is_beside s w a (front_of n))
-        → needed_over s w a n ≡ needed_over s w (a + front_of n) (n - front_of n) ++ needed_over s w a (front_of n) }
-    ensures front_first { (s w a n : ℕ) → 1 < n → (a ≡ s → n ≡ w → ⊥) → (IsFull n → IsTrue (is_beside s w a n) → ⊥) → (IsTrue (is_beside s w a (front_of n)) → ⊥)
-        → needed_over s w a n ≡ needed_over s w a (front_of n) ++ needed_over s w (a + front_of n) (n - front_of n) }
+    ensures rest_first { (s w a n : ℕ) → 1 < n → (a ≡ s → n ≡ w → ⊥)
+        → (IsFull n → IsTrue (is_beside s w a n) → ⊥) → IsTrue (is_beside s w a (front_of n))
+        → needed_over s w a n ≡ needed_over s w (a + front_of n)
+        (n - front_of n) ++ needed_over s w a (front_of n) }
+    ensures front_first { (s w a n : ℕ) → 1 < n → (a ≡ s → n ≡ w → ⊥)
+        → (IsFull n → IsTrue (is_beside s w a n) → ⊥) → (IsTrue (is_beside s w a (front_of n)) → ⊥)
+        → needed_over s w a n ≡ needed_over s w a (front_of n) ++ needed_over s w (a + front_of n)
+        (n - front_of n) }
 {}
 
 /// The needed nodes exist at the length.
@@ -120,122 +137,155 @@ pub fn needed_exist()
     ensures { (t n : ℕ) → 0 < n → AllByRecursion (λ x. ExistsAt x n) (needed t n) }
 {}
 
-/// A cut root is there exactly where the digest of each needed node is.
+/// A cut root is there exactly if the digest of each needed node is.
 pub fn needed_known()
-    ensures { (H : List ℕ → List ℕ) (F : ℕ → Option (List ℕ)) (t : ℕ) (x : List ℕ) (n : ℕ) → IsKnown F (needed t n) ↔ IsSome (cut_root H F t x n) }
+    ensures { (H : List ℕ → List ℕ) (F : ℕ → Option (List ℕ)) (t : ℕ) (x : List ℕ) (n : ℕ)
+        → IsKnown F (needed t n) ↔ IsSome (cut_root H F t x n) }
 {}
 
 /// The cut root by the digests of a walk, in its order: the target's digest is joined with those of the
 /// siblings on the way up to its balanced root, the lower number's on the left; then the digests of all
 /// balanced roots, with what it has become in that root's place, are joined from right to left.
 pub fn cut_by_walk()
-    ensures { (H : List ℕ → List ℕ) (F : ℕ → Option (List ℕ)) (t : ℕ) (x : List ℕ) (n steps : ℕ) (left right : List ℕ) → 0 < n
-        → balanced_roots n ≡ left ++ number_of (height_of t + steps) (place_of t / 2 ^ steps) ∷ right
-        → cut_root H F t x n ≡ joined_all H (map F left ++ climbed H F (Some x) (height_of t) (place_of t) steps ∷ map F right) }
+    ensures { (H : List ℕ → List ℕ) (F : ℕ → Option (List ℕ)) (t : ℕ) (x : List ℕ) (n steps : ℕ)
+        (left right : List ℕ) → 0 < n
+        → balanced_roots n ≡ left ++ number_of (height_of t + steps)
+        (place_of t / 2 ^ steps) ∷ right
+        → cut_root H F t x n ≡ joined_all H (map F left ++ climbed H F (Some x) (height_of t)
+        (place_of t) steps ∷ map F right) }
 {}
 
 /// Over a log's own digests, with a node's own digest in its place, the cut root at each length up to
 /// the log's is the root of that many leaves.
 pub fn cut_own()
-    ensures { (H : List ℕ → List ℕ) (ds : List (List ℕ)) (t n : ℕ) → 0 < n → n ≤ length ds → cut_root H (own_digest H ds) t (root_of H (leaves_below t ds)) n ≡ Some (root_of H (take n ds)) }
+    ensures { (H : List ℕ → List ℕ) (ds : List (List ℕ)) (t n : ℕ) → 0 < n → n ≤ length ds
+        → cut_root H (own_digest H ds) t (root_of H (leaves_below t ds)) n
+        ≡ Some (root_of H (take n ds)) }
 {}
 
 /// The same of a range that begins at a multiple of a power of two and has at most so many leaves, as each
 /// range of the recursion does: its cut root is the root over it, whichever the target is.
 pub fn cut_own_range()
-    ensures { (H : List ℕ → List ℕ) (ds : List (List ℕ)) (s w a n : ℕ) → 0 < n → IsAligned a n → a + n ≤ length ds
+    ensures { (H : List ℕ → List ℕ) (ds : List (List ℕ)) (s w a n : ℕ) → 0 < n → IsAligned a n
+        → a + n ≤ length ds
         → cut_over H (own_digest H ds) (root_over H ds s w) s w a n ≡ Some (root_over H ds a n) }
 {}
 
 /// A log's proof of an entry of its own leads to the log's root: over the log's own digests, leaf `i`
 /// with entry `i` has, at each length above `i` up to the log's, the root of that many entries.
 pub fn own_inclusion()
-    ensures { (H : List ℕ → List ℕ) (entries : List (List ℕ)) (i n : ℕ) → i < n → n ≤ length entries → ExistsAt (2 * i) n × (cut_root H (own_digest H (leaves_of H entries)) (2 * i) (leaf_digest H (slice_index_or entries i [])) n ≡ Some (root_of H (leaves_of H (take n entries)))) }
+    ensures { (H : List ℕ → List ℕ) (entries : List (List ℕ)) (i n : ℕ) → i < n → n ≤ length entries
+        → ExistsAt (2 * i) n × (cut_root H (own_digest H (leaves_of H entries)) (2 * i)
+        (leaf_digest H (slice_index_or entries i [])) n
+        ≡ Some (root_of H (leaves_of H (take n entries)))) }
 {}
 
 /// The old root of a range of a power of two of leaves is the digest that is held for it.
 pub fn old_full()
-    ensures { (H : List ℕ → List ℕ) (F : ℕ → Option (List ℕ)) (a n : ℕ) → IsFull n → old_over H F a n ≡ F (node_over a n) }
+    ensures { (H : List ℕ → List ℕ) (F : ℕ → Option (List ℕ)) (a n : ℕ) → IsFull n
+        → old_over H F a n ≡ F (node_over a n) }
 {}
 
 /// The old root of any other range is the branch over those of its two parts.
 pub fn old_parts()
-    ensures { (H : List ℕ → List ℕ) (F : ℕ → Option (List ℕ)) (a n : ℕ) → 1 < n → (IsFull n → ⊥) → old_over H F a n ≡ joined H (old_over H F a (front_of n)) (old_over H F (a + front_of n) (n - front_of n)) }
+    ensures { (H : List ℕ → List ℕ) (F : ℕ → Option (List ℕ)) (a n : ℕ) → 1 < n → (IsFull n → ⊥)
+        → old_over H F a n ≡ joined H (old_over H F a (front_of n))
+        (old_over H F (a + front_of n) (n - front_of n)) }
 {}
 
 /// Over a log's own digests, the old root at each length up to the log's is the root of that many
 /// leaves.
 pub fn old_own()
-    ensures { (H : List ℕ → List ℕ) (ds : List (List ℕ)) (m : ℕ) → 0 < m → m ≤ length ds → old_root H (own_digest H ds) m ≡ Some (root_of H (take m ds)) }
+    ensures { (H : List ℕ → List ℕ) (ds : List (List ℕ)) (m : ℕ) → 0 < m → m ≤ length ds
+        → old_root H (own_digest H ds) m ≡ Some (root_of H (take m ds)) }
 {}
 
 /// The same of a range that begins at a multiple of a power of two and has at most so many leaves.
 pub fn old_own_range()
-    ensures { (H : List ℕ → List ℕ) (ds : List (List ℕ)) (a n : ℕ) → 0 < n → IsAligned a n → a + n ≤ length ds
+    ensures { (H : List ℕ → List ℕ) (ds : List (List ℕ)) (a n : ℕ) → 0 < n → IsAligned a n
+        → a + n ≤ length ds
         → old_over H (own_digest H ds) a n ≡ Some (root_over H ds a n) }
 {}
 
-/// A consistency proof evaluates to two roots exactly where these meet it.
+/// A consistency proof evaluates to two roots exactly if these meet it.
 pub fn consistency_met()
-    ensures only { (H : List ℕ → List ℕ) (F : ℕ → Option (List ℕ)) (m n : ℕ) (old new : List ℕ) → consistency H F m n ≡ Ok (old, new) → IsConsistent H F m n old new }
-    ensures then { (H : List ℕ → List ℕ) (F : ℕ → Option (List ℕ)) (m n : ℕ) (old new : List ℕ) → IsConsistent H F m n old new → consistency H F m n ≡ Ok (old, new) }
+    ensures only { (H : List ℕ → List ℕ) (F : ℕ → Option (List ℕ)) (m n : ℕ) (old new : List ℕ)
+        → consistency H F m n ≡ Ok (old, new) → IsConsistent H F m n old new }
+    ensures then { (H : List ℕ → List ℕ) (F : ℕ → Option (List ℕ)) (m n : ℕ) (old new : List ℕ)
+        → IsConsistent H F m n old new → consistency H F m n ≡ Ok (old, new) }
 {}
 
 /// A log's consistency proofs lead to the roots that it had: over the log's own digests, a proof from a
 /// length of at least 1 to one that isn't smaller, up to the log's, has the roots of that many leaves.
 pub fn own_consistency()
-    ensures { (H : List ℕ → List ℕ) (ds : List (List ℕ)) (m n : ℕ) → 0 < m → m ≤ n → n ≤ length ds → consistency H (own_digest H ds) m n ≡ Ok (root_of H (take m ds), root_of H (take n ds)) }
+    ensures { (H : List ℕ → List ℕ) (ds : List (List ℕ)) (m n : ℕ) → 0 < m → m ≤ n → n ≤ length ds
+        → consistency H (own_digest H ds) m n ≡ Ok (root_of H (take m ds), root_of H (take n ds)) }
 {}
 
 /// The bundle of some proofs has their one length, their old lengths, their nodes, and digests for exactly the
 /// nodes that they need, ascending, each as the source has it.
 pub fn bundled_parts()
-    ensures new_lengths { (F : ℕ → Option (List ℕ)) (cs : List ConsistencyClaim) (ps : List InclusionClaim) (b : Bundle)
+    ensures new_lengths { (F : ℕ → Option (List ℕ)) (cs : List ConsistencyClaim)
+        (ps : List InclusionClaim) (b : Bundle)
         → bundled F cs ps ≡ Ok b → AllByRecursion (λ p. p.new_length ≡ b.log_length) cs }
-    ensures log_lengths { (F : ℕ → Option (List ℕ)) (cs : List ConsistencyClaim) (ps : List InclusionClaim) (b : Bundle)
+    ensures log_lengths { (F : ℕ → Option (List ℕ)) (cs : List ConsistencyClaim)
+        (ps : List InclusionClaim) (b : Bundle)
         → bundled F cs ps ≡ Ok b → AllByRecursion (λ p. p.log_length ≡ b.log_length) ps }
-    ensures old_lengths { (F : ℕ → Option (List ℕ)) (cs : List ConsistencyClaim) (ps : List InclusionClaim) (b : Bundle)
+    ensures old_lengths { (F : ℕ → Option (List ℕ)) (cs : List ConsistencyClaim)
+        (ps : List InclusionClaim) (b : Bundle)
         → bundled F cs ps ≡ Ok b → b.consistent_lengths ≡ map (λ p. p.old_length) cs }
-    ensures nodes { (F : ℕ → Option (List ℕ)) (cs : List ConsistencyClaim) (ps : List InclusionClaim) (b : Bundle)
+    ensures nodes { (F : ℕ → Option (List ℕ)) (cs : List ConsistencyClaim)
+        (ps : List InclusionClaim) (b : Bundle)
         → bundled F cs ps ≡ Ok b → b.included_nodes ≡ map (λ p. p.leaf) ps }
-    ensures ascending { (F : ℕ → Option (List ℕ)) (cs : List ConsistencyClaim) (ps : List InclusionClaim) (b : Bundle)
+    ensures ascending { (F : ℕ → Option (List ℕ)) (cs : List ConsistencyClaim)
+        (ps : List InclusionClaim) (b : Bundle)
         → bundled F cs ps ≡ Ok b → IsAscending b.hashes }
-    ensures exactly { (F : ℕ → Option (List ℕ)) (cs : List ConsistencyClaim) (ps : List InclusionClaim) (b : Bundle)
+    ensures exactly { (F : ℕ → Option (List ℕ)) (cs : List ConsistencyClaim)
+        (ps : List InclusionClaim) (b : Bundle)
         → bundled F cs ps ≡ Ok b → HoldsNeeded b }
-    ensures source { (F : ℕ → Option (List ℕ)) (cs : List ConsistencyClaim) (ps : List InclusionClaim) (b : Bundle)
+    ensures source { (F : ℕ → Option (List ℕ)) (cs : List ConsistencyClaim)
+        (ps : List InclusionClaim) (b : Bundle)
         → bundled F cs ps ≡ Ok b → AllByRecursion (λ p. F p.0.0 ≡ Some p.1) b.hashes }
 {}
 
 /// A bundle's proofs evaluate over its own digests as over those that it was made from.
 pub fn bundled_as_source()
-    ensures inclusions { (H : List ℕ → List ℕ) (F : ℕ → Option (List ℕ)) (cs : List ConsistencyClaim) (ps : List InclusionClaim) (b : Bundle)
+    ensures inclusions { (H : List ℕ → List ℕ) (F : ℕ → Option (List ℕ))
+        (cs : List ConsistencyClaim) (ps : List InclusionClaim) (b : Bundle)
         → bundled F cs ps ≡ Ok b → IncludesAs H F b }
-    ensures consistencies { (H : List ℕ → List ℕ) (F : ℕ → Option (List ℕ)) (cs : List ConsistencyClaim) (ps : List InclusionClaim) (b : Bundle)
+    ensures consistencies { (H : List ℕ → List ℕ) (F : ℕ → Option (List ℕ))
+        (cs : List ConsistencyClaim) (ps : List InclusionClaim) (b : Bundle)
         → bundled F cs ps ≡ Ok b → IsConsistentAs H F b }
 {}
 
 /// Blocks that stand for leaf digests stand, after a push of one more, for these and that one behind them.
 pub fn pushed_stands()
-    ensures { (H : List ℕ → List ℕ) (b : Blocks) (d : List ℕ) (ds : List (List ℕ)) → StandsFor H b ds → StandsFor H (pushed H b d) (ds ++ d ∷ []) }
+    ensures { (H : List ℕ → List ℕ) (b : Blocks) (d : List ℕ) (ds : List (List ℕ))
+        → StandsFor H b ds → StandsFor H (pushed H b d) (ds ++ d ∷ []) }
 {}
 
 /// Blocks that stand for leaf digests, joined from the right, are the root over these.
 pub fn stands_for_root()
-    ensures { (H : List ℕ → List ℕ) (b : Blocks) (ds : List (List ℕ)) → StandsFor H b ds → joined_blocks H b.digests ≡ root_of H ds }
+    ensures { (H : List ℕ → List ℕ) (b : Blocks) (ds : List (List ℕ)) → StandsFor H b ds
+        → joined_blocks H b.digests ≡ root_of H ds }
 {}
 
 /// Checkpoints are ordered by their roots' bytes, and where these are equal by their lengths.
 pub fn order_by_root_then_length<D>(first: &Checkpoint<D>, second: &Checkpoint<D>) -> Ordering
-    ensures { result ≡ ordering_then (slice_cmp nat_cmp first.now.root second.now.root) (nat_cmp first.now.length second.now.length) }
+    ensures { result ≡ ordering_then (slice_cmp nat_cmp first.now.root second.now.root)
+        (nat_cmp first.now.length second.now.length) }
 {
     first.cmp(second)
 }
 
-/// Checkpoints are equal exactly where their roots and their lengths are, which is where their order calls
+/// Checkpoints are equal exactly if their roots and their lengths are, which is where their order calls
 /// them equal.
 pub fn equal_by_root_and_length<D>(first: &Checkpoint<D>, second: &Checkpoint<D>) -> bool
-    ensures parts { IsTrue result ↔ ((first.now.root ≡ second.now.root) × (first.now.length ≡ second.now.length)) }
-    ensures order { IsTrue result ↔ (ordering_then (slice_cmp nat_cmp first.now.root second.now.root) (nat_cmp first.now.length second.now.length) ≡ Ordering.Equal) }
+    ensures parts { IsTrue result ↔ ((first.now.root ≡ second.now.root)
+        × (first.now.length ≡ second.now.length)) }
+    ensures order { IsTrue result ↔ (ordering_then
+        (slice_cmp nat_cmp first.now.root second.now.root)
+        (nat_cmp first.now.length second.now.length) ≡ Ordering.Equal) }
 {
     first == second
 }

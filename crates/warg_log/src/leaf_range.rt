@@ -42,7 +42,8 @@ impl LeafRange {
         requires some { start < length }
         requires fits { length ≤ 2 ^ 63 }
         ensures start { result.start ≡ start }
-        ensures count { (h : ℕ) × (result.count ≡ 2 ^ h) × (2 ^ h ≤ length - start) × (length - start < 2 ^ (h + 1)) }
+        ensures count { (h : ℕ) × (result.count ≡ 2 ^ h) × (2 ^ h ≤ length - start)
+            × (length - start < 2 ^ (h + 1)) }
     {
         LeafRange::new(start, power_of_two((length - start).ilog2()))
     }
@@ -63,7 +64,8 @@ impl LeafRange {
 
     /// Whether both are the same leaves.
     pub fn equals(&self, other: &LeafRange) -> bool
-        ensures { IsTrue result ↔ ((self.now.start ≡ other.now.start) × (self.now.count ≡ other.now.count)) }
+        ensures { IsTrue result ↔ ((self.now.start ≡ other.now.start)
+            × (self.now.count ≡ other.now.count)) }
     {
         self.start == other.start && self.count == other.count
     }
@@ -78,7 +80,9 @@ impl LeafRange {
     // Whether an evaluation with this target reads the range's digest: the range is one leaf, or has a
     // power of two of leaves and misses the target.
     pub(crate) fn is_read(&self, target: &LeafRange) -> bool
-        ensures { IsTrue result ↔ ((self.now.count ≡ 1) ⊎ (IsFull self.now.count × IsTrue (is_beside target.now.start target.now.count self.now.start self.now.count))) }
+        ensures { IsTrue result ↔ ((self.now.count ≡ 1)
+            ⊎ (IsFull self.now.count × IsTrue
+            (is_beside target.now.start target.now.count self.now.start self.now.count))) }
     {
         self.count == 1 || self.is_full() && self.is_beside(target)
     }
@@ -87,8 +91,10 @@ impl LeafRange {
     /// power of two below the count, and the rest.
     pub fn split(&self) -> (LeafRange, LeafRange)
         requires { 1 < self.now.count }
-        ensures front { (result.0.start ≡ self.now.start) × (result.0.count ≡ front_of self.now.count) }
-        ensures rest { (result.1.start ≡ self.now.start + front_of self.now.count) × (result.1.count ≡ self.now.count - front_of self.now.count) }
+        ensures front { (result.0.start ≡ self.now.start)
+            × (result.0.count ≡ front_of self.now.count) }
+        ensures rest { (result.1.start ≡ self.now.start + front_of self.now.count)
+            × (result.1.count ≡ self.now.count - front_of self.now.count) }
         ensures smaller { (result.0.count < self.now.count) × (result.1.count < self.now.count) }
     {
         let count = power_of_two((self.count - 1).ilog2());

@@ -1,6 +1,6 @@
 //! A verifiable log: an append-only list of entries with the Merkle tree of RFC 6962, section 2.1.
 //!
-//! A log answers a checkpoint, its root and length. A proof leads from the digest of one leaf, or from
+//! A log has a checkpoint, its root and length. A proof leads from the digest of one leaf, or from
 //! an older root, to a root, over any digests. The definitions that the contracts cite stand in
 //! `specs/`: read Nodes, Tree and Cut, in this order.
 #![tactic(auto)]

@@ -99,16 +99,18 @@ pub trait LogBuilder<D: SupportedDigest, V: VisitBytes> {
 
     /// The log's root, that of the tree over its entries, and its length, at most [`GREATEST_LENGTH`].
     fn checkpoint(&self) -> Checkpoint<D>
-        ensures root { (ds : List (List ℕ)) → stands_for self.now ds → result.root ≡ root_of D.digest ds }
+        ensures root { (ds : List (List ℕ)) → stands_for self.now ds
+            → result.root ≡ root_of D.digest ds }
         ensures length { result.length ≡ len self.now }
         ensures fits { len self.now ≤ 2 ^ 63 };
 
-    /// Adds an entry at the end, and answers its leaf's node. A refused push leaves the log as it was.
+    /// Adds an entry at the end, and returns its leaf's node. A refused push leaves the log as it was.
     fn push(&mut self, entry: &V) -> Result<Node, AllocError>
         requires { len self.old < 2 ^ 63 }
         ensures node { IfOk result (λ node. node.0 ≡ 2 * len self.old) }
         ensures length { OnOk result (len self.new ≡ len self.old + 1) }
-        ensures ok { OnOk result ((ds : List (List ℕ)) → stands_for self.old ds → stands_for self.new (ds ++ leaf_digest D.digest (V.bytes entry.now) ∷ [])) }
+        ensures ok { OnOk result ((ds : List (List ℕ)) → stands_for self.old ds
+            → stands_for self.new (ds ++ leaf_digest D.digest (V.bytes entry.now) ∷ [])) }
         ensures err { OnErr result (self.new ≡ self.old) };
 
     // Each list that the log stands for has as many digests as the log has entries.
@@ -150,7 +152,7 @@ pub trait LogData<D: SupportedDigest, V: VisitBytes> {
     }
 }
 
-/// Pushes the entries in order, and answers the checkpoint after them.
+/// Pushes the entries in order, and returns the checkpoint after them.
 ///
 /// A refusal leaves the log with the entries of before it: those that it had, and a beginning of the
 /// new ones.
@@ -159,12 +161,20 @@ pub fn push_all<D: SupportedDigest, V: VisitBytes, B: LogBuilder<D, V>>(
     entries: &[V],
 ) -> Result<Checkpoint<D>, AllocError>
     requires { B.len log.old + length entries.now ≤ 2 ^ 63 }
-    ensures ok { OnOk result ((ds : List (List ℕ)) → B.stands_for log.old ds → B.stands_for log.new (ds ++ leaves_of D.digest (map (λ e. V.bytes e) entries.now))) }
-    ensures root { IfOk result (λ checkpoint. (ds : List (List ℕ)) → B.stands_for log.old ds → checkpoint.root ≡ root_of D.digest (ds ++ leaves_of D.digest (map (λ e. V.bytes e) entries.now))) }
-    ensures length { IfOk result (λ checkpoint. checkpoint.length ≡ B.len log.old + length entries.now) }
+    ensures ok { OnOk result ((ds : List (List ℕ)) → B.stands_for log.old ds
+        → B.stands_for log.new (ds ++ leaves_of D.digest (map (λ e. V.bytes e) entries.now))) }
+    ensures root { IfOk result (λ checkpoint. (ds : List (List ℕ)) → B.stands_for log.old ds
+        → checkpoint.root ≡ root_of D.digest
+        (ds ++ leaves_of D.digest (map (λ e. V.bytes e) entries.now))) }
+    ensures length { IfOk result (λ checkpoint.
+        checkpoint.length ≡ B.len log.old + length entries.now) }
     ensures grown { OnOk result (B.len log.new ≡ B.len log.old + length entries.now) }
-    ensures grown_by { OnErr result ((k : ℕ) × (k < length entries.now) × (B.len log.new ≡ B.len log.old + k)) }
-    ensures err { OnErr result ((k : ℕ) × (k < length entries.now) × ((ds : List (List ℕ)) → B.stands_for log.old ds → B.stands_for log.new (ds ++ leaves_of D.digest (map (λ e. V.bytes e) (take k entries.now))))) }
+    ensures grown_by { OnErr result ((k : ℕ) × (k < length entries.now)
+        × (B.len log.new ≡ B.len log.old + k)) }
+    ensures err { OnErr result ((k : ℕ) × (k < length entries.now)
+        × ((ds : List (List ℕ)) → B.stands_for log.old ds
+        → B.stands_for log.new (ds ++ leaves_of D.digest
+        (map (λ e. V.bytes e) (take k entries.now))))) }
 {
     'entries: for entry in entries {
         log.push(entry)?;

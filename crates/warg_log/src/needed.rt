@@ -80,7 +80,8 @@ pub(crate) fn add_inclusion<D: SupportedDigest, V: VisitBytes, A: Allocator + Co
     proof: &InclusionProof<D, V>,
 ) -> Result<(), AllocError>
     requires { ExistsAt proof.now.leaf.0 proof.now.log_length }
-    ensures { OnOk result (IsUnion numbers.old.keys numbers.new.keys (needed proof.now.leaf.0 proof.now.log_length)) }
+    ensures { OnOk result (IsUnion numbers.old.keys numbers.new.keys
+        (needed proof.now.leaf.0 proof.now.log_length)) }
 {
     let walk = match proof.walk(alloc) {
         Ok(walk) => walk,
@@ -99,7 +100,8 @@ pub(crate) fn add_consistency<D: SupportedDigest, V: VisitBytes, A: Allocator + 
     proof: &ConsistencyProof<D, V>,
 ) -> Result<(), AllocError>
     requires { proof.now.old_length ≤ proof.now.new_length }
-    ensures { OnOk result (IsUnion numbers.old.keys numbers.new.keys (needed_between proof.now.old_length proof.now.new_length)) }
+    ensures { OnOk result (IsUnion numbers.old.keys numbers.new.keys
+        (needed_between proof.now.old_length proof.now.new_length)) }
 {
     let inclusions = match proof.inclusions(alloc) {
         Ok(inclusions) => inclusions,
@@ -118,9 +120,12 @@ pub(crate) fn digests_of<D: SupportedDigest, V: VisitBytes, L: LogData<D, V>, A:
     numbers: &[usize],
     hashes: &L,
 ) -> Result<Vec<(Node, Hash<D>), A>, BundleError>
-    ensures ok { IfOk result (λ pairs. pairs.items ≡ map (node_with_digest (L.digest_at hashes.now)) numbers.now) }
-    ensures good { OnOk result (first_fault (node_fault (L.digest_at hashes.now)) numbers.now ≡ None) }
-    ensures fault { IfErr result (λ e. (e ≡ BundleError.Memory) ⊎ (first_fault (node_fault (L.digest_at hashes.now)) numbers.now ≡ Some e)) }
+    ensures ok { IfOk result (λ pairs. pairs.items
+        ≡ map (node_with_digest (L.digest_at hashes.now)) numbers.now) }
+    ensures good { OnOk result (first_fault (node_fault (L.digest_at hashes.now)) numbers.now
+        ≡ None) }
+    ensures fault { IfErr result (λ e. (e ≡ BundleError.Memory)
+        ⊎ (first_fault (node_fault (L.digest_at hashes.now)) numbers.now ≡ Some e)) }
 {
     let mut pairs = Vec::new(alloc);
     'numbers: for number in numbers {
@@ -158,7 +163,10 @@ pub(crate) fn needed_nodes<D: SupportedDigest, V: VisitBytes, A: Allocator + Cop
 ) -> Result<Numbers<A>, AllocError>
     requires consistencies { AllByRecursion (λ p. p.old_length ≤ p.new_length) consistencies.now }
     requires inclusions { AllByRecursion (λ p. ExistsAt p.leaf.0 p.log_length) inclusions.now }
-    ensures needed { IfOk result (λ numbers. IsUnion [] numbers.keys (flat_map (λ p. needed_between p.old_length p.new_length) consistencies.now ++ flat_map (λ p. needed p.leaf.0 p.log_length) inclusions.now)) }
+    ensures needed { IfOk result (λ numbers.
+        IsUnion [] numbers.keys (flat_map (λ p.
+        needed_between p.old_length p.new_length) consistencies.now ++ flat_map
+        (λ p. needed p.leaf.0 p.log_length) inclusions.now)) }
     ensures sorted { IfOk result (λ numbers. IsSorted nat_cmp numbers.keys) }
     ensures once { IfOk result (λ numbers. IsDistinct nat_eq numbers.keys) }
 {
@@ -175,7 +183,8 @@ fn add_consistencies<D: SupportedDigest, V: VisitBytes, A: Allocator + Copy>(
     proofs: &[ConsistencyProof<D, V>],
 ) -> Result<(), AllocError>
     requires { AllByRecursion (λ p. p.old_length ≤ p.new_length) proofs.now }
-    ensures { OnOk result (IsUnion numbers.old.keys numbers.new.keys (flat_map (λ p. needed_between p.old_length p.new_length) proofs.now)) }
+    ensures { OnOk result (IsUnion numbers.old.keys numbers.new.keys
+        (flat_map (λ p. needed_between p.old_length p.new_length) proofs.now)) }
 {
     'proofs: for proof in proofs {
         add_consistency(numbers, alloc, proof)?;
@@ -189,7 +198,8 @@ fn add_inclusions<D: SupportedDigest, V: VisitBytes, A: Allocator + Copy>(
     proofs: &[InclusionProof<D, V>],
 ) -> Result<(), AllocError>
     requires { AllByRecursion (λ p. ExistsAt p.leaf.0 p.log_length) proofs.now }
-    ensures { OnOk result (IsUnion numbers.old.keys numbers.new.keys (flat_map (λ p. needed p.leaf.0 p.log_length) proofs.now)) }
+    ensures { OnOk result (IsUnion numbers.old.keys numbers.new.keys
+        (flat_map (λ p. needed p.leaf.0 p.log_length) proofs.now)) }
 {
     'proofs: for proof in proofs {
         add_inclusion(numbers, alloc, proof)?;

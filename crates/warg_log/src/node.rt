@@ -56,7 +56,7 @@ impl Node {
         Node(2 * (leaf - 1) + 1)
     }
 
-    /// The index of the leaf whose node this is, from 0. None exactly where the node is a branch.
+    /// The index of the leaf whose node this is, from 0. None exactly if the node is a branch.
     pub fn leaf_index(&self) -> Option<usize>
         ensures leaf { IfSome result (λ index. IsNode self.now.0 0 index) }
         ensures branch { IsNone result ↔ (0 < height_of self.now.0) }

@@ -106,16 +106,21 @@ impl<D: SupportedDigest, V: VisitBytes> InclusionProof<D, V> {
     /// a balanced root of the length, then the balanced roots right of that root, and then those left of
     /// it, both from right to left.
     ///
-    /// `LeafTooNew` exactly where the node doesn't exist at the length; else memory is the only error. A
+    /// `LeafTooNew` exactly if the node doesn't exist at the length; else memory is the only error. A
     /// length of `b` binary digits has at most `2 * (b - 1)` such nodes.
     pub fn walk<A: Allocator>(&self, alloc: A) -> Result<InclusionProofWalk<A>, InclusionProofError>
-        ensures too_new { (result ≡ Err InclusionProofError.LeafTooNew) ↔ ¬ ExistsAt self.now.leaf.0 self.now.log_length }
+        ensures too_new { (result ≡ Err InclusionProofError.LeafTooNew)
+            ↔ ¬ ExistsAt self.now.leaf.0 self.now.log_length }
         ensures exists { OnOk result (ExistsAt self.now.leaf.0 self.now.log_length) }
         ensures not_known { result ≢ Err InclusionProofError.HashNotKnown }
-        ensures needed { IfOk result (λ walk. map (λ x. x.0) walk.nodes ≡ needed self.now.leaf.0 self.now.log_length) }
-        ensures order { IfOk result (λ walk. IsWalk self.now.leaf.0 self.now.log_length (map (λ x. x.0) walk.nodes) walk.initial_walk_len walk.lower_broots walk.upper_broots) }
+        ensures needed { IfOk result (λ walk.
+            map (λ x. x.0) walk.nodes ≡ needed self.now.leaf.0 self.now.log_length) }
+        ensures order { IfOk result (λ walk.
+            IsWalk self.now.leaf.0 self.now.log_length
+            (map (λ x. x.0) walk.nodes) walk.initial_walk_len walk.lower_broots walk.upper_broots) }
         ensures once { IfOk result (λ walk. IsDistinct nat_eq (map (λ x. x.0) walk.nodes)) }
-        ensures most { IfOk result (λ walk. (b : ℕ) → self.now.log_length < 2 ^ b → length walk.nodes ≤ 2 * (b - 1)) }
+        ensures most { IfOk result (λ walk. (b : ℕ) → self.now.log_length < 2 ^ b
+            → length walk.nodes ≤ 2 * (b - 1)) }
     {
         if !self.leaf.exists_at_length(self.log_length) {
             return Err(InclusionProofError::LeafTooNew);
@@ -140,9 +145,15 @@ impl<D: SupportedDigest, V: VisitBytes> InclusionProof<D, V> {
         hashes: &L,
         value: &V,
     ) -> Result<Hash<D>, InclusionProofError>
-        ensures too_new { (result ≡ Err InclusionProofError.LeafTooNew) ↔ ¬ ExistsAt self.now.leaf.0 self.now.log_length }
-        ensures not_known { (result ≡ Err InclusionProofError.HashNotKnown) ↔ (ExistsAt self.now.leaf.0 self.now.log_length × (cut_root D.digest (L.digest_at hashes.now) self.now.leaf.0 (leaf_digest D.digest (V.bytes value.now)) self.now.log_length ≡ None)) }
-        ensures ok { IfOk result (λ root. ExistsAt self.now.leaf.0 self.now.log_length × (cut_root D.digest (L.digest_at hashes.now) self.now.leaf.0 (leaf_digest D.digest (V.bytes value.now)) self.now.log_length ≡ Some root)) }
+        ensures too_new { (result ≡ Err InclusionProofError.LeafTooNew)
+            ↔ ¬ ExistsAt self.now.leaf.0 self.now.log_length }
+        ensures not_known { (result ≡ Err InclusionProofError.HashNotKnown)
+            ↔ (ExistsAt self.now.leaf.0 self.now.log_length
+            × (cut_root D.digest (L.digest_at hashes.now) self.now.leaf.0
+            (leaf_digest D.digest (V.bytes value.now)) self.now.log_length ≡ None)) }
+        ensures ok { IfOk result (λ root. ExistsAt self.now.leaf.0 self.now.log_length
+            × (cut_root D.digest (L.digest_at hashes.now) self.now.leaf.0
+            (leaf_digest D.digest (V.bytes value.now)) self.now.log_length ≡ Some root)) }
         ensures memory { result ≢ Err InclusionProofError.Memory }
     {
         self.evaluate_hash(hashes, hash_leaf::<D, V>(value))
@@ -151,16 +162,22 @@ impl<D: SupportedDigest, V: VisitBytes> InclusionProof<D, V> {
     /// The root that the log has if the proof's node has this digest: the cut root at the proof's
     /// length. It takes no memory.
     ///
-    /// `LeafTooNew` exactly where the node doesn't exist at the length, and then `HashNotKnown` exactly
+    /// `LeafTooNew` exactly if the node doesn't exist at the length, and then `HashNotKnown` exactly
     /// where the data lacks a digest that the cut root reads.
     pub fn evaluate_hash<L: LogData<D, V>>(
         &self,
         hashes: &L,
         hash: Hash<D>,
     ) -> Result<Hash<D>, InclusionProofError>
-        ensures too_new { (result ≡ Err InclusionProofError.LeafTooNew) ↔ ¬ ExistsAt self.now.leaf.0 self.now.log_length }
-        ensures not_known { (result ≡ Err InclusionProofError.HashNotKnown) ↔ (ExistsAt self.now.leaf.0 self.now.log_length × (cut_root D.digest (L.digest_at hashes.now) self.now.leaf.0 hash self.now.log_length ≡ None)) }
-        ensures ok { IfOk result (λ root. ExistsAt self.now.leaf.0 self.now.log_length × (cut_root D.digest (L.digest_at hashes.now) self.now.leaf.0 hash self.now.log_length ≡ Some root)) }
+        ensures too_new { (result ≡ Err InclusionProofError.LeafTooNew)
+            ↔ ¬ ExistsAt self.now.leaf.0 self.now.log_length }
+        ensures not_known { (result ≡ Err InclusionProofError.HashNotKnown)
+            ↔ (ExistsAt self.now.leaf.0 self.now.log_length
+            × (cut_root D.digest (L.digest_at hashes.now) self.now.leaf.0 hash self.now.log_length
+            ≡ None)) }
+        ensures ok { IfOk result (λ root. ExistsAt self.now.leaf.0 self.now.log_length
+            × (cut_root D.digest (L.digest_at hashes.now) self.now.leaf.0 hash self.now.log_length
+            ≡ Some root)) }
         ensures memory { result ≢ Err InclusionProofError.Memory }
     {
         if !self.leaf.exists_at_length(self.log_length) {
@@ -279,8 +296,11 @@ fn add_walk<A: Allocator>(
     requires starts { start ≤ start_of leaf.0 }
     requires ends { end_of leaf.0 ≤ end }
     requires fits { end ≤ 2 ^ 63 }
-    ensures needed { OnOk result (map (λ x. x.0) nodes.new.items ≡ needed_over (start_of leaf.0) (2 ^ height_of leaf.0) start (end - start)) }
-    ensures order { IfOk result (λ parts. (upper : ℕ) × IsWalkOver leaf.0 start (end - start) (map (λ x. x.0) nodes.new.items) parts.initial parts.lower upper) }
+    ensures needed { OnOk result (map (λ x. x.0) nodes.new.items
+        ≡ needed_over (start_of leaf.0) (2 ^ height_of leaf.0) start (end - start)) }
+    ensures order { IfOk result (λ parts. (upper : ℕ)
+        × IsWalkOver leaf.0 start (end - start)
+        (map (λ x. x.0) nodes.new.items) parts.initial parts.lower upper) }
 {
     let root = LeafRange::first_root(start, end);
     if root.is_beside(&leaf.leaf_range()) {
@@ -303,7 +323,9 @@ fn add_siblings<A: Allocator>(
 ) -> Result<(), AllocError>
     requires above { height_of leaf.0 ≤ height }
     requires low { height < 64 }
-    ensures { OnOk result (map (λ x. x.0) nodes.new.items ≡ map (λ x. x.0) nodes.old.items ++ siblings_up (height - height_of leaf.0) (height_of leaf.0) (place_of leaf.0)) }
+    ensures { OnOk result (map (λ x. x.0) nodes.new.items
+        ≡ map (λ x. x.0) nodes.old.items ++ siblings_up (height - height_of leaf.0)
+        (height_of leaf.0) (place_of leaf.0)) }
 {
     let mut node = leaf;
     'up: while node.height() < height {
@@ -318,7 +340,8 @@ fn add_roots<A: Allocator>(
     nodes: &mut Vec<Node, A>,
     mut roots: BalancedRoots,
 ) -> Result<(), AllocError>
-    ensures { OnOk result (map (λ x. x.0) nodes.new.items ≡ map (λ x. x.0) nodes.old.items ++ reverse roots) }
+    ensures { OnOk result (map (λ x. x.0) nodes.new.items
+        ≡ map (λ x. x.0) nodes.old.items ++ reverse roots) }
 {
     if let Some(root) = roots.next() {
         add_roots(nodes, roots)?;

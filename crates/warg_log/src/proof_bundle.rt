@@ -109,9 +109,10 @@ impl<D: SupportedDigest, V: VisitBytes, A: Allocator> ProofBundle<D, V, A> {
         self.included_nodes.len()
     }
 
-    /// The consistency proof at a place, counted from 0. None exactly where there are no more than `at`.
+    /// The consistency proof at a place, counted from 0. None exactly if there are no more than `at`.
     pub fn consistency_proof(&self, at: usize) -> Option<ConsistencyProof<D, V>>
-        ensures old_length { IfSome result (λ proof. slice_get self.now.consistent_lengths at ≡ Some proof.old_length) }
+        ensures old_length { IfSome result (λ proof.
+            slice_get self.now.consistent_lengths at ≡ Some proof.old_length) }
         ensures new_length { IfSome result (λ proof. proof.new_length ≡ self.now.log_length) }
         ensures none { IsNone result ↔ (slice_get self.now.consistent_lengths at ≡ None) }
     {
@@ -124,9 +125,10 @@ impl<D: SupportedDigest, V: VisitBytes, A: Allocator> ProofBundle<D, V, A> {
         }
     }
 
-    /// The inclusion proof at a place, counted from 0. None exactly where there are no more than `at`.
+    /// The inclusion proof at a place, counted from 0. None exactly if there are no more than `at`.
     pub fn inclusion_proof(&self, at: usize) -> Option<InclusionProof<D, V>>
-        ensures leaf { IfSome result (λ proof. slice_get self.now.included_nodes at ≡ Some proof.leaf) }
+        ensures leaf { IfSome result (λ proof.
+            slice_get self.now.included_nodes at ≡ Some proof.leaf) }
         ensures log_length { IfSome result (λ proof. proof.log_length ≡ self.now.log_length) }
         ensures none { IsNone result ↔ (slice_get self.now.included_nodes at ≡ None) }
     {
@@ -158,7 +160,8 @@ impl<D: SupportedDigest, V: VisitBytes, A: Allocator + Copy> ProofBundle<D, V, A
         inclusion_proofs: Vec<InclusionProof<D, V>, A>,
         hashes: &L,
     ) -> Result<Self, BundleError>
-        ensures { Answers BundleError.Memory result (bundled (L.digest_at hashes.now) consistency_proofs.items inclusion_proofs.items) }
+        ensures { Answers BundleError.Memory result
+            (bundled (L.digest_at hashes.now) consistency_proofs.items inclusion_proofs.items) }
     {
         let log_length = one_length(&consistency_proofs, &inclusion_proofs)?;
         let nodes = needed_nodes(alloc, &consistency_proofs, &inclusion_proofs)?;
@@ -186,10 +189,14 @@ impl<D: SupportedDigest, V: VisitBytes, A: Allocator + Copy> ProofBundle<D, V, A
         AllocError,
     >
         ensures hashes { IfOk result (λ parts. parts.0 ≡ self.now.hashes) }
-        ensures old_lengths { IfOk result (λ parts. map (λ p. p.old_length) parts.1.items ≡ self.now.consistent_lengths) }
-        ensures new_lengths { IfOk result (λ parts. AllByRecursion (λ p. p.new_length ≡ self.now.log_length) parts.1.items) }
-        ensures leaves { IfOk result (λ parts. map (λ p. p.leaf) parts.2.items ≡ self.now.included_nodes) }
-        ensures log_lengths { IfOk result (λ parts. AllByRecursion (λ p. p.log_length ≡ self.now.log_length) parts.2.items) }
+        ensures old_lengths { IfOk result (λ parts.
+            map (λ p. p.old_length) parts.1.items ≡ self.now.consistent_lengths) }
+        ensures new_lengths { IfOk result (λ parts.
+            AllByRecursion (λ p. p.new_length ≡ self.now.log_length) parts.1.items) }
+        ensures leaves { IfOk result (λ parts.
+            map (λ p. p.leaf) parts.2.items ≡ self.now.included_nodes) }
+        ensures log_lengths { IfOk result (λ parts.
+            AllByRecursion (λ p. p.log_length ≡ self.now.log_length) parts.2.items) }
     {
         Ok((
             self.hashes.copied(alloc)?,
@@ -227,7 +234,7 @@ impl<D: SupportedDigest, V: VisitBytes, A: Allocator + Copy> ProofBundle<D, V, A
         ProofBundle::from_message(alloc, message)
     }
 
-    /// The bundle's message, which holds the same bundle. `TooLarge` exactly where a node's number is above
+    /// The bundle's message, which holds the same bundle. `TooLarge` exactly if a node's number is above
     /// `u32::MAX`, before any growth.
     pub fn to_message(&self, alloc: A) -> Result<Message<A>, EncodeError>
         ensures ok { IfOk result (λ message. log_view message ≡ bundle_message self.now) }
@@ -250,7 +257,7 @@ impl<D: SupportedDigest, V: VisitBytes, A: Allocator + Copy> ProofBundle<D, V, A
         })
     }
 
-    /// Writes the bytes of the bundle's message, which are read as the same bundle. `TooLarge` exactly where
+    /// Writes the bytes of the bundle's message, which are read as the same bundle. `TooLarge` exactly if
     /// a node's number is above `u32::MAX`, before any growth.
     pub fn encode(&self, alloc: A) -> Result<Vec<u8, A>, EncodeError>
         ensures written { IfOk result (λ bytes. bytes.items ≡ log_bytes (bundle_message self.now)) }
@@ -298,8 +305,10 @@ fn consistency_proofs<D, V, A: Allocator>(
     old_lengths: &[u32],
     new_length: u32,
 ) -> Result<Vec<ConsistencyProof<D, V>, A>, AllocError>
-    ensures old_lengths { IfOk result (λ proofs. map (λ p. p.old_length) proofs.items ≡ old_lengths.now) }
-    ensures new_lengths { IfOk result (λ proofs. AllByRecursion (λ p. p.new_length ≡ new_length) proofs.items) }
+    ensures old_lengths { IfOk result (λ proofs.
+        map (λ p. p.old_length) proofs.items ≡ old_lengths.now) }
+    ensures new_lengths { IfOk result (λ proofs.
+        AllByRecursion (λ p. p.new_length ≡ new_length) proofs.items) }
 {
     let mut proofs = Vec::new(alloc);
     'lengths: for old_length in old_lengths {
@@ -315,7 +324,8 @@ fn inclusion_proofs<D, V, A: Allocator>(
     log_length: u32,
 ) -> Result<Vec<InclusionProof<D, V>, A>, AllocError>
     ensures leaves { IfOk result (λ proofs. map (λ p. p.leaf) proofs.items ≡ nodes.now) }
-    ensures log_lengths { IfOk result (λ proofs. AllByRecursion (λ p. p.log_length ≡ log_length) proofs.items) }
+    ensures log_lengths { IfOk result (λ proofs.
+        AllByRecursion (λ p. p.log_length ≡ log_length) proofs.items) }
 {
     let mut proofs = Vec::new(alloc);
     'nodes: for node in nodes {
@@ -343,7 +353,8 @@ fn read_hashes<D, A: Allocator>(
     ensures ok { IfOk result (λ hashes. hashes.items ≡ map pair_of (map entry_view entries.now)) }
     ensures ascending { IfOk result (λ hashes. IsAscending hashes.items) }
     ensures good { IfOk result (λ hashes. entries_fault 0 (map entry_view entries.now) ≡ None) }
-    ensures fault { IfErr result (λ e. (e ≡ DecodeError.Memory) ⊎ (entries_fault 0 (map entry_view entries.now) ≡ Some e)) }
+    ensures fault { IfErr result (λ e. (e ≡ DecodeError.Memory)
+        ⊎ (entries_fault 0 (map entry_view entries.now) ≡ Some e)) }
     ensures wire { (e : _) → result ≢ Err (DecodeError.Wire e) }
 {
     let mut hashes = Vec::new(alloc);
@@ -402,7 +413,8 @@ fn entries<D, A: Allocator + Copy>(
     pairs: &[(Node, Hash<D>)],
 ) -> Result<Vec<HashEntry<A>, A>, AllocError>
     requires { AllByRecursion (λ p. p.0.0 < 2 ^ 32) pairs.now }
-    ensures entries { IfOk result (λ entries. map entry_view entries.items ≡ map entry_of pairs.now) }
+    ensures entries { IfOk result (λ entries.
+        map entry_view entries.items ≡ map entry_of pairs.now) }
     ensures lengths { IfOk result (λ entries. AllByRecursion (λ p. length p.1 ≡ 32) pairs.now) }
 {
     let mut entries = Vec::new(alloc);

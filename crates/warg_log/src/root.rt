@@ -10,7 +10,7 @@ use crate::node::Node;
 use warg_crypto::{Hash, SupportedDigest, VisitBytes};
 
 /// The cut root of one range: the root of the range's leaves by the data's digests, with `hash` in the
-/// place of the target. None exactly where the data lacks a digest that it reads. It takes no memory.
+/// place of the target. None exactly if the data lacks a digest that it reads. It takes no memory.
 ///
 /// It goes down the recursion of RFC 6962, section 2.1: it reads the digest of a range that misses the
 /// target and has a power of two of leaves, and hashes the branch of the two parts of any other range.
@@ -20,7 +20,9 @@ pub fn range_root<D: SupportedDigest, V: VisitBytes, L: LogData<D, V>>(
     hash: &Hash<D>,
     range: &LeafRange,
 ) -> Option<Hash<D>>
-    ensures { result ≡ cut_over D.digest (L.digest_at hashes.now) hash.now target.now.start target.now.count range.now.start range.now.count }
+    ensures { result
+        ≡ cut_over D.digest
+        (L.digest_at hashes.now) hash.now target.now.start target.now.count range.now.start range.now.count }
 {
     range_root_by(&mut NoCache, hashes, target, hash, range)
 }
@@ -34,7 +36,8 @@ pub(crate) fn range_root_by<D: SupportedDigest, V: VisitBytes, L: LogData<D, V>,
     range: &LeafRange,
 ) -> Option<Hash<D>>
     requires { J.is_true joins.old }
-    ensures value { result ≡ cut_over D.digest (L.digest_at hashes.now) hash.now target.now.start target.now.count range.now.start range.now.count }
+    ensures value { result ≡ cut_over D.digest
+        (L.digest_at hashes.now) hash.now target.now.start target.now.count range.now.start range.now.count }
     ensures kept { J.is_true joins.new }
 {
     if range.equals(target) {
@@ -50,7 +53,7 @@ pub(crate) fn range_root_by<D: SupportedDigest, V: VisitBytes, L: LogData<D, V>,
 }
 
 /// The old root of one range: the root of the range's leaves by the digests that the data holds for the
-/// range's balanced roots. None exactly where the data lacks one of them. It takes no memory.
+/// range's balanced roots. None exactly if the data lacks one of them. It takes no memory.
 pub fn stored_root<D: SupportedDigest, V: VisitBytes, L: LogData<D, V>>(
     hashes: &L,
     range: &LeafRange,

@@ -99,8 +99,10 @@ impl<D: SupportedDigest, V: VisitBytes, A: Allocator> VecLog<D, V, A> {
         index: usize,
         log_length: usize,
     ) -> Result<Vec<u8, B>, ServeError>
-        ensures ok { IfOk result (λ bytes. SpellsBundle (own_digest D.digest self.now) [] (leaf_claim index log_length ∷ []) bytes.items) }
-        ensures out_of_range { (result ≡ Err ServeError.OutOfRange) ↔ ¬ ((index < log_length) × (log_length ≤ length self.now)) }
+        ensures ok { IfOk result (λ bytes. SpellsBundle (own_digest D.digest self.now) []
+            (leaf_claim index log_length ∷ []) bytes.items) }
+        ensures out_of_range { (result ≡ Err ServeError.OutOfRange)
+            ↔ ¬ ((index < log_length) × (log_length ≤ length self.now)) }
     {
         let proof = self.proof_at(index, log_length)?;
         let proofs = vec![in alloc; proof]?;

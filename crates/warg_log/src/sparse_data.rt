@@ -40,7 +40,7 @@ impl<D: SupportedDigest, V: VisitBytes, A: Allocator> SparseLogData<D, V, A> {
         }
     }
 
-    /// The data that holds these digests: `NotAscending` exactly where the nodes' numbers don't ascend
+    /// The data that holds these digests: `NotAscending` exactly if the nodes' numbers don't ascend
     /// strictly. It takes no memory.
     pub fn try_from(pairs: Vec<(Node, Hash<D>), A>) -> Result<Self, NotAscending>
         ensures ok { IfOk result (λ made. made ≡ pairs.items) }

@@ -20,7 +20,7 @@ use warg_crypto::{Hash, SupportedDigest, VisitBytes};
 /// A log that keeps the digests of its balanced roots alone: as many as the length's binary digits that
 /// are 1.
 ///
-/// It answers checkpoints, but no digests for proofs.
+/// It returns checkpoints, but no digests for proofs.
 #[derive(Drop)]
 pub struct StackLog<D: SupportedDigest, V: VisitBytes, A: Allocator = Global> {
     count: usize,
@@ -38,7 +38,8 @@ impl<D: SupportedDigest, V: VisitBytes, A: Allocator> Model for StackLog<D, V, A
 
     ghost view = { λ l. record { len = l.count; digests = l.blocks.items } };
 
-    ghost invariant = { λ l. (length l.blocks.items ≡ length (balanced_roots l.count)) × (l.count ≤ 2 ^ 63) };
+    ghost invariant = { λ l. (length l.blocks.items ≡ length (balanced_roots l.count))
+        × (l.count ≤ 2 ^ 63) };
 }
 
 impl<D: SupportedDigest, V: VisitBytes, A: Allocator> StackLog<D, V, A> {
@@ -89,9 +90,11 @@ impl<D: SupportedDigest, V: VisitBytes, A: Allocator> LogBuilder<D, V> for Stack
     ghost stands_for = { λ l ds. StandsFor D.digest l ds };
 
     fn checkpoint(&self) -> Checkpoint<D>
-        ensures root { (ds : List (List ℕ)) → StandsFor D.digest self.now ds → result.root ≡ root_of D.digest ds }
+        ensures root { (ds : List (List ℕ)) → StandsFor D.digest self.now ds
+            → result.root ≡ root_of D.digest ds }
         ensures none { self.now.len ≡ 0 → result.root ≡ D.digest [] }
-        ensures blocks { 0 < self.now.len → old_root D.digest (block_at self.now) self.now.len ≡ Some result.root }
+        ensures blocks { 0 < self.now.len → old_root D.digest (block_at self.now) self.now.len
+            ≡ Some result.root }
         ensures length { result.length ≡ self.now.len }
         ensures fits { self.now.len ≤ 2 ^ 63 }
     {
@@ -101,8 +104,10 @@ impl<D: SupportedDigest, V: VisitBytes, A: Allocator> LogBuilder<D, V> for Stack
     fn push(&mut self, entry: &V) -> Result<Node, AllocError>
         requires { self.old.len < 2 ^ 63 }
         ensures node { IfOk result (λ node. node.0 ≡ 2 * self.old.len) }
-        ensures ok { OnOk result (self.new ≡ pushed D.digest self.old (leaf_digest D.digest (V.bytes entry.now))) }
-        ensures stands { OnOk result ((ds : List (List ℕ)) → StandsFor D.digest self.old ds → StandsFor D.digest self.new (ds ++ leaf_digest D.digest (V.bytes entry.now) ∷ [])) }
+        ensures ok { OnOk result (self.new ≡ pushed D.digest self.old
+            (leaf_digest D.digest (V.bytes entry.now))) }
+        ensures stands { OnOk result ((ds : List (List ℕ)) → StandsFor D.digest self.old ds
+            → StandsFor D.digest self.new (ds ++ leaf_digest D.digest (V.bytes entry.now) ∷ [])) }
         ensures err { OnErr result (self.new ≡ self.old) }
     {
         let digest = hash_leaf::<D, V>(entry);
@@ -125,7 +130,8 @@ fn join_blocks<D: SupportedDigest, A: Allocator>(
     requires room { vec_len blocks.old < vec_capacity blocks.old }
     requires count { length blocks.old.items ≡ length (balanced_roots count) }
     ensures count { length blocks.new.items ≡ length (balanced_roots (count + 1)) }
-    ensures blocks { (G : ℕ → ℕ → List ℕ) → Grows D.digest count digest blocks.old.items G → blocks.new.items ≡ map (λ t. G (height_of t) (start_of t)) (balanced_roots (count + 1)) }
+    ensures blocks { (G : ℕ → ℕ → List ℕ) → Grows D.digest count digest blocks.old.items G
+        → blocks.new.items ≡ map (λ t. G (height_of t) (start_of t)) (balanced_roots (count + 1)) }
 {
     let mut digest = digest;
     let mut rest = count;

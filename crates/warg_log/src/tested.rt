@@ -42,7 +42,8 @@ impl<D: SupportedDigest, V: VisitBytes, A: Allocator> VecLog<D, V, A> {
     /// Adds an entry at the end, as [`push`](LogBuilder::push), and returns its leaf's node: `Full` exactly if the log has
     /// 2^63 entries. A refusal leaves the log as it was.
     pub fn append(&mut self, entry: &V) -> Result<Node, AppendError>
-        ensures ok { OnOk result (self.new ≡ self.old ++ leaf_digest D.digest (V.bytes entry.now) ∷ []) }
+        ensures ok { OnOk result (self.new ≡ self.old ++ leaf_digest D.digest
+            (V.bytes entry.now) ∷ []) }
         ensures node { IfOk result (λ node. node.0 ≡ 2 * length self.old) }
         ensures full { (result ≡ Err AppendError.Full) ↔ (length self.old ≡ 2 ^ 63) }
         ensures err { OnErr result (self.new ≡ self.old) }
@@ -80,7 +81,8 @@ impl<D: SupportedDigest, V: VisitBytes, A: Allocator> VecLog<D, V, A> {
     ) -> Result<ConsistencyProof<D, V>, OutOfRange>
         ensures old_length { IfOk result (λ proof. proof.old_length ≡ old_length) }
         ensures new_length { IfOk result (λ proof. proof.new_length ≡ new_length) }
-        ensures exactly { IsOk result ↔ ((0 < old_length) × (old_length ≤ new_length) × (new_length ≤ length self.now)) }
+        ensures exactly { IsOk result ↔ ((0 < old_length) × (old_length ≤ new_length)
+            × (new_length ≤ length self.now)) }
     {
         if 0 < old_length && old_length <= new_length && new_length <= self.length() {
             Ok(self.prove_consistency(old_length, new_length))

@@ -45,7 +45,8 @@ impl<D: SupportedDigest, V: VisitBytes, A: Allocator> Model for VecLog<D, V, A> 
 
     ghost view = { λ l. leaves_in l.tree.items };
 
-    ghost invariant = { λ l. (l.count ≡ length (leaves_in l.tree.items)) × (l.tree.items ≡ slice_of D.digest (leaves_in l.tree.items)) × (l.spacer ≡ D.digest []) };
+    ghost invariant = { λ l. (l.count ≡ length (leaves_in l.tree.items))
+        × (l.tree.items ≡ slice_of D.digest (leaves_in l.tree.items)) × (l.spacer ≡ D.digest []) };
 }
 
 impl<D: SupportedDigest, V: VisitBytes, A: Allocator> VecLog<D, V, A> {
@@ -116,7 +117,8 @@ impl<D: SupportedDigest, V: VisitBytes, A: Allocator> LogBuilder<D, V> for VecLo
     fn push(&mut self, entry: &V) -> Result<Node, AllocError>
         requires { length self.old < 2 ^ 63 }
         ensures node { IfOk result (λ node. node.0 ≡ 2 * length self.old) }
-        ensures ok { OnOk result (self.new ≡ self.old ++ leaf_digest D.digest (V.bytes entry.now) ∷ []) }
+        ensures ok { OnOk result (self.new ≡ self.old ++ leaf_digest D.digest
+            (V.bytes entry.now) ∷ []) }
         ensures err { OnErr result (self.new ≡ self.old) }
     {
         let digest = hash_leaf::<D, V>(entry);
@@ -157,7 +159,8 @@ fn join_up<D: SupportedDigest, A: Allocator>(
     digest: Hash<D>,
 )
     requires last { end_of leaf.0 ≡ length (leaves_in tree.old.items) }
-    requires slice { IsSliceUpTo D.digest (leaves_in tree.old.items) tree.old.items (height_of leaf.0) }
+    requires slice { IsSliceUpTo D.digest (leaves_in tree.old.items) tree.old.items
+        (height_of leaf.0) }
     requires digest { digest ≡ root_of D.digest (leaves_below leaf.0 (leaves_in tree.old.items)) }
     ensures leaves { leaves_in tree.new.items ≡ leaves_in tree.old.items }
     ensures slice { tree.new.items ≡ slice_of D.digest (leaves_in tree.old.items) }

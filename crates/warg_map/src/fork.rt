@@ -44,14 +44,16 @@ impl<D: SupportedDigest, A: Allocator> Fork<D, A> {
     /// The digest of the tree.
     pub fn hash(&self) -> Hash<D>
         requires { self.now.left.0 ≡ self.now.right.0 }
-        ensures { result ≡ sparse_root D.digest (self.now.left.0 + 1) (join self.now.left.1 self.now.right.1) }
+        ensures { result ≡ sparse_root D.digest (self.now.left.0 + 1)
+            (join self.now.left.1 self.now.right.1) }
     {
         hash_branch(self.left.hash(), self.right.hash())
     }
 
     /// The fork with another link on a side. The link on the other side is shared.
     pub fn with_side(&self, side: Side, link: Link<D, A>) -> Result<Fork<D, A>, AllocError>
-        ensures { IfOk result (λ f. IsForkOf (side_bit side) link (if side_bit side then self.now.left else self.now.right) f) }
+        ensures { IfOk result (λ f. IsForkOf (side_bit side) link
+            (if side_bit side then self.now.left else self.now.right) f) }
     {
         let other = self[side.opposite()].clone()?;
         Ok(Fork::beside(side, link, other))

@@ -20,7 +20,8 @@ fn shared_by_all<D>(key: &Hash<D>, leaves: &[(Hash<D>, Hash<D>)], from: usize) -
     requires { from ≤ 256 }
     ensures at_most { result ≤ 256 - from }
     ensures same { ShareBits key.now from result leaves.now }
-    ensures apart { result < 256 - from → 0 < length (on_side (from + result) (not (bit_at key.now (from + result))) leaves.now) }
+    ensures apart { result < 256 - from → 0 < length
+        (on_side (from + result) (not (bit_at key.now (from + result))) leaves.now) }
 {
     let mut shared = 256 - from;
     for (other, _) in leaves {
@@ -36,7 +37,8 @@ fn sides<D, A: Allocator + Copy>(
     at: usize,
 ) -> Result<(Vec<(Hash<D>, Hash<D>), A>, Vec<(Hash<D>, Hash<D>), A>), AllocError>
     requires { at < 256 }
-    ensures { IfOk result (λ p. (p.0.items ≡ on_side at false leaves.items) × (p.1.items ≡ on_side at true leaves.items)) }
+    ensures { IfOk result (λ p. (p.0.items ≡ on_side at false leaves.items)
+        × (p.1.items ≡ on_side at true leaves.items)) }
 {
     let mut zeros = Vec::new(alloc);
     let mut ones = Vec::new(alloc);
@@ -57,7 +59,8 @@ fn lone<D: SupportedDigest, A: Allocator + Copy>(
     depth: usize,
 ) -> Result<Node<D, A>, AllocError>
     requires { depth ≤ 256 }
-    ensures { IfOk result (λ n. IsSeen n (256 - depth) (map.insert map.empty (last_bits key (256 - depth)) value)) }
+    ensures { IfOk result (λ n. IsSeen n (256 - depth)
+        (map.insert map.empty (last_bits key (256 - depth)) value)) }
 {
     if depth == 0 {
         let (node, _) = Node::Empty(256).insert(alloc, &mut Path::new(&key), value)?;
@@ -75,8 +78,10 @@ fn grown<D: SupportedDigest, A: Allocator + Copy>(
 ) -> Result<(Node<D, A>, usize), AllocError>
     requires depth { depth ≤ 256 }
     requires some { 0 < length leaves.items }
-    ensures seen { IfOk result (λ p. IsSeen p.0 (256 - depth) (with_leaves (256 - depth) map.empty leaves.items)) }
-    ensures count { IfOk result (λ p. p.1 ≡ map.len (with_leaves (256 - depth) map.empty leaves.items)) }
+    ensures seen { IfOk result (λ p. IsSeen p.0 (256 - depth)
+        (with_leaves (256 - depth) map.empty leaves.items)) }
+    ensures count { IfOk result (λ p. p.1 ≡ map.len
+        (with_leaves (256 - depth) map.empty leaves.items)) }
     ensures few { IfOk result (λ p. p.1 ≤ length leaves.items) }
 {
     let (key, value) = &leaves[leaves.len() - 1];
@@ -102,8 +107,10 @@ fn one_by_one<D: SupportedDigest, A: Allocator + Copy>(
 ) -> Result<(Node<D, A>, usize), AllocError>
     requires well_formed { IsWellFormed node.now }
     requires height { tree_height node.now + depth ≡ 256 }
-    ensures seen { IfOk result (λ p. IsSeen p.0 (256 - depth) (with_leaves (256 - depth) (held_by node.now) leaves.items)) }
-    ensures count { IfOk result (λ p. map.len (held_by node.now) + p.1 ≡ map.len (with_leaves (256 - depth) (held_by node.now) leaves.items)) }
+    ensures seen { IfOk result (λ p. IsSeen p.0 (256 - depth)
+        (with_leaves (256 - depth) (held_by node.now) leaves.items)) }
+    ensures count { IfOk result (λ p. map.len (held_by node.now) + p.1
+        ≡ map.len (with_leaves (256 - depth) (held_by node.now) leaves.items)) }
     ensures few { IfOk result (λ p. p.1 ≤ length leaves.items) }
 {
     let _leaves = leaves.len();
@@ -130,8 +137,10 @@ pub(crate) fn spread<D: SupportedDigest, A: Allocator + Copy>(
     depth: usize,
 ) -> Result<(Link<D, A>, usize), AllocError>
     requires { link.now.0 + depth ≡ 256 }
-    ensures seen { IfOk result (λ p. p.0 ≡ (link.now.0, with_leaves link.now.0 link.now.1 leaves.items)) }
-    ensures count { IfOk result (λ p. map.len link.now.1 + p.1 ≡ map.len (with_leaves link.now.0 link.now.1 leaves.items)) }
+    ensures seen { IfOk result
+        (λ p. p.0 ≡ (link.now.0, with_leaves link.now.0 link.now.1 leaves.items)) }
+    ensures count { IfOk result (λ p. map.len link.now.1 + p.1
+        ≡ map.len (with_leaves link.now.0 link.now.1 leaves.items)) }
     ensures few { IfOk result (λ p. p.1 ≤ length leaves.items) }
 {
     if leaves.is_empty() {

@@ -31,7 +31,8 @@ impl<D: SupportedDigest, A: Allocator> Model for Link<D, A> {
 
     ghost view = { λ a. seen a.node };
 
-    ghost invariant = { λ a. IsWellFormed a.node × (a.hash ≡ sparse_root D.digest (seen a.node).0 (seen a.node).1) };
+    ghost invariant = { λ a. IsWellFormed a.node
+        × (a.hash ≡ sparse_root D.digest (seen a.node).0 (seen a.node).1) };
 
     ghost size = { λ d. d.0 };
 

@@ -224,7 +224,7 @@ impl<D: SupportedDigest, K: VisitBytes + Drop, V: VisitBytes + Drop, A: Allocato
         }
     }
 
-    /// The proof of what is held under `key`, or `None` exactly where its digest isn't held, which takes no memory.
+    /// The proof of what is held under `key`, or `None` exactly if its digest isn't held, which takes no memory.
     ///
     /// The proof has one peer more than the most bits that the key's digest shares with another that is held, and one for
     /// a lone key.
@@ -237,12 +237,14 @@ impl<D: SupportedDigest, K: VisitBytes + Drop, V: VisitBytes + Drop, A: Allocato
             (map.contains_key self.now (key_bits D.digest (K.bytes key)) ≡ false)
             (λ p. Proves D.digest 256 self.now (key_bits D.digest (K.bytes key)) p)) }
 
-        ensures none { map.contains_key self.now (key_bits D.digest (K.bytes key)) ≡ false → result ≡ Ok None }
+        ensures none { map.contains_key self.now (key_bits D.digest (K.bytes key)) ≡ false
+            → result ≡ Ok None }
 
         // From the leaf digest that is held the proof leads to the root.
         ensures honest { IfOk result (λ o. IfSome o (λ p.
             (x : List ℕ) → map.get self.now (key_bits D.digest (K.bytes key)) ≡ Some x
-            → proof_value D.digest p x (key_bits D.digest (K.bytes key)) ≡ sparse_root D.digest 256 self.now)) }
+            → proof_value D.digest p x (key_bits D.digest (K.bytes key))
+            ≡ sparse_root D.digest 256 self.now)) }
 
         // From any leaf digest it leads to the root of the map that holds this one in its place.
         ensures replaced { IfOk result (λ o. IfSome o (λ p.
@@ -256,7 +258,7 @@ impl<D: SupportedDigest, K: VisitBytes + Drop, V: VisitBytes + Drop, A: Allocato
         Ok(Some(proof))
     }
 
-    /// The proof that the leaf digest under `key` is that of an empty leaf, or `None` exactly where it isn't, which takes
+    /// The proof that the leaf digest under `key` is that of an empty leaf, or `None` exactly if it isn't, which takes
     /// no memory.
     ///
     /// For a key whose digest isn't held the proof has one peer more than the most bits that this digest shares with one
@@ -265,16 +267,19 @@ impl<D: SupportedDigest, K: VisitBytes + Drop, V: VisitBytes + Drop, A: Allocato
     /// takes the key by value, as that does.
     pub fn prove_absence(&self, key: K) -> Result<Option<Proof<D, K, V, A>>, AllocError>
         ensures empty { IfOk result (λ o. IsSome o
-            ↔ (leaf_at D.digest self.now (key_bits D.digest (K.bytes key)) ≡ empty_root D.digest 0)) }
+            ↔ (leaf_at D.digest self.now (key_bits D.digest (K.bytes key))
+            ≡ empty_root D.digest 0)) }
         ensures peers { IfOk result (λ o. IfSome o (λ p.
             MatchOption (map.get self.now (key_bits D.digest (K.bytes key)))
             (ProvesAbsent D.digest self.now (key_bits D.digest (K.bytes key)) p)
             (λ _. Proves D.digest 256 self.now (key_bits D.digest (K.bytes key)) p))) }
-        ensures none { leaf_at D.digest self.now (key_bits D.digest (K.bytes key)) ≢ empty_root D.digest 0 → result ≡ Ok None }
+        ensures none { leaf_at D.digest self.now (key_bits D.digest (K.bytes key))
+            ≢ empty_root D.digest 0 → result ≡ Ok None }
 
         // From an empty leaf the proof leads to the root.
         ensures honest { IfOk result (λ o. IfSome o (λ p.
-            proof_value D.digest p (empty_root D.digest 0) (key_bits D.digest (K.bytes key)) ≡ sparse_root D.digest 256 self.now)) }
+            proof_value D.digest p (empty_root D.digest 0) (key_bits D.digest (K.bytes key))
+            ≡ sparse_root D.digest 256 self.now)) }
     {
         let key = Hash::of(&key);
         let node = self.link.node();
@@ -295,9 +300,11 @@ impl<D: SupportedDigest, K: VisitBytes + Drop, V: VisitBytes + Drop, A: Allocato
     ///
     /// `Full` comes exactly for a new key digest where `len` is `usize::MAX`, before anything grows.
     pub fn insert(&self, key: K, val: V) -> Result<Map<D, K, V, A>, MapError>
-        ensures ok { IfOk result (λ m. m ≡ map.insert self.now (key_bits D.digest (K.bytes key)) (leaf_digest D.digest (V.bytes val))) }
+        ensures ok { IfOk result (λ m. m ≡ map.insert self.now (key_bits D.digest (K.bytes key))
+            (leaf_digest D.digest (V.bytes val))) }
         ensures full { (result ≡ Err MapError.Full)
-            ↔ ((map.len self.now ≡ usize.MAX) × (map.contains_key self.now (key_bits D.digest (K.bytes key)) ≡ false)) }
+            ↔ ((map.len self.now ≡ usize.MAX)
+            × (map.contains_key self.now (key_bits D.digest (K.bytes key)) ≡ false)) }
     {
         let (map, _) = self.with_leaf(&Hash::of(&key), hash_leaf(&val))?;
         Ok(map)
@@ -306,9 +313,11 @@ impl<D: SupportedDigest, K: VisitBytes + Drop, V: VisitBytes + Drop, A: Allocato
     // The map with a leaf digest under a key digest, and whether the key digest is new.
     fn with_leaf(&self, key: &Hash<D>, leaf: Hash<D>) -> Result<(Map<D, K, V, A>, bool), MapError>
         ensures ok { IfOk result (λ p. p.0 ≡ map.insert self.now (last_bits key.now 256) leaf) }
-        ensures is_new { IfOk result (λ p. p.1 ≡ not (map.contains_key self.now (last_bits key.now 256))) }
+        ensures is_new { IfOk result (λ p. p.1
+            ≡ not (map.contains_key self.now (last_bits key.now 256))) }
         ensures full { (result ≡ Err MapError.Full)
-            ↔ ((map.len self.now ≡ usize.MAX) × (map.contains_key self.now (last_bits key.now 256) ≡ false)) }
+            ↔ ((map.len self.now ≡ usize.MAX)
+            × (map.contains_key self.now (last_bits key.now 256) ≡ false)) }
     {
         let node = self.link.node();
         let len = self.len();
@@ -343,15 +352,20 @@ impl<D: SupportedDigest, K: VisitBytes + Drop, V: VisitBytes + Drop, A: Allocato
         requires ends { IsFinite (I.remaining iter) }
         ensures ok { IfOk result (λ m. ((es : List (K × V)) × Drains I.next_gives iter es
             × (m ≡ inserted D.digest self.now (pair_bytes K.bytes V.bytes es)))) }
-        ensures full { result ≡ Err MapError.Full → ((es : List (K × V)) × (e : K × V) × (rest : I) × Yields I.next_gives iter (es ++ e ∷ []) rest
+        ensures full { result ≡ Err MapError.Full
+            → ((es : List (K × V)) × (e : K × V) × (rest : I)
+            × Yields I.next_gives iter (es ++ e ∷ []) rest
             × (map.len (inserted D.digest self.now (pair_bytes K.bytes V.bytes es)) ≡ usize.MAX)
-            × (map.contains_key (inserted D.digest self.now (pair_bytes K.bytes V.bytes es)) (key_bits D.digest (K.bytes e.0)) ≡ false)) }
+            × (map.contains_key (inserted D.digest self.now (pair_bytes K.bytes V.bytes es))
+            (key_bits D.digest (K.bytes e.0)) ≡ false)) }
         // Where a map is the answer, no pair was one too many.
         ensures fits { IfOk result (λ m. map.len m ≤ usize.MAX) }
 
         // Where the map is full, and the first pair, whichever it is, is of a new key digest, memory isn't asked for.
         ensures at_once { map.len self.now ≡ usize.MAX
-            → ((first : Option (K × V)) (rest : I) → I.next_gives iter first rest → MatchOption first ⊥ (λ e. map.contains_key self.now (key_bits D.digest (K.bytes e.0)) ≡ false))
+            → ((first : Option (K × V)) (rest : I) → I.next_gives iter first rest
+            → MatchOption first ⊥ (λ e. map.contains_key self.now (key_bits D.digest (K.bytes e.0))
+            ≡ false))
             → result ≡ Err MapError.Full }
     {
         let _len = self.len();
@@ -399,9 +413,12 @@ impl<D: SupportedDigest, K: VisitBytes + Drop, V: VisitBytes + Drop, A: Allocato
         requires ends { IsFinite (I.remaining iter) }
         ensures ok { IfOk result (λ m. ((es : List (K × V)) × Drains I.next_gives iter es
             × (m ≡ inserted D.digest self (pair_bytes K.bytes V.bytes es)))) }
-        ensures full { result ≡ Err MapError.Full → ((es : List (K × V)) × (e : K × V) × (rest : I) × Yields I.next_gives iter (es ++ e ∷ []) rest
+        ensures full { result ≡ Err MapError.Full
+            → ((es : List (K × V)) × (e : K × V) × (rest : I)
+            × Yields I.next_gives iter (es ++ e ∷ []) rest
             × (map.len (inserted D.digest self (pair_bytes K.bytes V.bytes es)) ≡ usize.MAX)
-            × (map.contains_key (inserted D.digest self (pair_bytes K.bytes V.bytes es)) (key_bits D.digest (K.bytes e.0)) ≡ false)) }
+            × (map.contains_key (inserted D.digest self (pair_bytes K.bytes V.bytes es))
+            (key_bits D.digest (K.bytes e.0)) ≡ false)) }
         ensures fits { IfOk result (λ m. map.len m ≤ usize.MAX) }
     {
         let mut all = self;

@@ -70,8 +70,10 @@ impl<D: SupportedDigest, A: Allocator + Copy> Node<D, A> {
         requires well_formed { IsWellFormed node }
         requires carries { Carries node }
         requires height { from + len + tree_height node ≡ 256 }
-        requires held { map.contains_key (held_by node) (last_bits key.now (tree_height node)) ≡ true }
-        ensures { IfOk result (λ n. IsSeen n (tree_height node + len) (under (bits_from key.now from len) (held_by node))) }
+        requires held { map.contains_key (held_by node) (last_bits key.now (tree_height node))
+            ≡ true }
+        ensures { IfOk result (λ n. IsSeen n (tree_height node + len)
+            (under (bits_from key.now from len) (held_by node))) }
     {
         if len == 0 {
             return Ok(node);
@@ -105,7 +107,10 @@ impl<D: SupportedDigest, A: Allocator + Copy> Node<D, A> {
     ) -> Result<Node<D, A>, AllocError>
         requires height { from + shared + 1 + far.0 ≡ 256 }
         requires holds { HoldsKey far.1 }
-        ensures { IfOk result (λ n. IsSeen n (256 - from) (under (bits_from key.now from shared) (join_at (bit_at key.now (from + shared)) (map.insert map.empty (last_bits key.now far.0) value) far.1))) }
+        ensures { IfOk result (λ n. IsSeen n (256 - from)
+            (under (bits_from key.now from shared)
+            (join_at (bit_at key.now (from + shared))
+            (map.insert map.empty (last_bits key.now far.0) value) far.1))) }
     {
         let lone = Singleton::new(key.copied(), value, 255 - from - shared);
         let near = Link::new(Node::Singleton(Rc::new(alloc, lone)?));
@@ -211,7 +216,7 @@ impl<D: SupportedDigest, A: Allocator + Copy> Node<D, A> {
     ghost use Rattle.warg_map.specs.Peers.{Proves};
     ghost use Rattle.warg_map.specs.Private.Seen.{tree_height, held_by, IsWellFormed};
 
-    /// The proof that the bits that the path has left are held, or `None` exactly where they aren't, which takes no memory.
+    /// The proof that the bits that the path has left are held, or `None` exactly if they aren't, which takes no memory.
     pub fn prove<K, V>(
         &self,
         alloc: A,
@@ -222,8 +227,10 @@ impl<D: SupportedDigest, A: Allocator + Copy> Node<D, A> {
         ensures answer { IfOk result (λ o.
             MatchOption o
             (map.contains_key (held_by self.now) (bits_left path.entry) ≡ false)
-            (λ p. Proves D.digest (tree_height self.now) (held_by self.now) (bits_left path.entry) p)) }
-        ensures none { map.contains_key (held_by self.now) (bits_left path.entry) ≡ false → result ≡ Ok None }
+            (λ p. Proves D.digest (tree_height self.now) (held_by self.now)
+            (bits_left path.entry) p)) }
+        ensures none { map.contains_key (held_by self.now) (bits_left path.entry) ≡ false
+            → result ≡ Ok None }
         ensures few { IfOk result (λ o. IfSome o (λ p. length p ≤ tree_height self.now)) }
     {
         match self {
@@ -278,7 +285,8 @@ impl<D: SupportedDigest, A: Allocator + Copy> Node<D, A> {
         requires well_formed { IsWellFormed self.now }
         requires height { tree_height self.now + path.index ≡ 256 }
         requires absent { map.contains_key (held_by self.now) (bits_left path) ≡ false }
-        ensures answer { IfOk result (λ p. ProvesAbsent D.digest (held_by self.now) (bits_left path.entry) p) }
+        ensures answer { IfOk result (λ p. ProvesAbsent D.digest (held_by self.now)
+            (bits_left path.entry) p) }
         ensures few { IfOk result (λ p. length p ≤ tree_height self.now) }
     {
         match self {

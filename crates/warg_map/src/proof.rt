@@ -201,7 +201,8 @@ impl<D: SupportedDigest, K: VisitBytes, V: VisitBytes, A: Allocator> Proof<D, K,
     ///
     /// A proof of [`Map::prove`](crate::Map::prove) leads to the map's root from the value last kept under the key.
     pub fn evaluate(&self, key: &K, value: &V) -> Hash<D>
-        ensures { result ≡ proof_value D.digest self.now (leaf_digest D.digest (V.bytes value.now)) (key_bits D.digest (K.bytes key.now)) }
+        ensures { result ≡ proof_value D.digest self.now (leaf_digest D.digest (V.bytes value.now))
+            (key_bits D.digest (K.bytes key.now)) }
     {
         self.root_from(&Hash::of(key), hash_leaf(value))
     }
@@ -210,7 +211,8 @@ impl<D: SupportedDigest, K: VisitBytes, V: VisitBytes, A: Allocator> Proof<D, K,
     ///
     /// A proof of [`Map::prove_absence`](crate::Map::prove_absence) leads to the map's root.
     pub fn evaluate_absent(&self, key: &K) -> Hash<D>
-        ensures { result ≡ proof_value D.digest self.now (empty_root D.digest 0) (key_bits D.digest (K.bytes key.now)) }
+        ensures { result ≡ proof_value D.digest self.now (empty_root D.digest 0)
+            (key_bits D.digest (K.bytes key.now)) }
     {
         self.root_from(&Hash::of(key), empty_tree_hash(0))
     }

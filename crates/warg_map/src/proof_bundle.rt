@@ -156,8 +156,10 @@ fn read_proofs<D, K, V, A: Allocator + Copy>(
     messages: Vec<MapInclusionProof<A>, A>,
 ) -> Result<Vec<Proof<D, K, V, A>, A>, DecodeError>
     ensures ok { IfOk result (λ proofs. proofs.items ≡ map proof_view messages.items) }
-    ensures good { IfOk result (λ proofs. first_fault proof_fault (map proof_view messages.items) ≡ None) }
-    ensures fault { IfErr result (λ e. (e ≡ DecodeError.Memory) ⊎ (first_fault proof_fault (map proof_view messages.items) ≡ Some e)) }
+    ensures good { IfOk result (λ proofs. first_fault proof_fault (map proof_view messages.items)
+        ≡ None) }
+    ensures fault { IfErr result (λ e. (e ≡ DecodeError.Memory)
+        ⊎ (first_fault proof_fault (map proof_view messages.items) ≡ Some e)) }
     ensures wire { (e : _) → result ≢ Err (DecodeError.Wire e) }
 {
     let mut proofs = Vec::new(alloc);

@@ -149,8 +149,11 @@ impl<D: SupportedDigest> Singleton<D> {
     pub(crate) fn shared_with(&self, path: &Path<'_, D>) -> usize
         requires { path.now.index + self.now.height ≤ 256 }
         ensures at_most { result ≤ self.now.height }
-        ensures same { bits_from self.now.key path.now.index result ≡ bits_from path.now.hash.now path.now.index result }
-        ensures apart { result < self.now.height → ¬ (bit_at self.now.key (path.now.index + result) ≡ bit_at path.now.hash.now (path.now.index + result)) }
+        ensures same { bits_from self.now.key path.now.index result
+            ≡ bits_from path.now.hash.now path.now.index result }
+        ensures apart { result < self.now.height
+            → ¬ (bit_at self.now.key (path.now.index + result)
+            ≡ bit_at path.now.hash.now (path.now.index + result)) }
     {
         shared_bits(&self.key, path.hash(), path.index(), self.height)
     }
@@ -169,7 +172,8 @@ impl<D: SupportedDigest> Singleton<D> {
         requires height { self.now.height + path.old.index ≡ 257 }
         requires key { key ≡ path.old.hash.now }
         requires side { side_bit _cur_side ≡ bit_at key (256 - self.now.height) }
-        ensures { IfOk result (λ p. Inserts (self.now.height, held_alone self.now) (side_bit _cur_side ∷ bits_left path.old) value p.0 p.1) }
+        ensures { IfOk result (λ p. Inserts (self.now.height, held_alone self.now)
+            (side_bit _cur_side ∷ bits_left path.old) value p.0 p.1) }
     {
         let from = path.index() - 1;
         let shared = shared_bits(&self.key, &key, from, self.height);

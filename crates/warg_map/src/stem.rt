@@ -33,7 +33,8 @@ pub(crate) fn stem_digest<D: SupportedDigest>(
     below: &Hash<D>,
 ) -> Hash<D>
     requires { from + len ≤ 256 }
-    ensures { result ≡ stem_root D.digest (256 - (from + len)) below.now (bits_from key.now from len) }
+    ensures { result ≡ stem_root D.digest (256 - (from + len)) below.now
+        (bits_from key.now from len) }
 {
     let bottom = 256 - (from + len);
     let mut hash = below.copied();
@@ -49,7 +50,8 @@ impl<D: SupportedDigest, A: Allocator> Stem<D, A> {
     /// The digest of the tree.
     pub fn hash(&self) -> Hash<D>
         requires { self.now.from + self.now.len + self.now.below.0 ≡ 256 }
-        ensures { result ≡ sparse_root D.digest (self.now.below.0 + self.now.len) (under (bits_from self.now.key self.now.from self.now.len) self.now.below.1) }
+        ensures { result ≡ sparse_root D.digest (self.now.below.0 + self.now.len)
+            (under (bits_from self.now.key self.now.from self.now.len) self.now.below.1) }
     {
         self.hash_below(0)
     }
@@ -58,7 +60,9 @@ impl<D: SupportedDigest, A: Allocator> Stem<D, A> {
     pub(crate) fn hash_below(&self, at: usize) -> Hash<D>
         requires level { self.now.from + self.now.len + self.now.below.0 ≡ 256 }
         requires place { at ≤ self.now.len }
-        ensures { result ≡ sparse_root D.digest (self.now.below.0 + (self.now.len - at)) (under (bits_from self.now.key (self.now.from + at) (self.now.len - at)) self.now.below.1) }
+        ensures { result ≡ sparse_root D.digest (self.now.below.0 + (self.now.len - at))
+            (under (bits_from self.now.key (self.now.from + at)
+            (self.now.len - at)) self.now.below.1) }
     {
         stem_digest(&self.key, self.from + at, self.len - at, self.below.hash())
     }
@@ -67,8 +71,11 @@ impl<D: SupportedDigest, A: Allocator> Stem<D, A> {
     pub(crate) fn shared_with(&self, path: &Path<'_, D>) -> usize
         requires { path.now.index + self.now.len ≤ 256 }
         ensures at_most { result ≤ self.now.len }
-        ensures same { bits_from self.now.key path.now.index result ≡ bits_from path.now.hash.now path.now.index result }
-        ensures apart { result < self.now.len → ¬ (bit_at self.now.key (path.now.index + result) ≡ bit_at path.now.hash.now (path.now.index + result)) }
+        ensures same { bits_from self.now.key path.now.index result
+            ≡ bits_from path.now.hash.now path.now.index result }
+        ensures apart { result < self.now.len
+            → ¬ (bit_at self.now.key (path.now.index + result)
+            ≡ bit_at path.now.hash.now (path.now.index + result)) }
     {
         shared_bits(&self.key, path.hash(), path.index(), self.len)
     }
@@ -83,7 +90,11 @@ impl<D: SupportedDigest, A: Allocator + Copy> Stem<D, A> {
         requires below { IsBelow self.now.len self.now.below }
         requires some { 0 < at }
         requires place { at ≤ self.now.len }
-        ensures { IfOk result (λ r. r ≡ (self.now.below.0 + (self.now.len - at), under (bits_from self.now.key (self.now.from + at) (self.now.len - at)) self.now.below.1)) }
+        ensures { IfOk result (λ r. r ≡ (
+          self.now.below.0 + (self.now.len - at),
+          under
+              (bits_from self.now.key (self.now.from + at) (self.now.len - at)) self.now.below.1,
+        )) }
     {
         let below = self.below.clone()?;
         if at == self.len {

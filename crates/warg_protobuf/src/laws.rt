@@ -21,38 +21,41 @@ pub fn one_spelling()
         SpellsField a x → SpellsField b y → a ++ s ≡ b ++ t → (a ≡ b) × (x ≡ y) }
 {}
 
-/// A field is split off the front of bytes exactly where its spelling stands there.
+/// A field is split off the front of bytes exactly if its spelling stands there.
 pub fn field_at_front()
     ensures { (bytes rest : List ℕ) (f : Field) →
         (field_at bytes ≡ Ok (f, rest)) ↔
         ((front : List ℕ) × SpellsField front f × (bytes ≡ front ++ rest)) }
 {}
 
-/// A varint is split off the front of bytes exactly where its spelling stands there, and else the fault is the one that stands there.
+/// A varint is split off the front of bytes exactly if its spelling stands there, and else the fault is the one that stands there.
 pub fn varint_at_front()
     ensures number { (bytes rest : List ℕ) (n : ℕ) →
         (varint_at bytes ≡ Ok (n, rest)) ↔ BeginsWith IsVarint bytes n rest }
-    ensures fault { (bytes : List ℕ) (e : WireError) → (varint_at bytes ≡ Err e) ↔ VarintFault bytes e }
+    ensures fault { (bytes : List ℕ) (e : WireError) → (varint_at bytes ≡ Err e)
+        ↔ VarintFault bytes e }
 {}
 
-/// No field is split off the front of bytes exactly where one of the causes stands there, and the fault is the first cause's.
+/// No field is split off the front of bytes exactly if one of the causes stands there, and the fault is the first cause's.
 pub fn field_fault_at_front()
     ensures { (bytes : List ℕ) (e : WireError) → (field_at bytes ≡ Err e) ↔ FieldFault bytes e }
 {}
 
-/// Packed numbers are read exactly where the bytes are their spellings, and else the fault is the first that stands there.
+/// Packed numbers are read exactly if the bytes are their spellings, and else the fault is the first that stands there.
 pub fn packed_is_read()
     ensures numbers { (bytes ns : List ℕ) → IsPacked bytes ns ↔ (packed_uint32s bytes ≡ Ok ns) }
-    ensures fault { (bytes : List ℕ) (e : WireError) → PackedFault bytes e ↔ (packed_uint32s bytes ≡ Err e) }
+    ensures fault { (bytes : List ℕ) (e : WireError) → PackedFault bytes e
+        ↔ (packed_uint32s bytes ≡ Err e) }
 {}
 
 /// What is written of a number spells it, and nothing shorter does.
 pub fn shortest_varint()
     ensures spells { (n : ℕ) → n < 2 ^ 64 → IsVarint (varint_bytes n) n }
-    ensures shortest { (n : ℕ) (other : List ℕ) → IsVarint other n → length (varint_bytes n) ≤ length other }
+    ensures shortest { (n : ℕ) (other : List ℕ) → IsVarint other n
+        → length (varint_bytes n) ≤ length other }
 {}
 
-/// Bytes spell a message exactly where reading gives it. So they spell one at most.
+/// Bytes spell a message exactly if reading gives it. So they spell one at most.
 pub fn spelled_is_read()
     ensures log_bundle { (bytes : List ℕ) (m : LogBundle) →
         IsSpelled log_schema bytes m ↔ (message_of log_schema bytes ≡ Ok m) }
@@ -70,7 +73,7 @@ pub fn spelled_is_read()
         IsSpelled hash_schema bytes m ↔ (message_of hash_schema bytes ≡ Ok m) }
 {}
 
-/// A fault stands in bytes exactly where reading meets it. So one stands there at most, and none beside a message.
+/// A fault stands in bytes exactly if reading meets it. So one stands there at most, and none beside a message.
 pub fn fault_is_met()
     ensures log_bundle { (bytes : List ℕ) (e : WireError) →
         FaultStands log_schema bytes e ↔ (message_of log_schema bytes ≡ Err e) }
@@ -100,7 +103,10 @@ pub fn inner_fault_is_met()
 
 /// An inner message stands in a payload of wire type 2, and a payload of another type fails by `WrongWireType`.
 pub fn inner_message_is_delimited()
-    ensures hash_entry { (p : Payload) → wire_type p ≢ 2 → message_in entry_schema p ≡ Err WrongWireType }
-    ensures map_proof { (p : Payload) → wire_type p ≢ 2 → message_in proof_schema p ≡ Err WrongWireType }
-    ensures optional_hash { (p : Payload) → wire_type p ≢ 2 → message_in hash_schema p ≡ Err WrongWireType }
+    ensures hash_entry { (p : Payload) → wire_type p ≢ 2
+        → message_in entry_schema p ≡ Err WrongWireType }
+    ensures map_proof { (p : Payload) → wire_type p ≢ 2
+        → message_in proof_schema p ≡ Err WrongWireType }
+    ensures optional_hash { (p : Payload) → wire_type p ≢ 2
+        → message_in hash_schema p ≡ Err WrongWireType }
 {}

@@ -89,11 +89,13 @@ impl<A: Allocator + Copy> LogProofBundle<A> {
         // What is read is spelled so.
         ensures found { IfOk result (λ m. IsSpelled log_schema bytes.now (log_view m)) }
         // What is spelled so is read, unless memory runs out.
-        ensures only { (m : LogBundle) → IsSpelled log_schema bytes.now m → Gives log_view result (Ok m) }
+        ensures only { (m : LogBundle) → IsSpelled log_schema bytes.now m
+            → Gives log_view result (Ok m) }
         // A fault that is named stands in the bytes.
         ensures fault { IfErr result (λ e. (e ≡ Memory) ⊎ FaultStands log_schema bytes.now e) }
         // A fault that stands in the bytes is named, unless memory runs out.
-        ensures faulty { (e : Fault) → FaultStands log_schema bytes.now e → Gives log_view result (Err e) }
+        ensures faulty { (e : Fault) → FaultStands log_schema bytes.now e
+            → Gives log_view result (Err e) }
         // All of this as a function of the bytes.
         ensures exact { Gives log_view result (message_of log_schema bytes.now) }
     {

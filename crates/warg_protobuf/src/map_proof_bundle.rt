@@ -77,11 +77,13 @@ impl<A: Allocator + Copy> MapProofBundle<A> {
         // What is read is spelled so.
         ensures found { IfOk result (λ m. IsSpelled map_schema bytes.now (map_view m)) }
         // What is spelled so is read, unless memory runs out.
-        ensures only { (m : MapBundle) → IsSpelled map_schema bytes.now m → Gives map_view result (Ok m) }
+        ensures only { (m : MapBundle) → IsSpelled map_schema bytes.now m
+            → Gives map_view result (Ok m) }
         // A fault that is named stands in the bytes.
         ensures fault { IfErr result (λ e. (e ≡ Memory) ⊎ FaultStands map_schema bytes.now e) }
         // A fault that stands in the bytes is named, unless memory runs out.
-        ensures faulty { (e : Fault) → FaultStands map_schema bytes.now e → Gives map_view result (Err e) }
+        ensures faulty { (e : Fault) → FaultStands map_schema bytes.now e
+            → Gives map_view result (Err e) }
         // All of this as a function of the bytes.
         ensures exact { Gives map_view result (message_of map_schema bytes.now) }
     {

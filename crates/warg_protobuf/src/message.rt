@@ -45,7 +45,8 @@ pub(crate) trait Message<A: Allocator + Copy>: Drop {
 
     /// Writes the message at the end.
     fn push_to(&self, alloc: A, out: &mut Vec<u8, A>) -> Result<(), AllocError>
-        ensures written { OnOk result (out.new.items ≡ out.old.items ++ fields_bytes (fields (view self.now))) }
+        ensures written { OnOk result (out.new.items
+            ≡ out.old.items ++ fields_bytes (fields (view self.now))) }
         ensures fits { OnOk result (Fits (view self.now)) };
 
     // Fields one after the other add up to what they say together.
@@ -99,7 +100,8 @@ pub(crate) fn decode_message<A: Allocator + Copy, M: Message<A>>(
     // A fault that is named stands in the bytes.
     ensures fault { IfErr result (λ e. (e ≡ Memory) ⊎ FaultStands M.schema bytes.now e) }
     // A fault that stands in the bytes is named, unless memory runs out.
-    ensures faulty { (e : WireError) → FaultStands M.schema bytes.now e → Gives M.view result (Err e) }
+    ensures faulty { (e : WireError) → FaultStands M.schema bytes.now e
+        → Gives M.view result (Err e) }
     // All of this as a function of the bytes.
     ensures exact { Gives M.view result (message_of M.schema bytes.now) }
 {
@@ -130,7 +132,8 @@ pub(crate) fn push_messages<A: Allocator + Copy, M: Message<A>>(
     messages: &[M],
 ) -> Result<(), AllocError>
     ensures written { OnOk result
-        (out.new.items ≡ out.old.items ++ fields_bytes (message_fields field M.fields (map M.view messages.now))) }
+        (out.new.items ≡ out.old.items ++ fields_bytes
+        (message_fields field M.fields (map M.view messages.now))) }
     ensures fits { OnOk result (All M.Fits (map M.view messages.now)) }
 {
     let mut inner = Vec::new(alloc);

@@ -79,11 +79,13 @@ impl<A: Allocator + Copy> StackLog<A> {
         // What is read is spelled so.
         ensures found { IfOk result (λ m. IsSpelled stack_schema bytes.now (stack_view m)) }
         // What is spelled so is read, unless memory runs out.
-        ensures only { (m : StackImage) → IsSpelled stack_schema bytes.now m → Gives stack_view result (Ok m) }
+        ensures only { (m : StackImage) → IsSpelled stack_schema bytes.now m
+            → Gives stack_view result (Ok m) }
         // A fault that is named stands in the bytes.
         ensures fault { IfErr result (λ e. (e ≡ Memory) ⊎ FaultStands stack_schema bytes.now e) }
         // A fault that stands in the bytes is named, unless memory runs out.
-        ensures faulty { (e : Fault) → FaultStands stack_schema bytes.now e → Gives stack_view result (Err e) }
+        ensures faulty { (e : Fault) → FaultStands stack_schema bytes.now e
+            → Gives stack_view result (Err e) }
         // All of this as a function of the bytes.
         ensures exact { Gives stack_view result (message_of stack_schema bytes.now) }
     {
@@ -100,7 +102,8 @@ impl<A: Allocator + Copy> StackLog<A> {
         // What is written spells the message.
         ensures spelled { IfOk result (λ v. IsSpelled stack_schema v.items (stack_view self.now)) }
         // What is written is read as the same message.
-        ensures again { IfOk result (λ v. message_of stack_schema v.items ≡ Ok (stack_view self.now)) }
+        ensures again { IfOk result (λ v. message_of stack_schema v.items
+            ≡ Ok (stack_view self.now)) }
     {
         encode_message(alloc, self)
     }

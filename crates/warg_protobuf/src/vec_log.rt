@@ -81,11 +81,13 @@ impl<A: Allocator + Copy> VecLog<A> {
         // What is read is spelled so.
         ensures found { IfOk result (λ m. IsSpelled vec_schema bytes.now (vec_view m)) }
         // What is spelled so is read, unless memory runs out.
-        ensures only { (m : VecImage) → IsSpelled vec_schema bytes.now m → Gives vec_view result (Ok m) }
+        ensures only { (m : VecImage) → IsSpelled vec_schema bytes.now m
+            → Gives vec_view result (Ok m) }
         // A fault that is named stands in the bytes.
         ensures fault { IfErr result (λ e. (e ≡ Memory) ⊎ FaultStands vec_schema bytes.now e) }
         // A fault that stands in the bytes is named, unless memory runs out.
-        ensures faulty { (e : Fault) → FaultStands vec_schema bytes.now e → Gives vec_view result (Err e) }
+        ensures faulty { (e : Fault) → FaultStands vec_schema bytes.now e
+            → Gives vec_view result (Err e) }
         // All of this as a function of the bytes.
         ensures exact { Gives vec_view result (message_of vec_schema bytes.now) }
     {

@@ -13,7 +13,8 @@ pub(crate) fn push_uint32<A: Allocator>(
     field: u8,
     number: u32,
 ) -> Result<(), AllocError>
-    ensures written { OnOk result (out.new.items ≡ out.old.items ++ fields_bytes (uint32_fields field number)) }
+    ensures written { OnOk result (out.new.items
+        ≡ out.old.items ++ fields_bytes (uint32_fields field number)) }
     ensures fits { number < 2 ^ 32 }
 {
     if number == 0 {
@@ -30,7 +31,8 @@ pub(crate) fn push_delimited<A: Allocator>(
     field: u8,
     bytes: &[u8],
 ) -> Result<(), AllocError>
-    ensures { OnOk result (out.new.items ≡ out.old.items ++ field_bytes (delimited_field field bytes.now)) }
+    ensures { OnOk result (out.new.items ≡ out.old.items ++ field_bytes
+        (delimited_field field bytes.now)) }
 {
     push_varint(out, u64::from(field) * 8 + 2)?;
     push_varint(out, bytes.len() as u64)?;
@@ -44,7 +46,8 @@ pub(crate) fn push_bytes<A: Allocator>(
     field: u8,
     bytes: &[u8],
 ) -> Result<(), AllocError>
-    ensures { OnOk result (out.new.items ≡ out.old.items ++ fields_bytes (bytes_fields field bytes.now)) }
+    ensures { OnOk result (out.new.items ≡ out.old.items ++ fields_bytes
+        (bytes_fields field bytes.now)) }
 {
     if bytes.is_empty() {
         return Ok(());
@@ -71,7 +74,8 @@ pub(crate) fn push_uint32s<A: Allocator + Copy>(
     field: u8,
     numbers: &[u32],
 ) -> Result<(), AllocError>
-    ensures written { OnOk result (out.new.items ≡ out.old.items ++ fields_bytes (packed_fields field numbers.now)) }
+    ensures written { OnOk result (out.new.items
+        ≡ out.old.items ++ fields_bytes (packed_fields field numbers.now)) }
     ensures fits { All (λ n. n < 2 ^ 32) numbers.now }
 {
     if numbers.is_empty() {
@@ -88,7 +92,8 @@ pub(crate) fn push_repeated<A: Allocator>(
     field: u8,
     elements: &[Vec<u8, A>],
 ) -> Result<(), AllocError>
-    ensures { OnOk result (out.new.items ≡ out.old.items ++ fields_bytes (repeated_fields field (map (λ v. v.items) elements.now))) }
+    ensures { OnOk result (out.new.items ≡ out.old.items ++ fields_bytes
+        (repeated_fields field (map (λ v. v.items) elements.now))) }
 {
     for element in elements {
         push_delimited(out, field, element)?;

@@ -19,7 +19,8 @@ pub fn has_release(
     release: &str,
     checkpoint: &Checkpoint<Sha256>,
 ) -> Result<bool, CheckError>
-    ensures { result ≡ Ok true → IsEntryShown sha256 bundle.now index release.now checkpoint.now.length checkpoint.now.root }
+    ensures { result ≡ Ok true
+        → IsEntryShown sha256 bundle.now index release.now checkpoint.now.length checkpoint.now.root }
 {
     entry_is_shown();
     check_entry(alloc, bundle, 0, index, &release, checkpoint)
@@ -33,7 +34,8 @@ pub fn has_grown(
     old: &Checkpoint<Sha256>,
     new: &Checkpoint<Sha256>,
 ) -> Result<bool, CheckError>
-    ensures { result ≡ Ok true → IsGrowthShown sha256 bundle.now old.now.length old.now.root new.now.length new.now.root }
+    ensures { result ≡ Ok true
+        → IsGrowthShown sha256 bundle.now old.now.length old.now.root new.now.length new.now.root }
 {
     growth_is_shown();
     check_growth(alloc, bundle, 0, old, new)

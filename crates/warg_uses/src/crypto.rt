@@ -26,7 +26,8 @@ impl VisitBytes for Release<'_> {
 /// Releases with the same bytes have the same name and version: no release can be taken for another.
 #[tactic(auto, using(warg_crypto::proofs::ForCallers::framed_pairs))]
 pub fn are_told_apart(first: &Release<'_>, second: &Release<'_>)
-    requires { framed (first.now.name.now ∷ first.now.version.now ∷ []) ≡ framed (second.now.name.now ∷ second.now.version.now ∷ []) }
+    requires { framed (first.now.name.now ∷ first.now.version.now ∷ [])
+        ≡ framed (second.now.name.now ∷ second.now.version.now ∷ []) }
     ensures name { first.now.name.now ≡ second.now.name.now }
     ensures version { first.now.version.now ≡ second.now.version.now }
 {

@@ -15,10 +15,11 @@ use warg_log::{
 /// The log of a registry's releases.
 pub type Releases = VecLog<Sha256, String>;
 
-/// Adds a release at the log's end, and answers the checkpoint with it.
+/// Adds a release at the log's end, and returns the checkpoint with it.
 pub fn publish(log: &mut Releases, release: &String) -> Result<Checkpoint<Sha256>, AllocError>
     requires { length log.old < 2 ^ 63 }
-    ensures grown { OnOk result (log.new ≡ log.old ++ leaf_digest sha256 (string_bytes release.now) ∷ []) }
+    ensures grown { OnOk result (log.new ≡ log.old ++ leaf_digest sha256
+        (string_bytes release.now) ∷ []) }
     ensures root { IfOk result (λ checkpoint. checkpoint.root ≡ root_of sha256 log.new) }
     ensures refused { OnErr result (log.new ≡ log.old) }
 {

@@ -25,7 +25,8 @@ pub fn release<'a>(
     name: &'a str,
     version: &'a str,
 ) -> Result<Newest<'a>, MapError>
-    ensures { IfOk result (λ new. new ≡ map.insert packages.now (key_bits sha256 name.now) (leaf_digest sha256 version.now)) }
+    ensures { IfOk result (λ new. new ≡ map.insert packages.now (key_bits sha256 name.now)
+        (leaf_digest sha256 version.now)) }
 {
     packages.insert(name, version)
 }
@@ -35,8 +36,11 @@ pub fn absence<'a>(
     packages: &Newest<'a>,
     name: &'a str,
 ) -> Result<Option<PackageProof<'a>>, AllocError>
-    ensures found { IfOk result (λ proof. IsSome proof ↔ (leaf_at sha256 packages.now (key_bits sha256 name.now) ≡ empty_root sha256 0)) }
-    ensures root { IfOk result (λ proof. IfSome proof (λ p. proof_value sha256 p (empty_root sha256 0) (key_bits sha256 name.now) ≡ sparse_root sha256 256 packages.now)) }
+    ensures found { IfOk result (λ proof. IsSome proof
+        ↔ (leaf_at sha256 packages.now (key_bits sha256 name.now) ≡ empty_root sha256 0)) }
+    ensures root { IfOk result (λ proof. IfSome proof
+        (λ p. proof_value sha256 p (empty_root sha256 0) (key_bits sha256 name.now)
+        ≡ sparse_root sha256 256 packages.now)) }
 {
     packages.prove_absence(name)
 }
@@ -48,7 +52,8 @@ pub fn has_version<'a>(
     version: &'a str,
     root: &Hash<Sha256>,
 ) -> bool
-    ensures { IsTrue result ↔ (proof_value sha256 proof.now (leaf_digest sha256 version.now) (key_bits sha256 name.now) ≡ root.now) }
+    ensures { IsTrue result ↔ (proof_value sha256 proof.now (leaf_digest sha256 version.now)
+        (key_bits sha256 name.now) ≡ root.now) }
 {
     proof.evaluate(&name, &version) == *root
 }

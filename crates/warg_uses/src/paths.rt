@@ -19,7 +19,8 @@ pub fn path_to_release(
     log: &VecLog<Sha256, &str>,
     index: usize,
 ) -> Result<Vec<Hash<Sha256>>, PathError>
-    ensures { IfOk result (λ path. inclusion_root sha256 index (length log.now) (slice_index_or log.now index []) path.items ≡ Some (root_of sha256 log.now)) }
+    ensures { IfOk result (λ path. inclusion_root sha256 index (length log.now)
+        (slice_index_or log.now index []) path.items ≡ Some (root_of sha256 log.now)) }
 {
     own_inclusion_path();
     inclusion_path(alloc, log, index, log.length())
@@ -35,7 +36,8 @@ pub fn shows_release(
     checkpoint: &Checkpoint<Sha256>,
 ) -> Result<bool, HashesError>
     ensures { result ≡ Ok true → (digests : List (List ℕ)) × (hashes_of path.now ≡ Some digests)
-        × (inclusion_root sha256 index checkpoint.now.length (leaf_digest sha256 release.now) digests ≡ Some checkpoint.now.root) }
+        × (inclusion_root sha256 index checkpoint.now.length
+        (leaf_digest sha256 release.now) digests ≡ Some checkpoint.now.root) }
 {
     let path = hashes_in(alloc, path)?;
     Ok(check_record(checkpoint, index, &release, path.as_slice()))

@@ -17,8 +17,10 @@ use warg_witness::laws::{
 
 /// Under the checkpoint of given entries a true verdict on an entry is true of them, or two byte strings collide.
 pub fn true_entry_or_collision()
-    ensures { (H : List ℕ → List ℕ) (bytes : List ℕ) (at index : ℕ) (value : List ℕ) (entries : List (List ℕ)) → GivesHashes H
-        → entry_verdict H bytes at index value (length entries) (root_of H (leaves_of H entries)) ≡ Ok true
+    ensures { (H : List ℕ → List ℕ) (bytes : List ℕ) (at index : ℕ) (value : List ℕ)
+        (entries : List (List ℕ)) → GivesHashes H
+        → entry_verdict H bytes at index value (length entries) (root_of H (leaves_of H entries))
+        ≡ Ok true
         → ¬ IsEntry value (2 * index) entries → SomeCollision H Anywhere }
 {
     entry_is_shown();
@@ -27,8 +29,10 @@ pub fn true_entry_or_collision()
 
 /// Under the checkpoints of given entries a true verdict on growth is true of them, or two byte strings collide.
 pub fn true_growth_or_collision()
-    ensures { (H : List ℕ → List ℕ) (bytes : List ℕ) (at : ℕ) (old new : List (List ℕ)) → GivesHashes H
-        → growth_verdict H bytes at (length old) (root_of H (leaves_of H old)) (length new) (root_of H (leaves_of H new)) ≡ Ok true
+    ensures { (H : List ℕ → List ℕ) (bytes : List ℕ) (at : ℕ) (old new : List (List ℕ))
+        → GivesHashes H
+        → growth_verdict H bytes at (length old) (root_of H (leaves_of H old)) (length new)
+        (root_of H (leaves_of H new)) ≡ Ok true
         → ¬ Begins old new → SomeCollision H Anywhere }
 {
     growth_is_shown();
@@ -37,7 +41,8 @@ pub fn true_growth_or_collision()
 
 /// Under the root of given insertions a true verdict on a key is true of them, or two byte strings collide.
 pub fn true_key_or_collision()
-    ensures { (H : List ℕ → List ℕ) (bytes : List ℕ) (at : ℕ) (key value : List ℕ) (insertions : List (List ℕ × List ℕ)) → GivesHashes H
+    ensures { (H : List ℕ → List ℕ) (bytes : List ℕ) (at : ℕ) (key value : List ℕ)
+        (insertions : List (List ℕ × List ℕ)) → GivesHashes H
         → key_verdict H bytes at key value (sparse_root H 256 (map_of H insertions)) ≡ Ok true
         → ¬ IsLastValue key value insertions → SomeCollision H Anywhere }
 {
@@ -47,7 +52,8 @@ pub fn true_key_or_collision()
 
 /// Under the root of given insertions a true verdict on an absence is true of them, or two byte strings collide.
 pub fn true_absence_or_collision()
-    ensures { (H : List ℕ → List ℕ) (bytes : List ℕ) (at : ℕ) (key : List ℕ) (insertions : List (List ℕ × List ℕ)) → GivesHashes H
+    ensures { (H : List ℕ → List ℕ) (bytes : List ℕ) (at : ℕ) (key : List ℕ)
+        (insertions : List (List ℕ × List ℕ)) → GivesHashes H
         → absent_verdict H bytes at key (sparse_root H 256 (map_of H insertions)) ≡ Ok true
         → ¬ IsLastValue key [] insertions → SomeCollision H Anywhere }
 {

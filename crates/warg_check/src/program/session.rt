@@ -132,8 +132,10 @@ impl<A: Allocator + Copy> Session<A> {
         log_length: &LogLength,
         value: &Vec<u8, A>,
     ) -> Result<(), RunError>
-        ensures ok { OnOk result (AnswersOrder self.old self.new (include node.0 log_length.now.value value.now.items)) }
-        ensures errors { IfErr result (Refuses self.old (include node.0 log_length.now.value value.now.items)) }
+        ensures ok { OnOk result (AnswersOrder self.old self.new
+            (include node.0 log_length.now.value value.now.items)) }
+        ensures errors { IfErr result (Refuses self.old
+            (include node.0 log_length.now.value value.now.items)) }
     {
         let proof = self.log.prove_inclusion(node, log_length.value);
         match proof.evaluate_value(&self.log, value) {
@@ -152,7 +154,8 @@ impl<A: Allocator + Copy> Session<A> {
 
     #[tactic(auto, unfolding(crate::specs::Text::answer))]
     fn consistent(&mut self, old: &LogLength, new: &LogLength) -> Result<(), RunError>
-        ensures ok { OnOk result (AnswersOrder self.old self.new (consistent old.now.value new.now.value)) }
+        ensures ok { OnOk result (AnswersOrder self.old self.new
+            (consistent old.now.value new.now.value)) }
         ensures errors { IfErr result (Refuses self.old (consistent old.now.value new.now.value)) }
     {
         let proof = self.log.prove_consistency(old.value, new.value);
@@ -169,7 +172,8 @@ impl<A: Allocator + Copy> Session<A> {
 
     #[tactic(auto, unfolding(crate::specs::Text::answer))]
     fn bundle(&mut self, node: Node, log_length: &LogLength) -> Result<(), RunError>
-        ensures ok { OnOk result (AnswersOrder self.old self.new (bundle node.0 log_length.now.value)) }
+        ensures ok { OnOk result (AnswersOrder self.old self.new
+            (bundle node.0 log_length.now.value)) }
         ensures errors { IfErr result (Refuses self.old (bundle node.0 log_length.now.value)) }
     {
         let proofs = Vec::from_slice(
@@ -185,7 +189,8 @@ impl<A: Allocator + Copy> Session<A> {
 
     // Answers a bundle by its bytes.
     fn encode(&mut self, bundle: &ProofBundle<Sha256, Vec<u8, A>, A>) -> Result<(), RunError>
-        ensures ok { OnOk result (AddsText self.old self.new (bytes_or_refusal (bundle_message bundle.now) ++ 10 ∷ [])) }
+        ensures ok { OnOk result (AddsText self.old self.new
+            (bytes_or_refusal (bundle_message bundle.now) ++ 10 ∷ [])) }
         ensures errors { IfErr result (λ error. error ≡ RunError.Memory) }
     {
         match bundle.encode(self.alloc) {
@@ -206,8 +211,10 @@ impl<A: Allocator + Copy> Session<A> {
         value: &Vec<u8, A>,
         bundle: &Vec<u8, A>,
     ) -> Result<(), RunError>
-        ensures ok { OnOk result (AnswersOrder self.old self.new (verify root.now value.now.items bundle.now.items)) }
-        ensures errors { IfErr result (Refuses self.old (verify root.now value.now.items bundle.now.items)) }
+        ensures ok { OnOk result (AnswersOrder self.old self.new
+            (verify root.now value.now.items bundle.now.items)) }
+        ensures errors { IfErr result (Refuses self.old
+            (verify root.now value.now.items bundle.now.items)) }
     {
         match check_inclusion(self.alloc, bundle.as_slice(), 0, value, root) {
             Ok(verdict) => writeln!(self.text, "{verdict}")?,
@@ -247,7 +254,8 @@ impl<A: Allocator + Copy> Session<A> {
 
     #[tactic(auto, unfolding(crate::specs::Text::answer))]
     fn prove(&mut self, key: &Vec<u8, A>, value: &Vec<u8, A>) -> Result<(), RunError>
-        ensures ok { OnOk result (AnswersOrder self.old self.new (prove key.now.items value.now.items)) }
+        ensures ok { OnOk result (AnswersOrder self.old self.new
+            (prove key.now.items value.now.items)) }
         ensures errors { IfErr result (Refuses self.old (prove key.now.items value.now.items)) }
     {
         let copy = Vec::from_slice(self.alloc, key.as_slice())?;

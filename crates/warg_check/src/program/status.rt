@@ -11,8 +11,10 @@ use std::process::ExitCode;
 pub fn exit_code(ended: Result<bool, RunError>) -> ExitCode
     ensures good { (exit_status result ≡ 0) ↔ (ended ≡ Ok true) }
     ensures bad { (exit_status result ≡ 1) ↔ (ended ≡ Ok false) }
-    ensures device { (exit_status result ≡ 2) ↔ ((ended ≡ Err RunError.Read) ⊎ (ended ≡ Err RunError.Write)) }
-    ensures want { (exit_status result ≡ 3) ↔ ((ended ≡ Err RunError.Memory) ⊎ (ended ≡ Err RunError.Full)) }
+    ensures device { (exit_status result ≡ 2)
+        ↔ ((ended ≡ Err RunError.Read) ⊎ (ended ≡ Err RunError.Write)) }
+    ensures want { (exit_status result ≡ 3) ↔
+        ((ended ≡ Err RunError.Memory) ⊎ (ended ≡ Err RunError.Full)) }
 {
     match ended {
         Ok(true) => ExitCode::from(0),

@@ -13,7 +13,8 @@ use warg_crypto::{Hash, Sha256};
 /// What stands before the first `separator`, and what stands behind it, if there is one.
 #[tactic(auto, using(crate::proofs::WordLemmas::none_lacks))]
 pub(super) fn split_first(bytes: &[u8], separator: u8) -> (&[u8], Option<&[u8]>)
-    ensures { IsFirstPart separator bytes.now result.0.now (option_map (λ rest. rest.now) result.1) }
+    ensures { IsFirstPart separator bytes.now result.0.now
+        (option_map (λ rest. rest.now) result.1) }
 {
     match memchr(separator, bytes) {
         Some(i) => (&bytes[..i], Some(&bytes[i + 1..])),

@@ -85,7 +85,8 @@ impl<'a> Words<'a> {
     #[tactic(auto, unfolding(crate::specs::Orders::first_says))]
     /// The length that the next word says.
     pub(super) fn log_length(&mut self) -> Result<LogLength, Unread>
-        ensures ok { IfOk result (λ length. first_says length_in self.old ≡ Some (length.value, self.new)) }
+        ensures ok { IfOk result (λ length. first_says length_in self.old
+            ≡ Some (length.value, self.new)) }
         ensures bad { result ≡ Err Unread.BadLine → first_says length_in self.old ≡ None }
     {
         let word = self.word()?;
@@ -105,7 +106,8 @@ impl<'a> Words<'a> {
     #[tactic(auto, unfolding(crate::specs::Orders::first_says))]
     /// The bytes that the next word says.
     pub(super) fn bytes<A: Allocator>(&mut self, alloc: A) -> Result<Vec<u8, A>, Unread>
-        ensures ok { IfOk result (λ bytes. first_says hex_bytes_in self.old ≡ Some (bytes.items, self.new)) }
+        ensures ok { IfOk result (λ bytes. first_says hex_bytes_in self.old
+            ≡ Some (bytes.items, self.new)) }
         ensures bad { result ≡ Err Unread.BadLine → first_says hex_bytes_in self.old ≡ None }
     {
         let word = self.word()?;

@@ -15,7 +15,8 @@ impl<D: SupportedDigest, V: VisitBytes, A: Allocator> StackLog<D, V, A> {
     /// Adds an entry at the end, as [`push`](LogBuilder::push), and returns its leaf's node: `Full` exactly if the log has
     /// 2^63 entries. A refusal leaves the log as it was.
     pub fn append(&mut self, entry: &V) -> Result<Node, AppendError>
-        ensures ok { OnOk result (self.new ≡ pushed D.digest self.old (leaf_digest D.digest (V.bytes entry.now))) }
+        ensures ok { OnOk result (self.new ≡ pushed D.digest self.old
+            (leaf_digest D.digest (V.bytes entry.now))) }
         ensures node { IfOk result (λ node. node.0 ≡ 2 * self.old.len) }
         ensures full { (result ≡ Err AppendError.Full) ↔ (self.old.len ≡ 2 ^ 63) }
         ensures err { OnErr result (self.new ≡ self.old) }

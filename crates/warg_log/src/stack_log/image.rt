@@ -33,7 +33,9 @@ impl<D: SupportedDigest, V: VisitBytes, A: Allocator + Copy> StackLog<D, V, A> {
     pub fn from_message(alloc: A, message: Message<A>) -> Result<Self, DecodeError>
         ensures exact { Answers DecodeError.Memory result (stack_in (stack_view message)) }
         ensures message { IfOk result (λ log. stack_message log ≡ stack_view message) }
-        ensures none { result ≡ Err DecodeError.NotAStack → (b : Blocks) → length b.digests ≡ length (balanced_roots b.len) → stack_message b ≢ stack_view message }
+        ensures none { result ≡ Err DecodeError.NotAStack → (b : Blocks)
+            → length b.digests ≡ length (balanced_roots b.len)
+            → stack_message b ≢ stack_view message }
         ensures wire { (e : _) → result ≢ Err (DecodeError.Wire e) }
     {
         let digests = read_blocks(alloc, message.stack.as_slice())?;
@@ -58,7 +60,7 @@ impl<D: SupportedDigest, V: VisitBytes, A: Allocator + Copy> StackLog<D, V, A> {
         StackLog::from_message(alloc, message)
     }
 
-    /// The log's message, which holds the same log. `TooLarge` exactly where the length or a balanced root's
+    /// The log's message, which holds the same log. `TooLarge` exactly if the length or a balanced root's
     /// number is above `u32::MAX`, which is above 2^31 entries, before any growth.
     pub fn to_message(&self) -> Result<Message<A>, EncodeError>
         ensures ok { IfOk result (λ message. stack_view message ≡ stack_message self.now) }
@@ -77,10 +79,11 @@ impl<D: SupportedDigest, V: VisitBytes, A: Allocator + Copy> StackLog<D, V, A> {
         })
     }
 
-    /// Writes the bytes of the log's message, which are read as the same log. `TooLarge` exactly where the
+    /// Writes the bytes of the log's message, which are read as the same log. `TooLarge` exactly if the
     /// length or a balanced root's number is above `u32::MAX`, which is above 2^31 entries, before any growth.
     pub fn to_protobuf(&self) -> Result<Vec<u8, A>, EncodeError>
-        ensures written { IfOk result (λ bytes. bytes.items ≡ stack_bytes (stack_message self.now)) }
+        ensures written { IfOk result (λ bytes.
+            bytes.items ≡ stack_bytes (stack_message self.now)) }
         ensures again { IfOk result (λ bytes. stack_of bytes.items ≡ Ok self.now) }
         ensures too_large { (result ≡ Err EncodeError.TooLarge) ↔ ¬ RootsFit self.now }
         ensures fits { OnOk result (RootsFit self.now) }
@@ -96,8 +99,11 @@ fn read_blocks<D, A: Allocator>(
     entries: &[HashEntry<A>],
 ) -> Result<Vec<Hash<D>, A>, DecodeError>
     ensures ok { IfOk result (λ hashes. hashes.items ≡ map (λ e. e.hash.items) entries.now) }
-    ensures good { IfOk result (λ hashes. first_fault digest_fault (map (λ e. e.hash.items) entries.now) ≡ None) }
-    ensures fault { IfErr result (λ e. (e ≡ DecodeError.Memory) ⊎ ((e ≡ DecodeError.HashLength) × (first_fault digest_fault (map (λ e. e.hash.items) entries.now) ≡ Some e))) }
+    ensures good { IfOk result (λ hashes. first_fault digest_fault
+        (map (λ e. e.hash.items) entries.now) ≡ None) }
+    ensures fault { IfErr result (λ e. (e ≡ DecodeError.Memory)
+        ⊎ ((e ≡ DecodeError.HashLength) × (first_fault digest_fault
+        (map (λ e. e.hash.items) entries.now) ≡ Some e))) }
 {
     let mut hashes = Vec::new(alloc);
     'entries: for entry in entries {
@@ -130,7 +136,8 @@ fn entries<D, A: Allocator + Copy>(
 ) -> Result<Vec<HashEntry<A>, A>, AllocError>
     requires fits { count ≤ 2 ^ 31 }
     requires count { length blocks.now ≡ length (balanced_roots count) }
-    ensures entries { IfOk result (λ entries. map entry_view entries.items ≡ map root_entry (zip (balanced_roots count) blocks.now)) }
+    ensures entries { IfOk result (λ entries.
+        map entry_view entries.items ≡ map root_entry (zip (balanced_roots count) blocks.now)) }
     ensures lengths { IfOk result (λ entries. AllByRecursion (λ d. length d ≡ 32) blocks.now) }
 {
     let mut entries = Vec::new(alloc);

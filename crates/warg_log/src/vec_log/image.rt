@@ -30,7 +30,8 @@ impl<D: SupportedDigest, V: VisitBytes, A: Allocator + Copy> VecLog<D, V, A> {
     pub fn from_message(alloc: A, message: Message<A>) -> Result<Self, DecodeError>
         ensures exact { Answers DecodeError.Memory result (vec_in D.digest (vec_view message)) }
         ensures message { IfOk result (λ log. vec_message D.digest log ≡ vec_view message) }
-        ensures none { result ≡ Err DecodeError.NotALog → (ds : List (List ℕ)) → vec_message D.digest ds ≢ vec_view message }
+        ensures none { result ≡ Err DecodeError.NotALog → (ds : List (List ℕ))
+            → vec_message D.digest ds ≢ vec_view message }
         ensures wire { (e : _) → result ≢ Err (DecodeError.Wire e) }
     {
         let tree = read_tree(alloc, message.tree.as_slice())?;
@@ -57,7 +58,7 @@ impl<D: SupportedDigest, V: VisitBytes, A: Allocator + Copy> VecLog<D, V, A> {
         VecLog::from_message(alloc, message)
     }
 
-    /// The log's message, which holds the same log. `TooLarge` exactly where the length is above `u32::MAX`,
+    /// The log's message, which holds the same log. `TooLarge` exactly if the length is above `u32::MAX`,
     /// before any growth.
     pub fn to_message(&self) -> Result<Message<A>, EncodeError>
         ensures ok { IfOk result (λ message. vec_view message ≡ vec_message D.digest self.now) }
@@ -75,10 +76,11 @@ impl<D: SupportedDigest, V: VisitBytes, A: Allocator + Copy> VecLog<D, V, A> {
         })
     }
 
-    /// Writes the bytes of the log's message, which are read as the same log. `TooLarge` exactly where the
+    /// Writes the bytes of the log's message, which are read as the same log. `TooLarge` exactly if the
     /// length is above `u32::MAX`, before any growth.
     pub fn to_protobuf(&self) -> Result<Vec<u8, A>, EncodeError>
-        ensures written { IfOk result (λ bytes. bytes.items ≡ vec_bytes (vec_message D.digest self.now)) }
+        ensures written { IfOk result (λ bytes.
+            bytes.items ≡ vec_bytes (vec_message D.digest self.now)) }
         ensures again { IfOk result (λ bytes. vec_of D.digest bytes.items ≡ Ok self.now) }
         ensures too_large { (result ≡ Err EncodeError.TooLarge) ↔ (2 ^ 32 ≤ length self.now) }
         ensures fits { OnOk result (length self.now < 2 ^ 32) }
@@ -91,8 +93,11 @@ impl<D: SupportedDigest, V: VisitBytes, A: Allocator + Copy> VecLog<D, V, A> {
 // The digests of these bytes.
 fn read_tree<D, A: Allocator>(alloc: A, tree: &[Vec<u8, A>]) -> Result<Vec<Hash<D>, A>, DecodeError>
     ensures ok { IfOk result (λ hashes. hashes.items ≡ map (λ v. v.items) tree.now) }
-    ensures good { IfOk result (λ hashes. first_fault digest_fault (map (λ v. v.items) tree.now) ≡ None) }
-    ensures fault { IfErr result (λ e. (e ≡ DecodeError.Memory) ⊎ ((e ≡ DecodeError.HashLength) × (first_fault digest_fault (map (λ v. v.items) tree.now) ≡ Some e))) }
+    ensures good { IfOk result (λ hashes. first_fault digest_fault (map (λ v. v.items) tree.now)
+        ≡ None) }
+    ensures fault { IfErr result (λ e. (e ≡ DecodeError.Memory)
+        ⊎ ((e ≡ DecodeError.HashLength) × (first_fault digest_fault (map (λ v. v.items) tree.now)
+        ≡ Some e))) }
 {
     let mut hashes = Vec::new(alloc);
     'places: for digest in tree {

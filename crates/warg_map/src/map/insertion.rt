@@ -38,16 +38,23 @@ impl<D: SupportedDigest, K: VisitBytes + Drop, V: VisitBytes + Drop, A: Allocato
     /// key that is an empty leaf. It hashes the key once, and no branch beside those of `insert`: a proof is made of the
     /// digests that the new map keeps. `Full` comes as there.
     pub fn insert_with_proof(&self, key: K, val: V) -> Result<Insertion<D, K, V, A>, MapError>
-        ensures ok { IfOk result (λ i. i.map ≡ map.insert self.now (key_bits D.digest (K.bytes key)) (leaf_digest D.digest (V.bytes val))) }
-        ensures proof { IfOk result (λ i. Proves D.digest 256 i.map (key_bits D.digest (K.bytes key)) i.proof) }
-        ensures is_new { IfOk result (λ i. i.is_new ≡ not (map.contains_key self.now (key_bits D.digest (K.bytes key)))) }
+        ensures ok { IfOk result (λ i. i.map
+            ≡ map.insert self.now (key_bits D.digest (K.bytes key))
+            (leaf_digest D.digest (V.bytes val))) }
+        ensures proof { IfOk result (λ i. Proves D.digest 256 i.map
+            (key_bits D.digest (K.bytes key)) i.proof) }
+        ensures is_new { IfOk result (λ i. i.is_new
+            ≡ not (map.contains_key self.now (key_bits D.digest (K.bytes key)))) }
         ensures full { (result ≡ Err MapError.Full)
-            ↔ ((map.len self.now ≡ usize.MAX) × (map.contains_key self.now (key_bits D.digest (K.bytes key)) ≡ false)) }
+            ↔ ((map.len self.now ≡ usize.MAX)
+            × (map.contains_key self.now (key_bits D.digest (K.bytes key)) ≡ false)) }
 
         // The step: from the leaf before to the root before, and from the leaf after to the root after.
-        ensures before { IfOk result (λ i. proof_value D.digest i.proof (leaf_at D.digest self.now (key_bits D.digest (K.bytes key)))
+        ensures before { IfOk result (λ i. proof_value D.digest i.proof
+            (leaf_at D.digest self.now (key_bits D.digest (K.bytes key)))
             (key_bits D.digest (K.bytes key)) ≡ sparse_root D.digest 256 self.now) }
-        ensures after { IfOk result (λ i. proof_value D.digest i.proof (leaf_digest D.digest (V.bytes val))
+        ensures after { IfOk result (λ i. proof_value D.digest i.proof
+            (leaf_digest D.digest (V.bytes val))
             (key_bits D.digest (K.bytes key)) ≡ sparse_root D.digest 256 i.map) }
     {
         let key = Hash::of(&key);

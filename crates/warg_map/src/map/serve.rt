@@ -20,7 +20,8 @@ impl<D: SupportedDigest, K: VisitBytes + Drop, V: VisitBytes + Drop, A: Allocato
     /// The bytes of a bundle with one proof: that of what is held under `key`, or that of its absence where its digest isn't
     /// held. Memory is the only error.
     pub fn key_bytes(&self, key: &K) -> Result<Vec<u8, A>, EncodeError>
-        ensures ok { IfOk result (λ bytes. SpellsKey D.digest self.now (key_bits D.digest (K.bytes key.now)) bytes.items) }
+        ensures ok { IfOk result (λ bytes. SpellsKey D.digest self.now
+            (key_bits D.digest (K.bytes key.now)) bytes.items) }
         ensures too_large { result ≢ Err EncodeError.TooLarge }
     {
         let bundle = self.key_bundle(&Hash::of(key))?;
@@ -29,7 +30,8 @@ impl<D: SupportedDigest, K: VisitBytes + Drop, V: VisitBytes + Drop, A: Allocato
 
     // The bundle with the proof of what is held under a key digest, or that of its absence.
     fn key_bundle(&self, key: &Hash<D>) -> Result<ProofBundle<D, K, V, A>, EncodeError>
-        ensures ok { IfOk result (λ bundle. ProvesKey D.digest self.now (last_bits key.now 256) bundle) }
+        ensures ok { IfOk result (λ bundle. ProvesKey D.digest self.now
+            (last_bits key.now 256) bundle) }
         ensures too_large { result ≢ Err EncodeError.TooLarge }
     {
         let node = self.link.node();

@@ -50,8 +50,11 @@ fn read_peers<D, A: Allocator>(
     hashes: Vec<OptionalHash<A>, A>,
 ) -> Result<Vec<Option<Hash<D>>, A>, DecodeError>
     ensures ok { IfOk result (λ peers. peers.items ≡ map hash_view hashes.items) }
-    ensures good { IfOk result (λ peers. first_fault peer_fault (map hash_view hashes.items) ≡ None) }
-    ensures fault { IfErr result (λ e. (e ≡ DecodeError.Memory) ⊎ ((e ≡ DecodeError.HashLength) × (first_fault peer_fault (map hash_view hashes.items) ≡ Some e))) }
+    ensures good { IfOk result (λ peers. first_fault peer_fault (map hash_view hashes.items)
+        ≡ None) }
+    ensures fault { IfErr result (λ e. (e ≡ DecodeError.Memory)
+        ⊎ ((e ≡ DecodeError.HashLength) × (first_fault peer_fault (map hash_view hashes.items)
+        ≡ Some e))) }
 {
     let mut peers = Vec::new(alloc);
     'hashes: for hash in hashes {
@@ -64,7 +67,8 @@ fn read_peers<D, A: Allocator>(
 fn read_peer<D, A: Allocator>(hash: OptionalHash<A>) -> Result<Option<Hash<D>>, DecodeError>
     ensures ok { IfOk result (λ peer. peer ≡ hash_view hash) }
     ensures good { IfOk result (λ peer. peer_fault (hash_view hash) ≡ None) }
-    ensures fault { IfErr result (λ e. (e ≡ DecodeError.HashLength) × (peer_fault (hash_view hash) ≡ Some e)) }
+    ensures fault { IfErr result (λ e. (e ≡ DecodeError.HashLength)
+        × (peer_fault (hash_view hash) ≡ Some e)) }
 {
     let Some(bytes) = hash.hash else {
         return Ok(None);
