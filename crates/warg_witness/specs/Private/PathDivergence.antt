@@ -35,13 +35,17 @@ pub record DivergesOnWay (H : List ℕ → List ℕ) (x : List ℕ) (tree : List
   pub differ : first ≡ second → ⊥
   pub same : H first ≡ H second
 
--- The evaluation and the tree have one digest at the leaf, where no digests are left.
-pub record MeetAtLeaf (H : List ℕ → List ℕ) (x : List ℕ) (tree : List (List ℕ)) (m₀ a₀ n₀ : ℕ) (digests₀ : List (List ℕ)) : Type 0 where
-  pub on_way : IsOnWay m₀ a₀ n₀ digests₀ 0 (a₀ + m₀) 1 []
-  pub same : x ≡ root_over H tree (a₀ + m₀) 1
+-- The evaluation and the tree have one digest at the leaf at a place, where no digests are left.
+pub record MeetAtLeaf (H : List ℕ → List ℕ) (x : List ℕ) (tree : List (List ℕ)) (m₀ a₀ n₀ : ℕ) (digests₀ : List (List ℕ)) (place : ℕ) : Type 0 where
+  pub on_way : IsOnWay m₀ a₀ n₀ digests₀ 0 place 1 []
+  pub same : x ≡ root_over H tree place 1
 
 -- They diverge nowhere, and have one digest at the leaf, or they diverge at a branch.
-abbrev pub IsRecordDivergence : {D : _} → (List ℕ → List ℕ) → List ℕ → List (List ℕ) → ℕ → ℕ → ℕ → List (List ℕ) → Divergence D → Type 0
-IsRecordDivergence H x tree m₀ a₀ n₀ digests₀ Target = MeetAtLeaf H x tree m₀ a₀ n₀ digests₀
-IsRecordDivergence H x tree m₀ a₀ n₀ digests₀ (Branch first_left first_right second_left second_right) =
+abbrev pub RecordDiverges : {D : _} → (List ℕ → List ℕ) → List ℕ → List (List ℕ) → ℕ → ℕ → ℕ → List (List ℕ) → ℕ → Divergence D → Type 0
+RecordDiverges H x tree m₀ a₀ n₀ digests₀ place Target = MeetAtLeaf H x tree m₀ a₀ n₀ digests₀ place
+RecordDiverges H x tree m₀ a₀ n₀ digests₀ place (Branch first_left first_right second_left second_right) =
     DivergesOnWay H x tree m₀ a₀ n₀ digests₀ (branch_input first_left first_right) (branch_input second_left second_right)
+
+-- So of each way on which the n leaves from a on are.
+abbrev pub IsRecordDivergence : {D : _} → (List ℕ → List ℕ) → List ℕ → List (List ℕ) → ℕ → ℕ → ℕ → List (List ℕ) → Divergence D → Type 0
+IsRecordDivergence H x tree m a n digests p = (m₀ a₀ n₀ : ℕ) (digests₀ : List (List ℕ)) → IsOnWay m₀ a₀ n₀ digests₀ m a n digests → RecordDiverges H x tree m₀ a₀ n₀ digests₀ (a + m) p
