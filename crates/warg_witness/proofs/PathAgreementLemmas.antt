@@ -7,7 +7,7 @@ use Rattle.warg_witness.specs.PathPlaced.{IsOnWay, IsRecordAgreementPlaced}
 use Rattle.warg_witness.specs.PathPlaced.IsOnWay.{whole, front, rest}
 use Rattle.warg_witness.specs.Private.Divergence.{inputs_of}
 use Rattle.warg_witness.specs.Private.PathDivergence.{AreSides}
-use Rattle.warg_witness.specs.Private.PathAgreement.{LeadToOne, PathsDiverge, PathsPart, IsPathsDivergence}
+use Rattle.warg_witness.specs.Private.PathAgreement.{LeadToOne, PathsDiverge, PathsMeet, PathsPart, IsPathsDivergence}
 use Rattle.warg_witness.specs.declared.descent.Divergence.{Divergence}
 use Rattle.warg_witness.specs.declared.descent.Divergence.TheVariants.{Target, Branch}
 use Rattle.warg_witness.proofs.RangeLemmas.{Digest}
@@ -15,9 +15,9 @@ use Rattle.warg_witness.proofs.ShownLemmas.{Shows}
 use Rattle.warg_witness.proofs.RecordLemmas.{one_leads, leads_inside, sides_input, sides_digest}
 
 -- two paths that lead to one digest over one leaf have it there
-pub paths_meet : {D : Type 0} (H : Digest) (x : List ℕ) (ds : List (List ℕ)) (y : List ℕ) (es : List (List ℕ)) (m a n : ℕ) → n ≡ 1 → m < n → LeadToOne H x ds y es m n
-    → IsPathsDivergence {D} H x ds y es m a n Target
-paths_meet H x ds y es m a n one inside both = λ m₀ a₀ n₀ digests₀ other_digests₀ way other_way.
+pub paths_meet : (H : Digest) (x : List ℕ) (ds : List (List ℕ)) (y : List ℕ) (es : List (List ℕ)) (m a n : ℕ) → n ≡ 1 → m < n → LeadToOne H x ds y es m n
+    → (m₀ a₀ n₀ : ℕ) (digests₀ other_digests₀ : List (List ℕ)) → IsOnWay m₀ a₀ n₀ digests₀ m a n ds → IsOnWay m₀ a₀ n₀ other_digests₀ m a n es → PathsMeet x digests₀ y other_digests₀ m₀ a₀ n₀ (a + m)
+paths_meet H x ds y es m a n one inside both m₀ a₀ n₀ digests₀ other_digests₀ way other_way =
     let zero : m ≡ 0 = omega arith in
     let at : a + m ≡ a = omega arith in
     let first = one_leads H 0 x both.digest ds (rw (one, zero) at both.first) in

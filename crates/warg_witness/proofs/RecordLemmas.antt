@@ -13,7 +13,7 @@ use Rattle.warg_witness.specs.PathClaims.{IsRecord}
 use Rattle.warg_witness.specs.PathPlaced.{IsOnWay, turn_input, IsRecordPlaced}
 use Rattle.warg_witness.specs.PathPlaced.IsOnWay.{whole, front, rest}
 use Rattle.warg_witness.specs.Private.Divergence.{inputs_of}
-use Rattle.warg_witness.specs.Private.PathDivergence.{IsPathMeeting, AreSides, DivergesOnWay, RecordDiverges, IsRecordDivergence}
+use Rattle.warg_witness.specs.Private.PathDivergence.{IsPathMeeting, AreSides, DivergesOnWay, MeetAtLeaf, RecordDiverges, IsRecordDivergence}
 use Rattle.warg_witness.specs.declared.descent.Divergence.{Divergence}
 use Rattle.warg_witness.specs.declared.descent.Divergence.TheVariants.{Target, Branch}
 use Rattle.warg_witness.proofs.RangeLemmas.{Digest}
@@ -86,9 +86,9 @@ sides_digest {H} {x} {m} {n} {top} {l} {r} {below} more sides = elim (cases_lt m
 ]
 
 -- a path and a tree of one digest meet at the leaf
-pub meets_at_leaf : {D : Type 0} (H : Digest) (x : List ℕ) (tree : List (List ℕ)) (m a n : ℕ) (digests : List (List ℕ)) → n ≡ 1 → m < n → root_down H m n x digests ≡ Some (root_over H tree a n)
-    → IsRecordDivergence {D} H x tree m a n digests Target
-meets_at_leaf H x tree m a n digests one inside leads = λ m₀ a₀ n₀ digests₀ way.
+pub meets_at_leaf : (H : Digest) (x : List ℕ) (tree : List (List ℕ)) (m a n : ℕ) (digests : List (List ℕ)) → n ≡ 1 → m < n → root_down H m n x digests ≡ Some (root_over H tree a n)
+    → (m₀ a₀ n₀ : ℕ) (digests₀ : List (List ℕ)) → IsOnWay m₀ a₀ n₀ digests₀ m a n digests → MeetAtLeaf H x tree m₀ a₀ n₀ digests₀ (a + m)
+meets_at_leaf H x tree m a n digests one inside leads m₀ a₀ n₀ digests₀ way =
     let zero : m ≡ 0 = omega arith in
     let at : a + m ≡ a = omega arith in
     let only = one_leads H 0 x (root_over H tree a 1) digests (rw (one, zero) at leads) in
