@@ -12,8 +12,8 @@ use Rattle.warg_witness.specs.Inputs.{branch_input}
 use Rattle.warg_witness.specs.PathClaims.{IsRecord}
 use Rattle.warg_witness.specs.PathPlaced.{IsOnWay, turn_input, IsRecordPlaced}
 use Rattle.warg_witness.specs.PathPlaced.IsOnWay.{whole, front, rest}
-use Rattle.warg_witness.specs.Private.Divergence.{inputs_of}
-use Rattle.warg_witness.specs.Private.PathDivergence.{IsPathMeeting, AreSides, DivergesOnWay, MeetAtLeaf, RecordDiverges, IsRecordDivergence}
+use Rattle.warg_witness.specs.Private.Divergence.{Collides, inputs_of}
+use Rattle.warg_witness.specs.Private.PathDivergence.{IsPathMeeting, AreSides, tree_input, IsBranchDivergence, MeetAtLeaf, RecordDiverges, IsRecordDivergence}
 use Rattle.warg_witness.specs.declared.descent.Divergence.{Divergence}
 use Rattle.warg_witness.specs.declared.descent.Divergence.TheVariants.{Target, Branch}
 use Rattle.warg_witness.proofs.RangeLemmas.{Digest}
@@ -94,25 +94,31 @@ meets_at_leaf H x tree m a n digests one inside leads m₀ a₀ n₀ digests₀ 
     let only = one_leads H 0 x (root_over H tree a 1) digests (rw (one, zero) at leads) in
     rw at (record { on_way = rw (one, zero, only.0) at way; same = only.1 })
 
+-- two digests whose branch has the digest of a tree's range, and that diverge there, collide
+pub branch_collides : (H : Digest) (left right : List ℕ) (tree : List (List ℕ)) (a n : ℕ) (l r l' r' : List ℕ) → 1 < n → a + n ≤ length tree → H (branch_input left right) ≡ root_over H tree a n
+    → (branch_input l r ≡ branch_input left right) × (branch_input l' r' ≡ tree_input H tree a n) × (branch_input l r ≡ branch_input l' r' → ⊥) → Collides H (branch_input l r, branch_input l' r')
+branch_collides H left right tree a n l r l' r' more within is here = record { differ = here.2; same = ap H here.0 ∙ is ∙ root_over_parts H tree a n more within ∙ ap H (sym here.1) }
+
 -- a path and a tree of one digest diverge at a range where their inputs differ
-pub diverges_here : {H : Digest} {x : List ℕ} {tree : List (List ℕ)} {m a n : ℕ} {top l r l' r' : List ℕ} {below : List (List ℕ)} → 1 < n → a + n ≤ length tree → AreSides H x m n top below l r
-    → root_down H m n x (top ∷ below) ≡ Some (root_over H tree a n) → l' ≡ root_over H tree a (front_of n) → r' ≡ root_over H tree (a + front_of n) (n - front_of n)
-    → (branch_input l r ≡ branch_input l' r' → ⊥) → (m₀ a₀ n₀ : ℕ) (digests₀ : List (List ℕ)) → IsOnWay m₀ a₀ n₀ digests₀ m a n (top ∷ below)
-    → DivergesOnWay H x tree m₀ a₀ n₀ digests₀ (branch_input l r) (branch_input l' r')
-diverges_here {H} {x} {tree} {m} {a} {n} {top} {l} {r} {l'} {r'} {below} more within sides leads left right differ m₀ a₀ n₀ digests₀ way = record {
-  leaf = m;
-  from = a;
-  count = n;
-  top = top;
-  below = below;
-  on_way = way;
-  more = more;
-  evaluation = sides_input sides;
-  plain = rw (left, right) refl;
-  differ = differ;
-  same = let digest = sides_digest more sides in let parts = root_over_parts H tree a n more within in
-      let own : root_over H tree a n ≡ H (branch_input l' r') = rw (left, right) parts in cc;
-}
+pub diverges_here : {D : Type 0} (H : Digest) (x : List ℕ) (tree : List (List ℕ)) (m a n : ℕ) (top left right : List ℕ) (below : List (List ℕ)) (p : Divergence D) → 1 < n → a + n ≤ length tree → AreSides H x m n top below left right
+    → root_down H m n x (top ∷ below) ≡ Some (root_over H tree a n) → (p ≡ Target → ⊥) → IsBranchDivergence H left right tree a n p → IsRecordDivergence H x tree m a n (top ∷ below) p
+diverges_here H x tree m a n top left right below Target more within sides leads other here = absurd (other refl)
+diverges_here H x tree m a n top left right below (Branch l r l' r') more within sides leads other here = λ m₀ a₀ n₀ digests₀ way.
+    let digest : Some (H (branch_input left right)) ≡ Some (root_over H tree a n) = sym (sides_digest more sides) ∙ leads in
+    let same : H (branch_input left right) ≡ root_over H tree a n = cc in
+    let collides = branch_collides H left right tree a n l r l' r' more within same here in record {
+      leaf = m;
+      from = a;
+      count = n;
+      top = top;
+      below = below;
+      on_way = way;
+      more = more;
+      evaluation = sides_input sides ∙ ap Some (sym here.0);
+      plain = here.1;
+      differ = collides.differ;
+      same = collides.same;
+    }
 
 -- what diverges in a part diverges in the range
 pub front_widened : {D : Type 0} (H : Digest) (x : List ℕ) (tree : List (List ℕ)) (m a n : ℕ) (top : List ℕ) (below : List (List ℕ)) (p : Divergence D) → 1 < n → m < front_of n
