@@ -1,28 +1,20 @@
 -- Two paths of one place to one root.
-use Rattle.std.proofs.Common.{◌≡◌, ◌⊎◌, inl, inr, ℕ, zero, suc, ◌+◌, ◌-◌, ◌^◌, ◌<◌, ◌≤◌, List, [], ◌∷◌, ◌++◌, length, reverse, Option, Some, None, nat_eq, refl, sym, ap, ◌∙◌, arith, lit≤}
-use Rattle.std.specs.Cmp.Lexicographic.{pointwise, bytes_decides}
+use Rattle.std.proofs.Common.{◌≡◌, ◌⊎◌, inl, inr, ℕ, zero, suc, ◌+◌, ◌-◌, ◌^◌, ◌<◌, ◌≤◌, List, [], ◌∷◌, ◌++◌, length, reverse, Option, Some, None, refl, sym, ap, ◌∙◌, arith, lit≤}
 use Rattle.std.specs.List.{AllByRecursion}
 use Rattle.std.proofs.Math.Nat.{pow-le-pow_right}
-use Rattle.std.proofs.lemmas.Bool.{lt-ltb, le-ltb, le-leb, lt-leb, eq-eqb, ne_eqb, cases_lt, cases_Bool}
+use Rattle.std.proofs.lemmas.Bool.{lt-ltb, le-ltb, le-leb, lt-leb, eq-eqb, ne_eqb, cases_lt}
 use Rattle.std.proofs.lemmas.Bool.Decides.{eqb_tells}
 use Rattle.std.proofs.lemmas.Bool.Decides.{not_from_Decides}
 use Rattle.std.proofs.lemmas.List.{take_at, drop_at, reverse-reverse, reverse-append, length-append}
 use Rattle.warg_crypto.specs.Collisions.{AreHashes, SomeCollision, Anywhere}
 use Rattle.warg_crypto.specs.Tree.{branch}
 use Rattle.warg_log.specs.Tree.{front_of}
+use Rattle.warg_crypto.proofs.ForCallers.{HasSize, same_or_not, branch_parts}
 use Rattle.warg_log.specs.Cut.{joined}
 use Rattle.warg_log.proofs.ForCallers.{front_is_greatest, pow_below_pow}
 use Rattle.warg_paths.specs.Paths.{beside, inclusion_over, inclusion_of, inclusion_root, root_down}
 use Rattle.warg_paths.proofs.MakeLemmas.{inclusion_one, inclusion_front, inclusion_rest}
 use Rattle.warg_crypto.proofs.ForCallers.{HasSize}
-
--- lists of numbers are the same or not
-same_or_not : (xs ys : List ℕ) → (xs ≡ ys) ⊎ (xs ≡ ys → ⊥)
-same_or_not xs ys = elim (cases_Bool (pointwise nat_eq xs ys)) [ inl t ↦ inl ((bytes_decides xs ys).0 t) | inr f ↦ inr (not_from_Decides _ (bytes_decides xs ys) f) ]
-
--- the inputs of two branches are equal only part by part
-branch_parts : (a b c d : List ℕ) → length a ≡ length c → 1 ∷ a ++ b ≡ 1 ∷ c ++ d → (a ≡ c) × (b ≡ d)
-branch_parts a b c d len e = grind (arith, take_at a b (length c) len, drop_at a b (length c) len, take_at c d (length c) refl, drop_at c d (length c) refl)
 
 -- a branch that is there has both parts
 record IsJoined (H : List ℕ → List ℕ) (left right : Option (List ℕ)) (root : List ℕ) : Type 0 where

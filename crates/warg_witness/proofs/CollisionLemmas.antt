@@ -1,8 +1,8 @@
 -- What the laws state: a claim that is met and isn't true gives a collision.
-use Rattle.std.proofs.Common.{◌≡◌, ℕ, zero, suc, ◌+◌, ◌-◌, ◌<◌, ◌≤◌, ◌⊎◌, inl, inr, nat_eq, List, [], ◌∷◌, length, get_or, refl, sym, ◌∙◌, arith, ◌^◌, Some}
-use Rattle.std.specs.Cmp.Lexicographic.{pointwise, bytes_decides}
-use Rattle.std.proofs.lemmas.Bool.{cases_lt, cases_Bool}
-use Rattle.std.proofs.lemmas.Bool.Decides.{nat_tests, not_from_Decides}
+use Rattle.std.proofs.Common.{◌≡◌, ℕ, zero, suc, ◌+◌, ◌-◌, ◌<◌, ◌≤◌, ◌⊎◌, inl, inr, List, [], ◌∷◌, length, get_or, refl, sym, ◌∙◌, arith, ◌^◌, Some}
+use Rattle.std.proofs.lemmas.Bool.{cases_lt}
+use Rattle.std.proofs.lemmas.Bool.Decides.{nat_tests}
+use Rattle.warg_crypto.proofs.ForCallers.{same_or_not, branch_parts}
 use Rattle.warg_log.specs.Tree.{front_of, leaves_of, root_of, root_over, own_digest}
 use Rattle.warg_log.specs.Cut.{cut_over}
 use Rattle.warg_witness.specs.Ranges.{IsPart, IsAround}
@@ -16,7 +16,7 @@ use Rattle.warg_witness.specs.Private.Divergence.{HaveOneDigest, MeetAt, Diverge
 use Rattle.warg_witness.specs.declared.descent.Divergence.{Divergence}
 use Rattle.warg_witness.proofs.RangeLemmas.{Digest, Data, more_than_one, node_some, wider, side_is_part, side_aligned, side_around, leaf_node, node_aligned, whole_aligned}
 use Rattle.warg_witness.proofs.RootLemmas.{Root, full_node, full_or_not, front_node, rest_aligned, root_full, root_front, root_rest}
-use Rattle.warg_witness.proofs.DescentLemmas.{branch_parts, same_at_side, meets_here, sides_of, diverges_at, length-leaves, DivergesFrom, Meets, have_root, have_range, plain_digest_is}
+use Rattle.warg_witness.proofs.DescentLemmas.{same_at_side, meets_here, sides_of, diverges_at, length-leaves, DivergesFrom, Meets, have_root, have_range, plain_digest_is}
 use Rattle.std.proofs.lemmas.Nat.{pow_pos}
 use Rattle.warg_log.specs.Nodes.{height_of, place_of, start_of, node_over}
 use Rattle.warg_witness.specs.Ranges.IsPart.{whole}
@@ -28,10 +28,7 @@ use Rattle.warg_witness.proofs.ConsistencyLemmas.{trees_consistent, root_leads, 
 use Rattle.warg_log.proofs.ForCallers.{cut_size, front_is_greatest}
 use Rattle.warg_crypto.proofs.ForCallers.{HasSize}
 
--- lists of numbers are the same or not, and a range is the target or not
-pub same_or_not : (xs ys : List ℕ) → (xs ≡ ys) ⊎ (xs ≡ ys → ⊥)
-same_or_not xs ys = elim (cases_Bool (pointwise nat_eq xs ys)) [ inl t ↦ inl ((bytes_decides xs ys).0 t) | inr f ↦ inr (not_from_Decides _ (bytes_decides xs ys) f) ]
-
+-- a range is the target or not
 target_or_other : (s w a n : ℕ) → ((a ≡ s) × (n ≡ w)) ⊎ (a ≡ s → n ≡ w → ⊥)
 target_or_other s w a n = grind arith
 

@@ -1,7 +1,8 @@
 -- The way down two trees of one digest, and the tree over entries.
 use Rattle.std.proofs.Common.{◌≡◌, ℕ, ◌+◌, ◌-◌, ◌<◌, ◌≤◌, List, ◌∷◌, length, Some, refl, sym, ap, ◌∙◌, arith, inl, inr}
-use Rattle.std.proofs.lemmas.List.{take_at, drop_at, length-map, get_or-map}
+use Rattle.std.proofs.lemmas.List.{length-map, get_or-map}
 use Rattle.std.proofs.lemmas.Bool.Decides.{nat_tests}
+use Rattle.warg_crypto.proofs.ForCallers.{branch_parts}
 use Rattle.warg_log.specs.Tree.{front_of, leaves_of, root_of, root_over, own_digest}
 use Rattle.warg_log.specs.Cut.{joined, cut_over}
 use Rattle.warg_witness.specs.Ranges.{IsPart, IsAround}
@@ -16,10 +17,7 @@ use Rattle.warg_witness.proofs.RangeLemmas.{Digest, Data, wider, at_side, IsPart
 use Rattle.std.proofs.Math.Seq.{take-length}
 use Rattle.warg_log.proofs.ForCallers.{cut_own_range, cut_parts, cut_target, front_is_greatest, root_over_one, root_over_parts}
 
--- the inputs of two branches are equal only part by part
-pub branch_parts : (a b c d : List ℕ) → length a ≡ length c → branch_input a b ≡ branch_input c d → (a ≡ c) × (b ≡ d)
-branch_parts a b c d len e = grind (arith, take_at a b (length c) len, drop_at a b (length c) len, take_at c d (length c) refl, drop_at c d (length c) refl)
-
+-- the inputs of two branches differ where one part does
 pub inputs_differ : (a b c d : List ℕ) → length a ≡ length c → ((a ≡ c) × (b ≡ d) → ⊥) → branch_input a b ≡ branch_input c d → ⊥
 inputs_differ a b c d len other e = other (branch_parts a b c d len e)
 

@@ -17,13 +17,14 @@ use Rattle.warg_witness.specs.TreePlaced.{IsOnGrowth}
 use Rattle.warg_witness.specs.TreePlaced.IsOnGrowth.{whole, front, rest}
 use Rattle.warg_witness.specs.Private.Compared.{DiffersFirst}
 use Rattle.warg_witness.specs.Private.Divergence.{IsDivergence, inputs_of}
-use Rattle.warg_witness.specs.Private.TreeDivergence.{IsTreeMeeting, LeadsOver, tree_input, IsBranchDivergence, IsTurnDivergence, IsOnWayOver, IsTreeShown, IsTreeDivergence}
+use Rattle.warg_witness.specs.Private.PathDivergence.{tree_input, IsBranchDivergence}
+use Rattle.warg_witness.specs.Private.TreeDivergence.{IsTreeMeeting, LeadsOver, IsTurnDivergence, IsOnWayOver, IsTreeShown, IsTreeDivergence}
 use Rattle.warg_witness.specs.declared.descent.Divergence.{Divergence}
 use Rattle.warg_witness.specs.declared.descent.Divergence.TheVariants.{Target, Branch}
 use Rattle.warg_witness.proofs.RangeLemmas.{Digest}
 use Rattle.warg_witness.proofs.ShownLemmas.{shown}
 use Rattle.warg_witness.proofs.ConsistencyLemmas.{entry_at}
-use Rattle.warg_witness.proofs.RecordLemmas.{whole_root}
+use Rattle.warg_witness.proofs.RecordLemmas.{branch_collides, whole_root}
 use Rattle.warg_witness.proofs.BothLemmas.{both_placed, both_meet}
 
 -- two roots are the same one by one
@@ -166,7 +167,7 @@ module _ (H : Digest) (old_tree new_tree : List (List ℕ)) (known : Option (Lis
           at Target is here =
               record { front = λ _. led ∙ ap (λ z. Some (z, v)) is.0 ∙ ap (λ w. Some (root_over H old_tree a m, w)) here.0; rest = λ high. absurd (omega arith); both = λ high. absurd (omega arith) }
           at (Branch l r l' r') is here = (
-            record { differ = here.2; same = ap H here.0 ∙ is.1 ∙ root_over_parts H new_tree a n (omega arith) in_new ∙ ap H (sym here.1) },
+            branch_collides H v top new_tree a n l r l' r' (omega arith) in_new is.1 here,
             inr (record { evaluation = rw (le-leb m (front_of n) low, led) (ap Some (sym here.0)); plain = here.1 }),
           )
 
@@ -179,7 +180,7 @@ module _ (H : Digest) (old_tree new_tree : List (List ℕ)) (known : Option (Lis
           at Target other is here = absurd (other refl)
           at (Branch l r l' r') other is here =
               let split = front_some n (omega arith) in (
-                record { differ = here.2; same = ap H here.0 ∙ is.0 ∙ root_over_parts H old_tree a m (omega arith) in_old ∙ ap H (sym here.1) },
+                branch_collides H top o old_tree a m l r l' r' (omega arith) in_old is.0 here,
                 inl (record { in_rest = high; evaluation = rw led (ap Some (sym here.0)); plain = here.1 }),
               )
 
@@ -201,7 +202,7 @@ module _ (H : Digest) (old_tree new_tree : List (List ℕ)) (known : Option (Lis
                 both = λ _. sym left ∙ here.0;
               }
           at (Branch l r l' r') is here = (
-            record { differ = here.2; same = ap H here.0 ∙ is.1 ∙ root_over_parts H new_tree a n (omega arith) in_new ∙ ap H (sym here.1) },
+            branch_collides H top v new_tree a n l r l' r' (omega arith) in_new is.1 here,
             inr (record { evaluation = rw (lt-leb m (front_of n) high, led) (ap Some (sym here.0)); plain = here.1 }),
           )
 

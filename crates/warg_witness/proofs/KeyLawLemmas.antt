@@ -2,6 +2,7 @@
 use Rattle.std.proofs.Common.{◌≡◌, ℕ, zero, suc, ◌+◌, ◌≤◌, Bool, true, false, not, List, [], ◌∷◌, ◌++◌, length, Option, Some, None, unwrap_or, ⊎_elim, refl, sym, ap, ◌∙◌, arith}
 use Rattle.std.specs.FinMap.{get}
 use Rattle.std.specs.Option.{option_map}
+use Rattle.warg_crypto.proofs.ForCallers.{same_or_not}
 use Rattle.warg_crypto.specs.EmptyTrees.{empty_root}
 use Rattle.warg_map.specs.Bits.{key_bits}
 use Rattle.warg_crypto.specs.Tree.{leaf_digest}
@@ -14,7 +15,7 @@ use Rattle.warg_witness.specs.MapClaims.{value_in, IsLastValue, IsKeyMet, IsAbse
 use Rattle.warg_witness.specs.MapPlaced.{IsKeyPlaced}
 use Rattle.warg_witness.specs.Private.MapPaths.{plain_peers}
 use Rattle.warg_witness.specs.declared.descent.Divergence.TheVariants.{Target}
-use Rattle.warg_witness.proofs.CollisionLemmas.{SomeDivergence, same_or_not, target_or_not, shown_collides}
+use Rattle.warg_witness.proofs.CollisionLemmas.{SomeDivergence, target_or_not, shown_collides}
 use Rattle.warg_witness.proofs.LastLemmas.{some_same}
 use Rattle.warg_witness.proofs.PathLemmas.{diverged_on_path}
 use Rattle.warg_witness.proofs.KeyLemmas.{DivergesFromPlain, plain_root_is, branch_shown, leaf_shown, none_differs, keys_shown}

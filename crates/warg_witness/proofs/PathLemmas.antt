@@ -1,6 +1,7 @@
 -- Two evaluations along one key's bits.
 use Rattle.std.proofs.Common.{◌≡◌, ℕ, zero, suc, ◌+◌, ◌-◌, ◌<◌, Bool, true, false, cond, nat_lt, List, [], ◌∷◌, ◌++◌, length, Option, Some, None, unwrap_or, get_or, ⊎_elim, refl, sym, ap, ◌∙◌}
 use Rattle.std.proofs.lemmas.Bool.{cases_Bool}
+use Rattle.warg_crypto.proofs.ForCallers.{same_or_not}
 use Rattle.warg_crypto.specs.EmptyTrees.{empty_root}
 use Rattle.warg_map.specs.ProofValue.{peer_of, proof_value}
 use Rattle.warg_crypto.specs.Tree.{branch_input, input_beside}
@@ -10,7 +11,7 @@ use Rattle.warg_witness.specs.Private.MapPaths.{DivergesNowhere, IsPathDivergenc
 use Rattle.warg_witness.specs.declared.descent.Divergence.{Divergence}
 use Rattle.warg_witness.specs.declared.descent.Divergence.TheVariants.{Target, Branch}
 use Rattle.warg_witness.proofs.DescentLemmas.{inputs_differ}
-use Rattle.warg_witness.proofs.CollisionLemmas.{SomeDivergence, same_or_not}
+use Rattle.warg_witness.proofs.CollisionLemmas.{SomeDivergence}
 use Rattle.warg_map.proofs.ForCallers.{last_bits-more, last_bits-none, length-last_bits}
 use Rattle.warg_map.specs.Bits.{bit_at, last_bits}
 use Rattle.warg_crypto.proofs.ForCallers.{HasSize}

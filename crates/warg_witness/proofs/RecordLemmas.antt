@@ -1,5 +1,5 @@
 -- The way down a path and a tree of one digest.
-use Rattle.std.proofs.Common.{◌≡◌, ℕ, ◌+◌, ◌-◌, ◌<◌, ◌≤◌, List, [], ◌∷◌, ◌++◌, length, map, reverse, get_or, Option, Some, None, IsSome, inl, inr, refl, sym, ap, ◌∙◌, arith}
+use Rattle.std.proofs.Common.{◌≡◌, ℕ, ◌+◌, ◌-◌, ◌<◌, ◌≤◌, List, [], ◌∷◌, ◌++◌, length, map, reverse, get_or, Option, Some, None, IsSome, inl, inr, refl, sym, ap, subst, ◌∙◌, arith}
 use Rattle.std.proofs.lemmas.Bool.{lt-leb, lt-ltb, le-ltb, cases_lt}
 use Rattle.std.proofs.lemmas.List.{reverse-append, length-map}
 use Rattle.std.proofs.Math.Seq.{take-length}
@@ -12,20 +12,15 @@ use Rattle.warg_crypto.specs.Tree.{branch_input}
 use Rattle.warg_witness.specs.PathClaims.{IsRecord}
 use Rattle.warg_witness.specs.PathPlaced.{IsOnWay, turn_input, IsRecordPlaced}
 use Rattle.warg_witness.specs.PathPlaced.IsOnWay.{whole, front, rest}
+use Rattle.warg_crypto.specs.Collisions.{Collides}
 use Rattle.warg_witness.specs.Private.Divergence.{inputs_of}
-use Rattle.warg_witness.specs.Private.PathDivergence.{IsPathMeeting, AreSides, DivergesOnWay, MeetAtLeaf, IsRecordDivergence}
+use Rattle.warg_witness.specs.Private.PathDivergence.{IsPathMeeting, AreSides, tree_input, IsBranchDivergence, MeetAtLeaf, RecordDiverges, IsRecordDivergence}
 use Rattle.warg_witness.specs.declared.descent.Divergence.{Divergence}
 use Rattle.warg_witness.specs.declared.descent.Divergence.TheVariants.{Target, Branch}
 use Rattle.warg_witness.proofs.RangeLemmas.{Digest}
 use Rattle.warg_witness.proofs.DescentLemmas.{length-leaves, plain_digest_is}
 use Rattle.warg_witness.proofs.ShownLemmas.{Shows}
 use Rattle.warg_witness.proofs.ConsistencyLemmas.{entry_at}
-
--- the way from a range that is on a way
-pub on_way : {m₀ a₀ n₀ : ℕ} {ds₀ : List (List ℕ)} {m₁ a₁ n₁ : ℕ} {ds₁ : List (List ℕ)} {m a n : ℕ} {ds : List (List ℕ)} → IsOnWay m₀ a₀ n₀ ds₀ m₁ a₁ n₁ ds₁ → IsOnWay m₁ a₁ n₁ ds₁ m a n ds → IsOnWay m₀ a₀ n₀ ds₀ m a n ds
-on_way outer whole = outer
-on_way outer (front m a n top below inner more lt) = front m a n top below (on_way outer inner) more lt
-on_way outer (rest m a n top below inner more le) = rest m a n top below (on_way outer inner) more le
 
 -- a path that leads somewhere, from a place that is there
 pub leads_inside : (H : Digest) (m n : ℕ) (x root : List ℕ) (path : List (List ℕ)) → inclusion_root H m n x path ≡ Some root → (m < n) × (root_down H m n x (reverse path) ≡ Some root)
@@ -93,97 +88,84 @@ sides_digest {H} {x} {m} {n} {top} {l} {r} {below} more sides = elim (cases_lt m
 
 -- a path and a tree of one digest meet at the leaf
 pub meets_at_leaf : (H : Digest) (x : List ℕ) (tree : List (List ℕ)) (m a n : ℕ) (digests : List (List ℕ)) → n ≡ 1 → m < n → root_down H m n x digests ≡ Some (root_over H tree a n)
-    → MeetAtLeaf H x tree m a n digests
-meets_at_leaf H x tree m a n digests one inside leads =
+    → (m₀ a₀ n₀ : ℕ) (digests₀ : List (List ℕ)) → IsOnWay m₀ a₀ n₀ digests₀ m a n digests → MeetAtLeaf H x tree m₀ a₀ n₀ digests₀ (a + m)
+meets_at_leaf H x tree m a n digests one inside leads m₀ a₀ n₀ digests₀ way =
     let zero : m ≡ 0 = omega arith in
-    let at : a + 0 ≡ a = omega arith in
+    let at : a + m ≡ a = omega arith in
     let only = one_leads H 0 x (root_over H tree a 1) digests (rw (one, zero) at leads) in
-    rw (one, zero, only.0) (record { on_way = rw at whole; same = rw at only.1 })
+    rw at (record { on_way = rw (one, zero, only.0) at way; same = only.1 })
+
+-- two digests whose branch has the digest of a tree's range, and that diverge there, collide
+pub branch_collides : (H : Digest) (left right : List ℕ) (tree : List (List ℕ)) (a n : ℕ) (l r l' r' : List ℕ) → 1 < n → a + n ≤ length tree → H (branch_input left right) ≡ root_over H tree a n
+    → (branch_input l r ≡ branch_input left right) × (branch_input l' r' ≡ tree_input H tree a n) × (branch_input l r ≡ branch_input l' r' → ⊥) → Collides H (branch_input l r, branch_input l' r')
+branch_collides H left right tree a n l r l' r' more within is here = record { differ = here.2; same = ap H here.0 ∙ is ∙ root_over_parts H tree a n more within ∙ ap H (sym here.1) }
 
 -- a path and a tree of one digest diverge at a range where their inputs differ
-pub diverges_here : {H : Digest} {x : List ℕ} {tree : List (List ℕ)} {m a n : ℕ} {top l r l' r' : List ℕ} {below : List (List ℕ)} → 1 < n → a + n ≤ length tree → AreSides H x m n top below l r
-    → root_down H m n x (top ∷ below) ≡ Some (root_over H tree a n) → l' ≡ root_over H tree a (front_of n) → r' ≡ root_over H tree (a + front_of n) (n - front_of n)
-    → (branch_input l r ≡ branch_input l' r' → ⊥) → DivergesOnWay H x tree m a n (top ∷ below) (branch_input l r) (branch_input l' r')
-diverges_here {H} {x} {tree} {m} {a} {n} {top} {l} {r} {l'} {r'} {below} more within sides leads left right differ = record {
-  leaf = m;
-  from = a;
-  count = n;
-  top = top;
-  below = below;
-  on_way = whole;
-  more = more;
-  evaluation = sides_input sides;
-  plain = rw (left, right) refl;
-  differ = differ;
-  same = let digest = sides_digest more sides in let parts = root_over_parts H tree a n more within in
-      let own : root_over H tree a n ≡ H (branch_input l' r') = rw (left, right) parts in cc;
-}
+pub diverges_here : {D : Type 0} (H : Digest) (x : List ℕ) (tree : List (List ℕ)) (m a n : ℕ) (top left right : List ℕ) (below : List (List ℕ)) (p : Divergence D) → 1 < n → a + n ≤ length tree → AreSides H x m n top below left right
+    → root_down H m n x (top ∷ below) ≡ Some (root_over H tree a n) → (p ≡ Target → ⊥) → IsBranchDivergence H left right tree a n p → IsRecordDivergence H x tree m a n (top ∷ below) p
+diverges_here H x tree m a n top left right below Target more within sides leads other here = absurd (other refl)
+diverges_here H x tree m a n top left right below (Branch l r l' r') more within sides leads other here = λ m₀ a₀ n₀ digests₀ way.
+    let digest : Some (H (branch_input left right)) ≡ Some (root_over H tree a n) = sym (sides_digest more sides) ∙ leads in
+    let same : H (branch_input left right) ≡ root_over H tree a n = cc in
+    let collides = branch_collides H left right tree a n l r l' r' more within same here in record {
+      leaf = m;
+      from = a;
+      count = n;
+      top = top;
+      below = below;
+      on_way = way;
+      more = more;
+      evaluation = sides_input sides ∙ ap Some (sym here.0);
+      plain = here.1;
+      differ = collides.differ;
+      same = collides.same;
+    }
 
 -- what diverges in a part diverges in the range
 pub front_widened : {D : Type 0} (H : Digest) (x : List ℕ) (tree : List (List ℕ)) (m a n : ℕ) (top : List ℕ) (below : List (List ℕ)) (p : Divergence D) → 1 < n → m < front_of n
     → IsRecordDivergence H x tree m a (front_of n) below p → IsRecordDivergence H x tree m a n (top ∷ below) p
-front_widened H x tree m a n top below Target more lt is = record { on_way = on_way (front m a n top below whole more lt) is.on_way; same = is.same }
-front_widened H x tree m a n top below (Branch l r l' r') more lt is = record {
-  leaf = is.leaf;
-  from = is.from;
-  count = is.count;
-  top = is.top;
-  below = is.below;
-  on_way = on_way (front m a n top below whole more lt) is.on_way;
-  more = is.more;
-  evaluation = is.evaluation;
-  plain = is.plain;
-  differ = is.differ;
-  same = is.same;
-}
+front_widened H x tree m a n top below p more lt is = λ m₀ a₀ n₀ digests₀ way. is m₀ a₀ n₀ digests₀ (front m a n top below way more lt)
 
 pub rest_widened : {D : Type 0} (H : Digest) (x : List ℕ) (tree : List (List ℕ)) (m a n : ℕ) (top : List ℕ) (below : List (List ℕ)) (p : Divergence D) → 1 < n → front_of n ≤ m
     → IsRecordDivergence H x tree (m - front_of n) (a + front_of n) (n - front_of n) below p → IsRecordDivergence H x tree m a n (top ∷ below) p
-rest_widened H x tree m a n top below Target more le is =
+rest_widened H x tree m a n top below p more le is = λ m₀ a₀ n₀ digests₀ way.
     let at : a + front_of n + (m - front_of n) ≡ a + m = omega arith in
-    let here = rw at at is.on_way in record { on_way = on_way (rest m a n top below whole more le) here; same = rw at at is.same }
-rest_widened H x tree m a n top below (Branch l r l' r') more le is = record {
-  leaf = is.leaf;
-  from = is.from;
-  count = is.count;
-  top = is.top;
-  below = is.below;
-  on_way = on_way (rest m a n top below whole more le) is.on_way;
-  more = is.more;
-  evaluation = is.evaluation;
-  plain = is.plain;
-  differ = is.differ;
-  same = is.same;
-}
+    subst (λ place. RecordDiverges H x tree m₀ a₀ n₀ digests₀ place p) at (is m₀ a₀ n₀ digests₀ (rest m a n top below way more le))
 
 -- what a divergence of a path from the tree over the entries shows, where the claim is false
 pub record_shown : {D : Type 0} (H : Digest) (index : ℕ) (path : List (List ℕ)) (value : List ℕ) (entries : List (List ℕ)) (p : Divergence D) → index < length entries → (IsRecord index value entries → ⊥)
     → IsRecordDivergence H (H (0 ∷ value)) (leaves_of H entries) index 0 (length entries) (reverse path) p
     → Shows H (IsRecordPlaced H index path value entries) (inputs_of p (0 ∷ value) (0 ∷ get_or entries index []))
-record_shown H index path value entries Target inside other is = let at : 0 + index ≡ index = omega arith in let same = rw at at is.same in let way = rw at at is.on_way in (
-  record { differ = λ e. other (cc); same = same ∙ plain_digest_is H entries index 1 (omega arith) (omega arith) },
-  record {
-    leaf = 0;
-    from = index;
-    count = 1;
-    digests = [];
-    on_way = way;
-    evaluation = refl;
-    plain = refl;
-  },
-)
-record_shown H index path value entries (Branch l r l' r') inside other is = (
-  record { differ = is.differ; same = is.same },
-  record {
-    leaf = is.leaf;
-    from = is.from;
-    count = is.count;
-    digests = is.top ∷ is.below;
-    on_way = is.on_way;
-    evaluation = is.evaluation;
-    plain = is.plain ∙ rw (lt-leb is.count 1 is.more) refl;
-  },
-)
+record_shown H index path value entries p inside other is =
+    let at : 0 + index ≡ index = omega arith in
+    at_way p (subst (λ place. RecordDiverges H (H (0 ∷ value)) (leaves_of H entries) index 0 (length entries) (reverse path) place p) at (is index 0 (length entries) (reverse path) whole))
+  where
+    at_way : {D : Type 0} (p : Divergence D) → RecordDiverges H (H (0 ∷ value)) (leaves_of H entries) index 0 (length entries) (reverse path) index p
+        → Shows H (IsRecordPlaced H index path value entries) (inputs_of p (0 ∷ value) (0 ∷ get_or entries index []))
+    at_way Target is = (
+      record { differ = λ e. other (cc); same = is.same ∙ plain_digest_is H entries index 1 (omega arith) (omega arith) },
+      record {
+        leaf = 0;
+        from = index;
+        count = 1;
+        digests = [];
+        on_way = is.on_way;
+        evaluation = refl;
+        plain = refl;
+      },
+    )
+    at_way (Branch l r l' r') is = (
+      record { differ = is.differ; same = is.same },
+      record {
+        leaf = is.leaf;
+        from = is.from;
+        count = is.count;
+        digests = is.top ∷ is.below;
+        on_way = is.on_way;
+        evaluation = is.evaluation;
+        plain = is.plain ∙ rw (lt-leb is.count 1 is.more) refl;
+      },
+    )
 
 -- a path that leads to the root of the tree over the entries leads to the root over all leaves
 pub whole_root : (H : Digest) (entries : List (List ℕ)) → root_of H (leaves_of H entries) ≡ root_over H (leaves_of H entries) 0 (length entries)

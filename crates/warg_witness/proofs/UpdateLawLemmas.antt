@@ -5,6 +5,7 @@ use Rattle.std.specs.List.{AllByRecursion}
 use Rattle.std.specs.Option.{option_map}
 use Rattle.std.specs.FinMap.{get, insert, empty}
 use Rattle.warg_crypto.specs.Collisions.{SomeCollision}
+use Rattle.warg_crypto.proofs.ForCallers.{same_or_not, HasSize}
 use Rattle.warg_map.specs.Bits.{key_bits}
 use Rattle.warg_crypto.specs.Tree.{leaf_digest}
 use Rattle.warg_map.specs.Sparse.{SparseMap, sparse_root, inserted, map_of}
@@ -18,7 +19,7 @@ use Rattle.warg_witness.specs.UpdateClaims.{IsUpdated, Step, insertions_of, Lead
 use Rattle.warg_witness.specs.Private.MapPaths.{plain_peers}
 use Rattle.warg_witness.specs.Private.Divergence.{inputs_of}
 use Rattle.warg_witness.specs.declared.descent.Divergence.TheVariants.{Target}
-use Rattle.warg_witness.proofs.CollisionLemmas.{same_or_not, target_or_not}
+use Rattle.warg_witness.proofs.CollisionLemmas.{target_or_not}
 use Rattle.warg_witness.proofs.PathLemmas.{diverged_on_path}
 use Rattle.warg_witness.proofs.KeyLemmas.{plain_root_is, branch_placed, branch_collides}
 use Rattle.warg_witness.proofs.KeyLawLemmas.{holds_plain, holds_leaf}

@@ -1,5 +1,4 @@
--- Where the two byte lists of a collision stand that a consistency path shows. The digests of a path are given from the
--- topmost down, as the recursion over the leaves meets them.
+-- Where the two byte lists of a collision stand that a consistency path shows, whose digests come topmost first.
 use Rattle.std.specs.Prelude.{◌≡◌, ℕ, ◌+◌, ◌-◌, ◌<◌, ◌≤◌, ◌⊎◌, nat_le, if◌then◌else◌, List, ◌∷◌, length, reverse, Option, Some, None}
 use Rattle.warg_log.specs.Tree.{front_of, leaves_of, root_of}
 use Rattle.warg_paths.specs.Paths.{roots_down}
@@ -18,11 +17,12 @@ pub data IsOnGrowth (known₀ : Option (List ℕ)) (m₀ n₀ : ℕ) (digests₀
   rest : (known : Option (List ℕ)) (m a n : ℕ) (top : List ℕ) (below : List (List ℕ)) → IsOnGrowth known₀ m₀ n₀ digests₀ known m a n (top ∷ below) → m < n → front_of n < m
       → IsOnGrowth known₀ m₀ n₀ digests₀ None (m - front_of n) (a + front_of n) (n - front_of n) below
 
--- The old one of two roots, and the new one.
+-- The old one of two roots, where they are there.
 abbrev pub old_of : Option (List ℕ × List ℕ) → Option (List ℕ)
 old_of (Some roots) = Some roots.0
 old_of None = None
 
+-- The new one of two roots, where they are there.
 abbrev pub new_of : Option (List ℕ × List ℕ) → Option (List ℕ)
 new_of (Some roots) = Some roots.1
 new_of None = None

@@ -8,7 +8,7 @@ ghost use Rattle.warg_witness.specs.Findings.{Finds};
 ghost use Rattle.warg_witness.specs.PathClaims.{IsRecord, IsRecordMet};
 ghost use Rattle.warg_witness.specs.PathPlaced.{IsRecordPlaced};
 ghost use Rattle.warg_log.specs.Ranges.{IsAligned};
-ghost use Rattle.warg_witness.specs.Private.PathDivergence.{IsPathMeeting, AreSides, IsRecordDivergence};
+ghost use Rattle.warg_witness.specs.Private.PathDivergence.{IsPathMeeting, AreSides, IsRecordDivergence, IsBranchDivergence};
 
 mod agreement;
 mod tree;
@@ -80,6 +80,33 @@ fn part_digests<D: SupportedDigest>(
     }
 }
 
+// Where the branch over two digests and a tree's branch over a range diverge.
+fn branch_divergence<D: SupportedDigest, V: VisitBytes, A: Allocator>(
+    left: &Hash<D>,
+    right: &Hash<D>,
+    tree: &VecLog<D, V, A>,
+    range: &LeafRange,
+) -> Divergence<D>
+    requires more { 1 < range.now.count }
+    requires aligned { IsAligned range.now.start range.now.count }
+    requires within { range.now.start + range.now.count ≤ length tree.now }
+    ensures { IsBranchDivergence D.digest left.now right.now tree.now range.now.start range.now.count result }
+{
+    let (front, rest) = range.split();
+    let second_left = plain_digest(tree, &front);
+    let second_right = plain_digest(tree, &rest);
+    prove_eq!(left.len(), second_left.len());
+    if left != &second_left || right != &second_right {
+        return Divergence::Branch {
+            first_left: left.copied(),
+            first_right: right.copied(),
+            second_left,
+            second_right,
+        };
+    }
+    Divergence::Target
+}
+
 // Goes down from a range at which the evaluation and the tree have one digest to the leaf at `index` of its
 // leaves, and answers where their inputs differ first.
 fn descend_path<D: SupportedDigest, V: VisitBytes, A: Allocator>(
@@ -101,19 +128,12 @@ fn descend_path<D: SupportedDigest, V: VisitBytes, A: Allocator>(
     let Some((top, below)) = path.split_last() else {
         unreachable!()
     };
-    let (front, rest) = range.split();
-    let (first_left, first_right) = part_digests(index, range, leaf, top, below);
-    let second_left = plain_digest(tree, &front);
-    let second_right = plain_digest(tree, &rest);
-    prove_eq!(first_left.len(), second_left.len());
-    if first_left != second_left || first_right != second_right {
-        return Divergence::Branch {
-            first_left,
-            first_right,
-            second_left,
-            second_right,
-        };
+    let (left, right) = part_digests(index, range, leaf, top, below);
+    let here = branch_divergence(&left, &right, tree, range);
+    if !here.is_target() {
+        return here;
     }
+    let (front, rest) = range.split();
     if index < front.count {
         return descend_path(index, below, leaf, tree, &front);
     }

@@ -29,14 +29,19 @@ pub record PathsDiverge (H : List ℕ → List ℕ) (x : List ℕ) (digests₀ :
   pub differ : first ≡ second → ⊥
   pub same : H first ≡ H second
 
--- The two evaluations have one digest at the leaf, where no digests are left.
-pub record PathsMeet (x : List ℕ) (digests₀ : List (List ℕ)) (y : List ℕ) (other_digests₀ : List (List ℕ)) (m₀ a₀ n₀ : ℕ) : Type 0 where
-  pub on_way : IsOnWay m₀ a₀ n₀ digests₀ 0 (a₀ + m₀) 1 []
-  pub other_on_way : IsOnWay m₀ a₀ n₀ other_digests₀ 0 (a₀ + m₀) 1 []
+-- The two evaluations have one digest at the leaf at a place, where no digests are left.
+pub record PathsMeet (x : List ℕ) (digests₀ : List (List ℕ)) (y : List ℕ) (other_digests₀ : List (List ℕ)) (m₀ a₀ n₀ place : ℕ) : Type 0 where
+  pub on_way : IsOnWay m₀ a₀ n₀ digests₀ 0 place 1 []
+  pub other_on_way : IsOnWay m₀ a₀ n₀ other_digests₀ 0 place 1 []
   pub same : x ≡ y
 
 -- They diverge nowhere, and have one digest at the leaf, or they diverge at a branch.
-abbrev pub IsPathsDivergence : {D : _} → (List ℕ → List ℕ) → List ℕ → List (List ℕ) → List ℕ → List (List ℕ) → ℕ → ℕ → ℕ → Divergence D → Type 0
-IsPathsDivergence H x digests₀ y other_digests₀ m₀ a₀ n₀ Target = PathsMeet x digests₀ y other_digests₀ m₀ a₀ n₀
-IsPathsDivergence H x digests₀ y other_digests₀ m₀ a₀ n₀ (Branch first_left first_right second_left second_right) =
+abbrev pub PathsPart : {D : _} → (List ℕ → List ℕ) → List ℕ → List (List ℕ) → List ℕ → List (List ℕ) → ℕ → ℕ → ℕ → ℕ → Divergence D → Type 0
+PathsPart H x digests₀ y other_digests₀ m₀ a₀ n₀ place Target = PathsMeet x digests₀ y other_digests₀ m₀ a₀ n₀ place
+PathsPart H x digests₀ y other_digests₀ m₀ a₀ n₀ place (Branch first_left first_right second_left second_right) =
     PathsDiverge H x digests₀ y other_digests₀ m₀ a₀ n₀ (branch_input first_left first_right) (branch_input second_left second_right)
+
+-- So of each way on which the n leaves from a on are, by both paths.
+abbrev pub IsPathsDivergence : {D : _} → (List ℕ → List ℕ) → List ℕ → List (List ℕ) → List ℕ → List (List ℕ) → ℕ → ℕ → ℕ → Divergence D → Type 0
+IsPathsDivergence H x digests y other_digests m a n p = (m₀ a₀ n₀ : ℕ) (digests₀ other_digests₀ : List (List ℕ)) → IsOnWay m₀ a₀ n₀ digests₀ m a n digests
+    → IsOnWay m₀ a₀ n₀ other_digests₀ m a n other_digests → PathsPart H x digests₀ y other_digests₀ m₀ a₀ n₀ (a + m) p

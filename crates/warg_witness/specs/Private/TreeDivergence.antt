@@ -8,6 +8,7 @@ use Rattle.warg_witness.specs.PathClaims.{IsTreeMet}
 use Rattle.warg_witness.specs.TreePlaced.{IsOnGrowth, old_turn_input, new_turn_input, IsTreePlaced}
 use Rattle.warg_crypto.specs.Collisions.{Collides}
 use Rattle.warg_witness.specs.Private.Divergence.{inputs_of}
+use Rattle.warg_witness.specs.Private.PathDivergence.{tree_input}
 use Rattle.warg_witness.specs.declared.descent.Divergence.{Divergence}
 use Rattle.warg_witness.specs.declared.descent.Divergence.TheVariants.{Target, Branch}
 
@@ -24,16 +25,6 @@ pub record IsTreeMeeting (H : List ℕ → List ℕ) (path old new old_tree new_
 -- the new one.
 abbrev pub LeadsOver : (List ℕ → List ℕ) → List (List ℕ) → List (List ℕ) → Option (List ℕ) → ℕ → ℕ → ℕ → List (List ℕ) → Type 0
 LeadsOver H old_tree new_tree known m a n digests = roots_down H known m n digests ≡ Some (root_over H old_tree a m, root_over H new_tree a n)
-
--- A tree's input at the branch over n leaves from a on.
-abbrev pub tree_input : (List ℕ → List ℕ) → List (List ℕ) → ℕ → ℕ → List ℕ
-tree_input H tree a n = branch_input (root_over H tree a (front_of n)) (root_over H tree (a + front_of n) (n - front_of n))
-
--- Two digests are those of the two parts of a tree's range, or the branch's inputs are theirs and the tree's, which
--- differ.
-abbrev pub IsBranchDivergence : {D : _} → (List ℕ → List ℕ) → List ℕ → List ℕ → List (List ℕ) → ℕ → ℕ → Divergence D → Type 0
-IsBranchDivergence H left right tree a n Target = (left ≡ root_over H tree a (front_of n)) × (right ≡ root_over H tree (a + front_of n) (n - front_of n))
-IsBranchDivergence H left right tree a n (Branch l r l' r') = (branch_input l r ≡ branch_input left right) × (branch_input l' r' ≡ tree_input H tree a n) × (branch_input l r ≡ branch_input l' r' → ⊥)
 
 -- What is left of a path below a range leads to the roots over the part in which the old leaves end; where this is the
 -- rest, the first part has one root in both trees.
