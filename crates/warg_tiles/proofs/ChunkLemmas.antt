@@ -3,6 +3,7 @@ use Rattle.std.proofs.Common.{◌≡◌, inl, inr, ℕ, zero, suc, ◌+◌, ◌-
 use Rattle.std.specs.Option.{option_to_list}
 use Rattle.std.proofs.Math.Nat.{pow-suc, mul-le-mul_left}
 use Rattle.std.proofs.Math.Seq.{get_or-append_seam}
+use Rattle.std.proofs.Math.ListN.{get_or-append}
 use Rattle.std.proofs.lemmas.Nat.{pow_pos, pow-add}
 use Rattle.std.proofs.lemmas.Bool.{cases_lt}
 use Rattle.std.proofs.lemmas.List.{take_all, length-drop, length-take-le, get_or-take, get_or-drop, take-append-le, drop-append-le, length-append, append-nil}
@@ -107,3 +108,123 @@ roots_of_chunks H m (suc k) ys xs some most low high each = elim (cases_lt (2 ^ 
   where
     minus : (x y p : ℕ) → y ≤ x → (x - y) * p + y * p ≡ x * p
     minus x y p le = let e : x ≡ x - y + y = omega arith in omega (arith, ap (λ n. n * p) e)
+
+-- a digest of the last tile of a level, by the leaves from the tile's first one on
+chunk_at : (H : List ℕ → List ℕ) (ds : List (List ℕ)) (level m i : ℕ) → i < m % 256
+    → slice_index_or (tile_digests H ds (record { level = level; number = m / 256; width = m % 256 })) i [] ≡ root_of H (take (2 ^ (8 * level)) (drop (i * 2 ^ (8 * level)) (drop (m / 256 * 2 ^ (8 * (level + 1))) ds)))
+chunk_at H ds level m i low =
+    let t : TileAt = record { level = level; number = m / 256; width = m % 256 } in
+    let p = 2 ^ (8 * level) in
+    let at : (256 * (m / 256) + i) * p ≡ m / 256 * 2 ^ (8 * (level + 1)) + i * p = omega (arith, ap (λ n. m / 256 * n) (pow_up level)) in
+    digest_at_place H ds t i low ∙ node_root H ds (8 * level) (256 * (m / 256) + i) ∙ ap (λ a. root_of H (take p (drop a ds))) at
+    ∙ ap (λ l. root_of H (take p l)) (sym (drop_drop (m / 256 * 2 ^ (8 * (level + 1))) (i * p) ds))
+
+-- the root over the last tile of a level and what is behind it, where all leaves fill the tile's nodes
+step_even : (H : List ℕ → List ℕ) (ds : List (List ℕ)) (level m : ℕ) → length ds ≡ m * 2 ^ (8 * level) → 0 < m % 256
+    → root_of H (tile_digests H ds (record { level = level; number = m / 256; width = m % 256 })) ≡ root_of H (drop (m / 256 * 2 ^ (8 * (level + 1))) ds)
+step_even H ds level m even some =
+    let t : TileAt = record { level = level; number = m / 256; width = m % 256 } in
+    let p = 2 ^ (8 * level) in
+    let unit : 0 < p = pow_pos (8 * level) in
+    let whole : m ≡ 256 * (m / 256) + m % 256 = omega arith in
+    let parts : m * p ≡ (256 * (m / 256) + m % 256) * p = ap (λ n. n * p) whole in
+    let left : length (drop (m / 256 * 2 ^ (8 * (level + 1))) ds) ≡ m % 256 * p = omega (arith, length-drop (m / 256 * 2 ^ (8 * (level + 1))) ds, even, parts, ap (λ n. m / 256 * n) (pow_up level)) in
+    let size : 2 ^ (8 + 8 * level) ≡ 256 * p = pow-add 2 8 (8 * level) in
+    let most : m % 256 * p ≤ 256 * p = mul_most (m % 256) 256 p (omega arith) in
+    let least : 1 * p ≤ m % 256 * p = mul_most 1 (m % 256) p some in
+    let count : length (tile_digests H ds t) * p ≡ m % 256 * p = ap (λ n. n * p) (tile_count H ds t) in
+    roots_of_chunks H (8 * level) 8 (drop (m / 256 * 2 ^ (8 * (level + 1))) ds) (tile_digests H ds t) (omega (arith, left, least, unit)) (omega (arith, left, size, most)) (omega (arith, left, count, unit)) (omega (arith, left, count))
+    (λ i low. chunk_at H ds level m i (omega (arith, low, tile_count H ds t)))
+  where
+    mul_most : (x y p : ℕ) → x ≤ y → x * p ≤ y * p
+    mul_most x y p le = omega (arith, mul-le-mul_left p le)
+
+-- and where leaves are left behind them
+step_odd : (H : List ℕ → List ℕ) (ds : List (List ℕ)) (level m : ℕ) → m * 2 ^ (8 * level) < length ds → length ds < m * 2 ^ (8 * level) + 2 ^ (8 * level)
+    → root_of H (tile_digests H ds (record { level = level; number = m / 256; width = m % 256 }) ++ root_of H (drop (m * 2 ^ (8 * level)) ds) ∷ []) ≡ root_of H (drop (m / 256 * 2 ^ (8 * (level + 1))) ds)
+step_odd H ds level m some less =
+    let t : TileAt = record { level = level; number = m / 256; width = m % 256 } in
+    let p = 2 ^ (8 * level) in
+    let a = m / 256 * 2 ^ (8 * (level + 1)) in
+    let last = root_of H (drop (m * p) ds) in
+    let digests = tile_digests H ds t in
+    let whole : m ≡ 256 * (m / 256) + m % 256 = omega arith in
+    let parts : m * p ≡ a + m % 256 * p = omega (arith, ap (λ n. n * p) whole, ap (λ n. m / 256 * n) (pow_up level)) in
+    let left : length (drop a ds) ≡ length ds - a = length-drop a ds in
+    let size : 2 ^ (8 + 8 * level) ≡ 256 * p = pow-add 2 8 (8 * level) in
+    let most : (m % 256 + 1) * p ≤ 256 * p = mul_most (m % 256 + 1) 256 p (omega arith) in
+    let count : length (digests ++ last ∷ []) ≡ m % 256 + 1 = omega (arith, length-append digests (last ∷ []), tile_count H ds t) in
+    let counted : length (digests ++ last ∷ []) * p ≡ (m % 256 + 1) * p = ap (λ n. n * p) count in
+    roots_of_chunks H (8 * level) 8 (drop a ds) (digests ++ last ∷ []) (omega (arith, left, parts)) (omega (arith, left, parts, size, most, less)) (omega (arith, left, counted, parts, some)) (omega (arith, left, counted, parts, less))
+    (λ i low. elim (cases_lt i (m % 256)) [
+      | inl under ↦ get_or-append digests (last ∷ []) [] i (omega (arith, under, tile_count H ds t)) ∙ chunk_at H ds level m i under
+      | inr over ↦
+          let at : i ≡ length digests = omega (arith, over, low, count, tile_count H ds t) in
+          let place : m * p ≡ a + i * p = omega (arith, parts, ap (λ n. n * p) at, ap (λ n. n * p) (tile_count H ds t)) in
+          let fits : length (drop (m * p) ds) ≤ p = omega (arith, length-drop (m * p) ds, less) in
+          ap (λ j. slice_index_or (digests ++ last ∷ []) j []) at ∙ get_or-append_seam digests last [] [] ∙ ap (root_of H) (sym (take_all p (drop (m * p) ds) fits))
+          ∙ ap (λ b. root_of H (take p (drop b ds))) place ∙ ap (λ l. root_of H (take p l)) (sym (drop_drop a (i * p) ds))
+    ])
+  where
+    mul_most : (x y p : ℕ) → x ≤ y → x * p ≤ y * p
+    mul_most x y p le = omega (arith, mul-le-mul_left p le)
+
+-- the root of what is behind the full tiles of a level, by that of what is behind its nodes
+pub root_step : (H : List ℕ → List ℕ) (ds : List (List ℕ)) (level n : ℕ) → length ds ≡ n
+    → root_if H (tile_digests H ds (last_tile n level) ++ option_to_list (root_if H (drop (n / 2 ^ (8 * level) * 2 ^ (8 * level)) ds))) ≡ root_if H (drop (n / 2 ^ (8 * (level + 1)) * 2 ^ (8 * (level + 1))) ds)
+root_step H ds level n count =
+    let p = 2 ^ (8 * level) in
+    let m = n / p in
+    let digests = tile_digests H ds (last_tile n level) in
+    let unit : 0 < p = pow_pos (8 * level) in
+    let rest : n ≡ m * p + n % p = omega arith in
+    let less : n % p < p = omega arith in
+    let place : m / 256 * 2 ^ (8 * (level + 1)) ≡ n / 2 ^ (8 * (level + 1)) * 2 ^ (8 * (level + 1)) = ap (λ q. q * 2 ^ (8 * (level + 1))) (level_count n level) in
+    let a = m / 256 * 2 ^ (8 * (level + 1)) in
+    let whole : m ≡ 256 * (m / 256) + m % 256 = omega arith in
+    let parts : m * p ≡ a + m % 256 * p = omega (arith, ap (λ k. k * p) whole, ap (λ k. m / 256 * k) (pow_up level)) in
+    let tail : length (drop (m * p) ds) ≡ n % p = omega (arith, length-drop (m * p) ds, count, rest) in
+    let left : length (drop a ds) ≡ length ds - a = length-drop a ds in
+    elim (cases_lt 0 (n % p)) [
+      | inl some ↦
+          let xs = digests ++ root_of H (drop (m * p) ds) ∷ [] in
+          ap (λ o. root_if H (digests ++ option_to_list o)) (root_if_some H (drop (m * p) ds) (omega (arith, tail, some)))
+          ∙ root_if_some H xs (omega (arith, length-append digests (root_of H (drop (m * p) ds) ∷ [])))
+          ∙ ap Some (step_odd H ds level m (omega (arith, count, rest, some)) (omega (arith, count, rest, less)))
+          ∙ sym (root_if_some H (drop a ds) (omega (arith, left, count, rest, parts, some))) ∙ ap (λ b. root_if H (drop b ds)) place
+      | inr none ↦
+          let even : length ds ≡ m * p = omega (arith, count, rest, none) in
+          ap (λ o. root_if H (digests ++ option_to_list o)) (root_if_none H (drop (m * p) ds) (omega (arith, tail, none))) ∙ ap (root_if H) (append-nil digests)
+          ∙ elim (cases_lt 0 (m % 256)) [
+            | inl some ↦
+                let least : 1 * p ≤ m % 256 * p = omega (arith, mul-le-mul_left p some) in
+                root_if_some H digests (omega (arith, tile_count H ds (last_tile n level), some)) ∙ ap Some (step_even H ds level m even some)
+                ∙ sym (root_if_some H (drop a ds) (omega (arith, left, even, parts, least, unit)))
+            | inr few ↦
+                let zero_left : m % 256 * p ≡ 0 * p = ap (λ k. k * p) (zero_of (m % 256) few) in
+                root_if_none H digests (omega (arith, tile_count H ds (last_tile n level), few)) ∙ sym (root_if_none H (drop a ds) (omega (arith, left, even, parts, zero_left)))
+          ] ∙ ap (λ b. root_if H (drop b ds)) place
+    ]
+  where
+    zero_of : (x : ℕ) → x ≤ 0 → x ≡ 0
+    zero_of x le = omega arith
+
+-- the root that is there
+pub root_found : (H : List ℕ → List ℕ) (ds : List (List ℕ)) (o : Option (List ℕ)) (r : List ℕ) → o ≡ root_if H ds → o ≡ Some r → r ≡ root_of H ds
+root_found H [] o r is some = let e = sym some ∙ is in cc e
+root_found H (d ∷ ds) o r is some = let e = sym some ∙ is in cc e
+
+-- and that of no digests
+pub root_lacks : (H : List ℕ → List ℕ) (ds : List (List ℕ)) (o : Option (List ℕ)) → o ≡ root_if H ds → o ≡ None → H [] ≡ root_of H ds
+root_lacks H [] o is none = refl
+root_lacks H (d ∷ ds) o is none = let e = sym none ∙ is in cc e
+
+-- nothing is behind the first level's nodes
+pub root_begin : (H : List ℕ → List ℕ) (ds : List (List ℕ)) (n m : ℕ) → length ds ≡ n → m ≡ n → None ≡ root_if H (drop m ds)
+root_begin H ds n m count all = sym (root_if_none H (drop m ds) (omega (arith, length-drop m ds)))
+
+-- all is behind the last level's tiles
+pub root_end : (H : List ℕ → List ℕ) (ds : List (List ℕ)) (n level : ℕ) → n ≤ 2 ^ 63 → level ≡ 8 → root_if H (drop (n / 2 ^ (8 * level) * 2 ^ (8 * level)) ds) ≡ root_if H ds
+root_end H ds n level most last =
+    let first : n / 2 ^ (8 * 8) * 2 ^ (8 * 8) ≡ 0 = omega arith in
+    ap (λ l. root_if H (drop (n / 2 ^ (8 * l) * 2 ^ (8 * l)) ds)) last ∙ ap (λ a. root_if H (drop a ds)) first

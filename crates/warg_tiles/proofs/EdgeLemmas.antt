@@ -246,3 +246,14 @@ pair_put old a b ds es p q = ap (λ u. old ++ (u, ds) ∷ []) p ∙ ap (λ d. ol
 pub width_none : edge_width 8 0 ≡ 0
 unfolding edge_width
 width_none = refl
+
+-- the parts of an edge at its lowest level
+pub edge_split : (H : List ℕ → List ℕ) (ds edge : List (List ℕ)) (level count : ℕ) → level < 8 → edge ≡ edge_from H ds level count
+    → (take (length edge - count % 256) edge ≡ edge_from H ds (level + 1) (count / 256))
+      × (drop (length edge - count % 256) edge ≡ tile_digests H ds (record { level = level; number = count / 256; width = count % 256 }))
+edge_split H ds edge level count low is =
+    let above = edge_from H ds (level + 1) (count / 256) in
+    let digests = tile_digests H ds (record { level = level; number = count / 256; width = count % 256 }) in
+    let whole : edge ≡ above ++ digests = is ∙ edge_step H ds level count low in
+    let size : length edge - count % 256 ≡ length above = omega (arith, ap length whole, length-append above digests, tile_count H ds (record { level = level; number = count / 256; width = count % 256 })) in
+    (ap (λ n. take n edge) size ∙ ap (take (length above)) whole ∙ take-append_seam above digests, ap (λ n. drop n edge) size ∙ ap (drop (length above)) whole ∙ drop-append_seam above digests)

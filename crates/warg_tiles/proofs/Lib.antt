@@ -11,3 +11,5 @@ mod TextLemmas
 mod EdgeLemmas
 mod PushLemmas
 mod ChunkLemmas
+mod PartialLemmas
+mod OpenLemmas

@@ -23,7 +23,7 @@ level_count n level =
     div-div-eq-div-mul n (2 ^ (8 * level)) 256 ∙ ap (λ p. n / p) size
 
 -- the digests of the partial tiles of some levels of a length
-edge_at : (List ℕ → List ℕ) → List (List ℕ) → ℕ → ℕ → ℕ → List (List ℕ)
+unfoldable pub edge_at : (List ℕ → List ℕ) → List (List ℕ) → ℕ → ℕ → ℕ → List (List ℕ)
 edge_at H ds n zero level = []
 edge_at H ds n (suc levels) level = edge_at H ds n levels (level + 1) ++ tile_digests H ds (last_tile n level)
 
@@ -34,7 +34,7 @@ edge_at_is H ds n (suc levels) level =
     ap (λ c. edge_within H ds levels (level + 1) c ++ tile_digests H ds (last_tile n level)) (level_count n level)
     ∙ ap (λ l. l ++ tile_digests H ds (last_tile n level)) (edge_at_is H ds n levels (level + 1))
 
-levels_flat : (H : List ℕ → List ℕ) (ds : List (List ℕ)) (n : ℕ) → flat_map (λ level. tile_digests H ds (last_tile n level)) (7 ∷ 6 ∷ 5 ∷ 4 ∷ 3 ∷ 2 ∷ 1 ∷ 0 ∷ []) ≡ edge_at H ds n 8 0
+pub levels_flat : (H : List ℕ → List ℕ) (ds : List (List ℕ)) (n : ℕ) → flat_map (λ level. tile_digests H ds (last_tile n level)) (7 ∷ 6 ∷ 5 ∷ 4 ∷ 3 ∷ 2 ∷ 1 ∷ 0 ∷ []) ≡ edge_at H ds n 8 0
 unfolding edge_at
 levels_flat H ds n = simp (append_assoc, append-nil)
 

@@ -1,13 +1,13 @@
 //! A log that keeps its right edge alone.
 
-ghost use Rattle.std.specs.Prelude.{◌≡◌, ℕ, ◌+◌, ◌-◌, ◌*◌, ◌^◌, ◌<◌, ◌≤◌, ◌↔◌, List, [], ◌∷◌, ◌++◌, Some, None, length, map, take, Err, IsTrue, IfOk, OnOk, OnErr};
+ghost use Rattle.std.specs.Prelude.{◌≡◌, ℕ, ◌+◌, ◌-◌, ◌*◌, ◌/◌, ◌%◌, ◌^◌, ◌<◌, ◌≤◌, ◌↔◌, List, [], ◌∷◌, ◌++◌, Some, None, length, map, take, Err, IsTrue, IfOk, IfErr, OnOk, OnErr};
 ghost use Rattle.std.specs.List.{AllByRecursion};
 ghost use Rattle.std.specs.Option.{option_to_list};
 ghost use Rattle.warg_crypto.specs.Tree.{leaf_digest};
 ghost use Rattle.warg_log.specs.Tree.{root_of, own_digest};
 ghost use Rattle.warg_tiles.specs.TileData.{IsTileBy};
-ghost use Rattle.warg_tiles.specs.TileLog.{StandsFor, AreTilesOf, partial_tiles, full_between, completed_from, tiles_fault};
-ghost use Rattle.warg_tiles.specs.Private.Edges.{width_from, edge_from, EndsWith, AreAdded, root_if};
+ghost use Rattle.warg_tiles.specs.TileLog.{StandsFor, AreTilesOf, partial_tiles, full_between, completed_from, tile_fault, tiles_fault};
+ghost use Rattle.warg_tiles.specs.Private.Edges.{width_from, edge_from, EndsWith, AreAdded, root_if, tile_behind, partial_from, joined};
 
 use crate::error::OpenError;
 use crate::root::root_over;
@@ -73,13 +73,9 @@ impl<D: SupportedDigest, V: VisitBytes, A: Allocator + Copy> TileLog<D, V, A> {
         ensures place { (result ≡ Err OpenError.Place) ↔ (tiles_fault (partial_tiles log_length) (map (λ t. t.tile) tiles.now) ≡ Some OpenError.Place) }
         ensures width { (result ≡ Err OpenError.Width) ↔ (tiles_fault (partial_tiles log_length) (map (λ t. t.tile) tiles.now) ≡ Some OpenError.Width) }
     {
-        check_tiles(log_length, tiles)?;
+        check_tiles(0, log_length, tiles)?;
         let mut edge = Vec::new(alloc);
-        'tiles: for tile in tiles.iter().rev() {
-            'digests: for digest in tile.digests.as_slice() {
-                edge.push(digest.copied()).map_err(AllocError::from)?;
-            }
-        }
+        push_digests(&mut edge, tiles)?;
         Ok(TileLog {
             count: log_length,
             taken: log_length,
@@ -122,18 +118,7 @@ impl<D: SupportedDigest, V: VisitBytes, A: Allocator + Copy> TileLog<D, V, A> {
     pub fn partial(&self, alloc: A) -> Result<Vec<StoredTile<D, A>, A>, AllocError>
         ensures { IfOk result (λ tiles. (ds : List (List ℕ)) → StandsFor D.digest self.now ds → AreTilesOf D.digest ds (partial_tiles self.now.len) (map (λ t. (t.tile, t.digests.items)) tiles.items)) }
     {
-        let mut tiles = Vec::new(alloc);
-        let mut rest = self.edge.as_slice();
-        'levels: for level in 0..8 {
-            let count = self.count >> (8 * level);
-            let (above, digests) = rest.split_at(rest.len() - count % 256);
-            if !digests.is_empty() {
-                let tile = Tile::new(level, count / 256, digests.len());
-                tiles.push(StoredTile::new(tile, copies(alloc, digests)?))?;
-            }
-            rest = above;
-        }
-        Ok(tiles)
+        partial_tiles(alloc, self.edge.as_slice(), self.count)
     }
 }
 
@@ -176,15 +161,7 @@ impl<D: SupportedDigest, V: VisitBytes, A: Allocator + Copy> LogBuilder<D, V> fo
         ensures length { result.length ≡ self.now.len }
         ensures fits { self.now.len ≤ 2 ^ 63 }
     {
-        let mut root = None;
-        let mut rest = self.edge.as_slice();
-        'levels: for level in 0..8 {
-            let width = (self.count >> (8 * level)) % 256;
-            let (above, digests) = rest.split_at(rest.len() - width);
-            root = root_with(digests, root);
-            rest = above;
-        }
-        match root {
+        match root_of_edge(self.edge.as_slice(), self.count) {
             Some(root) => Checkpoint::new(root, self.count),
             None => Checkpoint::new(hash_empty(), self.count),
         }
@@ -193,31 +170,98 @@ impl<D: SupportedDigest, V: VisitBytes, A: Allocator + Copy> LogBuilder<D, V> fo
     ghost stands_len = { λ s ds stands. stands.count };
 }
 
-// The first fault of tiles that aren't the partial tiles of a length.
+// The partial tiles of a log of this length, out of its right edge.
+fn partial_tiles<D, A: Allocator + Copy>(
+    alloc: A,
+    edge: &[Hash<D>],
+    count: usize,
+) -> Result<Vec<StoredTile<D, A>, A>, AllocError>
+    requires fits { count ≤ 2 ^ 63 }
+    requires width { length edge.now ≡ width_from 0 count }
+    ensures { IfOk result (λ tiles. (H : List ℕ → List ℕ) (ds : List (List ℕ)) → length ds ≡ count → edge.now ≡ edge_from H ds 0 count → AreTilesOf H ds (partial_tiles count) (map (λ t. (t.tile, t.digests.items)) tiles.items)) }
+{
+    let mut tiles = Vec::new(alloc);
+    let mut rest = edge;
+    'levels: for level in 0..8u32 {
+        let places = count >> (8 * level);
+        let (above, digests) = rest.split_at(rest.len() - places % 256);
+        push_partial(&mut tiles, level, places, digests)?;
+        rest = above;
+    }
+    Ok(tiles)
+}
+
+// Adds the partial tile of a level that has so many nodes, if there is one.
+fn push_partial<D, A: Allocator + Copy>(
+    tiles: &mut Vec<StoredTile<D, A>, A>,
+    level: u32,
+    places: usize,
+    digests: &[Hash<D>],
+) -> Result<(), AllocError>
+    requires level { level < 8 }
+    requires count { length digests.now ≡ places % 256 }
+    ensures none { OnOk result (places % 256 ≡ 0 → tiles.new.items ≡ tiles.old.items) }
+    ensures some { OnOk result (0 < places % 256 → map (λ t. (t.tile, t.digests.items)) tiles.new.items ≡ tile_behind (map (λ t. (t.tile, t.digests.items)) tiles.old.items) (record { level = level; number = places / 256; width = places % 256 }) digests.now) }
+{
+    if digests.is_empty() {
+        return Ok(());
+    }
+    let tile = Tile::new(level, places / 256, digests.len());
+    let digests = copies(*tiles.allocator(), digests)?;
+    tiles.push(StoredTile::new(tile, digests))?;
+    Ok(())
+}
+
+// The root of a log of this length, out of its right edge; none of no entries.
+fn root_of_edge<D: SupportedDigest>(edge: &[Hash<D>], count: usize) -> Option<Hash<D>>
+    requires fits { count ≤ 2 ^ 63 }
+    requires width { length edge.now ≡ width_from 0 count }
+    ensures { (ds : List (List ℕ)) → length ds ≡ count → edge.now ≡ edge_from D.digest ds 0 count → result ≡ root_if D.digest ds }
+{
+    let mut root = None;
+    let mut rest = edge;
+    'levels: for level in 0..8u32 {
+        let width = (count >> (8 * level)) % 256;
+        let (above, digests) = rest.split_at(rest.len() - width);
+        root = root_with(digests, root);
+        rest = above;
+    }
+    root
+}
+
+// The first fault of tiles that aren't the partial tiles of a length from a level on.
 fn check_tiles<D, A: Allocator>(
-    length: usize,
+    level: u32,
+    log_length: usize,
     tiles: &[StoredTile<D, A>],
-) -> Result<(), OpenError> {
-    let mut rest = tiles;
-    'levels: for level in 0..8 {
-        let count = length >> (8 * level);
-        if count % 256 != 0 {
-            let Some((first, others)) = rest.split_first() else {
-                return Err(OpenError::Count);
-            };
-            check_tile(&Tile::new(level, count / 256, count % 256), &first.tile)?;
-            rest = others;
-        }
+) -> Result<(), OpenError>
+    requires { level ≤ 8 }
+    ensures ok { OnOk result (tiles_fault (partial_from log_length level) (map (λ t. t.tile) tiles.now) ≡ None) }
+    ensures err { IfErr result (λ e. tiles_fault (partial_from log_length level) (map (λ t. t.tile) tiles.now) ≡ Some e) }
+{
+    if level == 8 {
+        return if tiles.is_empty() {
+            Ok(())
+        } else {
+            Err(OpenError::Count)
+        };
     }
-    if rest.is_empty() {
-        Ok(())
-    } else {
-        Err(OpenError::Count)
+    let places = log_length >> (8 * level);
+    if places % 256 == 0 {
+        return check_tiles(level + 1, log_length, tiles);
     }
+    let Some((first, others)) = tiles.split_first() else {
+        return Err(OpenError::Count);
+    };
+    check_tile(&Tile::new(level, places / 256, places % 256), &first.tile)?;
+    check_tiles(level + 1, log_length, others)
 }
 
 // The fault of a tile in another's place.
-fn check_tile(wanted: &Tile, given: &Tile) -> Result<(), OpenError> {
+fn check_tile(wanted: &Tile, given: &Tile) -> Result<(), OpenError>
+    ensures ok { OnOk result (tile_fault wanted.now given.now ≡ None) }
+    ensures err { IfErr result (λ e. tile_fault wanted.now given.now ≡ Some e) }
+{
     if wanted.level() != given.level() || wanted.number() != given.number() {
         return Err(OpenError::Place);
     }
@@ -225,6 +269,21 @@ fn check_tile(wanted: &Tile, given: &Tile) -> Result<(), OpenError> {
         return Err(OpenError::Width);
     }
     Ok(())
+}
+
+// Writes the digests of tiles, those of the last one first.
+fn push_digests<D, A: Allocator + Copy>(
+    edge: &mut Vec<Hash<D>, A>,
+    tiles: &[StoredTile<D, A>],
+) -> Result<(), AllocError>
+    ensures { OnOk result (edge.new.items ≡ edge.old.items ++ joined (map (λ t. t.digests.items) tiles.now)) }
+{
+    let Some((first, rest)) = tiles.split_first() else {
+        return Ok(());
+    };
+    push_digests(edge, rest)?;
+    let mut digests = copies(*edge.allocator(), first.digests.as_slice())?;
+    edge.append(&mut digests)
 }
 
 // Puts a node's digest behind the right edge from a level on, where so many nodes of the level stand before it. Each tile

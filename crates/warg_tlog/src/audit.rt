@@ -1,6 +1,7 @@
 //! The command that makes each tile again.
 
-ghost use Rattle.std.specs.Prelude.{◌≡◌};
+ghost use Rattle.std.specs.Prelude.{◌≡◌, IfOk, OnOk};
+ghost use Rattle.warg_tlog.specs.Audited.{HasEntries, IsOfEntries};
 
 use crate::bundle::{entries_of, read_bundle};
 use crate::checkpoints::read_checkpoint;
@@ -13,12 +14,15 @@ use warg_crypto::Sha256;
 use warg_log::{Checkpoint, LogBuilder};
 use warg_tiles::{StoredTile, Tile, TileLog};
 
-/// Reads every entry of the log, makes each tile again, and compares. `Damaged` names the first file that differs.
-pub fn audit(rt: &HostRuntime, folder: &Folder) -> Result<Checkpoint<Sha256>, Refusal> {
+/// Reads every entry of the log, makes each tile again, and compares. `Damaged` names the first file that differs. A
+/// checkpoint that passes is that of entries: those that were read.
+pub fn audit(rt: &HostRuntime, folder: &Folder) -> Result<Checkpoint<Sha256>, Refusal>
+    ensures { IfOk result IsOfEntries }
+{
     let checkpoint = read_checkpoint(rt, folder)?.checkpoint();
     let mut log = TileLog::new(rt.alloc());
     let mut progress = Progress::new();
-    for number in 0..checkpoint.length().div_ceil(256) {
+    'bundles: for number in 0..checkpoint.length().div_ceil(256) {
         let width = (checkpoint.length() - 256 * number).min(256);
         push_bundle(
             rt,
@@ -30,14 +34,12 @@ pub fn audit(rt: &HostRuntime, folder: &Folder) -> Result<Checkpoint<Sha256>, Re
         compare_tiles(rt, folder, log.take_full().as_slice())?;
     }
     compare_tiles(rt, folder, log.partial(rt.alloc())?.as_slice())?;
-    if log.checkpoint() != checkpoint {
-        return Err(folder.damaged(
-            rt.alloc(),
-            "checkpoint",
-            "has another root than the log's entries",
-        ));
+    let found = log.checkpoint();
+    if found == checkpoint {
+        return Ok(found);
     }
-    Ok(checkpoint)
+    let fault = "has another root than the log's entries";
+    Err(folder.damaged(rt.alloc(), "checkpoint", fault))
 }
 
 // Adds the entries of a bundle.
@@ -48,12 +50,14 @@ fn push_bundle(
     tile: &Tile,
     progress: &mut Progress,
 ) -> Result<(), Refusal>
-    requires { tile.now.level ≡ 0 }
+    requires level { tile.now.level ≡ 0 }
+    requires has { HasEntries log.old }
+    ensures { OnOk result (HasEntries log.new) }
 {
     let bytes = read_bundle(rt, folder, tile)?;
     let entries = entries_of(rt, folder, tile, bytes.as_slice())?;
     let mut bytes = Vec::new(rt.alloc());
-    for entry in entries.as_slice() {
+    'entries: for entry in entries.as_slice() {
         bytes.clear();
         bytes.extend_from_slice(entry)?;
         push_entry(log, &bytes)?;

@@ -1,6 +1,7 @@
 //! A log in a folder that goes on from its right edge.
 
-ghost use Rattle.std.specs.Prelude.{◌≡◌};
+ghost use Rattle.std.specs.Prelude.{◌≡◌, OnOk};
+ghost use Rattle.warg_tlog.specs.Audited.{HasEntries};
 
 use crate::bundle::{Bundle, damaged_bundle, entries_of, read_bundle};
 use crate::folder::Folder;
@@ -60,7 +61,9 @@ impl GrowingLog {
 }
 
 /// Adds an entry to a log, unless it is full.
-pub fn push_entry(log: &mut TileLog<Sha256, Vec<u8>>, entry: &Vec<u8>) -> Result<(), Refusal> {
+pub fn push_entry(log: &mut TileLog<Sha256, Vec<u8>>, entry: &Vec<u8>) -> Result<(), Refusal>
+    ensures { OnOk result (HasEntries log.old → HasEntries log.new) }
+{
     if log.length() >= GREATEST_LENGTH {
         return Err(Refusal::NoMoreEntries);
     }

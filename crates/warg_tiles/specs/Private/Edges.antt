@@ -1,10 +1,11 @@
 -- The right edge of a log, level by level.
-use Rattle.std.specs.Prelude.{◌≡◌, ℕ, zero, suc, ◌+◌, ◌-◌, ◌*◌, ◌/◌, ◌%◌, ◌^◌, List, [], ◌∷◌, ◌++◌, length, Option, Some, None}
+use Rattle.std.specs.Prelude.{◌≡◌, ℕ, zero, suc, ◌+◌, ◌-◌, ◌*◌, ◌/◌, ◌%◌, ◌^◌, List, [], ◌∷◌, ◌++◌, length, map, filter, nat_lt, Option, Some, None}
+use Rattle.std.specs.List.{range_with_len}
 use Rattle.warg_log.specs.Nodes.{number_of}
 use Rattle.warg_log.specs.Tree.{root_of, leaves_below}
 use Rattle.warg_tiles.specs.Tiles.{TileAt}
 use Rattle.warg_tiles.specs.TileData.{Tiles}
-use Rattle.warg_tiles.specs.TileLog.{tile_digests, AreTilesOf}
+use Rattle.warg_tiles.specs.TileLog.{last_tile, tile_digests, AreTilesOf}
 
 -- The digits of a number in base 256, so many of them, added up: the digests of the partial tiles of so many levels.
 unfoldable pub edge_width : ℕ → ℕ → ℕ
@@ -40,3 +41,16 @@ AreAdded H ds expected old new = (more : Tiles) × (new ≡ old ++ more) × AreT
 abbrev pub root_if : (List ℕ → List ℕ) → List (List ℕ) → Option (List ℕ)
 root_if H [] = None
 root_if H (d ∷ ds) = Some (root_of H (d ∷ ds))
+
+-- Tiles with one more behind them.
+abbrev pub tile_behind : Tiles → TileAt → List (List ℕ) → Tiles
+tile_behind old t digests = old ++ (t, digests) ∷ []
+
+-- The partial tiles of a length from a level on.
+abbrev pub partial_from : ℕ → ℕ → List TileAt
+partial_from n level = filter (λ t. nat_lt 0 t.width) (map (last_tile n) (range_with_len level (8 - level)))
+
+-- Lists of digests one behind the other, the last one first.
+abbrev pub joined : List (List (List ℕ)) → List (List ℕ)
+joined [] = []
+joined (digests ∷ more) = joined more ++ digests

@@ -1,0 +1,14 @@
+-- What an audit that passes has found: entries whose tree has the checkpoint's root.
+use Rattle.std.specs.Prelude.{◌≡◌, ℕ, List, length}
+use Rattle.warg_crypto.specs.Digests.{sha256}
+use Rattle.warg_log.specs.Claims.{RootAndLength}
+use Rattle.warg_log.specs.Tree.{root_of, leaves_of}
+use Rattle.warg_tiles.specs.TileLog.{RightEdge, StandsFor}
+
+-- The log stands for the leaf digests of some entries.
+abbrev pub HasEntries : RightEdge → Type 0
+HasEntries log = (entries : List (List ℕ)) × StandsFor sha256 log (leaves_of sha256 entries)
+
+-- Some entries, as many as the checkpoint has, are those of a tree with its root (RFC 6962, section 2.1).
+abbrev pub IsOfEntries : RootAndLength → Type 0
+IsOfEntries checkpoint = (entries : List (List ℕ)) × (length entries ≡ checkpoint.length) × (root_of sha256 (leaves_of sha256 entries) ≡ checkpoint.root)
