@@ -14,7 +14,6 @@ use Rattle.warg_log.specs.Cut.{joined}
 use Rattle.warg_log.proofs.ForCallers.{front_is_greatest, pow_below_pow}
 use Rattle.warg_paths.specs.Paths.{beside, inclusion_over, inclusion_of, inclusion_root, root_down}
 use Rattle.warg_paths.proofs.MakeLemmas.{inclusion_one, inclusion_front, inclusion_rest}
-use Rattle.warg_crypto.proofs.ForCallers.{HasSize}
 
 -- a branch that is there has both parts
 record IsJoined (H : List ℕ → List ℕ) (left right : Option (List ℕ)) (root : List ℕ) : Type 0 where

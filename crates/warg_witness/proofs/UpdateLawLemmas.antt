@@ -25,7 +25,6 @@ use Rattle.warg_witness.proofs.KeyLemmas.{plain_root_is, branch_placed, branch_c
 use Rattle.warg_witness.proofs.KeyLawLemmas.{holds_plain, holds_leaf}
 use Rattle.warg_witness.proofs.UpdateLemmas.{grown_root_is, beside_at_target}
 use Rattle.warg_map.proofs.ForCallers.{all_bits, last_held, root_at_prefix, replaced_root, absent_replaced_root, absent_root}
-use Rattle.warg_crypto.proofs.ForCallers.{HasSize}
 
 -- a claim that is met and isn't true
 pub update_collides : (H : List ℕ → List ℕ) (peers : List (Option (List ℕ))) (key old new : List ℕ) (insertions : List (List ℕ × List ℕ)) → HasSize H → HoldsPeers peers
