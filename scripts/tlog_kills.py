@@ -21,6 +21,7 @@ FEW = 520  # so many entries at the start, and in the runs that are killed behin
 libc = ctypes.CDLL(None, use_errno=True)
 TRACEME, SYSCALL, GETREGS, KILL_WITH_US = 0, 24, 12, 0x00100000
 SETOPTIONS, SYSGOOD = 0x4200, 1
+NOT_TRACED = 99
 # x86-64: open, creat, write, ftruncate, mkdir, rename, unlink, openat, flock
 CHANGES = {2, 85, 1, 77, 83, 82, 87, 257, 73, 263, 264, 316}
 
@@ -98,9 +99,12 @@ def traced(program, log, given, stop_behind):
     child = os.fork()
     if not child:
         os.dup2(os.open(given, os.O_RDONLY), 0)
-        libc.ptrace(TRACEME, 0, 0, 0)
+        if libc.ptrace(TRACEME, 0, 0, 0):
+            os._exit(NOT_TRACED)
         os.execv(program, [program, "append", str(log)])
-    os.waitpid(child, 0)
+    _, status = os.waitpid(child, 0)
+    if os.WIFEXITED(status):
+        raise PermissionError("no run can be traced here")
     libc.ptrace(SETOPTIONS, child, 0, SYSGOOD | KILL_WITH_US)
     registers = (ctypes.c_ulonglong * 27)()
     entered, changes = False, 0
@@ -149,8 +153,11 @@ def main():
         for log, entries in ((few, ENTRIES[:FEW]), (whole, ENTRIES)):
             shutil.copytree(start, log)
             run(program, "append", str(log), entries=entries[300:])
-        calls = each_call(program, room, start, ENTRIES[:FEW], files(few))
-        print(f"killed behind each of {calls} calls that change a file: each log goes on to the same files")
+        try:
+            calls = each_call(program, room, start, ENTRIES[:FEW], files(few))
+            print(f"killed behind each of {calls} calls that change a file: each log goes on to the same files")
+        except PermissionError as error:
+            print(f"not killed behind single calls: {error}")
         killed = random_moments(program, room, start, ENTRIES, files(whole), times)
         print(f"killed at {times} random moments of an append of {len(ENTRIES) - 300} entries, {killed} of them before its end:"
               " each log goes on to the same files")
