@@ -9,7 +9,7 @@ ghost use Rattle.warg_witness.specs.PathClaims.{IsTreeMet};
 ghost use Rattle.warg_witness.specs.TreePlaced.{IsTreePlaced};
 ghost use Rattle.warg_witness.specs.Ranges.{IsAround};
 ghost use Rattle.warg_log.specs.Ranges.{IsAligned};
-ghost use Rattle.warg_witness.specs.Private.TreeDivergence.{IsTreeMeeting, LeadsOver, IsBranchDivergence, IsTurnDivergence, IsTreeDivergence};
+ghost use Rattle.warg_witness.specs.Private.TreeDivergence.{IsTreeMeeting, LeadsOver, IsTurnDivergence, IsTreeDivergence};
 
 use super::{MOST_LEAVES, branch_divergence};
 use crate::collide::collide_values;
