@@ -74,7 +74,7 @@ edge_count H ds (suc levels) level count =
 -- a digest of a tile more
 pub digests_more : (H : List ℕ → List ℕ) (ds : List (List ℕ)) (level number width : ℕ)
     → tile_digests H ds (record { level = level; number = number; width = width + 1 })
-      ≡ tile_digests H ds (record { level = level; number = number; width = width }) ++ root_of H (leaves_below (number_of (8 * level) (256 * number + width)) ds) ∷ []
+    ≡ tile_digests H ds (record { level = level; number = number; width = width }) ++ root_of H (leaves_below (number_of (8 * level) (256 * number + width)) ds) ∷ []
 digests_more H ds level number width = map-range_with_len_more (λ i. root_of H (leaves_below (number_of (8 * level) (256 * number + i)) ds)) 0 width width (omega arith)
 
 -- a tile's digest at a place
@@ -250,7 +250,7 @@ width_none = refl
 -- the parts of an edge at its lowest level
 pub edge_split : (H : List ℕ → List ℕ) (ds edge : List (List ℕ)) (level count : ℕ) → level < 8 → edge ≡ edge_from H ds level count
     → (take (length edge - count % 256) edge ≡ edge_from H ds (level + 1) (count / 256))
-      × (drop (length edge - count % 256) edge ≡ tile_digests H ds (record { level = level; number = count / 256; width = count % 256 }))
+    × (drop (length edge - count % 256) edge ≡ tile_digests H ds (record { level = level; number = count / 256; width = count % 256 }))
 edge_split H ds edge level count low is =
     let above = edge_from H ds (level + 1) (count / 256) in
     let digests = tile_digests H ds (record { level = level; number = count / 256; width = count % 256 }) in

@@ -1,1 +1,2 @@
 pub mod CollisionLemmas
+mod TileCallers

@@ -7,5 +7,6 @@ pub mod crypto;
 pub mod log;
 pub mod map;
 pub mod paths;
+pub mod tiles;
 pub mod verdict;
 pub mod witness;

@@ -28,7 +28,7 @@ levels-preserved g c =
           ∙ ap (edge_from g.D.SupportedDigest.digest ds (c.levels.level + 1)) (level_count c.args.count c.levels.level);
       root = λ ds n is. c.root_with-root.ensures
           ∙ ap (λ d. root_if g.D.SupportedDigest.digest (d ++ option_to_list c.levels.root))
-              (c.split_at.ensures.back ∙ (edge_split g.D.SupportedDigest.digest ds c.levels.rest.now c.levels.level (c.args.count / 2 ^ (8 * c.levels.level)) c.levels-test.true (c.levels.invariant.edge ds n is)).1)
+          (c.split_at.ensures.back ∙ (edge_split g.D.SupportedDigest.digest ds c.levels.rest.now c.levels.level (c.args.count / 2 ^ (8 * c.levels.level)) c.levels-test.true (c.levels.invariant.edge ds n is)).1)
           ∙ ap (λ o. root_if g.D.SupportedDigest.digest (tile_digests g.D.SupportedDigest.digest ds (last_tile c.args.count c.levels.level) ++ option_to_list o)) (c.levels.invariant.root ds n is)
           ∙ root_step g.D.SupportedDigest.digest ds c.levels.level c.args.count n;
     }
