@@ -1,19 +1,17 @@
 -- The right edge of a log, level by level.
-use Rattle.std.proofs.Common.{◌≡◌, ℕ, zero, suc, ◌+◌, ◌-◌, ◌*◌, ◌/◌, ◌%◌, ◌^◌, ◌<◌, ◌≤◌, ◌==◌, nat_le, true, false, if◌then◌else◌, List, [], ◌∷◌, ◌++◌, length, take, drop, map, slice_index_or, Option, Some, None, Result, Ok, Err, refl, sym, ap, subst, ◌∙◌, arith}
-use Rattle.std.specs.Prelude.{IfOk, OnOk}
-use Rattle.std.specs.List.{AllByRecursion, flat_map, range_with_len}
-use Rattle.std.proofs.Math.Nat.{div-div-eq-div-mul}
+use Rattle.std.proofs.Common.{◌≡◌, ℕ, zero, suc, ◌+◌, ◌-◌, ◌*◌, ◌/◌, ◌%◌, ◌^◌, ◌<◌, ◌≤◌, ◌==◌, if◌then◌else◌, List, [], ◌∷◌, ◌++◌, length, take, drop, map, slice_index_or, Some, None, Result, Ok, Err, refl, sym, ap, subst, ◌∙◌, arith}
+use Rattle.std.specs.Prelude.{IfOk}
 use Rattle.std.proofs.Math.Seq.{take-append_seam, drop-append_seam}
-use Rattle.std.proofs.lemmas.Nat.{pow_pos, pow-add}
+use Rattle.std.proofs.lemmas.Nat.{pow-add}
 use Rattle.std.proofs.lemmas.Bool.{le-leb, ne_eqb, eq-eqb}
-use Rattle.std.proofs.lemmas.List.{append_assoc, append-nil, length-append, take-append-le, drop-append-le, take-append-drop, length-drop}
+use Rattle.std.proofs.lemmas.List.{append_assoc, append-nil, length-append, take-append-le, take-append-drop, length-drop}
 use Rattle.std.proofs.lemmas.List.FromFn.{length-map-range_with_len, get_or-map-range_with_len, map-range_with_len_more}
-use Rattle.warg_log.specs.Nodes.{height_of, place_of, start_of, end_of, number_of}
+use Rattle.warg_log.specs.Nodes.{height_of, end_of, number_of}
 use Rattle.warg_log.specs.Tree.{root_of, root_over, leaves_below, own_digest}
-use Rattle.warg_log.proofs.ForCallers.{over_at, root_over_one, pow_below_pow}
+use Rattle.warg_log.proofs.ForCallers.{over_at, pow_below_pow}
 use Rattle.warg_tiles.specs.Tiles.{TileAt, node_in}
 use Rattle.warg_tiles.specs.TileData.{Tiles, IsTileBy}
-use Rattle.warg_tiles.specs.TileLog.{last_tile, completed_from, tile_digests, edge_digests, AreTilesOf}
+use Rattle.warg_tiles.specs.TileLog.{completed_from, tile_digests}
 use Rattle.warg_tiles.specs.Private.Edges.{edge_width, width_from, edge_within, edge_from, EndsWith, AreAdded}
 use Rattle.warg_tiles.proofs.OwnLemmas.{roots_of_parts}
 

@@ -1,17 +1,17 @@
 -- A log that goes on from its partial tiles.
-use Rattle.std.proofs.Common.{◌≡◌, inl, inr, ℕ, zero, suc, ◌+◌, ◌-◌, ◌*◌, ◌/◌, ◌%◌, ◌^◌, ◌<◌, ◌≤◌, ◌==◌, ◌&&◌, Bool, true, false, cond, if◌then◌else◌, List, [], ◌∷◌, ◌++◌, length, map, filter, slice_index_or, Option, Some, None, refl, sym, ap, subst, ◌∙◌, arith}
+use Rattle.std.proofs.Common.{◌≡◌, inl, inr, ℕ, zero, suc, ◌+◌, ◌-◌, ◌*◌, ◌/◌, ◌%◌, ◌^◌, ◌<◌, ◌≤◌, ◌==◌, ◌&&◌, Bool, true, false, cond, if◌then◌else◌, List, [], ◌∷◌, ◌++◌, length, map, filter, slice_index_or, Option, Some, None, refl, sym, ap, ◌∙◌, arith}
 use Rattle.std.specs.Prelude.{nat_lt}
 use Rattle.std.specs.List.{AllByRecursion, flat_map, range_with_len}
 use Rattle.std.proofs.lemmas.Bool.{lt-ltb, le-ltb, cases_lt, eqb-true}
 use Rattle.std.proofs.lemmas.List.{append-nil, length-append}
-use Rattle.warg_log.specs.Tree.{own_digest, root_of, leaves_below}
+use Rattle.warg_log.specs.Tree.{own_digest}
 use Rattle.warg_log.specs.Decoding.{earlier}
 use Rattle.warg_tiles.specs.Tiles.{TileAt, node_in}
-use Rattle.warg_tiles.specs.TileData.{Tiles, IsTileBy}
-use Rattle.warg_tiles.specs.TileLog.{RightEdge, StandsFor, AreTilesOf, last_tile, partial_tiles, tile_digests, edge_digests, completed_at, tile_fault, tiles_fault}
+use Rattle.warg_tiles.specs.TileData.{IsTileBy}
+use Rattle.warg_tiles.specs.TileLog.{StandsFor, last_tile, partial_tiles, tile_digests, completed_at, tile_fault, tiles_fault}
 use Rattle.warg_tiles.specs.declared.error.OpenError.{OpenError}
 use Rattle.warg_tiles.specs.declared.error.OpenError.TheVariants.{Count, Place, Width}
-use Rattle.warg_tiles.specs.Private.Edges.{edge_width, edge_from, partial_from, joined}
+use Rattle.warg_tiles.specs.Private.Edges.{edge_width, partial_from, joined}
 use Rattle.warg_tiles.proofs.OwnLemmas.{own_is}
 use Rattle.warg_tiles.proofs.EdgeLemmas.{tile_count, digest_at_place}
 use Rattle.warg_tiles.proofs.PushLemmas.{level_count, edge_at, levels_flat}

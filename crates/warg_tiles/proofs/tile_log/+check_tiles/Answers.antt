@@ -1,8 +1,8 @@
-use Rattle.std.proofs.Common.{◌≡◌, ◌+◌, ◌*◌, ◌/◌, ◌%◌, ◌^◌, ◌<◌, Some, None, map, sym, ap, subst, ◌∙◌, arith}
-use Rattle.std.specs.Prelude.{IfErr, OnOk}
+use Rattle.std.proofs.Common.{◌≡◌, ◌+◌, ◌*◌, ◌/◌, ◌%◌, ◌^◌, ◌<◌, Some, map, sym, ap, subst, ◌∙◌, arith}
+use Rattle.std.specs.Prelude.{IfErr}
 use Rattle.std.proofs.lemmas.Result.{IfErr-weaker, on_ok_weaker}
 use Rattle.warg_log.specs.Decoding.{earlier}
-use Rattle.warg_tiles.specs.TileLog.{last_tile, tiles_fault}
+use Rattle.warg_tiles.specs.TileLog.{tiles_fault}
 use Rattle.warg_tiles.specs.Private.Edges.{partial_from}
 use Rattle.warg_tiles.proofs.BetweenLemmas.{same_tile}
 use Rattle.warg_tiles.proofs.TextLemmas.{err_same}

@@ -1,4 +1,4 @@
-use Rattle.std.proofs.Common.{◌≡◌, ◌<◌, ◌-◌, ◌+◌, ◌/◌, ◌%◌, [], ◌∷◌, ◌++◌, length, take, drop, map, sym, ap, ◌∙◌, rules, arith}
+use Rattle.std.proofs.Common.{◌/◌, [], ◌∷◌, ◌++◌, map, sym, ap, ◌∙◌, rules, arith}
 use Rattle.std.proofs.Math.Seq.{take-length}
 use Rattle.std.proofs.lemmas.List.{map-append}
 use Rattle.std.proofs.lemmas.Result.{IfOk-weaker, on_ok_weaker}

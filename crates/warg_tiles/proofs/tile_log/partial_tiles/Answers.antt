@@ -1,6 +1,5 @@
-use Rattle.std.proofs.Common.{◌≡◌, inl, inr, ◌+◌, ◌*◌, ◌/◌, ◌%◌, ◌^◌, ◌<◌, ◌++◌, map, sym, ap, subst, ◌∙◌, arith}
-use Rattle.std.proofs.lemmas.Bool.{cases_lt}
-use Rattle.warg_tiles.specs.TileLog.{last_tile, AreTilesOf}
+use Rattle.std.proofs.Common.{◌≡◌, ◌+◌, ◌*◌, ◌/◌, ◌^◌, map, ap, subst, ◌∙◌, arith}
+use Rattle.warg_tiles.specs.TileLog.{AreTilesOf}
 use Rattle.warg_tiles.specs.Private.Edges.{width_from, edge_from}
 use Rattle.warg_tiles.proofs.EdgeLemmas.{width_step, edge_split}
 use Rattle.warg_tiles.proofs.PushLemmas.{level_count}

@@ -1,4 +1,4 @@
-use Rattle.std.proofs.Common.{sym, ap, ◌∙◌}
+use Rattle.std.proofs.Common.{sym, ◌∙◌}
 use Rattle.warg_tiles.proofs.TextLemmas.{added_none, added_line, not_lines, some_of}
 use Rattle.warg_tiles.proofs.checkpoint_text.CheckpointText.read_extensions.Goals as goal
 

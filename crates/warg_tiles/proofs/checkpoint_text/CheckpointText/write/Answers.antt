@@ -1,4 +1,4 @@
-use Rattle.std.proofs.Common.{sym, ap, ◌∙◌}
+use Rattle.std.proofs.Common.{ap}
 use Rattle.warg_tiles.specs.CheckpointText.{Said}
 use Rattle.warg_tiles.proofs.TextLemmas.{text_written}
 use Rattle.warg_tiles.proofs.checkpoint_text.CheckpointText.write.Goals as goal

@@ -1,4 +1,4 @@
-use Rattle.std.proofs.Common.{◌≡◌, ◌++◌, [], length, map, sym, ap, subst, ◌∙◌, arith}
+use Rattle.std.proofs.Common.{◌++◌, length, map, sym, ap, subst, ◌∙◌, arith}
 use Rattle.warg_tiles.specs.TileLog.{StandsFor}
 use Rattle.warg_tiles.specs.Private.Edges.{joined}
 use Rattle.warg_tiles.proofs.OpenLemmas.{open_width, open_stands}
