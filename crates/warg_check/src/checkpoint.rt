@@ -82,7 +82,8 @@ pub fn check_growth<D: SupportedDigest, A: Allocator + Copy>(
     new: &Checkpoint<D>,
 ) -> Result<bool, CheckError>
     ensures verdict { Answers CheckError.Memory result
-        (growth_verdict D.digest bytes.now at old.now.length old.now.root new.now.length new.now.root) }
+        (growth_verdict D.digest bytes.now at old.now.length old.now.root new.now.length
+        new.now.root) }
     ensures memory { result ≢ Err (CheckError.Decode decoding.Memory) }
     ensures wire { result ≢ Err (CheckError.Decode (decoding.Wire wire.Memory)) }
 {

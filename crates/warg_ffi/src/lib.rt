@@ -75,7 +75,8 @@ pub extern "C" fn warg_check_growth(
     new_root: &[u8],
 ) -> i32
     ensures { Returns (old_root.now ∷ new_root.now ∷ [])
-        (growth_verdict sha256 bundle.now at old_length old_root.now new_length new_root.now) result }
+        (growth_verdict sha256 bundle.now at old_length old_root.now new_length
+        new_root.now) result }
 {
     match (
         Hash::<Sha256>::try_from(old_root),
@@ -188,7 +189,8 @@ pub extern "C" fn warg_check_update(
     new_root: &[u8],
 ) -> i32
     ensures { Returns (old_root.now ∷ new_root.now ∷ [])
-        (update_verdict sha256 bundle.now at key.now old_value.now new_value.now old_root.now new_root.now) result }
+        (update_verdict sha256 bundle.now at key.now old_value.now new_value.now old_root.now
+        new_root.now) result }
 {
     match (
         Hash::<Sha256>::try_from(old_root),
@@ -215,7 +217,8 @@ pub extern "C" fn warg_check_insertion(
     new_root: &[u8],
 ) -> i32
     ensures { Returns (old_root.now ∷ new_root.now ∷ [])
-        (insertion_verdict sha256 bundle.now at key.now value.now old_root.now new_root.now) result }
+        (insertion_verdict sha256 bundle.now at key.now value.now old_root.now
+        new_root.now) result }
 {
     match (
         Hash::<Sha256>::try_from(old_root),

@@ -83,7 +83,7 @@ fn write_digits<W: fmt::Write>(digits: &String, f: &mut fmt::Formatter<W>) -> fm
     }
 }
 
-// Writes a path: its hashes, parted by commas, or `[]` for none.
+// Writes a path: its hashes, separated by commas, or `[]` for none.
 fn write_path<W: fmt::Write>(path: &[Hash<Sha256>], f: &mut fmt::Formatter<W>) -> fmt::Result {
     let Some((first, rest)) = path.split_first() else {
         return write!(f, "[]");

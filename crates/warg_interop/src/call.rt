@@ -67,7 +67,7 @@ pub(crate) struct Length {
 }
 
 impl<'a> Call<'a> {
-    /// The call that a line spells. Its words are parted by one space.
+    /// The call that a line spells. Its words are separated by one space.
     pub(crate) fn read(alloc: Global, line: &'a str) -> Result<Call<'a>, CallError> {
         let words: Vec<&str> = line.split(' ').collect(alloc)?;
         match words.as_slice() {

@@ -12,7 +12,7 @@
 //! | `tile_path BYTES` | `LEVEL:NUMBER:WIDTH` of the tile with this path, `entries:NUMBER:WIDTH` of the bundle, or `refused BadPath` |
 //! | `checkpoint_text BYTES` | origin, length, root, the first further line and what is behind the text, or `refused` and the fault |
 //!
-//! A root is 64 hexadecimal digits, and a path such roots that are parted by commas, `[]` for none. A value is a text
+//! A root is 64 hexadecimal digits, and a path such roots that are separated by commas, `[]` for none. A value is a text
 //! without spaces, BYTES hexadecimal digits or `-` for none. A line that is none of these, or has a length above 2^63, is answered `bad call`.
 #![tactic(auto)]
 

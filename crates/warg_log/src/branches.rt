@@ -109,7 +109,8 @@ impl<D: SupportedDigest> BranchCache<D> {
 }
 
 impl<D: SupportedDigest> Join<D> for BranchCache<D> {
-    ghost is_true = { λ s. AllByRecursion (λ b. b.digest ≡ branch D.digest b.left b.right) s.joined.items };
+    ghost is_true = { λ s. AllByRecursion (λ b. b.digest ≡ branch D.digest b.left b.right)
+        s.joined.items };
 
     fn join(&mut self, range: &LeafRange, left: &Hash<D>, right: &Hash<D>) -> Hash<D> {
         let slot = slot_of(range.count);

@@ -74,7 +74,11 @@ impl<D, V> Model for ConsistencyProof<D, V> {
 
     ghost invariant = { λ p. (p.old_length ≤ 2 ^ 63) × (p.new_length ≤ 2 ^ 63) };
 
-    ghost inverse = { λ p. record { old_length = p.old_length; new_length = p.new_length; of = record {} } };
+    ghost inverse = { λ p. record {
+      old_length = p.old_length;
+      new_length = p.new_length;
+      of = record {};
+    } };
 }
 
 impl<D, V> Copy for ConsistencyProof<D, V> {}

@@ -163,7 +163,7 @@ impl<D: SupportedDigest, V: VisitBytes> InclusionProof<D, V> {
     /// length. It takes no memory.
     ///
     /// `LeafTooNew` exactly if the node doesn't exist at the length, and then `HashNotKnown` exactly
-    /// where the data lacks a digest that the cut root reads.
+    /// if the data lacks a digest that the cut root reads.
     pub fn evaluate_hash<L: LogData<D, V>>(
         &self,
         hashes: &L,
@@ -208,7 +208,12 @@ impl<A: Allocator> Model for InclusionProofWalk<A> {
 
     ghost Value = { Walk };
 
-    ghost view = { λ w. record { nodes = w.nodes.items; initial_walk_len = w.initial_walk_len; lower_broots = w.lower_broots; upper_broots = w.upper_broots } };
+    ghost view = { λ w. record {
+      nodes = w.nodes.items;
+      initial_walk_len = w.initial_walk_len;
+      lower_broots = w.lower_broots;
+      upper_broots = w.upper_broots;
+    } };
 }
 
 /// By the nodes, in order, and the counts.

@@ -42,7 +42,12 @@ impl<D: SupportedDigest, V: VisitBytes, A: Allocator> Model for ProofBundle<D, V
 
     ghost Value = { Bundle };
 
-    ghost view = { λ b. record { log_length = b.log_length; consistent_lengths = b.consistent_lengths.items; included_nodes = b.included_nodes.items; hashes = b.hashes } };
+    ghost view = { λ b. record {
+      log_length = b.log_length;
+      consistent_lengths = b.consistent_lengths.items;
+      included_nodes = b.included_nodes.items;
+      hashes = b.hashes;
+    } };
 
     ghost invariant = { λ b. IsAscending b.hashes };
 }

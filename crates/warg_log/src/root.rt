@@ -22,7 +22,8 @@ pub fn range_root<D: SupportedDigest, V: VisitBytes, L: LogData<D, V>>(
 ) -> Option<Hash<D>>
     ensures { result
         ≡ cut_over D.digest
-        (L.digest_at hashes.now) hash.now target.now.start target.now.count range.now.start range.now.count }
+        (L.digest_at
+        hashes.now) hash.now target.now.start target.now.count range.now.start range.now.count }
 {
     range_root_by(&mut NoCache, hashes, target, hash, range)
 }
@@ -37,7 +38,8 @@ pub(crate) fn range_root_by<D: SupportedDigest, V: VisitBytes, L: LogData<D, V>,
 ) -> Option<Hash<D>>
     requires { J.is_true joins.old }
     ensures value { result ≡ cut_over D.digest
-        (L.digest_at hashes.now) hash.now target.now.start target.now.count range.now.start range.now.count }
+        (L.digest_at
+        hashes.now) hash.now target.now.start target.now.count range.now.start range.now.count }
     ensures kept { J.is_true joins.new }
 {
     if range.equals(target) {

@@ -59,7 +59,10 @@ impl<D: SupportedDigest, V: VisitBytes, A: Allocator> fmt::Debug for VecLog<D, V
     ghost use Rattle.warg_log.specs.Text.{checkpoint_text};
 
     ghost debug_output = { λ ds. Some (codes "VecLog("
-        ++ checkpoint_text (record { root = root_of D.digest ds; length = length ds }) ++ codes ")") };
+        ++ checkpoint_text (record {
+          root = root_of D.digest ds;
+          length = length ds;
+        }) ++ codes ")") };
 
     fn fmt<W: fmt::Write>(&self, f: &mut fmt::Formatter<W>) -> fmt::Result {
         let checkpoint = self.checkpoint();

@@ -76,7 +76,7 @@ fn read(alloc: Global, words: &str) -> Result<ProofBundle<Sha256, ()>, Fail> {
     Ok(ProofBundle::decode(alloc, &bytes_of(alloc, words)?)?)
 }
 
-// Bundles are equal exactly where their lengths, old lengths, nodes and digests are.
+// Bundles are equal exactly if their lengths, old lengths, nodes and digests are.
 #[test]
 fn equal_bundles(rt: HostRuntime) -> Result<(), Fail> {
     let bundle = read(rt.alloc(), BOTH)?;

@@ -105,7 +105,7 @@ fn numbers_as_bytes(rt: HostRuntime) -> Result<(), Fail> {
     Ok(())
 }
 
-// Whether so many bytes make a hash of them exactly where they are 32.
+// Whether so many bytes make a hash of them exactly if they are 32.
 fn is_hash_of_32(alloc: Global, length: usize) -> Result<bool, AllocError> {
     let bytes = vec![in alloc; 7u8; length]?;
     match Hash::<Sha256>::try_from(bytes) {

@@ -7,7 +7,7 @@ use crate::error::HashesError;
 use std::alloc::Allocator;
 use warg_crypto::Hash;
 
-/// The hashes that bytes are, in pieces of 32 one behind the other. `HashLength` exactly where the bytes don't
+/// The hashes that bytes are, in pieces of 32 one after the other. `HashLength` exactly if the bytes don't
 /// go out even, before any growth; else memory is the only error.
 pub fn hashes_in<D, A: Allocator>(alloc: A, bytes: &[u8]) -> Result<Vec<Hash<D>, A>, HashesError>
     ensures ok { IfOk result (λ hashes. hashes_of bytes.now ≡ Some hashes.items) }

@@ -13,8 +13,8 @@ use warg_log::{Checkpoint, LeafRange, LogData, hash_branch, stored_root};
 /// The consistency path from the first `old_length` entries to the first `new_length`, by the digests that the data
 /// holds: each is the stored root of a part of the new log, from the bottom up (RFC 6962, section 2.1.2).
 ///
-/// `OutOfRange` exactly where the old length isn't between 1 and the new one, and else `HashNotKnown` exactly
-/// where one of these parts has no stored root, both before memory is taken; else memory is the only error.
+/// `OutOfRange` exactly if the old length isn't between 1 and the new one, and else `HashNotKnown` exactly
+/// if one of these parts has no stored root, both before memory is taken; else memory is the only error.
 pub fn consistency_path<D: SupportedDigest, V: VisitBytes, L: LogData<D, V>, A: Allocator>(
     alloc: A,
     hashes: &L,
@@ -22,9 +22,15 @@ pub fn consistency_path<D: SupportedDigest, V: VisitBytes, L: LogData<D, V>, A: 
     new_length: usize,
 ) -> Result<Vec<Hash<D>, A>, PathError>
     requires { new_length ≤ 2 ^ 63 }
-    ensures out_of_range { (result ≡ Err PathError.OutOfRange) ↔ ((old_length ≡ 0) ⊎ (new_length < old_length)) }
-    ensures not_known { (result ≡ Err PathError.HashNotKnown) ↔ ((0 < old_length) × (old_length ≤ new_length) × (consistency_of (old_over D.digest (L.digest_at hashes.now)) old_length new_length ≡ None)) }
-    ensures ok { IfOk result (λ path. (0 < old_length) × (old_length ≤ new_length) × (consistency_of (old_over D.digest (L.digest_at hashes.now)) old_length new_length ≡ Some path.items)) }
+    ensures out_of_range { (result ≡ Err PathError.OutOfRange)
+        ↔ ((old_length ≡ 0) ⊎ (new_length < old_length)) }
+    ensures not_known { (result ≡ Err PathError.HashNotKnown)
+        ↔ ((0 < old_length) × (old_length ≤ new_length)
+        × (consistency_of (old_over D.digest (L.digest_at hashes.now)) old_length new_length
+        ≡ None)) }
+    ensures ok { IfOk result (λ path. (0 < old_length) × (old_length ≤ new_length)
+        × (consistency_of (old_over D.digest (L.digest_at hashes.now)) old_length new_length
+        ≡ Some path.items)) }
 {
     if old_length == 0 || old_length > new_length {
         return Err(PathError::OutOfRange);
@@ -54,8 +60,13 @@ fn path_over<D: SupportedDigest, V: VisitBytes, L: LogData<D, V>, A: Allocator>(
     requires some { 0 < old.length }
     requires inside { old.length ≤ range.now.count }
     requires room { above + range.now.count ≤ 2 ^ 63 }
-    ensures not_known { (result ≡ Err PathError.HashNotKnown) ↔ (consistency_over (old_over D.digest (L.digest_at hashes.now)) old.is_whole old.length range.now.start range.now.count ≡ None) }
-    ensures ok { IfOk result (λ path. consistency_over (old_over D.digest (L.digest_at hashes.now)) old.is_whole old.length range.now.start range.now.count ≡ Some path.items) }
+    ensures not_known { (result ≡ Err PathError.HashNotKnown)
+        ↔ (consistency_over (old_over D.digest
+        (L.digest_at hashes.now)) old.is_whole old.length range.now.start range.now.count ≡ None) }
+    ensures ok { IfOk result (λ path. consistency_over
+        (old_over D.digest
+        (L.digest_at hashes.now)) old.is_whole old.length range.now.start range.now.count
+        ≡ Some path.items) }
     ensures in_range { result ≢ Err PathError.OutOfRange }
 {
     if old.length == range.count {
@@ -80,8 +91,14 @@ fn path_at_end<D: SupportedDigest, V: VisitBytes, L: LogData<D, V>, A: Allocator
     above: usize,
 ) -> Result<Vec<Hash<D>, A>, PathError>
     requires { above < 2 ^ 63 }
-    ensures not_known { (result ≡ Err PathError.HashNotKnown) ↔ (path_at_end (old_over D.digest (L.digest_at hashes.now)) is_whole range.now.start range.now.count ≡ None) }
-    ensures ok { IfOk result (λ path. path_at_end (old_over D.digest (L.digest_at hashes.now)) is_whole range.now.start range.now.count ≡ Some path.items) }
+    ensures not_known { (result ≡ Err PathError.HashNotKnown)
+        ↔
+        (path_at_end
+        (old_over D.digest (L.digest_at hashes.now)) is_whole range.now.start range.now.count
+        ≡ None) }
+    ensures ok { IfOk result (λ path. path_at_end
+        (old_over D.digest (L.digest_at hashes.now)) is_whole range.now.start range.now.count
+        ≡ Some path.items) }
     ensures in_range { result ≢ Err PathError.OutOfRange }
 {
     if is_whole {
@@ -111,8 +128,11 @@ impl Turn {
     fn to_end(range: &LeafRange, old: OldPart) -> Turn
         requires some { 0 < old.length }
         requires inside { old.length < range.now.count }
-        ensures path { (R : ℕ → ℕ → Option (List ℕ)) → consistency_over R old.is_whole old.length range.now.start range.now.count
-            ≡ beside (consistency_over R result.old.is_whole result.old.length result.part.start result.part.count) (R result.beside.start result.beside.count) }
+        ensures path { (R : ℕ → ℕ → Option (List ℕ))
+            → consistency_over R old.is_whole old.length range.now.start range.now.count
+            ≡ beside
+            (consistency_over R result.old.is_whole result.old.length result.part.start
+            result.part.count) (R result.beside.start result.beside.count) }
         ensures some { 0 < result.old.length }
         ensures inside { result.old.length ≤ result.part.count }
         ensures smaller { result.part.count < range.now.count }
@@ -213,7 +233,9 @@ pub fn check_tree<D: SupportedDigest>(
     new: &Checkpoint<D>,
     path: &[Hash<D>],
 ) -> bool
-    ensures { IsTrue result ↔ (consistency_roots D.digest old.now.length new.now.length old.now.root path.now ≡ Some (old.now.root, new.now.root)) }
+    ensures { IsTrue result
+        ↔ (consistency_roots D.digest old.now.length new.now.length old.now.root path.now
+        ≡ Some (old.now.root, new.now.root)) }
 {
     match roots_of_consistency(old.length(), new.length(), &old.root(), path) {
         Some((old_root, new_root)) => old_root == old.root() && new_root == new.root(),

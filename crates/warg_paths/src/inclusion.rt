@@ -15,7 +15,7 @@ use warg_log::{Checkpoint, LeafRange, LogData, hash_branch, hash_leaf, stored_ro
 /// the data holds: each is the stored root of the part beside the way, from the bottom up (RFC 6962,
 /// section 2.1.1).
 ///
-/// `OutOfRange` exactly where `index` isn't below `length`, and else `HashNotKnown` exactly where one of these
+/// `OutOfRange` exactly if `index` isn't below `length`, and else `HashNotKnown` exactly if one of these
 /// parts has no stored root, both before memory is taken; else memory is the only error.
 pub fn inclusion_path<D: SupportedDigest, V: VisitBytes, L: LogData<D, V>, A: Allocator>(
     alloc: A,
@@ -25,8 +25,12 @@ pub fn inclusion_path<D: SupportedDigest, V: VisitBytes, L: LogData<D, V>, A: Al
 ) -> Result<Vec<Hash<D>, A>, PathError>
     requires { length ≤ 2 ^ 63 }
     ensures out_of_range { (result ≡ Err PathError.OutOfRange) ↔ (length ≤ index) }
-    ensures not_known { (result ≡ Err PathError.HashNotKnown) ↔ ((index < length) × (inclusion_of (old_over D.digest (L.digest_at hashes.now)) index length ≡ None)) }
-    ensures ok { IfOk result (λ path. (index < length) × (inclusion_of (old_over D.digest (L.digest_at hashes.now)) index length ≡ Some path.items)) }
+    ensures not_known { (result ≡ Err PathError.HashNotKnown)
+        ↔ ((index < length) × (inclusion_of (old_over D.digest
+        (L.digest_at hashes.now)) index length ≡ None)) }
+    ensures ok { IfOk result (λ path. (index < length)
+        × (inclusion_of (old_over D.digest (L.digest_at hashes.now)) index length
+        ≡ Some path.items)) }
 {
     if index >= length {
         return Err(PathError::OutOfRange);
@@ -44,8 +48,12 @@ fn path_over<D: SupportedDigest, V: VisitBytes, L: LogData<D, V>, A: Allocator>(
 ) -> Result<Vec<Hash<D>, A>, PathError>
     requires inside { index < range.now.count }
     requires room { above + range.now.count ≤ 2 ^ 63 }
-    ensures not_known { (result ≡ Err PathError.HashNotKnown) ↔ (inclusion_over (old_over D.digest (L.digest_at hashes.now)) index range.now.start range.now.count ≡ None) }
-    ensures ok { IfOk result (λ path. inclusion_over (old_over D.digest (L.digest_at hashes.now)) index range.now.start range.now.count ≡ Some path.items) }
+    ensures not_known { (result ≡ Err PathError.HashNotKnown)
+        ↔ (inclusion_over (old_over D.digest
+        (L.digest_at hashes.now)) index range.now.start range.now.count ≡ None) }
+    ensures ok { IfOk result (λ path. inclusion_over
+        (old_over D.digest (L.digest_at hashes.now)) index range.now.start range.now.count
+        ≡ Some path.items) }
     ensures in_range { result ≢ Err PathError.OutOfRange }
 {
     if range.count == 1 {
@@ -74,8 +82,10 @@ impl Turn {
     fn to_leaf(range: &LeafRange, index: usize) -> Turn
         requires some { 1 < range.now.count }
         requires inside { index < range.now.count }
-        ensures path { (R : ℕ → ℕ → Option (List ℕ)) → inclusion_over R index range.now.start range.now.count
-            ≡ beside (inclusion_over R result.index result.part.start result.part.count) (R result.beside.start result.beside.count) }
+        ensures path { (R : ℕ → ℕ → Option (List ℕ))
+            → inclusion_over R index range.now.start range.now.count
+            ≡ beside (inclusion_over R result.index result.part.start result.part.count)
+            (R result.beside.start result.beside.count) }
         ensures inside { result.index < result.part.count }
         ensures smaller { result.part.count < range.now.count }
     {
@@ -147,7 +157,8 @@ pub fn check_record<D: SupportedDigest, V: VisitBytes>(
     value: &V,
     path: &[Hash<D>],
 ) -> bool
-    ensures { IsTrue result ↔ (inclusion_root D.digest index checkpoint.now.length (leaf_digest D.digest (V.bytes value.now)) path.now ≡ Some checkpoint.now.root) }
+    ensures { IsTrue result ↔ (inclusion_root D.digest index checkpoint.now.length
+        (leaf_digest D.digest (V.bytes value.now)) path.now ≡ Some checkpoint.now.root) }
 {
     let leaf = hash_leaf::<D, V>(value);
     root_of_inclusion(index, checkpoint.length(), &leaf, path) == Some(checkpoint.root())

@@ -16,61 +16,77 @@ pub fn inclusion_of_one()
 /// root of the first k (RFC 6962, section 2.1.1).
 pub fn inclusion_of_more()
     ensures front { (R : ℕ → ℕ → Option (List ℕ)) (m a n : ℕ) → 1 < n → m < front_of n
-        → inclusion_over R m a n ≡ beside (inclusion_over R m a (front_of n)) (R (a + front_of n) (n - front_of n)) }
+        → inclusion_over R m a n ≡ beside (inclusion_over R m a (front_of n))
+        (R (a + front_of n) (n - front_of n)) }
     ensures rest { (R : ℕ → ℕ → Option (List ℕ)) (m a n : ℕ) → 1 < n → front_of n ≤ m
-        → inclusion_over R m a n ≡ beside (inclusion_over R (m - front_of n) (a + front_of n) (n - front_of n)) (R a (front_of n)) }
+        → inclusion_over R m a n ≡ beside (inclusion_over R (m - front_of n) (a + front_of n)
+        (n - front_of n)) (R a (front_of n)) }
 {}
 
 /// The consistency path of all leaves is empty where their root is known, and else that root (RFC 6962,
 /// section 2.1.2).
 pub fn consistency_of_all()
-    ensures { (R : ℕ → ℕ → Option (List ℕ)) (whole : Bool) (a n : ℕ) → 0 < n → consistency_over R whole n a n ≡ path_at_end R whole a n }
+    ensures { (R : ℕ → ℕ → Option (List ℕ)) (whole : Bool) (a n : ℕ) → 0 < n
+        → consistency_over R whole n a n ≡ path_at_end R whole a n }
 {}
 
 /// The consistency path of the first m of more leaves: where they end in the first k, their path there and then
 /// the root of the rest; else the path in the rest, where they are no whole log, and then the root of the first k
 /// (RFC 6962, section 2.1.2).
 pub fn consistency_of_more()
-    ensures front { (R : ℕ → ℕ → Option (List ℕ)) (whole : Bool) (m a n : ℕ) → 0 < m → m < n → m ≤ front_of n
-        → consistency_over R whole m a n ≡ beside (consistency_over R whole m a (front_of n)) (R (a + front_of n) (n - front_of n)) }
+    ensures front { (R : ℕ → ℕ → Option (List ℕ)) (whole : Bool) (m a n : ℕ) → 0 < m → m < n
+        → m ≤ front_of n
+        → consistency_over R whole m a n ≡ beside (consistency_over R whole m a (front_of n))
+        (R (a + front_of n) (n - front_of n)) }
     ensures rest { (R : ℕ → ℕ → Option (List ℕ)) (whole : Bool) (m a n : ℕ) → m < n → front_of n < m
-        → consistency_over R whole m a n ≡ beside (consistency_over R false (m - front_of n) (a + front_of n) (n - front_of n)) (R a (front_of n)) }
+        → consistency_over R whole m a n ≡ beside
+        (consistency_over R false (m - front_of n) (a + front_of n) (n - front_of n))
+        (R a (front_of n)) }
 {}
 
 /// An inclusion path and an inclusion proof of one leaf over one data lead to one root, or both to none.
 pub fn path_leads_as_proof()
-    ensures { (H : List ℕ → List ℕ) (F : ℕ → Option (List ℕ)) (m n : ℕ) (x : List ℕ) → m < n → led_to H m n x (inclusion_of (old_over H F) m n) ≡ cut_root H F (2 * m) x n }
+    ensures { (H : List ℕ → List ℕ) (F : ℕ → Option (List ℕ)) (m n : ℕ) (x : List ℕ) → m < n
+        → led_to H m n x (inclusion_of (old_over H F) m n) ≡ cut_root H F (2 * m) x n }
 {}
 
 /// A log's own inclusion paths lead to its roots: over its own digests the path of a leaf at a length up to its own
 /// leads from the leaf's digest to the root of so many leaves.
 pub fn own_inclusion_path()
     ensures { (H : List ℕ → List ℕ) (ds : List (List ℕ)) (m n : ℕ) → m < n → n ≤ length ds
-        → led_to H m n (slice_index_or ds m []) (inclusion_of (old_over H (own_digest H ds)) m n) ≡ Some (root_of H (take n ds)) }
+        → led_to H m n (slice_index_or ds m []) (inclusion_of (old_over H (own_digest H ds)) m n)
+        ≡ Some (root_of H (take n ds)) }
 {}
 
 /// A log's own consistency paths lead to its roots: over its own digests the path between two lengths up to its own
 /// leads from the root of the first to both.
 pub fn own_consistency_path()
     ensures { (H : List ℕ → List ℕ) (ds : List (List ℕ)) (m n : ℕ) → 0 < m → m ≤ n → n ≤ length ds
-        → led_to_both H m n (root_of H (take m ds)) (consistency_of (old_over H (own_digest H ds)) m n) ≡ Some (root_of H (take m ds), root_of H (take n ds)) }
+        → led_to_both H m n (root_of H (take m ds))
+        (consistency_of (old_over H (own_digest H ds)) m n)
+        ≡ Some (root_of H (take m ds), root_of H (take n ds)) }
 {}
 
 /// A path is unique: two inclusion paths of one place and length that lead to one root lead from one digest and are
 /// one, or two byte strings collide.
 pub fn path_is_unique()
-    ensures { (H : List ℕ → List ℕ) (m n : ℕ) (x y root : List ℕ) (xs ys : List (List ℕ)) → GivesHashes H → AreHashes (x ∷ xs) → AreHashes (y ∷ ys)
-        → inclusion_root H m n x xs ≡ Some root → inclusion_root H m n y ys ≡ Some root → ((x ≡ y) × (xs ≡ ys)) ⊎ SomeCollision H Anywhere }
+    ensures { (H : List ℕ → List ℕ) (m n : ℕ) (x y root : List ℕ) (xs ys : List (List ℕ))
+        → GivesHashes H → AreHashes (x ∷ xs) → AreHashes (y ∷ ys)
+        → inclusion_root H m n x xs ≡ Some root → inclusion_root H m n y ys ≡ Some root
+        → ((x ≡ y) × (xs ≡ ys)) ⊎ SomeCollision H Anywhere }
 {}
 
 /// A consistency path is unique: two between one pair of lengths that lead to the same roots are one, or two byte
 /// strings collide.
 pub fn consistency_path_is_unique()
-    ensures { (H : List ℕ → List ℕ) (m n : ℕ) (r s old new : List ℕ) (xs ys : List (List ℕ)) → GivesHashes H → AreHashes (r ∷ xs) → AreHashes (s ∷ ys)
-        → consistency_roots H m n r xs ≡ Some (old, new) → consistency_roots H m n s ys ≡ Some (old, new) → (xs ≡ ys) ⊎ SomeCollision H Anywhere }
+    ensures { (H : List ℕ → List ℕ) (m n : ℕ) (r s old new : List ℕ) (xs ys : List (List ℕ))
+        → GivesHashes H → AreHashes (r ∷ xs) → AreHashes (s ∷ ys)
+        → consistency_roots H m n r xs ≡ Some (old, new)
+        → consistency_roots H m n s ys ≡ Some (old, new) → (xs ≡ ys) ⊎ SomeCollision H Anywhere }
 {}
 
 /// An inclusion path of a log of at most 2^h entries has at most h digests, so one of at most 2^63 has 63.
 pub fn path_is_short()
-    ensures { (R : ℕ → ℕ → Option (List ℕ)) (m n h : ℕ) (path : List (List ℕ)) → m < n → n ≤ 2 ^ h → inclusion_of R m n ≡ Some path → length path ≤ h }
+    ensures { (R : ℕ → ℕ → Option (List ℕ)) (m n h : ℕ) (path : List (List ℕ)) → m < n → n ≤ 2 ^ h
+        → inclusion_of R m n ≡ Some path → length path ≤ h }
 {}

@@ -96,11 +96,17 @@ fn lists_of_a_bundle_stay_where_they_lie(rt: HostRuntime) -> Result<(), Fail> {
     proofs.reserve(1)?;
     assert!(rt; all(&[held.left() == 0, absent.left() == 1]));
     absences.reserve(1)?;
-    assert!(rt; all(&[absent.left() == 0, !held.has_refused(), !absent.has_refused()]));
+    assert!(rt;
+        all(&[
+            absent.left() == 0,
+            !held.has_refused(),
+            !absent.has_refused()
+        ])
+    );
     Ok(())
 }
 
-// Proofs are equal exactly where their peers are, and bundles where their proofs and their absences are.
+// Proofs are equal exactly if their peers are, and bundles where their proofs and their absences are.
 #[test]
 fn equal_proofs_and_bundles(rt: HostRuntime) -> Result<(), Fail> {
     let pairs = [("foo", "bar"), ("baz", "bat")];
@@ -139,7 +145,9 @@ fn proofs_of_keys_as_bytes(rt: HostRuntime) -> Result<(), Fail> {
 fn bytes_of_a_key_with_each_growth_refused(rt: HostRuntime) -> Result<(), Fail> {
     for growths in 0..90 {
         let memory = Refusing::after(rt.alloc(), 90);
-        let map = TextMap::default(&memory).insert("foo", "bar")?.insert("baz", "bat")?;
+        let map = TextMap::default(&memory)
+            .insert("foo", "bar")?
+            .insert("baz", "bat")?;
         memory.exhaust();
         memory.grant(growths);
         let held = map.key_bytes(&"foo");

@@ -66,7 +66,7 @@ fn found(alloc: Global, value: Pair) -> Result<Finding<Flat>, Fail> {
     Ok(witness_value(alloc, &proof, &log, &value, &ENTRIES)?)
 }
 
-// Findings are equal exactly where they are of one kind, with the same byte strings.
+// Findings are equal exactly if they are of one kind, with the same byte strings.
 #[test]
 fn equal_findings(rt: HostRuntime) -> Result<(), Fail> {
     let collision = found(rt.alloc(), ("ab", "c"))?;

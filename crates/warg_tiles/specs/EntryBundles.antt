@@ -1,4 +1,4 @@
--- Entry bundles (C2SP tlog-tiles): the entries below a tile of level 0, one behind the other.
+-- Entry bundles (C2SP tlog-tiles): the entries below a tile of level 0, one after the other.
 use Rattle.std.specs.Prelude.{ℕ, ◌/◌, ◌%◌, List, [], ◌∷◌, ◌++◌, length}
 
 -- An entry's length as two bytes, the greater one first.

@@ -39,7 +39,8 @@ fn push_level<A: Allocator>(
     requires level { level < 8 }
     requires order { old_count ≤ new_count }
     requires fits { new_count ≤ 2 ^ 63 }
-    ensures { OnOk result (tiles.new.items ≡ tiles.old.items ++ level_tiles level old_count new_count) }
+    ensures { OnOk result
+        (tiles.new.items ≡ tiles.old.items ++ level_tiles level old_count new_count) }
 {
     if old_count == new_count {
         return Ok(());

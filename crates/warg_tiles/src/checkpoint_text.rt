@@ -36,24 +36,38 @@ impl<D, A: Allocator> Model for CheckpointText<D, A> {
 
     ghost Value = { Said };
 
-    ghost view = { λ t. record { origin = t.origin.items; length = t.checkpoint.length; root = t.checkpoint.root; extensions = map (λ l. l.items) t.extensions.items } };
+    ghost view = { λ t. record {
+      origin = t.origin.items;
+      length = t.checkpoint.length;
+      root = t.checkpoint.root;
+      extensions = map (λ l. l.items) t.extensions.items;
+    } };
 
-    ghost invariant = { λ t. IsLine t.origin.items × (t.checkpoint.length ≤ 2 ^ 63) × AllByRecursion IsLine (map (λ l. l.items) t.extensions.items) };
+    ghost invariant = { λ t. IsLine t.origin.items × (t.checkpoint.length ≤ 2 ^ 63)
+        × AllByRecursion IsLine (map (λ l. l.items) t.extensions.items) };
 }
 
 impl<D, A: Allocator + Copy> CheckpointText<D, A> {
-    /// The text that says this checkpoint of the log with this origin, with no further lines. `Origin` exactly where the
-    /// origin is empty or has a newline; `Length` exactly where the length is above 2^63 and the origin is none; both
+    /// The text that says this checkpoint of the log with this origin, with no further lines. `Origin` exactly if the
+    /// origin is empty or has a newline; `Length` exactly if the length is above 2^63 and the origin is none; both
     /// before memory is taken, else memory is the only error.
     pub fn new(
         alloc: A,
         origin: &[u8],
         checkpoint: Checkpoint<D>,
     ) -> Result<Self, CheckpointTextError>
-        ensures ok { IfOk result (λ text. text ≡ record { origin = origin.now; length = checkpoint.length; root = checkpoint.root; extensions = [] }) }
+        ensures ok { IfOk result (λ text. text
+            ≡ record {
+              origin = origin.now;
+              length = checkpoint.length;
+              root = checkpoint.root;
+              extensions = [];
+            }) }
         ensures origin { (result ≡ Err CheckpointTextError.Origin) ↔ (IsLine origin.now → ⊥) }
-        ensures length { (result ≡ Err CheckpointTextError.Length) ↔ (IsLine origin.now × (2 ^ 63 < checkpoint.length)) }
-        ensures only { (result ≡ Err CheckpointTextError.Root → ⊥) × (result ≡ Err CheckpointTextError.Extension → ⊥) }
+        ensures length { (result ≡ Err CheckpointTextError.Length)
+            ↔ (IsLine origin.now × (2 ^ 63 < checkpoint.length)) }
+        ensures only { (result ≡ Err CheckpointTextError.Root → ⊥)
+            × (result ≡ Err CheckpointTextError.Extension → ⊥) }
     {
         if !is_line(origin) {
             return Err(CheckpointTextError::Origin);
@@ -68,12 +82,16 @@ impl<D, A: Allocator + Copy> CheckpointText<D, A> {
         })
     }
 
-    /// Adds a further line. `Extension` exactly where it is empty or has a newline, before memory is taken; else memory is
+    /// Adds a further line. `Extension` exactly if it is empty or has a newline, before memory is taken; else memory is
     /// the only error. A refused call leaves the text as it was.
     pub fn push_extension(&mut self, extension: &[u8]) -> Result<(), CheckpointTextError>
-        ensures ok { OnOk result (self.new ≡ record self.old { extensions = self.old.extensions ++ extension.now ∷ [] }) }
-        ensures extension { (result ≡ Err CheckpointTextError.Extension) ↔ (IsLine extension.now → ⊥) }
-        ensures only { IfErr result (λ e. (e ≡ CheckpointTextError.Extension → ⊥) → e ≡ CheckpointTextError.Memory) }
+        ensures ok { OnOk result
+            (self.new
+            ≡ record self.old { extensions = self.old.extensions ++ extension.now ∷ [] }) }
+        ensures extension { (result ≡ Err CheckpointTextError.Extension)
+            ↔ (IsLine extension.now → ⊥) }
+        ensures only { IfErr result (λ e. (e ≡ CheckpointTextError.Extension → ⊥)
+            → e ≡ CheckpointTextError.Memory) }
         ensures err { OnErr result (self.new ≡ self.old) }
     {
         if !is_line(extension) {
@@ -93,7 +111,8 @@ impl<D, A: Allocator + Copy> CheckpointText<D, A> {
         alloc: A,
         bytes: &[u8],
     ) -> Result<(CheckpointText<D, A>, Option<&[u8]>), CheckpointTextError>
-        ensures ok { IfOk result (λ read. CanBeSaid read.0 × (bytes.now ≡ text_before read.0 (option_copied read.1))) }
+        ensures ok { IfOk result (λ read. CanBeSaid read.0
+            × (bytes.now ≡ text_before read.0 (option_copied read.1))) }
         ensures err { IfErr result (IsFirstFault bytes.now) }
     {
         let Some((origin, rest)) = first_line(bytes) else {
@@ -115,7 +134,9 @@ impl<D, A: Allocator + Copy> CheckpointText<D, A> {
         &mut self,
         bytes: &'a [u8],
     ) -> Result<Option<&'a [u8]>, CheckpointTextError>
-        ensures ok { IfOk result (λ rest. (more : List (List ℕ)) × AllByRecursion IsLine more × (self.new ≡ record self.old { extensions = self.old.extensions ++ more }) × (bytes.now ≡ lines more (behind (option_copied rest)))) }
+        ensures ok { IfOk result (λ rest. (more : List (List ℕ)) × AllByRecursion IsLine more
+            × (self.new ≡ record self.old { extensions = self.old.extensions ++ more })
+            × (bytes.now ≡ lines more (behind (option_copied rest)))) }
         ensures err { IfErr result (IsExtensionFault bytes.now) }
     {
         let mut rest = bytes;
@@ -183,7 +204,8 @@ fn is_line(bytes: &[u8]) -> bool
 
 // The bytes before the first newline, and those behind it.
 fn split_line(bytes: &[u8]) -> Option<(&[u8], &[u8])>
-    ensures { MatchOption result (HasNoNewline bytes.now) (λ parts. HasNoNewline parts.0.now × (bytes.now ≡ line parts.0.now parts.1.now)) }
+    ensures { MatchOption result (HasNoNewline bytes.now)
+        (λ parts. HasNoNewline parts.0.now × (bytes.now ≡ line parts.0.now parts.1.now)) }
 {
     let end = bytes.iter().position(|byte| *byte == b'\n')?;
     Some((&bytes[..end], &bytes[end + 1..]))
@@ -191,7 +213,8 @@ fn split_line(bytes: &[u8]) -> Option<(&[u8], &[u8])>
 
 // The first line of bytes, if it isn't empty, and the bytes behind it.
 fn first_line(bytes: &[u8]) -> Option<(&[u8], &[u8])>
-    ensures { MatchOption result (HasOrigin bytes.now → ⊥) (λ parts. IsLine parts.0.now × (bytes.now ≡ line parts.0.now parts.1.now)) }
+    ensures { MatchOption result (HasOrigin bytes.now → ⊥)
+        (λ parts. IsLine parts.0.now × (bytes.now ≡ line parts.0.now parts.1.now)) }
 {
     let (line, rest) = split_line(bytes)?;
     if line.is_empty() {
@@ -203,7 +226,9 @@ fn first_line(bytes: &[u8]) -> Option<(&[u8], &[u8])>
 
 // The length that the first line of bytes says, and the bytes behind it.
 fn length_in(bytes: &[u8]) -> Option<(usize, &[u8])>
-    ensures { MatchOption result ((n : ℕ) (rest : List ℕ) → n ≤ 2 ^ 63 → bytes.now ≢ length_line n rest) (λ parts. (parts.0 ≤ 2 ^ 63) × (bytes.now ≡ length_line parts.0 parts.1.now)) }
+    ensures { MatchOption result ((n : ℕ) (rest : List ℕ) → n ≤ 2 ^ 63
+        → bytes.now ≢ length_line n rest) (λ parts. (parts.0 ≤ 2 ^ 63)
+        × (bytes.now ≡ length_line parts.0 parts.1.now)) }
 {
     let (line, rest) = split_line(bytes)?;
     let length = decimal_in(str::from_utf8(line).ok()?)?;
@@ -216,7 +241,9 @@ fn length_in(bytes: &[u8]) -> Option<(usize, &[u8])>
 
 // The root that the first line of bytes says, and the bytes behind it.
 fn root_in<D>(bytes: &[u8]) -> Option<(Hash<D>, &[u8])>
-    ensures { MatchOption result ((root rest : List ℕ) → IsDigest root → bytes.now ≢ root_line root rest) (λ parts. IsDigest parts.0 × (bytes.now ≡ root_line parts.0 parts.1.now)) }
+    ensures { MatchOption result ((root rest : List ℕ) → IsDigest root
+        → bytes.now ≢ root_line root rest) (λ parts. IsDigest parts.0
+        × (bytes.now ≡ root_line parts.0 parts.1.now)) }
 {
     let (line, rest) = split_line(bytes)?;
     if line.len() > 44 {
@@ -245,7 +272,8 @@ fn push_lines<A: Allocator, B: Allocator>(
     bytes: &mut Vec<u8, A>,
     extensions: &[Vec<u8, B>],
 ) -> Result<(), AllocError>
-    ensures { OnOk result (bytes.new.items ≡ bytes.old.items ++ lines (map (λ l. l.items) extensions.now) []) }
+    ensures { OnOk result (bytes.new.items ≡ bytes.old.items ++ lines
+        (map (λ l. l.items) extensions.now) []) }
 {
     'extensions: for extension in extensions {
         push_line(bytes, extension.as_slice())?;

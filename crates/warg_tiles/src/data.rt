@@ -12,7 +12,7 @@ use std::marker::{Model, PhantomData};
 use warg_crypto::{Hash, SupportedDigest, VisitBytes};
 use warg_log::{LogData, Node};
 
-/// The digests of a tile by the data: of each of its nodes, from left to right. `HashNotKnown` exactly where the data lacks
+/// The digests of a tile by the data: of each of its nodes, from left to right. `HashNotKnown` exactly if the data lacks
 /// one of them, before memory is taken; else memory is the only error.
 pub fn tile_hashes<D: SupportedDigest, V: VisitBytes, L: LogData<D, V>, A: Allocator>(
     alloc: A,
@@ -21,7 +21,8 @@ pub fn tile_hashes<D: SupportedDigest, V: VisitBytes, L: LogData<D, V>, A: Alloc
 ) -> Result<Vec<Hash<D>, A>, TileError>
     requires { tile_end tile.now ≤ 2 ^ 63 }
     ensures ok { IfOk result (λ digests. IsTileBy (L.digest_at hashes.now) tile.now digests.items) }
-    ensures not_known { (result ≡ Err TileError.HashNotKnown) ↔ LacksOf (L.digest_at hashes.now) tile.now }
+    ensures not_known { (result ≡ Err TileError.HashNotKnown)
+        ↔ LacksOf (L.digest_at hashes.now) tile.now }
 {
     'known: for place in 0..tile.width() {
         if !hashes.has_hash(tile.node(place)) {

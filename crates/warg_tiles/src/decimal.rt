@@ -5,7 +5,8 @@ ghost use Rattle.std.specs.Fmt.{decimal};
 
 // The number that a text is in decimal, with no sign and no needless zero, below 2^64.
 pub(crate) fn decimal_in(text: &str) -> Option<usize>
-    ensures { MatchOption result ((n : ℕ) → n < 2 ^ 64 → text.now ≢ decimal n) (λ n. text.now ≡ decimal n) }
+    ensures { MatchOption result ((n : ℕ) → n < 2 ^ 64 → text.now ≢ decimal n)
+        (λ n. text.now ≡ decimal n) }
 {
     let first = *text.as_bytes().first()?;
     if first == b'+' {

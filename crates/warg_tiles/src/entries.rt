@@ -12,14 +12,15 @@ use std::convert::AsSlice;
 const TOO_LONG: usize = 1 << 16;
 
 /// The bytes of the bundle of these entries: for each its length as two bytes, the greater one first, and then its bytes
-/// (C2SP tlog-tiles). `TooLong` exactly where an entry has more than 65,535 bytes, before memory is taken; else memory is
+/// (C2SP tlog-tiles). `TooLong` exactly if an entry has more than 65,535 bytes, before memory is taken; else memory is
 /// the only error.
 pub fn write_entries<T: AsSlice<u8>, A: Allocator>(
     alloc: A,
     entries: &[T],
 ) -> Result<Vec<u8, A>, EntriesError>
     ensures ok { IfOk result (λ bytes. bytes.items ≡ bundle_of (map (λ e. T.items e) entries.now)) }
-    ensures short { (result ≡ Err EntriesError.TooLong → ⊥) ↔ AllByRecursion (λ e. length (T.items e) < 65536) entries.now }
+    ensures short { (result ≡ Err EntriesError.TooLong → ⊥)
+        ↔ AllByRecursion (λ e. length (T.items e) < 65536) entries.now }
 {
     if !are_short(entries) {
         return Err(EntriesError::TooLong);
@@ -46,7 +47,8 @@ fn are_short<T: AsSlice<u8>>(entries: &[T]) -> bool
 // Writes an entry's length and its bytes.
 fn push_entry<A: Allocator>(bytes: &mut Vec<u8, A>, entry: &[u8]) -> Result<(), AllocError>
     requires { length entry.now < 65536 }
-    ensures { IfOk result (λ _. bytes.new.items ≡ bytes.old.items ++ (two_bytes (length entry.now) ++ entry.now)) }
+    ensures { IfOk result (λ _. bytes.new.items
+        ≡ bytes.old.items ++ (two_bytes (length entry.now) ++ entry.now)) }
 {
     let length = entry.len();
     bytes.push((length / 256) as u8)?;
@@ -58,7 +60,8 @@ fn push_entry<A: Allocator>(bytes: &mut Vec<u8, A>, entry: &[u8]) -> Result<(), 
 /// entry's length or within an entry. Else memory is the only error.
 pub fn read_entries<A: Allocator>(alloc: A, bytes: &[u8]) -> Result<Vec<&[u8], A>, EntriesError>
     ensures ok { IfOk result (λ entries. bytes.now ≡ bundle_of (map (λ e. e.now) entries.items)) }
-    ensures truncated { result ≡ Err EntriesError.Truncated → (entries : List (List ℕ)) → AllByRecursion (λ e. length e < 65536) entries
+    ensures truncated { result ≡ Err EntriesError.Truncated → (entries : List (List ℕ))
+        → AllByRecursion (λ e. length e < 65536) entries
         → bytes.now ≢ bundle_of entries }
     ensures never { result ≢ Err EntriesError.TooLong }
 {
@@ -76,8 +79,10 @@ pub fn read_entries<A: Allocator>(alloc: A, bytes: &[u8]) -> Result<Vec<&[u8], A
 
 // The first entry of a bundle's bytes, and the bytes behind it.
 fn first_entry(bytes: &[u8]) -> Option<(&[u8], &[u8])>
-    ensures { MatchOption result ((entry behind : List ℕ) → length entry < 65536 → bytes.now ≢ two_bytes (length entry) ++ (entry ++ behind))
-        (λ parts. (length parts.0.now < 65536) × (bytes.now ≡ two_bytes (length parts.0.now) ++ (parts.0.now ++ parts.1.now))) }
+    ensures { MatchOption result ((entry behind : List ℕ) → length entry < 65536
+        → bytes.now ≢ two_bytes (length entry) ++ (entry ++ behind))
+        (λ parts. (length parts.0.now < 65536)
+        × (bytes.now ≡ two_bytes (length parts.0.now) ++ (parts.0.now ++ parts.1.now))) }
 {
     let [greater, less, rest @ ..] = bytes else {
         return None;

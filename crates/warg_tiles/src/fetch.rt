@@ -42,7 +42,8 @@ pub fn tiles_for_consistency<A: Allocator + Copy>(
 ) -> Result<Vec<Tile, A>, AllocError>
     requires order { old_length ≤ new_length }
     requires fits { new_length ≤ 2 ^ 63 }
-    ensures { IfOk result (λ tiles. AreFor new_length tiles.items (needed_between old_length new_length)) }
+    ensures { IfOk result (λ tiles. AreFor new_length tiles.items
+        (needed_between old_length new_length)) }
 {
     let mut tiles = Vec::new(alloc);
     let roots = Node::broots_for_len(alloc, old_length)?;
@@ -62,7 +63,8 @@ fn add_root<A: Allocator + Copy>(
     requires exists { ExistsAt root.0 length }
     requires fits { length ≤ 2 ^ 63 }
     requires some { 0 < length }
-    ensures { OnOk result (IsAdded length tiles.old.items tiles.new.items (root.0 ∷ needed root.0 length)) }
+    ensures { OnOk result (IsAdded length tiles.old.items tiles.new.items
+        (root.0 ∷ needed root.0 length)) }
 {
     add_nodes(tiles, &[root], length)?;
     add_inclusion(tiles, alloc, root, length)
@@ -96,7 +98,8 @@ fn add_nodes<A: Allocator>(
 ) -> Result<(), AllocError>
     requires exist { AllByRecursion (λ node. ExistsAt node.0 length) nodes.now }
     requires fits { length ≤ 2 ^ 63 }
-    ensures { OnOk result (IsAdded length tiles.old.items tiles.new.items (map (λ x. x.0) nodes.now)) }
+    ensures { OnOk result (IsAdded length tiles.old.items tiles.new.items
+        (map (λ x. x.0) nodes.now)) }
 {
     'nodes: for node in nodes {
         if !give(tiles.as_slice(), *node) {

@@ -9,12 +9,14 @@ ghost use Rattle.warg_tiles.specs.CheckpointText.{Said, CanBeSaid, text_before};
 /// A digest that the tiles of a log give is the node's: where each tile has the log's own digests, and they give a digest for
 /// a node, the log has the node, and this is its digest.
 pub fn digest_by_own_tiles()
-    ensures { (H : List ℕ → List ℕ) (ds : List (List ℕ)) (tiles : Tiles) (x : ℕ) (d : List ℕ) → AllByRecursion (λ t. IsTileBy (own_digest H ds) t.0 t.1) tiles
+    ensures { (H : List ℕ → List ℕ) (ds : List (List ℕ)) (tiles : Tiles) (x : ℕ) (d : List ℕ)
+        → AllByRecursion (λ t. IsTileBy (own_digest H ds) t.0 t.1) tiles
         → digest_by H tiles x ≡ Some d → own_digest H ds x ≡ Some d }
 {}
 
 /// A checkpoint text is read in one way: where two are the same bytes, each with what stands behind it, they say the same
 /// and the same stands behind them. So what `write` gives is read as what was written.
 pub fn checkpoint_text_once()
-    ensures { (s t : Said) (a b : Option (List ℕ)) → CanBeSaid s → CanBeSaid t → text_before s a ≡ text_before t b → (s ≡ t) × (a ≡ b) }
+    ensures { (s t : Said) (a b : Option (List ℕ)) → CanBeSaid s → CanBeSaid t
+        → text_before s a ≡ text_before t b → (s ≡ t) × (a ≡ b) }
 {}

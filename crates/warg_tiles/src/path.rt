@@ -39,7 +39,7 @@ impl Tile {
         Ok(text)
     }
 
-    /// The tile whose path a text is: `BadPath` exactly where it is no tile's. It takes no memory.
+    /// The tile whose path a text is: `BadPath` exactly if it is no tile's. It takes no memory.
     pub fn from_path(path: &str) -> Result<Tile, BadPath>
         ensures ok { IfOk result (λ tile. IsTile tile × (path.now ≡ tile_path tile)) }
         ensures err { OnErr result ((tile : TileAt) → IsTile tile → path.now ≢ tile_path tile) }
@@ -47,10 +47,11 @@ impl Tile {
         tile_in(path).ok_or(BadPath)
     }
 
-    /// The tile of level 0 whose entry bundle's path a text is: `BadPath` exactly where it is no bundle's. It takes no
+    /// The tile of level 0 whose entry bundle's path a text is: `BadPath` exactly if it is no bundle's. It takes no
     /// memory.
     pub fn from_entries_path(path: &str) -> Result<Tile, BadPath>
-        ensures ok { IfOk result (λ tile. IsTile tile × (tile.level ≡ 0) × (path.now ≡ entries_path tile)) }
+        ensures ok { IfOk result (λ tile. IsTile tile × (tile.level ≡ 0)
+            × (path.now ≡ entries_path tile)) }
         ensures err { OnErr result ((tile : TileAt) → IsTile tile → path.now ≢ entries_path tile) }
     {
         entries_in(path).ok_or(BadPath)
@@ -59,7 +60,8 @@ impl Tile {
 
 // The tile whose path a text is.
 fn tile_in(path: &str) -> Option<Tile>
-    ensures { MatchOption result ((tile : TileAt) → IsTile tile → path.now ≢ tile_path tile) (λ tile. IsTile tile × (path.now ≡ tile_path tile)) }
+    ensures { MatchOption result ((tile : TileAt) → IsTile tile → path.now ≢ tile_path tile)
+        (λ tile. IsTile tile × (path.now ≡ tile_path tile)) }
 {
     let (level, place) = path.strip_prefix("tile/")?.split_once('/')?;
     let level = decimal_in(level)?;
@@ -81,7 +83,8 @@ fn entries_in(path: &str) -> Option<Tile>
 
 // Writes the tile's number and its width at the end of a path.
 fn push_place<A: Allocator>(text: &mut String<A>, tile: &Tile) -> Result<(), AllocError>
-    ensures { OnOk result (string_bytes text.new ≡ string_bytes text.old ++ place_path tile.now.number tile.now.width) }
+    ensures { OnOk result (string_bytes text.new
+        ≡ string_bytes text.old ++ place_path tile.now.number tile.now.width) }
 {
     let number = tile.number();
     push_groups(text, number / 1000)?;
@@ -116,7 +119,8 @@ struct Place {
 impl Place {
     // The number and the width that the end of a path says.
     fn read(place: &str) -> Option<Place>
-        ensures { MatchOption result ((number width : ℕ) → number < 2 ^ 64 → 0 < width → width ≤ 256 → place.now ≢ place_path number width)
+        ensures { MatchOption result ((number width : ℕ) → number < 2 ^ 64 → 0 < width → width ≤ 256
+            → place.now ≢ place_path number width)
             (λ p. (0 < p.width) × (p.width ≤ 256) × (place.now ≡ place_path p.number p.width)) }
     {
         match place.split_once('.') {
@@ -135,7 +139,8 @@ impl Place {
 
 // The width of a partial tile that a text says behind p/.
 fn width_in(text: &str) -> Option<usize>
-    ensures { MatchOption result ((width : ℕ) → 0 < width → width < 256 → text.now ≢ 112 ∷ 47 ∷ decimal width)
+    ensures { MatchOption result ((width : ℕ) → 0 < width → width < 256
+        → text.now ≢ 112 ∷ 47 ∷ decimal width)
         (λ width. (0 < width) × (width < 256) × (text.now ≡ 112 ∷ 47 ∷ decimal width)) }
 {
     let width = decimal_in(text.strip_prefix("p/")?)?;
@@ -148,7 +153,8 @@ fn width_in(text: &str) -> Option<usize>
 
 // The number that a text is in groups of three digits.
 fn number_in(text: &[u8]) -> Option<usize>
-    ensures { MatchOption result ((n : ℕ) → n < 2 ^ 64 → text.now ≢ number_path n) (λ n. text.now ≡ number_path n) }
+    ensures { MatchOption result ((n : ℕ) → n < 2 ^ 64 → text.now ≢ number_path n)
+        (λ n. text.now ≡ number_path n) }
 {
     let number = number_of_digits(text)?;
     let last = strip_groups(text, number / 1000)?;
@@ -175,7 +181,8 @@ fn number_of_digits(text: &[u8]) -> Option<usize>
 
 // What a text has behind the groups of a number's digits that stand before the last one.
 fn strip_groups(text: &[u8], groups: usize) -> Option<&[u8]>
-    ensures { MatchOption result ((rest : List ℕ) → text.now ≢ groups_of groups ++ rest) (λ rest. text.now ≡ groups_of groups ++ rest.now) }
+    ensures { MatchOption result ((rest : List ℕ) → text.now ≢ groups_of groups ++ rest)
+        (λ rest. text.now ≡ groups_of groups ++ rest.now) }
 {
     if groups == 0 {
         return Some(text);

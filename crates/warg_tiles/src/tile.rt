@@ -96,7 +96,8 @@ impl Tile {
 
     // Whether the tile has all digests of another one: it is of the same level and number, and at least as wide.
     pub(crate) fn covers(&self, other: &Tile) -> bool
-        ensures { result ≡ (self.now.level == other.now.level && (self.now.number == other.now.number && nat_le other.now.width self.now.width)) }
+        ensures { result ≡ (self.now.level == other.now.level &&
+            (self.now.number == other.now.number && nat_le other.now.width self.now.width)) }
     {
         self.level == other.level && (self.number == other.number && other.width <= self.width)
     }

@@ -22,7 +22,7 @@ use warg_log::{Checkpoint, LogBuilder, Node, hash_branch, hash_empty, hash_leaf}
 /// A log that keeps its right edge alone, the digests of its partial tiles: at most 255 of each level, whatever the log's
 /// length. Full tiles wait until they are taken, for whoever stores them.
 ///
-/// It answers checkpoints, but no digests for proofs: these are made out of the stored tiles.
+/// It returns checkpoints, but no digests for proofs: these are made out of the stored tiles.
 #[derive(Drop)]
 pub struct TileLog<D: SupportedDigest, V: VisitBytes, A: Allocator = Global> {
     count: usize,
@@ -40,9 +40,15 @@ impl<D: SupportedDigest, V: VisitBytes, A: Allocator> Model for TileLog<D, V, A>
 
     ghost Value = { RightEdge };
 
-    ghost view = { λ l. record { len = l.count; taken = l.taken; digests = l.edge.items; full = map (λ t. (t.tile, t.digests.items)) l.full.items } };
+    ghost view = { λ l. record {
+      len = l.count;
+      taken = l.taken;
+      digests = l.edge.items;
+      full = map (λ t. (t.tile, t.digests.items)) l.full.items;
+    } };
 
-    ghost invariant = { λ l. (length l.edge.items ≡ edge_width 8 l.count) × (l.count ≤ 2 ^ 63) × (l.taken ≤ l.count) };
+    ghost invariant = { λ l. (length l.edge.items ≡ edge_width 8 l.count) × (l.count ≤ 2 ^ 63)
+        × (l.taken ≤ l.count) };
 }
 
 impl<D: SupportedDigest, V: VisitBytes, A: Allocator + Copy> TileLog<D, V, A> {
@@ -67,11 +73,21 @@ impl<D: SupportedDigest, V: VisitBytes, A: Allocator + Copy> TileLog<D, V, A> {
     /// The digests are taken on trust: whoever keeps the log's checkpoint compares it.
     pub fn open(alloc: A, log_length: usize, tiles: &[StoredTile<D, A>]) -> Result<Self, OpenError>
         requires { log_length ≤ 2 ^ 63 }
-        ensures length { IfOk result (λ log. (log.len ≡ log_length) × (log.taken ≡ log_length) × (log.full ≡ [])) }
-        ensures stands { IfOk result (λ log. (ds : List (List ℕ)) → length ds ≡ log_length → AllByRecursion (λ t. IsTileBy (own_digest D.digest ds) t.tile t.digests.items) tiles.now → StandsFor D.digest log ds) }
-        ensures count { (result ≡ Err OpenError.Count) ↔ (tiles_fault (partial_tiles log_length) (map (λ t. t.tile) tiles.now) ≡ Some OpenError.Count) }
-        ensures place { (result ≡ Err OpenError.Place) ↔ (tiles_fault (partial_tiles log_length) (map (λ t. t.tile) tiles.now) ≡ Some OpenError.Place) }
-        ensures width { (result ≡ Err OpenError.Width) ↔ (tiles_fault (partial_tiles log_length) (map (λ t. t.tile) tiles.now) ≡ Some OpenError.Width) }
+        ensures length { IfOk result (λ log. (log.len ≡ log_length) × (log.taken ≡ log_length)
+            × (log.full ≡ [])) }
+        ensures stands { IfOk result (λ log. (ds : List (List ℕ)) → length ds ≡ log_length
+            → AllByRecursion
+            (λ t. IsTileBy (own_digest D.digest ds) t.tile t.digests.items) tiles.now
+            → StandsFor D.digest log ds) }
+        ensures count { (result ≡ Err OpenError.Count)
+            ↔ (tiles_fault (partial_tiles log_length) (map (λ t. t.tile) tiles.now)
+            ≡ Some OpenError.Count) }
+        ensures place { (result ≡ Err OpenError.Place)
+            ↔ (tiles_fault (partial_tiles log_length) (map (λ t. t.tile) tiles.now)
+            ≡ Some OpenError.Place) }
+        ensures width { (result ≡ Err OpenError.Width)
+            ↔ (tiles_fault (partial_tiles log_length) (map (λ t. t.tile) tiles.now)
+            ≡ Some OpenError.Width) }
     {
         check_tiles(0, log_length, tiles)?;
         let mut edge = Vec::new(alloc);
@@ -104,9 +120,12 @@ impl<D: SupportedDigest, V: VisitBytes, A: Allocator + Copy> TileLog<D, V, A> {
     /// goes on with none of them.
     pub fn take_full(&mut self) -> Vec<StoredTile<D, A>, A>
         ensures value { map (λ t. (t.tile, t.digests.items)) result.items ≡ self.old.full }
-        ensures tiles { (ds : List (List ℕ)) → StandsFor D.digest self.old ds → AreTilesOf D.digest ds (full_between self.old.taken self.old.len) (map (λ t. (t.tile, t.digests.items)) result.items) }
+        ensures tiles { (ds : List (List ℕ)) → StandsFor D.digest self.old ds
+            → AreTilesOf D.digest ds (full_between self.old.taken self.old.len)
+            (map (λ t. (t.tile, t.digests.items)) result.items) }
         ensures rest { self.new ≡ record self.old { taken = self.old.len; full = [] } }
-        ensures stands { (ds : List (List ℕ)) → StandsFor D.digest self.old ds → StandsFor D.digest self.new ds }
+        ensures stands { (ds : List (List ℕ)) → StandsFor D.digest self.old ds
+            → StandsFor D.digest self.new ds }
     {
         self.taken = self.count;
         let alloc = *self.full.allocator();
@@ -116,7 +135,9 @@ impl<D: SupportedDigest, V: VisitBytes, A: Allocator + Copy> TileLog<D, V, A> {
     /// The partial tiles, those of the right edge, by level: none for a level whose nodes fill tiles. Memory is the only
     /// error.
     pub fn partial(&self, alloc: A) -> Result<Vec<StoredTile<D, A>, A>, AllocError>
-        ensures { IfOk result (λ tiles. (ds : List (List ℕ)) → StandsFor D.digest self.now ds → AreTilesOf D.digest ds (partial_tiles self.now.len) (map (λ t. (t.tile, t.digests.items)) tiles.items)) }
+        ensures { IfOk result (λ tiles. (ds : List (List ℕ)) → StandsFor D.digest self.now ds
+            → AreTilesOf D.digest ds (partial_tiles self.now.len)
+            (map (λ t. (t.tile, t.digests.items)) tiles.items)) }
     {
         partial_tiles(alloc, self.edge.as_slice(), self.count)
     }
@@ -131,8 +152,10 @@ impl<D: SupportedDigest, V: VisitBytes, A: Allocator + Copy> LogBuilder<D, V> fo
     fn push(&mut self, entry: &V) -> Result<Node, AllocError>
         requires { self.old.len < 2 ^ 63 }
         ensures node { IfOk result (λ node. node.0 ≡ 2 * self.old.len) }
-        ensures length { OnOk result ((self.new.len ≡ self.old.len + 1) × (self.new.taken ≡ self.old.taken)) }
-        ensures stands { OnOk result ((ds : List (List ℕ)) → StandsFor D.digest self.old ds → StandsFor D.digest self.new (ds ++ leaf_digest D.digest (V.bytes entry.now) ∷ [])) }
+        ensures length { OnOk result ((self.new.len ≡ self.old.len + 1)
+            × (self.new.taken ≡ self.old.taken)) }
+        ensures stands { OnOk result ((ds : List (List ℕ)) → StandsFor D.digest self.old ds
+            → StandsFor D.digest self.new (ds ++ leaf_digest D.digest (V.bytes entry.now) ∷ [])) }
         ensures err { OnErr result (self.new ≡ self.old) }
     {
         let digest = hash_leaf::<D, V>(entry);
@@ -157,7 +180,8 @@ impl<D: SupportedDigest, V: VisitBytes, A: Allocator + Copy> LogBuilder<D, V> fo
 
     /// The root is made of the digests of the right edge.
     fn checkpoint(&self) -> Checkpoint<D>
-        ensures root { (ds : List (List ℕ)) → StandsFor D.digest self.now ds → result.root ≡ root_of D.digest ds }
+        ensures root { (ds : List (List ℕ)) → StandsFor D.digest self.now ds
+            → result.root ≡ root_of D.digest ds }
         ensures length { result.length ≡ self.now.len }
         ensures fits { self.now.len ≤ 2 ^ 63 }
     {
@@ -178,7 +202,9 @@ fn partial_tiles<D, A: Allocator + Copy>(
 ) -> Result<Vec<StoredTile<D, A>, A>, AllocError>
     requires fits { count ≤ 2 ^ 63 }
     requires width { length edge.now ≡ width_from 0 count }
-    ensures { IfOk result (λ tiles. (H : List ℕ → List ℕ) (ds : List (List ℕ)) → length ds ≡ count → edge.now ≡ edge_from H ds 0 count → AreTilesOf H ds (partial_tiles count) (map (λ t. (t.tile, t.digests.items)) tiles.items)) }
+    ensures { IfOk result (λ tiles. (H : List ℕ → List ℕ) (ds : List (List ℕ)) → length ds ≡ count
+        → edge.now ≡ edge_from H ds 0 count → AreTilesOf H ds (partial_tiles count)
+        (map (λ t. (t.tile, t.digests.items)) tiles.items)) }
 {
     let mut tiles = Vec::new(alloc);
     let mut rest = edge;
@@ -201,7 +227,10 @@ fn push_partial<D, A: Allocator + Copy>(
     requires level { level < 8 }
     requires count { length digests.now ≡ places % 256 }
     ensures none { OnOk result (places % 256 ≡ 0 → tiles.new.items ≡ tiles.old.items) }
-    ensures some { OnOk result (0 < places % 256 → map (λ t. (t.tile, t.digests.items)) tiles.new.items ≡ tile_behind (map (λ t. (t.tile, t.digests.items)) tiles.old.items) (record { level = level; number = places / 256; width = places % 256 }) digests.now) }
+    ensures some { OnOk result (0 < places % 256
+        → map (λ t. (t.tile, t.digests.items)) tiles.new.items
+        ≡ tile_behind (map (λ t. (t.tile, t.digests.items)) tiles.old.items)
+        (record { level = level; number = places / 256; width = places % 256 }) digests.now) }
 {
     if digests.is_empty() {
         return Ok(());
@@ -216,7 +245,8 @@ fn push_partial<D, A: Allocator + Copy>(
 fn root_of_edge<D: SupportedDigest>(edge: &[Hash<D>], count: usize) -> Option<Hash<D>>
     requires fits { count ≤ 2 ^ 63 }
     requires width { length edge.now ≡ width_from 0 count }
-    ensures { (ds : List (List ℕ)) → length ds ≡ count → edge.now ≡ edge_from D.digest ds 0 count → result ≡ root_if D.digest ds }
+    ensures { (ds : List (List ℕ)) → length ds ≡ count → edge.now ≡ edge_from D.digest ds 0 count
+        → result ≡ root_if D.digest ds }
 {
     let mut root = None;
     let mut rest = edge;
@@ -236,8 +266,10 @@ fn check_tiles<D, A: Allocator>(
     tiles: &[StoredTile<D, A>],
 ) -> Result<(), OpenError>
     requires { level ≤ 8 }
-    ensures ok { OnOk result (tiles_fault (partial_from log_length level) (map (λ t. t.tile) tiles.now) ≡ None) }
-    ensures err { IfErr result (λ e. tiles_fault (partial_from log_length level) (map (λ t. t.tile) tiles.now) ≡ Some e) }
+    ensures ok { OnOk result (tiles_fault (partial_from log_length level)
+        (map (λ t. t.tile) tiles.now) ≡ None) }
+    ensures err { IfErr result (λ e. tiles_fault (partial_from log_length level)
+        (map (λ t. t.tile) tiles.now) ≡ Some e) }
 {
     if level == 8 {
         return if tiles.is_empty() {
@@ -276,7 +308,8 @@ fn push_digests<D, A: Allocator + Copy>(
     edge: &mut Vec<Hash<D>, A>,
     tiles: &[StoredTile<D, A>],
 ) -> Result<(), AllocError>
-    ensures { OnOk result (edge.new.items ≡ edge.old.items ++ joined (map (λ t. t.digests.items) tiles.now)) }
+    ensures { OnOk result (edge.new.items ≡ edge.old.items ++ joined
+        (map (λ t. t.digests.items) tiles.now)) }
 {
     let Some((first, rest)) = tiles.split_first() else {
         return Ok(());
@@ -299,9 +332,16 @@ fn fill<D: SupportedDigest, A: Allocator + Copy>(
 ) -> Result<(usize, Hash<D>), AllocError>
     requires fits { (count + 1) * 2 ^ (8 * level) ≤ 2 ^ 63 }
     requires width { length edge.now ≡ width_from level count }
-    ensures kept { IfOk result (λ r. (r.0 ≤ length edge.now) × (r.0 + 1 ≡ width_from level (count + 1))) }
-    ensures edge { IfOk result (λ r. (ds : List (List ℕ)) → EndsWith D.digest ds level count edge.now digest → take r.0 edge.now ++ r.1 ∷ [] ≡ edge_from D.digest ds level (count + 1)) }
-    ensures filled { OnOk result ((ds : List (List ℕ)) → EndsWith D.digest ds level count edge.now digest → AreAdded D.digest ds (completed_from (8 - level) level (count + 1)) (map (λ t. (t.tile, t.digests.items)) filled.old.items) (map (λ t. (t.tile, t.digests.items)) filled.new.items)) }
+    ensures kept { IfOk result (λ r. (r.0 ≤ length edge.now)
+        × (r.0 + 1 ≡ width_from level (count + 1))) }
+    ensures edge { IfOk result (λ r. (ds : List (List ℕ))
+        → EndsWith D.digest ds level count edge.now digest
+        → take r.0 edge.now ++ r.1 ∷ [] ≡ edge_from D.digest ds level (count + 1)) }
+    ensures filled { OnOk result ((ds : List (List ℕ))
+        → EndsWith D.digest ds level count edge.now digest
+        → AreAdded D.digest ds (completed_from (8 - level) level (count + 1))
+        (map (λ t. (t.tile, t.digests.items)) filled.old.items)
+        (map (λ t. (t.tile, t.digests.items)) filled.new.items)) }
 {
     if count % 256 < 255 {
         return Ok((edge.len(), digest));

@@ -26,8 +26,10 @@ impl Bundle {
 
     /// Adds an entry behind the others. A refused call leaves the bundle as it was.
     pub fn push(&mut self, alloc: Global, entry: &[u8]) -> Result<(), Refusal>
-        ensures ok { OnOk result (self.new.bytes.items ≡ self.old.bytes.items ++ bundle_of (entry.now ∷ [])) }
-        ensures err { OnErr result ((self.new.bytes.items ≡ self.old.bytes.items) × (self.new.count ≡ self.old.count)) }
+        ensures ok { OnOk result (self.new.bytes.items
+            ≡ self.old.bytes.items ++ bundle_of (entry.now ∷ [])) }
+        ensures err { OnErr result ((self.new.bytes.items ≡ self.old.bytes.items)
+            × (self.new.count ≡ self.old.count)) }
     {
         let bytes = match write_entries(alloc, &[entry]) {
             Ok(bytes) => bytes,

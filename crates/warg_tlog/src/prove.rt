@@ -109,7 +109,8 @@ fn new_root(
     root: &Hash<Sha256>,
     path: &[Hash<Sha256>],
 ) -> Option<Hash<Sha256>>
-    ensures { IfSome result (λ to. consistency_roots sha256 old new root.now path.now ≡ Some (root.now, to)) }
+    ensures { IfSome result (λ to. consistency_roots sha256 old new root.now path.now
+        ≡ Some (root.now, to)) }
 {
     match roots_of_consistency(old, new, root, path) {
         Some((old_root, new_root)) if old_root == *root => Some(new_root),

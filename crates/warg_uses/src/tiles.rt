@@ -14,7 +14,8 @@ pub fn opened_again(
     alloc: Global,
     log: &TileLog<Sha256, &'static str>,
 ) -> Result<TileLog<Sha256, &'static str>, OpenError>
-    ensures { IfOk result (λ again. (ds : List (List ℕ)) → StandsFor sha256 log.now ds → StandsFor sha256 again ds) }
+    ensures { IfOk result (λ again. (ds : List (List ℕ)) → StandsFor sha256 log.now ds
+        → StandsFor sha256 again ds) }
 {
     let tiles = log.partial(alloc)?;
     TileLog::open(alloc, log.length(), tiles.as_slice())

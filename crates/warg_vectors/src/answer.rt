@@ -4,7 +4,7 @@ use std::alloc::{AllocError, Global};
 use std::fmt::{Debug, Display, Write};
 use warg_crypto::Hash;
 
-/// The answer to a line: words that are parted by one space.
+/// The answer to a line: words that are separated by one space.
 #[derive(Drop)]
 pub(crate) struct Answer {
     text: String,
@@ -87,7 +87,7 @@ impl Answer {
     }
 }
 
-/// The text of a list: `[]` for none, else words that are parted by commas, with `COUNT*WORD` for equal neighbours.
+/// The text of a list: `[]` for none, else words that are separated by commas, with `COUNT*WORD` for equal neighbours.
 #[derive(Drop)]
 pub(crate) struct List {
     text: String,

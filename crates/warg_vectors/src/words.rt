@@ -30,8 +30,8 @@ impl<T: Drop> From<AllocFailed<T>> for Fault {
 // How often a list's `COUNT*WORD` may repeat its word.
 const MOST_COPIES: usize = 1 << 24;
 
-/// The words that are still to be read, from left to right: those of a line, parted by spaces, or of an item of a list,
-/// parted by colons.
+/// The words that are still to be read, from left to right: those of a line, separated by spaces, or of an item of a list,
+/// separated by colons.
 #[derive(Drop)]
 pub(crate) struct Words<'a> {
     alloc: Global,
@@ -46,7 +46,7 @@ impl<'a> Words<'a> {
         Words::parted(alloc, line, ' ')
     }
 
-    /// The words of one word that are parted by colons.
+    /// The words of one word that are separated by colons.
     pub(crate) fn colons(alloc: Global, word: &'a str) -> Words<'a> {
         Words::parted(alloc, word, ':')
     }
@@ -224,7 +224,7 @@ impl<A: Given, B: Given> Given for (A, B) {
     }
 }
 
-/// A list: `[]` for none, else items that are parted by commas. `COUNT*WORD` stands for equal neighbours.
+/// A list: `[]` for none, else items that are separated by commas. `COUNT*WORD` stands for equal neighbours.
 #[derive(Drop)]
 pub(crate) struct List<T> {
     pub(crate) items: Vec<T>,

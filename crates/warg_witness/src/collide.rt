@@ -17,8 +17,10 @@ pub(crate) fn collide_values<D: SupportedDigest, V: VisitBytes, W: VisitBytes, A
     first: &V,
     second: &W,
 ) -> Result<Collision<D, A>, AllocError>
-    requires { Collides D.digest (inputs_of divergence.now (leaf_input (V.bytes first.now)) (leaf_input (W.bytes second.now))) }
-    ensures { IfOk result (λ c. c ≡ inputs_of divergence.now (leaf_input (V.bytes first.now)) (leaf_input (W.bytes second.now))) }
+    requires { Collides D.digest (inputs_of divergence.now (leaf_input (V.bytes first.now))
+        (leaf_input (W.bytes second.now))) }
+    ensures { IfOk result (λ c. c ≡ inputs_of divergence.now (leaf_input (V.bytes first.now))
+        (leaf_input (W.bytes second.now))) }
 {
     if !divergence.is_target() {
         return collide_branch(alloc, divergence);

@@ -21,8 +21,9 @@ impl ByteVisitor for Window<'_> {
     ghost use Rattle.std.specs.Prelude.{◌↔◌, ◌++◌, List, ℕ, IsTrue};
     ghost use Rattle.warg_witness.specs.Private.Compared.{StandsAt, IsFound};
 
-    // Whatever comes next, the piece is found exactly where the bytes so far are the piece's and its rest follows.
-    ghost stands_for = { λ w m. (more : List ℕ) → (IsTrue w.same × StandsAt w.skip w.rest.now more) ↔ IsFound (m ++ more) };
+    // Whatever comes next, the piece is found exactly if the bytes so far are the piece's and its rest follows.
+    ghost stands_for = { λ w m. (more : List ℕ) → (IsTrue w.same × StandsAt w.skip w.rest.now more)
+        ↔ IsFound (m ++ more) };
 
     fn visit_bytes(&mut self, bytes: &[u8]) {
         let passed = self.skip.min(bytes.len());
@@ -61,8 +62,10 @@ impl<V: VisitBytes> ByteVisitor for Front<'_, V> {
     ghost use Rattle.std.specs.Prelude.{◌↔◌, ◌++◌, List, ℕ, IsTrue, IfSome};
     ghost use Rattle.warg_witness.specs.Private.Compared.{StandsAt, IsFront};
 
-    // Whatever comes next, all is a front exactly where the bytes so far are one and the rest stands behind them.
-    ghost stands_for = { λ f m. IfSome f.count (λ count. (more : List ℕ) → (IsTrue f.same × StandsAt count more (V.bytes f.of.now)) ↔ IsFront (m ++ more)) };
+    // Whatever comes next, all is a front exactly if the bytes so far are one and the rest stands behind them.
+    ghost stands_for = { λ f m. IfSome f.count
+        (λ count. (more : List ℕ) → (IsTrue f.same × StandsAt count more (V.bytes f.of.now))
+        ↔ IsFront (m ++ more)) };
 
     fn visit_bytes(&mut self, bytes: &[u8]) {
         let Some(count) = self.count else {
@@ -75,7 +78,8 @@ impl<V: VisitBytes> ByteVisitor for Front<'_, V> {
 
 // Whether the bytes of `value` begin with those of `front`. Refused only where these can't be counted.
 fn begins_with<V: VisitBytes, W: VisitBytes>(value: &V, front: &W) -> Result<bool, AllocError>
-    ensures { IfOk result (λ begins. IsTrue begins ↔ StandsAt 0 (W.bytes front.now) (V.bytes value.now)) }
+    ensures { IfOk result (λ begins. IsTrue begins
+        ↔ StandsAt 0 (W.bytes front.now) (V.bytes value.now)) }
 {
     let mut visitor = Front {
         of: value,

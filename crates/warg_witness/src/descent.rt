@@ -43,11 +43,16 @@ fn part_digests<D: SupportedDigest, V: VisitBytes, L: LogData<D, V>>(
 ) -> (Hash<D>, Hash<D>)
     requires around { IsAround target.now.start target.now.count range.now.start range.now.count }
     requires other { range.now.start ≡ target.now.start → range.now.count ≡ target.now.count → ⊥ }
-    requires some { IsSome (cut_over D.digest (L.digest_at hashes.now) hash.now target.now.start target.now.count range.now.start range.now.count) }
-    ensures left { cut_over D.digest (L.digest_at hashes.now) hash.now target.now.start target.now.count
+    requires some { IsSome (cut_over D.digest
+        (L.digest_at
+        hashes.now) hash.now target.now.start target.now.count range.now.start range.now.count) }
+    ensures left { cut_over D.digest
+        (L.digest_at hashes.now) hash.now target.now.start target.now.count
         range.now.start (front_of range.now.count) ≡ Some result.0 }
-    ensures right { cut_over D.digest (L.digest_at hashes.now) hash.now target.now.start target.now.count
-        (range.now.start + front_of range.now.count) (range.now.count - front_of range.now.count) ≡ Some result.1 }
+    ensures right { cut_over D.digest
+        (L.digest_at hashes.now) hash.now target.now.start target.now.count
+        (range.now.start + front_of range.now.count) (range.now.count - front_of range.now.count)
+        ≡ Some result.1 }
 {
     let (front, rest) = range.split();
     let Some(left) = range_root(hashes, target, hash, &front) else {
@@ -78,7 +83,7 @@ fn part_around(target: &LeafRange, range: &LeafRange) -> LeafRange
     }
 }
 
-/// Goes down from a range at which two evaluations have one digest to the target, and answers where
+/// Goes down from a range at which two evaluations have one digest to the target, and returns where
 /// their inputs differ first.
 pub(crate) fn descend<D: SupportedDigest, V: VisitBytes, L: LogData<D, V>, M: LogData<D, V>>(
     first: &L,
@@ -91,9 +96,11 @@ pub(crate) fn descend<D: SupportedDigest, V: VisitBytes, L: LogData<D, V>, M: Lo
     requires node { IsNodeRange target.now.start target.now.count }
     requires aligned { IsAligned range.now.start range.now.count }
     requires around { IsAround target.now.start target.now.count range.now.start range.now.count }
-    requires one { HaveOneDigest D.digest (L.digest_at first.now) first_hash.now (M.digest_at second.now) second_hash.now
+    requires one { HaveOneDigest D.digest (L.digest_at first.now) first_hash.now
+        (M.digest_at second.now) second_hash.now
         target.now.start target.now.count range.now.start range.now.count }
-    ensures { IsDivergence D.digest (L.digest_at first.now) first_hash.now (M.digest_at second.now) second_hash.now
+    ensures { IsDivergence D.digest (L.digest_at first.now) first_hash.now
+        (M.digest_at second.now) second_hash.now
         target.now.start target.now.count range.now.start range.now.count result }
 {
     if range.equals(target) {

@@ -27,49 +27,66 @@ use warg_crypto::SupportedDigest;
 
 /// A value's claim that is met and isn't true gives a collision.
 pub fn value_or_collision()
-    ensures { (H : List ℕ → List ℕ) (F : ℕ → Option (List ℕ)) (value : List ℕ) (node n : ℕ) (entries : List (List ℕ)) → GivesHashes H → HoldsHashes F
-        → IsMet H F (leaf_digest H value) node n entries → (IsEntry value node entries → ⊥) → SomeCollision H (IsValuePlaced H F value node entries) }
+    ensures { (H : List ℕ → List ℕ) (F : ℕ → Option (List ℕ)) (value : List ℕ) (node n : ℕ)
+        (entries : List (List ℕ)) → GivesHashes H → HoldsHashes F
+        → IsMet H F (leaf_digest H value) node n entries → (IsEntry value node entries → ⊥)
+        → SomeCollision H (IsValuePlaced H F value node entries) }
 {}
 
 /// A hash's claim that is met and isn't true gives a collision.
 pub fn hash_or_collision()
-    ensures { (H : List ℕ → List ℕ) (F : ℕ → Option (List ℕ)) (hash : List ℕ) (node n : ℕ) (entries : List (List ℕ)) → GivesHashes H → HoldsHashes F → length hash ≡ 32
-        → IsMet H F hash node n entries → (IsRootBelow H hash node entries → ⊥) → SomeCollision H (IsHashPlaced H F hash node entries) }
+    ensures { (H : List ℕ → List ℕ) (F : ℕ → Option (List ℕ)) (hash : List ℕ) (node n : ℕ)
+        (entries : List (List ℕ)) → GivesHashes H → HoldsHashes F → length hash ≡ 32
+        → IsMet H F hash node n entries → (IsRootBelow H hash node entries → ⊥)
+        → SomeCollision H (IsHashPlaced H F hash node entries) }
 {}
 
 /// Two different values that lead to one root over two data give a collision.
 pub fn agreement_or_collision()
-    ensures { (H : List ℕ → List ℕ) (F : ℕ → Option (List ℕ)) (value : List ℕ) (G : ℕ → Option (List ℕ)) (other : List ℕ) (node n : ℕ) → GivesHashes H → HoldsHashes F → HoldsHashes G
-        → IsAgreement H F (leaf_digest H value) G (leaf_digest H other) node n → (value ≡ other → ⊥) → SomeCollision H (IsAgreementPlaced H F value G other node n) }
+    ensures { (H : List ℕ → List ℕ) (F : ℕ → Option (List ℕ)) (value : List ℕ)
+        (G : ℕ → Option (List ℕ)) (other : List ℕ) (node n : ℕ) → GivesHashes H → HoldsHashes F
+        → HoldsHashes G
+        → IsAgreement H F (leaf_digest H value) G (leaf_digest H other) node n → (value ≡ other → ⊥)
+        → SomeCollision H (IsAgreementPlaced H F value G other node n) }
 {}
 
 /// A claim of consistency that is met and isn't true gives a collision.
 pub fn consistency_or_collision()
-    ensures { (H : List ℕ → List ℕ) (F : ℕ → Option (List ℕ)) (m n : ℕ) (old new : List (List ℕ)) → GivesHashes H → HoldsHashes F
-        → IsConsistencyMet H F m n old new → (Begins old new → ⊥) → SomeCollision H (IsConsistencyPlaced H F old new) }
+    ensures { (H : List ℕ → List ℕ) (F : ℕ → Option (List ℕ)) (m n : ℕ) (old new : List (List ℕ))
+        → GivesHashes H → HoldsHashes F
+        → IsConsistencyMet H F m n old new → (Begins old new → ⊥)
+        → SomeCollision H (IsConsistencyPlaced H F old new) }
 {}
 
 /// Two different values that two proofs of one key lead to one root give a collision.
 pub fn key_agreement_or_collision()
-    ensures { (H : List ℕ → List ℕ) (key : List ℕ) (peers : List (Option (List ℕ))) (value : List ℕ) (other_peers : List (Option (List ℕ))) (other : List ℕ) → GivesHashes H → HoldsPeers peers → HoldsPeers other_peers
-        → IsKeyAgreement H key peers value other_peers other → (value ≡ other → ⊥) → SomeCollision H (IsKeyAgreementPlaced H key peers value other_peers other) }
+    ensures { (H : List ℕ → List ℕ) (key : List ℕ) (peers : List (Option (List ℕ))) (value : List ℕ)
+        (other_peers : List (Option (List ℕ))) (other : List ℕ) → GivesHashes H → HoldsPeers peers
+        → HoldsPeers other_peers
+        → IsKeyAgreement H key peers value other_peers other → (value ≡ other → ⊥)
+        → SomeCollision H (IsKeyAgreementPlaced H key peers value other_peers other) }
 {}
 
 /// A key's claim that is met and isn't true gives a collision.
 pub fn key_or_collision()
-    ensures { (H : List ℕ → List ℕ) (peers : List (Option (List ℕ))) (key value : List ℕ) (insertions : List (List ℕ × List ℕ)) → GivesHashes H → HoldsPeers peers
-        → IsKeyMet H peers key value insertions → (IsLastValue key value insertions → ⊥) → SomeCollision H (IsKeyPlaced H peers value key insertions) }
+    ensures { (H : List ℕ → List ℕ) (peers : List (Option (List ℕ))) (key value : List ℕ)
+        (insertions : List (List ℕ × List ℕ)) → GivesHashes H → HoldsPeers peers
+        → IsKeyMet H peers key value insertions → (IsLastValue key value insertions → ⊥)
+        → SomeCollision H (IsKeyPlaced H peers value key insertions) }
 {}
 
 /// An absence's claim that is met and isn't true gives a collision.
 pub fn absence_or_collision()
-    ensures { (H : List ℕ → List ℕ) (peers : List (Option (List ℕ))) (key : List ℕ) (insertions : List (List ℕ × List ℕ)) → GivesHashes H → HoldsPeers peers
-        → IsAbsenceMet H peers key insertions → (IsLastValue key [] insertions → ⊥) → SomeCollision H (IsKeyPlaced H peers [] key insertions) }
+    ensures { (H : List ℕ → List ℕ) (peers : List (Option (List ℕ))) (key : List ℕ)
+        (insertions : List (List ℕ × List ℕ)) → GivesHashes H → HoldsPeers peers
+        → IsAbsenceMet H peers key insertions → (IsLastValue key [] insertions → ⊥)
+        → SomeCollision H (IsKeyPlaced H peers [] key insertions) }
 {}
 
 /// An update's claim that is met and isn't true gives a collision.
 pub fn update_or_collision()
-    ensures { (H : List ℕ → List ℕ) (peers : List (Option (List ℕ))) (key old_value new_value : List ℕ)
+    ensures { (H : List ℕ → List ℕ) (peers : List (Option (List ℕ)))
+        (key old_value new_value : List ℕ)
         → (insertions : List (List ℕ × List ℕ)) → GivesHashes H → HoldsPeers peers
         → IsKeyMet H peers key old_value insertions → ¬ (IsUpdated H peers key new_value insertions)
         → SomeCollision H (IsPlacedAtPrefix H peers old_value key insertions) }
@@ -79,7 +96,8 @@ pub fn update_or_collision()
 /// order, or two byte strings collide at one of the steps. So whoever checks each step knows that nothing else was
 /// inserted, changed or removed.
 pub fn steps_or_collision()
-    ensures { (H : List ℕ → List ℕ) (steps : List Step) (root : List ℕ) → GivesHashes H → AllByRecursion (λ s. HoldsPeers s.peers) steps
+    ensures { (H : List ℕ → List ℕ) (steps : List Step) (root : List ℕ) → GivesHashes H
+        → AllByRecursion (λ s. HoldsPeers s.peers) steps
         → LeadThrough H (sparse_root H 256 empty) steps root
         → (root ≡ sparse_root H 256 (map_of H (insertions_of steps))) ⊎ CollidesAtStep H steps }
 {}
@@ -87,29 +105,35 @@ pub fn steps_or_collision()
 /// A map's own proof of a key whose value was inserted last of its digest meets the claim of any update of it, and the
 /// claim is true.
 pub fn own_update()
-    ensures { (H : List ℕ → List ℕ) (insertions : List (List ℕ × List ℕ)) (key old_value new_value : List ℕ)
-        → (peers : List (Option (List ℕ))) → last_under H (key_bits H key) insertions ≡ Some (key, old_value)
+    ensures { (H : List ℕ → List ℕ) (insertions : List (List ℕ × List ℕ))
+        (key old_value new_value : List ℕ)
+        → (peers : List (Option (List ℕ))) → last_under H (key_bits H key) insertions
+        ≡ Some (key, old_value)
         → length peers ≤ 256 → Proves H 256 (map_of H insertions) (key_bits H key) peers
         → IsKeyMet H peers key old_value insertions × IsUpdated H peers key new_value insertions }
 {}
 
 /// A map's own proof that a key's digest isn't held meets the claim of any insertion under it, and the claim is true.
 pub fn own_insertion()
-    ensures { (H : List ℕ → List ℕ) (insertions : List (List ℕ × List ℕ)) (key value : List ℕ) (peers : List (Option (List ℕ)))
+    ensures { (H : List ℕ → List ℕ) (insertions : List (List ℕ × List ℕ)) (key value : List ℕ)
+        (peers : List (Option (List ℕ)))
         → length peers ≤ 256 → ProvesAbsent H (map_of H insertions) (key_bits H key) peers
         → IsAbsenceMet H peers key insertions × IsUpdated H peers key value insertions }
 {}
 
 /// Where two maps of insertions have equal roots, each value of the one that its map holds, under the key that was
 /// inserted last of its digest, meets the claim over the other's insertions, by its own proof. So
-/// [`witness_key`](crate::witness_key) answers `Holds` or a collision there.
+/// [`witness_key`](crate::witness_key) returns `Holds` or a collision there.
 pub fn equal_roots()
-    ensures { (H : List ℕ → List ℕ) (insertions others : List (List ℕ × List ℕ)) (key value : List ℕ) (peers : List (Option (List ℕ)))
-        → sparse_root H 256 (map_of H insertions) ≡ sparse_root H 256 (map_of H others) → last_under H (key_bits H key) insertions ≡ Some (key, value) → length peers ≤ 256
-        → Proves H 256 (map_of H insertions) (key_bits H key) peers → IsKeyMet H peers key value others }
+    ensures { (H : List ℕ → List ℕ) (insertions others : List (List ℕ × List ℕ))
+        (key value : List ℕ) (peers : List (Option (List ℕ)))
+        → sparse_root H 256 (map_of H insertions) ≡ sparse_root H 256 (map_of H others)
+        → last_under H (key_bits H key) insertions ≡ Some (key, value) → length peers ≤ 256
+        → Proves H 256 (map_of H insertions) (key_bits H key) peers
+        → IsKeyMet H peers key value others }
 {}
 
-/// Findings are equal exactly where they are of one kind, and, as collisions, have the same byte strings.
+/// Findings are equal exactly if they are of one kind, and, as collisions, have the same byte strings.
 pub fn equal_findings<D: SupportedDigest, A: Allocator>(
     first: &Finding<D, A>,
     second: &Finding<D, A>,

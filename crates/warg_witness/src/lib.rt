@@ -2,7 +2,7 @@
 //! their root, and lies, into two byte strings of one digest. By agreement whoever holds one root alone does
 //! so with two proofs that lead to it.
 //!
-//! Each call answers a [`Finding`]: the proof's evaluation doesn't lead to the roots of what is given; or it
+//! Each call returns a [`Finding`]: the proof's evaluation doesn't lead to the roots of what is given; or it
 //! does, and the proof's claim is true; or it does, the claim is false, and here are two different byte
 //! strings of equal digest.
 #![tactic(auto)]

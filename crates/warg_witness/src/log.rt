@@ -48,10 +48,15 @@ fn meet_entries<D: SupportedDigest, V: VisitBytes, L: LogData<D, V>, A: Allocato
     entries: &[V],
 ) -> Result<Option<Meeting<D, V, A>>, AllocError>
     ensures count { (length entries.now ≡ proof.now.log_length → ⊥) → result ≡ Ok None }
-    ensures fails { ((ExistsAt proof.now.leaf.0 proof.now.log_length → ⊥) ⊎ (cut_root D.digest (L.digest_at hashes.now) proof.now.leaf.0 hash.now proof.now.log_length ≡ None)) → result ≡ Ok None }
+    ensures fails { ((ExistsAt proof.now.leaf.0 proof.now.log_length → ⊥)
+        ⊎ (cut_root D.digest (L.digest_at hashes.now) proof.now.leaf.0 hash.now proof.now.log_length
+        ≡ None)) → result ≡ Ok None }
     ensures met { IfOk result (λ met. MatchOption met
-        (IsMet D.digest (L.digest_at hashes.now) hash.now proof.now.leaf.0 proof.now.log_length (map (λ e. V.bytes e) entries.now) → ⊥)
-        (λ m. IsMeeting D.digest (L.digest_at hashes.now) hash.now proof.now.leaf.0 proof.now.log_length (map (λ e. V.bytes e) entries.now)
+        (IsMet D.digest (L.digest_at hashes.now) hash.now proof.now.leaf.0 proof.now.log_length
+        (map (λ e. V.bytes e) entries.now) → ⊥)
+        (λ m.
+        IsMeeting D.digest (L.digest_at hashes.now) hash.now proof.now.leaf.0 proof.now.log_length
+        (map (λ e. V.bytes e) entries.now)
         m.tree m.target.start m.target.count m.plain m.divergence)) }
 {
     if entries.len() != proof.log_length() {
@@ -83,7 +88,8 @@ fn is_entry<D: SupportedDigest, V: VisitBytes, A: Allocator>(
     entries: &[V],
 ) -> Result<bool, AllocError>
     requires { met.now.target.start + met.now.target.count ≤ length entries.now }
-    ensures { IfOk result (λ is. IsTrue is ↔ IsAt (V.bytes value.now) (map (λ e. V.bytes e) entries.now) met.now.target.start met.now.target.count) }
+    ensures { IfOk result (λ is. IsTrue is ↔ IsAt (V.bytes value.now)
+        (map (λ e. V.bytes e) entries.now) met.now.target.start met.now.target.count) }
 {
     if met.target.count != 1 {
         return Ok(false);
@@ -101,8 +107,12 @@ fn collide<D: SupportedDigest, V: VisitBytes, A: Allocator + Copy>(
     requires tree { met.now.tree ≡ leaves_of D.digest (map (λ e. V.bytes e) entries.now) }
     requires node { IsNodeRange met.now.target.start met.now.target.count }
     requires within { met.now.target.start + met.now.target.count ≤ length entries.now }
-    requires collides { Collides D.digest (inputs_of met.now.divergence (leaf_input (V.bytes value.now)) (plain_input D.digest (map (λ e. V.bytes e) entries.now) met.now.target.start met.now.target.count)) }
-    ensures { IfOk result (λ c. c ≡ inputs_of met.now.divergence (leaf_input (V.bytes value.now)) (plain_input D.digest (map (λ e. V.bytes e) entries.now) met.now.target.start met.now.target.count)) }
+    requires collides { Collides D.digest (inputs_of met.now.divergence
+        (leaf_input (V.bytes value.now)) (plain_input D.digest
+        (map (λ e. V.bytes e) entries.now) met.now.target.start met.now.target.count)) }
+    ensures { IfOk result (λ c. c ≡ inputs_of met.now.divergence (leaf_input (V.bytes value.now))
+        (plain_input D.digest
+        (map (λ e. V.bytes e) entries.now) met.now.target.start met.now.target.count)) }
 {
     if !met.divergence.is_target() {
         return collide_branch(alloc, &met.divergence);
@@ -115,9 +125,9 @@ fn collide<D: SupportedDigest, V: VisitBytes, A: Allocator + Copy>(
 /// Whether a proof's claim about a value is true of the entries: the node is a leaf, and its entry has the
 /// value's bytes.
 ///
-/// `NotMet` exactly where the entries aren't as many as the proof's length says, or the evaluation over the
+/// `NotMet` exactly if the entries aren't as many as the proof's length says, or the evaluation over the
 /// data isn't Ok, both of which are decided before any growth, or it isn't with the root of the tree over the
-/// entries. `Holds` exactly where it is, and the claim is true. Else a collision: what the digest function
+/// entries. `Holds` exactly if it is, and the claim is true. Else a collision: what the digest function
 /// takes in the evaluation (first) and in the tree over the entries (second) at one range around the node.
 ///
 /// It hashes each leaf and branch of the tree over the entries once, and few digests on one path beside
@@ -139,13 +149,15 @@ pub fn witness_value<D: SupportedDigest, V: VisitBytes, L: LogData<D, V>, A: All
 ) -> Result<Finding<D, A>, AllocError>
     ensures count { (length entries.now ≡ proof.now.log_length → ⊥) → result ≡ Ok Finding.NotMet }
     ensures fails { (¬ (ExistsAt proof.now.leaf.0 proof.now.log_length)
-        ⊎ (cut_root D.digest (L.digest_at hashes.now) proof.now.leaf.0 (leaf_digest D.digest (V.bytes value.now)) proof.now.log_length ≡ None))
+        ⊎ (cut_root D.digest (L.digest_at hashes.now) proof.now.leaf.0
+        (leaf_digest D.digest (V.bytes value.now)) proof.now.log_length ≡ None))
         → result ≡ Ok Finding.NotMet }
     ensures found { IfOk result (Finds
         (IsMet D.digest (L.digest_at hashes.now) (leaf_digest D.digest (V.bytes value.now))
         proof.now.leaf.0 proof.now.log_length (map (λ e. V.bytes e) entries.now))
         (IsEntry (V.bytes value.now) proof.now.leaf.0 (map (λ e. V.bytes e) entries.now))
-        (IsValuePlaced D.digest (L.digest_at hashes.now) (V.bytes value.now) proof.now.leaf.0 (map (λ e. V.bytes e) entries.now))) }
+        (IsValuePlaced D.digest (L.digest_at hashes.now) (V.bytes value.now) proof.now.leaf.0
+        (map (λ e. V.bytes e) entries.now))) }
 {
     let hash = hash_leaf::<D, V>(value);
     let Some(met) = meet_entries(alloc, proof, hashes, &hash, entries)? else {
@@ -160,9 +172,9 @@ pub fn witness_value<D: SupportedDigest, V: VisitBytes, L: LogData<D, V>, A: All
 /// Whether a proof's claim about a hash is true of the entries: the hash is the root of the entries below
 /// the node.
 ///
-/// `NotMet` exactly where the entries aren't as many as the proof's length says, or the evaluation over the
+/// `NotMet` exactly if the entries aren't as many as the proof's length says, or the evaluation over the
 /// data isn't Ok, both of which are decided before any growth, or it isn't with the root of the tree over the
-/// entries. `Holds` exactly where it is, and the claim is true. Else a collision: what the digest function
+/// entries. `Holds` exactly if it is, and the claim is true. Else a collision: what the digest function
 /// takes in the evaluation (first) and in the tree over the entries (second) at one range around the node.
 ///
 /// It hashes each leaf and branch of the tree over the entries once, and few digests on one path beside
@@ -176,11 +188,14 @@ pub fn witness_hash<D: SupportedDigest, V: VisitBytes, L: LogData<D, V>, A: Allo
 ) -> Result<Finding<D, A>, AllocError>
     ensures count { (length entries.now ≡ proof.now.log_length → ⊥) → result ≡ Ok Finding.NotMet }
     ensures fails { (¬ (ExistsAt proof.now.leaf.0 proof.now.log_length)
-        ⊎ (cut_root D.digest (L.digest_at hashes.now) proof.now.leaf.0 hash proof.now.log_length ≡ None)) → result ≡ Ok Finding.NotMet }
+        ⊎ (cut_root D.digest (L.digest_at hashes.now) proof.now.leaf.0 hash proof.now.log_length
+        ≡ None)) → result ≡ Ok Finding.NotMet }
     ensures found { IfOk result (Finds
-        (IsMet D.digest (L.digest_at hashes.now) hash proof.now.leaf.0 proof.now.log_length (map (λ e. V.bytes e) entries.now))
+        (IsMet D.digest (L.digest_at hashes.now) hash proof.now.leaf.0 proof.now.log_length
+        (map (λ e. V.bytes e) entries.now))
         (IsRootBelow D.digest hash proof.now.leaf.0 (map (λ e. V.bytes e) entries.now))
-        (IsHashPlaced D.digest (L.digest_at hashes.now) hash proof.now.leaf.0 (map (λ e. V.bytes e) entries.now))) }
+        (IsHashPlaced D.digest (L.digest_at hashes.now) hash proof.now.leaf.0
+        (map (λ e. V.bytes e) entries.now))) }
 {
     let Some(met) = meet_entries(alloc, proof, hashes, &hash, entries)? else {
         return Ok(Finding::NotMet);
@@ -194,8 +209,8 @@ pub fn witness_hash<D: SupportedDigest, V: VisitBytes, L: LogData<D, V>, A: Allo
 /// Whether two evaluations of one proof, over two data and with two values, that lead to one root, whichever
 /// it is, are of the same value: for a client that holds no entries.
 ///
-/// `NotMet` exactly where one evaluation isn't Ok or both lead to different roots, which takes no memory.
-/// `Holds` exactly where both are Ok with one root, and the values have the same bytes. Else a collision: what
+/// `NotMet` exactly if one evaluation isn't Ok or both lead to different roots, which takes no memory.
+/// `Holds` exactly if both are Ok with one root, and the values have the same bytes. Else a collision: what
 /// the digest function takes in the first and in the second evaluation at one range around the node. Out of
 /// memory is the only error. A value of more than `usize::MAX` bytes counts as that.
 pub fn agree_value<
@@ -212,15 +227,20 @@ pub fn agree_value<
     second_hashes: &M,
     second_value: &V,
 ) -> Result<Finding<D, A>, AllocError>
-    ensures unmet { ¬ (IsAgreement D.digest (L.digest_at first_hashes.now) (leaf_digest D.digest (V.bytes first_value.now))
-        (M.digest_at second_hashes.now) (leaf_digest D.digest (V.bytes second_value.now)) proof.now.leaf.0 proof.now.log_length)
+    ensures unmet { ¬ (IsAgreement D.digest (L.digest_at first_hashes.now)
+        (leaf_digest D.digest (V.bytes first_value.now))
+        (M.digest_at second_hashes.now) (leaf_digest D.digest
+        (V.bytes second_value.now)) proof.now.leaf.0 proof.now.log_length)
         → result ≡ Ok Finding.NotMet }
     ensures found { IfOk result (Finds
-        (IsAgreement D.digest (L.digest_at first_hashes.now) (leaf_digest D.digest (V.bytes first_value.now))
-        (M.digest_at second_hashes.now) (leaf_digest D.digest (V.bytes second_value.now)) proof.now.leaf.0 proof.now.log_length)
+        (IsAgreement D.digest (L.digest_at first_hashes.now)
+        (leaf_digest D.digest (V.bytes first_value.now))
+        (M.digest_at second_hashes.now) (leaf_digest D.digest
+        (V.bytes second_value.now)) proof.now.leaf.0 proof.now.log_length)
         (V.bytes first_value.now ≡ V.bytes second_value.now)
         (IsAgreementPlaced D.digest (L.digest_at first_hashes.now) (V.bytes first_value.now)
-        (M.digest_at second_hashes.now) (V.bytes second_value.now) proof.now.leaf.0 proof.now.log_length)) }
+        (M.digest_at second_hashes.now)
+        (V.bytes second_value.now) proof.now.leaf.0 proof.now.log_length)) }
 {
     let first_hash = hash_leaf::<D, V>(first_value);
     let second_hash = hash_leaf::<D, V>(second_value);

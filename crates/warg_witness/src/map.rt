@@ -46,9 +46,12 @@ fn plain_leaf<D: SupportedDigest, K: VisitBytes, V: VisitBytes>(
     insertions: &[(K, V)],
     last: Option<usize>,
 ) -> Hash<D>
-    requires { (bits : List Bool) × IsLastPlace D.digest (pair_bytes K.bytes V.bytes insertions.now) bits last }
-    ensures { (bits : List Bool) → IsLastPlace D.digest (pair_bytes K.bytes V.bytes insertions.now) bits last
-        → result ≡ leaf_digest D.digest (value_in (last_under D.digest bits (pair_bytes K.bytes V.bytes insertions.now))) }
+    requires { (bits : List Bool) × IsLastPlace D.digest
+        (pair_bytes K.bytes V.bytes insertions.now) bits last }
+    ensures { (bits : List Bool) → IsLastPlace D.digest
+        (pair_bytes K.bytes V.bytes insertions.now) bits last
+        → result ≡ leaf_digest D.digest (value_in
+        (last_under D.digest bits (pair_bytes K.bytes V.bytes insertions.now))) }
 {
     match last {
         Some(place) => hash_leaf(&insertions[place].1),
@@ -72,8 +75,10 @@ fn meet_insertions<
 ) -> Result<Option<KeyMeeting<D>>, AllocError>
     requires { length peers.now ≤ 256 }
     ensures { IfOk result (λ met. MatchOption met
-        (IsKeyMet D.digest peers.now (K.bytes key.now) (W.bytes value.now) (pair_bytes K.bytes V.bytes insertions.now) → ⊥)
-        (λ m. IsKeyMeeting D.digest peers.now (K.bytes key.now) (W.bytes value.now) (pair_bytes K.bytes V.bytes insertions.now) m.divergence m.last)) }
+        (IsKeyMet D.digest peers.now (K.bytes key.now) (W.bytes value.now)
+        (pair_bytes K.bytes V.bytes insertions.now) → ⊥)
+        (λ m. IsKeyMeeting D.digest peers.now (K.bytes key.now) (W.bytes value.now)
+        (pair_bytes K.bytes V.bytes insertions.now) m.divergence m.last)) }
 {
     let digest = Hash::of(key);
     let empty = empty_trees(alloc)?;
@@ -118,10 +123,16 @@ fn collide<D: SupportedDigest, K: VisitBytes, V: VisitBytes, W: VisitBytes, A: A
     value: &W,
     insertions: &[(K, V)],
 ) -> Result<Collision<D, A>, AllocError>
-    requires met { (peers : List (Option (List ℕ))) × IsKeyMeeting D.digest peers (K.bytes key.now) (W.bytes value.now) (pair_bytes K.bytes V.bytes insertions.now) met.now.divergence met.now.last }
-    requires untrue { IsLastValue (K.bytes key.now) (W.bytes value.now) (pair_bytes K.bytes V.bytes insertions.now) → ⊥ }
-    ensures { IfOk result (λ c. (peers : List (Option (List ℕ))) → IsKeyMeeting D.digest peers (K.bytes key.now) (W.bytes value.now) (pair_bytes K.bytes V.bytes insertions.now) met.now.divergence met.now.last
-        → IsKeyPlaced D.digest peers (W.bytes value.now) (K.bytes key.now) (pair_bytes K.bytes V.bytes insertions.now) c.0 c.1) }
+    requires met { (peers : List (Option (List ℕ)))
+        × IsKeyMeeting D.digest peers (K.bytes key.now) (W.bytes value.now)
+        (pair_bytes K.bytes V.bytes insertions.now) met.now.divergence met.now.last }
+    requires untrue { IsLastValue (K.bytes key.now) (W.bytes value.now)
+        (pair_bytes K.bytes V.bytes insertions.now) → ⊥ }
+    ensures { IfOk result (λ c. (peers : List (Option (List ℕ)))
+        → IsKeyMeeting D.digest peers (K.bytes key.now) (W.bytes value.now)
+        (pair_bytes K.bytes V.bytes insertions.now) met.now.divergence met.now.last
+        → IsKeyPlaced D.digest peers (W.bytes value.now) (K.bytes key.now)
+        (pair_bytes K.bytes V.bytes insertions.now) c.0 c.1) }
 {
     if !met.divergence.is_target() {
         return collide_branch(alloc, &met.divergence);
@@ -146,9 +157,12 @@ fn find<D: SupportedDigest, K: VisitBytes, V: VisitBytes, W: VisitBytes, A: Allo
 ) -> Result<Finding<D, A>, AllocError>
     requires { length peers.now ≤ 256 }
     ensures { IfOk result (Finds
-        (IsKeyMet D.digest peers.now (K.bytes key.now) (W.bytes value.now) (pair_bytes K.bytes V.bytes insertions.now))
-        (IsLastValue (K.bytes key.now) (W.bytes value.now) (pair_bytes K.bytes V.bytes insertions.now))
-        (IsKeyPlaced D.digest peers.now (W.bytes value.now) (K.bytes key.now) (pair_bytes K.bytes V.bytes insertions.now))) }
+        (IsKeyMet D.digest peers.now (K.bytes key.now) (W.bytes value.now)
+        (pair_bytes K.bytes V.bytes insertions.now))
+        (IsLastValue (K.bytes key.now) (W.bytes value.now)
+        (pair_bytes K.bytes V.bytes insertions.now))
+        (IsKeyPlaced D.digest peers.now (W.bytes value.now) (K.bytes key.now)
+        (pair_bytes K.bytes V.bytes insertions.now))) }
 {
     let Some(met) = meet_insertions(alloc, peers, key, value, insertions)? else {
         return Ok(Finding::NotMet);
@@ -162,8 +176,8 @@ fn find<D: SupportedDigest, K: VisitBytes, V: VisitBytes, W: VisitBytes, A: Allo
 /// Whether a proof's claim about a key's value is true of the insertions: the value inserted last under the key's
 /// bytes has the value's bytes. A key that is inserted nowhere counts as one with no bytes.
 ///
-/// `NotMet` exactly where the proof doesn't lead from the value to the root of the map of the insertions. `Holds`
-/// exactly where it does, and the claim is true. Else a collision: what the digest function takes in the evaluation
+/// `NotMet` exactly if the proof doesn't lead from the value to the root of the map of the insertions. `Holds`
+/// exactly if it does, and the claim is true. Else a collision: what the digest function takes in the evaluation
 /// (first) and in the plain tree over the insertions (second) at one prefix of the key's bits; or the key's bytes
 /// (first) and those of an inserted key with the same digest (second).
 ///
@@ -185,9 +199,12 @@ pub fn witness_key<
     insertions: &[(K, V)],
 ) -> Result<Finding<D, A>, AllocError>
     ensures found { IfOk result (Finds
-        (IsKeyMet D.digest proof.now (K.bytes key.now) (V.bytes value.now) (pair_bytes K.bytes V.bytes insertions.now))
-        (IsLastValue (K.bytes key.now) (V.bytes value.now) (pair_bytes K.bytes V.bytes insertions.now))
-        (IsKeyPlaced D.digest proof.now (V.bytes value.now) (K.bytes key.now) (pair_bytes K.bytes V.bytes insertions.now))) }
+        (IsKeyMet D.digest proof.now (K.bytes key.now) (V.bytes value.now)
+        (pair_bytes K.bytes V.bytes insertions.now))
+        (IsLastValue (K.bytes key.now) (V.bytes value.now)
+        (pair_bytes K.bytes V.bytes insertions.now))
+        (IsKeyPlaced D.digest proof.now (V.bytes value.now) (K.bytes key.now)
+        (pair_bytes K.bytes V.bytes insertions.now))) }
 {
     find(alloc, proof.peers(), key, value, insertions)
 }
@@ -195,8 +212,8 @@ pub fn witness_key<
 /// Whether a proof's claim that a key is absent is true of the insertions: the value inserted last under the key's
 /// bytes has no bytes, or the key is inserted nowhere.
 ///
-/// `NotMet` exactly where the proof doesn't lead from an empty leaf to the root of the map of the insertions. `Holds`
-/// exactly where it does, and the claim is true. Else a collision, as that of [`witness_key`] for a value without
+/// `NotMet` exactly if the proof doesn't lead from an empty leaf to the root of the map of the insertions. `Holds`
+/// exactly if it does, and the claim is true. Else a collision, as that of [`witness_key`] for a value without
 /// bytes, and at the same cost. Out of memory is the only error, as there.
 pub fn witness_absent<
     D: SupportedDigest,
@@ -211,16 +228,18 @@ pub fn witness_absent<
     insertions: &[(K, V)],
 ) -> Result<Finding<D, A>, AllocError>
     ensures found { IfOk result (Finds
-        (IsAbsenceMet D.digest proof.now (K.bytes key.now) (pair_bytes K.bytes V.bytes insertions.now))
+        (IsAbsenceMet D.digest proof.now (K.bytes key.now)
+        (pair_bytes K.bytes V.bytes insertions.now))
         (IsLastValue (K.bytes key.now) [] (pair_bytes K.bytes V.bytes insertions.now))
-        (IsKeyPlaced D.digest proof.now [] (K.bytes key.now) (pair_bytes K.bytes V.bytes insertions.now))) }
+        (IsKeyPlaced D.digest proof.now [] (K.bytes key.now)
+        (pair_bytes K.bytes V.bytes insertions.now))) }
 {
     find(alloc, proof.peers(), key, &(), insertions)
 }
 
 /// Whether two proofs of one key, each with a value, agree under one root, whichever it is.
 ///
-/// `NotMet` exactly where the two don't lead to one root, which takes no memory. `Holds` exactly where they do, and the
+/// `NotMet` exactly if the two don't lead to one root, which takes no memory. `Holds` exactly if they do, and the
 /// values have the same bytes. Else a collision: what the digest function takes in the first and in the second
 /// evaluation at one prefix of the key's bits. Out of memory is the only error. A value of more than `usize::MAX` bytes
 /// counts as that.
@@ -239,7 +258,8 @@ pub fn agree_key<
     second_proof: &Proof<D, K, V, C>,
     second_value: &V,
 ) -> Result<Finding<D, A>, AllocError>
-    ensures unmet { ¬ (IsKeyAgreement D.digest (K.bytes key.now) first_proof.now (V.bytes first_value.now)
+    ensures unmet { ¬ (IsKeyAgreement D.digest (K.bytes key.now) first_proof.now
+        (V.bytes first_value.now)
         second_proof.now (V.bytes second_value.now)) → result ≡ Ok Finding.NotMet }
     ensures found { IfOk result (Finds
         (IsKeyAgreement D.digest (K.bytes key.now) first_proof.now (V.bytes first_value.now)

@@ -36,10 +36,13 @@ fn meet_path<D: SupportedDigest, V: VisitBytes, A: Allocator>(
     leaf: &Hash<D>,
     entries: &[V],
 ) -> Result<Option<VecLog<D, V, A>>, AllocError>
-    ensures leads { inclusion_root D.digest index (length entries.now) leaf.now path.now ≡ None → result ≡ Ok None }
+    ensures leads { inclusion_root D.digest index (length entries.now) leaf.now path.now ≡ None
+        → result ≡ Ok None }
     ensures met { IfOk result (λ met. MatchOption met
-        (inclusion_root D.digest index (length entries.now) leaf.now path.now ≡ Some (root_of D.digest (leaves_of D.digest (map (λ e. V.bytes e) entries.now))) → ⊥)
-        (λ tree. IsPathMeeting D.digest index path.now leaf.now (map (λ e. V.bytes e) entries.now) tree)) }
+        (inclusion_root D.digest index (length entries.now) leaf.now path.now
+        ≡ Some (root_of D.digest (leaves_of D.digest (map (λ e. V.bytes e) entries.now))) → ⊥)
+        (λ tree. IsPathMeeting D.digest index path.now leaf.now
+        (map (λ e. V.bytes e) entries.now) tree)) }
 {
     let Some(root) = root_of_inclusion(index, entries.len(), leaf, path) else {
         return Ok(None);
@@ -64,8 +67,10 @@ fn part_digests<D: SupportedDigest>(
 ) -> (Hash<D>, Hash<D>)
     requires inside { index < range.now.count }
     requires some { 1 < range.now.count }
-    requires leads { IsSome (root_down D.digest index range.now.count leaf.now (top.now ∷ reverse below.now)) }
-    ensures { AreSides D.digest leaf.now index range.now.count top.now (reverse below.now) result.0 result.1 }
+    requires leads { IsSome (root_down D.digest index range.now.count leaf.now
+        (top.now ∷ reverse below.now)) }
+    ensures { AreSides D.digest leaf.now index range.now.count top.now
+        (reverse below.now) result.0 result.1 }
 {
     let (front, rest) = range.split();
     if index < front.count {
@@ -90,7 +95,8 @@ fn branch_divergence<D: SupportedDigest, V: VisitBytes, A: Allocator>(
     requires more { 1 < range.now.count }
     requires aligned { IsAligned range.now.start range.now.count }
     requires within { range.now.start + range.now.count ≤ length tree.now }
-    ensures { IsBranchDivergence D.digest left.now right.now tree.now range.now.start range.now.count result }
+    ensures { IsBranchDivergence D.digest left.now right.now tree.now range.now.start
+        range.now.count result }
 {
     let (front, rest) = range.split();
     let second_left = plain_digest(tree, &front);
@@ -108,7 +114,7 @@ fn branch_divergence<D: SupportedDigest, V: VisitBytes, A: Allocator>(
 }
 
 // Goes down from a range at which the evaluation and the tree have one digest to the leaf at `index` of its
-// leaves, and answers where their inputs differ first.
+// leaves, and returns where their inputs differ first.
 fn descend_path<D: SupportedDigest, V: VisitBytes, A: Allocator>(
     index: usize,
     path: &[Hash<D>],
@@ -119,8 +125,10 @@ fn descend_path<D: SupportedDigest, V: VisitBytes, A: Allocator>(
     requires inside { index < range.now.count }
     requires aligned { IsAligned range.now.start range.now.count }
     requires within { range.now.start + range.now.count ≤ length tree.now }
-    requires leads { root_down D.digest index range.now.count leaf.now (reverse path.now) ≡ Some (root_over D.digest tree.now range.now.start range.now.count) }
-    ensures { IsRecordDivergence D.digest leaf.now tree.now index range.now.start range.now.count (reverse path.now) result }
+    requires leads { root_down D.digest index range.now.count leaf.now (reverse path.now)
+        ≡ Some (root_over D.digest tree.now range.now.start range.now.count) }
+    ensures { IsRecordDivergence D.digest leaf.now tree.now index range.now.start range.now.count
+        (reverse path.now) result }
 {
     if range.count == 1 {
         return Divergence::Target;
@@ -143,9 +151,9 @@ fn descend_path<D: SupportedDigest, V: VisitBytes, A: Allocator>(
 /// Whether a path's claim about a record is true of the entries: the entry at `index`, from 0, has the value's
 /// bytes.
 ///
-/// `NotMet` exactly where the path doesn't lead from the value's leaf digest to the root of the tree over the
+/// `NotMet` exactly if the path doesn't lead from the value's leaf digest to the root of the tree over the
 /// entries; where it leads to no root, as where it has another length than that of this place or `index` is no
-/// place of the entries, before any growth. `Holds` exactly where it leads there, and the claim is true. Else a
+/// place of the entries, before any growth. `Holds` exactly if it leads there, and the claim is true. Else a
 /// collision: what the digest function takes in the evaluation of the path (first; RFC 6962, section 2.1.1) and in
 /// the tree over the entries (second) at one range on the way to the leaf.
 ///
@@ -159,12 +167,14 @@ pub fn witness_record<D: SupportedDigest, V: VisitBytes, A: Allocator + Copy>(
     value: &V,
     entries: &[V],
 ) -> Result<Finding<D, A>, AllocError>
-    ensures leads { inclusion_root D.digest index (length entries.now) (leaf_digest D.digest (V.bytes value.now)) path.now ≡ None
+    ensures leads { inclusion_root D.digest index (length entries.now)
+        (leaf_digest D.digest (V.bytes value.now)) path.now ≡ None
         → result ≡ Ok Finding.NotMet }
     ensures found { IfOk result (Finds
         (IsRecordMet D.digest index path.now (V.bytes value.now) (map (λ e. V.bytes e) entries.now))
         (IsRecord index (V.bytes value.now) (map (λ e. V.bytes e) entries.now))
-        (IsRecordPlaced D.digest index path.now (V.bytes value.now) (map (λ e. V.bytes e) entries.now))) }
+        (IsRecordPlaced D.digest index path.now (V.bytes value.now)
+        (map (λ e. V.bytes e) entries.now))) }
 {
     let leaf = hash_leaf::<D, V>(value);
     let Some(tree) = meet_path(alloc, index, path, &leaf, entries)? else {

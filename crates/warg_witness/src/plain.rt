@@ -16,7 +16,8 @@ pub(crate) fn plain_tree<D: SupportedDigest, V: VisitBytes, A: Allocator>(
     entries: &[V],
 ) -> Result<(VecLog<D, V, A>, Hash<D>), AllocError>
     requires { length entries.now ≤ 2 ^ 63 }
-    ensures tree { IfOk result (λ plain. plain.0 ≡ leaves_of D.digest (map (λ e. V.bytes e) entries.now)) }
+    ensures tree { IfOk result (λ plain. plain.0
+        ≡ leaves_of D.digest (map (λ e. V.bytes e) entries.now)) }
     ensures root { IfOk result (λ plain. plain.1 ≡ root_of D.digest plain.0) }
 {
     let mut tree = VecLog::default(alloc);
@@ -49,7 +50,8 @@ pub(crate) fn plain_bytes<D: SupportedDigest, V: VisitBytes, A: Allocator + Copy
     requires tree { tree.now ≡ leaves_of D.digest (map (λ e. V.bytes e) entries.now) }
     requires aligned { IsAligned range.now.start range.now.count }
     requires within { range.now.start + range.now.count ≤ length entries.now }
-    ensures { IfOk result (λ bytes. bytes.items ≡ plain_input D.digest (map (λ e. V.bytes e) entries.now) range.now.start range.now.count) }
+    ensures { IfOk result (λ bytes. bytes.items
+        ≡ plain_input D.digest (map (λ e. V.bytes e) entries.now) range.now.start range.now.count) }
 {
     if range.count == 1 {
         return leaf_bytes(alloc, &entries[range.start]);

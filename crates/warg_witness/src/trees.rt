@@ -33,8 +33,10 @@ fn is_same_entry<D: SupportedDigest, V: VisitBytes, A: Allocator>(
     requires fits { place < 2 ^ 63 }
     requires in_old { place < length trees.now.old }
     requires in_new { place < length trees.now.new }
-    requires old_leaf { slice_index_or trees.now.old place [] ≡ leaf_digest D.digest (V.bytes old.now) }
-    requires new_leaf { slice_index_or trees.now.new place [] ≡ leaf_digest D.digest (V.bytes new.now) }
+    requires old_leaf { slice_index_or trees.now.old place []
+        ≡ leaf_digest D.digest (V.bytes old.now) }
+    requires new_leaf { slice_index_or trees.now.new place []
+        ≡ leaf_digest D.digest (V.bytes new.now) }
     ensures { IfOk result (λ same. IsTrue same ↔ (V.bytes old.now ≡ V.bytes new.now)) }
 {
     let leaf = LeafRange::new(place, 1);
@@ -54,7 +56,8 @@ pub(crate) fn first_difference<D: SupportedDigest, V: VisitBytes, A: Allocator>(
     requires fits { length old.now ≤ 2 ^ 63 }
     requires old_tree { trees.now.old ≡ leaves_of D.digest (map (λ e. V.bytes e) old.now) }
     requires new_tree { trees.now.new ≡ leaves_of D.digest (map (λ e. V.bytes e) new.now) }
-    ensures { IfOk result (IsFirstDifference (map (λ e. V.bytes e) old.now) (map (λ e. V.bytes e) new.now)) }
+    ensures { IfOk result (IsFirstDifference (map (λ e. V.bytes e) old.now)
+        (map (λ e. V.bytes e) new.now)) }
 {
     for (place, entry) in old.iter().enumerate() {
         if !is_same_entry(trees, place, entry, &new[place])? {
@@ -74,8 +77,11 @@ pub(crate) fn divergence_below<D: SupportedDigest, V: VisitBytes, A: Allocator>(
     requires around { IsAround place 1 range.now.start range.now.count }
     requires in_old { range.now.start + range.now.count ≤ length trees.now.old }
     requires in_new { range.now.start + range.now.count ≤ length trees.now.new }
-    requires same { root_over D.digest trees.now.old range.now.start range.now.count ≡ root_over D.digest trees.now.new range.now.start range.now.count }
-    ensures { IsDivergence D.digest (own_digest D.digest trees.now.old) (root_over D.digest trees.now.old place 1) (own_digest D.digest trees.now.new) (root_over D.digest trees.now.new place 1)
+    requires same { root_over D.digest trees.now.old range.now.start range.now.count
+        ≡ root_over D.digest trees.now.new range.now.start range.now.count }
+    ensures { IsDivergence D.digest (own_digest D.digest trees.now.old)
+        (root_over D.digest trees.now.old place 1) (own_digest D.digest trees.now.new)
+        (root_over D.digest trees.now.new place 1)
         place 1 range.now.start range.now.count result }
 {
     let leaf = LeafRange::new(place, 1);

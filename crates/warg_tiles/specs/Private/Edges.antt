@@ -50,7 +50,7 @@ tile_behind old t digests = old ++ (t, digests) ∷ []
 abbrev pub partial_from : ℕ → ℕ → List TileAt
 partial_from n level = filter (λ t. nat_lt 0 t.width) (map (last_tile n) (range_with_len level (8 - level)))
 
--- Lists of digests one behind the other, the last one first.
+-- Lists of digests one after the other, the last one first.
 abbrev pub joined : List (List (List ℕ)) → List (List ℕ)
 joined [] = []
 joined (digests ∷ more) = joined more ++ digests

@@ -157,7 +157,7 @@ fn push<D: SupportedDigest, M: Memory, K: Kind<D>>(
     Err(Wrong::Memory)
 }
 
-// Pushes an entry to a log of this length, which answers the entry's node.
+// Pushes an entry to a log of this length, which returns the entry's node.
 fn push_next<D: SupportedDigest, K: Kind<D>>(
     log: &mut K,
     entry: &Vec<u8>,

@@ -27,7 +27,8 @@ use warg_log::{ConsistencyProof, LeafRange, LogData, Node, VecLog};
 
 // Whether the entries are as many as the proof's lengths say.
 fn have_lengths<D, V>(proof: &ConsistencyProof<D, V>, old: &[V], new: &[V]) -> bool
-    ensures same { IsTrue result ↔ ((length old.now ≡ proof.now.old_length) × (length new.now ≡ proof.now.new_length)) }
+    ensures same { IsTrue result ↔ ((length old.now ≡ proof.now.old_length)
+        × (length new.now ≡ proof.now.new_length)) }
     ensures old_most { proof.now.old_length ≤ 2 ^ 63 }
     ensures new_most { proof.now.new_length ≤ 2 ^ 63 }
 {
@@ -44,12 +45,20 @@ fn meet_trees<D: SupportedDigest, V: VisitBytes, L: LogData<D, V>, A: Allocator 
     old: &[V],
     new: &[V],
 ) -> Result<Option<Trees<D, V, A>>, AllocError>
-    ensures count { ((length old.now ≡ proof.now.old_length) × (length new.now ≡ proof.now.new_length) → ⊥) → result ≡ Ok None }
-    ensures fails { (fault : ConsistencyProofError) → consistency D.digest (L.digest_at hashes.now) proof.now.old_length proof.now.new_length ≡ Err fault → result ≡ Ok None }
+    ensures count { ((length old.now ≡ proof.now.old_length)
+        × (length new.now ≡ proof.now.new_length) → ⊥) → result ≡ Ok None }
+    ensures fails { (fault : ConsistencyProofError)
+        → consistency D.digest (L.digest_at hashes.now) proof.now.old_length proof.now.new_length
+        ≡ Err fault → result ≡ Ok None }
     ensures met { IfOk result (λ met. MatchOption met
-        (IsConsistencyMet D.digest (L.digest_at hashes.now) proof.now.old_length proof.now.new_length (map (λ e. V.bytes e) old.now) (map (λ e. V.bytes e) new.now) → ⊥)
-        (λ trees. IsConsistencyMeeting D.digest (L.digest_at hashes.now) proof.now.old_length proof.now.new_length (map (λ e. V.bytes e) old.now) (map (λ e. V.bytes e) new.now) trees.old trees.new)) }
-    ensures fits { IfOk result (λ met. IfSome met (λ _. (length old.now ≤ 2 ^ 63) × (length new.now ≤ 2 ^ 63))) }
+        (IsConsistencyMet D.digest
+        (L.digest_at hashes.now) proof.now.old_length proof.now.new_length
+        (map (λ e. V.bytes e) old.now) (map (λ e. V.bytes e) new.now) → ⊥)
+        (λ trees. IsConsistencyMeeting D.digest
+        (L.digest_at hashes.now) proof.now.old_length proof.now.new_length
+        (map (λ e. V.bytes e) old.now) (map (λ e. V.bytes e) new.now) trees.old trees.new)) }
+    ensures fits { IfOk result (λ met. IfSome met
+        (λ _. (length old.now ≤ 2 ^ 63) × (length new.now ≤ 2 ^ 63))) }
 {
     if !have_lengths(proof, old, new) {
         return Ok(None);
@@ -75,8 +84,10 @@ fn meet_trees<D: SupportedDigest, V: VisitBytes, L: LogData<D, V>, A: Allocator 
 fn root_around(place: usize, range: &LeafRange) -> LeafRange
     requires starts { range.now.start ≤ place }
     requires ends { place < range.now.start + range.now.count }
-    ensures root { Contains (balanced_over range.now.start range.now.count) (node_over result.start result.count) }
-    ensures node { IsAligned range.now.start range.now.count → IsNodeRange result.start result.count }
+    ensures root { Contains (balanced_over range.now.start range.now.count)
+        (node_over result.start result.count) }
+    ensures node { IsAligned range.now.start range.now.count
+        → IsNodeRange result.start result.count }
     ensures around { IsAround place 1 result.start result.count }
 {
     if range.is_full() {
@@ -97,9 +108,12 @@ fn held_root<D: SupportedDigest, V: VisitBytes, L: LogData<D, V>, A: Allocator>(
 ) -> (LeafRange, Hash<D>)
     requires place { place < length trees.now.old }
     requires fits { length trees.now.old ≤ 2 ^ 63 }
-    requires met { IsConsistent D.digest (L.digest_at hashes.now) (length trees.now.old) (length trees.now.new) (root_of D.digest trees.now.old) (root_of D.digest trees.now.new) }
+    requires met { IsConsistent D.digest (L.digest_at hashes.now) (length trees.now.old)
+        (length trees.now.new) (root_of D.digest trees.now.old) (root_of D.digest trees.now.new) }
     ensures around { IsAround place 1 result.0.start result.0.count }
-    ensures leads { LeadsToBoth D.digest (L.digest_at hashes.now) trees.now.old trees.now.new result.0.start result.0.count result.1 }
+    ensures leads { LeadsToBoth D.digest
+        (L.digest_at
+        hashes.now) trees.now.old trees.now.new result.0.start result.0.count result.1 }
 {
     let root = root_around(place, &LeafRange::new(0, trees.old.length()));
     match hashes.hash_for(Node::over(&root)) {
@@ -118,8 +132,11 @@ fn divergence_from<D: SupportedDigest, V: VisitBytes, L: LogData<D, V>, A: Alloc
     requires node { IsNodeRange node.now.start node.now.count }
     requires within { node.now.start + node.now.count ≤ length tree.now }
     requires fits { length tree.now ≤ 2 ^ 63 }
-    requires met { cut_over D.digest (L.digest_at hashes.now) hash.now node.now.start node.now.count 0 (length tree.now) ≡ Some (root_of D.digest tree.now) }
-    ensures { IsDivergence D.digest (L.digest_at hashes.now) hash.now (own_digest D.digest tree.now) (root_over D.digest tree.now node.now.start node.now.count)
+    requires met { cut_over D.digest
+        (L.digest_at hashes.now) hash.now node.now.start node.now.count 0 (length tree.now)
+        ≡ Some (root_of D.digest tree.now) }
+    ensures { IsDivergence D.digest (L.digest_at hashes.now) hash.now (own_digest D.digest tree.now)
+        (root_over D.digest tree.now node.now.start node.now.count)
         node.now.start node.now.count 0 (length tree.now) result }
 {
     let plain = plain_digest(tree, node);
@@ -139,9 +156,13 @@ fn collide_at<D: SupportedDigest, V: VisitBytes, L: LogData<D, V>, A: Allocator 
     new: &[V],
 ) -> Result<Collision<D, A>, AllocError>
     requires fits { length new.now ≤ 2 ^ 63 }
-    requires met { IsConsistencyMeeting D.digest (L.digest_at hashes.now) (length old.now) (length new.now) (map (λ e. V.bytes e) old.now) (map (λ e. V.bytes e) new.now) trees.now.old trees.now.new }
-    requires differ { DiffersFirst (map (λ e. V.bytes e) old.now) (map (λ e. V.bytes e) new.now) place }
-    ensures { IfOk result (λ c. IsConsistencyPlaced D.digest (L.digest_at hashes.now) (map (λ e. V.bytes e) old.now) (map (λ e. V.bytes e) new.now) c.0 c.1) }
+    requires met { IsConsistencyMeeting D.digest (L.digest_at hashes.now) (length old.now)
+        (length new.now) (map (λ e. V.bytes e) old.now)
+        (map (λ e. V.bytes e) new.now) trees.now.old trees.now.new }
+    requires differ { DiffersFirst (map (λ e. V.bytes e) old.now)
+        (map (λ e. V.bytes e) new.now) place }
+    ensures { IfOk result (λ c. IsConsistencyPlaced D.digest (L.digest_at hashes.now)
+        (map (λ e. V.bytes e) old.now) (map (λ e. V.bytes e) new.now) c.0 c.1) }
 {
     let (root, hash) = held_root(hashes, trees, place);
     let from_old = divergence_from(hashes, &hash, &root, &trees.old);
@@ -164,9 +185,9 @@ fn collide_at<D: SupportedDigest, V: VisitBytes, L: LogData<D, V>, A: Allocator 
 /// Whether a consistency proof's claim is true of the entries: the new entries begin with the old ones, byte
 /// by byte.
 ///
-/// `NotMet` exactly where the entries aren't as many as the proof's lengths say, or the evaluation over the data
+/// `NotMet` exactly if the entries aren't as many as the proof's lengths say, or the evaluation over the data
 /// isn't Ok, both of which are decided before any growth, or it isn't with the roots of the trees over the
-/// entries: so for the old length 0, and for an old length above the new one. `Holds` exactly where it is, and the claim is true.
+/// entries: so for the old length 0, and for an old length above the new one. `Holds` exactly if it is, and the claim is true.
 /// Else a collision, one of: what the digest function takes for the old root (first) and in the tree over the
 /// old entries (second) at one range; what it takes in the evaluation (first) and in the tree over the new
 /// entries (second) at one range around a balanced root of the old length; what it takes in the old tree
@@ -186,14 +207,18 @@ pub fn witness_consistency<
     old: &[V],
     new: &[V],
 ) -> Result<Finding<D, A>, AllocError>
-    ensures count { ¬ ((length old.now ≡ proof.now.old_length) × (length new.now ≡ proof.now.new_length)) → result ≡ Ok Finding.NotMet }
+    ensures count { ¬ ((length old.now ≡ proof.now.old_length)
+        × (length new.now ≡ proof.now.new_length)) → result ≡ Ok Finding.NotMet }
     ensures fails { (fault : ConsistencyProofError)
-        → consistency D.digest (L.digest_at hashes.now) proof.now.old_length proof.now.new_length ≡ Err fault → result ≡ Ok Finding.NotMet }
+        → consistency D.digest (L.digest_at hashes.now) proof.now.old_length proof.now.new_length
+        ≡ Err fault → result ≡ Ok Finding.NotMet }
     ensures found { IfOk result (Finds
-        (IsConsistencyMet D.digest (L.digest_at hashes.now) proof.now.old_length proof.now.new_length
+        (IsConsistencyMet D.digest
+        (L.digest_at hashes.now) proof.now.old_length proof.now.new_length
         (map (λ e. V.bytes e) old.now) (map (λ e. V.bytes e) new.now))
         (Begins (map (λ e. V.bytes e) old.now) (map (λ e. V.bytes e) new.now))
-        (IsConsistencyPlaced D.digest (L.digest_at hashes.now) (map (λ e. V.bytes e) old.now) (map (λ e. V.bytes e) new.now))) }
+        (IsConsistencyPlaced D.digest (L.digest_at hashes.now) (map (λ e. V.bytes e) old.now)
+        (map (λ e. V.bytes e) new.now))) }
 {
     let Some(trees) = meet_trees(alloc, proof, hashes, old, new)? else {
         return Ok(Finding::NotMet);

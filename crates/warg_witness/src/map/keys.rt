@@ -14,7 +14,8 @@ pub(crate) fn sorted_keys<D: SupportedDigest, K: VisitBytes, V: VisitBytes, A: A
     alloc: A,
     insertions: &[(K, V)],
 ) -> Result<Vec<(Hash<D>, usize), A>, AllocError>
-    ensures { IfOk result (λ keys. AreKeysUnder D.digest (pair_bytes K.bytes V.bytes insertions.now) [] keys.items) }
+    ensures { IfOk result (λ keys. AreKeysUnder D.digest
+        (pair_bytes K.bytes V.bytes insertions.now) [] keys.items) }
 {
     let mut keys = Vec::new(alloc);
     for place in 0..insertions.len() {
@@ -31,8 +32,10 @@ pub(crate) fn halves<D: SupportedDigest>(
     depth: usize,
 ) -> (&[(Hash<D>, usize)], &[(Hash<D>, usize)])
     requires { depth < 256 }
-    ensures { (insertions : List (List ℕ × List ℕ)) (prefix : List Bool) → length prefix ≡ depth → AreKeysUnder D.digest insertions prefix keys.now
-        → AreKeysUnder D.digest insertions (prefix ++ false ∷ []) result.0.now × AreKeysUnder D.digest insertions (prefix ++ true ∷ []) result.1.now }
+    ensures { (insertions : List (List ℕ × List ℕ)) (prefix : List Bool) → length prefix ≡ depth
+        → AreKeysUnder D.digest insertions prefix keys.now
+        → AreKeysUnder D.digest insertions (prefix ++ false ∷ []) result.0.now
+        × AreKeysUnder D.digest insertions (prefix ++ true ∷ []) result.1.now }
 {
     let zeros = keys.partition_point(|key| !bit(&key.0, depth));
     keys.split_at(zeros)
@@ -45,8 +48,10 @@ pub(crate) fn sides<D: SupportedDigest>(
     side: bool,
 ) -> (&[(Hash<D>, usize)], &[(Hash<D>, usize)])
     requires { depth < 256 }
-    ensures { (insertions : List (List ℕ × List ℕ)) (prefix : List Bool) → length prefix ≡ depth → AreKeysUnder D.digest insertions prefix keys.now
-        → AreKeysUnder D.digest insertions (prefix ++ side ∷ []) result.0.now × AreKeysUnder D.digest insertions (prefix ++ not side ∷ []) result.1.now }
+    ensures { (insertions : List (List ℕ × List ℕ)) (prefix : List Bool) → length prefix ≡ depth
+        → AreKeysUnder D.digest insertions prefix keys.now
+        → AreKeysUnder D.digest insertions (prefix ++ side ∷ []) result.0.now
+        × AreKeysUnder D.digest insertions (prefix ++ not side ∷ []) result.1.now }
 {
     let (zeros, ones) = halves(keys, depth);
     if side { (ones, zeros) } else { (zeros, ones) }

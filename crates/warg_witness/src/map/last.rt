@@ -16,7 +16,8 @@ fn last_place<K: VisitBytes, V: VisitBytes>(
     ensures { IfOk result (λ found. MatchOption found
         (last_insertion (K.bytes key.now) (pair_bytes K.bytes V.bytes insertions.now) ≡ None)
         (λ place. (place < length insertions.now)
-        × (last_insertion (K.bytes key.now) (pair_bytes K.bytes V.bytes insertions.now) ≡ Some (slice_index_or (pair_bytes K.bytes V.bytes insertions.now) place ([], []))))) }
+        × (last_insertion (K.bytes key.now) (pair_bytes K.bytes V.bytes insertions.now)
+        ≡ Some (slice_index_or (pair_bytes K.bytes V.bytes insertions.now) place ([], []))))) }
 {
     for place in (0..insertions.len()).rev() {
         let (inserted, _) = &insertions[place];
@@ -34,7 +35,8 @@ pub(crate) fn is_last_value<K: VisitBytes, V: VisitBytes, W: VisitBytes>(
     value: &W,
     insertions: &[(K, V)],
 ) -> Result<bool, AllocError>
-    ensures { IfOk result (λ is. IsTrue is ↔ IsLastValue (K.bytes key.now) (W.bytes value.now) (pair_bytes K.bytes V.bytes insertions.now)) }
+    ensures { IfOk result (λ is. IsTrue is ↔ IsLastValue (K.bytes key.now) (W.bytes value.now)
+        (pair_bytes K.bytes V.bytes insertions.now)) }
 {
     match last_place(key, insertions)? {
         Some(place) => have_same_bytes(&insertions[place].1, value),

@@ -61,8 +61,10 @@ struct Climb<D> {
 impl<D: SupportedDigest> Climb<D> {
     // One bit up, with the peers of this height.
     fn up(self, right: bool, first_peer: &Hash<D>, second_peer: &Hash<D>) -> Climb<D>
-        ensures { (P : List (Option (List ℕ))) (x : List ℕ) (Q : List (Option (List ℕ))) (y : List ℕ) (bits : List Bool)
-            → peer_of D.digest P (length bits) ≡ first_peer.now → peer_of D.digest Q (length bits) ≡ second_peer.now
+        ensures { (P : List (Option (List ℕ))) (x : List ℕ) (Q : List (Option (List ℕ)))
+            (y : List ℕ) (bits : List Bool)
+            → peer_of D.digest P (length bits) ≡ first_peer.now
+            → peer_of D.digest Q (length bits) ≡ second_peer.now
             → IsClimb D.digest P x Q y bits self.first self.second self.divergence
             → IsClimb D.digest P x Q y (right ∷ bits) result.first result.second result.divergence }
     {
@@ -112,8 +114,10 @@ pub(crate) fn meet_on_path<D: SupportedDigest>(
     second: Evaluation<'_, D>,
 ) -> Option<Divergence<D>>
     ensures { MatchOption result
-        (proof_value D.digest first.entry.peers.now first.entry.leaf (last_bits key.now 256) ≡ proof_value D.digest second.entry.peers.now second.entry.leaf (last_bits key.now 256) → ⊥)
-        (λ p. MeetsOnPath D.digest first.entry.peers.now first.entry.leaf second.entry.peers.now second.entry.leaf (last_bits key.now 256) p) }
+        (proof_value D.digest first.entry.peers.now first.entry.leaf (last_bits key.now 256)
+        ≡ proof_value D.digest second.entry.peers.now second.entry.leaf (last_bits key.now 256) → ⊥)
+        (λ p.
+        MeetsOnPath D.digest first.entry.peers.now first.entry.leaf second.entry.peers.now second.entry.leaf (last_bits key.now 256) p) }
 {
     let mut climb = Climb {
         first: first.leaf,

@@ -30,9 +30,13 @@ fn plain_root<D: SupportedDigest, K: VisitBytes, V: VisitBytes>(
 ) -> Hash<D>
     requires depth { depth ≤ 256 }
     requires empty { AreEmptyTrees D.digest empty.now }
-    requires keys { (prefix : List Bool) × (length prefix ≡ depth) × AreKeysUnder D.digest (pair_bytes K.bytes V.bytes insertions.now) prefix keys.now }
-    ensures { (prefix : List Bool) → length prefix ≡ depth → AreKeysUnder D.digest (pair_bytes K.bytes V.bytes insertions.now) prefix keys.now
-        → result ≡ root_of_levels D.digest (256 - depth) (λ bits. get (map_of D.digest (pair_bytes K.bytes V.bytes insertions.now)) (prefix ++ bits)) }
+    requires keys { (prefix : List Bool) × (length prefix ≡ depth)
+        × AreKeysUnder D.digest (pair_bytes K.bytes V.bytes insertions.now) prefix keys.now }
+    ensures { (prefix : List Bool) → length prefix ≡ depth
+        → AreKeysUnder D.digest (pair_bytes K.bytes V.bytes insertions.now) prefix keys.now
+        → result ≡ root_of_levels D.digest (256 - depth)
+        (λ bits. get (map_of D.digest (pair_bytes K.bytes V.bytes insertions.now))
+        (prefix ++ bits)) }
 {
     let Some(place) = last_place(keys) else {
         return empty[256 - depth].copied();
@@ -47,7 +51,7 @@ fn plain_root<D: SupportedDigest, K: VisitBytes, V: VisitBytes>(
     hash_branch(&left, &right)
 }
 
-// Adds the roots beside a key's path below `depth`, and answers the place of the last insertion under its digest.
+// Adds the roots beside a key's path below `depth`, and returns the place of the last insertion under its digest.
 fn push_peers<D: SupportedDigest, K: VisitBytes, V: VisitBytes, A: Allocator>(
     insertions: &[(K, V)],
     empty: &[Hash<D>],
@@ -58,10 +62,15 @@ fn push_peers<D: SupportedDigest, K: VisitBytes, V: VisitBytes, A: Allocator>(
 ) -> Result<Option<usize>, AllocError>
     requires depth { depth ≤ 256 }
     requires empty { AreEmptyTrees D.digest empty.now }
-    requires keys { (prefix : List Bool) × (length prefix ≡ depth) × AreKeysUnder D.digest (pair_bytes K.bytes V.bytes insertions.now) prefix keys.now }
-    ensures { IfOk result (λ last. (prefix : List Bool) → length prefix ≡ depth → AreKeysUnder D.digest (pair_bytes K.bytes V.bytes insertions.now) prefix keys.now
-        → (peers.new.items ≡ peers.old.items ++ plain_peers D.digest (λ bits. get (map_of D.digest (pair_bytes K.bytes V.bytes insertions.now)) (prefix ++ bits)) (last_bits key.now (256 - depth)))
-        × IsLastPlace D.digest (pair_bytes K.bytes V.bytes insertions.now) (prefix ++ last_bits key.now (256 - depth)) last) }
+    requires keys { (prefix : List Bool) × (length prefix ≡ depth)
+        × AreKeysUnder D.digest (pair_bytes K.bytes V.bytes insertions.now) prefix keys.now }
+    ensures { IfOk result (λ last. (prefix : List Bool) → length prefix ≡ depth
+        → AreKeysUnder D.digest (pair_bytes K.bytes V.bytes insertions.now) prefix keys.now
+        → (peers.new.items ≡ peers.old.items ++ plain_peers D.digest
+        (λ bits. get (map_of D.digest (pair_bytes K.bytes V.bytes insertions.now)) (prefix ++ bits))
+        (last_bits key.now (256 - depth)))
+        × IsLastPlace D.digest (pair_bytes K.bytes V.bytes insertions.now)
+        (prefix ++ last_bits key.now (256 - depth)) last) }
 {
     if depth == 256 {
         return Ok(last_place(keys));
@@ -81,8 +90,11 @@ pub(crate) fn plain_path<D: SupportedDigest, K: VisitBytes, V: VisitBytes, A: Al
     key: &Hash<D>,
 ) -> Result<PlainPath<D, A>, AllocError>
     requires { AreEmptyTrees D.digest empty.now }
-    ensures peers { IfOk result (λ path. path.peers.items ≡ plain_peers D.digest (get (map_of D.digest (pair_bytes K.bytes V.bytes insertions.now))) (last_bits key.now 256)) }
-    ensures last { IfOk result (λ path. IsLastPlace D.digest (pair_bytes K.bytes V.bytes insertions.now) (last_bits key.now 256) path.last) }
+    ensures peers { IfOk result (λ path. path.peers.items
+        ≡ plain_peers D.digest (get (map_of D.digest (pair_bytes K.bytes V.bytes insertions.now)))
+        (last_bits key.now 256)) }
+    ensures last { IfOk result (λ path. IsLastPlace D.digest
+        (pair_bytes K.bytes V.bytes insertions.now) (last_bits key.now 256) path.last) }
 {
     let keys = sorted_keys(alloc, insertions)?;
     let mut peers = Vec::new(alloc);

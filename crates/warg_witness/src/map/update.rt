@@ -21,8 +21,8 @@ use warg_map::Proof;
 /// Whether a proof that leads from the old value to the root of the map of the insertions leads from the new value to
 /// the root of the map with the new value inserted too. An absence is a proof with an old value of no bytes.
 ///
-/// `NotMet` exactly where the proof doesn't lead from the old value to the root of the map of the insertions. `Holds`
-/// exactly where it does, and leads from the new value to the new root. Else a collision: what the digest function takes
+/// `NotMet` exactly if the proof doesn't lead from the old value to the root of the map of the insertions. `Holds`
+/// exactly if it does, and leads from the new value to the new root. Else a collision: what the digest function takes
 /// in the evaluation from the old value (first) and in the plain tree over the insertions (second) at one prefix of the
 /// key's bits.
 ///
@@ -43,9 +43,12 @@ pub fn witness_update<
     insertions: &[(K, V)],
 ) -> Result<Finding<D, A>, AllocError>
     ensures found { IfOk result (Finds
-        (IsKeyMet D.digest proof.now (K.bytes key.now) (V.bytes old_value.now) (pair_bytes K.bytes V.bytes insertions.now))
-        (IsUpdated D.digest proof.now (K.bytes key.now) (V.bytes new_value.now) (pair_bytes K.bytes V.bytes insertions.now))
-        (IsPlacedAtPrefix D.digest proof.now (V.bytes old_value.now) (K.bytes key.now) (pair_bytes K.bytes V.bytes insertions.now))) }
+        (IsKeyMet D.digest proof.now (K.bytes key.now) (V.bytes old_value.now)
+        (pair_bytes K.bytes V.bytes insertions.now))
+        (IsUpdated D.digest proof.now (K.bytes key.now) (V.bytes new_value.now)
+        (pair_bytes K.bytes V.bytes insertions.now))
+        (IsPlacedAtPrefix D.digest proof.now (V.bytes old_value.now) (K.bytes key.now)
+        (pair_bytes K.bytes V.bytes insertions.now))) }
 {
     let digest = Hash::of(key);
     let empty = empty_trees(alloc)?;

@@ -27,8 +27,10 @@ fn descend_paths<D: SupportedDigest>(
     range: &LeafRange,
 ) -> Divergence<D>
     requires inside { index < range.now.count }
-    requires one { LeadToOne D.digest first_leaf.now (reverse first_path.now) second_leaf.now (reverse second_path.now) index range.now.count }
-    ensures { IsPathsDivergence D.digest first_leaf.now (reverse first_path.now) second_leaf.now (reverse second_path.now) index range.now.start range.now.count result }
+    requires one { LeadToOne D.digest first_leaf.now (reverse first_path.now) second_leaf.now
+        (reverse second_path.now) index range.now.count }
+    ensures { IsPathsDivergence D.digest first_leaf.now (reverse first_path.now) second_leaf.now
+        (reverse second_path.now) index range.now.start range.now.count result }
 {
     if range.count == 1 {
         return Divergence::Target;
@@ -80,8 +82,8 @@ fn descend_paths<D: SupportedDigest>(
 /// Whether two paths of the place `index`, from 0, of `length` entries, from two values, that lead to one root,
 /// whichever it is, are of the same value: for a client that holds no entries.
 ///
-/// `NotMet` exactly where one path leads to no root, as where it has another length than that of this place or `index`
-/// isn't below `length`, or both lead to different roots, which takes no memory. `Holds` exactly where both lead to one
+/// `NotMet` exactly if one path leads to no root, as where it has another length than that of this place or `index`
+/// isn't below `length`, or both lead to different roots, which takes no memory. `Holds` exactly if both lead to one
 /// root, and the values have the same bytes. Else a collision: what the digest function takes in the evaluation of the
 /// first path and in that of the second (RFC 6962, section 2.1.1) at one range on the way to the leaf.
 ///
@@ -97,7 +99,8 @@ pub fn agree_record<D: SupportedDigest, V: VisitBytes, A: Allocator + Copy>(
     second_path: &[Hash<D>],
 ) -> Result<Finding<D, A>, AllocError>
     requires { length ≤ 2 ^ 63 }
-    ensures unmet { ¬ (IsRecordAgreement D.digest index length first_path.now (V.bytes first_value.now)
+    ensures unmet { ¬ (IsRecordAgreement D.digest index length first_path.now
+        (V.bytes first_value.now)
         second_path.now (V.bytes second_value.now)) → result ≡ Ok Finding.NotMet }
     ensures found { IfOk result (Finds
         (IsRecordAgreement D.digest index length first_path.now (V.bytes first_value.now)

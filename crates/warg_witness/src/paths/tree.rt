@@ -25,7 +25,8 @@ use warg_paths::{roots_of_consistency, roots_of_subproof};
 // Whether the path leads from a root of `old_length` entries to some root of `new_length`, whichever the old root is.
 fn leads<D: SupportedDigest>(path: &[Hash<D>], old_length: usize, new_length: usize) -> bool
     ensures order { IsTrue result → (0 < old_length) × (old_length ≤ new_length) }
-    ensures nowhere { (old : List ℕ) → (result ≡ false) ↔ (consistency_roots D.digest old_length new_length old path.now ≡ None) }
+    ensures nowhere { (old : List ℕ) → (result ≡ false)
+        ↔ (consistency_roots D.digest old_length new_length old path.now ≡ None) }
 {
     let any_root = Hash::<D>::from_array([0; 32]);
     roots_of_consistency(old_length, new_length, &any_root, path).is_some()
@@ -38,10 +39,14 @@ fn meet_trees<D: SupportedDigest, V: VisitBytes, A: Allocator + Copy>(
     old: &[V],
     new: &[V],
 ) -> Result<Option<Trees<D, V, A>>, AllocError>
-    ensures leads { consistency_roots D.digest (length old.now) (length new.now) (root_of D.digest (leaves_of D.digest (map (λ e. V.bytes e) old.now))) path.now ≡ None → result ≡ Ok None }
+    ensures leads { consistency_roots D.digest (length old.now) (length new.now)
+        (root_of D.digest (leaves_of D.digest (map (λ e. V.bytes e) old.now))) path.now ≡ None
+        → result ≡ Ok None }
     ensures met { IfOk result (λ met. MatchOption met
-        (IsTreeMet D.digest path.now (map (λ e. V.bytes e) old.now) (map (λ e. V.bytes e) new.now) → ⊥)
-        (λ trees. IsTreeMeeting D.digest path.now (map (λ e. V.bytes e) old.now) (map (λ e. V.bytes e) new.now) trees.old trees.new)) }
+        (IsTreeMet D.digest path.now (map (λ e. V.bytes e) old.now) (map (λ e. V.bytes e) new.now)
+        → ⊥)
+        (λ trees. IsTreeMeeting D.digest path.now (map (λ e. V.bytes e) old.now)
+        (map (λ e. V.bytes e) new.now) trees.old trees.new)) }
 {
     if !leads(path, old.len(), new.len()) {
         return Ok(None);
@@ -86,8 +91,10 @@ fn turn_divergence<D: SupportedDigest, V: VisitBytes, A: Allocator>(
     requires aligned { IsAligned range.now.start range.now.count }
     requires in_old { range.now.start + old_length ≤ length trees.now.old }
     requires in_new { range.now.start + range.now.count ≤ length trees.now.new }
-    requires leads { LeadsOver D.digest trees.now.old trees.now.new old_root old_length range.now.start range.now.count (top.now ∷ reverse below.now) }
-    ensures { IsTurnDivergence D.digest trees.now.old trees.now.new old_root old_length range.now.start range.now.count top.now (reverse below.now) result }
+    requires leads { LeadsOver D.digest trees.now.old trees.now.new old_root old_length
+        range.now.start range.now.count (top.now ∷ reverse below.now) }
+    ensures { IsTurnDivergence D.digest trees.now.old trees.now.new old_root old_length
+        range.now.start range.now.count top.now (reverse below.now) result }
 {
     let (front, rest) = range.split();
     if old_length <= front.count {
@@ -136,8 +143,10 @@ fn descend_growth<D: SupportedDigest, V: VisitBytes, A: Allocator>(
     requires aligned { IsAligned range.now.start range.now.count }
     requires in_old { range.now.start + old_length ≤ length trees.now.old }
     requires in_new { range.now.start + range.now.count ≤ length trees.now.new }
-    requires leads { LeadsOver D.digest trees.now.old trees.now.new old_root old_length range.now.start range.now.count (reverse path.now) }
-    ensures { IsTreeDivergence D.digest trees.now.old trees.now.new place old_root old_length range.now.start range.now.count (reverse path.now) result }
+    requires leads { LeadsOver D.digest trees.now.old trees.now.new old_root old_length
+        range.now.start range.now.count (reverse path.now) }
+    ensures { IsTreeDivergence D.digest trees.now.old trees.now.new place old_root old_length
+        range.now.start range.now.count (reverse path.now) result }
 {
     if old_length == range.count {
         return divergence_below(trees, range, place);
@@ -161,9 +170,9 @@ fn descend_growth<D: SupportedDigest, V: VisitBytes, A: Allocator>(
 
 /// Whether a consistency path's claim is true of the entries: the new entries begin with the old ones, byte by byte.
 ///
-/// `NotMet` exactly where the path doesn't lead from the root of the tree over the old entries to this root and that of
+/// `NotMet` exactly if the path doesn't lead from the root of the tree over the old entries to this root and that of
 /// the tree over the new ones; where it leads to no roots, as where it has another length than that of these lengths,
-/// there are no old entries or more old than new ones, before any growth. `Holds` exactly where it leads there, and the
+/// there are no old entries or more old than new ones, before any growth. `Holds` exactly if it leads there, and the
 /// claim is true. Else a collision, one of: what the digest function takes in the evaluation of the path (first; RFC
 /// 6962, section 2.1.2) for the old root and in the tree over the old entries (second), or for the new root and in the
 /// tree over the new entries, at one range on the way to the old length's end; what it takes in the old tree (first) and
@@ -184,7 +193,8 @@ pub fn witness_tree<D: SupportedDigest, V: VisitBytes, A: Allocator + Copy>(
     ensures found { IfOk result (Finds
         (IsTreeMet D.digest path.now (map (λ e. V.bytes e) old.now) (map (λ e. V.bytes e) new.now))
         (Begins (map (λ e. V.bytes e) old.now) (map (λ e. V.bytes e) new.now))
-        (IsTreePlaced D.digest path.now (map (λ e. V.bytes e) old.now) (map (λ e. V.bytes e) new.now))) }
+        (IsTreePlaced D.digest path.now (map (λ e. V.bytes e) old.now)
+        (map (λ e. V.bytes e) new.now))) }
 {
     let Some(trees) = meet_trees(alloc, path, old, new)? else {
         return Ok(Finding::NotMet);
