@@ -9,13 +9,12 @@ ghost use Rattle.warg_tiles.specs.CheckpointText.{Said, HasNoNewline, IsLine, Ca
 ghost use Rattle.warg_tiles.specs.Private.Texts.{IsExtensionFault};
 ghost use Rattle.warg_tiles.specs.CheckpointFaults.{HasOrigin, IsFirstFault};
 
-use crate::decimal::decimal_in;
 use crate::error::CheckpointTextError;
 use base64::engine::general_purpose::STANDARD;
 use std::alloc::{AllocError, Allocator, Global};
 use std::marker::Model;
 use warg_crypto::Hash;
-use warg_log::{Checkpoint, GREATEST_LENGTH};
+use warg_log::{Checkpoint, GREATEST_LENGTH, decimal_in};
 
 /// What a log says of its length and its root, as a text (C2SP tlog-checkpoint): the origin, which names the log, the
 /// length in decimal and the root in base64 with padding, each on a line, and then further lines.

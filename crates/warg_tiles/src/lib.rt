@@ -7,7 +7,6 @@
 mod between;
 mod checkpoint_text;
 mod data;
-mod decimal;
 mod entries;
 mod error;
 mod fetch;

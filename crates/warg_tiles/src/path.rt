@@ -6,10 +6,10 @@ ghost use Rattle.warg_tiles.specs.Tiles.{TileAt, IsTile};
 ghost use Rattle.warg_tiles.specs.TilePaths.{group_of, groups_of, number_path, place_path, tile_path, entries_path, three_digits};
 ghost use Rattle.warg_tiles.specs.Private.PathDigits.{number_on};
 
-use crate::decimal::decimal_in;
 use crate::tile::Tile;
 use std::alloc::{AllocError, Allocator};
 use thiserror::Error;
+use warg_log::decimal_in;
 
 /// That a text isn't the path of a tile, or of an entry bundle.
 #[derive(Clone, Copy, Debug, PartialEq, Eq, Error)]
