@@ -1,5 +1,5 @@
 -- Two byte strings of one digest.
-use Rattle.std.specs.Prelude.{◌≡◌, ℕ, List, [], ◌∷◌, length, ⊤}
+use Rattle.std.specs.Prelude.{◌≡◌, ℕ, List, length, ⊤}
 use Rattle.std.specs.List.{AllByRecursion}
 use Rattle.warg_crypto.specs.Digests.{IsDigest}
 

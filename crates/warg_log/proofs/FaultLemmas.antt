@@ -1,5 +1,5 @@
 -- What follows where there is no fault.
-use Rattle.std.proofs.Common.{◌≡◌, List, [], ◌∷◌, Option, None, Some, Result, Ok, Err, refl}
+use Rattle.std.proofs.Common.{◌≡◌, List, [], ◌∷◌, Option, None, Some, Ok, refl}
 use Rattle.std.specs.List.{AllByRecursion}
 use Rattle.warg_log.specs.Decoding.{unless, earlier, first_fault}
 

@@ -1,5 +1,5 @@
 -- Proofs of a log as bytes.
-use Rattle.std.proofs.Common.{◌≡◌, ℕ, ◌*◌, List, [], ◌∷◌, Option, Ok, ap, sym, ◌∙◌}
+use Rattle.std.proofs.Common.{◌≡◌, ℕ, ◌*◌, List, [], ◌∷◌, Option, Ok, ap, ◌∙◌}
 use Rattle.warg_log.specs.Claims.{InclusionClaim, ConsistencyClaim, leaf_claim}
 use Rattle.warg_log.specs.Bundles.{Bundle, bundle_of}
 use Rattle.warg_log.specs.Bundling.{bundled, SpellsBundle}

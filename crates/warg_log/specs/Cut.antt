@@ -1,7 +1,7 @@
 -- The tree with a digest put in the place of one node, from the digests of other nodes. A range is
 -- given by its first leaf a and its count n of leaves, the target by s and w. F has a digest for some
 -- of the nodes.
-use Rattle.std.specs.Prelude.{◌≡◌, ℕ, zero, suc, ◌+◌, ◌-◌, ◌^◌, Bool, ◌&&◌, ◌||◌, ◌==◌, nat_le, if◌then◌else◌, List, [], Option, Some, None}
+use Rattle.std.specs.Prelude.{◌≡◌, ℕ, zero, suc, ◌+◌, ◌-◌, ◌^◌, Bool, ◌&&◌, ◌||◌, ◌==◌, nat_le, if◌then◌else◌, List, [], Option, Some}
 use Rattle.warg_log.specs.Nodes.{height_of, start_of, node_over}
 use Rattle.warg_crypto.specs.Tree.{branch, where_both}
 

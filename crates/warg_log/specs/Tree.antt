@@ -1,5 +1,5 @@
 -- The tree over a list of leaf digests (RFC 6962, section 2.1), and a log's digests by node.
-use Rattle.std.specs.Prelude.{ℕ, zero, suc, ◌-◌, ◌*◌, ◌^◌, nat_le, if◌then◌else◌, List, [], ◌∷◌, ◌++◌, length, take, drop, map, Option, Some, None, unwrap_or}
+use Rattle.std.specs.Prelude.{ℕ, zero, suc, ◌-◌, ◌*◌, ◌^◌, nat_le, if◌then◌else◌, List, [], ◌∷◌, length, take, drop, map, Option, Some, None, unwrap_or}
 use Rattle.std.specs.List.{range_with_len}
 use Rattle.warg_crypto.specs.Tree.{leaf_digest, branch}
 use Rattle.warg_log.specs.Nodes.{height_of, start_of, end_of}

@@ -1,5 +1,5 @@
 -- The peers of proofs of absence.
-use Rattle.std.proofs.Common.{◌≡◌, ℕ, suc, ◌+◌, ◌-◌, ◌<◌, ◌≤◌, Bool, true, false, cond, not, nat_eq, List, [], ◌∷◌, ◌++◌, length, replicate, Option, Some, None, is_some, refl, sym, ap, ◌∙◌, subst, arith, inl, inr, IsTrue, append_assoc}
+use Rattle.std.proofs.Common.{◌≡◌, ℕ, ◌+◌, ◌-◌, ◌<◌, ◌≤◌, Bool, true, false, cond, not, nat_eq, List, [], ◌∷◌, ◌++◌, length, replicate, Option, Some, None, is_some, refl, sym, ap, ◌∙◌, subst, arith, inl, inr, IsTrue, append_assoc}
 use Rattle.std.proofs.lemmas.List.{reverse-append, replicate_more, length-replicate}
 use Rattle.std.proofs.lemmas.Bool.{eqb-true, eq-eqb}
 use Rattle.std.specs.Prelude.{reverse}
@@ -14,7 +14,7 @@ use Rattle.warg_map.specs.Bits.{bit_at, bits_from, last_bits}
 use Rattle.warg_map.specs.Sparse.{SparseMap, bits_cmp, sparse_root}
 use Rattle.warg_map.specs.Private.Under.{join_at, under, HoldsKey}
 use Rattle.warg_map.specs.Private.Seen.{seen, tree_height, held_by, IsWellFormed}
-use Rattle.warg_map.specs.Peers.{shared, IsOther, IsAbsentPeers, IsPeerCount, ProvesAbsent}
+use Rattle.warg_map.specs.Peers.{IsOther, IsAbsentPeers, IsPeerCount, ProvesAbsent}
 use Rattle.warg_map.proofs.SparseTree.{get-join_at, contains_key-join_at, contains_key-empty, contains_key-insert_same, length-bits_from}
 use Rattle.warg_map.proofs.BitsInFront.{join_at-other, get-under, under-append, holds-under, no_some, lone-under, bits_from-part, last_bits-at}
 use Rattle.warg_map.proofs.TreeForm.{stem_holds}

@@ -1,5 +1,5 @@
 -- Laws of bits that are put in front of a map.
-use Rattle.std.proofs.Common.{◌≡◌, ℕ, zero, suc, length, ◌+◌, ◌-◌, ◌<◌, Bool, true, false, cond, List, [], ◌∷◌, ◌++◌, Option, None, is_some, refl, sym, ap, ◌∙◌, arith, add-one}
+use Rattle.std.proofs.Common.{◌≡◌, ℕ, zero, suc, length, ◌+◌, ◌-◌, ◌<◌, Bool, true, false, List, [], ◌∷◌, ◌++◌, Option, None, is_some, refl, sym, ap, ◌∙◌, arith, add-one}
 use Rattle.std.specs.FinMap.{get, insert, empty, contains_key, get-empty}
 use Rattle.warg_crypto.specs.EmptyTrees.{empty_root}
 use Rattle.warg_crypto.specs.Tree.{input_beside}

@@ -1,5 +1,5 @@
 -- The value of a proof: the root to which its peers lead from a leaf.
-use Rattle.std.specs.Prelude.{ℕ, ◌-◌, ◌++◌, cond, nat_lt, Bool, List, [], ◌∷◌, length, Option, None, unwrap_or, slice_index_or, if◌then◌else◌}
+use Rattle.std.specs.Prelude.{ℕ, ◌-◌, nat_lt, Bool, List, [], ◌∷◌, length, Option, None, unwrap_or, slice_index_or, if◌then◌else◌}
 use Rattle.warg_crypto.specs.EmptyTrees.{empty_root}
 use Rattle.warg_crypto.specs.Tree.{input_beside}
 

@@ -1,5 +1,5 @@
 -- The plain sparse Merkle tree over a finite map from bit lists to leaf digests.
-use Rattle.std.specs.Prelude.{◌≡◌, ℕ, zero, suc, Bool, true, false, List, [], ◌∷◌, ◌++◌, length, map, Option, IsTrue, unwrap_or}
+use Rattle.std.specs.Prelude.{◌≡◌, ℕ, zero, suc, Bool, true, false, List, [], ◌∷◌, length, map, Option, IsTrue, unwrap_or}
 use Rattle.std.specs.List.{AllPairs}
 use Rattle.std.specs.FinMap.{FinMap, get, contains_key, insert, empty, code}
 use Rattle.std.specs.Ordering.{bool_cmp}

@@ -1,7 +1,7 @@
 -- Where paths lead.
-use Rattle.std.proofs.Common.{◌≡◌, inl, inr, ℕ, zero, suc, ◌+◌, ◌-◌, ◌*◌, ◌^◌, ◌<◌, ◌≤◌, List, [], length, reverse, take, slice_index_or, Option, Some, None, refl, sym, ap, ◌∙◌, arith, add-zero}
+use Rattle.std.proofs.Common.{◌≡◌, inl, inr, ℕ, zero, suc, ◌+◌, ◌-◌, ◌*◌, ◌<◌, ◌≤◌, List, [], length, reverse, take, slice_index_or, Option, Some, None, refl, sym, ap, ◌∙◌, arith, add-zero}
 use Rattle.std.proofs.lemmas.Bool.{lt-ltb, cases_lt}
-use Rattle.warg_log.specs.Tree.{front_of, root_of, root_over, own_digest}
+use Rattle.warg_log.specs.Tree.{front_of, root_of, own_digest}
 use Rattle.warg_log.specs.Cut.{joined, cut_over, cut_root, old_over}
 use Rattle.warg_log.proofs.ForCallers.{below_pow, node_at, root_over_one, cut_target, cut_parts, cut_old, cut_own_range}
 use Rattle.warg_paths.specs.Paths.{beside, inclusion_over, inclusion_of, root_down, led_to}

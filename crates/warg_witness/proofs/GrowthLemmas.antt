@@ -6,7 +6,7 @@ use Rattle.std.proofs.lemmas.List.{length-map}
 use Rattle.std.proofs.lemmas.Bool.{lt-leb, le-leb, lt-ltb, le-ltb, ne_eqb, cases_lt, cases_Bool}
 use Rattle.warg_crypto.specs.Tree.{branch}
 use Rattle.warg_log.specs.Tree.{front_of, leaves_of, root_of, root_over, own_digest}
-use Rattle.warg_log.proofs.ForCallers.{front_is_greatest, front_of_is, root_over_parts}
+use Rattle.warg_log.proofs.ForCallers.{front_is_greatest, front_of_is}
 use Rattle.warg_paths.specs.Paths.{roots_down, consistency_roots, subproof_roots, one_root, twice, grown, both_over}
 use Rattle.warg_paths.proofs.ForCallers.{both_one, both_short}
 use Rattle.warg_witness.specs.Ranges.{IsPart}

@@ -1,6 +1,6 @@
 -- The byte lists that the digest function H takes, in the tree over given entries and in evaluations. A
 -- range is given by its first leaf a and its count n of leaves.
-use Rattle.std.specs.Prelude.{ℕ, ◌+◌, ◌-◌, nat_le, if◌then◌else◌, List, [], ◌∷◌, ◌++◌, Option, Some, None, slice_index_or}
+use Rattle.std.specs.Prelude.{ℕ, ◌+◌, ◌-◌, nat_le, if◌then◌else◌, List, [], Option, Some, slice_index_or}
 use Rattle.warg_crypto.specs.Tree.{leaf_input, leaf_digest, branch_input, where_both}
 use Rattle.warg_log.specs.Tree.{front_of, leaves_of, root_over}
 use Rattle.warg_log.specs.Cut.{is_target, cut_over, old_over}

@@ -1,6 +1,6 @@
 -- The byte lists that the digest function H takes along a key's bits, in the evaluation of a proof and in the
 -- plain sparse tree over given insertions.
-use Rattle.std.specs.Prelude.{ℕ, zero, suc, Bool, true, false, cond, List, [], ◌∷◌, ◌++◌, length, Option}
+use Rattle.std.specs.Prelude.{ℕ, zero, suc, Bool, true, false, List, [], ◌∷◌, ◌++◌, length, Option}
 use Rattle.std.specs.FinMap.{get}
 use Rattle.warg_crypto.specs.Tree.{leaf_input, leaf_digest, branch_input, input_beside}
 use Rattle.warg_map.specs.Sparse.{root_of_levels, map_of}

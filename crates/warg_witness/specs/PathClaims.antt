@@ -1,6 +1,6 @@
 -- What a path claims of given entries, and when the claim is met: where the path leads to the root of the tree over
 -- the entries. And when two paths agree: where they lead to one root.
-use Rattle.std.specs.Prelude.{◌≡◌, ℕ, List, [], ◌∷◌, length, Some, slice_index_or}
+use Rattle.std.specs.Prelude.{◌≡◌, ℕ, List, [], length, Some, slice_index_or}
 use Rattle.warg_crypto.specs.Tree.{leaf_digest}
 use Rattle.warg_log.specs.Tree.{leaves_of, root_of}
 use Rattle.warg_paths.specs.Paths.{inclusion_root, consistency_roots}

@@ -2,7 +2,6 @@ use Rattle.std.proofs.Common.{rules, ◌≡◌, ◌-◌, Some, reverse, refl, ap
 use Rattle.warg_log.specs.Tree.{root_over}
 use Rattle.warg_paths.specs.Paths.{root_down}
 use Rattle.warg_log.specs.Ranges.{IsAligned}
-use Rattle.warg_witness.proofs.HashLemmas.{ne_false}
 use Rattle.warg_witness.proofs.RangeLemmas.{side_aligned}
 use Rattle.warg_witness.proofs.RecordLemmas.{turned, none_leads, meets_at_leaf, diverges_here, front_widened, rest_widened}
 use Rattle.warg_witness.proofs.paths.+descend_path.Goals as goal

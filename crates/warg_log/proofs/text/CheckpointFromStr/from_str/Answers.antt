@@ -1,4 +1,4 @@
-use Rattle.std.proofs.Common.{rules, arith}
+use Rattle.std.proofs.Common.{arith}
 use Rattle.warg_log.proofs.TextLemmas.{without_space, without_length, without_root, with_both}
 use Rattle.warg_log.proofs.text.CheckpointFromStr.from_str.Goals as goal
 

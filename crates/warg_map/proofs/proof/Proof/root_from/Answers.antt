@@ -1,4 +1,4 @@
-use Rattle.std.proofs.Common.{◌≡◌, ◌-◌, ◌<◌, ◌∷◌, ◌++◌, cond, sym, ap, ◌∙◌, arith}
+use Rattle.std.proofs.Common.{◌≡◌, ◌-◌, ◌<◌, sym, ap, ◌∙◌, arith}
 use Rattle.warg_crypto.specs.Tree.{input_beside}
 use Rattle.warg_map.specs.Bits.{bit_at, last_bits}
 use Rattle.warg_map.specs.ProofValue.{peer_of, proof_value}
