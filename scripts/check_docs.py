@@ -15,7 +15,7 @@ import definitions
 ROOT = pathlib.Path(__file__).parents[1]
 # Names of the standard library and of the kit.
 OF_OTHERS = {"Debug", "D", "H", "L", "Ok", "Err", "usize", "digest", "MAX", "n", "sha2"}
-LIBRARIES = ["warg_crypto", "warg_protobuf", "warg_log", "warg_paths", "warg_tiles", "warg_map", "warg_witness", "warg_check", "warg_ffi"]
+LIBRARIES = ["warg_crypto", "warg_protobuf", "warg_log", "warg_paths", "warg_tiles", "warg_map", "warg_bundle", "warg_witness", "warg_check", "warg_program", "warg_ffi"]
 
 
 def code_blocks(text):

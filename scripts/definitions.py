@@ -20,8 +20,10 @@ TITLES = {
     "warg_paths": "Paths",
     "warg_tiles": "Tiles",
     "warg_map": "The map",
+    "warg_bundle": "Bundles",
     "warg_witness": "Witnesses",
-    "warg_check": "Verdicts and the program",
+    "warg_check": "Verdicts",
+    "warg_program": "The program",
     "warg_ffi": "Verdicts for C",
 }
 HEAD = """# The definitions, in reading order

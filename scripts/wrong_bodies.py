@@ -55,6 +55,11 @@ class Edit:
     def is_planted(self):
         return self.path.parent.name == "planted"
 
+    @property
+    def module(self):
+        """The path of the module of the file that it changes."""
+        return self.pairs[0][0].removeprefix("src/").removesuffix(".rt").replace("/", "::")
+
 
 def read(path):
     """Returns the edit in a file."""
@@ -129,9 +134,11 @@ class Check:
         self.is_whole = has_named
         self.is_proved = bool(re.search(r"^logic=proved", said, re.M))
 
-    def name_of(self, function):
-        """Returns the whole name of a function, by its end."""
-        found = [it for it in self.lines if f"::{it}".endswith(f"::{function}")]
+    def name_of(self, edit):
+        """Returns the whole name of an edit's function, by its end, and by its file where several end so."""
+        found = [it for it in self.lines if f"::{it}".endswith(f"::{edit.function}")]
+        if len(found) > 1:
+            found = [it for it in found if it.partition("::")[2].startswith(f"{edit.module}::")]
         return found[0] if len(found) == 1 else ""
 
     def is_broken(self, name):
@@ -159,8 +166,8 @@ class Crate:
                 self.faults.append(f"{edit.name}: an old text doesn't stand exactly once in its file")
         return [it for it in found if fits(it, self.texts)]
 
-    def check(self, edits):
-        """Checks a copy of the crate with these edits, over a copy of its kept work."""
+    def check(self, edits, keeps=None):
+        """Checks a copy of the crate with these edits, over a copy of its kept work, or into a folder that keeps it."""
         texts = dict(self.texts)
         for edit in edits:
             apply(edit, texts)
@@ -170,10 +177,9 @@ class Crate:
                     shutil.copytree(self.folder / part, f"{room}/{part}")
             for file, text in texts.items():
                 pathlib.Path(room, file).write_text(text)
-            os.mkdir(f"{room}/kept")
-            if self.kept.is_dir():
-                shutil.copytree(self.kept, f"{room}/kept", copy_function=os.link, dirs_exist_ok=True)
-            words = [kit.RATTLE, "check", *kit.words(self.name), "--jobs", "1", "--incremental", f"{room}/kept"]
+            if not keeps:
+                shutil.copytree(self.kept, f"{room}/kept", copy_function=os.link)
+            words = [kit.RATTLE, "check", *kit.words(self.name), "--jobs", "1", "--incremental", keeps or f"{room}/kept"]
             words += ["--stage-times", f"{room}/stages"]
             how = {"stdin": subprocess.DEVNULL, "stdout": subprocess.PIPE, "stderr": subprocess.STDOUT, "text": True, "errors": "replace"}
             ran = subprocess.Popen(words, cwd=room, **how)
@@ -186,7 +192,7 @@ class Crate:
     def judge(self, edits):
         """Checks a round, and returns what it says of each edit: refused, proved, or a word why it says nothing yet."""
         checked = self.check(edits)
-        names = {it: checked.name_of(it.function) for it in edits}
+        names = {it: checked.name_of(it) for it in edits}
         reached = [it for it in checked.lines if checked.is_broken(it) and it not in names.values()]
         if len(edits) > 1 and (reached or not checked.is_whole):
             half = len(edits) // 2
@@ -209,15 +215,22 @@ class Crate:
         taken, seen, texts = [], set(), dict(self.texts)
         for edit in edits:
             is_new = edit.function and len(told[edit]) < 2
-            if is_new and edit.function not in seen and fits(edit, texts):
+            if is_new and (edit.module, edit.function) not in seen and fits(edit, texts):
                 apply(edit, texts)
-                seen.add(edit.function)
+                seen.add((edit.module, edit.function))
                 taken.append(edit)
         return taken or edits[:1]
 
-    def try_all(self, only):
-        """Tries the edits in rounds, until each is judged, and then the crate without any."""
+    def try_all(self, only, room):
+        """Tries the edits in rounds, until each is judged, and then the crate without any.
+
+        Where no gate has left the work of the crate's proof, it is proved first.
+        """
         edits = self.edits(only)
+        if not self.kept.is_dir():
+            self.kept = pathlib.Path(room, self.name)
+            self.kept.mkdir()
+            self.check([], keeps=self.kept)
         left, told, number = list(edits), collections.defaultdict(list), 0
         while left:
             number += 1
@@ -277,8 +290,9 @@ def main():
         if ran.returncode:
             sys.exit(f"{ran.stdout}\n{crate.name} isn't proved as it stands")
     began = time.monotonic()
-    with concurrent.futures.ThreadPoolExecutor(len(os.sched_getaffinity(0))) as pool:
-        tried = dict(zip(crates, pool.map(lambda it: it.try_all(asked.only), crates)))
+    with tempfile.TemporaryDirectory(prefix="wrong-bodies-kept-") as room:
+        with concurrent.futures.ThreadPoolExecutor(len(os.sched_getaffinity(0))) as pool:
+            tried = dict(zip(crates, pool.map(lambda it: it.try_all(asked.only, room), crates)))
     for crate, edits in tried.items():
         wrong = [it for it in edits if not it.is_planted]
         by_round = collections.Counter(crate.refused.values())

@@ -2,6 +2,7 @@
 #![tactic(auto)]
 
 use anyhow::Result;
+use warg_bundle::inclusion_bytes;
 use warg_check::check_entry;
 use warg_crypto::Sha256;
 use warg_log::{LogBuilder, VecLog};
@@ -16,7 +17,7 @@ fn main(rt: HostRuntime) -> Result<()> {
     let checkpoint = log.checkpoint();
 
     // It sends a proof of entry 1, as bytes.
-    let bytes = log.inclusion_bytes(alloc, 1, log.length())?;
+    let bytes = inclusion_bytes(alloc, &log, 1, log.length())?;
 
     // A client checks the bytes: is entry 1 of the log with this checkpoint "two"?
     let verdict = check_entry(alloc, bytes.as_slice(), 0, 1, &"two", &checkpoint)?;

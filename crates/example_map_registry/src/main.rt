@@ -8,8 +8,9 @@
 use anyhow::{Result, bail};
 use std::alloc::Global;
 use std::collections::HashMap;
+use warg_bundle::MapProofBundle;
 use warg_crypto::Sha256;
-use warg_map::{Insertion, Map, MapProofBundle};
+use warg_map::{Insertion, Map};
 
 #[derive(Drop)]
 struct Registry {

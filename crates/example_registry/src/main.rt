@@ -6,8 +6,9 @@
 
 use anyhow::Result;
 use std::alloc::Global;
+use warg_bundle::{BundleError, LogProofBundle};
 use warg_crypto::Sha256;
-use warg_log::{BundleError, LogBuilder, LogData, Node, ProofBundle, VecLog};
+use warg_log::{LogBuilder, LogData, Node, VecLog};
 
 type Log = VecLog<Sha256, String>;
 
@@ -30,12 +31,12 @@ fn publish(rt: &HostRuntime, log: &mut Log, release: &String) -> Result<()> {
 }
 
 // The proofs that the last entry is in the log, and that the log before it is a beginning of the log.
-fn last_entry(alloc: Global, log: &Log) -> Result<ProofBundle<Sha256, String>, BundleError> {
+fn last_entry(alloc: Global, log: &Log) -> Result<LogProofBundle<Sha256, String>, BundleError> {
     let length = log.length();
     let before = length.saturating_sub(1);
     let inclusion = log.prove_inclusion(Node::leaf(before), length);
     let consistency = log.prove_consistency(before, length);
-    ProofBundle::bundle(
+    LogProofBundle::bundle(
         alloc,
         vec![in alloc; consistency]?,
         vec![in alloc; inclusion]?,

@@ -6,8 +6,9 @@ use crate::times::{Call, each, now, rounds, share, time};
 use crate::verdicts::{KeyChecks, KeyReads};
 use crate::{Entry, entries};
 use anyhow::Result;
+use warg_bundle::MapProofBundle;
 use warg_crypto::{Hash, Sha256, SupportedDigest};
-use warg_map::{Map, Proof, ProofBundle};
+use warg_map::{Map, Proof};
 
 /// A map whose digests are of SHA-256.
 pub type Keys = Map<Sha256, Entry, Entry>;
@@ -248,7 +249,7 @@ fn evaluate_one(rt: &HostRuntime, calls: &Evaluation<'_, Sha256>, count: usize) 
 /// The bundle of one proof, as bytes.
 pub fn bundle_of(rt: &HostRuntime, proof: KeyProof) -> Result<Vec<u8>> {
     let proofs = vec![in rt.alloc(); proof]?;
-    Ok(ProofBundle::bundle(proofs).encode(rt.alloc())?)
+    Ok(MapProofBundle::bundle(proofs).encode(rt.alloc())?)
 }
 
 fn read(rt: &HostRuntime, bytes: &[u8], count: usize) -> Result<()> {

@@ -6,8 +6,8 @@ use crate::rows::print;
 use crate::times::{Call, share, time};
 use crate::{ENTRIES, Entry, entries};
 use anyhow::Result;
-use warg_crypto::{Hash, Sha256};
-use warg_log::{Checkpoint, LogBuilder, LogData, hash_leaf};
+use warg_crypto::{Hash, Sha256, hash_leaf};
+use warg_log::{Checkpoint, LogBuilder, LogData};
 use warg_paths::{check_record, check_tree, consistency_path, inclusion_path, root_of_inclusion};
 
 // The old length of the consistency path, as of the consistency proof that is checked.

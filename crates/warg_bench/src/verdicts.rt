@@ -8,10 +8,11 @@ use crate::times::{Call, each, now, time};
 use crate::{ENTRIES, Entry, entries};
 use anyhow::Result;
 use std::alloc::Global;
-use warg_check::{check_consistency, check_inclusion, check_key, run};
+use warg_bundle::{LogProofBundle, MapProofBundle as KeyBundle};
+use warg_check::{check_consistency, check_inclusion, check_key};
 use warg_crypto::{Hash, Sha256};
-use warg_log::{ConsistencyProof, LogBuilder, LogData, Node, ProofBundle};
-use warg_map::ProofBundle as KeyBundle;
+use warg_log::{ConsistencyProof, LogBuilder, LogData, Node};
+use warg_program::run;
 
 /// Reads a bundle of a map's proof.
 #[derive(Drop)]
@@ -107,7 +108,7 @@ fn check_entry(rt: &HostRuntime, log: &Log, value: Entry) -> Result<()> {
 // The bundle of the proof of the log's first entry.
 fn inclusion_of(rt: &HostRuntime, log: &Log) -> Result<Vec<u8>> {
     let proofs = vec![in rt.alloc(); log.prove_inclusion(Node(0), ENTRIES)]?;
-    let bundle = ProofBundle::bundle(rt.alloc(), Vec::new(rt.alloc()), proofs, log)?;
+    let bundle = LogProofBundle::bundle(rt.alloc(), Vec::new(rt.alloc()), proofs, log)?;
     Ok(bundle.encode(rt.alloc())?)
 }
 
@@ -137,7 +138,7 @@ fn consistency_of(
     proof: ConsistencyProof<Sha256, Entry>,
 ) -> Result<Vec<u8>> {
     let proofs = vec![in rt.alloc(); proof]?;
-    let bundle = ProofBundle::bundle(rt.alloc(), proofs, Vec::new(rt.alloc()), log)?;
+    let bundle = LogProofBundle::bundle(rt.alloc(), proofs, Vec::new(rt.alloc()), log)?;
     Ok(bundle.encode(rt.alloc())?)
 }
 

@@ -7,11 +7,12 @@ use Rattle.warg_protobuf.specs.HashEntry.{Entry}
 use Rattle.warg_protobuf.specs.LogProofBundle.{LogBundle, log_schema}
 use Rattle.warg_protobuf.specs.MapProofBundle.{MapBundle, map_schema}
 use Rattle.warg_protobuf.specs.Schema.{message_of}
-use Rattle.warg_log.specs.declared.error.DecodeError.{DecodeError}
-use Rattle.warg_log.specs.Decoding.{held_in, unless, earlier, first_fault, digest_fault}
+use Rattle.warg_protobuf.specs.declared.value_error.DecodeError.{DecodeError}
+use Rattle.warg_protobuf.specs.Decoding.{held_in, unless, earlier, first_fault, digest_fault}
 use Rattle.warg_log.specs.Sparse.{held_digest}
-use Rattle.warg_log.specs.Bundles.{Bundle, bundle_of, log_bundle_in, entries_fault, entry_fault, pair_of}
-use Rattle.warg_map.specs.Bundles.{Peers, peer_fault, proof_fault, map_bundle_of, map_bundle_in}
+use Rattle.warg_bundle.specs.LogBundles.{Bundle, bundle_of, log_bundle_in, entries_fault, entry_fault, pair_of}
+use Rattle.warg_map.specs.Messages.{Peers, peer_fault, proof_fault}
+use Rattle.warg_bundle.specs.MapBundles.{map_bundle_of, map_bundle_in}
 use Rattle.warg_check.specs.Verdicts as peers
 use Rattle.warg_check.specs.CheckpointVerdicts as logs
 

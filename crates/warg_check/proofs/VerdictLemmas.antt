@@ -10,11 +10,11 @@ use Rattle.warg_log.specs.declared.consistency.ConsistencyProofError.{Consistenc
 use Rattle.warg_log.specs.Nodes.{ExistsAt, end_of}
 use Rattle.warg_log.specs.Cut.{cut_root}
 use Rattle.warg_log.specs.Sparse.{Pairs, held_digest}
-use Rattle.warg_log.specs.Bundles.{Bundle}
-use Rattle.warg_log.specs.declared.error.DecodeError.{DecodeError}
+use Rattle.warg_bundle.specs.LogBundles.{Bundle}
+use Rattle.warg_protobuf.specs.declared.value_error.DecodeError.{DecodeError}
 use Rattle.warg_map.specs.Bits.{key_bits}
 use Rattle.warg_map.specs.ProofValue.{proof_value}
-use Rattle.warg_map.specs.Bundles.{Peers}
+use Rattle.warg_map.specs.Messages.{Peers}
 use Rattle.warg_check.specs.Verdicts.{judged, verdict, is_root, includes, are_roots, leads}
 use Rattle.warg_check.specs.UpdateVerdicts.{leads_both}
 
@@ -25,41 +25,11 @@ judged_at proofs holds at read b proof is reads there judges =
     ap (verdict proofs holds at) reads ∙ ap (judged (holds b)) there ∙ ap Ok judges
 
 -- an evaluation that went well
-pub evaluated : (H : List ℕ → List ℕ) (value root : List ℕ) (b : Bundle) (node : Node) (n : ℕ) (ps : Pairs) (found : List ℕ) (holds : Bool) → n ≡ b.log_length → ps ≡ b.hashes
-    → ExistsAt node.0 n → cut_root H (λ x. held_digest ps x) node.0 (H (0 ∷ value)) n ≡ Some found → holds ≡ (pointwise nat_eq found root && true) → holds ≡ includes H value root b node
-evaluated H value root b node n ps found holds length_is hashes_are exists cut same =
-    rw (← length_is, ← hashes_are, le-leb (end_of node.0) n exists, cut, same) (⊎_elim
+pub evaluated : (root found : List ℕ) (holds : Bool) → holds ≡ (pointwise nat_eq found root && true) → holds ≡ is_root root (Ok found)
+evaluated root found holds same = rw same (⊎_elim
     (λ (t : pointwise nat_eq found root ≡ true). rw t refl)
     (λ (t : pointwise nat_eq found root ≡ false). rw t refl)
     (cases_Bool (pointwise nat_eq found root)))
-
--- an evaluation that was refused
-no_root : (H : List ℕ → List ℕ) (b : Bundle) (value root : List ℕ) (node : Node) → cut_root H (held_digest b.hashes) node.0 (H (0 ∷ value)) b.log_length ≡ None → includes H value root b node ≡ false
-no_root H b value root node none = rw none (⊎_elim
-    (λ (t : nat_le (end_of node.0) b.log_length ≡ true). rw t refl)
-    (λ (t : nat_le (end_of node.0) b.log_length ≡ false). rw t refl)
-    (cases_Bool (nat_le (end_of node.0) b.log_length)))
-
-too_new_is : (H : List ℕ → List ℕ) (b : Bundle) (value root : List ℕ) (node : Node) → (ExistsAt node.0 b.log_length → ⊥) → includes H value root b node ≡ false
-too_new_is H b value root node absent = rw (lt-leb (end_of node.0) b.log_length (⊎_elim
-    (λ (lt : b.log_length < end_of node.0). lt)
-    (λ (le : end_of node.0 ≤ b.log_length). absurd (absent le))
-    (cases_lt b.log_length (end_of node.0)))) refl
-
-refused_is : (H : List ℕ → List ℕ) (b : Bundle) (value root : List ℕ) (node : Node) (e : InclusionProofError)
-    → (e ≡ Inclusion.LeafTooNew → ExistsAt node.0 b.log_length → ⊥)
-    → (e ≡ Inclusion.HashNotKnown → cut_root H (held_digest b.hashes) node.0 (H (0 ∷ value)) b.log_length ≡ None)
-    → (e ≡ Inclusion.Memory → ⊥) → includes H value root b node ≡ false
-refused_is H b value root node Inclusion.LeafTooNew new unknown never = too_new_is H b value root node (new refl)
-refused_is H b value root node Inclusion.HashNotKnown new unknown never = no_root H b value root node (unknown refl)
-refused_is H b value root node Inclusion.Memory new unknown never = absurd (never refl)
-
-pub refused : (H : List ℕ → List ℕ) (value root : List ℕ) (b : Bundle) (node : Node) (n : ℕ) (ps : Pairs) (e : InclusionProofError) → n ≡ b.log_length → ps ≡ b.hashes
-    → (e ≡ Inclusion.LeafTooNew → ExistsAt node.0 n → ⊥)
-    → (e ≡ Inclusion.HashNotKnown → cut_root H (λ x. held_digest ps x) node.0 (H (0 ∷ value)) n ≡ None)
-    → (e ≡ Inclusion.Memory → ⊥) → false ≡ includes H value root b node
-refused H value root b node n ps e length_is hashes_are new unknown never =
-    sym (refused_is H b value root node e (rw (← length_is) new) (rw (← length_is, ← hashes_are) unknown) never)
 
 -- what a verdict that is true says
 true_judged : {P : Type 0} (holds : P → Bool) (o : Option P) → judged holds o ≡ Ok true → (proof : P) × (holds proof ≡ true) × (o ≡ Some proof)
@@ -87,6 +57,6 @@ both_lead H key old_leaf new_leaf old_root new_root peers is =
     let both = and_parts (leads H old_leaf key old_root peers) (leads H new_leaf key new_root peers) is in
     (same_text (proof_value H peers old_leaf (key_bits H key)) old_root (sym both.0), same_text (proof_value H peers new_leaf (key_bits H key)) new_root (sym both.1))
 
-pub root_is : (root : List ℕ) (found : Option (List ℕ)) → is_root root found ≡ true → found ≡ Some root
-root_is root None is = absurd cc
-root_is root (Some r) is = ap Some (same_text r root (sym is))
+pub root_is : (root : List ℕ) (found : Result (List ℕ) InclusionProofError) → is_root root found ≡ true → found ≡ Ok root
+root_is root (Err e) is = absurd cc
+root_is root (Ok r) is = ap Ok (same_text r root (sym is))

@@ -2,11 +2,11 @@
 use Rattle.std.specs.Prelude.{◌≡◌, ℕ, ◌*◌, Bool, ◌&&◌, ◌==◌, List, ◌∷◌, length, Some, Result, Ok}
 use Rattle.warg_crypto.specs.Tree.{leaf_digest}
 use Rattle.warg_log.specs.declared.node.Node.{Node}
-use Rattle.warg_log.specs.Nodes.{ExistsAt}
-use Rattle.warg_log.specs.Cut.{cut_root}
+use Rattle.warg_log.specs.Claims.{leaf_claim}
+use Rattle.warg_log.specs.Inclusion.{inclusion}
 use Rattle.warg_log.specs.Consistency.{IsConsistent}
 use Rattle.warg_log.specs.Sparse.{held_digest}
-use Rattle.warg_log.specs.Bundles.{Bundle, bundle_of}
+use Rattle.warg_bundle.specs.LogBundles.{Bundle, bundle_of}
 use Rattle.warg_check.specs.declared.verdict.CheckError.{CheckError}
 use Rattle.warg_check.specs.Verdicts.{verdict, includes, extends}
 
@@ -34,14 +34,13 @@ growth_verdict H bytes at old_length old new_length new = verdict (λ (b : Bundl
 abbrev pub HasHashes : Bundle → Type 0
 HasHashes b = (node : ℕ) (digest : List ℕ) → held_digest b.hashes node ≡ Some digest → length digest ≡ 32
 
--- The bytes are a bundle by whose digests, of 32 bytes, the cut root is this root, with the value at the leaf of this
--- index.
+-- The bytes are a bundle by whose digests, of 32 bytes, the inclusion proof of the leaf at this index leads from the
+-- value to this root.
 pub record IsEntryShown (H : List ℕ → List ℕ) (bytes : List ℕ) (index : ℕ) (value : List ℕ) (n : ℕ) (root : List ℕ) : Type 0 where
   pub bundle : Bundle
   pub spelled : bundle_of bytes ≡ Ok bundle
   pub hashes : HasHashes bundle
-  pub exists : ExistsAt (2 * index) n
-  pub is : cut_root H (held_digest bundle.hashes) (2 * index) (leaf_digest H value) n ≡ Some root
+  pub is : inclusion H (held_digest bundle.hashes) (leaf_claim index n) (leaf_digest H value) ≡ Ok root
 
 -- The bytes are a bundle by whose digests, of 32 bytes, a consistency proof between these lengths has these roots.
 pub record IsGrowthShown (H : List ℕ → List ℕ) (bytes : List ℕ) (old_length : ℕ) (old : List ℕ) (new_length : ℕ) (new : List ℕ) : Type 0 where

@@ -6,7 +6,8 @@ use Rattle.warg_protobuf.specs.MapProofBundle.{MapBundle}
 use Rattle.warg_map.specs.Bits.{key_bits}
 use Rattle.warg_crypto.specs.Tree.{leaf_digest}
 use Rattle.warg_map.specs.ProofValue.{proof_value}
-use Rattle.warg_map.specs.Bundles.{Peers, map_bundle_of}
+use Rattle.warg_map.specs.Messages.{Peers}
+use Rattle.warg_bundle.specs.MapBundles.{map_bundle_of}
 use Rattle.warg_check.specs.declared.verdict.CheckError.{CheckError}
 use Rattle.warg_check.specs.Verdicts.{verdict, leads}
 

@@ -1,22 +1,22 @@
 -- Verdicts on the proofs in the bytes of a log bundle or a map bundle.
-use Rattle.std.specs.Prelude.{◌≡◌, ℕ, Bool, false, ◌&&◌, nat_eq, nat_le, List, ◌∷◌, length, Option, Some, None, Result, Ok, Err, slice_get, slice_index_or}
+use Rattle.std.specs.Prelude.{◌≡◌, ℕ, Bool, false, ◌&&◌, nat_eq, List, ◌∷◌, length, Option, Some, None, Result, Ok, Err, slice_get, slice_index_or}
 use Rattle.warg_log.specs.declared.node.Node.{Node}
-use Rattle.warg_log.specs.declared.error.DecodeError.{DecodeError}
-use Rattle.warg_log.specs.declared.error.DecodeError.TheVariants as decoding
+use Rattle.warg_protobuf.specs.declared.value_error.DecodeError.{DecodeError}
+use Rattle.warg_protobuf.specs.declared.value_error.DecodeError.TheVariants as decoding
 use Rattle.warg_log.specs.declared.consistency.ConsistencyProofError.{ConsistencyProofError}
-use Rattle.warg_log.specs.Nodes.{end_of}
-use Rattle.warg_log.specs.Cut.{cut_root}
+use Rattle.warg_log.specs.declared.proof.InclusionProofError.{InclusionProofError}
+use Rattle.warg_log.specs.Inclusion.{inclusion}
 use Rattle.warg_log.specs.Consistency.{consistency}
 use Rattle.warg_log.specs.Sparse.{held_digest}
-use Rattle.warg_log.specs.Bundles.{Bundle, bundle_of}
+use Rattle.warg_bundle.specs.LogBundles.{Bundle, bundle_of}
 use Rattle.warg_crypto.specs.EmptyTrees.{empty_root}
 use Rattle.warg_protobuf.specs.MapProofBundle.{MapBundle}
 use Rattle.warg_map.specs.Bits.{key_bits}
 use Rattle.warg_crypto.specs.Tree.{leaf_digest}
 use Rattle.warg_crypto.specs.Bytes.{same_bytes}
 use Rattle.warg_map.specs.ProofValue.{proof_value}
-use Rattle.warg_map.specs.Bundles.{Peers}
-use Rattle.warg_map.specs.Bundles.{map_bundle_of}
+use Rattle.warg_map.specs.Messages.{Peers}
+use Rattle.warg_bundle.specs.MapBundles.{map_bundle_of}
 use Rattle.warg_check.specs.declared.verdict.CheckError.{CheckError}
 use Rattle.warg_check.specs.declared.verdict.CheckError.TheVariants as fault
 
@@ -35,15 +35,14 @@ abbrev pub verdict : {B P : Type 0} → (B → List P) → (B → P → Bool) �
 verdict proofs holds at (Ok bundle) = judged (holds bundle) (slice_get (proofs bundle) at)
 verdict proofs holds at (Err e) = Err (fault.Decode e)
 
--- The root is there, and is this one.
-abbrev pub is_root : List ℕ → Option (List ℕ) → Bool
-is_root root None = false
-is_root root (Some r) = same_bytes r root
+-- An evaluation leads to this root.
+abbrev pub is_root : List ℕ → Result (List ℕ) InclusionProofError → Bool
+is_root root (Ok r) = same_bytes r root
+is_root root (Err e) = false
 
--- The node exists at the bundle's length, and with the value as its leaf the cut root over the bundle's
--- digests is this root.
+-- The inclusion proof of a node evaluates, over the bundle's digests and with the value as its leaf, to this root.
 abbrev pub includes : (List ℕ → List ℕ) → List ℕ → List ℕ → Bundle → Node → Bool
-includes H value root b node = nat_le (end_of node.0) b.log_length && is_root root (cut_root H (held_digest b.hashes) node.0 (leaf_digest H value) b.log_length)
+includes H value root b node = is_root root (inclusion H (held_digest b.hashes) (record { leaf = node; log_length = b.log_length }) (leaf_digest H value))
 
 -- The verdict on the inclusion proof at a place of a log bundle's bytes.
 abbrev pub inclusion_verdict : (List ℕ → List ℕ) → List ℕ → ℕ → List ℕ → List ℕ → Result Bool CheckError

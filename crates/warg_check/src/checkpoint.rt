@@ -2,14 +2,15 @@
 
 ghost use Rattle.std.specs.Prelude.{◌≡◌, ◌≢◌, Err};
 ghost use Rattle.warg_protobuf.specs.declared.error.WireError.TheVariants as wire;
-ghost use Rattle.warg_log.specs.declared.error.DecodeError.TheVariants as decoding;
+ghost use Rattle.warg_protobuf.specs.declared.value_error.DecodeError.TheVariants as decoding;
 ghost use Rattle.warg_protobuf.specs.Reading.{Answers};
 ghost use Rattle.warg_check.specs.CheckpointVerdicts.{is_leaf_at, shows_entry, entry_verdict, shows_growth, growth_verdict};
 
 use crate::verdict::{CheckError, is_extended, is_included};
 use std::alloc::Allocator;
+use warg_bundle::LogProofBundle;
 use warg_crypto::{Hash, SupportedDigest, VisitBytes};
-use warg_log::{Checkpoint, ConsistencyProof, InclusionProof, Node, ProofBundle};
+use warg_log::{Checkpoint, ConsistencyProof, InclusionProof, Node};
 
 /// Whether the inclusion proof at a place of a log bundle, counted from 0, shows that entry `index`, from 0,
 /// of the log with this checkpoint has the value's bytes: whether it is a proof of that leaf at the
@@ -34,7 +35,7 @@ pub fn check_entry<D: SupportedDigest, V: VisitBytes, A: Allocator + Copy>(
     ensures memory { result ≢ Err (CheckError.Decode decoding.Memory) }
     ensures wire { result ≢ Err (CheckError.Decode (decoding.Wire wire.Memory)) }
 {
-    let bundle = ProofBundle::<D, V, A>::decode(alloc, bytes)?;
+    let bundle = LogProofBundle::<D, V, A>::decode(alloc, bytes)?;
     match bundle.inclusion_proof(at) {
         Some(proof) => Ok(is_entry(&bundle, &proof, index, value, checkpoint)),
         None => Err(CheckError::NoSuchProof),
@@ -43,7 +44,7 @@ pub fn check_entry<D: SupportedDigest, V: VisitBytes, A: Allocator + Copy>(
 
 // Whether an inclusion proof of a bundle is of this leaf at the checkpoint's length, and evaluates to its root.
 fn is_entry<D: SupportedDigest, V: VisitBytes, A: Allocator>(
-    bundle: &ProofBundle<D, V, A>,
+    bundle: &LogProofBundle<D, V, A>,
     proof: &InclusionProof<D, V>,
     index: usize,
     value: &V,
@@ -87,7 +88,7 @@ pub fn check_growth<D: SupportedDigest, A: Allocator + Copy>(
     ensures memory { result ≢ Err (CheckError.Decode decoding.Memory) }
     ensures wire { result ≢ Err (CheckError.Decode (decoding.Wire wire.Memory)) }
 {
-    let bundle = ProofBundle::<D, (), A>::decode(alloc, bytes)?;
+    let bundle = LogProofBundle::<D, (), A>::decode(alloc, bytes)?;
     match bundle.consistency_proof(at) {
         Some(proof) => Ok(is_growth(&bundle, &proof, old, new)),
         None => Err(CheckError::NoSuchProof),
@@ -96,7 +97,7 @@ pub fn check_growth<D: SupportedDigest, A: Allocator + Copy>(
 
 // Whether a consistency proof of a bundle is between these lengths, and evaluates to both roots.
 fn is_growth<D: SupportedDigest, A: Allocator>(
-    bundle: &ProofBundle<D, (), A>,
+    bundle: &LogProofBundle<D, (), A>,
     proof: &ConsistencyProof<D, ()>,
     old: &Checkpoint<D>,
     new: &Checkpoint<D>,

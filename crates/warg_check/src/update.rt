@@ -2,14 +2,14 @@
 
 ghost use Rattle.std.specs.Prelude.{◌≢◌, Err};
 ghost use Rattle.warg_protobuf.specs.declared.error.WireError.TheVariants as wire;
-ghost use Rattle.warg_log.specs.declared.error.DecodeError.TheVariants as decoding;
+ghost use Rattle.warg_protobuf.specs.declared.value_error.DecodeError.TheVariants as decoding;
 ghost use Rattle.warg_protobuf.specs.Reading.{Answers};
 ghost use Rattle.warg_check.specs.UpdateVerdicts.{update_verdict, insertion_verdict};
 
 use crate::verdict::CheckError;
 use std::alloc::Allocator;
+use warg_bundle::MapProofBundle;
 use warg_crypto::{Hash, SupportedDigest, VisitBytes};
-use warg_map::MapProofBundle;
 
 /// Whether the proof at a place of a map bundle, counted from 0, shows that the map with the new root is the one with
 /// the old root, with the new value under the key in place of the old one: whether it evaluates from the old value to

@@ -2,15 +2,16 @@
 
 ghost use Rattle.std.specs.Prelude.{◌≡◌, ◌≢◌, Err};
 ghost use Rattle.warg_protobuf.specs.declared.error.WireError.TheVariants as wire;
-ghost use Rattle.warg_log.specs.declared.error.DecodeError.TheVariants as decoding;
+ghost use Rattle.warg_protobuf.specs.declared.value_error.DecodeError.TheVariants as decoding;
 ghost use Rattle.warg_protobuf.specs.Reading.{Answers};
 ghost use Rattle.warg_check.specs.Verdicts.{check_fault, includes, inclusion_verdict, extends, consistency_verdict, key_verdict, absent_verdict};
 
 use std::alloc::Allocator;
 use thiserror::Error;
+use warg_bundle::{LogProofBundle, MapProofBundle};
 use warg_crypto::{Hash, SupportedDigest, VisitBytes};
-use warg_log::{ConsistencyProof, DecodeError, InclusionProof, ProofBundle};
-use warg_map::MapProofBundle;
+use warg_log::{ConsistencyProof, InclusionProof};
+use warg_protobuf::DecodeError;
 
 /// Why there is no verdict.
 #[derive(Debug, PartialEq, Eq, Drop, Error)]
@@ -54,7 +55,7 @@ pub fn check_inclusion<D: SupportedDigest, V: VisitBytes, A: Allocator + Copy>(
     ensures memory { result ≢ Err (CheckError.Decode decoding.Memory) }
     ensures wire { result ≢ Err (CheckError.Decode (decoding.Wire wire.Memory)) }
 {
-    let bundle = ProofBundle::<D, V, A>::decode(alloc, bytes)?;
+    let bundle = LogProofBundle::<D, V, A>::decode(alloc, bytes)?;
     match bundle.inclusion_proof(at) {
         Some(proof) => Ok(is_included(&bundle, &proof, value, root)),
         None => Err(CheckError::NoSuchProof),
@@ -63,7 +64,7 @@ pub fn check_inclusion<D: SupportedDigest, V: VisitBytes, A: Allocator + Copy>(
 
 // Whether an inclusion proof of a bundle evaluates, over the bundle's digests, to the root with the value.
 pub(crate) fn is_included<D: SupportedDigest, V: VisitBytes, A: Allocator>(
-    bundle: &ProofBundle<D, V, A>,
+    bundle: &LogProofBundle<D, V, A>,
     proof: &InclusionProof<D, V>,
     value: &V,
     root: &Hash<D>,
@@ -94,7 +95,7 @@ pub fn check_consistency<D: SupportedDigest, A: Allocator + Copy>(
     ensures memory { result ≢ Err (CheckError.Decode decoding.Memory) }
     ensures wire { result ≢ Err (CheckError.Decode (decoding.Wire wire.Memory)) }
 {
-    let bundle = ProofBundle::<D, (), A>::decode(alloc, bytes)?;
+    let bundle = LogProofBundle::<D, (), A>::decode(alloc, bytes)?;
     match bundle.consistency_proof(at) {
         Some(proof) => Ok(is_extended(&bundle, &proof, old, new)),
         None => Err(CheckError::NoSuchProof),
@@ -103,7 +104,7 @@ pub fn check_consistency<D: SupportedDigest, A: Allocator + Copy>(
 
 // Whether a consistency proof of a bundle evaluates, over the bundle's digests, to the two roots.
 pub(crate) fn is_extended<D: SupportedDigest, A: Allocator>(
-    bundle: &ProofBundle<D, (), A>,
+    bundle: &LogProofBundle<D, (), A>,
     proof: &ConsistencyProof<D, ()>,
     old: &Hash<D>,
     new: &Hash<D>,

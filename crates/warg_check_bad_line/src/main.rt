@@ -2,7 +2,7 @@
 #![tactic(auto)]
 
 use std::process::ExitCode;
-use warg_check::program::{exit_code, run};
+use warg_program::{exit_code, run};
 
 fn main(rt: HostRuntime) -> ExitCode {
     exit_code(run(rt.alloc(), &mut rt.stdin(), &mut rt.stdout()))

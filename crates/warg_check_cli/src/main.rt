@@ -10,7 +10,7 @@ use arguments::{HELP, Request, VERSION, request_of};
 use std::env;
 use std::io::{self, IsTerminal};
 use std::process::ExitCode;
-use warg_check::program::{exit_code, run};
+use warg_program::{exit_code, run};
 
 fn main(rt: HostRuntime) -> ExitCode {
     match answer(&rt) {

@@ -2,6 +2,7 @@ pub mod Bytes
 pub mod DigestFacts
 pub mod Digests
 pub mod Tree
+pub mod Sides
 pub mod Collisions
 pub mod EmptyTrees
 pub mod Framed

@@ -1,4 +1,4 @@
-//! Values as bytes, digests of bytes, and their hashes.
+//! Values as bytes, digests of bytes, their hashes, and the leaves and branches of Merkle trees.
 #![tactic(auto)]
 
 mod digest;
@@ -7,6 +7,7 @@ mod framed;
 mod hash;
 pub mod laws;
 mod text;
+mod tree;
 mod visit;
 pub mod weak;
 
@@ -15,4 +16,5 @@ pub use empty::empty_tree_hash;
 pub use framed::Framed;
 pub use hash::{Hash, HashLength, bytes_of};
 pub use text::HashDigits;
+pub use tree::{Branch, Leaf, Side, hash_branch, hash_empty, hash_leaf};
 pub use visit::{ByteVisitor, VisitBytes};

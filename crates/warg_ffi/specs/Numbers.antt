@@ -3,8 +3,8 @@ use Rattle.std.specs.Prelude.{◌≡◌, ◌⊎◌, ◌-ℤ◌, ℤ, pos, Bool, 
 use Rattle.std.specs.List.{list_all}
 use Rattle.warg_protobuf.specs.declared.error.WireError.{WireError}
 use Rattle.warg_protobuf.specs.declared.error.WireError.TheVariants as wire
-use Rattle.warg_log.specs.declared.error.DecodeError.{DecodeError}
-use Rattle.warg_log.specs.declared.error.DecodeError.TheVariants as decoding
+use Rattle.warg_protobuf.specs.declared.value_error.DecodeError.{DecodeError}
+use Rattle.warg_protobuf.specs.declared.value_error.DecodeError.TheVariants as decoding
 use Rattle.warg_check.specs.declared.verdict.CheckError.{CheckError}
 use Rattle.warg_check.specs.declared.verdict.CheckError.TheVariants as fault
 

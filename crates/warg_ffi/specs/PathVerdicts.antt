@@ -2,16 +2,20 @@
 use Rattle.std.specs.Prelude.{ℕ, Bool, false, ◌&&◌, nat_eq, List, ◌∷◌, Option, Some, None, Result, Ok, Err}
 use Rattle.warg_crypto.specs.Tree.{leaf_digest}
 use Rattle.warg_crypto.specs.Bytes.{same_bytes}
-use Rattle.warg_log.specs.declared.error.DecodeError.TheVariants as decoding
+use Rattle.warg_protobuf.specs.declared.value_error.DecodeError.TheVariants as decoding
 use Rattle.warg_paths.specs.Paths.{inclusion_root, consistency_roots}
 use Rattle.warg_paths.specs.Pieces.{hashes_of}
 use Rattle.warg_check.specs.declared.verdict.CheckError.{CheckError}
 use Rattle.warg_check.specs.declared.verdict.CheckError.TheVariants as fault
-use Rattle.warg_check.specs.Verdicts.{is_root}
+
+-- The root is there, and is this one.
+abbrev pub is_found : List ℕ → Option (List ℕ) → Bool
+is_found root None = false
+is_found root (Some found) = same_bytes found root
 
 -- The path leads from the value's leaf digest, at this index and length, to the root.
 abbrev pub shows_record : (List ℕ → List ℕ) → ℕ → List ℕ → ℕ → List ℕ → List (List ℕ) → Bool
-shows_record H index value length root path = is_root root (inclusion_root H index length (leaf_digest H value) path)
+shows_record H index value length root path = is_found root (inclusion_root H index length (leaf_digest H value) path)
 
 -- The two roots are there, and are these.
 abbrev pub are_both : List ℕ → List ℕ → Option (List ℕ × List ℕ) → Bool

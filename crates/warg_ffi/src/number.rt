@@ -4,8 +4,7 @@ ghost use Rattle.std.specs.Prelude.{◌≡◌};
 ghost use Rattle.warg_ffi.specs.Numbers.{verdict_number, decode_number, wire_number};
 
 use warg_check::CheckError;
-use warg_log::DecodeError;
-use warg_protobuf::WireError;
+use warg_protobuf::{DecodeError, WireError};
 
 pub const TRUE: i32 = 1;
 

@@ -7,8 +7,9 @@ ghost use Rattle.warg_ffi.specs.PathVerdicts.{shows_record, shows_tree, path_ver
 use std::alloc::Global;
 use warg_check::CheckError;
 use warg_crypto::{Hash, Sha256};
-use warg_log::{Checkpoint, DecodeError};
+use warg_log::Checkpoint;
 use warg_paths::{HashesError, check_record, check_tree, hashes_in};
+use warg_protobuf::DecodeError;
 
 // Whether the path in these bytes shows that the log of the checkpoint has the value at the index.
 pub(crate) fn check_record_in(

@@ -1,28 +1,16 @@
--- What `==` says of hashes, walks and bundles: their contract values are equal.
+-- What `==` says of hashes and walks: their contract values are equal.
 use Rattle.std.proofs.Common.{◌≡◌, ◌↔◌, ℕ, true, ◌&&◌, nat_eq, List, arith, IsTrue}
 use Rattle.std.specs.Bool.{Decides}
 use Rattle.std.specs.Cmp.Lexicographic.{pointwise, bytes_decides, pointwise_decides}
 use Rattle.std.proofs.lemmas.Bool.Decides.{Decides-eqb, Decides-and}
 use Rattle.warg_log.specs.declared.node.Node.{Node}
 use Rattle.warg_log.specs.Claims.{Walk, same_node, same_walk}
-use Rattle.warg_log.specs.Bundles.{Bundle, same_pair, same_bundle}
 
 pub eq_exactly : (xs ys : List ℕ) → IsTrue (pointwise nat_eq xs ys && true) ↔ (xs ≡ ys)
 eq_exactly xs ys = ((λ is. grind (arith, bytes_decides)), (λ same. grind (arith, bytes_decides)))
 
-nodes_decide : (m n : Node) → Decides (same_node m n) (m ≡ n)
+pub nodes_decide : (m n : Node) → Decides (same_node m n) (m ≡ n)
 nodes_decide m n = let d = Decides-eqb m.0 n.0 in (λ e. (λ i. record { 0 = d.0 e i }), λ e. grind (arith, d))
-
-pairs_decide : (p q : Node × List ℕ) → Decides (same_pair p q) (p ≡ q)
-pairs_decide p q =
-    let d = Decides-and _ _ (nodes_decide p.0 q.0) (pointwise_decides Decides-eqb p.1 q.1) in
-    (λ e. let h = d.0 e in (λ i. (h.0 i, h.1 i)), λ e. grind (arith, d))
-
-pub bundles_decide : (a b : Bundle) → Decides (same_bundle a b) (a ≡ b)
-bundles_decide a b =
-    let lengths = Decides-and _ _ (Decides-eqb a.log_length b.log_length) (pointwise_decides Decides-eqb a.consistent_lengths b.consistent_lengths) in
-    let d = Decides-and _ _ (Decides-and _ _ lengths (pointwise_decides nodes_decide a.included_nodes b.included_nodes)) (pointwise_decides pairs_decide a.hashes b.hashes) in
-    (λ e. let h = d.0 e in (λ i. record { log_length = h.0.0.0 i; consistent_lengths = h.0.0.1 i; included_nodes = h.0.1 i; hashes = h.1 i }), λ e. grind (arith, d))
 
 pub walks_decide : (a b : Walk) → Decides (same_walk a b) (a ≡ b)
 walks_decide a b =

@@ -1,24 +1,29 @@
 -- Lemmas for the proofs of the crates above, over public definitions alone.
-use Rattle.std.proofs.Common.{◌≡◌, ℕ, suc, ◌+◌, ◌-◌, ◌*◌, ◌^◌, ◌<◌, ◌≤◌, List, [], ◌∷◌, length, map, Option, Some, Ok, slice_index_or, refl, arith, ◌⊎◌}
+use Rattle.std.proofs.Common.{◌≡◌, ℕ, suc, ◌+◌, ◌-◌, ◌*◌, ◌^◌, ◌<◌, ◌≤◌, List, [], ◌∷◌, length, map, Option, Some, Ok, slice_index_or, refl, arith, ◌⊎◌, ◌↔◌}
 use Rattle.std.specs.List.{AllByRecursion}
+use Rattle.std.specs.Bool.{Decides}
+use Rattle.warg_log.specs.declared.node.Node.{Node}
+use Rattle.warg_log.specs.Claims.{same_node}
 use Rattle.std.proofs.lemmas.Nat.{pow_pos}
-use Rattle.warg_log.specs.Nodes.{IsNode, ExistsAt, height_of, place_of, node_over, balanced_over}
+use Rattle.warg_log.specs.Nodes.{IsNode, ExistsAt, height_of, place_of, end_of, node_over, balanced_over, balanced_roots}
 use Rattle.warg_crypto.specs.Tree.{branch}
 use Rattle.warg_log.specs.Ranges.{IsAligned}
 use Rattle.warg_log.specs.Tree.{front_of, root_over, own_digest}
-use Rattle.warg_log.specs.Cut.{joined, cut_over, old_over, IsFull}
-use Rattle.warg_log.specs.Walks.{needed}
+use Rattle.warg_log.specs.Cut.{joined, cut_over, cut_root, old_over, IsFull}
+use Rattle.warg_log.specs.Walks.{needed, needed_between}
 use Rattle.warg_log.specs.Consistency.{consistency, IsConsistent}
-use Rattle.warg_log.specs.Claims.{ConsistencyClaim, InclusionClaim}
-use Rattle.warg_log.specs.Bundles.{Bundle}
-use Rattle.warg_log.specs.Bundling.{bundled}
-use Rattle.warg_log.proofs.NeededLemmas as bundles
+use Rattle.warg_log.specs.Inclusion.{inclusion}
+use Rattle.warg_log.specs.Claims.{InclusionClaim}
 use Rattle.warg_log.proofs.NodeLemmas as nodes
 use Rattle.warg_log.proofs.RootLemmas as powers
 use Rattle.warg_log.proofs.LawLemmas as laws
 use Rattle.warg_log.proofs.BalancedLemmas as balanced
 use Rattle.warg_log.proofs.CutLemmas as cuts
 use Rattle.warg_log.proofs.MetLemmas as met
+use Rattle.warg_log.proofs.StackLemmas as stacks
+use Rattle.warg_log.proofs.SameLemmas as same
+use Rattle.warg_log.proofs.EqualLemmas as equal
+use Rattle.warg_log.proofs.InclusionLemmas as included
 
 -- a number is below its power of two
 pub below_pow : (n : ℕ) → n < 2 ^ n
@@ -104,6 +109,11 @@ pub old_own_range : (H : List ℕ → List ℕ) (ds : List (List ℕ)) (a n : �
     → old_over H (own_digest H ds) a n ≡ Some (root_over H ds a n)
 old_own_range H ds a n some aligned = cuts.own_at H ds _ 0 0 aligned.height aligned.place a n refl aligned.start some aligned.most
 
+-- an inclusion proof leads to a root exactly if its node exists and this is the cut root
+pub inclusion_leads : (H : List ℕ → List ℕ) (F : ℕ → Option (List ℕ)) (p : InclusionClaim) (x root : List ℕ)
+    → (inclusion H F p x ≡ Ok root) ↔ (ExistsAt p.leaf.0 p.log_length × (cut_root H F p.leaf.0 x p.log_length ≡ Some root))
+inclusion_leads H F p x root = included.leads (end_of p.leaf.0) p.log_length (cut_root H F p.leaf.0 x p.log_length) root
+
 -- a consistency proof evaluates to the roots that meet it alone
 pub consistency_only : (H : List ℕ → List ℕ) (F : ℕ → Option (List ℕ)) (m n : ℕ) (old new : List ℕ) → consistency H F m n ≡ Ok (old, new) → IsConsistent H F m n old new
 consistency_only = met.consistency-only
@@ -116,7 +126,18 @@ consistency_then = met.consistency-then
 pub needed_exist : (t n : ℕ) → 0 < n → AllByRecursion (λ x. ExistsAt x n) (needed t n)
 needed_exist = laws.needed_exist
 
--- a bundle has the one length and the nodes of its inclusion proofs
-pub bundled_inclusions : (F : ℕ → Option (List ℕ)) (cs : List ConsistencyClaim) (ps : List InclusionClaim) (b : Bundle) → bundled F cs ps ≡ Ok b
-    → AllByRecursion (λ (p : InclusionClaim). p.log_length ≡ b.log_length) ps × (b.included_nodes ≡ map (λ (p : InclusionClaim). p.leaf) ps)
-bundled_inclusions F cs ps b is = let holds = bundles.bundle_holds F cs ps b is in (holds.log_lengths, holds.nodes)
+-- the balanced roots of a length exist at it
+pub roots_exist : (n : ℕ) → AllByRecursion (λ t. end_of t ≤ n) (balanced_roots n)
+roots_exist = stacks.roots_exist
+
+-- data that agree on the needed nodes have one cut root
+pub same_cut : (H : List ℕ → List ℕ) (F G : ℕ → Option (List ℕ)) (x : List ℕ) (t n : ℕ) → AllByRecursion (λ y. F y ≡ G y) (needed t n) → cut_root H F t x n ≡ cut_root H G t x n
+same_cut H F G x t n = same.same_on H F G x _
+
+-- and one consistency evaluation
+pub same_consistency : (H : List ℕ → List ℕ) (F G : ℕ → Option (List ℕ)) (m n : ℕ) → AllByRecursion (λ y. F y ≡ G y) (needed_between m n) → consistency H F m n ≡ consistency H G m n
+same_consistency = same.same_consistency
+
+-- nodes are compared by their numbers
+pub nodes_decide : (m n : Node) → Decides (same_node m n) (m ≡ n)
+nodes_decide = equal.nodes_decide

@@ -1,4 +1,3 @@
-pub mod AllLemmas
 pub mod NodeLemmas
 pub mod RootLemmas
 pub mod BalancedLemmas
@@ -13,17 +12,14 @@ pub mod OrderLemmas
 pub mod StepLemmas
 pub mod ClimbLemmas
 pub mod MetLemmas
+pub mod InclusionLemmas
 pub mod SparseLemmas
 pub mod StackLemmas
-pub mod BundleLemmas
 pub mod EqualLemmas
 pub mod EvaluationFaults
-pub mod FaultLemmas
-pub mod NeededLemmas
 pub mod SameLemmas
 pub mod ImageLemmas
 pub mod TreeLemmas
 pub mod ForCallers
 mod DecimalLemmas
 mod TextLemmas
-mod ServeLemmas

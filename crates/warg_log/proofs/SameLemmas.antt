@@ -1,46 +1,22 @@
 -- Evaluations over data that agree where they are read.
-use Rattle.std.proofs.Common.{◌≡◌, ℕ, ◌<◌, nat_eq, true, false, List, [], ◌∷◌, ◌++◌, map, Option, Some, refl, sym, ◌∙◌, arith, ⊎_elim}
+use Rattle.std.proofs.Common.{◌≡◌, ℕ, ◌<◌, true, false, List, [], ◌∷◌, Option, refl, arith, ⊎_elim}
 use Rattle.std.specs.Prelude.{reverse}
-use Rattle.std.specs.List.{AllByRecursion, flat_map, list_any}
-use Rattle.std.proofs.lemmas.Bool.{eq-eqb, ne_eqb, or_left, or_right, cases_eq}
-use Rattle.warg_log.specs.declared.node.Node.{Node}
+use Rattle.std.specs.List.{AllByRecursion, flat_map}
+use Rattle.std.proofs.lemmas.Bool.{eq-eqb, cases_eq}
 use Rattle.warg_log.specs.Nodes.{balanced_roots}
-use Rattle.warg_log.specs.Sparse.{Pairs, held_digest}
 use Rattle.warg_log.specs.Cut.{Way, at_target, at_node, at_parts, top_of, cut_root, old_root}
-use Rattle.warg_log.specs.Walks.{read_on, needed}
+use Rattle.warg_log.specs.Walks.{read_on, needed, needed_between}
 use Rattle.warg_log.specs.Consistency.{root_to, agreed_root, new_root_of, consistency}
-use Rattle.warg_log.specs.Bundling.{needed_by, needed_between}
-use Rattle.warg_log.proofs.BalancedLemmas.{all_push}
+use Rattle.warg_protobuf.proofs.ForCallers.{all_push, all_parts, all_flat}
 use Rattle.warg_log.proofs.CutLemmas.{nothing_beside}
 use Rattle.warg_log.proofs.OrderLemmas.{reverse-cons, need_beside_roots}
-
-all_parts : {X : Type 0} (P : X → Type 0) (xs ys : List X) → AllByRecursion P (xs ++ ys) → AllByRecursion P xs × AllByRecursion P ys
-all_parts P [] ys all = (tt, all)
-all_parts P (x ∷ xs) ys all = let p = all_parts P xs ys all.1 in ((all.0, p.0), p.1)
-
--- what is held for the needed nodes was taken from the source
-held_is : (F : ℕ → Option (List ℕ)) (ps : Pairs) (x : ℕ) → AllByRecursion (λ (p : Node × List ℕ). F p.0.0 ≡ Some p.1) ps
-    → list_any (nat_eq x) (map (λ (p : Node × List ℕ). p.0.0) ps) ≡ true → held_digest ps x ≡ F x
-held_is F [] x all there = absurd (cc there)
-held_is F (p ∷ ps) x all there = ⊎_elim
-    (λ (e : x ≡ p.0.0). rw (e, eq-eqb p.0.0 p.0.0 refl) (sym all.0))
-    (λ (other : x ≡ p.0.0 → ⊥). rw (ne_eqb p.0.0 x (λ e. other (sym e))) (held_is F ps x all.1 (rw (ne_eqb x p.0.0 other) at there)))
-    (cases_eq x p.0.0)
-
-all_held : (F : ℕ → Option (List ℕ)) (ps : Pairs) (ys : List ℕ) → AllByRecursion (λ (p : Node × List ℕ). F p.0.0 ≡ Some p.1) ps
-    → ((x : ℕ) → list_any (nat_eq x) ys ≡ true → list_any (nat_eq x) (map (λ (p : Node × List ℕ). p.0.0) ps) ≡ true) → AllByRecursion (λ y. held_digest ps y ≡ F y) ys
-all_held F ps [] all there = tt
-all_held F ps (y ∷ ys) all there = (
-  held_is F ps y all (there y (or_left (nat_eq y y) _ (eq-eqb y y refl))),
-  all_held F ps ys all (λ x h. there x (or_right (nat_eq x y) _ h)),
-)
 
 -- F and G agree on all that is read
 module _ (H : List ℕ → List ℕ) (F G : ℕ → Option (List ℕ)) where
   abbrev AllSame : List ℕ → Type 0
   AllSame = AllByRecursion (λ y. F y ≡ G y)
 
-  same_on : (x : List ℕ) (way : Way) → AllSame (read_on way) → top_of H F x way ≡ top_of H G x way
+  pub same_on : (x : List ℕ) (way : Way) → AllSame (read_on way) → top_of H F x way ≡ top_of H G x way
   unfolding read_on top_of
   same_on x at_target all = refl
   same_on x (at_node t) all = all.0
@@ -48,7 +24,7 @@ module _ (H : List ℕ → List ℕ) (F G : ℕ → Option (List ℕ)) where
   same_on x (at_parts false left right) all = let p = all_parts _ (read_on left) _ all in rw (same_on x left p.0, same_on x right p.1) refl
 
   -- what the nodes of each element give, where those of all of them agree
-  each : {X : Type 0} (f : X → List ℕ) (Q : X → Type 0) → ((x : X) → AllSame (f x) → Q x) → (xs : List X) → AllSame (flat_map f xs) → AllByRecursion Q xs
+  pub each : {X : Type 0} (f : X → List ℕ) (Q : X → Type 0) → ((x : X) → AllSame (f x) → Q x) → (xs : List X) → AllSame (flat_map f xs) → AllByRecursion Q xs
   each f Q step [] all = tt
   each f Q step (x ∷ xs) all = let p = all_parts (λ y. F y ≡ G y) (f x) _ all in (step x p.0, each f Q step xs p.1)
 
@@ -75,21 +51,8 @@ module _ (H : List ℕ → List ℕ) (F G : ℕ → Option (List ℕ)) where
       let rest : (r : List ℕ) → agreed_root H F n r ts ≡ agreed_root H G n r ts = λ r. same_agreed n r ts p.1 in
       simp (same_to n t p.0, rest)
 
-  same_consistency : (m n : ℕ) → AllSame (needed_between m n) → consistency H F m n ≡ consistency H G m n
+  pub same_consistency : (m n : ℕ) → AllSame (needed_between m n) → consistency H F m n ≡ consistency H G m n
   same_consistency m n all = ⊎_elim
       (λ none. rw (eq-eqb m 0 none) refl)
-      (λ some. rw (same_new n (balanced_roots m) all, same_old m (omega arith) (each (λ t. t ∷ needed t n) (λ y. F y ≡ G y) (λ t h. h.0) (balanced_roots m) all)) refl)
+      (λ some. rw (same_new n (balanced_roots m) all, same_old m (omega arith) (all_flat (λ y. F y ≡ G y) (λ t. t ∷ needed t n) (λ y. F y ≡ G y) (λ t h. h.0) (balanced_roots m) all)) refl)
       (cases_eq m 0)
-
--- so it is of all proofs of a bundle
-module _ (H : List ℕ → List ℕ) (F : ℕ → Option (List ℕ)) (ps : Pairs) (n : ℕ) (old_lengths : List ℕ) (nodes : List Node)
-    (all : AllByRecursion (λ (p : Node × List ℕ). F p.0.0 ≡ Some p.1) ps) (exactly : (x : ℕ) → list_any (nat_eq x) (map (λ (p : Node × List ℕ). p.0.0) ps) ≡ list_any (nat_eq x) (needed_by old_lengths nodes n)) where
-  bundled : AllByRecursion (λ y. held_digest ps y ≡ F y) (flat_map (λ m. needed_between m n) old_lengths)
-      × AllByRecursion (λ y. held_digest ps y ≡ F y) (flat_map (λ (node : Node). needed node.0 n) nodes)
-  bundled = all_parts _ _ _ (all_held F ps (needed_by old_lengths nodes n) all (λ x h. exactly x ∙ h))
-
-  pub included_same : (x : List ℕ) → AllByRecursion (λ (node : Node). cut_root H (held_digest ps) node.0 x n ≡ cut_root H F node.0 x n) nodes
-  included_same x = each H (held_digest ps) F (λ (node : Node). needed node.0 n) _ (λ node. same_on H (held_digest ps) F x _) nodes bundled.1
-
-  pub consistent_same : AllByRecursion (λ m. consistency H (held_digest ps) m n ≡ consistency H F m n) old_lengths
-  consistent_same = each H (held_digest ps) F (λ m. needed_between m n) _ (λ m. same_consistency H (held_digest ps) F m n) old_lengths bundled.0

@@ -6,12 +6,12 @@ use Rattle.warg_protobuf.specs.HashEntry.{Entry}
 use Rattle.warg_protobuf.specs.StackLog.{StackImage, stack_schema}
 use Rattle.warg_protobuf.specs.VecLog.{VecImage, vec_schema}
 use Rattle.warg_protobuf.specs.Schema.{message_of}
-use Rattle.warg_log.specs.declared.error.DecodeError.{DecodeError}
-use Rattle.warg_log.specs.declared.error.DecodeError.TheVariants.{NotALog, NotAStack}
+use Rattle.warg_protobuf.specs.declared.value_error.DecodeError.{DecodeError}
+use Rattle.warg_protobuf.specs.declared.value_error.DecodeError.TheVariants.{NotALog, NotAStack}
 use Rattle.warg_log.specs.Nodes.{balanced_roots}
 use Rattle.warg_log.specs.Tree.{slice_of, leaves_in}
 use Rattle.warg_log.specs.Blocks.{Blocks}
-use Rattle.warg_log.specs.Decoding.{held_in, unless, earlier, first_fault, digest_fault}
+use Rattle.warg_protobuf.specs.Decoding.{held_in, unless, earlier, first_fault, digest_fault}
 
 -- ---- a log that keeps its balanced roots
 

@@ -4,12 +4,10 @@ pub mod Tree
 pub mod Cut
 pub mod Walks
 pub mod Consistency
+pub mod Inclusion
 pub mod Claims
 pub mod Text
 pub mod Sparse
 pub mod Blocks
-pub mod Decoding
-pub mod Bundles
-pub mod Bundling
 pub mod Images
 pub mod Private

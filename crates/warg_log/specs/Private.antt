@@ -1,5 +1,3 @@
 -- What only clauses of private functions name; no public clause or law rests on it.
-pub mod Checks
 pub mod Growth
 pub mod Slices
-pub mod Unions

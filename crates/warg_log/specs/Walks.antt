@@ -1,6 +1,7 @@
 -- The nodes that the cut root reads.
 use Rattle.std.specs.Prelude.{◌≡◌, ℕ, zero, suc, length, reverse, ◌/◌, ◌%◌, ◌+◌, ◌^◌, ◌==◌, if◌then◌else◌, List, [], ◌∷◌, ◌++◌, Option, None, IsSome}
-use Rattle.warg_log.specs.Nodes.{height_of, place_of, sibling_place, start_of, number_of, balanced_over}
+use Rattle.std.specs.List.{flat_map}
+use Rattle.warg_log.specs.Nodes.{height_of, place_of, sibling_place, start_of, number_of, balanced_over, balanced_roots}
 use Rattle.warg_log.specs.Tree.{from_right}
 use Rattle.warg_log.specs.Cut.{joined, Way, at_target, at_node, at_parts, way_over}
 
@@ -57,3 +58,8 @@ climbed H F x k j (suc c) =
 -- Digests joined from the right, where all are there.
 abbrev pub joined_all : (List ℕ → List ℕ) → List (Option (List ℕ)) → Option (List ℕ)
 joined_all H = from_right (joined H) None
+
+-- The nodes that a consistency proof from m to n needs: each balanced root of m, and the nodes that it
+-- needs at n.
+abbrev pub needed_between : ℕ → ℕ → List ℕ
+needed_between m n = flat_map (λ t. t ∷ needed t n) (balanced_roots m)

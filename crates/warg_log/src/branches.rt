@@ -5,9 +5,8 @@ ghost use Rattle.std.specs.List.{AllByRecursion};
 ghost use Rattle.warg_crypto.specs.Tree.{branch};
 
 use crate::leaf_range::LeafRange;
-use crate::log::hash_branch;
 use arrayvec::ArrayVec;
-use warg_crypto::{Hash, SupportedDigest};
+use warg_crypto::{Hash, SupportedDigest, hash_branch};
 
 // Gives the digest of the branch of a range's two parts.
 pub(crate) trait Join<D: SupportedDigest> {

@@ -95,7 +95,8 @@ impl<D, V> Clone for ConsistencyProof<D, V> {
 }
 
 impl<D, V> ConsistencyProof<D, V> {
-    pub(crate) fn new(old_length: usize, new_length: usize) -> Self
+    /// The proof that the log of an old length is a beginning of that of a new one, both at most 2^63.
+    pub fn new(old_length: usize, new_length: usize) -> Self
         requires old_fits { old_length ≤ 2 ^ 63 }
         requires new_fits { new_length ≤ 2 ^ 63 }
         ensures old_length { result.old_length ≡ old_length }

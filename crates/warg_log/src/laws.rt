@@ -3,7 +3,7 @@
 //! Read them beside the definitions: they state the standard's own words (RFC 6962, section 2.1) where
 //! a definition takes another road, and they are all that a proof about the definitions needs.
 
-ghost use Rattle.std.specs.Prelude.{◌≡◌, ℕ, ◌+◌, ◌-◌, ◌*◌, ◌/◌, ◌%◌, ◌^◌, ◌<◌, ◌≤◌, ◌⊎◌, ◌↔◌, List, [], ◌∷◌, ◌++◌, length, take, drop, map, Option, Some, Ok, IsSome, IsTrue, slice_index_or};
+ghost use Rattle.std.specs.Prelude.{◌≡◌, ℕ, ◌+◌, ◌-◌, ◌*◌, ◌/◌, ◌%◌, ◌^◌, ◌<◌, ◌≤◌, ◌⊎◌, ◌↔◌, List, [], ◌∷◌, ◌++◌, length, take, drop, map, Option, Some, None, Ok, Err, IsSome, IsTrue, slice_index_or};
 ghost use Rattle.std.specs.List.{AllByRecursion};
 ghost use Rattle.std.specs.Ordering.{nat_cmp, ordering_then};
 ghost use Rattle.std.specs.Cmp.Lexicographic.{slice_cmp};
@@ -15,10 +15,9 @@ ghost use Rattle.warg_log.specs.Cut.{joined, cut_over, cut_root, old_over, old_r
 ghost use Rattle.warg_log.specs.Walks.{needed, needed_over, climbed, joined_all, IsKnown};
 ghost use Rattle.warg_log.specs.Blocks.{Blocks, StandsFor, joined_blocks, pushed};
 ghost use Rattle.warg_log.specs.Consistency.{consistency, IsConsistent};
-ghost use Rattle.warg_log.specs.Claims.{ConsistencyClaim, InclusionClaim};
-ghost use Rattle.warg_log.specs.Sparse.{IsAscending};
-ghost use Rattle.warg_log.specs.Bundles.{Bundle};
-ghost use Rattle.warg_log.specs.Bundling.{bundled, HoldsNeeded, IncludesAs, IsConsistentAs};
+ghost use Rattle.warg_log.specs.Inclusion.{inclusion};
+ghost use Rattle.warg_log.specs.declared.proof.InclusionProofError.TheVariants.{LeafTooNew, HashNotKnown};
+ghost use Rattle.warg_log.specs.Claims.{ConsistencyClaim, InclusionClaim, leaf_claim};
 
 use crate::log::Checkpoint;
 use std::cmp::Ordering;
@@ -171,13 +170,29 @@ pub fn cut_own_range()
         → cut_over H (own_digest H ds) (root_over H ds s w) s w a n ≡ Some (root_over H ds a n) }
 {}
 
+/// An inclusion proof leads to a root exactly if its node exists at its length and this is the cut root. Else it
+/// is `LeafTooNew` exactly if the node doesn't exist, and `HashNotKnown` exactly if it does and a digest is lacking.
+pub fn inclusion_met()
+    ensures ok { (H : List ℕ → List ℕ) (F : ℕ → Option (List ℕ)) (p : InclusionClaim)
+        (x root : List ℕ)
+        → (inclusion H F p x ≡ Ok root) ↔ (ExistsAt p.leaf.0 p.log_length
+        × (cut_root H F p.leaf.0 x p.log_length ≡ Some root)) }
+    ensures too_new { (H : List ℕ → List ℕ) (F : ℕ → Option (List ℕ)) (p : InclusionClaim)
+        (x : List ℕ)
+        → (inclusion H F p x ≡ Err LeafTooNew) ↔ ¬ ExistsAt p.leaf.0 p.log_length }
+    ensures not_known { (H : List ℕ → List ℕ) (F : ℕ → Option (List ℕ)) (p : InclusionClaim)
+        (x : List ℕ)
+        → (inclusion H F p x ≡ Err HashNotKnown) ↔ (ExistsAt p.leaf.0 p.log_length
+        × (cut_root H F p.leaf.0 x p.log_length ≡ None)) }
+{}
+
 /// A log's proof of an entry of its own leads to the log's root: over the log's own digests, leaf `i`
 /// with entry `i` has, at each length above `i` up to the log's, the root of that many entries.
 pub fn own_inclusion()
     ensures { (H : List ℕ → List ℕ) (entries : List (List ℕ)) (i n : ℕ) → i < n → n ≤ length entries
-        → ExistsAt (2 * i) n × (cut_root H (own_digest H (leaves_of H entries)) (2 * i)
-        (leaf_digest H (slice_index_or entries i [])) n
-        ≡ Some (root_of H (leaves_of H (take n entries)))) }
+        → inclusion H (own_digest H (leaves_of H entries)) (leaf_claim i n)
+        (leaf_digest H (slice_index_or entries i []))
+        ≡ Ok (root_of H (leaves_of H (take n entries))) }
 {}
 
 /// The old root of a range of a power of two of leaves is the digest that is held for it.
@@ -220,42 +235,6 @@ pub fn consistency_met()
 pub fn own_consistency()
     ensures { (H : List ℕ → List ℕ) (ds : List (List ℕ)) (m n : ℕ) → 0 < m → m ≤ n → n ≤ length ds
         → consistency H (own_digest H ds) m n ≡ Ok (root_of H (take m ds), root_of H (take n ds)) }
-{}
-
-/// The bundle of some proofs has their one length, their old lengths, their nodes, and digests for exactly the
-/// nodes that they need, ascending, each as the source has it.
-pub fn bundled_parts()
-    ensures new_lengths { (F : ℕ → Option (List ℕ)) (cs : List ConsistencyClaim)
-        (ps : List InclusionClaim) (b : Bundle)
-        → bundled F cs ps ≡ Ok b → AllByRecursion (λ p. p.new_length ≡ b.log_length) cs }
-    ensures log_lengths { (F : ℕ → Option (List ℕ)) (cs : List ConsistencyClaim)
-        (ps : List InclusionClaim) (b : Bundle)
-        → bundled F cs ps ≡ Ok b → AllByRecursion (λ p. p.log_length ≡ b.log_length) ps }
-    ensures old_lengths { (F : ℕ → Option (List ℕ)) (cs : List ConsistencyClaim)
-        (ps : List InclusionClaim) (b : Bundle)
-        → bundled F cs ps ≡ Ok b → b.consistent_lengths ≡ map (λ p. p.old_length) cs }
-    ensures nodes { (F : ℕ → Option (List ℕ)) (cs : List ConsistencyClaim)
-        (ps : List InclusionClaim) (b : Bundle)
-        → bundled F cs ps ≡ Ok b → b.included_nodes ≡ map (λ p. p.leaf) ps }
-    ensures ascending { (F : ℕ → Option (List ℕ)) (cs : List ConsistencyClaim)
-        (ps : List InclusionClaim) (b : Bundle)
-        → bundled F cs ps ≡ Ok b → IsAscending b.hashes }
-    ensures exactly { (F : ℕ → Option (List ℕ)) (cs : List ConsistencyClaim)
-        (ps : List InclusionClaim) (b : Bundle)
-        → bundled F cs ps ≡ Ok b → HoldsNeeded b }
-    ensures source { (F : ℕ → Option (List ℕ)) (cs : List ConsistencyClaim)
-        (ps : List InclusionClaim) (b : Bundle)
-        → bundled F cs ps ≡ Ok b → AllByRecursion (λ p. F p.0.0 ≡ Some p.1) b.hashes }
-{}
-
-/// A bundle's proofs evaluate over its own digests as over those that it was made from.
-pub fn bundled_as_source()
-    ensures inclusions { (H : List ℕ → List ℕ) (F : ℕ → Option (List ℕ))
-        (cs : List ConsistencyClaim) (ps : List InclusionClaim) (b : Bundle)
-        → bundled F cs ps ≡ Ok b → IncludesAs H F b }
-    ensures consistencies { (H : List ℕ → List ℕ) (F : ℕ → Option (List ℕ))
-        (cs : List ConsistencyClaim) (ps : List InclusionClaim) (b : Bundle)
-        → bundled F cs ps ≡ Ok b → IsConsistentAs H F b }
 {}
 
 /// Blocks that stand for leaf digests stand, after a push of one more, for these and that one behind them.

@@ -1,7 +1,7 @@
-//! What all logs have in common: the hashes of the tree, checkpoints, and the two traits.
+//! What all logs have in common: checkpoints, and the two traits.
 
 ghost use Rattle.std.specs.Prelude.{◌≡◌, ℕ, ◌+◌, ◌*◌, ◌^◌, ◌<◌, ◌≤◌, ◌↔◌, map, take, List, [], ◌∷◌, ◌++◌, length, Option, IsTrue, IsSome, IfOk, OnOk, OnErr};
-ghost use Rattle.warg_crypto.specs.Tree.{branch, leaf_digest};
+ghost use Rattle.warg_crypto.specs.Tree.{leaf_digest};
 ghost use Rattle.warg_log.specs.Tree.{root_of, leaves_of};
 
 use crate::consistency::ConsistencyProof;
@@ -9,39 +9,10 @@ use crate::node::Node;
 use crate::proof::InclusionProof;
 use std::alloc::AllocError;
 use std::marker::Model;
-use warg_crypto::{ByteVisitor, Hash, SupportedDigest, VisitBytes};
+use warg_crypto::{Hash, SupportedDigest, VisitBytes};
 
 /// The greatest length of a log: 2^63 entries.
 pub const GREATEST_LENGTH: usize = 1 << 63;
-
-/// The root of the tree of no entries: the digest of no bytes (RFC 6962, section 2.1).
-pub fn hash_empty<D: SupportedDigest>() -> Hash<D>
-    ensures { result ≡ D.digest [] }
-{
-    Hash::of(&())
-}
-
-/// The digest of a leaf: that of the byte 00 and the entry's bytes (RFC 6962, section 2.1).
-pub fn hash_leaf<D: SupportedDigest, V: VisitBytes>(entry: &V) -> Hash<D>
-    ensures { result ≡ leaf_digest D.digest (V.bytes entry.now) }
-{
-    let mut digest = D::start();
-    digest.visit_bytes(&[0]);
-    entry.visit(&mut digest);
-    Hash::from_array(digest.finish())
-}
-
-/// The digest of a branch: that of the byte 01, the left digest and the right one (RFC 6962,
-/// section 2.1).
-pub fn hash_branch<D: SupportedDigest>(left: &Hash<D>, right: &Hash<D>) -> Hash<D>
-    ensures { result ≡ branch D.digest left.now right.now }
-{
-    let mut digest = D::start();
-    digest.visit_bytes(&[1]);
-    left.visit(&mut digest);
-    right.visit(&mut digest);
-    Hash::from_array(digest.finish())
-}
 
 /// A log's root and length, which together fix what the log holds.
 ///

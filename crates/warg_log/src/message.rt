@@ -2,10 +2,8 @@
 
 ghost use Rattle.std.specs.Prelude.{◌≡◌, ◌≢◌, IfOk, IfErr, length};
 
-use crate::error::DecodeError;
-use std::alloc::{AllocError, Allocator};
 use warg_crypto::Hash;
-use warg_protobuf::HashEntry;
+use warg_protobuf::DecodeError;
 
 // The hash of these bytes.
 pub(crate) fn read_hash<D>(bytes: &[u8]) -> Result<Hash<D>, DecodeError>
@@ -17,21 +15,4 @@ pub(crate) fn read_hash<D>(bytes: &[u8]) -> Result<Hash<D>, DecodeError>
         Ok(array) => Ok(Hash::from_array(array)),
         Err(_) => Err(DecodeError::HashLength),
     }
-}
-
-// The entry of a digest.
-pub(crate) fn entry<D, A: Allocator>(
-    alloc: A,
-    index: u32,
-    hash: &Hash<D>,
-) -> Result<HashEntry<A>, AllocError>
-    ensures index { IfOk result (λ entry. entry.index ≡ index) }
-    ensures hash { IfOk result (λ entry. entry.hash.items ≡ hash.now) }
-    ensures length { length hash.now ≡ 32 }
-{
-    prove_eq!(hash.len(), 32);
-    Ok(HashEntry {
-        index,
-        hash: Vec::from_slice(alloc, hash.bytes())?,
-    })
 }

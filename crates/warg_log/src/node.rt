@@ -4,6 +4,7 @@ ghost use Rattle.std.specs.Prelude.{◌≡◌, ℕ, ◌+◌, ◌-◌, ◌*◌, �
 ghost use Rattle.warg_log.specs.Nodes.{IsNode, ExistsAt, height_of, place_of, sibling_place, start_of, end_of, node_over};
 
 use crate::leaf_range::{LeafRange, power_of_two};
+use warg_crypto::Side;
 
 /// A node of a log's tree by its number: a leaf, or a branch over a power of two of leaves.
 ///
@@ -22,13 +23,6 @@ use crate::leaf_range::{LeafRange, power_of_two};
 /// exists at no length.
 #[derive(Clone, Copy, PartialEq, Eq, PartialOrd, Ord, Hash, Debug)]
 pub struct Node(pub usize);
-
-/// The side of its parent on which a node stands.
-#[derive(Clone, Copy, PartialEq, Eq, Debug)]
-pub enum Side {
-    Left,
-    Right,
-}
 
 impl Node {
     /// The node of the leaf at an index, from 0.

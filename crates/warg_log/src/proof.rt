@@ -5,19 +5,19 @@ ghost use Rattle.std.specs.List.{IsDistinct};
 ghost use Rattle.warg_crypto.specs.Tree.{leaf_digest};
 ghost use Rattle.warg_log.specs.Ranges.{IsAligned};
 ghost use Rattle.warg_log.specs.Nodes.{ExistsAt, height_of, place_of, start_of, end_of};
-ghost use Rattle.warg_log.specs.Cut.{cut_root};
+ghost use Rattle.warg_log.specs.Inclusion.{inclusion};
 ghost use Rattle.warg_log.specs.Walks.{needed, needed_over, siblings_up, IsWalk, IsWalkOver};
 ghost use Rattle.warg_log.specs.Claims.{same_walk};
 
 use crate::balanced_roots::BalancedRoots;
 use crate::leaf_range::LeafRange;
-use crate::log::{LogData, hash_leaf};
+use crate::log::LogData;
 use crate::node::Node;
 use crate::root::range_root;
 use std::alloc::{AllocError, Allocator, Global};
 use std::marker::{Model, PhantomData};
 use thiserror::Error;
-use warg_crypto::{Hash, SupportedDigest, VisitBytes};
+use warg_crypto::{Hash, SupportedDigest, VisitBytes, hash_leaf};
 
 /// Why an inclusion proof leads to no root.
 #[derive(Debug, PartialEq, Eq, Drop, Error)]
@@ -73,7 +73,8 @@ impl<D, V> Clone for InclusionProof<D, V> {
 }
 
 impl<D, V> InclusionProof<D, V> {
-    pub(crate) fn new(leaf: Node, log_length: usize) -> Self
+    /// The claim that the node's digest is part of the log of this length. A length is at most 2^63.
+    pub fn new(leaf: Node, log_length: usize) -> Self
         requires { log_length ≤ 2 ^ 63 }
         ensures leaf { result.leaf ≡ leaf }
         ensures log_length { result.log_length ≡ log_length }
@@ -145,16 +146,8 @@ impl<D: SupportedDigest, V: VisitBytes> InclusionProof<D, V> {
         hashes: &L,
         value: &V,
     ) -> Result<Hash<D>, InclusionProofError>
-        ensures too_new { (result ≡ Err InclusionProofError.LeafTooNew)
-            ↔ ¬ ExistsAt self.now.leaf.0 self.now.log_length }
-        ensures not_known { (result ≡ Err InclusionProofError.HashNotKnown)
-            ↔ (ExistsAt self.now.leaf.0 self.now.log_length
-            × (cut_root D.digest (L.digest_at hashes.now) self.now.leaf.0
-            (leaf_digest D.digest (V.bytes value.now)) self.now.log_length ≡ None)) }
-        ensures ok { IfOk result (λ root. ExistsAt self.now.leaf.0 self.now.log_length
-            × (cut_root D.digest (L.digest_at hashes.now) self.now.leaf.0
-            (leaf_digest D.digest (V.bytes value.now)) self.now.log_length ≡ Some root)) }
-        ensures memory { result ≢ Err InclusionProofError.Memory }
+        ensures { result ≡ inclusion D.digest (L.digest_at hashes.now) self.now
+            (leaf_digest D.digest (V.bytes value.now)) }
     {
         self.evaluate_hash(hashes, hash_leaf::<D, V>(value))
     }
@@ -169,16 +162,7 @@ impl<D: SupportedDigest, V: VisitBytes> InclusionProof<D, V> {
         hashes: &L,
         hash: Hash<D>,
     ) -> Result<Hash<D>, InclusionProofError>
-        ensures too_new { (result ≡ Err InclusionProofError.LeafTooNew)
-            ↔ ¬ ExistsAt self.now.leaf.0 self.now.log_length }
-        ensures not_known { (result ≡ Err InclusionProofError.HashNotKnown)
-            ↔ (ExistsAt self.now.leaf.0 self.now.log_length
-            × (cut_root D.digest (L.digest_at hashes.now) self.now.leaf.0 hash self.now.log_length
-            ≡ None)) }
-        ensures ok { IfOk result (λ root. ExistsAt self.now.leaf.0 self.now.log_length
-            × (cut_root D.digest (L.digest_at hashes.now) self.now.leaf.0 hash self.now.log_length
-            ≡ Some root)) }
-        ensures memory { result ≢ Err InclusionProofError.Memory }
+        ensures { result ≡ inclusion D.digest (L.digest_at hashes.now) self.now hash }
     {
         if !self.leaf.exists_at_length(self.log_length) {
             return Err(InclusionProofError::LeafTooNew);

@@ -5,9 +5,9 @@ ghost use Rattle.warg_log.specs.Cut.{cut_over, old_over};
 
 use crate::branches::{Join, NoCache};
 use crate::leaf_range::LeafRange;
-use crate::log::{LogData, hash_branch};
+use crate::log::LogData;
 use crate::node::Node;
-use warg_crypto::{Hash, SupportedDigest, VisitBytes};
+use warg_crypto::{Hash, SupportedDigest, VisitBytes, hash_branch};
 
 /// The cut root of one range: the root of the range's leaves by the data's digests, with `hash` in the
 /// place of the target. None exactly if the data lacks a digest that it reads. It takes no memory.

@@ -53,16 +53,16 @@ impl<D: SupportedDigest, V: VisitBytes, A: Allocator> SparseLogData<D, V, A> {
         }
     }
 
-    // The digests with their nodes.
-    pub(crate) fn pairs(&self) -> &[(Node, Hash<D>)]
+    /// The digests with their nodes, by ascending number.
+    pub fn pairs(&self) -> &[(Node, Hash<D>)]
         ensures value { result.now ≡ self.now }
         ensures ascending { IsAscending self.now }
     {
         self.pairs.as_slice()
     }
 
-    // The same data once more.
-    pub(crate) fn copied(&self, alloc: A) -> Result<Self, AllocError>
+    /// The same data once more, in memory of `alloc`.
+    pub fn copied(&self, alloc: A) -> Result<Self, AllocError>
         ensures { IfOk result (λ again. again ≡ self.now) }
     {
         let mut pairs = Vec::new(alloc);

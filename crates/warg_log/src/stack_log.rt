@@ -11,11 +11,11 @@ ghost use Rattle.warg_log.specs.Private.Growth.{Grows};
 mod append;
 mod image;
 
-use crate::log::{Checkpoint, LogBuilder, hash_branch, hash_empty, hash_leaf};
+use crate::log::{Checkpoint, LogBuilder};
 use crate::node::Node;
 use std::alloc::{AllocError, Allocator, Global};
 use std::marker::{Model, PhantomData};
-use warg_crypto::{Hash, SupportedDigest, VisitBytes};
+use warg_crypto::{Hash, SupportedDigest, VisitBytes, hash_branch, hash_empty, hash_leaf};
 
 /// A log that keeps the digests of its balanced roots alone: as many as the length's binary digits that
 /// are 1.

@@ -10,12 +10,12 @@ ghost use Rattle.warg_log.specs.Private.Slices.{IsSliceUpTo};
 mod image;
 
 use crate::leaf_range::LeafRange;
-use crate::log::{Checkpoint, LogBuilder, LogData, hash_branch, hash_empty, hash_leaf};
-use crate::node::{Node, Side};
+use crate::log::{Checkpoint, LogBuilder, LogData};
+use crate::node::Node;
 use crate::root::stored_root;
 use std::alloc::{AllocError, Allocator, Global};
 use std::marker::{Model, PhantomData};
-use warg_crypto::{Hash, SupportedDigest, VisitBytes};
+use warg_crypto::{Hash, Side, SupportedDigest, VisitBytes, hash_branch, hash_empty, hash_leaf};
 
 /// A log that keeps the digest of every node in one slice, at the place of the node's number.
 ///

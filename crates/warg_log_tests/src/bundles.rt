@@ -4,13 +4,15 @@ use crate::digests::{all, bytes_of, hash_of};
 use refusing::Refusing;
 use std::alloc::Global;
 use std::test::Fail;
+use warg_bundle::{BundleError, LogProofBundle};
 use warg_crypto::Sha256;
 use warg_log::{
-    BundleError, ConsistencyProof, ConsistencyProofError, EncodeError, InclusionProof,
-    InclusionProofError, LogData, Node, ProofBundle, SparseLogData,
+    ConsistencyProof, ConsistencyProofError, InclusionProof, InclusionProofError, LogData, Node,
+    SparseLogData,
 };
+use warg_protobuf::EncodeError;
 
-type Bundle<'a> = ProofBundle<Sha256, (), &'a Refusing<Global>>;
+type Bundle<'a> = LogProofBundle<Sha256, (), &'a Refusing<Global>>;
 
 type Data = SparseLogData<Sha256, ()>;
 
@@ -31,7 +33,7 @@ fn has_proofs(bundle: &Bundle<'_>, data: &Data) -> bool {
 #[test]
 fn readers_without_memory(rt: HostRuntime) -> Result<(), Fail> {
     let memory = Refusing::after(rt.alloc(), 99);
-    let bundle: Bundle<'_> = ProofBundle::decode(&memory, &bytes_of(rt.alloc(), BOTH)?)?;
+    let bundle: Bundle<'_> = LogProofBundle::decode(&memory, &bytes_of(rt.alloc(), BOTH)?)?;
     memory.exhaust();
     let none: Data = SparseLogData::from(Vec::new(rt.alloc()));
     assert!(rt; has_proofs(&bundle, &none));
@@ -46,7 +48,7 @@ fn readers_without_memory(rt: HostRuntime) -> Result<(), Fail> {
 #[test]
 fn parts_in_order(rt: HostRuntime) -> Result<(), Fail> {
     let memory = Refusing::after(rt.alloc(), 99);
-    let bundle: Bundle<'_> = ProofBundle::decode(&memory, &bytes_of(rt.alloc(), BOTH)?)?;
+    let bundle: Bundle<'_> = LogProofBundle::decode(&memory, &bytes_of(rt.alloc(), BOTH)?)?;
     let (hashes, consistencies, inclusions) = bundle.unbundle(&memory)?;
     let proof = hashes.prove_consistency(2, 3);
     let first = hashes.prove_inclusion(Node(0), 3);
@@ -65,15 +67,20 @@ fn a_bundle_lies_in_one_allocator(rt: HostRuntime) -> Result<(), Fail> {
     let data = read(rt.alloc(), BOTH)?;
     let proof = data.hashes().prove_inclusion(Node(0), 3);
     let proofs = vec![in &lists; proof]?;
-    let bundle: Bundle<'_> = ProofBundle::bundle(&memory, Vec::new(&lists), proofs, data.hashes())?;
+    let bundle: Bundle<'_> = LogProofBundle::bundle(
+        &memory,
+        Vec::new(&lists),
+        proofs,
+        data.hashes(),
+    )?;
     assert!(rt; all(&[memory.left() < 99, lists.left() == 0, !lists.has_refused()]));
     assert!(rt; all(&[bundle.unbundle(&memory).is_ok(), !lists.has_refused()]));
     assert!(rt; all(&[bundle.unbundle(&lists).is_err(), lists.has_refused()]));
     Ok(())
 }
 
-fn read(alloc: Global, words: &str) -> Result<ProofBundle<Sha256, ()>, Fail> {
-    Ok(ProofBundle::decode(alloc, &bytes_of(alloc, words)?)?)
+fn read(alloc: Global, words: &str) -> Result<LogProofBundle<Sha256, ()>, Fail> {
+    Ok(LogProofBundle::decode(alloc, &bytes_of(alloc, words)?)?)
 }
 
 // Bundles are equal exactly if their lengths, old lengths, nodes and digests are.
@@ -105,7 +112,7 @@ fn refusal(
     let consistencies = Vec::from_slice(&memory, consistencies)?;
     let inclusions = Vec::from_slice(&memory, inclusions)?;
     memory.exhaust();
-    match ProofBundle::bundle(&memory, consistencies, inclusions, &data) {
+    match LogProofBundle::bundle(&memory, consistencies, inclusions, &data) {
         Ok(_) => Ok(None),
         Err(fault) => Ok(Some(fault)),
     }
@@ -159,7 +166,7 @@ fn too_large_to_write_without_memory(rt: HostRuntime) -> Result<(), Fail> {
     let data: Data = SparseLogData::from(held);
     let proof = data.prove_inclusion(Node(1 << 32), (1 << 31) + 1);
     let proofs = vec![in &memory; proof]?;
-    let bundle: Bundle<'_> = ProofBundle::bundle(&memory, Vec::new(&memory), proofs, &data)?;
+    let bundle: Bundle<'_> = LogProofBundle::bundle(&memory, Vec::new(&memory), proofs, &data)?;
     memory.exhaust();
     assert!(rt; bundle.encode(&memory) == Err(EncodeError::TooLarge));
     assert!(rt; matches!(bundle.to_message(&memory), Err(EncodeError::TooLarge)));

@@ -11,7 +11,10 @@ use std::cmp::Ordering;
 use std::hash::{DefaultHasher, Hasher};
 use std::test::Fail;
 use warg_crypto::weak::{Flat, Own32, Sum};
-use warg_crypto::{Framed, Hash, HashLength, Sha256, bytes_of, empty_tree_hash};
+use warg_crypto::{
+    Framed, Hash, HashLength, Sha256, Side, bytes_of, empty_tree_hash, hash_branch, hash_empty,
+    hash_leaf,
+};
 
 // Equality and order as a caller has them: by the bytes.
 fn compared<D>(a: &Hash<D>, b: &Hash<D>) -> (bool, Ordering)
@@ -50,6 +53,20 @@ fn sha256_of_bytes_in_pieces(rt: HostRuntime) -> Result<(), Fail> {
         let hash = Hash::<Sha256>::of(&(mark, pair));
         assert!(rt; is_spelled(rt.alloc(), &hash, want)?);
     }
+    Ok(())
+}
+
+#[test]
+fn leaves_and_branches(rt: HostRuntime) -> Result<(), Fail> {
+    let one = hash_leaf::<Sha256, &str>(&"one");
+    let two = hash_leaf::<Sha256, &str>(&"two");
+    let leaf = "d0d7360ab79f58ab1e1e3fe64ad77e2ea0bc07e36b5f46ed2223edd9298df9e9";
+    let root = "4f55f619d9215235778b2b9f17d6f4915b16171214d152381293669764de722e";
+    assert!(rt; is_spelled(rt.alloc(), &hash_empty::<Sha256>(), Z)?);
+    assert!(rt; is_spelled(rt.alloc(), &one, leaf)?);
+    assert!(rt; is_spelled(rt.alloc(), &hash_branch(&one, &two), root)?);
+    assert!(rt; is_spelled(rt.alloc(), &Side::Left.branch(&one, &two), root)?);
+    assert!(rt; is_spelled(rt.alloc(), &Side::Left.opposite().branch(&two, &one), root)?);
     Ok(())
 }
 

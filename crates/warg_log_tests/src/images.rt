@@ -5,7 +5,8 @@ use refusing::Refusing;
 use std::alloc::Global;
 use std::test::Fail;
 use warg_crypto::Sha256;
-use warg_log::{DecodeError, EncodeError, LogBuilder, StackLog, VecLog};
+use warg_log::{LogBuilder, StackLog, VecLog};
+use warg_protobuf::{DecodeError, EncodeError};
 
 type Stack<'a> = StackLog<Sha256, u8, &'a Refusing<Global>>;
 

@@ -3,8 +3,9 @@
 use refusing::Refusing;
 use std::alloc::{Allocator, Global};
 use std::test::Fail;
+use warg_bundle::{ServeError, growth_bytes, inclusion_bytes};
 use warg_crypto::Sha256;
-use warg_log::{Checkpoint, LogBuilder, ServeError, StackLog, VecLog, decimal_in, push_all};
+use warg_log::{Checkpoint, LogBuilder, StackLog, VecLog, decimal_in, push_all};
 
 const ENTRIES: [&str; 4] = ["one", "two", "three", "four"];
 
@@ -83,16 +84,16 @@ fn digits<B: Allocator>(alloc: Global, bytes: &Vec<u8, B>) -> Result<String, Fai
 #[test]
 fn proofs_as_bytes(rt: HostRuntime) -> Result<(), Fail> {
     let log = four(rt.alloc())?;
-    let inclusion = log.inclusion_bytes(rt.alloc(), 1, 4)?;
+    let inclusion = inclusion_bytes(rt.alloc(), &log, 1, 4)?;
     assert!(rt; digits(rt.alloc(), &inclusion)?.as_str() == INCLUSION);
-    let growth = log.growth_bytes(rt.alloc(), 2, 4)?;
+    let growth = growth_bytes(rt.alloc(), &log, 2, 4)?;
     assert!(rt; digits(rt.alloc(), &growth)?.as_str() == GROWTH);
     for (index, length) in [(4, 4), (0, 0), (0, 5), (7, 3)] {
-        let refused = log.inclusion_bytes(rt.alloc(), index, length);
+        let refused = inclusion_bytes(rt.alloc(), &log, index, length);
         assert!(rt; refused == Err(ServeError::OutOfRange));
     }
     for (old, new) in [(0, 4), (3, 2), (2, 5)] {
-        let refused = log.growth_bytes(rt.alloc(), old, new);
+        let refused = growth_bytes(rt.alloc(), &log, old, new);
         assert!(rt; refused == Err(ServeError::OutOfRange));
     }
     Ok(())
@@ -104,8 +105,8 @@ fn bytes_with_each_growth_refused(rt: HostRuntime) -> Result<(), Fail> {
     let log = four(rt.alloc())?;
     for growths in 0..60 {
         let memory = Refusing::after(rt.alloc(), growths);
-        let inclusion = log.inclusion_bytes(&memory, 1, 4);
-        let growth = log.growth_bytes(&memory, 2, 4);
+        let inclusion = inclusion_bytes(&memory, &log, 1, 4);
+        let growth = growth_bytes(&memory, &log, 2, 4);
         if !memory.has_refused() {
             assert!(rt; digits(rt.alloc(), &inclusion?)?.as_str() == INCLUSION);
             assert!(rt; digits(rt.alloc(), &growth?)?.as_str() == GROWTH);

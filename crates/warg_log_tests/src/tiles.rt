@@ -6,7 +6,9 @@ use std::test::Fail;
 use warg_crypto::weak::Sum;
 use warg_crypto::{Hash, Sha256, SupportedDigest};
 use warg_log::{GREATEST_LENGTH, LogBuilder, VecLog};
-use warg_tiles::{OpenError, StoredTile, Tile, TileLog, tile_hashes, tiles_between};
+use warg_tiles::{
+    EntriesError, OpenError, StoredTile, Tile, TileLog, push_entry, tile_hashes, tiles_between,
+};
 
 // The same entries in two logs: one holds the digest of every node, the other those of its right edge.
 #[derive(Drop)]
@@ -242,5 +244,47 @@ fn full_tiles_in_turn(rt: HostRuntime) -> Result<(), Fail> {
     assert_eq!(rt; full.len(), 2);
     assert_eq!(rt; log.take_full().len(), 0);
     assert_eq!(rt; log.partial(rt.alloc())?.len(), 1);
+    Ok(())
+}
+
+// The nodes of a tile, by the numbering of nodes: leaf i is node 2 i, and 256 leaves have the node 255.
+#[test]
+fn nodes_of_tiles(rt: HostRuntime) -> Result<(), Fail> {
+    for (path, first, second) in [
+        ("tile/0/000.p/2", 0, 2),
+        ("tile/0/001.p/2", 512, 514),
+        ("tile/1/000.p/2", 255, 767),
+    ] {
+        let tile = Tile::from_path(path)?;
+        if !tile.exists_at_length(GREATEST_LENGTH) {
+            return Err("no tile of any log")?;
+        }
+        let nodes = tile.nodes(rt.alloc())?;
+        assert!(rt;
+            nodes.len() == 2 && nodes[0].0 == first && nodes[1].0 == second,
+            "{path}"
+        );
+        let memory = Refusing::after(rt.alloc(), 0);
+        assert!(rt; tile.nodes(&memory).is_err());
+    }
+    Ok(())
+}
+
+// An entry behind another, one that is too long, and one without memory.
+#[test]
+fn entries_one_by_one(rt: HostRuntime) -> Result<(), Fail> {
+    let mut bytes = Vec::new(rt.alloc());
+    push_entry(&mut bytes, b"ab")?;
+    push_entry(&mut bytes, b"")?;
+    assert!(rt; bytes.as_slice() == b"\x00\x02ab\x00\x00".as_slice());
+    let long = vec![in rt.alloc(); 7u8; 65536]?;
+    let refused = push_entry(&mut bytes, long.as_slice());
+    assert!(rt; refused == Err(EntriesError::TooLong) && bytes.len() == 6);
+    push_entry(&mut bytes, &long.as_slice()[1..])?;
+    assert!(rt; bytes.len() == 6 + 65537 && bytes[6] == 255 && bytes[7] == 255);
+    let memory = Refusing::after(rt.alloc(), 0);
+    let mut none = Vec::new(&memory);
+    let refused = push_entry(&mut none, b"ab");
+    assert!(rt; refused == Err(EntriesError::Memory) && none.len() == 0);
     Ok(())
 }

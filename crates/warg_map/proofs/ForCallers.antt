@@ -2,6 +2,7 @@
 use Rattle.std.proofs.Common.{◌≡◌, ℕ, ◌+◌, ◌-◌, ◌<◌, ◌≤◌, Bool, true, List, [], ◌∷◌, ◌++◌, length, Option, Some, None}
 use Rattle.std.specs.Ordering.{nat_cmp}
 use Rattle.std.specs.Option.{option_map}
+use Rattle.std.specs.Bool.{Decides}
 use Rattle.std.specs.FinMap.{get, insert}
 use Rattle.std.specs.Cmp.Lexicographic.{slice_cmp}
 use Rattle.std.specs.declared.cmp.Ordering.TheVariants.{Equal}
@@ -9,10 +10,12 @@ use Rattle.warg_crypto.specs.Digests.{IsDigest}
 use Rattle.warg_crypto.specs.EmptyTrees.{empty_root}
 use Rattle.warg_map.specs.Bits.{bit_at, last_bits, key_bits}
 use Rattle.warg_crypto.specs.Tree.{leaf_digest}
-use Rattle.warg_map.specs.Sparse.{SparseMap, bits_cmp, root_of_levels, sparse_root, map_of}
+use Rattle.warg_map.specs.Sparse.{SparseMap, bits_cmp, leaf_at, root_of_levels, sparse_root, map_of}
 use Rattle.warg_map.specs.Last.{same_bits, last_under}
 use Rattle.warg_map.specs.ProofValue.{proof_value}
-use Rattle.warg_map.specs.Peers.{Proves, ProvesAbsent}
+use Rattle.warg_map.specs.Peers.{Proves, ProvesAbsent, ProvesEmpty}
+use Rattle.warg_map.specs.Messages.{Peers, same_peers}
+use Rattle.warg_map.proofs.ProofEquality as equal
 use Rattle.warg_map.proofs.SparseTree as tree
 use Rattle.warg_map.proofs.FoundInNode as found
 use Rattle.warg_map.proofs.DigestBits as bits
@@ -81,13 +84,22 @@ root_at_prefix = prefixes.held_after
 -- from any leaf digest the proofs of a map lead to the root of the map that holds it
 pub replaced_root : (H : List ℕ → List ℕ) (m : SparseMap) (bits : List Bool) (peers : List (Option (List ℕ))) (x : List ℕ) → length bits ≡ 256 → length peers ≤ 256
     → Proves H 256 m bits peers → proof_value H peers x bits ≡ sparse_root H 256 (insert m bits x)
-replaced_root H m bits peers x = honest.honest_replaced H 256 bits m peers x
+replaced_root H m bits peers x n few = honest.honest_replaced H 256 bits m peers x n
 
 pub absent_replaced_root : (H : List ℕ → List ℕ) (m : SparseMap) (bits : List Bool) (peers : List (Option (List ℕ))) (x : List ℕ) → length bits ≡ 256 → length peers ≤ 256
     → ProvesAbsent H m bits peers → proof_value H peers x bits ≡ sparse_root H 256 (insert m bits x)
-absent_replaced_root H m bits peers x = honest.absent_replaced H bits m peers x
+absent_replaced_root H m bits peers x n few = honest.absent_replaced H bits m peers x n
 
 -- from an empty leaf the proof of an absence leads to the root
 pub absent_root : (H : List ℕ → List ℕ) (m : SparseMap) (bits : List Bool) (peers : List (Option (List ℕ))) → length bits ≡ 256 → length peers ≤ 256
     → ProvesAbsent H m bits peers → proof_value H peers (empty_root H 0) bits ≡ sparse_root H 256 m
-absent_root H m bits peers = honest.honest_absent H bits m peers
+absent_root H m bits peers n few = honest.honest_absent H bits m peers n
+
+-- proofs are compared by their peers
+pub peers_decide : (ps qs : Peers) → Decides (same_peers ps qs) (ps ≡ qs)
+peers_decide = equal.peers_decide
+
+-- where the leaf digest of bits is that of an empty leaf, the proof of that leads from it to the root
+pub empty_root_held : (H : List ℕ → List ℕ) (m : SparseMap) (bits : List Bool) (peers : Peers) → length bits ≡ 256
+    → ProvesEmpty H m bits peers → leaf_at H m bits ≡ empty_root H 0 → proof_value H peers (empty_root H 0) bits ≡ sparse_root H 256 m
+empty_root_held H m bits peers n proves = honest.empty_held H bits m peers n proves

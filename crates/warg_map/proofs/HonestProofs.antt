@@ -3,17 +3,17 @@ use Rattle.std.proofs.Common.{◌≡◌, ℕ, suc, ◌+◌, ◌-◌, ◌<◌, �
 use Rattle.std.proofs.lemmas.List.{get_or-reverse, length-reverse}
 use Rattle.std.proofs.lemmas.Bool.{lt-ltb, ltb-true}
 use Rattle.std.proofs.Math.ListN.{get_or}
-use Rattle.std.specs.Prelude.{reverse}
+use Rattle.std.specs.Prelude.{reverse, MatchOption}
 use Rattle.std.specs.FinMap.{get, insert, get-insert}
 use Rattle.std.specs.Ordering.{eq_by_cmp}
 use Rattle.warg_crypto.specs.EmptyTrees.{empty_root}
 use Rattle.warg_crypto.specs.Tree.{input_beside}
-use Rattle.warg_map.specs.Sparse.{SparseMap, bits_cmp, root_of_levels, sparse_root}
+use Rattle.warg_map.specs.Sparse.{SparseMap, bits_cmp, root_of_levels, sparse_root, leaf_at}
 use Rattle.warg_map.specs.ProofValue.{peer_of, proof_value}
-use Rattle.warg_map.specs.Peers.{IsPeers, IsAbsentPeers, IsOther, Proves, ProvesAbsent}
+use Rattle.warg_map.specs.Peers.{IsPeer, IsPeers, Proves, ProvesAbsent, ProvesEmpty}
 use Rattle.warg_map.proofs.SparseTree.{bits_total, same_sparse, root-nothing, root-same, tied_itself_bits}
 use Rattle.warg_map.proofs.FoundInNode.{tied}
-use Rattle.warg_map.proofs.PresencePeers.{length_peers}
+use Rattle.warg_map.proofs.CollectedPeers.{length_peers, few_collected}
 
 -- peers from the top by which the tree over the bits is known: each stands for the other half, and below the last nothing else is held
 unfoldable pub Explains : (List ℕ → List ℕ) → (List Bool → Option (List ℕ)) → List Bool → List (Option (List ℕ)) → Type 0
@@ -86,21 +86,21 @@ honest H (b ∷ bits) m peers before (o ∷ os) v e place few h u =
     (peer_there H peers before os o (length bits) e (omega (arith, place)) few ∙ h.0)
     (honest H bits (λ q. m (b ∷ q)) peers (before ++ o ∷ []) os v (e ∙ sym (append_assoc before (o ∷ []) os)) (omega (arith, one, place)) few h.1 u)
 
-pub explains_held : (H : List ℕ → List ℕ) (bits : List Bool) (m : List Bool → Option (List ℕ)) (os : List (Option (List ℕ))) → IsPeers H m bits os → Explains H m bits os
+explains_other : (H : List ℕ → List ℕ) (e : Option (List ℕ)) (k : ℕ) (m : List Bool → Option (List ℕ)) (o : Option (List ℕ)) → unwrap_or e (empty_root H k) ≡ empty_root H k → IsPeer H e k m o → unwrap_or o (empty_root H k) ≡ root_of_levels H k m
+explains_other H e k m o h (inl g) = ap (λ x. unwrap_or x (empty_root H k)) g.0 ∙ h ∙ sym (other_none H k m g.1)
+explains_other H e k m o h (inr g) = ap (λ x. unwrap_or x (empty_root H k)) g.0
+
+explains : (H : List ℕ → List ℕ) (half : ℕ → Option (List ℕ)) (bits : List Bool) (m : List Bool → Option (List ℕ)) (os : List (Option (List ℕ))) → ((k : ℕ) → unwrap_or (half k) (empty_root H k) ≡ empty_root H k) → IsPeers H half m bits os → Explains H m bits os
 unfolding IsPeers Explains
-explains_held H bits m [] h = h
-explains_held H [] m (o ∷ os) h = h
-explains_held H (b ∷ bits) m (o ∷ os) h = (ap (λ x. unwrap_or x (empty_root H (length bits))) h.0, explains_held H bits (λ q. m (b ∷ q)) os h.1)
+explains H half bits m [] s h = h
+explains H half [] m (o ∷ os) s h = h
+explains H half (b ∷ bits) m (o ∷ os) s h = (explains_other H (half (length bits)) (length bits) (λ q. m (not b ∷ q)) o (s (length bits)) h.0, explains H half bits (λ q. m (b ∷ q)) os s h.1)
 
-explains_other : (H : List ℕ → List ℕ) (k : ℕ) (m : List Bool → Option (List ℕ)) (o : Option (List ℕ)) → IsOther H k m o → unwrap_or o (empty_root H k) ≡ root_of_levels H k m
-explains_other H k m o (inl h) = ap (λ x. unwrap_or x (empty_root H k)) h.0 ∙ sym (other_none H k m h.1)
-explains_other H k m o (inr h) = ap (λ x. unwrap_or x (empty_root H k)) h.0
+pub explains_held : (H : List ℕ → List ℕ) (height : ℕ) (m : SparseMap) (bits : List Bool) (peers : List (Option (List ℕ))) → Proves H height m bits peers → Explains H (get m) bits (reverse peers)
+explains_held H height m bits peers p = explains H (λ k. Some (empty_root H k)) bits (get m) (reverse peers) (λ k. refl) p.peers_from_top
 
-pub explains_absent : (H : List ℕ → List ℕ) (bits : List Bool) (m : List Bool → Option (List ℕ)) (os : List (Option (List ℕ))) → IsAbsentPeers H m bits os → Explains H m bits os
-unfolding IsAbsentPeers Explains
-explains_absent H bits m [] h = λ q _. h q
-explains_absent H [] m (o ∷ os) h = h
-explains_absent H (b ∷ bits) m (o ∷ os) h = (explains_other H (length bits) (λ q. m (not b ∷ q)) o h.0, explains_absent H bits (λ q. m (b ∷ q)) os h.1)
+pub explains_absent : (H : List ℕ → List ℕ) (m : SparseMap) (bits : List Bool) (peers : List (Option (List ℕ))) → ProvesAbsent H m bits peers → Explains H (get m) bits (reverse peers)
+explains_absent H m bits peers p = explains H (λ k. None) bits (get m) (reverse peers) (λ k. refl) p.peers_from_top
 
 -- what is held beside the bits decides what explains them
 pub explains_alike : (H : List ℕ → List ℕ) (bits : List Bool) (m n : List Bool → Option (List ℕ)) (os : List (Option (List ℕ))) → ((q : List Bool) → ¬ (q ≡ bits) → n q ≡ m q) → Explains H m bits os → Explains H n bits os
@@ -133,35 +133,43 @@ held_again false x o h = refl
 pub insert_held : (m : SparseMap) (p : List Bool) (x : List ℕ) → get m p ≡ Some x → insert m p x ≡ m
 insert_held m p x h = same_sparse (insert m p x) m (λ q. get-insert bits_total m p x q ∙ held_again (eq_by_cmp bits_cmp q p) x (get m q) (λ e. ap (get m) (tied q p e) ∙ h))
 
--- a proof of held bits, from any leaf digest
-pub honest_replaced : (H : List ℕ → List ℕ) (h : ℕ) (bits : List Bool) (m : SparseMap) (peers : List (Option (List ℕ))) (x : List ℕ) → length bits ≡ 256 → length peers ≤ 256 → Proves H h m bits peers → proof_value H peers x bits ≡ sparse_root H 256 (insert m bits x)
-honest_replaced H h bits m peers x n few p =
+-- peers that explain a map lead from any leaf digest to the root of the map that holds it, and from what is there to the map's
+replaced : (H : List ℕ → List ℕ) (bits : List Bool) (m : SparseMap) (peers : List (Option (List ℕ))) (x : List ℕ) → length bits ≡ 256 → length peers ≤ 256 → Explains H (get m) bits (reverse peers) → proof_value H peers x bits ≡ sparse_root H 256 (insert m bits x)
+replaced H bits m peers x n few h =
     let z : 0 + length bits ≡ 256 = omega (arith, n) in
     honest H bits (get (insert m bits x)) peers [] (reverse peers) x refl z few
-    (explains_alike H bits (get m) (get (insert m bits x)) (reverse peers) (λ q other. get-insert_other m bits q x other) (explains_held H bits (get m) (reverse peers) p.peers_from_top))
+    (explains_alike H bits (get m) (get (insert m bits x)) (reverse peers) (λ q other. get-insert_other m bits q x other) h)
     (ap (λ o. unwrap_or o (empty_root H 0)) (get-insert_same m bits x))
     ∙ ap (λ k. sparse_root H k (insert m bits x)) n
 
--- a proof of held bits, from the leaf digest that is held
-pub honest_held : (H : List ℕ → List ℕ) (h : ℕ) (bits : List Bool) (m : SparseMap) (peers : List (Option (List ℕ))) (x : List ℕ) → length bits ≡ 256 → length peers ≤ 256 → Proves H h m bits peers → get m bits ≡ Some x → proof_value H peers x bits ≡ sparse_root H 256 m
-honest_held H h bits m peers x n few p e = honest_replaced H h bits m peers x n few p ∙ ap (sparse_root H 256) (insert_held m bits x e)
+-- a proof of held bits
+pub honest_replaced : (H : List ℕ → List ℕ) (h : ℕ) (bits : List Bool) (m : SparseMap) (peers : List (Option (List ℕ))) (x : List ℕ) → length bits ≡ 256 → Proves H h m bits peers → proof_value H peers x bits ≡ sparse_root H 256 (insert m bits x)
+honest_replaced H h bits m peers x n p = replaced H bits m peers x n (few_collected H _ (get m) bits peers p.peers_from_top n) (explains_held H h m bits peers p)
+
+pub honest_held : (H : List ℕ → List ℕ) (h : ℕ) (bits : List Bool) (m : SparseMap) (peers : List (Option (List ℕ))) (x : List ℕ) → length bits ≡ 256 → Proves H h m bits peers → get m bits ≡ Some x → proof_value H peers x bits ≡ sparse_root H 256 m
+honest_held H h bits m peers x n p e = honest_replaced H h bits m peers x n p ∙ ap (sparse_root H 256) (insert_held m bits x e)
 
 pub none_of : (o : Option (List ℕ)) → is_some o ≡ false → o ≡ None
 none_of None e = refl
 none_of (Some x) e = cc
 
--- an absence proof, from any leaf digest
-pub absent_replaced : (H : List ℕ → List ℕ) (bits : List Bool) (m : SparseMap) (peers : List (Option (List ℕ))) (x : List ℕ) → length bits ≡ 256 → length peers ≤ 256 → ProvesAbsent H m bits peers → proof_value H peers x bits ≡ sparse_root H 256 (insert m bits x)
-absent_replaced H bits m peers x n few p =
-    let z : 0 + length bits ≡ 256 = omega (arith, n) in
-    honest H bits (get (insert m bits x)) peers [] (reverse peers) x refl z few
-    (explains_alike H bits (get m) (get (insert m bits x)) (reverse peers) (λ q other. get-insert_other m bits q x other) (explains_absent H bits (get m) (reverse peers) p.peers_from_top))
-    (ap (λ o. unwrap_or o (empty_root H 0)) (get-insert_same m bits x))
-    ∙ ap (λ k. sparse_root H k (insert m bits x)) n
+-- an absence proof, from any leaf digest and from an empty leaf
+pub absent_replaced : (H : List ℕ → List ℕ) (bits : List Bool) (m : SparseMap) (peers : List (Option (List ℕ))) (x : List ℕ) → length bits ≡ 256 → ProvesAbsent H m bits peers → proof_value H peers x bits ≡ sparse_root H 256 (insert m bits x)
+absent_replaced H bits m peers x n p = replaced H bits m peers x n (few_collected H _ (get m) bits peers p.peers_from_top n) (explains_absent H m bits peers p)
 
--- and from an empty leaf
-pub honest_absent : (H : List ℕ → List ℕ) (bits : List Bool) (m : SparseMap) (peers : List (Option (List ℕ))) → length bits ≡ 256 → length peers ≤ 256 → ProvesAbsent H m bits peers → proof_value H peers (empty_root H 0) bits ≡ sparse_root H 256 m
-honest_absent H bits m peers n few p =
+pub honest_absent : (H : List ℕ → List ℕ) (bits : List Bool) (m : SparseMap) (peers : List (Option (List ℕ))) → length bits ≡ 256 → ProvesAbsent H m bits peers → proof_value H peers (empty_root H 0) bits ≡ sparse_root H 256 m
+honest_absent H bits m peers n p =
     let z : 0 + length bits ≡ 256 = omega (arith, n) in
-    honest H bits (get m) peers [] (reverse peers) (empty_root H 0) refl z few (explains_absent H bits (get m) (reverse peers) p.peers_from_top) (ap (λ x. unwrap_or x (empty_root H 0)) (none_of _ p.absent))
+    honest H bits (get m) peers [] (reverse peers) (empty_root H 0) refl z (few_collected H _ (get m) bits peers p.peers_from_top n) (explains_absent H m bits peers p) (ap (λ x. unwrap_or x (empty_root H 0)) (none_of _ p.absent))
     ∙ ap (λ k. sparse_root H k m) n
+
+-- a proof of an empty leaf, whether or not it is held
+by_held : (H : List ℕ → List ℕ) (bits : List Bool) (m : SparseMap) (peers : List (Option (List ℕ))) (x : List ℕ) (o : Option (List ℕ)) → get m bits ≡ o → length bits ≡ 256 → MatchOption o (ProvesAbsent H m bits peers) (λ _. Proves H 256 m bits peers) → (unwrap_or o (empty_root H 0) ≡ empty_root H 0 → proof_value H peers (empty_root H 0) bits ≡ sparse_root H 256 m) × (proof_value H peers x bits ≡ sparse_root H 256 (insert m bits x))
+by_held H bits m peers x None e n p = ((λ _. honest_absent H bits m peers n p), absent_replaced H bits m peers x n p)
+by_held H bits m peers x (Some y) e n p = ((λ z. honest_held H 256 bits m peers (empty_root H 0) n p (e ∙ ap Some z)), honest_replaced H 256 bits m peers x n p)
+
+pub empty_held : (H : List ℕ → List ℕ) (bits : List Bool) (m : SparseMap) (peers : List (Option (List ℕ))) → length bits ≡ 256 → ProvesEmpty H m bits peers → leaf_at H m bits ≡ empty_root H 0 → proof_value H peers (empty_root H 0) bits ≡ sparse_root H 256 m
+empty_held H bits m peers n p z = (by_held H bits m peers (empty_root H 0) (get m bits) refl n p).0 z
+
+pub empty_replaced : (H : List ℕ → List ℕ) (bits : List Bool) (m : SparseMap) (peers : List (Option (List ℕ))) (x : List ℕ) → length bits ≡ 256 → ProvesEmpty H m bits peers → proof_value H peers x bits ≡ sparse_root H 256 (insert m bits x)
+empty_replaced H bits m peers x n p = (by_held H bits m peers x (get m bits) refl n p).1

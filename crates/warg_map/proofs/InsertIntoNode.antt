@@ -3,7 +3,7 @@ use Rattle.std.proofs.Common.{◌≡◌, ℕ, ◌+◌, ◌-◌, ◌<◌, Bool, t
 use Rattle.std.specs.FinMap.{insert, empty, contains_key}
 use Rattle.std.specs.declared.rc.Rc.{Rc}
 use Rattle.warg_map.specs.declared.node.Node.{Node}
-use Rattle.warg_map.specs.declared.node.Node.TheVariants.{Leaf, Fork, Singleton, Stem, Empty}
+use Rattle.warg_map.specs.declared.node.Node.TheVariants.{Fork, Singleton, Stem, Empty}
 use Rattle.warg_map.specs.declared.fork.Fork.{Fork as Fork'}
 use Rattle.warg_map.specs.declared.stem.Stem.{Stem as Stem'}
 use Rattle.warg_map.specs.Private.Lone.{Lone, held_alone}
@@ -11,7 +11,7 @@ use Rattle.warg_map.specs.Bits.{bit_at, bits_from, last_bits}
 use Rattle.warg_map.specs.Sparse.{SparseMap}
 use Rattle.warg_map.specs.Private.Under.{join_at, under, HoldsKey}
 use Rattle.warg_map.specs.Private.Seen.{seen, tree_height, held_by, IsWellFormed, Inserts, IsForkOf, IsSeen}
-use Rattle.warg_map.proofs.SparseTree.{insert-join_at, contains_key-join_at, contains_key-empty, contains_key-insert_same, insert-again, last_bits-first, last_bits-zero}
+use Rattle.warg_map.proofs.SparseTree.{insert-join_at, contains_key-join_at, contains_key-empty, contains_key-insert_same, insert-again}
 use Rattle.warg_map.proofs.BitsInFront.{insert-under, get-under, insert-under_apart, get-under_apart, lone-under, lone-append, bits_from-part, last_bits-at, bits_from-append}
 use Rattle.warg_map.proofs.TreeForm.{fork_held, fork_formed}
 
@@ -50,22 +50,6 @@ pub inserts_into_fork : {D A : _} (old : Node D A) (bits : List Bool) (v : List 
 inserts_into_fork old bits v f0 b p child node fresh f link is w e s h l k =
     rw (is, e) (into_fork f0 b p v child node fresh f link (subst IsWellFormed is w) s h l k)
 
--- a leaf is replaced
-replaces_leaf : {D A : _} (old : ℕ × SparseMap) (x v : List ℕ) (l : Rc (List ℕ) A) → old ≡ (0, insert empty [] x) → l.value ≡ v → Inserts {D = D} {A = A} old [] v (Leaf l) false
-replaces_leaf old x v l e h =
-    record {
-      seen_as = ap (λ y. (0, insert empty [] y)) h ∙ ap (λ m. (0, m)) (sym (insert-again empty [] x v)) ∙ sym (ap (λ d. (d.0, insert d.1 [] v)) e);
-      well_formed = record { level = tt; formed = tt };
-      is_fresh = ap not (sym (contains_key-insert_same empty [] x)) ∙ sym (ap (λ d. absent d.1 []) e);
-    }
-
-pub inserts_leaf : {D A : _} (old : Node D A) (bits : List Bool) (x l : Rc (List ℕ) A) (v : List ℕ) → old ≡ Leaf x → bits ≡ [] → l.value ≡ v → Inserts {D = D} {A = A} (seen old) bits v (Leaf l) false
-inserts_leaf old bits x l v is e h = rw e (replaces_leaf (seen old) x.value v l (ap seen is) h)
-
-pub inserts_bottom_lone : {D A : _} (old : Node D A) (s : Rc Lone A) (bits : List Bool) (l : Rc (List ℕ) A) (v : List ℕ) → old ≡ Singleton s → s.value.height ≡ 0 → bits ≡ [] → l.value ≡ v → Inserts {D = D} {A = A} (seen old) bits v (Leaf l) false
-inserts_bottom_lone old s bits l v is h e w =
-    rw e (replaces_leaf (seen old) s.value.value v l (ap seen is ∙ ap (λ j. (j, insert empty (last_bits s.value.key j) s.value.value)) h ∙ ap (λ q. (0, insert empty q s.value.value)) (last_bits-zero s.value.key)) w)
-
 -- the key that is there
 pub inserts_same : {D A : _} (s : Lone) (new : Rc Lone A) (v : List ℕ) (bits : List Bool) → s.height < 256 → last_bits s.key s.height ≡ bits → last_bits new.value.key new.value.height ≡ bits → new.value.height ≡ s.height → new.value.value ≡ v → Inserts {D = D} {A = A} (s.height, held_alone s) bits v (Singleton new) false
 inserts_same s new v bits w e f h x =
@@ -80,16 +64,11 @@ inserts_same s new v bits w e f h x =
       is_fresh = ap not (sym (contains_key-insert_same empty bits s.value)) ∙ ap (λ q. absent (insert empty q s.value) bits) (sym e);
     }
 
--- the bits of a path whose first bit was taken
-pub bits_whole : (key hash : List ℕ) (h index : ℕ) (b : Bool) → h + index ≡ 257 → h < 256 → 0 < h → key ≡ hash → b ≡ bit_at key (256 - h) → b ∷ last_bits hash (256 - index) ≡ bits_from key (index - 1) h
-bits_whole key hash h index b s lt some e at =
-    let i : 256 - (256 - h) ≡ h = omega (arith, lt) in
-    let j : 256 - (256 - h + 1) ≡ 256 - index = omega (arith, s, lt, some) in
-    let k : index - 1 + h ≡ 256 = omega (arith, s, lt, some) in
-    ap (λ x. x ∷ last_bits hash (256 - index)) at ∙ ap (λ y. bit_at key (256 - h) ∷ last_bits y (256 - index)) (sym e)
-    ∙ ap (λ n. bit_at key (256 - h) ∷ last_bits key n) (sym j)
-    ∙ sym (last_bits-first key (256 - h) (omega (arith, lt, some)))
-    ∙ ap (last_bits key) i ∙ last_bits-at key (index - 1) h k
+-- the bits that a path has left, at a node of this height
+pub path_bits : (hash key : List ℕ) (index h : ℕ) → key ≡ hash → index + h ≡ 256 → last_bits hash (256 - index) ≡ bits_from key index h
+path_bits hash key index h e s =
+    let n : 256 - index ≡ h = omega (arith, s) in
+    ap (last_bits hash) n ∙ ap (λ y. last_bits y h) (sym e) ∙ last_bits-at key index h s
 
 -- bits that part
 parts : {D A : _} (old : ℕ × SparseMap) (n : Node D A) (a : List Bool) (b c : Bool) (cs p : List Bool) (m : SparseMap) (v : List ℕ) (h : ℕ) → old ≡ (h, under (a ++ c ∷ cs) m) → ¬ (c ≡ b) → seen n ≡ (h, under a (join_at b (insert empty p v) (under cs m))) → IsWellFormed n → Inserts old (a ++ b ∷ p) v n true
@@ -177,15 +156,13 @@ has_inserted below node rest key hash v index fresh ins lo kh height =
     (ap (contains_key (insert (held_by below) rest v)) q ∙ contains_key-insert_same (held_by below) rest v)
 
 -- the first key
-pub inserts_first : {D A : _} (old n : Node D A) (k : ℕ) (s : Rc Lone A) (bits : List Bool) (key hash v : List ℕ) (index : ℕ) → old ≡ Empty k → IsWellFormed old → tree_height old + index ≡ 256 → bits ≡ last_bits hash (256 - index) → key ≡ hash → s.value.key ≡ key → s.value.height ≡ 255 → s.value.value ≡ v → IsSeen n (s.value.height + 1) (under (bits_from key 0 1) (insert empty (last_bits s.value.key s.value.height) s.value.value)) → Inserts (seen old) bits v n true
-inserts_first old n k s bits key hash v index is w height e kh ek eh ev h =
-    let wk : IsWellFormed (Empty k) = subst IsWellFormed is w in
-    let k256 : k ≡ 256 = wk.formed in
-    let i0 : 256 - index ≡ 1 + 255 = let hk : k + index ≡ 256 = sym (ap (λ d. tree_height d + index) is) ∙ height in omega (arith, hk, k256) in
+pub inserts_first : {D A : _} (old n : Node D A) (s : Rc Lone A) (bits : List Bool) (key hash v : List ℕ) (index : ℕ) → old ≡ Empty → tree_height old + index ≡ 256 → bits ≡ last_bits hash (256 - index) → key ≡ hash → s.value.key ≡ key → s.value.height ≡ 255 → s.value.value ≡ v → IsSeen n (s.value.height + 1) (under (bits_from key 0 1) (insert empty (last_bits s.value.key s.value.height) s.value.value)) → Inserts (seen old) bits v n true
+inserts_first old n s bits key hash v index is height e kh ek eh ev h =
+    let i0 : 256 - index ≡ 1 + 255 = let hk : 256 + index ≡ 256 = sym (ap (λ d. tree_height d + index) is) ∙ height in omega (arith, hk) in
     let a = bits_from key 0 1 in
     let p = last_bits key 255 in
     let mine : bits ≡ a ++ p = e ∙ ap (λ y. last_bits y (256 - index)) (sym kh) ∙ ap (last_bits key) i0 ∙ bits_from-append key 0 1 255 in
-    let was : seen old ≡ (256, empty) = ap seen is ∙ ap (λ j. (j, empty)) k256 in
+    let was : seen old ≡ (256, empty) = ap seen is in
     let low : insert empty (last_bits s.value.key s.value.height) s.value.value ≡ insert empty p v = ap (λ y. insert empty (last_bits y s.value.height) s.value.value) ek ∙ ap (λ j. insert empty (last_bits key j) s.value.value) eh ∙ ap (insert empty p) ev in
     rw mine
     (record {

@@ -1,5 +1,5 @@
 -- The proof of a key in the map after an insertion, as the proof of the step.
-use Rattle.std.proofs.Common.{◌≡◌, ℕ, ◌≤◌, Bool, true, false, cond, List, length, Option, Some, unwrap_or, refl, sym, ap, ◌∙◌}
+use Rattle.std.proofs.Common.{◌≡◌, ℕ, Bool, true, false, cond, List, length, Option, Some, unwrap_or, refl, sym, ap, ◌∙◌}
 use Rattle.std.proofs.lemmas.Bool.{false≢true}
 use Rattle.std.specs.FinMap.{get, insert, contains_key, get-insert}
 use Rattle.std.specs.Ordering.{eq_by_cmp}
@@ -23,17 +23,17 @@ same_leaves H m p q =
     ∙ leaf_again (eq_by_cmp bits_cmp q p) (leaf_at H m p) (empty_root H 0) (get m q) (λ t. ap (leaf_at H m) (sym (tied q p t)))
 
 -- from the leaf before, the proof leads to the root before
-pub root_before : (H : List ℕ → List ℕ) (m : SparseMap) (bits : List Bool) (x : List ℕ) (peers : List (Option (List ℕ))) → length bits ≡ 256 → length peers ≤ 256 → Proves H 256 (insert m bits x) bits peers
+pub root_before : (H : List ℕ → List ℕ) (m : SparseMap) (bits : List Bool) (x : List ℕ) (peers : List (Option (List ℕ))) → length bits ≡ 256 → Proves H 256 (insert m bits x) bits peers
     → proof_value H peers (leaf_at H m bits) bits ≡ sparse_root H 256 m
-root_before H m bits x peers n few p =
-    honest_replaced H 256 bits (insert m bits x) peers (leaf_at H m bits) n few p
+root_before H m bits x peers n p =
+    honest_replaced H 256 bits (insert m bits x) peers (leaf_at H m bits) n p
     ∙ ap (sparse_root H 256) (insert-again m bits x (leaf_at H m bits))
     ∙ same_root H (insert m bits (leaf_at H m bits)) m (λ q _. same_leaves H m bits q)
 
 -- and from the leaf after to the root after
-pub root_after : (H : List ℕ → List ℕ) (m : SparseMap) (bits : List Bool) (x : List ℕ) (peers : List (Option (List ℕ))) → length bits ≡ 256 → length peers ≤ 256 → Proves H 256 (insert m bits x) bits peers
+pub root_after : (H : List ℕ → List ℕ) (m : SparseMap) (bits : List Bool) (x : List ℕ) (peers : List (Option (List ℕ))) → length bits ≡ 256 → Proves H 256 (insert m bits x) bits peers
     → proof_value H peers x bits ≡ sparse_root H 256 (insert m bits x)
-root_after H m bits x peers n few p = honest_replaced H 256 bits (insert m bits x) peers x n few p ∙ ap (sparse_root H 256) (insert-again m bits x x)
+root_after H m bits x peers n p = honest_replaced H 256 bits (insert m bits x) peers x n p ∙ ap (sparse_root H 256) (insert-again m bits x x)
 
 -- what was inserted is held
 pub held_after : (m : SparseMap) (bits : List Bool) (x : List ℕ) → contains_key (insert m bits x) bits ≡ false → ⊥

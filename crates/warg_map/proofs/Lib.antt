@@ -8,9 +8,9 @@ pub mod ManyLeaves
 pub mod FoundInNode
 pub mod HeldKeys
 pub mod ProofValue
-pub mod PresencePeers
+pub mod CollectedPeers
+pub mod WantedLeaves
 pub mod NodeCounts
-pub mod AbsencePeers
 pub mod HonestProofs
 pub mod InsertionSteps
 pub mod InsertedPairs

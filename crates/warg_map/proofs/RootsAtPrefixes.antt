@@ -7,7 +7,7 @@ use Rattle.warg_crypto.specs.EmptyTrees.{empty_root}
 use Rattle.warg_map.specs.Sparse.{SparseMap, root_of_levels}
 use Rattle.warg_map.specs.ProofValue.{proof_value}
 use Rattle.warg_map.specs.Peers.{Proves, ProvesAbsent}
-use Rattle.warg_map.proofs.PresencePeers.{length_peers}
+use Rattle.warg_map.proofs.CollectedPeers.{length_peers}
 use Rattle.warg_map.proofs.HonestProofs.{Explains, explains_held, explains_absent, honest, honest_below_last, tail_is, none_of}
 
 same_rest : (prefix p q : List Bool) → prefix ++ p ≡ prefix ++ q → p ≡ q
@@ -30,11 +30,11 @@ pub held_after : (H : List ℕ → List ℕ) (m : SparseMap) (prefix rest : List
     → Proves H 256 m (prefix ++ rest) peers → get m (prefix ++ rest) ≡ Some x → proof_value H peers x rest ≡ root_of_levels H (length rest) (λ q. get m (prefix ++ q))
 held_after H m prefix rest peers x n few p held =
     let z : 0 + (length prefix + length rest) ≡ 256 = omega (arith, n) in
-    honest_after H prefix rest (get m) peers [] (reverse peers) x refl z few (explains_held H (prefix ++ rest) (get m) (reverse peers) p.peers_from_top) (ap (λ o. unwrap_or o (empty_root H 0)) held)
+    honest_after H prefix rest (get m) peers [] (reverse peers) x refl z few (explains_held H 256 m (prefix ++ rest) peers p) (ap (λ o. unwrap_or o (empty_root H 0)) held)
 
 pub absent_after : (H : List ℕ → List ℕ) (m : SparseMap) (prefix rest : List Bool) (peers : List (Option (List ℕ))) → length prefix + length rest ≡ 256 → length peers ≤ 256
     → ProvesAbsent H m (prefix ++ rest) peers → proof_value H peers (empty_root H 0) rest ≡ root_of_levels H (length rest) (λ q. get m (prefix ++ q))
 absent_after H m prefix rest peers n few p =
     let z : 0 + (length prefix + length rest) ≡ 256 = omega (arith, n) in
-    honest_after H prefix rest (get m) peers [] (reverse peers) (empty_root H 0) refl z few (explains_absent H (prefix ++ rest) (get m) (reverse peers) p.peers_from_top)
+    honest_after H prefix rest (get m) peers [] (reverse peers) (empty_root H 0) refl z few (explains_absent H m (prefix ++ rest) peers p)
     (ap (λ x. unwrap_or x (empty_root H 0)) (none_of _ p.absent))

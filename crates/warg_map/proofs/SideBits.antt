@@ -1,10 +1,10 @@
 -- What `==` on sides says of their bits.
 use Rattle.std.proofs.Common.{◌≡◌, true, false, not, refl}
 use denote.Enum.Bare.{sameb}
-use Rattle.warg_map.specs.contracts.path.Side.{the_type}
-use Rattle.warg_map.specs.declared.path.Side.{Side}
-use Rattle.warg_map.specs.declared.path.Side.TheVariants.{Left, Right}
-use Rattle.warg_map.specs.Private.Side.{side_bit}
+use Rattle.warg_crypto.specs.contracts.tree.Side.{the_type}
+use Rattle.warg_crypto.specs.declared.tree.Side.{Side}
+use Rattle.warg_crypto.specs.declared.tree.Side.TheVariants.{Left, Right}
+use Rattle.warg_crypto.specs.Sides.{side_bit}
 
 pub same_bit : (x y : Side) → not (sameb the_type x y) ≡ false → side_bit x ≡ side_bit y
 same_bit Left Left e = refl

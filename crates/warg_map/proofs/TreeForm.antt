@@ -4,7 +4,7 @@ use Rattle.std.specs.FinMap.{get, insert, empty, contains_key, get-insert, get-e
 use Rattle.std.specs.Ordering.{eq_by_cmp}
 use Rattle.std.specs.declared.rc.Rc.{Rc}
 use Rattle.warg_map.specs.declared.node.Node.{Node}
-use Rattle.warg_map.specs.declared.node.Node.TheVariants.{Leaf, Fork, Singleton, Stem, Empty}
+use Rattle.warg_map.specs.declared.node.Node.TheVariants.{Fork, Singleton, Stem, Empty}
 use Rattle.warg_map.specs.declared.fork.Fork.{Fork as Fork'}
 use Rattle.warg_map.specs.declared.stem.Stem.{Stem as Stem'}
 use Rattle.warg_map.specs.Private.Lone.{Lone}
@@ -86,11 +86,10 @@ lone_no_split p v s = no_lone p s.0.0 s.1.0 (lone_tied p _ v s.0.1) (lone_tied p
 
 -- what stands below bits
 formed_below : {D A : _} (node : Node D A) (from len : ℕ) → IsWellFormed node → Carries node → ((s : Rc (Stem' D A) A) → node ≡ Stem s → ⊥) → ¬ (len ≡ 0) → from + len + tree_height node ≡ 256 → Splits (held_by node) ⊎ ((len ≡ 1) × (tree_height node ≡ 255) × IsLone (held_by node))
-formed_below (Leaf d) from len w c n z h = absurd c
 formed_below (Fork f) from len w c n z h = inl (splits_join f.value.left.1 f.value.right.1 w.formed.0 w.formed.1)
 formed_below (Singleton s) from len w c n z h = inr (omega (arith, c, h, z), c, (last_bits s.value.key s.value.height, s.value.value, refl))
 formed_below (Stem s) from len w c n z h = absurd (n s refl)
-formed_below (Empty k) from len w c n z h = absurd c
+formed_below Empty from len w c n z h = absurd c
 
 pub with_no_stem : {D A : _} (n : Node D A) (key : List ℕ) (from len : ℕ) → len ≡ 0 → IsWellFormed n → IsSeen n (tree_height n + len) (under (bits_from key from len) (held_by n))
 with_no_stem n key from len h w =
@@ -139,18 +138,16 @@ with_longer_stem node lower s key from len is w z h has ek ef el eb =
 
 -- what stands below a stem after an insertion
 splits_carries : {D A : _} (node : Node D A) → IsWellFormed node → tree_height node < 256 → Splits (held_by node) → Carries node
-splits_carries (Leaf d) w h s = lone_no_split [] d.value s
 splits_carries (Fork f) w h s = tt
 splits_carries (Singleton l) w h s = absurd (lone_no_split (last_bits l.value.key l.value.height) l.value.value s)
 splits_carries (Stem t) w h s = tt
-splits_carries (Empty n) w h s = omega (arith, w.formed, h)
+splits_carries Empty w h s = omega (arith, h)
 
 high_carries : {D A : _} (node : Node D A) → IsWellFormed node → tree_height node ≡ 255 → Carries node
-high_carries (Leaf d) w h = omega (arith, h)
 high_carries (Fork f) w h = tt
 high_carries (Singleton l) w h = h
 high_carries (Stem t) w h = tt
-high_carries (Empty n) w h = omega (arith, w.formed, h)
+high_carries Empty w h = omega (arith, h)
 
 after_by : {D A : _} (len from k : ℕ) (m : SparseMap) (p : List Bool) (v : List ℕ) (node : Node D A) → from + len + k ≡ 256 → 0 < len → Splits m ⊎ ((len ≡ 1) × (k ≡ 255) × IsLone m) → IsWellFormed node → seen node ≡ (k, insert m p v) → Carries node
 after_by len from k m p v node lev some (inl s) w e =

@@ -5,7 +5,7 @@ use Rattle.std.specs.Prelude.{reverse}
 use Rattle.std.specs.FinMap.{get}
 use Rattle.warg_crypto.specs.EmptyTrees.{empty_root}
 use Rattle.warg_map.specs.Sparse.{SparseMap, root_of_levels, sparse_root, leaf_at}
-use Rattle.warg_map.specs.Peers.{IsPeers, IsPeerCount, Proves, IsOther, IsAbsentPeers, ProvesAbsent}
+use Rattle.warg_map.specs.Peers.{IsPeer, IsPeers, IsPeerCount, Proves, ProvesAbsent}
 use Rattle.warg_map.proofs.BitsInFront.{no_some}
 
 -- the leaf digests decide the root
@@ -25,7 +25,7 @@ turned ps qs e = sym (reverse-reverse ps) ∙ ap reverse e ∙ reverse-reverse q
 turned_lengths : (ps qs : List (Option (List ℕ))) → length ps ≡ length qs → length (reverse ps) ≡ length (reverse qs)
 turned_lengths ps qs e = length-reverse ps ∙ e ∙ sym (length-reverse qs)
 
--- proofs of presence
+-- proofs
 same_count : (lone : ℕ) (m : SparseMap) (bits : List Bool) (n k : ℕ) → IsPeerCount lone m bits n → IsPeerCount lone m bits k → n ≡ k
 same_count lone m bits n k g h =
     elim g.reached [
@@ -36,35 +36,27 @@ same_count lone m bits n k g h =
       ]
     ]
 
-same_peers : (H : List ℕ → List ℕ) (bits : List Bool) (m : List Bool → Option (List ℕ)) (ps qs : List (Option (List ℕ))) → length ps ≡ length qs → IsPeers H m bits ps → IsPeers H m bits qs → ps ≡ qs
+same_peer : (H : List ℕ → List ℕ) (e : Option (List ℕ)) (k : ℕ) (m : List Bool → Option (List ℕ)) (o p : Option (List ℕ)) → IsPeer H e k m o → IsPeer H e k m p → o ≡ p
+same_peer H e k m o p (inl g) (inl h) = g.0 ∙ sym h.0
+same_peer H e k m o p (inl g) (inr h) = absurd (no_some (m h.1.0) (g.1 h.1.0) h.1.1)
+same_peer H e k m o p (inr g) (inl h) = absurd (no_some (m g.1.0) (h.1 g.1.0) g.1.1)
+same_peer H e k m o p (inr g) (inr h) = g.0 ∙ sym h.0
+
+same_peers : (H : List ℕ → List ℕ) (half : ℕ → Option (List ℕ)) (bits : List Bool) (m : List Bool → Option (List ℕ)) (ps qs : List (Option (List ℕ))) → length ps ≡ length qs → IsPeers H half m bits ps → IsPeers H half m bits qs → ps ≡ qs
 unfolding IsPeers
-same_peers H bits m [] [] n g h = refl
-same_peers H bits m [] (q ∷ qs) n g h = absurd (omega (arith, n))
-same_peers H bits m (p ∷ ps) [] n g h = absurd (omega (arith, n))
-same_peers H [] m (p ∷ ps) (q ∷ qs) n g h = absurd g
-same_peers H (b ∷ bits) m (p ∷ ps) (q ∷ qs) n g h =
-    ap (λ x. x ∷ ps) (g.0 ∙ sym h.0) ∙ ap (λ t. q ∷ t) (same_peers H bits (λ r. m (b ∷ r)) ps qs (omega (arith, n)) g.1 h.1)
+same_peers H half bits m [] [] n g h = refl
+same_peers H half bits m [] (q ∷ qs) n g h = absurd (omega (arith, n))
+same_peers H half bits m (p ∷ ps) [] n g h = absurd (omega (arith, n))
+same_peers H half [] m (p ∷ ps) (q ∷ qs) n g h = absurd g
+same_peers H half (b ∷ bits) m (p ∷ ps) (q ∷ qs) n g h =
+    ap (λ x. x ∷ ps) (same_peer H (half (length bits)) (length bits) (λ r. m (not b ∷ r)) p q g.0 h.0) ∙ ap (λ t. q ∷ t) (same_peers H half bits (λ r. m (b ∷ r)) ps qs (omega (arith, n)) g.1 h.1)
+
+one_list : (H : List ℕ → List ℕ) (half : ℕ → Option (List ℕ)) (lone : ℕ) (m : SparseMap) (bits : List Bool) (ps qs : List (Option (List ℕ))) → IsPeers H half (get m) bits (reverse ps) → IsPeers H half (get m) bits (reverse qs) → IsPeerCount lone m bits (length ps) → IsPeerCount lone m bits (length qs) → ps ≡ qs
+one_list H half lone m bits ps qs g h i j =
+    turned ps qs (same_peers H half bits (get m) (reverse ps) (reverse qs) (turned_lengths ps qs (same_count lone m bits (length ps) (length qs) i j)) g h)
 
 pub same_proof : (H : List ℕ → List ℕ) (height : ℕ) (m : SparseMap) (bits : List Bool) (ps qs : List (Option (List ℕ))) → Proves H height m bits ps → Proves H height m bits qs → ps ≡ qs
-same_proof H height m bits ps qs g h =
-    turned ps qs (same_peers H bits (get m) (reverse ps) (reverse qs) (turned_lengths ps qs (same_count _ m bits (length ps) (length qs) g.count h.count)) g.peers_from_top h.peers_from_top)
-
--- proofs of absence
-same_other : (H : List ℕ → List ℕ) (k : ℕ) (m : List Bool → Option (List ℕ)) (o p : Option (List ℕ)) → IsOther H k m o → IsOther H k m p → o ≡ p
-same_other H k m o p (inl g) (inl h) = g.0 ∙ sym h.0
-same_other H k m o p (inl g) (inr h) = absurd (no_some (m h.1.0) (g.1 h.1.0) h.1.1)
-same_other H k m o p (inr g) (inl h) = absurd (no_some (m g.1.0) (h.1 g.1.0) g.1.1)
-same_other H k m o p (inr g) (inr h) = g.0 ∙ sym h.0
-
-same_absent_peers : (H : List ℕ → List ℕ) (bits : List Bool) (m : List Bool → Option (List ℕ)) (ps qs : List (Option (List ℕ))) → length ps ≡ length qs → IsAbsentPeers H m bits ps → IsAbsentPeers H m bits qs → ps ≡ qs
-unfolding IsAbsentPeers
-same_absent_peers H bits m [] [] n g h = refl
-same_absent_peers H bits m [] (q ∷ qs) n g h = absurd (omega (arith, n))
-same_absent_peers H bits m (p ∷ ps) [] n g h = absurd (omega (arith, n))
-same_absent_peers H [] m (p ∷ ps) (q ∷ qs) n g h = absurd g
-same_absent_peers H (b ∷ bits) m (p ∷ ps) (q ∷ qs) n g h =
-    ap (λ x. x ∷ ps) (same_other H (length bits) (λ r. m (not b ∷ r)) p q g.0 h.0) ∙ ap (λ t. q ∷ t) (same_absent_peers H bits (λ r. m (b ∷ r)) ps qs (omega (arith, n)) g.1 h.1)
+same_proof H height m bits ps qs g h = one_list H _ _ m bits ps qs g.peers_from_top h.peers_from_top g.count h.count
 
 pub same_absence : (H : List ℕ → List ℕ) (m : SparseMap) (bits : List Bool) (ps qs : List (Option (List ℕ))) → ProvesAbsent H m bits ps → ProvesAbsent H m bits qs → ps ≡ qs
-same_absence H m bits ps qs g h =
-    turned ps qs (same_absent_peers H bits (get m) (reverse ps) (reverse qs) (turned_lengths ps qs (same_count 0 m bits (length ps) (length qs) g.count h.count)) g.peers_from_top h.peers_from_top)
+same_absence H m bits ps qs g h = one_list H _ _ m bits ps qs g.peers_from_top h.peers_from_top g.count h.count

@@ -4,6 +4,6 @@ pub mod Last
 pub mod ProofValue
 pub mod Peers
 pub mod Count
-pub mod Bundles
-pub mod Served
+pub mod Messages
+pub mod KeyProofs
 pub mod Private

@@ -3,5 +3,5 @@ pub mod Grown
 pub mod Lone
 pub mod Path
 pub mod Seen
-pub mod Side
 pub mod Under
+pub mod Walk

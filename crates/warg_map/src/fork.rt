@@ -5,11 +5,9 @@ ghost use Rattle.warg_map.specs.Sparse.{sparse_root};
 ghost use Rattle.warg_map.specs.Private.Under.{join};
 
 use crate::link::Link;
-use crate::path::Side;
 use std::alloc::{AllocError, Allocator, Global};
 use std::ops::Index;
-use warg_crypto::{Hash, SupportedDigest};
-use warg_log::hash_branch;
+use warg_crypto::{Hash, Side, SupportedDigest, hash_branch};
 
 /// Two links of one height.
 #[cycle(tree)]
@@ -20,7 +18,7 @@ pub struct Fork<D: SupportedDigest, A: Allocator = Global> {
 }
 
 impl<D: SupportedDigest, A: Allocator> Fork<D, A> {
-    ghost use Rattle.warg_map.specs.Private.Side.{side_bit};
+    ghost use Rattle.warg_crypto.specs.Sides.{side_bit};
     ghost use Rattle.warg_map.specs.Private.Seen.{IsForkOf};
 
     /// The fork of two links.
@@ -64,7 +62,7 @@ impl<D: SupportedDigest, A: Allocator> Index<Side> for Fork<D, A> {
     type Output = Link<D, A>;
 
     ghost use Rattle.std.specs.Prelude.{◌≡◌, if◌then◌else◌};
-    ghost use Rattle.warg_map.specs.Private.Side.{side_bit};
+    ghost use Rattle.warg_crypto.specs.Sides.{side_bit};
 
     ghost index_gives = { λ f side link. link ≡ (if side_bit side then f.right else f.left) };
 
@@ -73,15 +71,5 @@ impl<D: SupportedDigest, A: Allocator> Index<Side> for Fork<D, A> {
             Side::Left => &self.left,
             Side::Right => &self.right,
         }
-    }
-}
-
-impl<D: SupportedDigest, A: Allocator> Clone for Fork<D, A> {
-    ghost use Rattle.std.specs.Prelude.{◌≡◌};
-
-    ghost is_clone = { λ f copy. copy ≡ f };
-
-    fn clone(&self) -> Result<Fork<D, A>, AllocError> {
-        Ok(Fork::new(self.left.clone()?, self.right.clone()?))
     }
 }

@@ -9,11 +9,11 @@ ghost use Rattle.warg_map.specs.Private.Seen.{tree_height, held_by, IsWellFormed
 use crate::fork::Fork;
 use crate::link::Link;
 use crate::node::Node;
-use crate::path::{Path, Side, shared_bits, side_at};
+use crate::path::{Path, shared_bits, side_at};
 use crate::singleton::Singleton;
 use std::alloc::{AllocError, Allocator};
 use std::rc::Rc;
-use warg_crypto::{Hash, SupportedDigest};
+use warg_crypto::{Hash, Side, SupportedDigest};
 
 // How many bits from bit `from` on all the leaves' key digests share with one.
 fn shared_by_all<D>(key: &Hash<D>, leaves: &[(Hash<D>, Hash<D>)], from: usize) -> usize
@@ -63,7 +63,7 @@ fn lone<D: SupportedDigest, A: Allocator + Copy>(
         (map.insert map.empty (last_bits key (256 - depth)) value)) }
 {
     if depth == 0 {
-        let (node, _) = Node::Empty(256).insert(alloc, &mut Path::new(&key), value)?;
+        let (node, _) = Node::Empty.insert(alloc, Path::new(&key), value)?;
         return Ok(node);
     }
     let lone = Singleton::new(key, value, 256 - depth);
@@ -119,7 +119,7 @@ fn one_by_one<D: SupportedDigest, A: Allocator + Copy>(
     for (key, value) in leaves {
         let mut path = Path::new(&key);
         path.advance(depth);
-        let (next, is_new) = grown.insert(alloc, &mut path, value)?;
+        let (next, is_new) = grown.insert(alloc, path, value)?;
         grown = next;
         if is_new {
             fresh += 1;
@@ -147,7 +147,7 @@ pub(crate) fn spread<D: SupportedDigest, A: Allocator + Copy>(
         return Ok((link.clone()?, 0));
     }
     match link.node() {
-        Node::Empty(_) => {
+        Node::Empty => {
             let (node, fresh) = grown(alloc, leaves, depth)?;
             Ok((Link::new(node), fresh))
         }

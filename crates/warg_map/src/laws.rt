@@ -2,7 +2,7 @@
 
 ghost use Rattle.std.specs.Prelude.{◌≡◌, ℕ, List, Bool, Option, Some, length, ◌+◌, ◌≤◌, ◌++◌};
 ghost use Rattle.std.specs.Option.{option_map};
-ghost use Rattle.std.specs.FinMap.{get};
+ghost use Rattle.std.specs.FinMap.{get, insert};
 ghost use Rattle.std.specs.List.Sorted.{IsPermutation};
 ghost use Rattle.std.specs.Ordering.{nat_cmp};
 ghost use Rattle.std.specs.Cmp.Lexicographic.{slice_cmp};
@@ -13,7 +13,7 @@ ghost use Rattle.warg_crypto.specs.Tree.{leaf_digest};
 ghost use Rattle.warg_map.specs.Sparse.{SparseMap, HasLevels, bits_cmp, root_of_levels, sparse_root, leaf_at, inserted, map_of, HasDistinctKeys};
 ghost use Rattle.warg_map.specs.Last.{last_under};
 ghost use Rattle.warg_map.specs.ProofValue.{proof_value};
-ghost use Rattle.warg_map.specs.Peers.{Proves, ProvesAbsent};
+ghost use Rattle.warg_map.specs.Peers.{Proves, ProvesAbsent, ProvesEmpty};
 
 use crate::map::Map;
 use std::alloc::Allocator;
@@ -38,6 +38,27 @@ pub fn one_absence_proof()
     ensures { (H : List ℕ → List ℕ) (m : SparseMap) (bits : List Bool)
         (ps qs : List (Option (List ℕ))) → ProvesAbsent H m bits ps → ProvesAbsent H m bits qs
         → ps ≡ qs }
+{}
+
+/// The proof of held bits leads from the leaf digest that is held to the map's root, and from any leaf digest to the
+/// root of the map that holds this one in its place.
+pub fn own_proof()
+    ensures { (H : List ℕ → List ℕ) (m : SparseMap) (bits : List Bool)
+        (peers : List (Option (List ℕ))) (x : List ℕ) → length bits ≡ 256
+        → Proves H 256 m bits peers
+        → (get m bits ≡ Some x → proof_value H peers x bits ≡ sparse_root H 256 m)
+        × (proof_value H peers x bits ≡ sparse_root H 256 (insert m bits x)) }
+{}
+
+/// The proof that the leaf digest of bits is that of an empty leaf leads from this one to the map's root, and from any
+/// leaf digest to the root of the map that holds it there.
+pub fn own_absence()
+    ensures { (H : List ℕ → List ℕ) (m : SparseMap) (bits : List Bool)
+        (peers : List (Option (List ℕ))) (x : List ℕ) → length bits ≡ 256
+        → ProvesEmpty H m bits peers
+        → (leaf_at H m bits ≡ empty_root H 0
+        → proof_value H peers (empty_root H 0) bits ≡ sparse_root H 256 m)
+        × (proof_value H peers x bits ≡ sparse_root H 256 (insert m bits x)) }
 {}
 
 /// Two maps with the same leaf digest under each key's bits have one root. Where no key is held, that is the digest of

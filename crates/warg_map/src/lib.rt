@@ -10,12 +10,11 @@
 //!   fork         two nodes of one height, each with a key
 //!   stem         a run of bits beside which all is empty, over a fork
 //!   singleton    a lone key, whatever the height
-//!   leaf         what is left of a lone key at no height
 //! ```
 //!
 //! The modules stand on one another in this order: `path` (bits of a digest), `singleton`, `fork`, `stem`, `link` (a
-//! node with its digest), `node`, `grown` (many leaves at once), `proof`, `map`, `proof_bundle`, and `laws` (what
-//! follows from the definitions alone).
+//! node with its digest), `node`, `walk` (down to a key, for its proof), `grown` (many leaves at once), `proof`, `map`,
+//! and `laws` (what follows from the definitions alone).
 #![tactic(auto)]
 
 mod fork;
@@ -26,10 +25,9 @@ mod map;
 mod node;
 mod path;
 mod proof;
-mod proof_bundle;
 mod singleton;
 mod stem;
+mod walk;
 
-pub use map::{Insertion, Map, MapError};
+pub use map::{Insertion, KeyProof, Map, MapError};
 pub use proof::Proof;
-pub use proof_bundle::{ProofBundle, ProofBundle as MapProofBundle};

@@ -7,26 +7,27 @@ ghost use Rattle.warg_map.specs.Bits.{key_bits, last_bits};
 ghost use Rattle.warg_crypto.specs.EmptyTrees.{empty_root};
 ghost use Rattle.warg_crypto.specs.Tree.{leaf_digest};
 ghost use Rattle.warg_map.specs.Sparse.{HasLevels, sparse_root, leaf_at, inserted, pair_bytes};
-ghost use Rattle.warg_map.specs.ProofValue.{proof_value};
-ghost use Rattle.warg_map.specs.Peers.{Proves, ProvesAbsent};
+ghost use Rattle.warg_map.specs.Peers.{Proves, ProvesEmpty};
+ghost use Rattle.warg_map.specs.Private.Walk.{IsWanted, AnswersWanted};
 ghost use Rattle.warg_map.specs.Count.{node_count};
 
 mod insertion;
-mod serve;
+mod key_proof;
 
 use crate::grown::spread;
 use crate::link::Link;
 use crate::node::Node;
 use crate::path::Path;
 use crate::proof::Proof;
+use crate::walk::Wanted;
 pub use insertion::Insertion;
+pub use key_proof::KeyProof;
 use std::alloc::{AllocError, Allocator, Global};
 use std::fmt;
 use std::fmt::Debug;
 use std::marker::{Model, PhantomData};
 use thiserror::Error;
-use warg_crypto::{Hash, SupportedDigest, VisitBytes, empty_tree_hash};
-use warg_log::hash_leaf;
+use warg_crypto::{Hash, SupportedDigest, VisitBytes, hash_leaf};
 
 /// Why an insertion was refused. The map that it was to go into stays as it was.
 #[derive(Debug, PartialEq, Eq, Drop, Error)]
@@ -216,7 +217,7 @@ impl<D: SupportedDigest, K: VisitBytes + Drop, V: VisitBytes + Drop, A: Allocato
         ensures { result ≡ map.empty }
     {
         Map {
-            link: Link::new(Node::Empty(256)),
+            link: Link::new(Node::Empty),
             count: 0,
             alloc,
             key: PhantomData,
@@ -227,35 +228,18 @@ impl<D: SupportedDigest, K: VisitBytes + Drop, V: VisitBytes + Drop, A: Allocato
     /// The proof of what is held under `key`, or `None` exactly if its digest isn't held, which takes no memory.
     ///
     /// The proof has one peer more than the most bits that the key's digest shares with another that is held, and one for
-    /// a lone key.
+    /// a lone key. It leads from the leaf digest that is held to the root ([`own_proof`](crate::laws::own_proof)).
     ///
     /// It takes the key by value, as the Rust crate does, where [`evaluate`](Proof::evaluate) lends it: whoever evaluates
     /// the proof keeps a copy, which costs nothing for a reference, and a growth and the key's bytes for an owned one.
     pub fn prove(&self, key: K) -> Result<Option<Proof<D, K, V, A>>, AllocError>
-        ensures answer { IfOk result (λ o.
-            MatchOption o
-            (map.contains_key self.now (key_bits D.digest (K.bytes key)) ≡ false)
-            (λ p. Proves D.digest 256 self.now (key_bits D.digest (K.bytes key)) p)) }
-
+        ensures answer { let bits = key_bits D.digest (K.bytes key) in
+            IfOk result (λ o. MatchOption o (map.contains_key self.now bits ≡ false)
+            (Proves D.digest 256 self.now bits)) }
         ensures none { map.contains_key self.now (key_bits D.digest (K.bytes key)) ≡ false
             → result ≡ Ok None }
-
-        // From the leaf digest that is held the proof leads to the root.
-        ensures honest { IfOk result (λ o. IfSome o (λ p.
-            (x : List ℕ) → map.get self.now (key_bits D.digest (K.bytes key)) ≡ Some x
-            → proof_value D.digest p x (key_bits D.digest (K.bytes key))
-            ≡ sparse_root D.digest 256 self.now)) }
-
-        // From any leaf digest it leads to the root of the map that holds this one in its place.
-        ensures replaced { IfOk result (λ o. IfSome o (λ p.
-            (x : List ℕ) → proof_value D.digest p x (key_bits D.digest (K.bytes key))
-            ≡ sparse_root D.digest 256 (map.insert self.now (key_bits D.digest (K.bytes key)) x))) }
     {
-        let key = Hash::of(&key);
-        let Some(proof) = self.link.node().prove(self.alloc, Path::new(&key))? else {
-            return Ok(None);
-        };
-        Ok(Some(proof))
+        self.proof_of(&Hash::of(&key), Wanted::Leaf)
     }
 
     /// The proof that the leaf digest under `key` is that of an empty leaf, or `None` exactly if it isn't, which takes
@@ -264,36 +248,39 @@ impl<D: SupportedDigest, K: VisitBytes + Drop, V: VisitBytes + Drop, A: Allocato
     /// For a key whose digest isn't held the proof has one peer more than the most bits that this digest shares with one
     /// that is held, and none in the empty map; a peer is `None` where its subtree holds no key. For one that is held
     /// with the digest of an empty leaf, as a value without bytes gives it, it is the proof of [`prove`](Map::prove). It
-    /// takes the key by value, as that does.
+    /// leads from an empty leaf to the root ([`own_absence`](crate::laws::own_absence)), and takes the key by value, as
+    /// `prove` does.
     pub fn prove_absence(&self, key: K) -> Result<Option<Proof<D, K, V, A>>, AllocError>
-        ensures empty { IfOk result (λ o. IsSome o
-            ↔ (leaf_at D.digest self.now (key_bits D.digest (K.bytes key))
-            ≡ empty_root D.digest 0)) }
-        ensures peers { IfOk result (λ o. IfSome o (λ p.
-            MatchOption (map.get self.now (key_bits D.digest (K.bytes key)))
-            (ProvesAbsent D.digest self.now (key_bits D.digest (K.bytes key)) p)
-            (λ _. Proves D.digest 256 self.now (key_bits D.digest (K.bytes key)) p))) }
+        ensures empty { let bits = key_bits D.digest (K.bytes key) in
+            IfOk result (λ o. IsSome o ↔ (leaf_at D.digest self.now bits ≡ empty_root D.digest 0)) }
+        ensures peers { let bits = key_bits D.digest (K.bytes key) in
+            IfOk result (λ o. IfSome o (ProvesEmpty D.digest self.now bits)) }
         ensures none { leaf_at D.digest self.now (key_bits D.digest (K.bytes key))
             ≢ empty_root D.digest 0 → result ≡ Ok None }
-
-        // From an empty leaf the proof leads to the root.
-        ensures honest { IfOk result (λ o. IfSome o (λ p.
-            proof_value D.digest p (empty_root D.digest 0) (key_bits D.digest (K.bytes key))
-            ≡ sparse_root D.digest 256 self.now)) }
     {
         let key = Hash::of(&key);
-        let node = self.link.node();
-        let Some(leaf) = node.find(Path::new(&key)) else {
-            let proof = node.prove_absent(self.alloc, Path::new(&key))?;
-            return Ok(Some(proof));
-        };
-        if leaf != empty_tree_hash(0) {
-            return Ok(None);
-        }
-        let Some(proof) = node.prove(self.alloc, Path::new(&key))? else {
-            unreachable!()
+        let Some(proof) = self.proof_of(&key, Wanted::NoLeaf)? else {
+            return self.proof_of(&key, Wanted::EmptyLeaf);
         };
         Ok(Some(proof))
+    }
+
+    // The proof of what is wanted under a key digest, or `None` exactly if it isn't there, which takes no memory.
+    pub(crate) fn proof_of(
+        &self,
+        key: &Hash<D>,
+        wanted: Wanted,
+    ) -> Result<Option<Proof<D, K, V, A>>, AllocError>
+        ensures answer { let bits = last_bits key.now 256 in
+            IfOk result (AnswersWanted D.digest wanted self.now bits) }
+        ensures none { ¬ (IsWanted D.digest wanted (map.get self.now (last_bits key.now 256)))
+            → result ≡ Ok None }
+    {
+        let mut peers = Vec::new(self.alloc);
+        if !self.link.node().walk(Path::new(key), wanted, &mut peers)? {
+            return Ok(None);
+        }
+        Ok(Some(Proof::new(peers)))
     }
 
     /// The map with `val` under `key`, in place of what was held under the key's digest.
@@ -319,13 +306,11 @@ impl<D: SupportedDigest, K: VisitBytes + Drop, V: VisitBytes + Drop, A: Allocato
             ↔ ((map.len self.now ≡ usize.MAX)
             × (map.contains_key self.now (last_bits key.now 256) ≡ false)) }
     {
-        let node = self.link.node();
-        let len = self.len();
-        let counted = len < usize::MAX || node.find(Path::new(key)).is_some();
-        if !counted {
+        if self.is_full_for(key) {
             return Err(MapError::Full);
         }
-        let (node, fresh) = node.insert(self.alloc, &mut Path::new(key), leaf)?;
+        let len = self.len();
+        let (node, fresh) = self.link.node().insert(self.alloc, Path::new(key), leaf)?;
         let count = if fresh { len + 1 } else { len };
         let map = Map {
             link: Link::new(node),
@@ -335,6 +320,14 @@ impl<D: SupportedDigest, K: VisitBytes + Drop, V: VisitBytes + Drop, A: Allocato
             value: PhantomData,
         };
         Ok((map, fresh))
+    }
+
+    // Whether a key digest is one too many: a new one, where as many are held as can be counted.
+    fn is_full_for(&self, key: &Hash<D>) -> bool
+        ensures { IsTrue result ↔ ((map.len self.now ≡ usize.MAX)
+            × (map.contains_key self.now (last_bits key.now 256) ≡ false)) }
+    {
+        self.len() == usize::MAX && matches!(self.proof_of(key, Wanted::Leaf), Ok(None))
     }
 
     /// The map with all the pairs of an iterator inserted, in order.

@@ -8,13 +8,12 @@ ghost use Rattle.warg_map.specs.Private.Under.{join_at, under, HoldsKey};
 
 use crate::fork::Fork;
 use crate::link::Link;
-use crate::path::{Path, Side, side_at};
-use crate::proof::Proof;
+use crate::path::{Path, side_at};
 use crate::singleton::Singleton;
 use crate::stem::Stem;
 use std::alloc::{AllocError, Allocator, Global};
 use std::rc::Rc;
-use warg_crypto::{Hash, SupportedDigest, empty_tree_hash};
+use warg_crypto::{Hash, Side, SupportedDigest, empty_tree_hash};
 
 /// A node of the tree, with what stands below it.
 ///
@@ -24,16 +23,14 @@ use warg_crypto::{Hash, SupportedDigest, empty_tree_hash};
 #[cycle(tree)]
 #[derive(Drop)]
 pub enum Node<D: SupportedDigest, A: Allocator = Global> {
-    /// A leaf, with the digest of its value.
-    Leaf(Rc<Hash<D>, A>),
     /// Two nodes of one height, each of which holds a key.
     Fork(Rc<Fork<D, A>, A>),
-    /// A lone key.
+    /// A lone key, at any height.
     Singleton(Rc<Singleton<D>, A>),
     /// A run of bits over one node.
     Stem(Rc<Stem<D, A>, A>),
-    /// A tree of some height that holds nothing.
-    Empty(usize),
+    /// The whole tree of 256 levels, where it holds nothing.
+    Empty,
 }
 
 impl<D: SupportedDigest, A: Allocator> Node<D, A> {
@@ -46,11 +43,10 @@ impl<D: SupportedDigest, A: Allocator> Node<D, A> {
         ensures { result ≡ sparse_root D.digest (tree_height self.now) (held_by self.now) }
     {
         match self {
-            Node::Leaf(hash) => hash.copied(),
             Node::Fork(fork) => fork.hash(),
             Node::Singleton(singleton) => singleton.hash(),
             Node::Stem(stem) => stem.hash(),
-            Node::Empty(height) => empty_tree_hash(*height),
+            Node::Empty => empty_tree_hash(256),
         }
     }
 }
@@ -123,202 +119,40 @@ impl<D: SupportedDigest, A: Allocator + Copy> Node<D, A> {
     pub fn insert(
         &self,
         alloc: A,
-        path: &mut Path<'_, D>,
+        mut path: Path<'_, D>,
         value: Hash<D>,
     ) -> Result<(Node<D, A>, bool), AllocError>
         requires well_formed { IsWellFormed self.now }
-        requires height { tree_height self.now + path.old.index ≡ 256 }
-        ensures { IfOk result (λ p. Inserts (seen self.now) (bits_left path.old) value p.0 p.1) }
+        requires height { tree_height self.now + path.index ≡ 256 }
+        ensures { IfOk result (λ p. Inserts (seen self.now) (bits_left path.entry) value p.0 p.1) }
     {
+        let key = path.hash();
         match self {
-            Node::Leaf(_) => Ok((Node::Leaf(Rc::new(alloc, value)?), false)),
-            Node::Empty(_) => {
-                let lone = Rc::new(alloc, Singleton::new(path.hash().copied(), value, 255))?;
-                let node = Node::with_stem(alloc, path.hash(), 0, 1, Node::Singleton(lone))?;
+            Node::Empty => {
+                let lone = Rc::new(alloc, Singleton::new(key.copied(), value, 255))?;
+                let node = Node::with_stem(alloc, key, 0, 1, Node::Singleton(lone))?;
                 Ok((node, true))
             }
             Node::Fork(fork) => {
                 let fork = fork.as_ref();
-                let Some(side) = path.next() else {
-                    unreachable!()
-                };
+                let side = path.take_side();
                 let (node, fresh) = fork[side].node().insert(alloc, path, value)?;
                 let fork = fork.with_side(side, Link::new(node))?;
                 Ok((Node::Fork(Rc::new(alloc, fork)?), fresh))
             }
-            Node::Singleton(singleton) => {
-                let key = path.hash().copied();
-                let Some(side) = path.next() else {
-                    return Ok((Node::Leaf(Rc::new(alloc, value)?), false));
-                };
-                singleton.insert(alloc, path, key, value, side)
-            }
+            Node::Singleton(singleton) => singleton.insert(alloc, &path, value),
             Node::Stem(stem) => {
                 let stem = stem.as_ref();
-                let key = path.hash().copied();
                 let from = path.index();
-                let shared = stem.shared_with(path);
+                let shared = stem.shared_with(&path);
                 if shared < stem.len {
                     let far = stem.rest(alloc, shared + 1)?;
-                    let node = Node::parted(alloc, &key, value, from, shared, far)?;
+                    let node = Node::parted(alloc, key, value, from, shared, far)?;
                     return Ok((node, true));
                 }
                 path.advance(shared);
                 let (node, fresh) = stem.below.node().insert(alloc, path, value)?;
-                Ok((Node::with_stem(alloc, &key, from, shared, node)?, fresh))
-            }
-        }
-    }
-}
-
-impl<D: SupportedDigest, A: Allocator> Node<D, A> {
-    ghost use Rattle.warg_map.specs.Private.Path.{bits_left};
-    ghost use Rattle.warg_map.specs.Private.Seen.{tree_height, held_by, IsWellFormed};
-
-    /// The leaf digest that is held under the bits that the path has left.
-    pub(crate) fn find(&self, mut path: Path<'_, D>) -> Option<Hash<D>>
-        requires well_formed { IsWellFormed self.now }
-        requires height { tree_height self.now + path.index ≡ 256 }
-        ensures { result ≡ map.get (held_by self.now) (bits_left path.entry) }
-    {
-        match self {
-            Node::Leaf(hash) => Some(hash.copied()),
-            Node::Empty(_) => None,
-            Node::Fork(fork) => {
-                let fork = fork.as_ref();
-                let Some(side) = path.next() else {
-                    unreachable!()
-                };
-                fork[side].node().find(path)
-            }
-            Node::Singleton(singleton) => {
-                let singleton = singleton.as_ref();
-                if singleton.shared_with(&path) < singleton.height() {
-                    return None;
-                }
-                Some(singleton.value().copied())
-            }
-            Node::Stem(stem) => {
-                let stem = stem.as_ref();
-                if stem.shared_with(&path) < stem.len {
-                    return None;
-                }
-                path.advance(stem.len);
-                stem.below.node().find(path)
-            }
-        }
-    }
-}
-
-impl<D: SupportedDigest, A: Allocator + Copy> Node<D, A> {
-    ghost use Rattle.std.specs.Prelude.{MatchOption, None, Ok, false, length, IfSome};
-    ghost use Rattle.warg_map.specs.Private.Path.{bits_left};
-    ghost use Rattle.warg_map.specs.Peers.{Proves};
-    ghost use Rattle.warg_map.specs.Private.Seen.{tree_height, held_by, IsWellFormed};
-
-    /// The proof that the bits that the path has left are held, or `None` exactly if they aren't, which takes no memory.
-    pub fn prove<K, V>(
-        &self,
-        alloc: A,
-        mut path: Path<'_, D>,
-    ) -> Result<Option<Proof<D, K, V, A>>, AllocError>
-        requires well_formed { IsWellFormed self.now }
-        requires height { tree_height self.now + path.index ≡ 256 }
-        ensures answer { IfOk result (λ o.
-            MatchOption o
-            (map.contains_key (held_by self.now) (bits_left path.entry) ≡ false)
-            (λ p. Proves D.digest (tree_height self.now) (held_by self.now)
-            (bits_left path.entry) p)) }
-        ensures none { map.contains_key (held_by self.now) (bits_left path.entry) ≡ false
-            → result ≡ Ok None }
-        ensures few { IfOk result (λ o. IfSome o (λ p. length p ≤ tree_height self.now)) }
-    {
-        match self {
-            Node::Leaf(_) => Ok(Some(Proof::with_room(alloc, path.index())?)),
-            Node::Empty(_) => Ok(None),
-            Node::Fork(fork) => {
-                let fork = fork.as_ref();
-                let Some(side) = path.next() else {
-                    unreachable!()
-                };
-                let Some(mut proof) = fork[side].node().prove(alloc, path)? else {
-                    return Ok(None);
-                };
-                proof.push(Some(fork[side.opposite()].hash().copied()))?;
-                Ok(Some(proof))
-            }
-            Node::Singleton(singleton) => {
-                let singleton = singleton.as_ref();
-                if singleton.shared_with(&path) < singleton.height() {
-                    return Ok(None);
-                }
-                Ok(Some(Proof::with_room(alloc, path.index())?))
-            }
-            Node::Stem(stem) => {
-                let stem = stem.as_ref();
-                if stem.shared_with(&path) < stem.len {
-                    return Ok(None);
-                }
-                path.advance(stem.len);
-                let Some(mut proof) = stem.below.node().prove(alloc, path)? else {
-                    return Ok(None);
-                };
-                proof.push_empties(256 - stem.from - stem.len, stem.len)?;
-                Ok(Some(proof))
-            }
-        }
-    }
-}
-
-impl<D: SupportedDigest, A: Allocator + Copy> Node<D, A> {
-    ghost use Rattle.std.specs.Prelude.{false, length};
-    ghost use Rattle.warg_map.specs.Private.Path.{bits_left};
-    ghost use Rattle.warg_map.specs.Peers.{ProvesAbsent};
-    ghost use Rattle.warg_map.specs.Private.Seen.{tree_height, held_by, IsWellFormed};
-
-    /// The proof that the bits that the path has left aren't held.
-    pub(crate) fn prove_absent<K, V>(
-        &self,
-        alloc: A,
-        mut path: Path<'_, D>,
-    ) -> Result<Proof<D, K, V, A>, AllocError>
-        requires well_formed { IsWellFormed self.now }
-        requires height { tree_height self.now + path.index ≡ 256 }
-        requires absent { map.contains_key (held_by self.now) (bits_left path) ≡ false }
-        ensures answer { IfOk result (λ p. ProvesAbsent D.digest (held_by self.now)
-            (bits_left path.entry) p) }
-        ensures few { IfOk result (λ p. length p ≤ tree_height self.now) }
-    {
-        match self {
-            Node::Leaf(_) => unreachable!(),
-            Node::Empty(_) => Ok(Proof::new(Vec::new(alloc))),
-            Node::Fork(fork) => {
-                let fork = fork.as_ref();
-                let Some(side) = path.next() else {
-                    unreachable!()
-                };
-                let mut proof = fork[side].node().prove_absent(alloc, path)?;
-                let far = fork[side.opposite()].hash();
-                proof.push(Some(far.copied()))?;
-                Ok(proof)
-            }
-            Node::Singleton(singleton) => {
-                let singleton = singleton.as_ref();
-                let shared = singleton.shared_with(&path);
-                let far = singleton.lowered(singleton.height() - shared - 1);
-                Ok(Proof::parted(alloc, far.hash(), shared, path.index())?)
-            }
-            Node::Stem(stem) => {
-                let stem = stem.as_ref();
-                let shared = stem.shared_with(&path);
-                if shared < stem.len {
-                    let far = stem.hash_below(shared + 1);
-                    return Ok(Proof::parted(alloc, far, shared, path.index())?);
-                }
-                path.advance(stem.len);
-                let mut proof = stem.below.node().prove_absent(alloc, path)?;
-                proof.push_missing(stem.len)?;
-                Ok(proof)
+                Ok((Node::with_stem(alloc, key, from, shared, node)?, fresh))
             }
         }
     }
@@ -341,9 +175,8 @@ impl<D: SupportedDigest, A: Allocator> Node<D, A> {
         ensures fewer { Splits (held_by self.now) → result + 3 ≤ 3 * map.len (held_by self.now) }
     {
         match self {
-            Node::Leaf(_) => 1,
             Node::Singleton(_) => 1,
-            Node::Empty(_) => 1,
+            Node::Empty => 1,
             Node::Fork(fork) => {
                 let fork = fork.as_ref();
                 let left = fork[Side::Left].node().count();
@@ -363,11 +196,10 @@ impl<D: SupportedDigest, A: Allocator> Clone for Node<D, A> {
 
     fn clone(&self) -> Result<Node<D, A>, AllocError> {
         Ok(match self {
-            Node::Leaf(hash) => Node::Leaf(hash.clone()?),
             Node::Fork(fork) => Node::Fork(fork.clone()?),
             Node::Singleton(singleton) => Node::Singleton(singleton.clone()?),
             Node::Stem(stem) => Node::Stem(stem.clone()?),
-            Node::Empty(height) => Node::Empty(*height),
+            Node::Empty => Node::Empty,
         })
     }
 }

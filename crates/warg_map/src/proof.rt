@@ -1,20 +1,18 @@
 //! Proofs of presence and absence.
 
-ghost use Rattle.std.specs.Prelude.{◌≡◌, ℕ, ◌+◌, ◌<◌, ◌≤◌, ◌∷◌, ◌++◌, [], length, IfOk, OnOk, Some, None, replicate};
+ghost use Rattle.std.specs.Prelude.{◌≡◌, ◌<◌, ◌≤◌, length};
 ghost use Rattle.warg_crypto.specs.EmptyTrees.{empty_root};
 ghost use Rattle.warg_map.specs.Bits.{key_bits, last_bits};
 ghost use Rattle.warg_crypto.specs.Tree.{leaf_digest};
 ghost use Rattle.warg_map.specs.ProofValue.{peer_of, proof_value};
-ghost use Rattle.warg_map.specs.Private.Under.{empty_peers};
-ghost use Rattle.warg_map.specs.Bundles.{same_peers};
+ghost use Rattle.warg_map.specs.Messages.{same_peers};
 
 mod message;
 
-use crate::path::ReversePath;
-use std::alloc::{AllocError, Allocator, Global};
+use crate::path::side_at;
+use std::alloc::{Allocator, Global};
 use std::marker::{Model, PhantomData};
-use warg_crypto::{Hash, SupportedDigest, VisitBytes, empty_tree_hash};
-use warg_log::hash_leaf;
+use warg_crypto::{Hash, SupportedDigest, VisitBytes, empty_tree_hash, hash_leaf};
 
 /// A proof of what a map holds under a key, or that it holds nothing there.
 ///
@@ -43,7 +41,7 @@ impl<D, K, V, A: Allocator> PartialEq for Proof<D, K, V, A> {
     ghost use Rattle.std.specs.Prelude.{◌≡◌, ◌↔◌, IsTrue};
     ghost use Rattle.std.specs.Cmp.Rules.{comparing};
     ghost use Rattle.std.proofs.Common.{rules};
-    ghost use Rattle.warg_map.specs.Bundles.{same_peers};
+    ghost use Rattle.warg_map.specs.Messages.{same_peers};
 
     ghost eq = { same_peers };
 
@@ -84,56 +82,12 @@ impl<D, K, V, A: Allocator> Proof<D, K, V, A> {
         }
     }
 
-    /// The proof of no peers, with room for `room` of them.
-    pub(crate) fn with_room(alloc: A, room: usize) -> Result<Proof<D, K, V, A>, AllocError>
-        ensures { IfOk result (λ p. p ≡ []) }
-    {
-        Ok(Proof::new(Vec::with_capacity(alloc, room)?))
-    }
-
-    /// Adds a peer at the top.
-    pub(crate) fn push(&mut self, peer: Option<Hash<D>>) -> Result<(), AllocError>
-        requires { length self.old < 256 }
-        ensures { OnOk result (self.new ≡ self.old ++ peer ∷ []) }
-    {
-        self.peers.push(peer)?;
-        Ok(())
-    }
-
-    /// Adds `len` times `None` at the top.
-    pub(crate) fn push_missing(&mut self, len: usize) -> Result<(), AllocError>
-        requires { length self.old + len ≤ 256 }
-        ensures { OnOk result (self.new ≡ self.old ++ replicate len None) }
-    {
-        for _ in 0..len {
-            self.push(None)?;
-        }
-        Ok(())
-    }
-
     /// The peers, from the bottom of the tree to the top: at most 256.
     pub fn peers(&self) -> &[Option<Hash<D>>]
         ensures value { result.now ≡ self.now }
         ensures few { length self.now ≤ 256 }
     {
         &self.peers
-    }
-
-    /// The proof with one peer below `missing` times `None`, and room for `above` more.
-    pub(crate) fn parted(
-        alloc: A,
-        peer: Hash<D>,
-        missing: usize,
-        above: usize,
-    ) -> Result<Proof<D, K, V, A>, AllocError>
-        requires place { missing < 256 }
-        requires room { above ≤ 256 }
-        ensures { IfOk result (λ p. p ≡ Some peer ∷ replicate missing None) }
-    {
-        let mut proof = Proof::with_room(alloc, 1 + missing + above)?;
-        proof.push(Some(peer))?;
-        proof.push_missing(missing)?;
-        Ok(proof)
     }
 }
 
@@ -148,20 +102,6 @@ impl<D, K, V, A: Allocator> From<Proof<D, K, V, A>> for Vec<Option<Hash<D>>, A> 
 }
 
 impl<D: SupportedDigest, K, V, A: Allocator> Proof<D, K, V, A> {
-    /// Adds the digests of the empty trees of `len` heights at the top, the first of height `least_height`.
-    pub(crate) fn push_empties(&mut self, least_height: usize, len: usize) -> Result<(), AllocError>
-        requires room { length self.old + len ≤ 256 }
-        requires heights { least_height + len ≤ 256 }
-        ensures { OnOk result (self.new ≡ self.old ++ empty_peers D.digest least_height len) }
-    {
-        let mut empty = empty_tree_hash::<D>(least_height);
-        for pushed in 0..len {
-            self.push(Some(empty.copied()))?;
-            empty = D::empty_above(least_height + pushed, &empty);
-        }
-        Ok(())
-    }
-
     /// The peer of a height, where `empty` is the digest of the empty tree of that height.
     fn peer<'a>(&'a self, height: usize, empty: &'a Hash<D>) -> &'a Hash<D>
         requires place { height < 256 }
@@ -185,12 +125,9 @@ impl<D: SupportedDigest, K, V, A: Allocator> Proof<D, K, V, A> {
     {
         let mut hash = leaf;
         let mut empty = empty_tree_hash(0);
-        let mut height = 0;
-        let mut path = ReversePath::new(key.copied());
-        while let Some(side) = path.next() {
-            hash = side.branch(&hash, self.peer(height, &empty));
+        for height in 0..256 {
+            hash = side_at(key, 255 - height).branch(&hash, self.peer(height, &empty));
             empty = D::empty_above(height, &empty);
-            height += 1;
         }
         hash
     }

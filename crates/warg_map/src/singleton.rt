@@ -1,13 +1,13 @@
 //! Lone keys.
 
-ghost use Rattle.std.specs.Prelude.{◌≡◌, ℕ, ◌+◌, ◌-◌, ◌<◌, ◌≤◌, ◌∷◌, IfOk};
+ghost use Rattle.std.specs.Prelude.{◌≡◌, ℕ, ◌+◌, ◌-◌, ◌<◌, ◌≤◌, IfOk};
 ghost use Rattle.warg_map.specs.Bits.{bit_at, bits_from};
 ghost use Rattle.warg_map.specs.Sparse.{sparse_root};
 ghost use Rattle.warg_map.specs.Private.Lone.{held_alone, IsKept};
 
 use crate::link::Link;
 use crate::node::Node;
-use crate::path::{Path, Side, shared_bits};
+use crate::path::{Path, shared_bits};
 use crate::stem::stem_digest;
 use std::alloc::{AllocError, Allocator};
 use std::marker::Model;
@@ -63,21 +63,7 @@ impl<D: SupportedDigest> Drop for Singleton<D> {
     }
 }
 
-/// Never refuses: a lone key takes no memory beside its own.
-impl<D: SupportedDigest> Clone for Singleton<D> {
-    ghost use Rattle.std.specs.Prelude.{◌≡◌, ⊤};
-
-    ghost is_clone = { λ s copy. copy ≡ s };
-
-    ghost is_infallible = { λ _. ⊤ };
-
-    fn clone(&self) -> Result<Singleton<D>, AllocError> {
-        Ok(self.lowered(self.height))
-    }
-}
-
 impl<D: SupportedDigest> Singleton<D> {
-    ghost use Rattle.warg_map.specs.Private.Side.{side_bit};
     ghost use Rattle.warg_map.specs.Private.Path.{bits_left};
     ghost use Rattle.warg_map.specs.Private.Seen.{Inserts};
 
@@ -95,13 +81,6 @@ impl<D: SupportedDigest> Singleton<D> {
             kept,
             height,
         }
-    }
-
-    /// The digest of the key.
-    pub fn key(&self) -> &Hash<D>
-        ensures { result.now ≡ self.now.key }
-    {
-        &self.key
     }
 
     /// The leaf digest.
@@ -158,32 +137,27 @@ impl<D: SupportedDigest> Singleton<D> {
         shared_bits(&self.key, path.hash(), path.index(), self.height)
     }
 
-    /// The node after an insertion of `value` under `key`, of which `path` has taken the bit `cur_side`, the first below
-    /// this node, and whether the key is new.
+    /// The node after an insertion of `value` under the path's digest, and whether that is a new key.
     pub fn insert<A: Allocator + Copy>(
         &self,
         alloc: A,
-        path: &mut Path<'_, D>,
-        key: Hash<D>,
+        path: &Path<'_, D>,
         value: Hash<D>,
-        _cur_side: Side,
     ) -> Result<(Node<D, A>, bool), AllocError>
         requires formed { self.now.height < 256 }
-        requires height { self.now.height + path.old.index ≡ 257 }
-        requires key { key ≡ path.old.hash.now }
-        requires side { side_bit _cur_side ≡ bit_at key (256 - self.now.height) }
+        requires height { self.now.height + path.now.index ≡ 256 }
         ensures { IfOk result (λ p. Inserts (self.now.height, held_alone self.now)
-            (side_bit _cur_side ∷ bits_left path.old) value p.0 p.1) }
+            (bits_left path.now) value p.0 p.1) }
     {
-        let from = path.index() - 1;
-        let shared = shared_bits(&self.key, &key, from, self.height);
+        let key = path.hash();
+        let shared = self.shared_with(path);
         if shared == self.height {
-            let same = Singleton::new(key, value, self.height);
+            let same = Singleton::new(key.copied(), value, self.height);
             return Ok((Node::Singleton(Rc::new(alloc, same)?), false));
         }
         let far = self.lowered(self.height - shared - 1);
         let far = Link::new(Node::Singleton(Rc::new(alloc, far)?));
-        let node = Node::parted(alloc, &key, value, from, shared, far)?;
+        let node = Node::parted(alloc, key, value, path.index(), shared, far)?;
         Ok((node, true))
     }
 }

@@ -7,8 +7,8 @@ ghost use Rattle.warg_paths.specs.Paths.{beside, path_at_end, consistency_over, 
 use crate::error::PathError;
 use crate::front::front_of;
 use std::alloc::Allocator;
-use warg_crypto::{Hash, SupportedDigest, VisitBytes};
-use warg_log::{Checkpoint, LeafRange, LogData, hash_branch, stored_root};
+use warg_crypto::{Hash, SupportedDigest, VisitBytes, hash_branch};
+use warg_log::{Checkpoint, LeafRange, LogData, stored_root};
 
 /// The consistency path from the first `old_length` entries to the first `new_length`, by the digests that the data
 /// holds: each is the stored root of a part of the new log, from the bottom up (RFC 6962, section 2.1.2).

@@ -8,8 +8,8 @@ ghost use Rattle.warg_paths.specs.Paths.{beside, inclusion_over, inclusion_of, i
 use crate::error::PathError;
 use crate::front::front_of;
 use std::alloc::Allocator;
-use warg_crypto::{Hash, SupportedDigest, VisitBytes};
-use warg_log::{Checkpoint, LeafRange, LogData, hash_branch, hash_leaf, stored_root};
+use warg_crypto::{Hash, SupportedDigest, VisitBytes, hash_branch, hash_leaf};
+use warg_log::{Checkpoint, LeafRange, LogData, stored_root};
 
 /// The inclusion path of the entry at `index`, from 0, in the log of the first `length` entries, by the digests that
 /// the data holds: each is the stored root of the part beside the way, from the bottom up (RFC 6962,

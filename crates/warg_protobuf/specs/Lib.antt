@@ -5,6 +5,7 @@ pub mod Schema
 pub mod Faults
 pub mod Spelled
 pub mod Written
+pub mod Decoding
 pub mod HashEntry
 pub mod LogProofBundle
 pub mod OptionalHash

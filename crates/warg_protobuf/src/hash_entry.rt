@@ -1,10 +1,14 @@
 //! The message `HashEntry`.
+
+ghost use Rattle.std.specs.Prelude.{◌≡◌, IfOk, length};
+
 use crate::error::WireError;
 use crate::field::Field;
 use crate::message::Message;
 use crate::reader::{read_bytes, read_uint32};
 use crate::writer::{push_bytes, push_uint32};
 use std::alloc::{AllocError, Allocator, Global};
+use warg_crypto::Hash;
 
 /// A digest, and the number of the log's node that has it.
 #[derive_where(PartialEq)]
@@ -14,6 +18,21 @@ pub struct HashEntry<A: Allocator = Global> {
     pub index: u32,
     /// The digest, of any length on the wire.
     pub hash: Vec<u8, A>,
+}
+
+impl<A: Allocator> HashEntry<A> {
+    /// The entry of a node's number and digest.
+    pub fn new<D>(alloc: A, index: u32, hash: &Hash<D>) -> Result<Self, AllocError>
+        ensures index { IfOk result (λ entry. entry.index ≡ index) }
+        ensures hash { IfOk result (λ entry. entry.hash.items ≡ hash.now) }
+        ensures length { length hash.now ≡ 32 }
+    {
+        prove_eq!(hash.len(), 32);
+        Ok(HashEntry {
+            index,
+            hash: Vec::from_slice(alloc, hash.bytes())?,
+        })
+    }
 }
 
 #[tactic(auto, unfolding(crate::specs::HashEntry::entry_schema, crate::specs::HashEntry::entry_add, crate::specs::HashEntry::entry_fields, crate::specs::Schema::last_of, crate::specs::Schema::values))]

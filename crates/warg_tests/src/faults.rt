@@ -3,11 +3,12 @@
 use std::alloc::{AllocError, Global};
 use std::fmt::Display;
 use std::test::Fail;
+use warg_bundle::BundleError;
 use warg_check::CheckError;
-use warg_check::program::RunError;
-use warg_log::{BundleError, ConsistencyProofError, DecodeError, EncodeError, InclusionProofError};
+use warg_log::{ConsistencyProofError, InclusionProofError};
 use warg_map::MapError;
-use warg_protobuf::WireError;
+use warg_program::RunError;
+use warg_protobuf::{DecodeError, EncodeError, WireError};
 
 // Whether each fault has its text.
 fn are_texts<E: Display>(alloc: Global, rows: &[(E, &str)]) -> Result<bool, AllocError> {

@@ -5,11 +5,12 @@ use std::alloc::{Allocator, Global};
 use std::cell::Cell;
 use std::hash::{DefaultHasher, Hasher};
 use std::test::Fail;
+use warg_bundle::{MapProofBundle, key_bytes};
 use warg_check::{check_absent, check_key};
 use warg_crypto::Sha256;
 use warg_crypto::weak::Sum;
-use warg_log::EncodeError;
-use warg_map::{Map, MapError, MapProofBundle, Proof};
+use warg_map::{KeyProof, Map, MapError, Proof};
+use warg_protobuf::EncodeError;
 
 // Whether all of these are true. Each of them is looked at.
 fn all(kept: &[bool]) -> bool {
@@ -123,19 +124,36 @@ fn equal_proofs_and_bundles(rt: HostRuntime) -> Result<(), Fail> {
     Ok(())
 }
 
+// A key that is held is proved by its value, and another one by nothing.
+#[test]
+fn keys_proved_held_or_absent(rt: HostRuntime) -> Result<(), Fail> {
+    let map = grown(rt.alloc(), &[("foo", "bar"), ("baz", "bat")])?;
+    match map.prove_key(&"baz")? {
+        KeyProof::Presence(proof) => {
+            assert!(rt; proof.evaluate(&"baz", &"bat") == *map.root());
+        }
+        KeyProof::Absence(_) => Err("a held key is absent")?,
+    }
+    match map.prove_key(&"qux")? {
+        KeyProof::Presence(_) => Err("an absent key is held")?,
+        KeyProof::Absence(proof) => assert!(rt; proof.evaluate_absent(&"qux") == *map.root()),
+    }
+    Ok(())
+}
+
 // The bytes of a key's proof pass the verdict on the key, or that on its absence.
 #[test]
 fn proofs_of_keys_as_bytes(rt: HostRuntime) -> Result<(), Fail> {
     let map = grown(rt.alloc(), &[("foo", "bar"), ("baz", "bat"), ("nil", "")])?;
     let root = map.root();
     for (key, value) in [("foo", "bar"), ("baz", "bat"), ("nil", "")] {
-        let bytes = map.key_bytes(&key)?;
+        let bytes = key_bytes(rt.alloc(), &map, &key)?;
         assert!(rt; check_key(rt.alloc(), bytes.as_slice(), 0, &key, &value, root)?);
     }
-    let absent = map.key_bytes(&"bar")?;
+    let absent = key_bytes(rt.alloc(), &map, &"bar")?;
     assert!(rt; check_absent(rt.alloc(), absent.as_slice(), 0, &"bar", root)?);
     let nothing = grown(rt.alloc(), &[])?;
-    let absent = nothing.key_bytes(&"foo")?;
+    let absent = key_bytes(rt.alloc(), &nothing, &"foo")?;
     assert!(rt; check_absent(rt.alloc(), absent.as_slice(), 0, &"foo", nothing.root())?);
     Ok(())
 }
@@ -150,8 +168,8 @@ fn bytes_of_a_key_with_each_growth_refused(rt: HostRuntime) -> Result<(), Fail> 
             .insert("baz", "bat")?;
         memory.exhaust();
         memory.grant(growths);
-        let held = map.key_bytes(&"foo");
-        let absent = map.key_bytes(&"bar");
+        let held = key_bytes(&memory, &map, &"foo");
+        let absent = key_bytes(&memory, &map, &"bar");
         if !memory.has_refused() {
             assert!(rt; all(&[held?.len() > 2, absent?.len() > 2]));
             return Ok(());

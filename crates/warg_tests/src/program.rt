@@ -2,7 +2,7 @@
 
 use std::io::{Error, ErrorKind, Read, Result as IoResult, Write};
 use std::test::Fail;
-use warg_check::program::{RunError, run};
+use warg_program::{RunError, run};
 
 // Gives one byte at a read, and an error at the read of this number, from 1.
 #[derive(Drop)]

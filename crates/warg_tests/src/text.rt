@@ -2,10 +2,11 @@
 
 use std::cmp::Ordering;
 use std::test::Fail;
+use warg_bundle::LogProofBundle;
 use warg_crypto::laws::{equal_by_bytes, order_by_bytes};
 use warg_crypto::{Hash, Sha256};
 use warg_log::laws::{equal_by_root_and_length, order_by_root_then_length};
-use warg_log::{Checkpoint, GREATEST_LENGTH, Node, ProofBundle};
+use warg_log::{Checkpoint, GREATEST_LENGTH, Node};
 
 // SHA-256 of the byte 00.
 const DIGITS: &str = "6e340b9cffb37a989ca544e6bb780a2c78901d3fb33738768511a30617afa01d";
@@ -72,7 +73,7 @@ fn leaves_by_their_indices(rt: HostRuntime) {
 #[test]
 fn counts_of_a_bundle_s_proofs(rt: HostRuntime) -> Result<(), Fail> {
     let bytes = [8, 3, 18, 1, 2, 26, 2, 0, 4];
-    let bundle: ProofBundle<Sha256, ()> = ProofBundle::decode(rt.alloc(), &bytes)?;
+    let bundle: LogProofBundle<Sha256, ()> = LogProofBundle::decode(rt.alloc(), &bytes)?;
     assert!(rt; bundle.consistency_proof_count() == 1);
     assert!(rt; bundle.inclusion_proof_count() == 2);
     Ok(())

@@ -10,12 +10,11 @@ use Rattle.warg_log.specs.declared.node.Node.{Node}
 use Rattle.std.proofs.Math.Nat.{pow-suc}
 use Rattle.std.proofs.lemmas.Bool.{lt-leb, cases_lt}
 use Rattle.std.proofs.lemmas.List.{append-nil, take_all}
-use Rattle.warg_log.specs.Bundling.{needed_between}
 use Rattle.std.proofs.lemmas.Grind.{flat_map-append}
 use Rattle.std.specs.List.{flat_map}
 use Rattle.std.proofs.Common.{inl, inr, Result, Ok, Err, OnOk}
 use Rattle.warg_log.specs.Nodes.{node_over, balanced_within, balanced_roots}
-use Rattle.warg_log.specs.Walks.{needed}
+use Rattle.warg_log.specs.Walks.{needed, needed_between}
 use Rattle.warg_log.proofs.ForCallers.{pow_below_pow, over_at}
 use Rattle.warg_tiles.specs.Tiles.{TileAt, place_in_level, tile_over}
 use Rattle.warg_tiles.specs.Between.{IsTileOf}

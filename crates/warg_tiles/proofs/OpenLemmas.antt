@@ -5,7 +5,7 @@ use Rattle.std.specs.List.{AllByRecursion, flat_map, range_with_len}
 use Rattle.std.proofs.lemmas.Bool.{lt-ltb, le-ltb, cases_lt, eqb-true}
 use Rattle.std.proofs.lemmas.List.{append-nil, length-append}
 use Rattle.warg_log.specs.Tree.{own_digest}
-use Rattle.warg_log.specs.Decoding.{earlier}
+use Rattle.warg_protobuf.specs.Decoding.{earlier}
 use Rattle.warg_tiles.specs.Tiles.{TileAt, node_in}
 use Rattle.warg_tiles.specs.TileData.{IsTileBy}
 use Rattle.warg_tiles.specs.TileLog.{StandsFor, last_tile, partial_tiles, tile_digests, completed_at, tile_fault, tiles_fault}

@@ -2,7 +2,7 @@
 use Rattle.std.specs.Prelude.{◌≡◌, ℕ, zero, suc, ◌+◌, ◌-◌, ◌*◌, ◌/◌, ◌%◌, ◌^◌, ◌==◌, ◌&&◌, nat_lt, if◌then◌else◌, List, [], ◌∷◌, length, map, filter, Option, Some, None}
 use Rattle.std.specs.List.{AllByRecursion, flat_map, range_with_len}
 use Rattle.warg_log.specs.Tree.{root_of, leaves_below, own_digest}
-use Rattle.warg_log.specs.Decoding.{earlier}
+use Rattle.warg_protobuf.specs.Decoding.{earlier}
 use Rattle.warg_tiles.specs.Tiles.{TileAt, node_in}
 use Rattle.warg_tiles.specs.TileData.{Tiles, IsTileBy}
 use Rattle.warg_tiles.specs.declared.error.OpenError.{OpenError}

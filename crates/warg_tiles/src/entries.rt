@@ -1,6 +1,6 @@
 //! Entry bundles.
 
-ghost use Rattle.std.specs.Prelude.{◌≡◌, ◌≢◌, ℕ, ◌<◌, ◌↔◌, List, ◌++◌, length, map, Err, IfOk, IsTrue, MatchOption};
+ghost use Rattle.std.specs.Prelude.{◌≡◌, ◌≢◌, ℕ, ◌<◌, ◌≤◌, ◌↔◌, List, [], ◌∷◌, ◌++◌, length, map, Err, IfOk, OnOk, OnErr, IsTrue, MatchOption};
 ghost use Rattle.std.specs.List.{AllByRecursion};
 ghost use Rattle.warg_tiles.specs.EntryBundles.{two_bytes, bundle_of};
 
@@ -27,9 +27,24 @@ pub fn write_entries<T: AsSlice<u8>, A: Allocator>(
     }
     let mut bytes = Vec::new(alloc);
     'entries: for entry in entries {
-        push_entry(&mut bytes, entry.as_slice())?;
+        write_entry(&mut bytes, entry.as_slice())?;
     }
     Ok(bytes)
+}
+
+/// Adds an entry behind those of a bundle's bytes. `TooLong` exactly if it has more than 65,535 bytes; else memory is the
+/// only error. A refused call leaves the bytes as they were.
+pub fn push_entry<A: Allocator>(bytes: &mut Vec<u8, A>, entry: &[u8]) -> Result<(), EntriesError>
+    ensures ok { OnOk result (bytes.new.items ≡ bytes.old.items ++ bundle_of (entry.now ∷ [])) }
+    ensures err { OnErr result (bytes.new.items ≡ bytes.old.items) }
+    ensures too_long { (result ≡ Err EntriesError.TooLong) ↔ (65536 ≤ length entry.now) }
+    ensures never { result ≢ Err EntriesError.Truncated }
+{
+    if entry.len() >= TOO_LONG {
+        return Err(EntriesError::TooLong);
+    }
+    write_entry(bytes, entry)?;
+    Ok(())
 }
 
 // Whether each entry has at most 65,535 bytes.
@@ -44,15 +59,16 @@ fn are_short<T: AsSlice<u8>>(entries: &[T]) -> bool
     true
 }
 
-// Writes an entry's length and its bytes.
-fn push_entry<A: Allocator>(bytes: &mut Vec<u8, A>, entry: &[u8]) -> Result<(), AllocError>
+// Writes an entry's length and its bytes, or nothing.
+fn write_entry<A: Allocator>(bytes: &mut Vec<u8, A>, entry: &[u8]) -> Result<(), AllocError>
     requires { length entry.now < 65536 }
-    ensures { IfOk result (λ _. bytes.new.items
-        ≡ bytes.old.items ++ (two_bytes (length entry.now) ++ entry.now)) }
+    ensures ok { OnOk result
+        (bytes.new.items ≡ bytes.old.items ++ (two_bytes (length entry.now) ++ entry.now)) }
+    ensures err { OnErr result (bytes.new.items ≡ bytes.old.items) }
 {
     let length = entry.len();
-    bytes.push((length / 256) as u8)?;
-    bytes.push((length % 256) as u8)?;
+    bytes.reserve(length + 2)?;
+    bytes.extend_from_slice(&[(length / 256) as u8, (length % 256) as u8])?;
     bytes.extend_from_slice(entry)
 }
 

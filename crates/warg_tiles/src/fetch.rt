@@ -3,8 +3,7 @@
 ghost use Rattle.std.specs.Prelude.{◌≡◌, ◌≢◌, ℕ, ◌*◌, ◌^◌, ◌<◌, ◌≤◌, ◌∷◌, true, map, IfOk, OnOk};
 ghost use Rattle.std.specs.List.{AllByRecursion};
 ghost use Rattle.warg_log.specs.Nodes.{ExistsAt};
-ghost use Rattle.warg_log.specs.Walks.{needed};
-ghost use Rattle.warg_log.specs.Bundling.{needed_between};
+ghost use Rattle.warg_log.specs.Walks.{needed, needed_between};
 ghost use Rattle.warg_tiles.specs.Between.{IsTileOf};
 ghost use Rattle.warg_tiles.specs.TileData.{has_below};
 ghost use Rattle.warg_tiles.specs.Fetching.{gives, AreFor, IsAdded};

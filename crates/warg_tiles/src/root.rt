@@ -3,8 +3,7 @@
 ghost use Rattle.std.specs.Prelude.{◌≡◌, ◌<◌, length};
 ghost use Rattle.warg_log.specs.Tree.{root_of};
 
-use warg_crypto::{Hash, SupportedDigest};
-use warg_log::hash_branch;
+use warg_crypto::{Hash, SupportedDigest, hash_branch};
 
 // The root of the tree over digests, by RFC 6962, section 2.1.
 pub(crate) fn root_over<D: SupportedDigest>(digests: &[Hash<D>]) -> Hash<D>

@@ -1,9 +1,11 @@
 //! Tiles of a log's tree.
 
-ghost use Rattle.std.specs.Prelude.{◌≡◌, ◌*◌, ◌^◌, ◌<◌, ◌≤◌, ◌↔◌, ◌==◌, ◌&&◌, nat_le, IsTrue};
+ghost use Rattle.std.specs.Prelude.{◌≡◌, ◌*◌, ◌^◌, ◌<◌, ◌≤◌, ◌↔◌, ◌==◌, ◌&&◌, nat_le, map, IsTrue, IfOk};
+ghost use Rattle.std.specs.List.{range_with_len};
 ghost use Rattle.warg_log.specs.Nodes.{height_of, place_of};
 ghost use Rattle.warg_tiles.specs.Tiles.{IsTile, node_in, tile_end, tile_over};
 
+use std::alloc::{AllocError, Allocator};
 use std::marker::Model;
 use warg_log::{LeafRange, Node};
 
@@ -92,6 +94,19 @@ impl Tile {
     {
         let count = 1 << (8 * self.level);
         Node::over(&LeafRange::new((256 * self.number + place) * count, count))
+    }
+
+    /// The nodes whose digests the tile has, from left to right. Memory is the only error.
+    pub fn nodes<A: Allocator>(&self, alloc: A) -> Result<Vec<Node, A>, AllocError>
+        requires { tile_end self.now ≤ 2 ^ 63 }
+        ensures { IfOk result (λ nodes. map (λ node. node.0) nodes.items
+            ≡ map (node_in self.now) (range_with_len 0 self.now.width)) }
+    {
+        let mut nodes = Vec::new(alloc);
+        'places: for place in 0..self.width() {
+            nodes.push(self.node(place))?;
+        }
+        Ok(nodes)
     }
 
     // Whether the tile has all digests of another one: it is of the same level and number, and at least as wide.

@@ -16,8 +16,8 @@ use crate::tile::Tile;
 use std::alloc::{AllocError, Allocator, Global};
 use std::marker::{Model, PhantomData};
 use std::mem;
-use warg_crypto::{Hash, SupportedDigest, VisitBytes};
-use warg_log::{Checkpoint, LogBuilder, Node, hash_branch, hash_empty, hash_leaf};
+use warg_crypto::{Hash, SupportedDigest, VisitBytes, hash_branch, hash_empty, hash_leaf};
+use warg_log::{Checkpoint, LogBuilder, Node};
 
 /// A log that keeps its right edge alone, the digests of its partial tiles: at most 255 of each level, whatever the log's
 /// length. Full tiles wait until they are taken, for whoever stores them.

@@ -7,7 +7,8 @@ use crate::lines::Lines;
 use crate::lock::Lock;
 use crate::progress::Progress;
 use crate::refusal::Refusal;
-use warg_log::{Checkpoint, hash_empty};
+use warg_crypto::hash_empty;
+use warg_log::Checkpoint;
 
 /// Makes a log of no entries. `LogThere` where the folder has one.
 pub fn init(rt: &HostRuntime, folder: &Folder, origin: &str) -> Result<(), Refusal> {

@@ -5,8 +5,7 @@ ghost use Rattle.warg_tiles.specs.EntryBundles.{bundle_of};
 
 use crate::folder::Folder;
 use crate::refusal::Refusal;
-use std::alloc::Global;
-use warg_tiles::{EntriesError, Tile, read_entries, write_entries};
+use warg_tiles::{EntriesError, Tile, push_entry, read_entries};
 
 // An entry has at most 65,535 bytes, and two for its length.
 const MOST: u64 = 256 * 65537;
@@ -25,17 +24,15 @@ impl Bundle {
     }
 
     /// Adds an entry behind the others. A refused call leaves the bundle as it was.
-    pub fn push(&mut self, alloc: Global, entry: &[u8]) -> Result<(), Refusal>
+    pub fn push(&mut self, entry: &[u8]) -> Result<(), Refusal>
         ensures ok { OnOk result (self.new.bytes.items
             ≡ self.old.bytes.items ++ bundle_of (entry.now ∷ [])) }
         ensures err { OnErr result ((self.new.bytes.items ≡ self.old.bytes.items)
             × (self.new.count ≡ self.old.count)) }
     {
-        let bytes = match write_entries(alloc, &[entry]) {
-            Ok(bytes) => bytes,
-            Err(_) => return Err(Refusal::Memory),
-        };
-        self.bytes.extend_from_slice(bytes.as_slice())?;
+        if push_entry(&mut self.bytes, entry).is_err() {
+            return Err(Refusal::Memory);
+        }
         self.count = self.count.saturating_add(1);
         Ok(())
     }

@@ -7,8 +7,8 @@ use crate::bundle::{Bundle, damaged_bundle, entries_of, read_bundle};
 use crate::folder::Folder;
 use crate::refusal::Refusal;
 use crate::tile_files::{read_tile, write_tile};
-use warg_crypto::Sha256;
-use warg_log::{Checkpoint, GREATEST_LENGTH, LogBuilder, hash_leaf};
+use warg_crypto::{Sha256, hash_leaf};
+use warg_log::{Checkpoint, GREATEST_LENGTH, LogBuilder};
 use warg_tiles::{CheckpointText, OpenError, StoredTile, Tile, TileLog};
 
 /// A log that keeps its right edge in memory: the partial tiles, and the entries that fill no bundle yet.
@@ -39,7 +39,7 @@ impl GrowingLog {
         entry: &Vec<u8>,
     ) -> Result<(), Refusal> {
         push_entry(&mut self.log, entry)?;
-        self.bundle.push(rt.alloc(), entry.as_slice())?;
+        self.bundle.push(entry.as_slice())?;
         if self.bundle.is_full() {
             self.bundle.write(rt, folder, self.log.length())?;
             self.bundle.clear();

@@ -1,2 +1,3 @@
 pub mod CollisionLemmas
+mod MapCallers
 mod TileCallers

@@ -2,6 +2,7 @@
 //! `CALLING.md` beside each library's `src/` shows them.
 #![tactic(auto)]
 
+pub mod bundle;
 pub mod check;
 pub mod crypto;
 pub mod log;

@@ -22,9 +22,8 @@ pub fn audit<D: SupportedDigest, V: VisitBytes, L: LogData<D, V>>(
     ensures same { IfOk result (λ o. IfSome o (λ c. D.digest c.0 ≡ D.digest c.1)) }
 
     // A proof that leads to the entries' root, and lies, gives a collision.
-    ensures lies { IsMet D.digest (L.digest_at hashes.now)
-        (leaf_digest D.digest (V.bytes value.now)) proof.now.leaf.0 proof.now.log_length
-        (map (λ e. V.bytes e) entries.now)
+    ensures lies { IsMet D.digest (L.digest_at hashes.now) proof.now
+        (leaf_digest D.digest (V.bytes value.now)) (map (λ e. V.bytes e) entries.now)
         → (IsEntry (V.bytes value.now) proof.now.leaf.0 (map (λ e. V.bytes e) entries.now) → ⊥)
         → result ≢ Ok None }
 {

@@ -25,7 +25,8 @@ use Rattle.warg_witness.specs.Private.Meeting.{IsConsistencyMeeting}
 use Rattle.warg_witness.specs.declared.descent.Divergence.TheVariants.{Target}
 use Rattle.warg_witness.proofs.ShownLemmas.{Shows, entry_from, value_placed, value_meets, hash_placed, agreement_placed, agreement_meets}
 use Rattle.warg_witness.proofs.ConsistencyLemmas.{trees_consistent, root_leads, old_placed, new_placed, below_placed, leaves_shown}
-use Rattle.warg_log.proofs.ForCallers.{cut_size, front_is_greatest}
+use Rattle.warg_log.specs.Claims.{InclusionClaim}
+use Rattle.warg_log.proofs.ForCallers.{cut_size, front_is_greatest, inclusion_leads}
 use Rattle.warg_crypto.proofs.ForCallers.{HasSize}
 
 -- a range is the target or not
@@ -120,29 +121,35 @@ module _ (H : Digest) where
       n 0 n (omega arith) whole (whole_aligned n) (omega arith) (have_root H ds s w leads (omega arith))
 
   -- a claim that is met leads to the root of the tree
-  leads_to : {F : Data} {digest : List ℕ} {node n : ℕ} {entries : List (List ℕ)} → IsMet H F digest node n entries → let ds = leaves_of H entries in
+  leads_to : {F : Data} {p : InclusionClaim} {digest : List ℕ} {entries : List (List ℕ)} → IsMet H F p digest entries → let ds = leaves_of H entries in let node = p.leaf.0 in
       (start_of node + 2 ^ height_of node ≤ length ds) × (cut_over H F digest (start_of node) (2 ^ height_of node) 0 (length ds) ≡ Some (root_of H ds))
-  leads_to {entries = entries} met = grind (arith, length-leaves H entries)
+  leads_to {F} {p} {digest} {entries} met = let at = (inclusion_leads H F p digest _).0 met.is in grind (arith, length-leaves H entries)
 
-  pub value_collides : (F : Data) (value : List ℕ) (node n : ℕ) (entries : List (List ℕ)) → HasSize H → HoldsHashes F → IsMet H F (H (0 ∷ value)) node n entries
-      → (IsEntry value node entries → ⊥) → SomeCollision H (IsValuePlaced H F value node entries)
-  value_collides F value node n entries gives holds met false_claim =
+  pub value_collides : (F : Data) (p : InclusionClaim) (value : List ℕ) (entries : List (List ℕ)) → HasSize H → HoldsHashes F → IsMet H F p (H (0 ∷ value)) entries
+      → (IsEntry value p.leaf.0 entries → ⊥) → SomeCollision H (IsValuePlaced H F value p.leaf.0 entries)
+  value_collides F p value entries gives holds met false_claim =
+      let node = p.leaf.0 in
       let leads = leads_to met in
       from_tree entries gives holds (gives (0 ∷ value)) (node_range node) leads.0 leads.1 (value_placed H F entries _ refl node value)
       (λ meets. shown_collides _ (value_meets H F entries _ refl node value (λ at. false_claim (entry_from node at)) meets))
 
-  pub hash_collides : (F : Data) (hash : List ℕ) (node n : ℕ) (entries : List (List ℕ)) → HasSize H → HoldsHashes F → length hash ≡ 32 → IsMet H F hash node n entries
-      → (IsRootBelow H hash node entries → ⊥) → SomeCollision H (IsHashPlaced H F hash node entries)
-  hash_collides F hash node n entries gives holds size met false_claim =
+  pub hash_collides : (F : Data) (p : InclusionClaim) (hash : List ℕ) (entries : List (List ℕ)) → HasSize H → HoldsHashes F → length hash ≡ 32 → IsMet H F p hash entries
+      → (IsRootBelow H hash p.leaf.0 entries → ⊥) → SomeCollision H (IsHashPlaced H F hash p.leaf.0 entries)
+  hash_collides F p hash entries gives holds size met false_claim =
+      let node = p.leaf.0 in
       let leads = leads_to met in
       from_tree entries gives holds size (node_range node) leads.0 leads.1 (hash_placed H F entries _ refl node hash) (λ meets. absurd (false_claim meets.same))
 
-  pub agreement_collides : (F : Data) (value : List ℕ) (G : Data) (other : List ℕ) (node n : ℕ) → HasSize H → HoldsHashes F → HoldsHashes G
-      → IsAgreement H F (H (0 ∷ value)) G (H (0 ∷ other)) node n → (value ≡ other → ⊥) → SomeCollision H (IsAgreementPlaced H F value G other node n)
-  agreement_collides F value G other node n gives holds holds' met false_claim =
+  pub agreement_collides : (p : InclusionClaim) (F : Data) (value : List ℕ) (G : Data) (other : List ℕ) → HasSize H → HoldsHashes F → HoldsHashes G
+      → IsAgreement H p F (H (0 ∷ value)) G (H (0 ∷ other)) → (value ≡ other → ⊥) → SomeCollision H (IsAgreementPlaced H F value G other p.leaf.0 p.log_length)
+  agreement_collides p F value G other gives holds holds' met false_claim =
+      let node = p.leaf.0 in
+      let n = p.log_length in
+      let first = (inclusion_leads H F p _ met.root).0 met.first_is in
+      let second = (inclusion_leads H G p _ met.root).0 met.second_is in
       diverged H F (H (0 ∷ value)) G (H (0 ∷ other)) (start_of node) (2 ^ height_of node) 0 n _ gives holds holds' (gives (0 ∷ value)) (gives (0 ∷ other)) (node_range node)
       (agreement_placed H F value G other node n) (λ meets. shown_collides _ (agreement_meets H F value G other node n false_claim meets))
-      n 0 n (omega arith) whole (whole_aligned n) (omega arith) (record { digest = met.root; first = met.first_is; second = met.second_is })
+      n 0 n (omega arith) whole (whole_aligned n) (omega arith) (record { digest = met.root; first = first.1; second = second.1 })
 
   -- the balanced root around a difference shows a collision
   pub consistency_collides : (F : Data) (m n : ℕ) (old new : List (List ℕ)) → HasSize H → HoldsHashes F → IsConsistencyMet H F m n old new → (Begins old new → ⊥)

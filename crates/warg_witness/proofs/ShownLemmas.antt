@@ -5,6 +5,7 @@ use Rattle.std.proofs.lemmas.Bool.Decides.{nat_tests}
 use Rattle.std.proofs.lemmas.Result.{IfOk-weaker}
 use Rattle.warg_log.specs.Nodes.{height_of, start_of}
 use Rattle.warg_log.specs.Tree.{leaves_of}
+use Rattle.warg_log.specs.Claims.{InclusionClaim}
 use Rattle.warg_witness.specs.Claims.{IsEntry}
 use Rattle.warg_witness.specs.Inputs.{plain_input, cut_input, value_input}
 use Rattle.warg_witness.specs.Placed.{IsValuePlaced, IsHashPlaced, IsAgreementPlaced}
@@ -67,18 +68,18 @@ module _ (H : Digest) (F : Data) (entries ds : List (List ℕ)) (is : ds ≡ lea
   hash_placed hash first second diverges = let own = own_second H entries ds is (pow_pos (height_of node)) diverges in search (own, diverges)
 
 -- what a meeting shows, where the claim is false
-module _ {D : Type 0} {H : Digest} {F : Data} {node n : ℕ} {entries tree : List (List ℕ)} {start count : ℕ} {plain : List ℕ} {p : Divergence D} where
-  pub value_shown : {value : List ℕ} → IsMeeting H F (H (0 ∷ value)) node n entries tree start count plain p → (IsAt value entries start count → ⊥)
-      → Shows H (IsValuePlaced H F value node entries) (inputs_of p (0 ∷ value) (plain_input H entries start count))
+module _ {D : Type 0} {H : Digest} {F : Data} {proof : InclusionClaim} {entries tree : List (List ℕ)} {start count : ℕ} {plain : List ℕ} {p : Divergence D} where
+  pub value_shown : {value : List ℕ} → IsMeeting H F proof (H (0 ∷ value)) entries tree start count plain p → (IsAt value entries start count → ⊥)
+      → Shows H (IsValuePlaced H F value proof.leaf.0 entries) (inputs_of p (0 ∷ value) (plain_input H entries start count))
   value_shown {value} met other =
       let apart = rw (met.start_is, met.count_is) at other in
-      rw (met.start_is, met.count_is) (shown p _ _ (value_placed H F entries tree met.tree_is node value) (λ _. value_meets H F entries tree met.tree_is node value apart) met.diverges)
+      rw (met.start_is, met.count_is) (shown p _ _ (value_placed H F entries tree met.tree_is proof.leaf.0 value) (λ _. value_meets H F entries tree met.tree_is proof.leaf.0 value apart) met.diverges)
 
-  pub hash_shown : {hash : List ℕ} → IsMeeting H F hash node n entries tree start count plain p → (hash ≡ plain → ⊥)
-      → DivergesAtBranch H p × IsHashPlaced H F hash node entries (inputs_of p [] []).0 (inputs_of p [] []).1
+  pub hash_shown : {hash : List ℕ} → IsMeeting H F proof hash entries tree start count plain p → (hash ≡ plain → ⊥)
+      → DivergesAtBranch H p × IsHashPlaced H F hash proof.leaf.0 entries (inputs_of p [] []).0 (inputs_of p [] []).1
   hash_shown {hash} met other =
       let apart : p ≡ Target → ⊥ = λ is. other ((rw is at met.diverges).same ∙ rw met.tree_is (sym met.plain_is)) in
-      let pair = shown p [] [] (hash_placed H F entries tree met.tree_is node hash) (λ is _. absurd (apart is)) met.diverges in (grind arith, pair.1)
+      let pair = shown p [] [] (hash_placed H F entries tree met.tree_is proof.leaf.0 hash) (λ is _. absurd (apart is)) met.diverges in (grind arith, pair.1)
 
 module _ (H : Digest) (F : Data) (v : List ℕ) (G : Data) (u : List ℕ) (node n : ℕ) where
   pub agreement_placed : (first second : List ℕ) → DivergesAt H F (H (0 ∷ v)) G (H (0 ∷ u)) (start_of node) (2 ^ height_of node) 0 n first second → IsAgreementPlaced H F v G u node n first second

@@ -5,7 +5,7 @@ ghost use Rattle.warg_crypto.specs.Tree.{branch_input, leaf_input};
 
 use std::alloc::{AllocError, Allocator, Global};
 use std::marker::{Model, PhantomData};
-use warg_crypto::{ByteVisitor, Hash, SupportedDigest, VisitBytes, bytes_of};
+use warg_crypto::{Branch, Hash, Leaf, SupportedDigest, VisitBytes, bytes_of};
 
 /// Two byte strings that differ and have equal digests.
 #[derive(Drop)]
@@ -98,19 +98,6 @@ pub enum Finding<D: SupportedDigest, A: Allocator = Global> {
     Collision(Collision<D, A>),
 }
 
-// A leaf, as what the digest function takes of it: the byte 00 and the value.
-#[derive(Drop)]
-struct Leaf<'a, V>(&'a V);
-
-impl<V: VisitBytes> VisitBytes for Leaf<'_, V> {
-    ghost bytes = { λ leaf. leaf_input (V.bytes leaf.0.now) };
-
-    fn visit<W: ByteVisitor>(&self, to: &mut W) {
-        to.visit_bytes(&[0]);
-        self.0.visit(to);
-    }
-}
-
 /// What the digest function takes at a leaf.
 pub(crate) fn leaf_bytes<V: VisitBytes, A: Allocator>(
     alloc: A,
@@ -129,5 +116,5 @@ pub(crate) fn branch_bytes<D, A: Allocator>(
 ) -> Result<Vec<u8, A>, AllocError>
     ensures { IfOk result (λ bytes. bytes.items ≡ branch_input left.now right.now) }
 {
-    bytes_of(alloc, &(1u8, left.copied(), right.copied()))
+    bytes_of(alloc, &Branch(left, right))
 }

@@ -5,11 +5,12 @@
 //! entries or the insertions. They hold for every function from byte lists to 32 bytes, and for all data and
 //! peers of such digests.
 
-ghost use Rattle.std.specs.Prelude.{◌≡◌, ℕ, ◌≤◌, ◌↔◌, ◌⊎◌, IsTrue, List, [], ◌∷◌, length, Option, Some};
+ghost use Rattle.std.specs.Prelude.{◌≡◌, ◌≢◌, ℕ, ◌≤◌, ◌↔◌, ◌⊎◌, IsTrue, List, [], ◌∷◌, length, Option, Some};
 ghost use Rattle.std.specs.List.{AllByRecursion};
 ghost use Rattle.std.specs.FinMap.{empty};
 ghost use Rattle.warg_witness.specs.Claims.{IsMet, IsEntry, IsRootBelow, IsAgreement, IsConsistencyMet, Begins};
 ghost use Rattle.warg_witness.specs.Placed.{IsValuePlaced, IsHashPlaced, IsAgreementPlaced, IsConsistencyPlaced};
+ghost use Rattle.warg_log.specs.Claims.{InclusionClaim};
 ghost use Rattle.warg_map.specs.Bits.{key_bits};
 ghost use Rattle.warg_map.specs.Last.{last_under};
 ghost use Rattle.warg_map.specs.Peers.{Proves, ProvesAbsent};
@@ -27,27 +28,29 @@ use warg_crypto::SupportedDigest;
 
 /// A value's claim that is met and isn't true gives a collision.
 pub fn value_or_collision()
-    ensures { (H : List ℕ → List ℕ) (F : ℕ → Option (List ℕ)) (value : List ℕ) (node n : ℕ)
+    ensures { (H : List ℕ → List ℕ) (F : ℕ → Option (List ℕ)) (proof : InclusionClaim)
+        (value : List ℕ)
         (entries : List (List ℕ)) → GivesHashes H → HoldsHashes F
-        → IsMet H F (leaf_digest H value) node n entries → (IsEntry value node entries → ⊥)
-        → SomeCollision H (IsValuePlaced H F value node entries) }
+        → IsMet H F proof (leaf_digest H value) entries → ¬ (IsEntry value proof.leaf.0 entries)
+        → SomeCollision H (IsValuePlaced H F value proof.leaf.0 entries) }
 {}
 
 /// A hash's claim that is met and isn't true gives a collision.
 pub fn hash_or_collision()
-    ensures { (H : List ℕ → List ℕ) (F : ℕ → Option (List ℕ)) (hash : List ℕ) (node n : ℕ)
+    ensures { (H : List ℕ → List ℕ) (F : ℕ → Option (List ℕ)) (proof : InclusionClaim)
+        (hash : List ℕ)
         (entries : List (List ℕ)) → GivesHashes H → HoldsHashes F → length hash ≡ 32
-        → IsMet H F hash node n entries → (IsRootBelow H hash node entries → ⊥)
-        → SomeCollision H (IsHashPlaced H F hash node entries) }
+        → IsMet H F proof hash entries → ¬ (IsRootBelow H hash proof.leaf.0 entries)
+        → SomeCollision H (IsHashPlaced H F hash proof.leaf.0 entries) }
 {}
 
 /// Two different values that lead to one root over two data give a collision.
 pub fn agreement_or_collision()
-    ensures { (H : List ℕ → List ℕ) (F : ℕ → Option (List ℕ)) (value : List ℕ)
-        (G : ℕ → Option (List ℕ)) (other : List ℕ) (node n : ℕ) → GivesHashes H → HoldsHashes F
-        → HoldsHashes G
-        → IsAgreement H F (leaf_digest H value) G (leaf_digest H other) node n → (value ≡ other → ⊥)
-        → SomeCollision H (IsAgreementPlaced H F value G other node n) }
+    ensures { (H : List ℕ → List ℕ) (proof : InclusionClaim)
+        (F : ℕ → Option (List ℕ)) (value : List ℕ)
+        (G : ℕ → Option (List ℕ)) (other : List ℕ) → GivesHashes H → HoldsHashes F → HoldsHashes G
+        → IsAgreement H proof F (leaf_digest H value) G (leaf_digest H other) → value ≢ other
+        → SomeCollision H (IsAgreementPlaced H F value G other proof.leaf.0 proof.log_length) }
 {}
 
 /// A claim of consistency that is met and isn't true gives a collision.

@@ -1,9 +1,9 @@
 //! Witnesses for the log's proofs.
 
-ghost use Rattle.std.specs.Prelude.{◌≡◌, ℕ, ◌+◌, ◌^◌, ◌≤◌, ◌↔◌, List, [], ◌∷◌, length, map, None, Ok, IfOk, IsTrue, MatchOption, ◌⊎◌};
+ghost use Rattle.std.specs.Prelude.{◌≡◌, ◌≢◌, ℕ, ◌+◌, ◌^◌, ◌≤◌, ◌↔◌, List, [], ◌∷◌, length, map, None, Ok, Err, IfOk, IsTrue, MatchOption};
 ghost use Rattle.warg_crypto.specs.Tree.{leaf_input, leaf_digest};
-ghost use Rattle.warg_log.specs.Nodes.{ExistsAt};
-ghost use Rattle.warg_log.specs.Cut.{cut_root};
+ghost use Rattle.warg_log.specs.Inclusion.{inclusion};
+ghost use Rattle.warg_log.specs.declared.proof.InclusionProofError.{InclusionProofError};
 ghost use Rattle.warg_log.specs.Tree.{leaves_of};
 ghost use Rattle.warg_witness.specs.Private.Ranges.{IsNodeRange};
 ghost use Rattle.warg_witness.specs.Private.Compared.{IsAt};
@@ -24,8 +24,8 @@ use crate::descent::{Divergence, descend};
 use crate::plain::{plain_bytes, plain_digest, plain_tree};
 pub use consistency::witness_consistency;
 use std::alloc::{AllocError, Allocator};
-use warg_crypto::{Hash, SupportedDigest, VisitBytes};
-use warg_log::{InclusionProof, LeafRange, LogData, VecLog, hash_leaf};
+use warg_crypto::{Hash, SupportedDigest, VisitBytes, hash_leaf};
+use warg_log::{InclusionProof, LeafRange, LogData, VecLog};
 
 /// A proof whose evaluation leads to the root of the given entries.
 #[derive(Drop)]
@@ -47,15 +47,14 @@ fn meet_entries<D: SupportedDigest, V: VisitBytes, L: LogData<D, V>, A: Allocato
     hash: &Hash<D>,
     entries: &[V],
 ) -> Result<Option<Meeting<D, V, A>>, AllocError>
-    ensures count { (length entries.now ≡ proof.now.log_length → ⊥) → result ≡ Ok None }
-    ensures fails { ((ExistsAt proof.now.leaf.0 proof.now.log_length → ⊥)
-        ⊎ (cut_root D.digest (L.digest_at hashes.now) proof.now.leaf.0 hash.now proof.now.log_length
-        ≡ None)) → result ≡ Ok None }
+    ensures count { length entries.now ≢ proof.now.log_length → result ≡ Ok None }
+    ensures fails { (e : InclusionProofError)
+        → inclusion D.digest (L.digest_at hashes.now) proof.now hash.now ≡ Err e
+        → result ≡ Ok None }
     ensures met { IfOk result (λ met. MatchOption met
-        (IsMet D.digest (L.digest_at hashes.now) hash.now proof.now.leaf.0 proof.now.log_length
-        (map (λ e. V.bytes e) entries.now) → ⊥)
-        (λ m.
-        IsMeeting D.digest (L.digest_at hashes.now) hash.now proof.now.leaf.0 proof.now.log_length
+        (¬ (IsMet D.digest (L.digest_at hashes.now) proof.now hash.now
+        (map (λ e. V.bytes e) entries.now)))
+        (λ m. IsMeeting D.digest (L.digest_at hashes.now) proof.now hash.now
         (map (λ e. V.bytes e) entries.now)
         m.tree m.target.start m.target.count m.plain m.divergence)) }
 {
@@ -147,14 +146,13 @@ pub fn witness_value<D: SupportedDigest, V: VisitBytes, L: LogData<D, V>, A: All
     value: &V,
     entries: &[V],
 ) -> Result<Finding<D, A>, AllocError>
-    ensures count { (length entries.now ≡ proof.now.log_length → ⊥) → result ≡ Ok Finding.NotMet }
-    ensures fails { (¬ (ExistsAt proof.now.leaf.0 proof.now.log_length)
-        ⊎ (cut_root D.digest (L.digest_at hashes.now) proof.now.leaf.0
-        (leaf_digest D.digest (V.bytes value.now)) proof.now.log_length ≡ None))
-        → result ≡ Ok Finding.NotMet }
+    ensures count { length entries.now ≢ proof.now.log_length → result ≡ Ok Finding.NotMet }
+    ensures fails { (e : InclusionProofError)
+        → inclusion D.digest (L.digest_at hashes.now) proof.now
+        (leaf_digest D.digest (V.bytes value.now)) ≡ Err e → result ≡ Ok Finding.NotMet }
     ensures found { IfOk result (Finds
-        (IsMet D.digest (L.digest_at hashes.now) (leaf_digest D.digest (V.bytes value.now))
-        proof.now.leaf.0 proof.now.log_length (map (λ e. V.bytes e) entries.now))
+        (IsMet D.digest (L.digest_at hashes.now) proof.now
+        (leaf_digest D.digest (V.bytes value.now)) (map (λ e. V.bytes e) entries.now))
         (IsEntry (V.bytes value.now) proof.now.leaf.0 (map (λ e. V.bytes e) entries.now))
         (IsValuePlaced D.digest (L.digest_at hashes.now) (V.bytes value.now) proof.now.leaf.0
         (map (λ e. V.bytes e) entries.now))) }
@@ -186,13 +184,12 @@ pub fn witness_hash<D: SupportedDigest, V: VisitBytes, L: LogData<D, V>, A: Allo
     hash: Hash<D>,
     entries: &[V],
 ) -> Result<Finding<D, A>, AllocError>
-    ensures count { (length entries.now ≡ proof.now.log_length → ⊥) → result ≡ Ok Finding.NotMet }
-    ensures fails { (¬ (ExistsAt proof.now.leaf.0 proof.now.log_length)
-        ⊎ (cut_root D.digest (L.digest_at hashes.now) proof.now.leaf.0 hash proof.now.log_length
-        ≡ None)) → result ≡ Ok Finding.NotMet }
+    ensures count { length entries.now ≢ proof.now.log_length → result ≡ Ok Finding.NotMet }
+    ensures fails { (e : InclusionProofError)
+        → inclusion D.digest (L.digest_at hashes.now) proof.now hash ≡ Err e
+        → result ≡ Ok Finding.NotMet }
     ensures found { IfOk result (Finds
-        (IsMet D.digest (L.digest_at hashes.now) hash proof.now.leaf.0 proof.now.log_length
-        (map (λ e. V.bytes e) entries.now))
+        (IsMet D.digest (L.digest_at hashes.now) proof.now hash (map (λ e. V.bytes e) entries.now))
         (IsRootBelow D.digest hash proof.now.leaf.0 (map (λ e. V.bytes e) entries.now))
         (IsHashPlaced D.digest (L.digest_at hashes.now) hash proof.now.leaf.0
         (map (λ e. V.bytes e) entries.now))) }
@@ -227,16 +224,14 @@ pub fn agree_value<
     second_hashes: &M,
     second_value: &V,
 ) -> Result<Finding<D, A>, AllocError>
-    ensures unmet { ¬ (IsAgreement D.digest (L.digest_at first_hashes.now)
-        (leaf_digest D.digest (V.bytes first_value.now))
-        (M.digest_at second_hashes.now) (leaf_digest D.digest
-        (V.bytes second_value.now)) proof.now.leaf.0 proof.now.log_length)
+    ensures unmet { ¬ (IsAgreement D.digest proof.now
+        (L.digest_at first_hashes.now) (leaf_digest D.digest (V.bytes first_value.now))
+        (M.digest_at second_hashes.now) (leaf_digest D.digest (V.bytes second_value.now)))
         → result ≡ Ok Finding.NotMet }
     ensures found { IfOk result (Finds
-        (IsAgreement D.digest (L.digest_at first_hashes.now)
-        (leaf_digest D.digest (V.bytes first_value.now))
-        (M.digest_at second_hashes.now) (leaf_digest D.digest
-        (V.bytes second_value.now)) proof.now.leaf.0 proof.now.log_length)
+        (IsAgreement D.digest proof.now
+        (L.digest_at first_hashes.now) (leaf_digest D.digest (V.bytes first_value.now))
+        (M.digest_at second_hashes.now) (leaf_digest D.digest (V.bytes second_value.now)))
         (V.bytes first_value.now ≡ V.bytes second_value.now)
         (IsAgreementPlaced D.digest (L.digest_at first_hashes.now) (V.bytes first_value.now)
         (M.digest_at second_hashes.now)

@@ -28,8 +28,7 @@ use path::{Evaluation, meet_on_path};
 use std::alloc::{AllocError, Allocator};
 use tree::plain_path;
 pub use update::witness_update;
-use warg_crypto::{Hash, SupportedDigest, VisitBytes, bytes_of};
-use warg_log::hash_leaf;
+use warg_crypto::{Hash, SupportedDigest, VisitBytes, bytes_of, hash_leaf};
 use warg_map::Proof;
 
 // A proof that leads to the plain root of given insertions.

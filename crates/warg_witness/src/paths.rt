@@ -21,8 +21,8 @@ use crate::plain::{plain_digest, plain_tree};
 pub use agreement::agree_record;
 use std::alloc::{AllocError, Allocator};
 pub use tree::witness_tree;
-use warg_crypto::{Hash, SupportedDigest, VisitBytes};
-use warg_log::{LeafRange, VecLog, hash_leaf};
+use warg_crypto::{Hash, SupportedDigest, VisitBytes, hash_leaf};
+use warg_log::{LeafRange, VecLog};
 use warg_paths::root_of_inclusion;
 
 // The most leaves that a tree has.

@@ -9,17 +9,16 @@ ghost use Rattle.warg_protobuf.specs.StackLog.{stack_view, stack_bytes};
 ghost use Rattle.warg_log.specs.Nodes.{balanced_roots};
 ghost use Rattle.warg_log.specs.Blocks.{Blocks};
 ghost use Rattle.warg_protobuf.specs.Reading.{Answers};
-ghost use Rattle.warg_log.specs.Decoding.{first_fault, digest_fault};
+ghost use Rattle.warg_protobuf.specs.Decoding.{first_fault, digest_fault};
 ghost use Rattle.warg_log.specs.Images.{root_entry, RootsFit, stack_message, stack_in, stack_of};
 
 use crate::balanced_roots::BalancedRoots;
-use crate::error::{DecodeError, EncodeError};
-use crate::message::{entry, read_hash};
+use crate::message::read_hash;
 use crate::stack_log::StackLog;
 use std::alloc::{AllocError, Allocator};
 use std::marker::PhantomData;
 use warg_crypto::{Hash, SupportedDigest, VisitBytes};
-use warg_protobuf::{HashEntry, StackLog as Message};
+use warg_protobuf::{DecodeError, EncodeError, HashEntry, StackLog as Message};
 
 // The greatest length of which each balanced root's number fits in 32 bits.
 const GREATEST_LENGTH: usize = 1 << 31;
@@ -146,7 +145,7 @@ fn entries<D, A: Allocator + Copy>(
         let Some(root) = roots.next() else {
             unreachable!()
         };
-        let written = entry(alloc, root.0 as u32, block)?;
+        let written = HashEntry::new(alloc, root.0 as u32, block)?;
         entries.push(written)?;
     }
     Ok(entries)

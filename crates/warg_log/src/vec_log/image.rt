@@ -5,19 +5,17 @@ ghost use Rattle.std.specs.List.{AllByRecursion};
 ghost use Rattle.warg_protobuf.specs.declared.error.WireError.TheVariants as wire;
 ghost use Rattle.warg_protobuf.specs.VecLog.{vec_view, vec_bytes};
 ghost use Rattle.warg_protobuf.specs.Reading.{Answers};
-ghost use Rattle.warg_log.specs.Decoding.{first_fault, digest_fault};
+ghost use Rattle.warg_protobuf.specs.Decoding.{first_fault, digest_fault};
 ghost use Rattle.warg_log.specs.Images.{is_slice_of_length, vec_message, vec_in, vec_of};
 ghost use Rattle.warg_log.specs.Private.Slices.{IsHeld};
 
-use crate::error::{DecodeError, EncodeError};
-use crate::log::{hash_branch, hash_empty};
 use crate::message::read_hash;
 use crate::node::Node;
 use crate::vec_log::VecLog;
 use std::alloc::{AllocError, Allocator};
 use std::marker::PhantomData;
-use warg_crypto::{Hash, SupportedDigest, VisitBytes};
-use warg_protobuf::VecLog as Message;
+use warg_crypto::{Hash, SupportedDigest, VisitBytes, hash_branch, hash_empty};
+use warg_protobuf::{DecodeError, EncodeError, VecLog as Message};
 
 impl<D: SupportedDigest, V: VisitBytes, A: Allocator + Copy> VecLog<D, V, A> {
     /// The log that a message holds.

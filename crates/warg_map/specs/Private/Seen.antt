@@ -1,8 +1,8 @@
 -- What a node of the tree stands for.
-use Rattle.std.specs.Prelude.{◌≡◌, ℕ, ◌+◌, ◌≤◌, ◌<◌, Bool, not, if◌then◌else◌, List, [], ◌⊎◌}
+use Rattle.std.specs.Prelude.{◌≡◌, ℕ, ◌+◌, ◌≤◌, ◌<◌, Bool, not, if◌then◌else◌, List, ◌⊎◌}
 use Rattle.std.specs.FinMap.{insert, empty, contains_key}
 use Rattle.warg_map.specs.declared.node.Node.{Node}
-use Rattle.warg_map.specs.declared.node.Node.TheVariants.{Leaf, Fork, Singleton, Stem, Empty}
+use Rattle.warg_map.specs.declared.node.Node.TheVariants.{Fork, Singleton, Stem, Empty}
 use Rattle.warg_map.specs.declared.fork.Fork.{Fork as Fork'}
 use Rattle.warg_map.specs.Bits.{bits_from}
 use Rattle.warg_map.specs.Sparse.{SparseMap}
@@ -11,19 +11,17 @@ use Rattle.warg_map.specs.Private.Under.{join, under, HoldsKey, Splits, IsLone}
 
 -- The height of a node: the number of levels of its tree.
 abbrev pub tree_height : {D A : _} → Node D A → ℕ
-tree_height (Leaf h) = 0
 tree_height (Fork f) = f.value.left.0 + 1
 tree_height (Singleton s) = s.value.height
 tree_height (Stem s) = s.value.below.0 + s.value.len
-tree_height (Empty n) = n
+tree_height Empty = 256
 
 -- The map that a node stands for.
 abbrev pub held_by : {D A : _} → Node D A → SparseMap
-held_by (Leaf h) = insert empty [] h.value
 held_by (Fork f) = join f.value.left.1 f.value.right.1
 held_by (Singleton s) = held_alone s.value
 held_by (Stem s) = under (bits_from s.value.key s.value.from s.value.len) s.value.below.1
-held_by (Empty n) = empty
+held_by Empty = empty
 
 -- What a link shows of its node: the height, and the map.
 abbrev pub seen : {D A : _} → Node D A → ℕ × SparseMap
@@ -31,23 +29,21 @@ seen n = (tree_height n, held_by n)
 
 -- The heights fit, and a stem's bits stand at their place in a key digest.
 abbrev pub IsLevel : {D A : _} → Node D A → Type 0
-IsLevel (Leaf h) = Unit {0}
 IsLevel (Fork f) = (f.value.left.0 ≡ f.value.right.0) × (f.value.left.0 < 256)
 IsLevel (Singleton s) = s.value.height ≤ 256
 IsLevel (Stem s) = s.value.from + s.value.len + s.value.below.0 ≡ 256
-IsLevel (Empty n) = n ≤ 256
+IsLevel Empty = Unit {0}
 
 -- What stands below a stem of this length: a fork, or, below a stem of one bit at the top, a lone key.
 abbrev pub IsBelow : ℕ → ℕ × SparseMap → Type 0
 IsBelow len below = Splits below.1 ⊎ ((len ≡ 1) × (below.0 ≡ 255) × IsLone below.1)
 
--- The form of the tree: a fork holds a key on each side; a stem has bits, and below them what may stand there; and an empty node stands for the whole empty map alone.
+-- The form of the tree: a fork holds a key on each side; a stem has bits, and below them what may stand there; and an empty node is that of the whole empty map.
 abbrev pub IsFormed : {D A : _} → Node D A → Type 0
-IsFormed (Leaf h) = Unit {0}
 IsFormed (Fork f) = HoldsKey f.value.left.1 × HoldsKey f.value.right.1
 IsFormed (Singleton s) = s.value.height < 256
 IsFormed (Stem s) = (0 < s.value.len) × IsBelow s.value.len s.value.below
-IsFormed (Empty n) = n ≡ 256
+IsFormed Empty = Unit {0}
 
 -- A node that may stand in a map's tree.
 pub record IsWellFormed {D A : _} (n : Node D A) : Type 0 where
@@ -67,11 +63,10 @@ pub record IsForkOf {D A : _} (bit : Bool) (near far : ℕ × SparseMap) (f : Fo
 
 -- What may stand below a stem's bits.
 abbrev pub Carries : {D A : _} → Node D A → Type 0
-Carries (Leaf h) = ⊥
 Carries (Fork f) = Unit {0}
 Carries (Singleton s) = s.value.height ≡ 255
 Carries (Stem s) = Unit {0}
-Carries (Empty n) = ⊥
+Carries Empty = ⊥
 
 -- A node that may stand in a map's tree, with this height and this map.
 pub record IsSeen {D A : _} (n : Node D A) (height : ℕ) (held : SparseMap) : Type 0 where

@@ -1,5 +1,5 @@
 -- Maps built of smaller ones: two below a fork, and one below the bits of a stem.
-use Rattle.std.specs.Prelude.{◌≡◌, ℕ, zero, suc, ◌+◌, Bool, true, false, cond, Option, Some, List, [], ◌∷◌, ◌++◌, map, length, IsTrue}
+use Rattle.std.specs.Prelude.{◌≡◌, ℕ, ◌+◌, Bool, true, false, cond, List, [], ◌∷◌, ◌++◌, map, length, IsTrue}
 use Rattle.std.specs.FinMap.{from_entries, entries, contains_key, insert, empty}
 use Rattle.warg_crypto.specs.EmptyTrees.{empty_root}
 use Rattle.warg_crypto.specs.Tree.{input_beside}
@@ -22,11 +22,6 @@ under (b ∷ bits) m = join_at b (under bits m) empty
 unfoldable pub stem_root : (List ℕ → List ℕ) → ℕ → List ℕ → List Bool → List ℕ
 stem_root H k x [] = x
 stem_root H k x (b ∷ bits) = H (input_beside b (empty_root H (k + length bits)) (stem_root H k x bits))
-
--- The digests of the empty trees of n heights from k on, as peers.
-unfoldable pub empty_peers : (List ℕ → List ℕ) → ℕ → ℕ → List (Option (List ℕ))
-empty_peers H k zero = []
-empty_peers H k (suc n) = empty_peers H k n ++ Some (empty_root H (k + n)) ∷ []
 
 -- Some key is held.
 abbrev pub HoldsKey : SparseMap → Type 0

@@ -9,11 +9,10 @@ ghost use Rattle.warg_map.specs.ProofValue.{proof_value};
 ghost use Rattle.warg_map.specs.Peers.{Proves};
 
 use crate::map::{Map, MapError};
-use crate::path::Path;
 use crate::proof::Proof;
+use crate::walk::Wanted;
 use std::alloc::{Allocator, Global};
-use warg_crypto::{Hash, SupportedDigest, VisitBytes};
-use warg_log::hash_leaf;
+use warg_crypto::{Hash, SupportedDigest, VisitBytes, hash_leaf};
 
 /// One insertion: the map with it, and the proof by which whoever holds the roots alone follows it.
 #[derive(Drop)]
@@ -59,7 +58,7 @@ impl<D: SupportedDigest, K: VisitBytes + Drop, V: VisitBytes + Drop, A: Allocato
     {
         let key = Hash::of(&key);
         let (map, is_new) = self.with_leaf(&key, hash_leaf(&val))?;
-        let Some(proof) = map.link.node().prove(map.alloc, Path::new(&key))? else {
+        let Some(proof) = map.proof_of(&key, Wanted::Leaf)? else {
             unreachable!()
         };
         Ok(Insertion { map, proof, is_new })

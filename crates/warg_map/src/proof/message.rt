@@ -4,14 +4,13 @@ ghost use Rattle.std.specs.Prelude.{◌≡◌, ◌≢◌, ◌<◌, ◌⊎◌, le
 ghost use Rattle.warg_protobuf.specs.OptionalHash.{hash_view};
 ghost use Rattle.warg_protobuf.specs.MapInclusionProof.{proof_view};
 ghost use Rattle.warg_protobuf.specs.Reading.{Answers};
-ghost use Rattle.warg_log.specs.Decoding.{first_fault};
-ghost use Rattle.warg_map.specs.Bundles.{peer_fault, proof_in};
+ghost use Rattle.warg_protobuf.specs.Decoding.{first_fault};
+ghost use Rattle.warg_map.specs.Messages.{peer_fault, proof_in};
 
 use crate::proof::Proof;
 use std::alloc::{AllocError, Allocator};
 use warg_crypto::Hash;
-use warg_log::DecodeError;
-use warg_protobuf::{MapInclusionProof as Message, OptionalHash};
+use warg_protobuf::{DecodeError, MapInclusionProof as Message, OptionalHash};
 
 // The most peers that a proof has: one for each level of the tree.
 const MOST_PEERS: usize = 256;

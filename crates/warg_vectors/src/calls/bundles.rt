@@ -9,13 +9,13 @@ use crate::each::{Call, Memory};
 use crate::words::{Length, List};
 use std::alloc::AllocError;
 use std::marker::PhantomData;
+use warg_bundle::{BundleError, LogProofBundle};
 use warg_crypto::SupportedDigest;
-use warg_log::{
-    BundleError, ConsistencyProof, DecodeError, EncodeError, InclusionProof, LogData, ProofBundle,
-};
+use warg_log::{ConsistencyProof, InclusionProof, LogData};
+use warg_protobuf::{DecodeError, EncodeError};
 
 /// A bundle of the proofs of a log whose entries are lists of bytes.
-pub(super) type BytesBundle<D, A> = ProofBundle<D, Vec<u8>, A>;
+pub(super) type BytesBundle<D, A> = LogProofBundle<D, Vec<u8>, A>;
 
 // The lengths of consistency proofs, and the places of inclusion proofs.
 type Proofs = (List<(Length, Length)>, List<Place>);
@@ -44,7 +44,7 @@ fn bundled<D: SupportedDigest, M: Memory>(
 ) -> Result<BytesBundle<D, M>, BundleError> {
     let consistencies = consistencies(data, memory, proofs.0.items.as_slice())?;
     let inclusions = inclusions(data, memory, proofs.1.items.as_slice())?;
-    ProofBundle::bundle(memory, consistencies, inclusions, &data.held)
+    LogProofBundle::bundle(memory, consistencies, inclusions, &data.held)
 }
 
 fn consistencies<D: SupportedDigest, M: Memory>(
@@ -90,22 +90,22 @@ fn of_parts<D: SupportedDigest, M: Memory>(
     memory: M,
 ) -> Result<BytesBundle<D, M>, Wrong> {
     let (data, consistencies, inclusions) = bundle.unbundle(memory)?;
-    Ok(ProofBundle::bundle(memory, consistencies, inclusions, &data)?)
+    Ok(LogProofBundle::bundle(memory, consistencies, inclusions, &data)?)
 }
 
 impl<D: SupportedDigest, M: Memory> Messaged<M> for BytesBundle<D, M> {
     fn through_message(&self, memory: M) -> Result<BytesBundle<D, M>, Wrong> {
         let message = self.to_message(memory)?;
-        Ok(ProofBundle::from_message(memory, message)?)
+        Ok(LogProofBundle::from_message(memory, message)?)
     }
 }
 
 impl<D: SupportedDigest, M: Memory> Stored<M> for BytesBundle<D, M> {
     fn decode(memory: M, bytes: &[u8]) -> Result<BytesBundle<D, M>, DecodeError> {
-        ProofBundle::decode(memory, bytes)
+        LogProofBundle::decode(memory, bytes)
     }
 
     fn encode(&self, memory: M) -> Result<Vec<u8, M>, EncodeError> {
-        ProofBundle::encode(self, memory)
+        LogProofBundle::encode(self, memory)
     }
 }

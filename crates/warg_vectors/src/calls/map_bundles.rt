@@ -9,9 +9,9 @@ use crate::each::{Call, Memory};
 use crate::words::List;
 use std::alloc::AllocError;
 use std::marker::PhantomData;
+use warg_bundle::MapProofBundle;
 use warg_crypto::{SupportedDigest, VisitBytes};
-use warg_log::{DecodeError, EncodeError};
-use warg_map::MapProofBundle;
+use warg_protobuf::{DecodeError, EncodeError};
 
 /// A bundle of the proofs of a map from such keys to such values.
 pub(super) type BytesMapBundle<D, K, M> = MapProofBundle<D, K, K, M>;

@@ -9,9 +9,8 @@ use crate::words::{Fault, Given, List};
 use std::alloc::{AllocError, Allocator};
 use std::marker::PhantomData;
 use warg_crypto::{Hash, SupportedDigest};
-use warg_log::DecodeError;
 use warg_map::Proof;
-use warg_protobuf::{MapInclusionProof, OptionalHash};
+use warg_protobuf::{DecodeError, MapInclusionProof, OptionalHash};
 
 /// A proof over bytes.
 pub(super) type BytesProof<D, M> = Proof<D, Vec<u8>, Vec<u8>, M>;

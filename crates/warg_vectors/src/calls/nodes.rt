@@ -5,7 +5,8 @@ use crate::each;
 use crate::each::{Call, Memory};
 use crate::words::{Fault, Given, Length, Words};
 use std::alloc::AllocError;
-use warg_log::{Node, Side};
+use warg_crypto::Side;
+use warg_log::Node;
 
 const NAMES: [&str; 13] = [
     "broots",

@@ -3,7 +3,7 @@
 use crate::answer::Answer;
 use crate::each::{Call, Memory};
 use std::alloc::AllocError;
-use warg_check::program::run;
+use warg_program::run;
 
 pub(super) struct Run;
 

@@ -4,7 +4,7 @@ use crate::answer::Answer;
 use crate::calls::wrong::Wrong;
 use crate::each::Memory;
 use std::alloc::AllocError;
-use warg_log::{DecodeError, EncodeError};
+use warg_protobuf::{DecodeError, EncodeError};
 
 /// A value that has a message.
 pub(super) trait Messaged<M: Memory>: Sized + Drop {

@@ -12,7 +12,8 @@ use crate::each::{Call, Memory};
 use crate::words::{Fault, Given, Words};
 use std::alloc::AllocError;
 use warg_crypto::{Sha256, SupportedDigest};
-use warg_log::{DecodeError, EncodeError, StackLog, VecLog};
+use warg_log::{StackLog, VecLog};
+use warg_protobuf::{DecodeError, EncodeError};
 
 /// Answers the call that the words spell: a type, and bytes.
 pub(super) fn read(words: &mut Words<'_>, to: &mut Answer) -> Result<(), Fault> {

@@ -2,8 +2,9 @@
 
 use crate::answer::Answer;
 use std::alloc::{AllocError, AllocFailed};
-use warg_log::{BundleError, DecodeError, EncodeError};
+use warg_bundle::BundleError;
 use warg_map::MapError;
+use warg_protobuf::{DecodeError, EncodeError};
 
 /// Why a call has no answer of its own.
 #[derive(Drop)]

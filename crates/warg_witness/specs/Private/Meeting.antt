@@ -3,6 +3,7 @@ use Rattle.std.specs.Prelude.{◌≡◌, ℕ, ◌+◌, ◌^◌, ◌≤◌, List,
 use Rattle.warg_log.specs.Nodes.{height_of, start_of, node_over, balanced_roots}
 use Rattle.warg_log.specs.Tree.{leaves_of, root_of, root_over, own_digest}
 use Rattle.warg_log.specs.Cut.{cut_over}
+use Rattle.warg_log.specs.Claims.{InclusionClaim}
 use Rattle.warg_witness.specs.Private.Ranges.{IsNodeRange}
 use Rattle.warg_witness.specs.Claims.{IsMet, IsConsistencyMet}
 use Rattle.warg_witness.specs.Private.Divergence.{IsDivergence}
@@ -10,13 +11,13 @@ use Rattle.warg_witness.specs.declared.descent.Divergence.{Divergence}
 
 -- The claim with a digest at the node is met; the tree is the one over the entries, the target the node's
 -- range, with the plain digest over it, and the evaluation diverges from the tree as said.
-pub record IsMeeting {D : _} (H : List ℕ → List ℕ) (F : ℕ → Option (List ℕ)) (digest : List ℕ) (node n : ℕ) (entries : List (List ℕ)) (tree : List (List ℕ)) (start count : ℕ) (plain : List ℕ) (divergence : Divergence D) : Type 0 where
-  pub met : IsMet H F digest node n entries
+pub record IsMeeting {D : _} (H : List ℕ → List ℕ) (F : ℕ → Option (List ℕ)) (proof : InclusionClaim) (digest : List ℕ) (entries : List (List ℕ)) (tree : List (List ℕ)) (start count : ℕ) (plain : List ℕ) (divergence : Divergence D) : Type 0 where
+  pub met : IsMet H F proof digest entries
   pub tree_is : tree ≡ leaves_of H entries
-  pub start_is : start ≡ start_of node
-  pub count_is : count ≡ 2 ^ height_of node
-  pub plain_is : plain ≡ root_over H (leaves_of H entries) (start_of node) (2 ^ height_of node)
-  pub diverges : IsDivergence H F digest (own_digest H tree) (root_over H tree (start_of node) (2 ^ height_of node)) (start_of node) (2 ^ height_of node) 0 (length tree) divergence
+  pub start_is : start ≡ start_of proof.leaf.0
+  pub count_is : count ≡ 2 ^ height_of proof.leaf.0
+  pub plain_is : plain ≡ root_over H (leaves_of H entries) (start_of proof.leaf.0) (2 ^ height_of proof.leaf.0)
+  pub diverges : IsDivergence H F digest (own_digest H tree) (root_over H tree (start_of proof.leaf.0) (2 ^ height_of proof.leaf.0)) (start_of proof.leaf.0) (2 ^ height_of proof.leaf.0) 0 (length tree) divergence
 
 -- The claim of consistency is met, and the trees are those over the old and the new entries.
 pub record IsConsistencyMeeting (H : List ℕ → List ℕ) (F : ℕ → Option (List ℕ)) (m n : ℕ) (old new old_tree new_tree : List (List ℕ)) : Type 0 where

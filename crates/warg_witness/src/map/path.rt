@@ -7,8 +7,7 @@ ghost use Rattle.warg_map.specs.ProofValue.{peer_of, proof_value};
 ghost use Rattle.warg_witness.specs.Private.MapPaths.{IsClimb, MeetsOnPath};
 
 use crate::descent::Divergence;
-use warg_crypto::{Hash, SupportedDigest, empty_tree_hash};
-use warg_log::hash_branch;
+use warg_crypto::{Hash, SupportedDigest, empty_tree_hash, hash_branch};
 
 /// Bit `at` of a digest, from the most significant bit of its first byte.
 pub(crate) fn bit<D>(digest: &Hash<D>, at: usize) -> bool

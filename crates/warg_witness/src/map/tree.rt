@@ -9,8 +9,7 @@ ghost use Rattle.warg_witness.specs.Private.MapPaths.{AreEmptyTrees, AreKeysUnde
 use crate::map::keys::{halves, last_place, sides, sorted_keys};
 use crate::map::path::bit;
 use std::alloc::{AllocError, Allocator};
-use warg_crypto::{Hash, SupportedDigest, VisitBytes};
-use warg_log::{hash_branch, hash_leaf};
+use warg_crypto::{Hash, SupportedDigest, VisitBytes, hash_branch, hash_leaf};
 
 /// The plain tree beside a key's path and at its foot.
 #[derive(Drop)]

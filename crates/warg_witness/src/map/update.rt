@@ -14,8 +14,7 @@ use crate::map::path::{Evaluation, meet_on_path};
 use crate::map::plain_leaf;
 use crate::map::tree::plain_path;
 use std::alloc::{AllocError, Allocator};
-use warg_crypto::{Hash, SupportedDigest, VisitBytes};
-use warg_log::hash_leaf;
+use warg_crypto::{Hash, SupportedDigest, VisitBytes, hash_leaf};
 use warg_map::Proof;
 
 /// Whether a proof that leads from the old value to the root of the map of the insertions leads from the new value to

@@ -12,8 +12,8 @@ use crate::collision::Finding;
 use crate::compare::have_same_bytes;
 use crate::descent::Divergence;
 use std::alloc::{AllocError, Allocator};
-use warg_crypto::{Hash, SupportedDigest, VisitBytes};
-use warg_log::{LeafRange, hash_leaf};
+use warg_crypto::{Hash, SupportedDigest, VisitBytes, hash_leaf};
+use warg_log::LeafRange;
 use warg_paths::root_of_inclusion;
 
 // Goes down from a range at which both evaluations have one digest to the leaf at `index` of its leaves, and answers

@@ -2,7 +2,7 @@ use Rattle.std.proofs.Common.{◌==◌, ◌&&◌, subst}
 use Rattle.std.proofs.lemmas.Bool.{and_parts, eqb-true}
 use Rattle.warg_log.specs.Consistency.{consistency, IsConsistent}
 use Rattle.warg_log.specs.Sparse.{held_digest}
-use Rattle.warg_log.specs.Bundles.{Bundle, bundle_of}
+use Rattle.warg_bundle.specs.LogBundles.{Bundle, bundle_of}
 use Rattle.warg_check.specs.Verdicts.{extends}
 use Rattle.warg_check.specs.CheckpointVerdicts.{shows_growth}
 use Rattle.warg_log.proofs.ForCallers.{consistency_only}

@@ -4,7 +4,7 @@ use Rattle.warg_crypto.specs.Tree.{leaf_digest}
 use Rattle.warg_protobuf.specs.MapProofBundle.{MapBundle}
 use Rattle.warg_map.specs.Bits.{key_bits}
 use Rattle.warg_map.specs.ProofValue.{proof_value}
-use Rattle.warg_map.specs.Bundles.{map_bundle_of}
+use Rattle.warg_bundle.specs.MapBundles.{map_bundle_of}
 use Rattle.warg_check.specs.Verdicts.{leads}
 use Rattle.warg_check.proofs.ShownLemmas.{key_hashes}
 use Rattle.warg_check.proofs.VerdictLemmas.{true_verdict}

@@ -1,6 +1,6 @@
 use Rattle.warg_protobuf.specs.MapProofBundle.{MapBundle}
 use Rattle.warg_crypto.specs.Tree.{leaf_digest}
-use Rattle.warg_map.specs.Bundles.{map_bundle_of}
+use Rattle.warg_bundle.specs.MapBundles.{map_bundle_of}
 use Rattle.warg_check.specs.UpdateVerdicts.{leads_both}
 use Rattle.warg_check.proofs.VerdictLemmas.{true_verdict, both_lead}
 use Rattle.warg_check.proofs.laws.update_is_shown.Goals as goal

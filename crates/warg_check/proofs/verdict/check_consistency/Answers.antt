@@ -1,5 +1,5 @@
 use Rattle.std.proofs.Common.{sym}
-use Rattle.warg_log.specs.Bundles.{Bundle, bundle_of}
+use Rattle.warg_bundle.specs.LogBundles.{Bundle, bundle_of}
 use Rattle.warg_check.specs.Verdicts.{extends}
 use Rattle.warg_check.proofs.VerdictLemmas.{judged_at}
 use Rattle.warg_check.proofs.verdict.check_consistency.Goals as goal

@@ -1,6 +1,6 @@
 use Rattle.std.proofs.Common.{◌≡◌, ◌++◌, ◌∷◌, [], false, true, not, sym, ap, ◌∙◌}
 use Rattle.warg_map.specs.Bits.{bit_at}
-use Rattle.warg_map.specs.Private.Side.{side_bit}
+use Rattle.warg_crypto.specs.Sides.{side_bit}
 use Rattle.warg_map.proofs.ManyLeaves.{on_side-none, on_side-push_yes, on_side-push_no}
 use Rattle.warg_map.proofs.grown.sides.Goals as goal
 

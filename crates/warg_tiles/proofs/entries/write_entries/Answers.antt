@@ -7,15 +7,15 @@ use Rattle.warg_tiles.proofs.entries.write_entries.Goals as goal
 pub entries-init : goal.entries-init
 entries-init g c = c.new-bytes.ensures.items ∙ sym bundle_of-none
 
-pub push_entry-requires : goal.push_entry-requires
-push_entry-requires g c =
+pub write_entry-requires : goal.write_entry-requires
+write_entry-requires g c =
     let short = all-here (λ e. length (g.T.AsSlice.items e) < 65536) c.args.entries.now c.entries.entry-index c.entry-item.result c.entries-test.true (c.are_short.ensures.0 c.if-not-are_short.false) in
     rw (c.as_slice.ensures, c.entry-item.is) short
 
 pub entries-preserved : goal.entries-preserved
 entries-preserved g c =
     let step = written_more (λ e. g.T.AsSlice.items e) c.args.entries.now c.entries.entry-index c.entry-item.result c.entries-test.true (sym c.entry-item.is) in
-    let written = rw (c.as_slice.ensures, c.entries.invariant) at c.in_ok-push_entry.ensures in
+    let written = rw (c.as_slice.ensures, c.entries.invariant) at c.in_ok-write_entry.ensures.ok in
     written ∙ step
 
 pub returns-clause-ok : goal.returns-clause-ok

@@ -1,7 +1,7 @@
 use Rattle.std.proofs.Common.{◌≡◌, ◌+◌, ◌*◌, ◌/◌, ◌%◌, ◌^◌, ◌<◌, Some, map, sym, ap, subst, ◌∙◌, arith}
 use Rattle.std.specs.Prelude.{IfErr}
 use Rattle.std.proofs.lemmas.Result.{IfErr-weaker, on_ok_weaker}
-use Rattle.warg_log.specs.Decoding.{earlier}
+use Rattle.warg_protobuf.specs.Decoding.{earlier}
 use Rattle.warg_tiles.specs.TileLog.{tiles_fault}
 use Rattle.warg_tiles.specs.Private.Edges.{partial_from}
 use Rattle.warg_tiles.proofs.BetweenLemmas.{same_tile}

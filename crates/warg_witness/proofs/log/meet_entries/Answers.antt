@@ -1,6 +1,7 @@
-use Rattle.std.proofs.Common.{length, Some, sym, ◌∙◌, ap, arith}
+use Rattle.std.proofs.Common.{length, Some, Ok, sym, ◌∙◌, ap, arith}
 use Rattle.std.proofs.lemmas.List.{length-map}
 use Rattle.warg_log.specs.Tree.{root_of}
+use Rattle.warg_log.proofs.ForCallers.{inclusion_leads}
 use Rattle.warg_witness.proofs.HashLemmas.{ne_false}
 use Rattle.warg_witness.proofs.RangeLemmas.{whole_aligned}
 use Rattle.warg_witness.proofs.DescentLemmas.{length-leaves, have_root}
@@ -13,7 +14,8 @@ pub descend-divergence-requires-clause-one : goal.descend-divergence-requires-cl
 descend-divergence-requires-clause-one g c =
     let count = length-map c.args.entries.now (λ e. g.V.VisitBytes.bytes e) ∙ c.if-entries-log_length.false ∙ c.log_length.ensures.value in
     let all = ap length c.in_ok-tree.ensures.tree ∙ length-leaves g.D.SupportedDigest.digest _ ∙ count in
-    let evaluation = rw c.copied.ensures at c.in-Ok.ensures.ok.1 ∙ ap Some (ne_false _ _ c.if-ne.ensures ∙ c.in_ok-tree.ensures.root) in
+    let leads = (inclusion_leads _ _ c.args.proof.now _ _).0 (sym (rw c.copied.ensures at c.in-Ok.ensures)) in
+    let evaluation = leads.1 ∙ ap Some (ne_false _ _ c.if-ne.ensures ∙ c.in_ok-tree.ensures.root) in
     rw (c.plain_digest-plain.ensures, c.new-whole.ensures.start, c.new-whole.ensures.count ∙ c.log_length-2.ensures.value ∙ sym all)
     (have_root _ _ _ _ (rw (c.leaf_range-target.ensures.start, c.leaf_range-target.ensures.count, c.leaf.ensures, all) evaluation) (rw all (omega arith)))
 
@@ -25,7 +27,7 @@ returns-clause-met g c =
     let all = ap length c.in_ok-tree.ensures.tree ∙ length-leaves g.D.SupportedDigest.digest _ ∙ count in
     let root = ne_false _ _ c.if-ne.ensures ∙ c.in_ok-tree.ensures.root ∙ ap (root_of g.D.SupportedDigest.digest) c.in_ok-tree.ensures.tree in
     record {
-      met = record { count = count; exists = c.in-Ok.ensures.ok.0; is = rw c.copied.ensures at c.in-Ok.ensures.ok.1 ∙ ap Some root };
+      met = record { count = count; is = sym (rw c.copied.ensures at c.in-Ok.ensures) ∙ ap Ok root };
       tree_is = c.in_ok-tree.ensures.tree;
       start_is = start;
       count_is = width;

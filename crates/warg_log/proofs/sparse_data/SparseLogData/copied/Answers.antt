@@ -1,5 +1,5 @@
 use Rattle.std.proofs.Common.{◌∙◌, ◌≤◌, sym, ap, subst, length, take, ◌+◌}
-use Rattle.warg_log.proofs.AllLemmas.{copied_more, taken_whole}
+use Rattle.warg_protobuf.proofs.ForCallers.{copied_more, taken_whole}
 use Rattle.warg_log.proofs.sparse_data.SparseLogData.copied.Goals as goal
 
 pub pairs-preserved : goal.pairs-preserved

@@ -1,6 +1,6 @@
 use Rattle.std.proofs.Common.{◌∙◌, inr}
 use Rattle.std.proofs.lemmas.Result.{err_from_is_err_and}
-use Rattle.warg_log.proofs.AllLemmas.{mapped_more, mapped_whole, digest_passed, digest_met, no_digest_left}
+use Rattle.warg_protobuf.proofs.ForCallers.{mapped_more, mapped_whole, digest_passed, digest_met, no_digest_left}
 use Rattle.warg_log.proofs.stack_log.image.read_blocks.Goals as goal
 
 pub entries-preserved : goal.entries-preserved

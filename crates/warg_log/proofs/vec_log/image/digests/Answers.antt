@@ -1,5 +1,5 @@
 use Rattle.std.proofs.Common.{◌≡◌, ◌∙◌, length}
-use Rattle.warg_log.proofs.AllLemmas.{all_more, all_whole, taken_more, taken_whole}
+use Rattle.warg_protobuf.proofs.ForCallers.{all_more, all_whole, taken_more, taken_whole}
 use Rattle.warg_log.proofs.vec_log.image.digests.Goals as goal
 
 pub places-preserved : goal.places-preserved

@@ -1,5 +1,5 @@
 use Rattle.std.proofs.Common.{◌≡◌, map, take, drop}
-use Rattle.warg_log.specs.Decoding.{first_fault, digest_fault}
+use Rattle.warg_protobuf.specs.Decoding.{first_fault, digest_fault}
 use Rattle.warg_log.proofs.vec_log.image.read_tree.Given as goal
 
 abbrev pub invariant-places : goal.invariant-places

@@ -1,9 +1,8 @@
-use Rattle.std.proofs.Common.{◌≡◌, ◌≤◌, false, length, ap, ◌∙◌, arith, rules}
+use Rattle.std.proofs.Common.{◌≡◌, false, rules}
 use Rattle.std.specs.FinMap.{contains_key, insert}
 use Rattle.warg_map.specs.Bits.{key_bits}
 use Rattle.warg_crypto.specs.Tree.{leaf_digest}
 use Rattle.warg_map.specs.Peers.{Proves}
-use Rattle.warg_map.specs.Private.Seen.{tree_height}
 use Rattle.warg_map.proofs.SparseTree.{length-last_bits}
 use Rattle.warg_map.proofs.InsertionSteps.{root_before, root_after, held_after}
 use Rattle.warg_map.proofs.map.Map.insert_with_proof.Goals as goal
@@ -19,19 +18,13 @@ pub returns-clause-before : goal.returns-clause-before
 returns-clause-before g c =
     let H = g.D.SupportedDigest.digest in
     let bits = key_bits H (g.K.VisitBytes.bytes c.args.key) in
-    let top : tree_height c.node.result.now ≡ 256 = ap (λ d. d.0) c.node.ensures.seen ∙ c.map.invariant.0 in
-    let at_most = rw c.in-Some.is at c.in_ok-proof.ensures.few in
-    let few : length c.in-Some.proof ≤ 256 = omega (arith, top, at_most) in
     let proves : Proves H 256 (insert c.args.self.now bits (leaf_digest H (g.V.VisitBytes.bytes c.args.val))) bits c.in-Some.proof = search rules in
-    root_before H c.args.self.now bits _ c.in-Some.proof (length-last_bits _ 256) few proves
+    root_before H c.args.self.now bits _ c.in-Some.proof (length-last_bits _ 256) proves
 
 pub returns-clause-after : goal.returns-clause-after
 returns-clause-after g c =
     let H = g.D.SupportedDigest.digest in
     let bits = key_bits H (g.K.VisitBytes.bytes c.args.key) in
-    let top : tree_height c.node.result.now ≡ 256 = ap (λ d. d.0) c.node.ensures.seen ∙ c.map.invariant.0 in
-    let at_most = rw c.in-Some.is at c.in_ok-proof.ensures.few in
-    let few : length c.in-Some.proof ≤ 256 = omega (arith, top, at_most) in
     let proves : Proves H 256 (insert c.args.self.now bits (leaf_digest H (g.V.VisitBytes.bytes c.args.val))) bits c.in-Some.proof = search rules in
-    let root = root_after H c.args.self.now bits _ c.in-Some.proof (length-last_bits _ 256) few proves in
+    let root = root_after H c.args.self.now bits _ c.in-Some.proof (length-last_bits _ 256) proves in
     rw c.in_ok-map.ensures.ok (search rules)

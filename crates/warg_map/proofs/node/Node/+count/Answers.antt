@@ -39,12 +39,6 @@ overflow_add-result-in-Stem g t c =
     let h = below_child c.args.self.now _ _ (is_stem c.in-Stem.is c.deref.ensures) c.requires.well_formed c.node-in-Stem.ensures.seen c.requires.more c.requires.fits in
     omega (arith, h.fits, c.count.ensures.few)
 
-pub returns-in-Leaf-clause-exact : goal.returns-in-Leaf-clause-exact
-returns-in-Leaf-clause-exact g t c = rw c.in-Leaf.is (sym (nodes-lone 0 _ _ (len-lone _ _)))
-
-pub returns-in-Leaf-clause-fewer : goal.returns-in-Leaf-clause-fewer
-returns-in-Leaf-clause-fewer g t c = λ s. absurd (lone_no_split _ _ (subst (λ (d : _). Splits (held_by d)) c.in-Leaf.is s))
-
 pub returns-in-Singleton-clause-exact : goal.returns-in-Singleton-clause-exact
 returns-in-Singleton-clause-exact g t c = rw c.in-Singleton.is (sym (nodes-lone _ _ _ (len-lone _ _)))
 

@@ -1,24 +1,17 @@
 use Rattle.std.proofs.Common.{◌≡◌, ◌+◌, ◌-◌, ap, sym, ◌∙◌, refl, arith}
-use Rattle.warg_map.specs.Private.Side.{side_bit}
+use Rattle.warg_crypto.specs.Sides.{side_bit}
 use Rattle.warg_map.specs.Bits.{last_bits, bits_from, bit_at}
 use Rattle.warg_map.specs.Private.Seen.{tree_height}
 use Rattle.warg_map.specs.Private.Lone.{Lone}
-use Rattle.warg_map.proofs.SparseTree.{last_bits-end}
 use Rattle.warg_map.proofs.TreeForm.{after_carries, rest_holds, lone_has, lone_seen, is_fork, is_stem}
-use Rattle.warg_map.proofs.InsertIntoNode.{inserts_into_fork, inserts_leaf, inserts_bottom_lone, inserts_first, inserts_below, has_inserted, stem_parted}
+use Rattle.warg_map.proofs.InsertIntoNode.{inserts_into_fork, inserts_first, inserts_below, has_inserted, stem_parted}
 use Rattle.warg_map.proofs.node.Node.+insert.Goals as goal
 
 pub with_stem-requires-clause-held : goal.with_stem-requires-clause-held
 with_stem-requires-clause-held g t c =
     let s = c.in_ok-lone-in-Empty.lone.value in
-    let key = ap (λ (n : Lone). n.key) c.in_ok-lone-in-Empty.ensures.ok ∙ c.new-in-Empty.ensures.key ∙ c.copied.ensures ∙ c.hash.ensures ∙ sym c.hash-in-Empty.ensures in
-    lone_has (s.height, _) s.height c.hash-in-Empty.result.now s.value (lone_seen s s.height c.hash-in-Empty.result.now s.value refl key refl)
-
-pub returns-in_default-next : goal.returns-in_default-next
-returns-in_default-next g t c =
-    let i : c.args.path.now.index ≡ 256 = c.in_default-next.ensures.steps.index.0 in
-    let z : tree_height c.args.self.now ≡ 0 = omega (arith, c.requires.height, i) in
-    inserts_bottom_lone c.args.self.now c.in-Singleton.singleton _ _ c.args.value c.in-Singleton.is (sym (ap tree_height c.in-Singleton.is) ∙ z) c.in_default-next.ensures.steps.bits.0 c.in_ok-new-in-Singleton.ensures.ok
+    let key = ap (λ (n : Lone). n.key) c.in_ok-lone-in-Empty.ensures.ok ∙ c.new.ensures.key ∙ c.copied.ensures in
+    lone_has (s.height, _) s.height c.hash-key.result.now s.value (lone_seen s s.height c.hash-key.result.now s.value refl key refl)
 
 pub parted-requires-clause-holds : goal.parted-requires-clause-holds
 parted-requires-clause-holds g t c =
@@ -29,9 +22,9 @@ returns-then-shared-stem g t c =
     let s = c.as_ref-stem.result.now in
     let from = c.index-from.result in
     let j = c.shared_with-shared.result in
-    let key = c.copied-key-in-Stem.result in
-    let hash = c.args.path.now.hash.now in
-    let kh : key ≡ hash = c.copied-key-in-Stem.ensures ∙ c.hash-in-Stem.ensures in
+    let key = c.hash-key.result.now in
+    let hash = c.args.path.hash.now in
+    let kh : key ≡ hash = c.hash-key.ensures in
     let fi = c.index-from.ensures in
     stem_parted c.args.self.now _ c.in_ok-node-in-Stem.node _ key hash c.args.value from j c.in_ok-far-in-Stem.far
     (is_stem c.in-Stem.is c.as_ref-stem.ensures) c.requires.well_formed (ap (λ i. last_bits hash (256 - i)) (sym fi)) kh (omega (arith, c.requires.height, c.index-from.ensures)) c.if-shared-stem.true
@@ -48,37 +41,32 @@ pub with_stem-requires-in-Stem-clause-held : goal.with_stem-requires-in-Stem-cla
 with_stem-requires-in-Stem-clause-held g t c =
     let hb : tree_height c.node-in-Stem.result.now ≡ c.as_ref-stem.result.now.below.0 = ap (λ d. d.0) c.node-in-Stem.ensures.seen in
     let ho : tree_height c.args.self.now ≡ c.as_ref-stem.result.now.below.0 + c.as_ref-stem.result.now.len = ap tree_height (is_stem c.in-Stem.is c.as_ref-stem.ensures) in
-    has_inserted c.node-in-Stem.result.now c.in_ok-node-in-Stem-2.node _ c.copied-key-in-Stem.result c.args.path.now.hash.now c.args.value c.advance.new.self.index c.in_ok-node-in-Stem-2.fresh c.in_ok-node-in-Stem-2.ensures
-    (ap (λ y. last_bits y (256 - c.advance.new.self.index)) c.advance.ensures.digest) (c.copied-key-in-Stem.ensures ∙ c.hash-in-Stem.ensures)
+    has_inserted c.node-in-Stem.result.now c.in_ok-node-in-Stem-2.node _ c.hash-key.result.now c.args.path.hash.now c.args.value c.advance.new.self.index c.in_ok-node-in-Stem-2.fresh c.in_ok-node-in-Stem-2.ensures
+    (ap (λ y. last_bits y (256 - c.advance.new.self.index)) c.advance.ensures.digest) (c.hash-key.ensures)
     (omega (arith, hb, ho, c.requires.height, c.advance.ensures.index, c.if-shared-stem.false, c.shared_with-shared.ensures.at_most))
-
-pub returns-in_ok-new-in-Leaf : goal.returns-in_ok-new-in-Leaf
-returns-in_ok-new-in-Leaf g t c =
-    let z : tree_height c.args.self.now ≡ 0 = ap tree_height c.in-Leaf.is in
-    inserts_leaf c.args.self.now _ c.in-Leaf.field-0 c.in_ok-new-in-Leaf.field-0 c.args.value c.in-Leaf.is (last_bits-end c.args.path.now.hash.now c.args.path.now.index (omega (arith, z, c.requires.height))) c.in_ok-new-in-Leaf.ensures.ok
 
 pub returns-in_ok-node-in-Empty : goal.returns-in_ok-node-in-Empty
 returns-in_ok-node-in-Empty g t c =
     let e = c.in_ok-lone-in-Empty.ensures.ok in
-    inserts_first c.args.self.now c.in_ok-node-in-Empty.node c.in-Empty.field-0 c.in_ok-lone-in-Empty.lone _ c.hash-in-Empty.result.now c.args.path.now.hash.now c.args.value c.args.path.now.index
-    c.in-Empty.is c.requires.well_formed c.requires.height refl c.hash-in-Empty.ensures
-    (ap (λ (n : Lone). n.key) e ∙ c.new-in-Empty.ensures.key ∙ c.copied.ensures ∙ c.hash.ensures ∙ sym c.hash-in-Empty.ensures)
-    (ap (λ (n : Lone). n.height) e ∙ c.new-in-Empty.ensures.height) (ap (λ (n : Lone). n.value) e ∙ c.new-in-Empty.ensures.value)
+    inserts_first c.args.self.now c.in_ok-node-in-Empty.node c.in_ok-lone-in-Empty.lone _ c.hash-key.result.now c.args.path.hash.now c.args.value c.args.path.index
+    c.in-Empty.is c.requires.height refl c.hash-key.ensures
+    (ap (λ (n : Lone). n.key) e ∙ c.new.ensures.key ∙ c.copied.ensures)
+    (ap (λ (n : Lone). n.height) e ∙ c.new.ensures.height) (ap (λ (n : Lone). n.value) e ∙ c.new.ensures.value)
     c.in_ok-node-in-Empty.ensures
 
 pub returns-in_ok-new-in-Fork : goal.returns-in_ok-new-in-Fork
 returns-in_ok-new-in-Fork g t c =
-    inserts_into_fork _ _ _ _ (side_bit c.in-Some.side) _ c.node.result.now c.in_ok-node-in-Fork.node _ c.in_ok-new-in-Fork.field-0 c.new-in-Fork.result (is_fork c.in-Fork.is c.as_ref-fork.ensures) c.requires.well_formed
-    c.in-Some.ensures.steps.bits (c.node.ensures.seen ∙ c.index.ensures) c.in_ok-node-in-Fork.ensures c.new-in-Fork.ensures (rw c.in_ok-new-in-Fork.ensures.ok c.in_ok-fork-in-Fork.ensures)
+    inserts_into_fork _ _ _ _ (side_bit c.take_side-side.result) _ c.node.result.now c.in_ok-node-in-Fork.node _ c.in_ok-new-in-Fork.field-0 c.new-in-Fork.result (is_fork c.in-Fork.is c.as_ref-fork.ensures) c.requires.well_formed
+    c.take_side-side.ensures.bits (c.node.ensures.seen ∙ c.index.ensures) c.in_ok-node-in-Fork.ensures c.new-in-Fork.ensures (rw c.in_ok-new-in-Fork.ensures.ok c.in_ok-fork-in-Fork.ensures)
 
 pub returns-in_ok-with_stem-in-Stem : goal.returns-in_ok-with_stem-in-Stem
 returns-in_ok-with_stem-in-Stem g t c =
     let s = c.as_ref-stem.result.now in
     let from = c.index-from.result in
     let len = c.shared_with-shared.result in
-    let key = c.copied-key-in-Stem.result in
-    let hash = c.args.path.now.hash.now in
-    let kh : key ≡ hash = c.copied-key-in-Stem.ensures ∙ c.hash-in-Stem.ensures in
+    let key = c.hash-key.result.now in
+    let hash = c.args.path.hash.now in
+    let kh : key ≡ hash = c.hash-key.ensures in
     let fi = c.index-from.ensures in
     let all : c.shared_with-shared.result ≡ c.as_ref-stem.result.now.len = omega (arith, c.if-shared-stem.false, c.shared_with-shared.ensures.at_most) in
     let ix : c.advance.new.self.index ≡ c.index-from.result + c.shared_with-shared.result = omega (arith, c.advance.ensures.index, c.index-from.ensures) in

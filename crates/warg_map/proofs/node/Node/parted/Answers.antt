@@ -1,5 +1,5 @@
 use Rattle.std.proofs.Common.{◌≡◌, ◌∙◌, ap, sym, ◌+◌, ◌-◌, arith}
-use Rattle.warg_map.specs.Private.Side.{side_bit}
+use Rattle.warg_crypto.specs.Sides.{side_bit}
 use Rattle.warg_map.specs.Bits.{bit_at}
 use Rattle.warg_map.specs.Private.Lone.{Lone, held_alone}
 use Rattle.warg_map.proofs.TreeForm.{fork_formed, fork_has, lone_seen, lone_holds, lone_has}

@@ -1,5 +1,5 @@
 use Rattle.std.proofs.Common.{◌≡◌, rules}
-use Rattle.warg_map.specs.Bundles.{same_peers}
+use Rattle.warg_map.specs.Messages.{same_peers}
 use Rattle.warg_map.proofs.ProofEquality.{peers_decide}
 use Rattle.warg_map.proofs.proof.ProofPartialEq.eq.Goals as goal
 

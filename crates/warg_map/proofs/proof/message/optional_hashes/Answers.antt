@@ -1,7 +1,7 @@
 use Rattle.std.proofs.Common.{◌∙◌}
 use Rattle.warg_protobuf.specs.OptionalHash.{hash_view}
-use Rattle.warg_map.specs.Bundles.{peer_fault}
-use Rattle.warg_map.proofs.ProofMessages.{fault_after, written_more, written_all, no_fault_left}
+use Rattle.warg_map.specs.Messages.{peer_fault}
+use Rattle.warg_protobuf.proofs.ForCallers.{fault_after, written_more, written_all, no_fault_left}
 use Rattle.warg_map.proofs.proof.message.optional_hashes.Goals as goal
 
 pub peers-preserved : goal.peers-preserved

@@ -1,7 +1,7 @@
 use Rattle.std.proofs.Common.{◌≡◌, map, take, drop}
 use Rattle.warg_protobuf.specs.OptionalHash.{hash_view}
-use Rattle.warg_log.specs.Decoding.{first_fault}
-use Rattle.warg_map.specs.Bundles.{peer_fault}
+use Rattle.warg_protobuf.specs.Decoding.{first_fault}
+use Rattle.warg_map.specs.Messages.{peer_fault}
 use Rattle.warg_map.proofs.proof.message.optional_hashes.Given as goal
 
 abbrev pub invariant-peers : goal.invariant-peers

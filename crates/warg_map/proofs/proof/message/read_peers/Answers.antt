@@ -1,7 +1,7 @@
 use Rattle.std.proofs.Common.{◌∙◌, ◌++◌, ◌∷◌, [], ap}
 use Rattle.warg_protobuf.specs.OptionalHash.{hash_view}
-use Rattle.warg_map.specs.Bundles.{peer_fault}
-use Rattle.warg_map.proofs.ProofMessages.{fault_behind, read_more}
+use Rattle.warg_map.specs.Messages.{peer_fault}
+use Rattle.warg_protobuf.proofs.ForCallers.{fault_behind, read_more}
 use Rattle.warg_map.proofs.proof.message.read_peers.Goals as goal
 
 pub hashes-preserved : goal.hashes-preserved

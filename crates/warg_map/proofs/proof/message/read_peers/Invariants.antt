@@ -1,8 +1,8 @@
 use Rattle.std.proofs.Common.{◌≡◌, ◌++◌, map}
 use Rattle.std.specs.Vec.Iter.{into_iter_items}
 use Rattle.warg_protobuf.specs.OptionalHash.{hash_view}
-use Rattle.warg_log.specs.Decoding.{first_fault}
-use Rattle.warg_map.specs.Bundles.{peer_fault}
+use Rattle.warg_protobuf.specs.Decoding.{first_fault}
+use Rattle.warg_map.specs.Messages.{peer_fault}
 use Rattle.warg_map.proofs.proof.message.read_peers.Given as goal
 
 abbrev pub invariant-hashes : goal.invariant-hashes

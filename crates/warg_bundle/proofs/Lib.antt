@@ -1,0 +1,5 @@
+pub mod BundleEquality
+pub mod BundleLemmas
+pub mod NeededLemmas
+pub mod SourceLemmas
+pub mod ServeLemmas

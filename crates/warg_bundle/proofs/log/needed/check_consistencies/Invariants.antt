@@ -1,0 +1,7 @@
+use Rattle.std.proofs.Common.{◌≡◌, drop}
+use Rattle.warg_protobuf.specs.Decoding.{first_fault}
+use Rattle.warg_bundle.specs.Bundling.{consistency_fault}
+use Rattle.warg_bundle.proofs.log.needed.check_consistencies.Given as goal
+
+abbrev pub invariant-proofs : goal.invariant-proofs
+invariant-proofs g l = first_fault (consistency_fault l.length) l.proofs ≡ first_fault (consistency_fault l.length) (drop l.proof-index l.proofs)

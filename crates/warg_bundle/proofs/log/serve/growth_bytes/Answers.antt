@@ -1,0 +1,8 @@
+use Rattle.warg_log.specs.Tree.{own_digest}
+use Rattle.warg_bundle.proofs.ServeLemmas.{serves_growth}
+use Rattle.warg_bundle.proofs.log.serve.growth_bytes.Goals as goal
+
+pub returns-clause-ok : goal.returns-clause-ok
+returns-clause-ok g c =
+    serves_growth (own_digest g.D.SupportedDigest.digest c.args.log.now) c.in_ok-proofs.proofs.items c.new.result.items c.in_ok-proof.proof c.args.old_length c.args.new_length _ _
+    c.in_ok-proofs.ensures.items c.new.ensures.items c.in_ok-proof.ensures.old_length c.in_ok-proof.ensures.new_length c.in_ok-bundle.ensures c.in_ok-encode.ensures.again

@@ -1,0 +1,5 @@
+pub mod LogBundles
+pub mod Bundling
+pub mod MapBundles
+pub mod Served
+pub mod Private

@@ -1,0 +1,4 @@
+-- What only clauses of private functions name; no public clause or law rests on it.
+pub mod Checks
+pub mod KeyBundles
+pub mod Unions

@@ -1,5 +1,0 @@
-use Rattle.warg_check.proofs.WordLemmas.{found_parts}
-use Rattle.warg_check.proofs.program.word.split_first.Goals as goal
-
-pub returns-in-Some : goal.returns-in-Some
-returns-in-Some c = found_parts _ _ _ c.in-Some.ensures

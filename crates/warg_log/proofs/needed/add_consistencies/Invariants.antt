@@ -1,8 +1,0 @@
-use Rattle.std.proofs.Common.{take}
-use Rattle.std.specs.List.{flat_map}
-use Rattle.warg_log.specs.Bundling.{needed_between}
-use Rattle.warg_log.specs.Private.Unions.{IsUnion}
-use Rattle.warg_log.proofs.needed.add_consistencies.Given as goal
-
-abbrev pub invariant-proofs : goal.invariant-proofs
-invariant-proofs g l = IsUnion l.initial.numbers.keys l.numbers.keys (flat_map (λ p. needed_between p.old_length p.new_length) (take l.proof-index l.proofs))

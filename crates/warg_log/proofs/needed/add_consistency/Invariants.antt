@@ -1,8 +1,0 @@
-use Rattle.std.proofs.Common.{◌∷◌, take}
-use Rattle.std.specs.List.{flat_map}
-use Rattle.warg_log.specs.Walks.{needed}
-use Rattle.warg_log.specs.Private.Unions.{IsUnion}
-use Rattle.warg_log.proofs.needed.add_consistency.Given as goal
-
-abbrev pub invariant-roots : goal.invariant-roots
-invariant-roots g l = IsUnion l.initial.numbers.keys l.numbers.keys (flat_map (λ p. p.leaf.0 ∷ needed p.leaf.0 p.log_length) (take l.inclusion-index l.inclusion-items))

@@ -1,7 +1,0 @@
-use Rattle.std.proofs.Common.{◌≡◌, drop}
-use Rattle.warg_log.specs.Decoding.{first_fault}
-use Rattle.warg_log.specs.Bundling.{consistency_fault}
-use Rattle.warg_log.proofs.needed.check_consistencies.Given as goal
-
-abbrev pub invariant-proofs : goal.invariant-proofs
-invariant-proofs g l = first_fault (consistency_fault l.length) l.proofs ≡ first_fault (consistency_fault l.length) (drop l.proof-index l.proofs)

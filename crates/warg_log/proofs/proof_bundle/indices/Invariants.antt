@@ -1,5 +1,0 @@
-use Rattle.std.proofs.Common.{◌≡◌, take, map}
-use Rattle.warg_log.proofs.proof_bundle.indices.Given as goal
-
-abbrev pub invariant-nodes : goal.invariant-nodes
-invariant-nodes g l = l.indices.items ≡ map (λ node. node.0) (take l.node-index l.nodes)

@@ -1,5 +1,0 @@
-use Rattle.std.proofs.Common.{◌≡◌, take, map}
-use Rattle.warg_log.proofs.proof_bundle.leaves.Given as goal
-
-abbrev pub invariant-proofs : goal.invariant-proofs
-invariant-proofs g l = l.nodes.items ≡ map (λ p. p.leaf) (take l.proof-index l.proofs)

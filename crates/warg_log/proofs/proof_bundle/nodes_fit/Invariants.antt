@@ -1,6 +1,0 @@
-use Rattle.std.proofs.Common.{◌^◌, ◌<◌, take}
-use Rattle.std.specs.List.{AllByRecursion}
-use Rattle.warg_log.proofs.proof_bundle.nodes_fit.Given as goal
-
-abbrev pub invariant-nodes : goal.invariant-nodes
-invariant-nodes l = AllByRecursion (λ node. node.0 < 2 ^ 32) (take l.node-index l.nodes)

@@ -1,5 +1,0 @@
-use Rattle.std.proofs.Common.{◌≡◌, take, map}
-use Rattle.warg_log.proofs.proof_bundle.old_lengths.Given as goal
-
-abbrev pub invariant-proofs : goal.invariant-proofs
-invariant-proofs g l = l.lengths.items ≡ map (λ p. p.old_length) (take l.proof-index l.proofs)

@@ -1,6 +1,0 @@
-use Rattle.std.proofs.Common.{◌^◌, ◌<◌, take}
-use Rattle.std.specs.List.{AllByRecursion}
-use Rattle.warg_log.proofs.proof_bundle.pairs_fit.Given as goal
-
-abbrev pub invariant-pairs : goal.invariant-pairs
-invariant-pairs g l = AllByRecursion (λ p. p.0.0 < 2 ^ 32) (take l.pair-index l.pairs)

@@ -1,8 +1,0 @@
-use Rattle.warg_log.specs.Tree.{own_digest}
-use Rattle.warg_log.proofs.ServeLemmas.{serves_leaf}
-use Rattle.warg_log.proofs.vec_log.VecLog.inclusion_bytes.Goals as goal
-
-pub returns-clause-ok : goal.returns-clause-ok
-returns-clause-ok g c =
-    serves_leaf (own_digest g.D.SupportedDigest.digest c.args.self.now) c.new.result.items c.in_ok-proofs.proofs.items c.in_ok-proof.proof c.args.index c.args.log_length _ _
-    c.new.ensures.items c.in_ok-proofs.ensures.items c.in_ok-proof.ensures.leaf c.in_ok-proof.ensures.length c.in_ok-bundle.ensures c.in_ok-encode.ensures.again

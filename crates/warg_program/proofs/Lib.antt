@@ -1,0 +1,4 @@
+pub mod WordLemmas
+pub mod TextLemmas
+pub mod BundledLemmas
+pub mod MapLemmas

@@ -1,0 +1,187 @@
+-- The text of some lines and of those behind them.
+use Rattle.std.proofs.Common.{◌≡◌, ℕ, suc, ◌+◌, Bool, true, false, cond, List, [], ◌∷◌, ◌++◌, length, append_assoc, append-nil, length-append, codes, string_bytes, ◌⊎◌, ⊎_elim, inl, inr, Result, Ok, Err, refl, sym, ◌∙◌, ap, arith}
+use Rattle.std.proofs.lemmas.Bool.{and_parts, true≢false}
+use Rattle.hex.specs.Hex.{encode_lower}
+use Rattle.warg_crypto.specs.Digests.{sha256}
+use Rattle.warg_log.specs.Tree.{own_digest}
+use Rattle.warg_log.specs.Consistency.{consistency}
+use Rattle.warg_log.specs.declared.consistency.ConsistencyProofError.{ConsistencyProofError}
+use Rattle.warg_protobuf.specs.declared.value_error.DecodeError.{DecodeError}
+use Rattle.warg_program.specs.Words.{lines_of}
+use Rattle.warg_program.specs.Orders.{Order, line_of, good, consistent}
+use Rattle.warg_program.specs.States.{State, start, log_at, map_at, after_line, FindsFull}
+use Rattle.warg_program.specs.Text.{said, is_not_bad, text_from, text_of, all_good, after_lines, answer, refusal, roots_or_refusal, verdict_or_refusal, MeetsFull}
+use Rattle.warg_program.specs.Private.Sessions.{IsInState, Takes, LineFindsRoom}
+use Rattle.warg_program.specs.Private.Errors.{LineFindsFull}
+use Rattle.warg_program.specs.declared.session.Session.{Session}
+use Rattle.warg_check.specs.declared.verdict.CheckError.{CheckError}
+use Rattle.warg_check.specs.declared.verdict.CheckError.TheVariants as check
+
+-- a line of these, before which all are good, has an order that finds no room
+unfoldable pub Full : State → List (List ℕ) → Type 0
+Full s [] = ⊥
+Full s (line ∷ lines) = LineFindsFull s (line_of line) ⊎ ((is_not_bad (line_of line) ≡ true) × Full (after_line s (line_of line)) lines)
+
+full_at : (s : State) (before behind : List (List ℕ)) (line : List ℕ) (order : Order) → all_good before ≡ true → line_of line ≡ good order → FindsFull (after_lines s before) order → Full s (before ++ line ∷ behind)
+unfolding Full all_good after_lines
+full_at s [] behind line order fine is full = inl (rw is full)
+full_at s (other ∷ before) behind line order fine is full =
+    let both = and_parts (is_not_bad (line_of other)) (all_good before) fine in
+    inr (both.0, full_at (after_line s (line_of other)) before behind line order both.1 is full)
+
+meets : (input : List ℕ) → MeetsFull input → Full start (lines_of input)
+meets input at = rw at.parts (full_at start at.before at.behind at.line at.order at.all_good at.is_order at.full)
+
+full_behind : (s : State) (line : List ℕ) (lines : List (List ℕ)) → ¬ LineFindsFull s (line_of line) → Full s (line ∷ lines) → Full (after_line s (line_of line)) lines
+unfolding Full
+full_behind s line lines room full = ⊎_elim (λ (here : LineFindsFull s (line_of line)). absurd (room here)) (λ (later : (is_not_bad (line_of line) ≡ true) × Full (after_line s (line_of line)) lines). later.1) full
+
+not_at_bad : (s : State) (line : List ℕ) (lines : List (List ℕ)) → ¬ LineFindsFull s (line_of line) → is_not_bad (line_of line) ≡ false → Full s (line ∷ lines) → ⊥
+unfolding Full
+not_at_bad s line lines room is_bad full = ⊎_elim (λ (here : LineFindsFull s (line_of line)). room here) (λ (later : (is_not_bad (line_of line) ≡ true) × Full (after_line s (line_of line)) lines). true≢false (sym later.0 ∙ is_bad)) full
+
+-- the lines so far were good, the session stands at the state after them, and its text is theirs
+pub record Stands {A : Type 0} (input rest : List ℕ) (session : Session A) (number : ℕ) : Type 0 where
+  pub before : List (List ℕ)
+  pub parts : lines_of input ≡ before ++ lines_of rest
+  pub good : all_good before ≡ true
+  pub state_is : IsInState session (after_lines start before)
+  pub text_is : string_bytes session.text ≡ text_from 1 start before
+  pub number_is : number ≡ length before
+  pub room : MeetsFull input → Full (after_lines start before) (lines_of rest)
+
+-- the text of good lines, and of others behind them
+text_from-append : (n : ℕ) (s : State) (before behind : List (List ℕ)) → all_good before ≡ true
+    → text_from n s (before ++ behind) ≡ text_from n s before ++ text_from (n + length before) (after_lines s before) behind
+unfolding text_from all_good after_lines
+text_from-append n s [] behind fine = ap (λ m. text_from m s behind) (omega arith)
+text_from-append n s (line ∷ before) behind fine =
+    let both = and_parts (is_not_bad (line_of line)) (all_good before) fine in
+    let next = after_line s (line_of line) in
+    let rest = text_from-append (suc n) next before behind both.1 in
+    let at : suc n + length before ≡ n + suc (length before) = omega arith in
+    rw both.0 (
+    ap (λ text. said n s (line_of line) ++ text) (rest ∙ ap (λ m. text_from (suc n) next before ++ text_from m (after_lines next before) behind) at)
+    ∙ sym (append_assoc (said n s (line_of line)) _ _))
+
+after_lines-append : (s : State) (before behind : List (List ℕ)) → after_lines s (before ++ behind) ≡ after_lines (after_lines s before) behind
+unfolding after_lines
+after_lines-append s [] behind = refl
+after_lines-append s (line ∷ before) behind = after_lines-append (after_line s (line_of line)) before behind
+
+all_good-append : (before behind : List (List ℕ)) → all_good before ≡ true → all_good (before ++ behind) ≡ all_good behind
+unfolding all_good
+all_good-append [] behind fine = refl
+all_good-append (line ∷ before) behind fine =
+    let both = and_parts (is_not_bad (line_of line)) (all_good before) fine in
+    rw both.0 (all_good-append before behind both.1)
+
+-- before the first line
+pub starts : {A : Type 0} (input : List ℕ) (session : Session A) → IsInState session start → string_bytes session.text ≡ [] → Stands input input session 0
+unfolding text_from all_good after_lines
+starts input session stands no_text = record {
+  before = [];
+  parts = refl;
+  good = refl;
+  state_is = stands;
+  text_is = no_text;
+  number_is = refl;
+  room = meets input;
+}
+
+one_good : (line : List ℕ) → is_not_bad (line_of line) ≡ true → all_good (line ∷ []) ≡ true
+unfolding all_good
+one_good line p = rw p refl
+
+one_after : (s : State) (line : List ℕ) → after_lines s (line ∷ []) ≡ after_line s (line_of line)
+unfolding after_lines
+one_after s line = refl
+
+no_text : (t : Bool) → cond {A = List ℕ} t [] [] ≡ []
+no_text true = refl
+no_text false = refl
+
+one_text : (n : ℕ) (s : State) (line : List ℕ) → said n s (line_of line) ≡ text_from n s (line ∷ [])
+unfolding text_from
+one_text n s line = sym (ap (λ text. said n s (line_of line) ++ text) (no_text (is_not_bad (line_of line))) ∙ append-nil _)
+
+-- behind one more good line
+pub goes_on : {A : Type 0} (input rest line behind : List ℕ) (old new : Session A) (number : ℕ) → Stands input rest old number
+    → lines_of rest ≡ line ∷ lines_of behind → Takes old new (number + 1) (line_of line) → LineFindsRoom old (line_of line) → is_not_bad (line_of line) ≡ true
+    → Stands input behind new (number + 1)
+goes_on input rest line behind old new number stands lines takes room is_good =
+    let before = stands.before in
+    let s = after_lines start before in
+    let step = takes s stands.state_is in
+    let at : number + 1 ≡ 1 + length before = omega (arith, stands.number_is) in
+    let next : after_lines start (before ++ line ∷ []) ≡ after_line s (line_of line) = after_lines-append start before (line ∷ []) ∙ one_after s line in
+    record {
+      before = before ++ line ∷ [];
+      parts = stands.parts ∙ ap (λ ls. before ++ ls) lines ∙ sym (append_assoc before (line ∷ []) (lines_of behind));
+      good = all_good-append before (line ∷ []) stands.good ∙ one_good line is_good;
+      state_is = record { log_is = step.log_is ∙ ap log_at (sym next); map_is = step.map_is ∙ ap map_at (sym next) };
+      text_is = step.text_is ∙ ap (λ text. text ++ said (number + 1) s (line_of line)) stands.text_is
+          ∙ ap (λ text. text_from 1 start before ++ text) (ap (λ m. said m s (line_of line)) at ∙ one_text (1 + length before) s line)
+          ∙ sym (text_from-append 1 start before (line ∷ []) stands.good);
+      number_is = omega (arith, stands.number_is, length-append before (line ∷ []));
+      room = λ full. rw next (full_behind s line (lines_of behind) (room s stands.state_is) (rw lines at (stands.room full)));
+    }
+
+-- behind the last line
+pub ends : {A : Type 0} (input rest : List ℕ) (session : Session A) (number : ℕ) → Stands input rest session number → length rest ≡ 0
+    → (string_bytes session.text ≡ text_of input) × (all_good (lines_of input) ≡ true)
+unfolding lines_of
+ends input [] session number stands none =
+    let whole : lines_of input ≡ stands.before = stands.parts ∙ append-nil stands.before in
+    (stands.text_is ∙ ap (text_from 1 start) (sym whole), ap all_good whole ∙ stands.good)
+ends input (b ∷ rest) session number stands none = absurd (omega arith)
+
+-- behind a bad line
+pub stops : {A : Type 0} (input rest line behind : List ℕ) (old new : Session A) (number : ℕ) → Stands input rest old number
+    → lines_of rest ≡ line ∷ lines_of behind → Takes old new (number + 1) (line_of line) → is_not_bad (line_of line) ≡ false
+    → (string_bytes new.text ≡ text_of input) × (all_good (lines_of input) ≡ false)
+unfolding text_from all_good
+stops input rest line behind old new number stands lines takes is_bad =
+    let before = stands.before in
+    let s = after_lines start before in
+    let step = takes s stands.state_is in
+    let at : number + 1 ≡ 1 + length before = omega (arith, stands.number_is) in
+    let whole : lines_of input ≡ before ++ line ∷ lines_of behind = stands.parts ∙ ap (λ ls. before ++ ls) lines in
+    let last : said (1 + length before) s (line_of line) ≡ text_from (1 + length before) s (line ∷ lines_of behind) = rw is_bad (sym (append-nil _)) in (
+      step.text_is ∙ ap (λ text. text ++ said (number + 1) s (line_of line)) stands.text_is
+          ∙ ap (λ text. text_from 1 start before ++ text) (ap (λ m. said m s (line_of line)) at ∙ last)
+          ∙ sym (text_from-append 1 start before (line ∷ lines_of behind) stands.good) ∙ ap (text_from 1 start) (sym whole),
+      ap all_good whole ∙ all_good-append before (line ∷ lines_of behind) stands.good ∙ rw is_bad refl,
+    )
+
+-- there was room for the orders of all lines, or of those before a bad one
+pub room_to_end : {A : Type 0} (input rest : List ℕ) (session : Session A) (number : ℕ) → Stands input rest session number → length rest ≡ 0 → ¬ MeetsFull input
+unfolding lines_of Full
+room_to_end input [] session number stands none full = stands.room full
+room_to_end input (b ∷ rest) session number stands none full = absurd (omega arith)
+
+pub room_to_bad : {A : Type 0} (input rest line behind : List ℕ) (old : Session A) (number : ℕ) → Stands input rest old number
+    → lines_of rest ≡ line ∷ lines_of behind → LineFindsRoom old (line_of line) → is_not_bad (line_of line) ≡ false → ¬ MeetsFull input
+room_to_bad input rest line behind old number stands lines room is_bad full =
+    not_at_bad (after_lines start stands.before) line (lines_of behind) (room _ stands.state_is) is_bad (rw lines at (stands.room full))
+
+-- the answer where a consistency proof leads to two roots
+pub roots_answer : (log : List (List ℕ)) (s : State) (m n : ℕ) (old new : List ℕ) → log ≡ log_at s
+    → consistency sha256 (own_digest sha256 log) m n ≡ Ok (old, new) → answer s (consistent m n) ≡ codes "roots " ++ encode_lower old ++ 32 ∷ encode_lower new
+unfolding answer
+roots_answer log s m n old new is leads =
+    let here : consistency sha256 (own_digest sha256 (log_at s)) m n ≡ Ok (old, new) = rw is at leads in
+    ap roots_or_refusal here
+
+-- the answer where a consistency proof leads to no roots
+pub refused_answer : (log : List (List ℕ)) (s : State) (m n : ℕ) (fault : ConsistencyProofError) → log ≡ log_at s
+    → consistency sha256 (own_digest sha256 log) m n ≡ Err fault → answer s (consistent m n) ≡ refusal fault
+unfolding answer
+refused_answer log s m n fault is fails =
+    let here : consistency sha256 (own_digest sha256 (log_at s)) m n ≡ Err fault = rw is at fails in
+    ap roots_or_refusal here
+
+-- bytes that are no bundle are refused for that
+pub not_decoded : (e : DecodeError) (verdict : Result Bool CheckError) → (check.Decode e ≡ check.Memory) ⊎ (verdict ≡ Err (check.Decode e))
+    → verdict_or_refusal verdict ≡ codes "refused not decoded"
+not_decoded e verdict told = ⊎_elim (λ (memory : check.Decode e ≡ check.Memory). absurd (cc)) (λ (is : verdict ≡ Err (check.Decode e)). rw is refl) told

@@ -1,0 +1,121 @@
+-- Lemmas on lines, words and numbers.
+use Rattle.std.proofs.Common.{◌≡◌, ◌≢◌, ℕ, zero, suc, ◌+◌, ◌-◌, ◌*◌, ◌^◌, ◌<◌, ◌≤◌, ◌&&◌, Bool, true, false, List, [], ◌∷◌, ◌++◌, length, take, drop, get_or, Option, Some, None, refl, sym, ◌∙◌, ap, arith, add-one, le-leb, lt-ltb, le-ltb, ne_eqb, option_map, Bor, take_all, le_refl, length-drop}
+use Rattle.std.proofs.Math.Seq.{take-suc, drop-cons}
+use Rattle.std.proofs.lemmas.Bool.{eq-eqb, eqb-true}
+use Rattle.std.proofs.lemmas.List.{take-append-drop}
+use Rattle.std.specs.List.{list_all}
+use Rattle.std.specs.Char.{is_ascii_digit}
+use Rattle.memchr.specs.Find.{IsFirstByte, is_byte}
+use Rattle.warg_program.specs.Words.{lines_of, words_of, words_left, is_number, number_in, value_from}
+use Rattle.warg_program.specs.Private.Parts.{Lacks, IsFirstPart}
+
+Lacks-append : (b : ℕ) (xs ys : List ℕ) → Lacks b xs → Lacks b ys → Lacks b (xs ++ ys)
+Lacks-append b [] ys p q = q
+Lacks-append b (x ∷ xs) ys p q = (p.0, Lacks-append b xs ys p.1 q)
+
+-- one more byte that isn't the separator
+lacks_more : (b : ℕ) (bytes : List ℕ) (i : ℕ) → i < length bytes → Lacks b (take i bytes) → get_or bytes i 0 ≢ b → Lacks b (take (i + 1) bytes)
+lacks_more b bytes i within before here =
+    rw (add-one, take-suc bytes i 0 within) (Lacks-append b (take i bytes) (get_or bytes i 0 ∷ []) before (here, tt))
+
+-- a front whose bytes each aren't the separator
+lacks_before : (b : ℕ) (bytes : List ℕ) (i : ℕ) → i ≤ length bytes → ((k : ℕ) → k < i → get_or bytes k 0 ≢ b) → Lacks b (take i bytes)
+lacks_before b bytes zero within lacks = tt
+lacks_before b bytes (suc i) within lacks =
+    rw (← add-one i) (lacks_more b bytes i (omega arith) (lacks_before b bytes i (omega arith) (λ k below. lacks k (omega arith))) (lacks i (omega arith)))
+
+-- what stands before and behind the first separator
+pub found_parts : (b : ℕ) (bytes : List ℕ) (i : ℕ) → IsFirstByte (is_byte b) bytes (Some i)
+    → (bytes ≡ take i bytes ++ b ∷ take (length bytes - (i + 1)) (drop (i + 1) bytes)) × Lacks b (take i bytes)
+found_parts b bytes i found =
+    let within : i < length bytes = found.0.high in
+    let short : length (drop (i + 1) bytes) ≤ length bytes - (i + 1) = omega (arith, length-drop (i + 1) bytes) in
+    let rest : take (length bytes - (i + 1)) (drop (i + 1) bytes) ≡ drop (i + 1) bytes = take_all _ _ short in
+    let here : get_or bytes i 0 ≡ b = eqb-true _ _ found.1 in
+    let front : drop i bytes ≡ b ∷ drop (i + 1) bytes = drop-cons bytes i 0 within ∙ rw (here, add-one) refl in (
+      rw rest (sym (take-append-drop i bytes) ∙ ap (λ l. take i bytes ++ l) front),
+      lacks_before b bytes i (omega arith) (λ k below same. found.0.before k (omega arith) below (eq-eqb _ _ same)),
+    )
+
+-- bytes with no separator
+pub none_lacks : (b : ℕ) (bytes : List ℕ) → IsFirstByte (is_byte b) bytes None → Lacks b bytes
+none_lacks b bytes none =
+    let whole : take (length bytes) bytes ≡ bytes = take_all _ _ (le_refl (length bytes)) in
+    rw whole at (lacks_before b bytes (length bytes) (le_refl (length bytes)) (λ k below same. none k (omega arith) below (eq-eqb _ _ same)))
+
+-- the value only grows with further digits
+value_from-le : (n : ℕ) (digits : List ℕ) → n ≤ value_from n digits
+unfolding value_from
+value_from-le n [] = omega arith
+value_from-le n (digit ∷ digits) = let more = value_from-le (10 * n + (digit - 48)) digits in omega arith
+
+all_four : (a b c d : Bool) → a ≡ true → b ≡ true → c ≡ true → d ≡ true → (a && b && c && d) ≡ true
+all_four a b c d p q r s = rw (p, q, r, s) refl
+
+last_false : (a b : Bool) → b ≡ false → (a && b) ≡ false
+last_false true b p = p
+last_false false b p = refl
+
+-- a word of digits with a value that fits is the number
+pub number : (word : List ℕ) (n : ℕ) → 0 < length word → length word ≤ 20 → list_all is_ascii_digit word ≡ true → value_from 0 word ≡ n → n < 2 ^ 64
+    → number_in word ≡ Some n
+unfolding number_in
+number word n some few digits is fits =
+    let test : is_number word ≡ true = all_four _ _ _ _ (le-leb 1 (length word) some) (le-leb (length word) 20 few) digits (rw is (lt-ltb n (2 ^ 64) fits)) in
+    rw (test, is) refl
+
+-- a word whose value doesn't fit is none
+pub too_great : (word : List ℕ) (n i : ℕ) → value_from 0 word ≡ value_from n (drop i word) → i < length word → 2 ^ 64 ≤ 10 * n + (get_or word i 0 - 48)
+    → number_in word ≡ None
+unfolding number_in value_from
+too_great word n i is within great =
+    let more = value_from-le (10 * n + (get_or word i 0 - 48)) (drop (suc i) word) in
+    let whole : value_from 0 word ≡ value_from (10 * n + (get_or word i 0 - 48)) (drop (suc i) word) = is ∙ rw (drop-cons word i 0 within) refl in
+    let test : is_number word ≡ false = last_false _ _ (le-ltb (value_from 0 word) (2 ^ 64) (omega arith)) in
+    rw test refl
+
+words_front : (front rest : List ℕ) → Lacks 32 front → words_of (front ++ 32 ∷ rest) ≡ front ∷ words_of rest
+unfolding words_of
+words_front [] rest lacks = refl
+words_front (b ∷ front) rest lacks = rw (ne_eqb b 32 lacks.0, words_front front rest lacks.1) refl
+
+words_whole : (line : List ℕ) → Lacks 32 line → words_of line ≡ line ∷ []
+unfolding words_of
+words_whole [] lacks = refl
+words_whole (b ∷ line) lacks = rw (ne_eqb b 32 lacks.0, words_whole line lacks.1) refl
+
+-- the first word, and those of what stands behind its space
+pub words_next : (line front : List ℕ) (rest : Option (List ℕ)) → IsFirstPart 32 line front rest → words_of line ≡ front ∷ words_left rest
+words_next line front None parts = rw parts.0 (words_whole front parts.1)
+words_next line front (Some rest) parts = rw parts.0 (words_front front rest parts.1)
+
+lines_front : (front rest : List ℕ) → Lacks 10 front → lines_of (front ++ 10 ∷ rest) ≡ front ∷ lines_of rest
+unfolding lines_of
+lines_front [] rest lacks = refl
+lines_front (b ∷ front) rest lacks = rw (ne_eqb b 10 lacks.0, lines_front front rest lacks.1) refl
+
+lines_whole : (b : ℕ) (line : List ℕ) → Lacks 10 (b ∷ line) → lines_of (b ∷ line) ≡ (b ∷ line) ∷ []
+unfolding lines_of
+lines_whole b [] lacks = rw (ne_eqb b 10 lacks.0) refl
+lines_whole b (c ∷ line) lacks = rw (ne_eqb b 10 lacks.0, lines_whole c line lacks.1) refl
+
+-- the first line, and those of what stands behind its LF
+pub lines_more : (bytes front : List ℕ) (rest : Option (Bor (List ℕ))) (x : Bor (List ℕ)) → rest ≡ Some x
+    → IsFirstPart 10 bytes front (option_map (λ r. r.now) rest) → lines_of bytes ≡ front ∷ lines_of x.now
+lines_more bytes front None x is parts = absurd (cc)
+lines_more bytes front (Some r) x is parts =
+    let same : r ≡ x = cc in
+    rw parts.0 (lines_front front r.now parts.1) ∙ ap (λ (y : Bor (List ℕ)). front ∷ lines_of y.now) same
+
+-- a last line without an LF
+last_line : (bytes front : List ℕ) → 0 < length bytes → (bytes ≡ front) × Lacks 10 front → lines_of bytes ≡ front ∷ lines_of []
+unfolding lines_of
+last_line bytes [] some parts = absurd (omega (arith, ap length parts.0))
+last_line bytes (b ∷ front) some parts = rw parts.0 (lines_whole b front parts.1)
+
+pub lines_end : (bytes front : List ℕ) (rest : Option (Bor (List ℕ))) (n : ℕ) → 0 < length bytes → rest ≡ None
+    → IsFirstPart 10 bytes front (option_map (λ r. r.now) rest) → lines_of bytes ≡ front ∷ lines_of (take (n - n) (drop n bytes))
+lines_end bytes front None n some none parts =
+    let no_more : n - n ≡ 0 = omega arith in
+    last_line bytes front some parts ∙ ap (λ m. front ∷ lines_of (take m (drop n bytes))) (sym no_more)
+lines_end bytes front (Some r) n some none parts = absurd (cc)
