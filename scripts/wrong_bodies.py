@@ -36,6 +36,7 @@ import kit
 
 PARTS = ("src", "specs", "proofs")
 UNPROVED = re.compile(r"fn \S+: (?!proved)")
+WAITS = re.compile(r"which (is|are) not proved")
 LACKS_A_NAME = re.compile(r"has no field|is not in scope|has no `|was not admitted|is no name")
 
 
@@ -207,7 +208,7 @@ class Crate:
             elif said.startswith("proved") or len(edits) == 1 and checked.is_proved:
                 answers[edit] = "proved"
             else:
-                answers[edit] = "waits" if "which is not proved" in said else "unjudged: " + said[:200]
+                answers[edit] = "waits" if WAITS.search(said) else "unjudged: " + said[:200]
         return answers
 
     def fitting(self, edits, told):
