@@ -1,7 +1,7 @@
 -- What an inclusion proof's evaluation says.
 use Rattle.std.proofs.Common.{◌≡◌, ℕ, ◌≤◌, Bool, true, false, nat_le, List, Option, Some, None, Result, Ok, Err, ◌↔◌, if◌then◌else◌, refl, arith}
 use Rattle.std.specs.Option.{ok_or}
-use Rattle.std.proofs.lemmas.Bool.{leb-true, le-leb, lt-leb, cases_Bool}
+use Rattle.std.proofs.lemmas.Bool.{leb-true, le-leb, lt-leb}
 use Rattle.warg_log.specs.declared.proof.InclusionProofError.{InclusionProofError}
 use Rattle.warg_log.specs.declared.proof.InclusionProofError.TheVariants.{LeafTooNew, HashNotKnown}
 

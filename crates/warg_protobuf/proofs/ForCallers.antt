@@ -144,11 +144,6 @@ pub mapped_twice_whole : {X Y Z : Type 0} (f : X → Y) (g : Y → Z) (xs : List
 mapped_twice_whole f g xs i out was le = was ∙ ap (λ l. map g (map f l)) (take_all i xs le)
 
 -- a list that is copied from its front on
-pub taken_more : {X Y : Type 0} (f : Y → X) (xs : List X) (i : ℕ) (x : X) (old new : List Y) (y : Y) → i < length xs → x ≡ get_or xs i x
-    → map f old ≡ take i xs → new ≡ old ++ y ∷ [] → f y ≡ x → map f new ≡ take (i + 1) xs
-taken_more f xs i x old new y lt is was now here =
-    pushed_view f old new y now ∙ ap (λ l. l ++ f y ∷ []) was ∙ ap (λ z. take i xs ++ z ∷ []) here ∙ sym (one_taken xs i x lt is)
-
 pub taken_whole : {X : Type 0} (xs : List X) (i : ℕ) (out : List X) → out ≡ take i xs → length xs ≤ i → out ≡ xs
 taken_whole xs i out was le = was ∙ take_all i xs le
 

@@ -184,9 +184,9 @@ pub written_whole : {X A : Type 0} (h : List X → List A) (xs : List X) (i : �
     → length xs ≤ i → out ≡ before ++ h xs
 written_whole h xs i before out was all = was ∙ ap (λ l. before ++ h l) (take_all i xs all)
 
-pub repeated-append : {X : Type 0} (k : ℕ) (f : X → List ℕ) (xs ys : List X)
-    → fields_bytes (repeated_fields k (map f (xs ++ ys))) ≡ fields_bytes (repeated_fields k (map f xs)) ++ fields_bytes (repeated_fields k (map f ys))
-repeated-append k f xs ys = simp (map-append, flat_map-append)
+pub repeated-append : (k : ℕ) (xs ys : List (List ℕ))
+    → fields_bytes (repeated_fields k (xs ++ ys)) ≡ fields_bytes (repeated_fields k xs) ++ fields_bytes (repeated_fields k ys)
+repeated-append k xs ys = simp (map-append, flat_map-append)
 
 pub one_repeated : (k : ℕ) (inner : List ℕ) → field_bytes (delimited_field k inner) ≡ fields_bytes (repeated_fields k (inner ∷ []))
 one_repeated k inner = sym (flat_map-cons field_bytes (delimited_field k inner) [] ∙ append-nil (field_bytes (delimited_field k inner)))

@@ -11,7 +11,7 @@ use Rattle.warg_protobuf.specs.Reading.{outcome}
 use Rattle.warg_protobuf.specs.Varint.{IsVarint, varint_at, varint_bytes}
 use Rattle.warg_protobuf.specs.Field.{Payload, varint, fixed64, delimited, fixed32, Field, wire_type, SpellsPayload, SpellsField, SpellsAll}
 use Rattle.warg_protobuf.specs.Schema.{Schema, check_by, as_uint32, packed_uint32s, uint32_in, bytes_in, uint32s_in, message_of, message_in, each, value, values, last_of, is_uint32}
-use Rattle.warg_protobuf.specs.Spelled.{AllCheck, IsSpelled}
+use Rattle.warg_protobuf.specs.Spelled.{AllCheck, IsSpelled, IsEncoded}
 use Rattle.warg_protobuf.specs.Written.{payload_bytes, field_bytes, fields_bytes, varint_field, delimited_field, uint32_fields, bytes_fields, packed_fields, repeated_fields, message_fields}
 use Rattle.warg_protobuf.proofs.Varints.{varint_bytes_is}
 use Rattle.warg_protobuf.proofs.Fields.{wire_type_small}
@@ -278,19 +278,15 @@ nested_value schema fields k [] read = refl
 nested_value {M} schema fields k (m ∷ ms) read =
     rw (eq-eqb k k refl, read.0) (ap (λ (l : List M). m ∷ l) (nested_value schema fields k ms read.1))
 
--- ---- the clauses of an encoder
+-- ---- what an encoder returns
 
-pub spelled : {A M : Type 0} (schema : Schema M) (fields : M → List Field) (Fits : M → Type 0)
+pub encoded : {A M : Type 0} (schema : Schema M) (fields : M → List Field) (Fits : M → Type 0)
     → ReadsAgain schema fields Fits → (m : M) (r : Result (Vec ℕ A) AllocError)
     → IfOk r (λ v. v.items ≡ fields_bytes (fields m)) → OnOk r (Fits m) → IfOk r (λ v. length v.items < 2 ^ 64)
-    → IfOk r (λ v. IsSpelled schema v.items m)
-spelled schema fields Fits reads m (Ok v) is fits short =
+    → IfOk r (λ v. IsEncoded schema (λ x. fields_bytes (fields x)) m v.items)
+encoded schema fields Fits reads m (Ok v) is fits short =
     let P : List ℕ → Type 0 = λ l. length l < 2 ^ 64 in
     let Q : List ℕ → Type 0 = λ l. IsSpelled schema l m in
-    subst Q (sym is) (reads.again m fits (subst P is short))
-spelled schema fields Fits reads m (Err e) is fits short = tt
-
-pub again : {A M : Type 0} (schema : Schema M) (m : M) (r : Result (Vec ℕ A) AllocError)
-    → IfOk r (λ v. IsSpelled schema v.items m) → IfOk r (λ v. message_of schema v.items ≡ Ok m)
-again schema m (Ok v) is = spelled_read schema v.items m is
-again schema m (Err e) is = tt
+    let spells = subst Q (sym is) (reads.again m fits (subst P is short)) in
+    record { written = is; spelled = spells; again = spelled_read schema v.items m spells }
+encoded schema fields Fits reads m (Err e) is fits short = tt

@@ -2,3 +2,4 @@
 pub mod Lent
 pub mod Taking
 pub mod Adds
+pub mod Stored

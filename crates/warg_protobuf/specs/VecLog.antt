@@ -1,5 +1,5 @@
 -- The message `VecLog`.
-use Rattle.std.specs.Prelude.{ℕ, ◌^◌, ◌<◌, List, [], ◌∷◌, ◌++◌, map}
+use Rattle.std.specs.Prelude.{ℕ, ◌^◌, ◌<◌, List, [], ◌∷◌, ◌++◌}
 use Rattle.warg_protobuf.specs.declared.vec_log.VecLog.{VecLog}
 use Rattle.warg_protobuf.specs.Field.{Field}
 use Rattle.warg_protobuf.specs.Schema.{Table, Schema, uint32, bytes, uint32_in, bytes_in, each, value, values, last_of}
@@ -12,7 +12,7 @@ pub record VecImage : Type 0 where
 
 -- A log image without where it lies in memory.
 abbrev pub vec_view : {A : Type 0} → VecLog A → VecImage
-vec_view b = record { length = b.length; tree = map (λ v. v.items) b.tree.items }
+vec_view b = record { length = b.length; tree = b.tree.items }
 
 -- The fields of a `VecLog` (proto3).
 abbrev pub vec_table : Table

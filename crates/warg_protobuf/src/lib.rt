@@ -29,6 +29,7 @@
 //! that is 0, for bytes that are empty and have no presence, and for an empty list.
 #![tactic(auto)]
 
+mod digest_bytes;
 mod error;
 mod field;
 mod hash_entry;
@@ -45,6 +46,7 @@ mod varint;
 mod vec_log;
 mod writer;
 
+pub use digest_bytes::DigestBytes;
 pub use error::WireError;
 pub use hash_entry::HashEntry;
 pub use log_proof_bundle::LogProofBundle;

@@ -1,10 +1,6 @@
 //! The message `LogProofBundle`.
-ghost use Rattle.std.specs.Prelude.{◌≡◌, ◌⊎◌, IfOk, IfErr, Ok, Err};
-ghost use Rattle.warg_protobuf.specs.declared.error.WireError.{WireError as Fault};
-ghost use Rattle.warg_protobuf.specs.declared.error.WireError.TheVariants.{Memory};
-ghost use Rattle.warg_protobuf.specs.Reading.{Gives};
-ghost use Rattle.warg_protobuf.specs.Schema.{message_of};
-ghost use Rattle.warg_protobuf.specs.Spelled.{IsSpelled, FaultStands};
+ghost use Rattle.std.specs.Prelude.{IfOk};
+ghost use Rattle.warg_protobuf.specs.Spelled.{Decodes, IsEncoded};
 
 use crate::error::WireError;
 use crate::field::Field;
@@ -77,7 +73,7 @@ impl<A: Allocator + Copy> Message<A> for LogProofBundle<A> {
 }
 
 impl<A: Allocator + Copy> LogProofBundle<A> {
-    ghost use Rattle.warg_protobuf.specs.LogProofBundle.{LogBundle, log_view, log_schema, log_bytes};
+    ghost use Rattle.warg_protobuf.specs.LogProofBundle.{log_view, log_schema, log_bytes};
 
     /// Reads the message that the bytes spell.
     ///
@@ -86,18 +82,7 @@ impl<A: Allocator + Copy> LogProofBundle<A> {
     /// The first fault of the bytes ([`WireError`]), or `Memory` where a growth was refused. Memory grows with
     /// the bytes read, and never by a length that they announce.
     pub fn decode(alloc: A, bytes: &[u8]) -> Result<Self, WireError>
-        // What is read is spelled so.
-        ensures found { IfOk result (λ m. IsSpelled log_schema bytes.now (log_view m)) }
-        // What is spelled so is read, unless memory runs out.
-        ensures only { (m : LogBundle) → IsSpelled log_schema bytes.now m
-            → Gives log_view result (Ok m) }
-        // A fault that is named stands in the bytes.
-        ensures fault { IfErr result (λ e. (e ≡ Memory) ⊎ FaultStands log_schema bytes.now e) }
-        // A fault that stands in the bytes is named, unless memory runs out.
-        ensures faulty { (e : Fault) → FaultStands log_schema bytes.now e
-            → Gives log_view result (Err e) }
-        // All of this as a function of the bytes.
-        ensures exact { Gives log_view result (message_of log_schema bytes.now) }
+        ensures { Decodes log_schema log_view bytes.now result }
     {
         decode_message(alloc, bytes)
     }
@@ -108,11 +93,7 @@ impl<A: Allocator + Copy> LogProofBundle<A> {
     ///
     /// `AllocError` where a growth was refused.
     pub fn encode(&self, alloc: A) -> Result<Vec<u8, A>, AllocError>
-        ensures written { IfOk result (λ v. v.items ≡ log_bytes (log_view self.now)) }
-        // What is written spells the message.
-        ensures spelled { IfOk result (λ v. IsSpelled log_schema v.items (log_view self.now)) }
-        // What is written is read as the same message.
-        ensures again { IfOk result (λ v. message_of log_schema v.items ≡ Ok (log_view self.now)) }
+        ensures { IfOk result (λ v. IsEncoded log_schema log_bytes (log_view self.now) v.items) }
     {
         encode_message(alloc, self)
     }

@@ -1,10 +1,6 @@
 //! The message `MapProofBundle`.
-ghost use Rattle.std.specs.Prelude.{◌≡◌, ◌⊎◌, IfOk, IfErr, Ok, Err};
-ghost use Rattle.warg_protobuf.specs.declared.error.WireError.{WireError as Fault};
-ghost use Rattle.warg_protobuf.specs.declared.error.WireError.TheVariants.{Memory};
-ghost use Rattle.warg_protobuf.specs.Reading.{Gives};
-ghost use Rattle.warg_protobuf.specs.Schema.{message_of};
-ghost use Rattle.warg_protobuf.specs.Spelled.{IsSpelled, FaultStands};
+ghost use Rattle.std.specs.Prelude.{IfOk};
+ghost use Rattle.warg_protobuf.specs.Spelled.{Decodes, IsEncoded};
 
 use crate::error::WireError;
 use crate::field::Field;
@@ -65,7 +61,7 @@ impl<A: Allocator + Copy> Message<A> for MapProofBundle<A> {
 }
 
 impl<A: Allocator + Copy> MapProofBundle<A> {
-    ghost use Rattle.warg_protobuf.specs.MapProofBundle.{MapBundle, map_view, map_schema, map_bytes};
+    ghost use Rattle.warg_protobuf.specs.MapProofBundle.{map_view, map_schema, map_bytes};
 
     /// Reads the message that the bytes spell.
     ///
@@ -74,18 +70,7 @@ impl<A: Allocator + Copy> MapProofBundle<A> {
     /// The first fault of the bytes ([`WireError`]), or `Memory` where a growth was refused. Memory grows with
     /// the bytes read, and never by a length that they announce.
     pub fn decode(alloc: A, bytes: &[u8]) -> Result<Self, WireError>
-        // What is read is spelled so.
-        ensures found { IfOk result (λ m. IsSpelled map_schema bytes.now (map_view m)) }
-        // What is spelled so is read, unless memory runs out.
-        ensures only { (m : MapBundle) → IsSpelled map_schema bytes.now m
-            → Gives map_view result (Ok m) }
-        // A fault that is named stands in the bytes.
-        ensures fault { IfErr result (λ e. (e ≡ Memory) ⊎ FaultStands map_schema bytes.now e) }
-        // A fault that stands in the bytes is named, unless memory runs out.
-        ensures faulty { (e : Fault) → FaultStands map_schema bytes.now e
-            → Gives map_view result (Err e) }
-        // All of this as a function of the bytes.
-        ensures exact { Gives map_view result (message_of map_schema bytes.now) }
+        ensures { Decodes map_schema map_view bytes.now result }
     {
         decode_message(alloc, bytes)
     }
@@ -96,11 +81,7 @@ impl<A: Allocator + Copy> MapProofBundle<A> {
     ///
     /// `AllocError` where a growth was refused.
     pub fn encode(&self, alloc: A) -> Result<Vec<u8, A>, AllocError>
-        ensures written { IfOk result (λ v. v.items ≡ map_bytes (map_view self.now)) }
-        // What is written spells the message.
-        ensures spelled { IfOk result (λ v. IsSpelled map_schema v.items (map_view self.now)) }
-        // What is written is read as the same message.
-        ensures again { IfOk result (λ v. message_of map_schema v.items ≡ Ok (map_view self.now)) }
+        ensures { IfOk result (λ v. IsEncoded map_schema map_bytes (map_view self.now) v.items) }
     {
         encode_message(alloc, self)
     }

@@ -1,13 +1,11 @@
 //! What all messages share: one loop that reads them, and one that writes them in lists.
-ghost use Rattle.std.specs.Prelude.{◌≡◌, ◌⊎◌, ◌++◌, ◌<◌, ◌^◌, [], List, ℕ, Result, Ok, Err, All, OnOk, IfOk, IfErr, length, map};
-ghost use Rattle.warg_protobuf.specs.declared.error.WireError.{WireError};
-ghost use Rattle.warg_protobuf.specs.declared.error.WireError.TheVariants.{Memory};
+ghost use Rattle.std.specs.Prelude.{◌≡◌, ◌++◌, ◌<◌, ◌^◌, [], List, All, OnOk, IfOk, length, map};
 ghost use Rattle.warg_protobuf.specs.Reading.{Gives, outcome, values_read, as_list};
 ghost use Rattle.warg_protobuf.specs.Field.{Field as AnyField};
 ghost use Rattle.warg_protobuf.specs.Schema.{Schema, check_by, message_of, message_in};
 ghost use Rattle.warg_protobuf.specs.Private.Lent.{field_view, payload_view};
 ghost use Rattle.warg_protobuf.specs.Private.Taking.{Puts, Adds};
-ghost use Rattle.warg_protobuf.specs.Spelled.{IsSpelled, FaultStands};
+ghost use Rattle.warg_protobuf.specs.Spelled.{Decodes};
 ghost use Rattle.warg_protobuf.specs.Written.{fields_bytes, message_fields};
 
 use crate::error::WireError;
@@ -93,17 +91,7 @@ pub(crate) fn decode_message<A: Allocator + Copy, M: Message<A>>(
     alloc: A,
     bytes: &[u8],
 ) -> Result<M, WireError>
-    // What is read is spelled so.
-    ensures found { IfOk result (λ m. IsSpelled M.schema bytes.now (M.view m)) }
-    // What is spelled so is read, unless memory runs out.
-    ensures only { (m : M.Seen) → IsSpelled M.schema bytes.now m → Gives M.view result (Ok m) }
-    // A fault that is named stands in the bytes.
-    ensures fault { IfErr result (λ e. (e ≡ Memory) ⊎ FaultStands M.schema bytes.now e) }
-    // A fault that stands in the bytes is named, unless memory runs out.
-    ensures faulty { (e : WireError) → FaultStands M.schema bytes.now e
-        → Gives M.view result (Err e) }
-    // All of this as a function of the bytes.
-    ensures exact { Gives M.view result (message_of M.schema bytes.now) }
+    ensures { Decodes M.schema M.view bytes.now result }
 {
     read_message(alloc, bytes)
 }

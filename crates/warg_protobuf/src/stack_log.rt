@@ -1,10 +1,6 @@
 //! The message `StackLog`.
-ghost use Rattle.std.specs.Prelude.{◌≡◌, ◌⊎◌, IfOk, IfErr, Ok, Err};
-ghost use Rattle.warg_protobuf.specs.declared.error.WireError.{WireError as Fault};
-ghost use Rattle.warg_protobuf.specs.declared.error.WireError.TheVariants.{Memory};
-ghost use Rattle.warg_protobuf.specs.Reading.{Gives};
-ghost use Rattle.warg_protobuf.specs.Schema.{message_of};
-ghost use Rattle.warg_protobuf.specs.Spelled.{IsSpelled, FaultStands};
+ghost use Rattle.std.specs.Prelude.{IfOk};
+ghost use Rattle.warg_protobuf.specs.Spelled.{Decodes, IsEncoded};
 
 use crate::error::WireError;
 use crate::field::Field;
@@ -67,7 +63,7 @@ impl<A: Allocator + Copy> Message<A> for StackLog<A> {
 }
 
 impl<A: Allocator + Copy> StackLog<A> {
-    ghost use Rattle.warg_protobuf.specs.StackLog.{StackImage, stack_view, stack_schema, stack_bytes};
+    ghost use Rattle.warg_protobuf.specs.StackLog.{stack_view, stack_schema, stack_bytes};
 
     /// Reads the message that the bytes spell.
     ///
@@ -76,18 +72,7 @@ impl<A: Allocator + Copy> StackLog<A> {
     /// The first fault of the bytes ([`WireError`]), or `Memory` where a growth was refused. Memory grows with
     /// the bytes read, and never by a length that they announce.
     pub fn decode(alloc: A, bytes: &[u8]) -> Result<Self, WireError>
-        // What is read is spelled so.
-        ensures found { IfOk result (λ m. IsSpelled stack_schema bytes.now (stack_view m)) }
-        // What is spelled so is read, unless memory runs out.
-        ensures only { (m : StackImage) → IsSpelled stack_schema bytes.now m
-            → Gives stack_view result (Ok m) }
-        // A fault that is named stands in the bytes.
-        ensures fault { IfErr result (λ e. (e ≡ Memory) ⊎ FaultStands stack_schema bytes.now e) }
-        // A fault that stands in the bytes is named, unless memory runs out.
-        ensures faulty { (e : Fault) → FaultStands stack_schema bytes.now e
-            → Gives stack_view result (Err e) }
-        // All of this as a function of the bytes.
-        ensures exact { Gives stack_view result (message_of stack_schema bytes.now) }
+        ensures { Decodes stack_schema stack_view bytes.now result }
     {
         decode_message(alloc, bytes)
     }
@@ -98,12 +83,7 @@ impl<A: Allocator + Copy> StackLog<A> {
     ///
     /// `AllocError` where a growth was refused.
     pub fn encode(&self, alloc: A) -> Result<Vec<u8, A>, AllocError>
-        ensures written { IfOk result (λ v. v.items ≡ stack_bytes (stack_view self.now)) }
-        // What is written spells the message.
-        ensures spelled { IfOk result (λ v. IsSpelled stack_schema v.items (stack_view self.now)) }
-        // What is written is read as the same message.
-        ensures again { IfOk result (λ v. message_of stack_schema v.items
-            ≡ Ok (stack_view self.now)) }
+        ensures { IfOk result (λ v. IsEncoded stack_schema stack_bytes (stack_view self.now) v.items) }
     {
         encode_message(alloc, self)
     }

@@ -1,9 +1,10 @@
 //! Fields at the end of bytes.
-ghost use Rattle.std.specs.Prelude.{◌≡◌, ◌<◌, ◌^◌, ◌++◌, All, OnOk, IfOk, map};
+ghost use Rattle.std.specs.Prelude.{◌≡◌, ◌<◌, ◌^◌, ◌++◌, All, OnOk, IfOk};
 ghost use Rattle.std.specs.List.{flat_map};
 ghost use Rattle.warg_protobuf.specs.Varint.{varint_bytes};
 ghost use Rattle.warg_protobuf.specs.Written.{field_bytes, fields_bytes, delimited_field, uint32_fields, bytes_fields, packed_fields, repeated_fields};
 
+use crate::digest_bytes::DigestBytes;
 use crate::varint::push_varint;
 use std::alloc::{AllocError, Allocator};
 
@@ -86,17 +87,17 @@ pub(crate) fn push_uint32s<A: Allocator + Copy>(
     Ok(())
 }
 
-/// Writes each list of bytes in a field of its own, also where it is empty.
+/// Writes the bytes of each digest in a field of its own, also where they are empty.
 pub(crate) fn push_repeated<A: Allocator>(
     out: &mut Vec<u8, A>,
     field: u8,
-    elements: &[Vec<u8, A>],
+    digests: &[DigestBytes<A>],
 ) -> Result<(), AllocError>
     ensures { OnOk result (out.new.items ≡ out.old.items ++ fields_bytes
-        (repeated_fields field (map (λ v. v.items) elements.now))) }
+        (repeated_fields field digests.now)) }
 {
-    for element in elements {
-        push_delimited(out, field, element)?;
+    for digest in digests {
+        push_delimited(out, field, digest.as_slice())?;
     }
     Ok(())
 }

@@ -15,7 +15,7 @@ use crate::vec_log::VecLog;
 use std::alloc::{AllocError, Allocator};
 use std::marker::PhantomData;
 use warg_crypto::{Hash, SupportedDigest, VisitBytes, hash_branch, hash_empty};
-use warg_protobuf::{DecodeError, EncodeError, VecLog as Message};
+use warg_protobuf::{DecodeError, DigestBytes, EncodeError, VecLog as Message};
 
 impl<D: SupportedDigest, V: VisitBytes, A: Allocator + Copy> VecLog<D, V, A> {
     /// The log that a message holds.
@@ -88,14 +88,15 @@ impl<D: SupportedDigest, V: VisitBytes, A: Allocator + Copy> VecLog<D, V, A> {
     }
 }
 
-// The digests of these bytes.
-fn read_tree<D, A: Allocator>(alloc: A, tree: &[Vec<u8, A>]) -> Result<Vec<Hash<D>, A>, DecodeError>
-    ensures ok { IfOk result (λ hashes. hashes.items ≡ map (λ v. v.items) tree.now) }
-    ensures good { IfOk result (λ hashes. first_fault digest_fault (map (λ v. v.items) tree.now)
-        ≡ None) }
+// The hashes with these bytes.
+fn read_tree<D, A: Allocator>(
+    alloc: A,
+    tree: &[DigestBytes<A>],
+) -> Result<Vec<Hash<D>, A>, DecodeError>
+    ensures ok { IfOk result (λ hashes. hashes.items ≡ tree.now) }
+    ensures good { IfOk result (λ hashes. first_fault digest_fault tree.now ≡ None) }
     ensures fault { IfErr result (λ e. (e ≡ DecodeError.Memory)
-        ⊎ ((e ≡ DecodeError.HashLength) × (first_fault digest_fault (map (λ v. v.items) tree.now)
-        ≡ Some e))) }
+        ⊎ ((e ≡ DecodeError.HashLength) × (first_fault digest_fault tree.now ≡ Some e))) }
 {
     let mut hashes = Vec::new(alloc);
     'places: for digest in tree {
@@ -143,15 +144,14 @@ fn is_held<D: SupportedDigest>(tree: &[Hash<D>], count: usize, node: Node, space
 fn digests<D, A: Allocator + Copy>(
     alloc: A,
     tree: &[Hash<D>],
-) -> Result<Vec<Vec<u8, A>, A>, AllocError>
-    ensures digests { IfOk result (λ digests. map (λ v. v.items) digests.items ≡ tree.now) }
+) -> Result<Vec<DigestBytes<A>, A>, AllocError>
+    ensures digests { IfOk result (λ digests. digests.items ≡ tree.now) }
     ensures lengths { IfOk result (λ digests. AllByRecursion (λ d. length d ≡ 32) tree.now) }
 {
     let mut digests = Vec::new(alloc);
     'places: for hash in tree {
         prove_eq!(hash.len(), 32);
-        let digest = Vec::from_slice(alloc, hash.bytes())?;
-        digests.push(digest)?;
+        digests.push(DigestBytes::from_array(*hash.as_ref()))?;
     }
     Ok(digests)
 }

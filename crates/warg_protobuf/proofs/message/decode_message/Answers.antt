@@ -1,14 +1,11 @@
 use Rattle.warg_protobuf.proofs.Decoders.{found, only, fault, faulty}
 use Rattle.warg_protobuf.proofs.message.decode_message.Goals as goal
 
-pub returns-clause-found : goal.returns-clause-found
-returns-clause-found g c = found g.M.Message.view g.M.Message.schema c.args.bytes.now c.read_message.result c.read_message.ensures
-
-pub returns-clause-only : goal.returns-clause-only
-returns-clause-only g c = only g.M.Message.view g.M.Message.schema c.args.bytes.now c.read_message.result c.read_message.ensures
-
-pub returns-clause-fault : goal.returns-clause-fault
-returns-clause-fault g c = fault g.M.Message.view g.M.Message.schema c.args.bytes.now c.read_message.result c.read_message.ensures
-
-pub returns-clause-faulty : goal.returns-clause-faulty
-returns-clause-faulty g c = faulty g.M.Message.view g.M.Message.schema c.args.bytes.now c.read_message.result c.read_message.ensures
+pub returns : goal.returns
+returns g c = record {
+  found = found g.M.Message.view g.M.Message.schema c.args.bytes.now c.read_message.result c.read_message.ensures;
+  only = only g.M.Message.view g.M.Message.schema c.args.bytes.now c.read_message.result c.read_message.ensures;
+  fault = fault g.M.Message.view g.M.Message.schema c.args.bytes.now c.read_message.result c.read_message.ensures;
+  faulty = faulty g.M.Message.view g.M.Message.schema c.args.bytes.now c.read_message.result c.read_message.ensures;
+  exact = c.read_message.ensures;
+}

@@ -1,10 +1,10 @@
 use Rattle.std.proofs.Common.{◌≡◌, ◌∙◌, length}
-use Rattle.warg_protobuf.proofs.ForCallers.{all_more, all_whole, taken_more, taken_whole}
+use Rattle.warg_protobuf.proofs.ForCallers.{all_more, all_whole, copied_more, taken_whole}
 use Rattle.warg_log.proofs.vec_log.image.digests.Goals as goal
 
 pub places-preserved : goal.places-preserved
 places-preserved g c = record {
-  digests = taken_more (λ v. v.items) c.args.tree.now c.places.hash-index c.hash-item.result c.places.digests.items c.push.new.self.items c.in_ok-digest.digest c.places-test.true c.hash-item.is c.places.invariant.digests c.in_ok-push.ensures.items (c.in_ok-digest.ensures.items ∙ c.bytes.ensures.value);
+  digests = copied_more c.args.tree.now c.places.hash-index c.hash-item.result c.places.digests.items c.push.new.self.items c.from_array.result c.places-test.true c.hash-item.is c.places.invariant.digests c.in_ok-push.ensures.items (c.from_array.ensures ∙ c.as_ref.ensures);
   lengths = all_more (λ d. length d ≡ 32) c.args.tree.now c.places.hash-index c.hash-item.result c.places-test.true c.hash-item.is c.places.invariant.lengths (c.len.ensures.bytes ∙ c.len.ensures.value);
 }
 

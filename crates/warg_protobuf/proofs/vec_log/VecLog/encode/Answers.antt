@@ -1,10 +1,7 @@
 use Rattle.warg_protobuf.specs.VecLog.{vec_view, vec_schema, vec_fields, VecFits}
-use Rattle.warg_protobuf.proofs.Writing.{spelled, again}
+use Rattle.warg_protobuf.proofs.Writing.{encoded}
 use Rattle.warg_protobuf.proofs.RoundTrips.{vecs_again}
 use Rattle.warg_protobuf.proofs.vec_log.VecLog.encode.Goals as goal
 
-pub returns-clause-spelled : goal.returns-clause-spelled
-returns-clause-spelled g c = spelled vec_schema vec_fields VecFits vecs_again (vec_view c.args.self.now) c.encode_message.result c.encode_message.ensures.written c.encode_message.ensures.fits c.encode_message.ensures.short
-
-pub returns-clause-again : goal.returns-clause-again
-returns-clause-again g c = again vec_schema (vec_view c.args.self.now) c.encode_message.result (returns-clause-spelled g c)
+pub returns : goal.returns
+returns g c = encoded vec_schema vec_fields VecFits vecs_again (vec_view c.args.self.now) c.encode_message.result c.encode_message.ensures.written c.encode_message.ensures.fits c.encode_message.ensures.short
