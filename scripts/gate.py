@@ -21,7 +21,7 @@ import threading
 import time
 
 ROOT = pathlib.Path(__file__).resolve().parent.parent
-BEFORE = (["foreign_proofs.py"], ["definitions.py", "--check"], ["calls.py", "--check"], ["check_docs.py"], ["check_header.py"])
+BEFORE = (["foreign_proofs.py"], ["definitions.py", "--check"], ["calls.py", "--check"], ["counts.py", "--check"], ["check_docs.py"], ["check_header.py"])
 # What runs the programs that the kit's gate has just built.
 BEHIND = (
     ["check_programs.py", *(f"crates/{name}/out/{name}" for name in ("warg_check_cli", "warg_verdict", "warg_tlog"))],

@@ -4,8 +4,7 @@ ghost use Rattle.warg_program.specs.Words.{words_of};
 ghost use Rattle.warg_program.specs.Private.Says.{Says};
 ghost use Rattle.warg_program.specs.Orders.{order_of, push_in, log_in, include_in, consistent_in, bundle_in, verify_in, insert_in, map_in, prove_in, absent_in};
 
-use crate::word::LogLength;
-use crate::words::{Unread, Words};
+use crate::words::{LogLength, Unread, Words};
 use std::alloc::Allocator;
 use std::marker::Model;
 use warg_crypto::{Hash, Sha256};

@@ -5,7 +5,6 @@ mod command;
 mod program;
 mod session;
 mod status;
-mod word;
 mod words;
 
 pub use program::{RunError, run};

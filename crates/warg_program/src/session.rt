@@ -10,8 +10,7 @@ ghost use Rattle.warg_program.specs.Text.{is_not_bad, refusal, bytes_or_refusal,
 
 use crate::command::{Command, Kind};
 use crate::program::RunError;
-use crate::word::{LogLength, next_line};
-use crate::words::Unread;
+use crate::words::{LogLength, Unread, next_line};
 use std::alloc::Allocator;
 use std::fmt::Write;
 use warg_bundle::{BundleError, LogProofBundle};
@@ -119,7 +118,7 @@ impl<A: Allocator + Copy> Session<A> {
     {
         let checkpoint = self.log.checkpoint();
         let length = checkpoint.length();
-        let root = hex::encode(self.alloc, checkpoint.root().bytes())?;
+        let root = checkpoint.root();
         writeln!(self.text, "log {length} {root}")?;
         Ok(())
     }
@@ -138,10 +137,7 @@ impl<A: Allocator + Copy> Session<A> {
     {
         let proof = self.log.prove_inclusion(node, log_length.value);
         match proof.evaluate_value(&self.log, value) {
-            Ok(root) => {
-                let root = hex::encode(self.alloc, root.bytes())?;
-                writeln!(self.text, "root {root}")?;
-            }
+            Ok(root) => writeln!(self.text, "root {root}")?,
             Err(InclusionProofError::LeafTooNew) => writeln!(self.text, "refused leaf too new")?,
             Err(InclusionProofError::HashNotKnown) => {
                 writeln!(self.text, "refused hash not known")?
@@ -159,11 +155,7 @@ impl<A: Allocator + Copy> Session<A> {
     {
         let proof = self.log.prove_consistency(old.value, new.value);
         match proof.evaluate(&self.log) {
-            Ok((old_root, new_root)) => {
-                let old_root = hex::encode(self.alloc, old_root.bytes())?;
-                let new_root = hex::encode(self.alloc, new_root.bytes())?;
-                writeln!(self.text, "roots {old_root} {new_root}")?;
-            }
+            Ok((old_root, new_root)) => writeln!(self.text, "roots {old_root} {new_root}")?,
             Err(fault) => self.refuse(fault)?,
         }
         Ok(())
@@ -246,7 +238,7 @@ impl<A: Allocator + Copy> Session<A> {
         ensures errors { IfErr result (Refuses self.old map) }
     {
         let len = self.map.len();
-        let root = hex::encode(self.alloc, self.map.root().bytes())?;
+        let root = self.map.root();
         writeln!(self.text, "map {len} {root}")?;
         Ok(())
     }
@@ -260,7 +252,7 @@ impl<A: Allocator + Copy> Session<A> {
         let copy = Vec::from_slice(self.alloc, key.as_slice())?;
         match self.map.prove(copy)? {
             Some(proof) => {
-                let root = hex::encode(self.alloc, proof.evaluate(key, value).bytes())?;
+                let root = proof.evaluate(key, value);
                 writeln!(self.text, "root {root}")?;
             }
             None => writeln!(self.text, "absent")?,
@@ -276,7 +268,7 @@ impl<A: Allocator + Copy> Session<A> {
         let copy = Vec::from_slice(self.alloc, key.as_slice())?;
         match self.map.prove_absence(copy)? {
             Some(absence) => {
-                let root = hex::encode(self.alloc, absence.evaluate_absent(key).bytes())?;
+                let root = absence.evaluate_absent(key);
                 writeln!(self.text, "empty {root}")?;
             }
             None => writeln!(self.text, "refused present")?,

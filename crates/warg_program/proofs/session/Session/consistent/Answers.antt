@@ -1,4 +1,5 @@
 use Rattle.std.proofs.Common.{◌∷◌, ◌++◌, [], ◌∙◌, sym, ap, append_assoc, codes, string_bytes}
+use Rattle.hex.specs.Hex.{encode_lower}
 use Rattle.warg_program.proofs.TextLemmas.{roots_answer, refused_answer}
 use Rattle.warg_program.proofs.session.Session.consistent.Goals as goal
 
@@ -17,12 +18,10 @@ returns-in_ok-refuse-in-Err-clause-ok g c s at =
 pub returns-in_ok-writeln-in-Ok-clause-ok : goal.returns-in_ok-writeln-in-Ok-clause-ok
 returns-in_ok-writeln-in-Ok-clause-ok g c s at =
     let proof = c.prove_consistency-proof.ensures in
-    let old_shown = rw c.bytes.ensures.value at c.in_ok-old_root-in-Ok.ensures in
-    let new_shown = rw c.bytes-in-Ok.ensures.value at c.in_ok-new_root-in-Ok.ensures in
     let leads = rw (proof.old_length, proof.new_length) at (sym c.evaluate.ensures.value ∙ c.in-Ok.is) in
     record {
       log_is = at.log_is;
       map_is = at.map_is;
-      text_is = rw (roots_answer _ s _ _ _ _ at.log_is leads, ← old_shown, ← new_shown) (c.in_ok-writeln-in-Ok.ensures.bytes
-          ∙ ap (λ text. string_bytes c.args.self.now.text ++ (codes "roots " ++ text)) (sym (append_assoc (string_bytes c.in_ok-old_root-in-Ok.old_root) (32 ∷ string_bytes c.in_ok-new_root-in-Ok.new_root) (10 ∷ []))));
+      text_is = rw (roots_answer _ s _ _ _ _ at.log_is leads) (c.in_ok-writeln-in-Ok.ensures.bytes
+          ∙ ap (λ text. string_bytes c.args.self.now.text ++ (codes "roots " ++ text)) (sym (append_assoc (encode_lower c.in-Ok.old_root) (32 ∷ encode_lower c.in-Ok.new_root) (10 ∷ []))));
     }

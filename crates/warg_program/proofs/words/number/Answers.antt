@@ -5,7 +5,7 @@ use Rattle.std.specs.List.{list_all}
 use Rattle.std.specs.Char.{is_ascii_digit}
 use Rattle.warg_program.specs.Words.{value_from}
 use Rattle.warg_program.proofs.WordLemmas.{number, too_great}
-use Rattle.warg_program.proofs.word.number.Goals as goal
+use Rattle.warg_program.proofs.words.number.Goals as goal
 
 -- what a sum or a product that doesn't fit is
 refused : (o : Option ℕ) (v : ℕ) → SomeIff o (v < 2 ^ 64) v → o ≡ None → 2 ^ 64 ≤ v

@@ -1,5 +1,5 @@
 use Rattle.warg_program.proofs.WordLemmas.{lines_more, lines_end}
-use Rattle.warg_program.proofs.word.next_line.Goals as goal
+use Rattle.warg_program.proofs.words.next_line.Goals as goal
 
 pub returns-in-Some-clause-lines : goal.returns-in-Some-clause-lines
 returns-in-Some-clause-lines c = lines_more _ _ _ _ c.in-Some.is c.split_first.ensures
