@@ -8,6 +8,7 @@ mod growth;
 mod logs;
 mod maps;
 mod paths;
+mod ratios;
 mod rows;
 mod slow;
 mod times;
@@ -46,6 +47,7 @@ fn measure(rt: &HostRuntime) -> Result<()> {
     paths::measure(rt, branch)?;
     maps::measure(rt, 1_000)?;
     maps::measure(rt, 10_000)?;
+    ratios::measure(rt)?;
     bundles::measure(rt)?;
     verdicts::measure(rt)?;
     updates::measure(rt, branch, 10_000)?;
