@@ -13,6 +13,7 @@ from running import little_memory, ran
 
 ROOT = pathlib.Path(__file__).resolve().parent.parent
 COMMANDS = b"push 6f6e65\npush 74776f\nlog\n"
+BAD_LINE = b"log 0 e3b0c44298fc1c149afbf4c8996fb92427ae41e4649b934ca495991b7852b855\nbad line 2\n"
 ANSWERS = b"node 0\nnode 2\nlog 2 4f55f619d9215235778b2b9f17d6f4915b16171214d152381293669764de722e\n"
 
 
@@ -20,8 +21,8 @@ def of_check(program):
     """Yields what is tried of warg_check, and whether it came out."""
     status, out, err = ran([program], input=COMMANDS)
     yield "commands", (status, out, err) == (0, ANSWERS, b"")
-    status, out, err = ran([program], input=b"log\nlogs\n")
-    yield "a bad line", status == 1 and out.endswith(b"bad line 2\n") and not err
+    for second in (b"height 1\n", b"logs\n"):
+        yield f"a bad line: {second}", ran([program], input=b"log\n" + second + b"log\n") == (1, BAD_LINE, b"")
     for word in ("--help", "-h"):
         status, out, err = ran([program, word])
         yield word, status == 0 and b"push BYTES" in out and not err

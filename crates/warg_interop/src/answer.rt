@@ -36,19 +36,12 @@ pub(crate) struct Said {
 impl fmt::Display for Answer {
     fn fmt<W: fmt::Write>(&self, f: &mut fmt::Formatter<W>) -> fmt::Result {
         match self {
-            Answer::Log(log) => write!(f, "{} {}", log.length(), log.root()),
+            Answer::Log(log) => write_log(log, f),
             Answer::Path(path) => write_path(path.as_slice(), f),
             Answer::Refused(error) => write!(f, "refused {error:?}"),
             Answer::Verdict(verdict) => write!(f, "{verdict}"),
-            Answer::Tile(tile) => {
-                let level = tile.level();
-                write!(f, "{level}:")?;
-                write_place(tile, f)
-            }
-            Answer::Bundle(tile) => {
-                write!(f, "entries:")?;
-                write_place(tile, f)
-            }
+            Answer::Tile(tile) => write_tile(tile, f),
+            Answer::Bundle(tile) => write_bundle(tile, f),
             Answer::BadPath => write!(f, "refused BadPath"),
             Answer::Checkpoint(said) => write_said(said, f),
             Answer::BadCheckpoint(error) => write!(f, "refused {error:?}"),
@@ -57,11 +50,25 @@ impl fmt::Display for Answer {
     }
 }
 
-// Writes a tile's number and width.
-fn write_place<W: fmt::Write>(tile: &Tile, f: &mut fmt::Formatter<W>) -> fmt::Result {
+fn write_log<W: fmt::Write>(log: &Checkpoint<Sha256>, f: &mut fmt::Formatter<W>) -> fmt::Result {
+    let length = log.length();
+    let root = log.root();
+    write!(f, "{length} {root}")
+}
+
+// Writes a tile's level, number and width.
+fn write_tile<W: fmt::Write>(tile: &Tile, f: &mut fmt::Formatter<W>) -> fmt::Result {
+    let level = tile.level();
     let number = tile.number();
     let width = tile.width();
-    write!(f, "{number}:{width}")
+    write!(f, "{level}:{number}:{width}")
+}
+
+// Writes an entry bundle's number and width.
+fn write_bundle<W: fmt::Write>(tile: &Tile, f: &mut fmt::Formatter<W>) -> fmt::Result {
+    let number = tile.number();
+    let width = tile.width();
+    write!(f, "entries:{number}:{width}")
 }
 
 fn write_said<W: fmt::Write>(said: &Said, f: &mut fmt::Formatter<W>) -> fmt::Result {

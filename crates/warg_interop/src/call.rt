@@ -72,30 +72,61 @@ impl<'a> Call<'a> {
         let words: Vec<&str> = line.split(' ').collect(alloc)?;
         match words.as_slice() {
             ["push", count] => Ok(Call::Push(number(count)?)),
-            ["record", index, length] => Ok(Call::Record {
-                index: number(index)?,
-                length: Length::read(length)?,
-            }),
-            ["tree", old, new] => Ok(Call::Tree {
-                old: number(old)?,
-                new: Length::read(new)?,
-            }),
-            ["check_record", index, value, length, root, path] => Ok(Call::CheckRecord {
-                index: number(index)?,
-                value,
-                checkpoint: checkpoint(length, root)?,
-                path: read_path(alloc, path)?,
-            }),
-            ["check_tree", old, old_root, new, new_root, path] => Ok(Call::CheckTree {
-                old: checkpoint(old, old_root)?,
-                new: checkpoint(new, new_root)?,
-                path: read_path(alloc, path)?,
-            }),
+            ["record", index, length] => record(index, length),
+            ["tree", old, new] => tree(old, new),
+            ["check_record", index, value, length, root, path] => {
+                check_record(alloc, index, value, [length, root], path)
+            }
+            ["check_tree", old, old_root, new, new_root, path] => {
+                check_tree(alloc, [old, old_root], [new, new_root], path)
+            }
             ["tile_path", digits] => Ok(Call::TilePath(bytes(alloc, digits)?)),
             ["checkpoint_text", digits] => Ok(Call::CheckpointText(bytes(alloc, digits)?)),
             _ => Err(CallError::BadCall),
         }
     }
+}
+
+fn record<'a>(index: &str, length: &str) -> Result<Call<'a>, CallError> {
+    let index = number(index)?;
+    let length = Length::read(length)?;
+    Ok(Call::Record { index, length })
+}
+
+fn check_record<'a>(
+    alloc: Global,
+    index: &str,
+    value: &'a str,
+    of: [&str; 2],
+    path: &str,
+) -> Result<Call<'a>, CallError> {
+    let index = number(index)?;
+    let checkpoint = checkpoint(of)?;
+    let path = read_path(alloc, path)?;
+    Ok(Call::CheckRecord {
+        index,
+        value,
+        checkpoint,
+        path,
+    })
+}
+
+fn check_tree<'a>(
+    alloc: Global,
+    old: [&str; 2],
+    new: [&str; 2],
+    path: &str,
+) -> Result<Call<'a>, CallError> {
+    let old = checkpoint(old)?;
+    let new = checkpoint(new)?;
+    let path = read_path(alloc, path)?;
+    Ok(Call::CheckTree { old, new, path })
+}
+
+fn tree<'a>(old: &str, new: &str) -> Result<Call<'a>, CallError> {
+    let old = number(old)?;
+    let new = Length::read(new)?;
+    Ok(Call::Tree { old, new })
 }
 
 impl Length {
@@ -121,15 +152,17 @@ fn bytes(alloc: Global, word: &str) -> Result<Vec<u8>, CallError> {
 }
 
 fn number(word: &str) -> Result<usize, CallError> {
-    word.parse().map_err(|_| CallError::BadCall)
+    word.parse().ok().ok_or(CallError::BadCall)
 }
 
 fn hash(word: &str) -> Result<Hash<Sha256>, CallError> {
-    word.parse().map_err(|_| CallError::BadCall)
+    word.parse().ok().ok_or(CallError::BadCall)
 }
 
-fn checkpoint(length: &str, root: &str) -> Result<Checkpoint<Sha256>, CallError> {
-    Ok(Checkpoint::new(hash(root)?, Length::read(length)?.value))
+// The checkpoint that a length and a root spell.
+fn checkpoint(words: [&str; 2]) -> Result<Checkpoint<Sha256>, CallError> {
+    let length = Length::read(words[0])?;
+    Ok(Checkpoint::new(hash(words[1])?, length.value))
 }
 
 fn read_path(alloc: Global, word: &str) -> Result<Path, CallError> {

@@ -5,7 +5,7 @@ use refusing::Refusing;
 use std::alloc::Global;
 use std::test::Fail;
 use warg_bundle::{BundleError, LogProofBundle};
-use warg_crypto::Sha256;
+use warg_crypto::{Hash, Sha256};
 use warg_log::{
     ConsistencyProof, ConsistencyProofError, InclusionProof, InclusionProofError, LogData, Node,
     SparseLogData,
@@ -19,6 +19,14 @@ type Data = SparseLogData<Sha256, ()>;
 // Consistency from 2 to 3 and inclusion of the first and the last entry in the log of no bytes, `00` and `10`.
 const BOTH: &str = "0803 120102 1a020004 2224 0801 1220 U2 2224 0802 1220 L1 2224 0804 1220 L2";
 
+fn nothing(alloc: Global) -> Data {
+    SparseLogData::from(Vec::new(alloc))
+}
+
+fn lent<'a>(alloc: Global, memory: &'a Refusing<Global>) -> Result<Bundle<'a>, Fail> {
+    Ok(LogProofBundle::decode(memory, &bytes_of(alloc, BOTH)?)?)
+}
+
 // Whether the bundle answers these proofs and no others.
 fn has_proofs(bundle: &Bundle<'_>, data: &Data) -> bool {
     all(&[
@@ -30,33 +38,63 @@ fn has_proofs(bundle: &Bundle<'_>, data: &Data) -> bool {
     ])
 }
 
+// Whether the bundle holds the digest of node 1, that of node 2, and none of node 0.
+fn has_digests(bundle: &Bundle<'_>, second: &Hash<Sha256>) -> bool {
+    let hashes = bundle.hashes();
+    all(&[
+        hashes.has_hash(Node(2)),
+        !hashes.has_hash(Node(0)),
+        hashes.hash_for(Node(1)).as_ref() == Some(second),
+    ])
+}
+
 #[test]
 fn readers_without_memory(rt: HostRuntime) -> Result<(), Fail> {
     let memory = Refusing::after(rt.alloc(), 99);
-    let bundle: Bundle<'_> = LogProofBundle::decode(&memory, &bytes_of(rt.alloc(), BOTH)?)?;
+    let bundle = lent(rt.alloc(), &memory)?;
+    let second = hash_of(rt.alloc(), "U2")?;
     memory.exhaust();
-    let none: Data = SparseLogData::from(Vec::new(rt.alloc()));
+    let none = nothing(rt.alloc());
     assert!(rt; has_proofs(&bundle, &none));
-    let hashes = bundle.hashes();
-    assert!(rt; all(&[hashes.has_hash(Node(2)), !hashes.has_hash(Node(0))]));
-    assert!(rt; hashes.hash_for(Node(1)) == Some(hash_of(rt.alloc(), "U2")?));
-    let roots = none.prove_consistency(2, 3).evaluate(&none).is_err();
-    assert!(rt; all(&[roots, memory.left() == 0, !memory.has_refused()]));
+    assert!(rt; has_digests(&bundle, &second));
+    assert!(rt; none.prove_consistency(2, 3).evaluate(&none).is_err());
+    assert!(rt; all(&[memory.left() == 0, !memory.has_refused()]));
     Ok(())
+}
+
+// Whether these are the proofs of the bundle, in order.
+fn are_parts(
+    data: &SparseLogData<Sha256, (), &Refusing<Global>>,
+    consistencies: &[ConsistencyProof<Sha256, ()>],
+    inclusions: &[InclusionProof<Sha256, ()>],
+) -> bool {
+    let proof = data.prove_consistency(2, 3);
+    let first = data.prove_inclusion(Node(0), 3);
+    let last = data.prove_inclusion(Node(4), 3);
+    all(&[
+        inclusions == [first, last].as_slice(),
+        consistencies == [proof].as_slice(),
+        proof.evaluate(data).is_ok(),
+    ])
 }
 
 #[test]
 fn parts_in_order(rt: HostRuntime) -> Result<(), Fail> {
     let memory = Refusing::after(rt.alloc(), 99);
-    let bundle: Bundle<'_> = LogProofBundle::decode(&memory, &bytes_of(rt.alloc(), BOTH)?)?;
+    let bundle = lent(rt.alloc(), &memory)?;
     let (hashes, consistencies, inclusions) = bundle.unbundle(&memory)?;
-    let proof = hashes.prove_consistency(2, 3);
-    let first = hashes.prove_inclusion(Node(0), 3);
-    let last = hashes.prove_inclusion(Node(4), 3);
-    assert!(rt; inclusions.as_slice() == [first, last].as_slice());
-    assert!(rt; consistencies.as_slice() == [proof].as_slice());
-    assert!(rt; proof.evaluate(&hashes).is_ok());
+    assert!(rt; are_parts(&hashes, consistencies.as_slice(), inclusions.as_slice()));
     Ok(())
+}
+
+// The bundle of the first entry's proof, which comes in one allocator, in another one.
+fn bundled<'a>(
+    memory: &'a Refusing<Global>,
+    lists: &'a Refusing<Global>,
+    data: &Data,
+) -> Result<Bundle<'a>, Fail> {
+    let proofs = vec![in lists; data.prove_inclusion(Node(0), 3)]?;
+    Ok(LogProofBundle::bundle(memory, Vec::new(lists), proofs, data)?)
 }
 
 // All parts of a bundle lie in the allocator that is handed over, whichever one the proofs came in.
@@ -65,14 +103,7 @@ fn a_bundle_lies_in_one_allocator(rt: HostRuntime) -> Result<(), Fail> {
     let memory = Refusing::after(rt.alloc(), 99);
     let lists = Refusing::after(rt.alloc(), 1);
     let data = read(rt.alloc(), BOTH)?;
-    let proof = data.hashes().prove_inclusion(Node(0), 3);
-    let proofs = vec![in &lists; proof]?;
-    let bundle: Bundle<'_> = LogProofBundle::bundle(
-        &memory,
-        Vec::new(&lists),
-        proofs,
-        data.hashes(),
-    )?;
+    let bundle = bundled(&memory, &lists, data.hashes())?;
     assert!(rt; all(&[memory.left() < 99, lists.left() == 0, !lists.has_refused()]));
     assert!(rt; all(&[bundle.unbundle(&memory).is_ok(), !lists.has_refused()]));
     assert!(rt; all(&[bundle.unbundle(&lists).is_err(), lists.has_refused()]));
@@ -83,19 +114,22 @@ fn read(alloc: Global, words: &str) -> Result<LogProofBundle<Sha256, ()>, Fail> 
     Ok(LogProofBundle::decode(alloc, &bytes_of(alloc, words)?)?)
 }
 
+// Bundles with another length, old length, node or digest.
+const OTHERS: [&str; 6] = [
+    "0804 120102 1a020004 2224 0801 1220 U2 2224 0802 1220 L1 2224 0804 1220 L2",
+    "0803 120101 1a020004 2224 0801 1220 U2 2224 0802 1220 L1 2224 0804 1220 L2",
+    "0803 120102 1a020002 2224 0801 1220 U2 2224 0802 1220 L1 2224 0804 1220 L2",
+    "0803 120102 1a020004 2224 0801 1220 U2 2224 0802 1220 L1 2224 0804 1220 L1",
+    "0803 120102 1a020004 2224 0801 1220 U2 2224 0802 1220 L1 2224 0805 1220 L2",
+    "0803 120102 1a020004 2224 0801 1220 U2 2224 0802 1220 L1",
+];
+
 // Bundles are equal exactly if their lengths, old lengths, nodes and digests are.
 #[test]
 fn equal_bundles(rt: HostRuntime) -> Result<(), Fail> {
     let bundle = read(rt.alloc(), BOTH)?;
     assert!(rt; bundle == read(rt.alloc(), BOTH)?);
-    for other in [
-        "0804 120102 1a020004 2224 0801 1220 U2 2224 0802 1220 L1 2224 0804 1220 L2",
-        "0803 120101 1a020004 2224 0801 1220 U2 2224 0802 1220 L1 2224 0804 1220 L2",
-        "0803 120102 1a020002 2224 0801 1220 U2 2224 0802 1220 L1 2224 0804 1220 L2",
-        "0803 120102 1a020004 2224 0801 1220 U2 2224 0802 1220 L1 2224 0804 1220 L1",
-        "0803 120102 1a020004 2224 0801 1220 U2 2224 0802 1220 L1 2224 0805 1220 L2",
-        "0803 120102 1a020004 2224 0801 1220 U2 2224 0802 1220 L1",
-    ] {
+    for other in OTHERS {
         assert!(rt; bundle != read(rt.alloc(), other)?);
     }
     Ok(())
@@ -108,7 +142,7 @@ fn refusal(
     inclusions: &[InclusionProof<Sha256, ()>],
 ) -> Result<Option<BundleError>, Fail> {
     let memory = Refusing::after(rt.alloc(), 2);
-    let data: Data = SparseLogData::from(Vec::new(rt.alloc()));
+    let data = nothing(rt.alloc());
     let consistencies = Vec::from_slice(&memory, consistencies)?;
     let inclusions = Vec::from_slice(&memory, inclusions)?;
     memory.exhaust();
@@ -130,7 +164,7 @@ fn is_refused(
 
 #[test]
 fn early_refusals_of_consistency_proofs(rt: HostRuntime) -> Result<(), Fail> {
-    let data: Data = SparseLogData::from(Vec::new(rt.alloc()));
+    let data = nothing(rt.alloc());
     let backwards = [data.prove_consistency(3, 2)];
     let fault = BundleError::Consistency(ConsistencyProofError::PointsOutOfOrder);
     assert!(rt; is_refused(&rt, &backwards, &[], fault)?);
@@ -143,7 +177,7 @@ fn early_refusals_of_consistency_proofs(rt: HostRuntime) -> Result<(), Fail> {
 
 #[test]
 fn early_refusals_of_inclusion_proofs(rt: HostRuntime) -> Result<(), Fail> {
-    let data: Data = SparseLogData::from(Vec::new(rt.alloc()));
+    let data = nothing(rt.alloc());
     let late = [data.prove_inclusion(Node(2), 1)];
     let fault = BundleError::Inclusion(InclusionProofError::LeafTooNew);
     assert!(rt; is_refused(&rt, &[], &late, fault)?);
@@ -158,18 +192,22 @@ fn early_refusals_of_inclusion_proofs(rt: HostRuntime) -> Result<(), Fail> {
     Ok(())
 }
 
-// A node's number above 32 bits.
+// The bundle of a node whose number is above 32 bits.
+fn too_large<'a>(alloc: Global, memory: &'a Refusing<Global>) -> Result<Bundle<'a>, Fail> {
+    let held = vec![in alloc; (Node((1 << 31) - 1), hash_of(alloc, "Z")?)]?;
+    let data: Data = SparseLogData::from(held);
+    let proofs = vec![in memory; data.prove_inclusion(Node(1 << 32), (1 << 31) + 1)]?;
+    Ok(LogProofBundle::bundle(memory, Vec::new(memory), proofs, &data)?)
+}
+
 #[test]
 fn too_large_to_write_without_memory(rt: HostRuntime) -> Result<(), Fail> {
     let memory = Refusing::after(rt.alloc(), 99);
-    let held = vec![in rt.alloc(); (Node((1 << 31) - 1), hash_of(rt.alloc(), "Z")?)]?;
-    let data: Data = SparseLogData::from(held);
-    let proof = data.prove_inclusion(Node(1 << 32), (1 << 31) + 1);
-    let proofs = vec![in &memory; proof]?;
-    let bundle: Bundle<'_> = LogProofBundle::bundle(&memory, Vec::new(&memory), proofs, &data)?;
+    let bundle = too_large(rt.alloc(), &memory)?;
     memory.exhaust();
     assert!(rt; bundle.encode(&memory) == Err(EncodeError::TooLarge));
     assert!(rt; matches!(bundle.to_message(&memory), Err(EncodeError::TooLarge)));
+    let proof = nothing(rt.alloc()).prove_inclusion(Node(1 << 32), (1 << 31) + 1);
     assert!(rt;
         all(&[
             bundle.inclusion_proof(0) == Some(proof),

@@ -31,95 +31,99 @@ fn hashed<D>(hash: &Hash<D>) -> u64 {
 }
 
 // Whether a hash is spelled by these digits.
-fn is_spelled<D>(alloc: Global, hash: &Hash<D>, digits: &str) -> Result<bool, AllocError> {
-    Ok(hex::encode(alloc, hash.bytes())?.as_str() == digits)
+fn is_spelled<D>(hash: &Hash<D>, digits: &str) -> bool {
+    let mut bytes = [0; 32];
+    hex::decode_to_slice(digits, &mut bytes).is_ok() && hash.bytes() == bytes.as_slice()
 }
+
+// The hash of bytes in three pieces, each given by its digits.
+fn hash_of_pieces(alloc: Global, pieces: &[&str; 3]) -> Result<Hash<Sha256>, Fail> {
+    let mark = hex::decode(alloc, pieces[0])?;
+    let pair = (
+        hex::decode(alloc, pieces[1])?,
+        hex::decode(alloc, pieces[2])?,
+    );
+    Ok(Hash::of(&(mark, pair)))
+}
+
+const HASHES_OF_PIECES: [([&str; 3], &str); 6] = [
+    (["", "", ""], Z),
+    (["00", "", ""], L0),
+    (["00", "00", ""], L1),
+    (["00", "10", ""], L2),
+    (["01", L0, L1], U2),
+    (["01", U2, L2], U3),
+];
 
 #[test]
 fn sha256_of_bytes_in_pieces(rt: HostRuntime) -> Result<(), Fail> {
-    for (mark, first, second, want) in [
-        ("", "", "", Z),
-        ("00", "", "", L0),
-        ("00", "00", "", L1),
-        ("00", "10", "", L2),
-        ("01", L0, L1, U2),
-        ("01", U2, L2, U3),
-    ] {
-        let mark = hex::decode(rt.alloc(), mark)?;
-        let pair = (
-            hex::decode(rt.alloc(), first)?,
-            hex::decode(rt.alloc(), second)?,
-        );
-        let hash = Hash::<Sha256>::of(&(mark, pair));
-        assert!(rt; is_spelled(rt.alloc(), &hash, want)?);
+    for (pieces, want) in &HASHES_OF_PIECES {
+        assert!(rt; is_spelled(&hash_of_pieces(rt.alloc(), pieces)?, want));
     }
     Ok(())
 }
 
 #[test]
-fn leaves_and_branches(rt: HostRuntime) -> Result<(), Fail> {
+fn leaves_and_branches(rt: HostRuntime) {
     let one = hash_leaf::<Sha256, &str>(&"one");
     let two = hash_leaf::<Sha256, &str>(&"two");
     let leaf = "d0d7360ab79f58ab1e1e3fe64ad77e2ea0bc07e36b5f46ed2223edd9298df9e9";
     let root = "4f55f619d9215235778b2b9f17d6f4915b16171214d152381293669764de722e";
-    assert!(rt; is_spelled(rt.alloc(), &hash_empty::<Sha256>(), Z)?);
-    assert!(rt; is_spelled(rt.alloc(), &one, leaf)?);
-    assert!(rt; is_spelled(rt.alloc(), &hash_branch(&one, &two), root)?);
-    assert!(rt; is_spelled(rt.alloc(), &Side::Left.branch(&one, &two), root)?);
-    assert!(rt; is_spelled(rt.alloc(), &Side::Left.opposite().branch(&two, &one), root)?);
-    Ok(())
+    assert!(rt;
+        all(&[
+            is_spelled(&hash_empty::<Sha256>(), Z),
+            is_spelled(&one, leaf)
+        ])
+    );
+    assert!(rt; is_spelled(&hash_branch(&one, &two), root));
+    assert!(rt; is_spelled(&Side::Left.branch(&one, &two), root));
+    assert!(rt; is_spelled(&Side::Left.opposite().branch(&two, &one), root));
 }
 
+const ABC: &str = "ba7816bf8f01cfea414140de5dae2223b00361a396177a9cb410ff61f20015ad";
+
 #[test]
-fn values_as_bytes(rt: HostRuntime) -> Result<(), Fail> {
-    let abc = "ba7816bf8f01cfea414140de5dae2223b00361a396177a9cb410ff61f20015ad";
+fn values_as_bytes(rt: HostRuntime) {
     let hashes = [
         Hash::<Sha256>::of(b"abc"),
         Hash::of(&b"abc".as_slice()),
-        Hash::of(&b"abc".to_vec(rt.alloc())?),
         Hash::of(&"abc"),
-        Hash::of(&String::from_str(rt.alloc(), "abc")?),
         Hash::of(&("a", (b'b', (), "c"))),
         Hash::of(&("a", b'b', "c")),
     ];
     for hash in &hashes {
-        assert!(rt; is_spelled(rt.alloc(), hash, abc)?);
+        assert!(rt; is_spelled(hash, ABC));
     }
     let twice = "4f8b42c22dd3729b519ba6f68d2da7cc5b2d606d05daed5ad5128cc03e6c6358";
-    let hash = Hash::<Sha256>::of(&Hash::<Sha256>::of(b"abc"));
-    assert!(rt; is_spelled(rt.alloc(), &hash, twice)?);
+    assert!(rt; is_spelled(&Hash::<Sha256>::of(&hashes[0]), twice));
+}
+
+#[test]
+fn lists_and_texts_as_bytes(rt: HostRuntime) -> Result<(), Fail> {
+    let list = b"abc".to_vec(rt.alloc())?;
+    let text = String::from_str(rt.alloc(), "abc")?;
+    assert!(rt; is_spelled(&Hash::<Sha256>::of(&list), ABC));
+    assert!(rt; is_spelled(&Hash::<Sha256>::of(&text), ABC));
     Ok(())
 }
 
 #[test]
-fn parts_told_apart(rt: HostRuntime) -> Result<(), Fail> {
+fn parts_told_apart(rt: HostRuntime) {
     let one = Hash::<Sha256>::of(&Framed(&[b"foo1", b"0"]));
+    let want = "81c85b0d7696692be40b49d9fa01760d053d159757493c511e665eb134dfe306";
+    assert!(rt; is_spelled(&one, want));
     let other = Hash::<Sha256>::of(&Framed(&[b"foo", b"10"]));
-    assert!(rt;
-        is_spelled(
-            rt.alloc(),
-            &one,
-            "81c85b0d7696692be40b49d9fa01760d053d159757493c511e665eb134dfe306"
-        )?
-    );
-    assert!(rt;
-        is_spelled(
-            rt.alloc(),
-            &other,
-            "d7fef63f36544036f6d95e5acbff8bbdcf030db129bf2345cdf931aeacc173b2"
-        )?
-    );
-    Ok(())
+    let want = "d7fef63f36544036f6d95e5acbff8bbdcf030db129bf2345cdf931aeacc173b2";
+    assert!(rt; is_spelled(&other, want));
 }
 
 #[test]
-fn numbers_as_bytes(rt: HostRuntime) -> Result<(), Fail> {
+fn numbers_as_bytes(rt: HostRuntime) {
     let hash = Hash::<Sha256>::of(&(7u32, (1u64 << 40) + 5));
     let want = "c3b5e2f31249034a5de06ac4fe0a8fa1168a17712c6f682326e8ec770fb96a90";
-    assert!(rt; is_spelled(rt.alloc(), &hash, want)?);
+    assert!(rt; is_spelled(&hash, want));
     let array: &[u8; 32] = hash.as_ref();
     assert!(rt; *array == <[u8; 32]>::from(hash.copied()));
-    Ok(())
 }
 
 // Whether so many bytes make a hash of them exactly if they are 32.
@@ -152,28 +156,29 @@ fn hashes_compared(rt: HostRuntime) -> Result<(), Fail> {
     Ok(())
 }
 
+const EMPTY_TREES: [(usize, &str); 4] = [
+    (0, L0),
+    (
+        1,
+        "fe43d66afa4a9a5c4f9c9da89f4ffb52635c8f342e7ffb731d68e36c5982072a",
+    ),
+    (
+        255,
+        "b72987f56f03521324099543074b9ef941c521dc0f02900ac76ac16025745aed",
+    ),
+    (
+        256,
+        "c6689f10812a0980976d9533d83875282166159567ec35155716c1413af53d6a",
+    ),
+];
+
 #[test]
-fn empty_trees(rt: HostRuntime) -> Result<(), Fail> {
-    for (height, want) in [
-        (0, L0),
-        (
-            1,
-            "fe43d66afa4a9a5c4f9c9da89f4ffb52635c8f342e7ffb731d68e36c5982072a",
-        ),
-        (
-            255,
-            "b72987f56f03521324099543074b9ef941c521dc0f02900ac76ac16025745aed",
-        ),
-        (
-            256,
-            "c6689f10812a0980976d9533d83875282166159567ec35155716c1413af53d6a",
-        ),
-    ] {
+fn empty_trees(rt: HostRuntime) {
+    for (height, want) in &EMPTY_TREES {
         // Out of a table, and by hashing: no input here has 32 bytes.
-        assert!(rt; is_spelled(rt.alloc(), &empty_tree_hash::<Sha256>(height), want)?);
-        assert!(rt; is_spelled(rt.alloc(), &empty_tree_hash::<Own32>(height), want)?);
+        assert!(rt; is_spelled(&empty_tree_hash::<Sha256>(*height), want));
+        assert!(rt; is_spelled(&empty_tree_hash::<Own32>(*height), want));
     }
-    Ok(())
 }
 
 #[test]
@@ -192,40 +197,41 @@ fn empty_trees_of_weak_digests(rt: HostRuntime) {
 // Pieces for which a list has to grow twice.
 const PIECES: ([u8; 2], &str) = (*b"ab", "and a longer piece, for which the list grows again");
 
-// Whether the list of the bytes was refused, where so many growths are granted.
-fn is_refused(alloc: Global, growths: u64) -> Result<bool, Fail> {
-    let memory = Refusing::after(alloc, growths);
-    let refused = bytes_of(&memory, &PIECES).is_err();
-    if refused != memory.has_refused() {
-        Err("refused for another reason")?;
+// Whether the bytes of the pieces are listed whole.
+fn are_listed(memory: &Refusing<Global>) -> bool {
+    match bytes_of(memory, &PIECES) {
+        Ok(bytes) => {
+            bytes.as_slice() == b"aband a longer piece, for which the list grows again".as_slice()
+        }
+        Err(_) => false,
     }
-    memory.grant(9);
-    let bytes = bytes_of(&memory, &PIECES)?;
-    let want = b"aband a longer piece, for which the list grows again";
-    if bytes.as_slice() != want.as_slice() {
-        Err("other bytes")?;
-    }
-    Ok(refused)
 }
 
 #[test]
-fn bytes_with_each_growth_refused(rt: HostRuntime) -> Result<(), Fail> {
-    assert!(rt; all(&[is_refused(rt.alloc(), 0)?, is_refused(rt.alloc(), 1)?]));
-    assert!(rt; !is_refused(rt.alloc(), 9)?);
-    Ok(())
+fn bytes_with_each_growth_refused(rt: HostRuntime) {
+    for (growths, listed) in [(0, false), (1, false), (9, true)] {
+        let memory = Refusing::after(rt.alloc(), growths);
+        assert!(rt; are_listed(&memory) == listed, "{growths}");
+        assert!(rt; memory.has_refused() != listed, "{growths}");
+        memory.grant(9);
+        assert!(rt; are_listed(&memory), "{growths}");
+    }
+}
+
+// Whether a list is hashed, becomes a hash, and a hash is cloned.
+fn are_hashed(list: Vec<u8, &Refusing<Global>>) -> Result<bool, Fail> {
+    let hash = Hash::<Sha256>::of(&list);
+    Ok(all(&[
+        hash.clone()? == hash,
+        Hash::<Sha256>::try_from(list).is_ok(),
+    ]))
 }
 
 #[test]
 fn hashes_without_memory(rt: HostRuntime) -> Result<(), Fail> {
     let memory = Refusing::after(rt.alloc(), 1);
     let list = vec![in &memory; 7u8; 32]?;
-    let hash = Hash::<Sha256>::of(&list);
-    assert!(rt;
-        all(&[
-            Hash::<Sha256>::try_from(list).is_ok(),
-            hash.clone()? == hash
-        ])
-    );
+    assert!(rt; are_hashed(list)?);
     assert!(rt; all(&[memory.left() == 0, !memory.has_refused()]));
     Ok(())
 }

@@ -7,11 +7,13 @@ use std::test::Fail;
 use warg_crypto::weak::Sum;
 use warg_crypto::{Hash, Sha256};
 use warg_log::{
-    AppendError, ConsistencyProofError, InclusionProofError, LogBuilder, LogData, Node,
-    SparseLogData, StackLog, VecLog, push_all,
+    AppendError, ConsistencyProof, ConsistencyProofError, InclusionProof, InclusionProofError,
+    InclusionProofWalk, LogBuilder, LogData, Node, SparseLogData, StackLog, VecLog, push_all,
 };
 
 type TextLog = VecLog<Sha256, &'static str>;
+
+type TextStack = StackLog<Sha256, &'static str>;
 
 const TEXTS: [&str; 25] = [
     "93", "67", "30", "37", "23", "75", "57", "89", "76", "42", "9", "14", "40", "59", "26", "66",
@@ -47,15 +49,18 @@ const ROOTS: [&str; 25] = [
     "ee6921c0459174f5b3a56994d5ee1bc98e4718ee665815520c25aa0f7c3482dd",
 ];
 
-// The log of the texts, with its roots.
-fn texts(alloc: Global) -> Result<(TextLog, Vec<Hash<Sha256>>), Fail> {
+fn texts(alloc: Global) -> Result<TextLog, Fail> {
     let mut log = VecLog::default(alloc);
     push_all(&mut log, &TEXTS)?;
+    Ok(log)
+}
+
+fn roots(alloc: Global) -> Result<Vec<Hash<Sha256>>, Fail> {
     let mut roots = Vec::new(alloc);
     for root in ROOTS {
         roots.push(hash_of(alloc, root)?)?;
     }
-    Ok((log, roots))
+    Ok(roots)
 }
 
 // Whether the proof of a text leads to the root of the length, or is refused where the text came later.
@@ -70,19 +75,28 @@ fn is_included(log: &TextLog, place: usize, length: usize, root: &Hash<Sha256>) 
     }
 }
 
+// Whether the proof of a text leads to the root of each length that has the text, and is refused at the others.
+fn is_included_at_each(log: &TextLog, place: usize, roots: &[Hash<Sha256>]) -> bool {
+    let mut length = 0usize;
+    for root in roots {
+        length = length.saturating_add(1);
+        if !is_included(log, place, length, root) {
+            return false;
+        }
+    }
+    length == 25
+}
+
 #[test]
 fn own_inclusion_proofs(rt: HostRuntime) -> Result<(), Fail> {
-    let (log, roots) = texts(rt.alloc())?;
+    let log = texts(rt.alloc())?;
+    let roots = roots(rt.alloc())?;
     assert!(rt; all(&[log.length() == 25, log.checkpoint().length() == 25]));
     for place in 0..25 {
-        let mut length = 0usize;
-        for root in &roots {
-            length = length.saturating_add(1);
-            assert!(rt;
-                is_included(&log, place, length, root),
-                "{place} at {length}"
-            );
-        }
+        assert!(rt;
+            is_included_at_each(&log, place, roots.as_slice()),
+            "{place}"
+        );
     }
     Ok(())
 }
@@ -103,10 +117,14 @@ fn is_consistent(log: &TextLog, roots: &[Hash<Sha256>], old: usize, new: usize) 
 
 #[test]
 fn own_consistency_proofs(rt: HostRuntime) -> Result<(), Fail> {
-    let (log, roots) = texts(rt.alloc())?;
+    let log = texts(rt.alloc())?;
+    let roots = roots(rt.alloc())?;
     for old in 0..25 {
         for new in 0..25 {
-            assert!(rt; is_consistent(&log, &roots, old, new), "{old} and {new}");
+            assert!(rt;
+                is_consistent(&log, roots.as_slice(), old, new),
+                "{old} and {new}"
+            );
         }
     }
     Ok(())
@@ -147,27 +165,39 @@ fn digests_of_nodes_that_exist(rt: HostRuntime) -> Result<(), Fail> {
     Ok(())
 }
 
+// Whether a log and a stack of no bytes and `00` have one root, and this one.
+fn are_of_two(log: &TextLog, stack: &TextStack, root: &Hash<Sha256>) -> bool {
+    let checkpoint = log.checkpoint();
+    all(&[
+        checkpoint.root() == *root,
+        stack.checkpoint() == checkpoint,
+        log.length() == 2,
+    ])
+}
+
+// Whether one entry more in both gives one leaf, and this root.
+fn grow_alike(log: &mut TextLog, stack: &mut TextStack, root: &Hash<Sha256>) -> Result<bool, Fail> {
+    if log.length() != 2 || stack.length() != 2 {
+        return Ok(false);
+    }
+    let leaf = push_all(log, &["\x10"])?;
+    let same = leaf == push_all(stack, &["\x10"])?;
+    Ok(all(&[same, log.checkpoint().root() == *root, log.length() == 3]))
+}
+
 #[test]
 fn clones_grow_apart(rt: HostRuntime) -> Result<(), Fail> {
-    let mut log: VecLog<Sha256, &str> = VecLog::default(rt.alloc());
-    let mut stack: StackLog<Sha256, &str> = StackLog::default(rt.alloc());
+    let mut log = TextLog::default(rt.alloc());
+    let mut stack = TextStack::default(rt.alloc());
     push_all(&mut log, &["", "\0"])?;
     push_all(&mut stack, &["", "\0"])?;
-    let mut other = log.clone()?;
-    let mut others = stack.clone()?;
-    assert!(rt; push_all(&mut other, &["\x10"])? == push_all(&mut others, &["\x10"])?);
-    assert!(rt; other.checkpoint().root() == hash_of(rt.alloc(), "U3")?);
-    assert!(rt;
-        all(&[
-            log.checkpoint().root() == hash_of(rt.alloc(), "U2")?,
-            log.length() == 2
-        ])
-    );
-    assert!(rt; all(&[stack.checkpoint() == log.checkpoint(), other.length() == 3]));
+    let (two, three) = (hash_of(rt.alloc(), "U2")?, hash_of(rt.alloc(), "U3")?);
+    assert!(rt; grow_alike(&mut log.clone()?, &mut stack.clone()?, &three)?);
+    assert!(rt; are_of_two(&log, &stack, &two));
     Ok(())
 }
 
-// The checkpoint of a log of these entries.
+// The log of these entries.
 fn sums(alloc: Global, entries: &[u8]) -> Result<ByteLog, Fail> {
     let mut log = VecLog::default(alloc);
     if entries.len() < 9 {
@@ -181,57 +211,56 @@ fn checkpoints_are_ordered_by_root_then_length(rt: HostRuntime) -> Result<(), Fa
     let low = sums(rt.alloc(), &[1])?.checkpoint();
     let high = sums(rt.alloc(), &[9])?.checkpoint();
     let longer = sums(rt.alloc(), &[4, 4])?.checkpoint();
-    assert!(rt; all(&[low < high, longer.root() == high.root()]));
+    assert!(rt;
+        all(&[
+            low < high,
+            longer.root() == high.root(),
+            low.clone()? == low
+        ])
+    );
     assert!(rt; all(&[high < longer, high != longer]));
-    assert!(rt; low.clone()? == low);
     Ok(())
 }
 
-#[test]
-fn inclusion_proofs_compared(rt: HostRuntime) -> Result<(), Fail> {
-    let log = sums(rt.alloc(), &[1, 2, 3])?;
-    let proof = log.prove_inclusion(Node(2), 3);
-    assert!(rt;
-        all(&[
-            proof == proof.clone()?,
-            proof.leaf() == Node(2),
-            proof.log_length() == 3
-        ])
-    );
-    assert!(rt;
-        all(&[
-            proof != log.prove_inclusion(Node(2), 4),
-            proof != log.prove_inclusion(Node(0), 3)
-        ])
-    );
-    Ok(())
+// Whether an inclusion proof is its clone, has its parts, and isn't another one.
+fn is_told_apart(log: &ByteLog, proof: &InclusionProof<Sum, u8>) -> Result<bool, Fail> {
+    Ok(all(&[
+        *proof == proof.clone()?,
+        proof.leaf() == Node(2),
+        proof.log_length() == 3,
+        *proof != log.prove_inclusion(Node(2), 4),
+        *proof != log.prove_inclusion(Node(0), 3),
+    ]))
+}
+
+// The same of a consistency proof.
+fn is_told_apart_too(log: &ByteLog, proof: &ConsistencyProof<Sum, u8>) -> Result<bool, Fail> {
+    Ok(all(&[
+        *proof == proof.clone()?,
+        [proof.old_length(), proof.new_length()] == [2, 3],
+        *proof != log.prove_consistency(3, 3),
+        *proof != log.prove_consistency(2, 2),
+    ]))
 }
 
 #[test]
-fn consistency_proofs_compared(rt: HostRuntime) -> Result<(), Fail> {
+fn proofs_compared(rt: HostRuntime) -> Result<(), Fail> {
     let log = sums(rt.alloc(), &[1, 2, 3])?;
-    let proof = log.prove_consistency(2, 3);
-    assert!(rt;
-        all(&[
-            proof == proof.clone()?,
-            [proof.old_length(), proof.new_length()] == [2, 3]
-        ])
-    );
-    assert!(rt;
-        all(&[
-            proof != log.prove_consistency(3, 3),
-            proof != log.prove_consistency(2, 2)
-        ])
-    );
+    assert!(rt; is_told_apart(&log, &log.prove_inclusion(Node(2), 3))?);
+    assert!(rt; is_told_apart_too(&log, &log.prove_consistency(2, 3))?);
     Ok(())
+}
+
+fn walk_of(alloc: Global, leaf: Node) -> Result<InclusionProofWalk, Fail> {
+    let log = sums(alloc, &[1, 2, 3])?;
+    Ok(log.prove_inclusion(leaf, 3).walk(alloc)?)
 }
 
 #[test]
 fn walks_compared(rt: HostRuntime) -> Result<(), Fail> {
-    let log = sums(rt.alloc(), &[1, 2, 3])?;
-    let walk = log.prove_inclusion(Node(2), 3).walk(rt.alloc())?;
-    assert!(rt; walk == log.prove_inclusion(Node(2), 3).walk(rt.alloc())?);
-    assert!(rt; walk != log.prove_inclusion(Node(0), 3).walk(rt.alloc())?);
+    let walk = walk_of(rt.alloc(), Node(2))?;
+    assert!(rt; walk == walk_of(rt.alloc(), Node(2))?);
+    assert!(rt; walk != walk_of(rt.alloc(), Node(0))?);
     Ok(())
 }
 
@@ -253,6 +282,22 @@ fn answers_alone(log: &ByteLog<Scarce<'_>>) -> bool {
     ])
 }
 
+// Whether the walk of the second entry of three has its parts.
+fn is_walk_of_second(walk: &InclusionProofWalk<Scarce<'_>>) -> bool {
+    all(&[
+        [walk.initial_walk_len(), walk.lower_broots()] == [1, 1],
+        walk.upper_broots() == 0,
+        walk.nodes() == [Node(0), Node(4)].as_slice(),
+    ])
+}
+
+// Whether new logs take no memory.
+fn are_empty(memory: Scarce<'_>) -> bool {
+    let log: ByteLog<Scarce<'_>> = VecLog::default(memory);
+    let stack: StackLog<Sum, u8, Scarce<'_>> = StackLog::default(memory);
+    all(&[log.length() == 0, stack.is_empty(), !memory.has_refused()])
+}
+
 #[test]
 fn a_log_s_calls_without_memory(rt: HostRuntime) -> Result<(), Fail> {
     let memory = Refusing::after(rt.alloc(), 99);
@@ -261,16 +306,32 @@ fn a_log_s_calls_without_memory(rt: HostRuntime) -> Result<(), Fail> {
     let walk = log.prove_inclusion(Node(2), 3).walk(&memory)?;
     memory.exhaust();
     assert!(rt; all(&[memory.left() == 0, answers_alone(&log)]));
-    assert!(rt; [walk.initial_walk_len(), walk.lower_broots()] == [1, 1]);
-    assert!(rt;
-        all(&[
-            walk.upper_broots() == 0,
-            walk.nodes() == [Node(0), Node(4)].as_slice()
-        ])
-    );
-    assert!(rt; VecLog::<Sum, u8, _>::default(&memory).length() == 0);
-    assert!(rt; StackLog::<Sum, u8, _>::default(&memory).is_empty() && !memory.has_refused());
+    assert!(rt; is_walk_of_second(&walk));
+    assert!(rt; are_empty(&memory));
     Ok(())
+}
+
+type Given<'a> = SparseLogData<Sum, u8, Scarce<'a>>;
+
+// Whether the digests of nodes 1 and 4 are held, and those of nodes 0, 3 and 5 aren't.
+fn holds_what_was_given(data: &Given<'_>) -> bool {
+    all(&[
+        data.hash_for(Node(1)) == Some(hash_ending_in(5)),
+        data.has_hash(Node(4)),
+        !data.has_hash(Node(0)),
+        !data.has_hash(Node(3)),
+        !data.has_hash(Node(5)),
+    ])
+}
+
+// Whether proofs over these digests lead to the sums.
+fn leads_to_sums(data: &Given<'_>) -> bool {
+    let consistency = data.prove_consistency(2, 3);
+    let inclusion = data.prove_inclusion(Node(1), 3);
+    all(&[
+        consistency.evaluate(data) == Ok((hash_ending_in(5), hash_ending_in(13))),
+        inclusion.evaluate_hash(data, hash_ending_in(9)) == Ok(hash_ending_in(17)),
+    ])
 }
 
 #[test]
@@ -278,77 +339,85 @@ fn given_digests_without_memory(rt: HostRuntime) -> Result<(), Fail> {
     let memory = Refusing::after(rt.alloc(), 99);
     let pairs = vec![in &memory; (Node(1), hash_ending_in(5)), (Node(4), hash_ending_in(7))]?;
     memory.exhaust();
-    let data: SparseLogData<Sum, u8, Scarce<'_>> = SparseLogData::from(pairs);
-    assert!(rt;
-        all(&[
-            data.has_hash(Node(4)),
-            !data.has_hash(Node(3)),
-            !data.has_hash(Node(5))
-        ])
-    );
-    assert!(rt;
-        all(&[
-            data.hash_for(Node(1)) == Some(hash_ending_in(5)),
-            !data.has_hash(Node(0))
-        ])
-    );
-    let roots = data.prove_consistency(2, 3).evaluate(&data);
-    assert!(rt; roots == Ok((hash_ending_in(5), hash_ending_in(13))));
-    let root = data
-        .prove_inclusion(Node(1), 3)
-        .evaluate_hash(&data, hash_ending_in(9));
-    assert!(rt; root == Ok(hash_ending_in(17)));
+    let data = Given::from(pairs);
+    assert!(rt; holds_what_was_given(&data));
+    assert!(rt; leads_to_sums(&data));
     assert!(rt; all(&[memory.left() == 0, !memory.has_refused()]));
     Ok(())
 }
 
-// Calls that test what others require: what is in range is the proof, and what isn't is refused.
-#[test]
-fn ranges_tested(rt: HostRuntime) -> Result<(), Fail> {
-    let (log, roots) = texts(rt.alloc())?;
-    let proof = log.proof_at(3, 5)?;
-    let found = proof.evaluate_value(&log, &"37").map_err(|_| "no root")?;
-    assert!(rt; roots.len() == 25);
-    assert!(rt; found == roots[4]);
-    let (old, new) = log
-        .growth_between(4, 9)?
-        .evaluate(&log)
-        .map_err(|_| "no roots")?;
-    assert!(rt; all(&[old == roots[3], new == roots[8]]));
-    let refused = [
+// Whether the tested call gives the proof of a text that leads to the root of five texts.
+fn gives_proof(log: &TextLog, root: &Hash<Sha256>) -> bool {
+    match log.proof_at(3, 5) {
+        Ok(proof) => proof.evaluate_value(log, &"37").as_ref() == Ok(root),
+        Err(_) => false,
+    }
+}
+
+// Whether it gives the proof between four texts and nine that leads to their roots.
+fn gives_growth(log: &TextLog, old: &Hash<Sha256>, new: &Hash<Sha256>) -> bool {
+    match log.growth_between(4, 9) {
+        Ok(proof) => proof.evaluate(log) == Ok((old.copied(), new.copied())),
+        Err(_) => false,
+    }
+}
+
+// Whether indices and lengths out of range are refused.
+fn refuses_others(log: &TextLog) -> bool {
+    all(&[
         log.proof_at(5, 5).is_err(),
         log.proof_at(0, 26).is_err(),
         log.growth_between(0, 9).is_err(),
         log.growth_between(10, 9).is_err(),
         log.growth_between(9, 26).is_err(),
-    ];
-    assert!(rt; all(&refused));
+    ])
+}
+
+// Calls that test what others require: what is in range is the proof, and what isn't is refused.
+#[test]
+fn ranges_tested(rt: HostRuntime) -> Result<(), Fail> {
+    let log = texts(rt.alloc())?;
+    let (fourth, fifth) = (
+        hash_of(rt.alloc(), ROOTS[3])?,
+        hash_of(rt.alloc(), ROOTS[4])?,
+    );
+    assert!(rt; gives_proof(&log, &fifth));
+    assert!(rt; gives_growth(&log, &fourth, &hash_of(rt.alloc(), ROOTS[8])?));
+    assert!(rt; refuses_others(&log));
     Ok(())
 }
 
-// An entry is appended as it is pushed, and a refused growth leaves the log as it was.
+// Whether the texts are appended to both logs as the same leaves, up to this root.
+fn appends_alike(
+    log: &mut TextLog,
+    stack: &mut TextStack,
+    root: &Hash<Sha256>,
+) -> Result<bool, Fail> {
+    for text in TEXTS {
+        if log.append(&text)? != stack.append(&text)? {
+            return Ok(false);
+        }
+    }
+    Ok(all(&[
+        log.checkpoint().root() == *root,
+        stack.checkpoint().root() == *root,
+    ]))
+}
+
+// An entry is appended as it is pushed.
 #[test]
 fn entries_appended(rt: HostRuntime) -> Result<(), Fail> {
-    let mut log = TextLog::default(rt.alloc());
-    let mut stack: StackLog<Sha256, &str> = StackLog::default(rt.alloc());
-    for text in TEXTS {
-        let leaf = log.append(&text)?;
-        assert!(rt; leaf == stack.append(&text)?);
-    }
     let root = hash_of(rt.alloc(), ROOTS[24])?;
-    assert!(rt;
-        all(&[
-            log.checkpoint().root() == root,
-            stack.checkpoint().root() == root
-        ])
-    );
-    let memory = Refusing::after(rt.alloc(), 0);
-    let mut refused: VecLog<Sum, &str, Scarce> = VecLog::default(&memory);
-    assert!(rt;
-        all(&[
-            refused.append(&"a") == Err(AppendError::Memory),
-            refused.length() == 0
-        ])
-    );
+    let mut log = TextLog::default(rt.alloc());
+    assert!(rt; appends_alike(&mut log, &mut TextStack::default(rt.alloc()), &root)?);
     Ok(())
+}
+
+// A refused growth leaves the log as it was.
+#[test]
+fn an_entry_without_memory(rt: HostRuntime) {
+    let memory = Refusing::after(rt.alloc(), 0);
+    let mut log: VecLog<Sum, &str, Scarce<'_>> = VecLog::default(&memory);
+    let refused = log.append(&"a") == Err(AppendError::Memory);
+    assert!(rt; all(&[refused, log.length() == 0]));
 }

@@ -6,7 +6,7 @@ ghost use Rattle.warg_protobuf.specs.LogProofBundle.{log_view};
 
 use crate::digests::{L0, all, bytes_of};
 use refusing::Refusing;
-use std::alloc::{AllocError, Allocator, Global};
+use std::alloc::Allocator;
 use std::test::Fail;
 use warg_protobuf::{
     HashEntry, LogProofBundle, MapInclusionProof, MapProofBundle, StackLog, VecLog, WireError,
@@ -24,33 +24,33 @@ fn written_and_read<A: Allocator + Copy>(
 }
 
 // Whether an entry has this number and the digest of one byte.
-fn is_entry(alloc: Global, entry: Option<&HashEntry>, index: u32) -> Result<bool, AllocError> {
+fn is_entry(entry: Option<&HashEntry>, index: u32) -> bool {
+    let mut digest = [0; 32];
     match entry {
         Some(entry) => {
-            let digits = hex::encode(alloc, entry.hash.as_slice())?;
-            Ok(entry.index == index && digits.as_str() == L0)
+            hex::decode_to_slice(L0, &mut digest).is_ok()
+                && entry.index == index
+                && entry.hash.as_slice() == digest.as_slice()
         }
-        None => Ok(false),
+        None => false,
     }
+}
+
+fn has_fields(bundle: &LogProofBundle) -> bool {
+    all(&[
+        bundle.log_length == 300,
+        bundle.consistent_lengths.as_slice() == [1, 2].as_slice(),
+        bundle.included_indices.as_slice() == [5, 300].as_slice(),
+        is_entry(bundle.hashes.first(), 300),
+        bundle.hashes.len() == 1,
+    ])
 }
 
 #[test]
 fn fields_of_a_log_bundle(rt: HostRuntime) -> Result<(), Fail> {
     let bytes = bytes_of(rt.alloc(), "08ac02 12020102 1a0305ac02 2225 08ac02 1220 L0")?;
     let bundle = LogProofBundle::decode(rt.alloc(), &bytes)?;
-    assert!(rt;
-        all(&[
-            bundle.log_length == 300,
-            bundle.consistent_lengths.as_slice() == [1, 2].as_slice()
-        ])
-    );
-    assert!(rt; bundle.included_indices.as_slice() == [5, 300].as_slice());
-    assert!(rt;
-        all(&[
-            is_entry(rt.alloc(), bundle.hashes.first(), 300)?,
-            bundle.hashes.len() == 1
-        ])
-    );
+    assert!(rt; has_fields(&bundle));
     assert!(rt; written_and_read(rt.alloc(), &bundle)? == bundle);
     assert!(rt; bundle != LogProofBundle::decode(rt.alloc(), &[8, 5])?);
     Ok(())
@@ -63,26 +63,42 @@ fn counted(proof: Option<&MapInclusionProof>) -> Option<(usize, usize)> {
     Some((proof.hashes.len(), held.count()))
 }
 
+fn has_peers(bundle: &MapProofBundle) -> bool {
+    all(&[
+        [bundle.proofs.len(), bundle.absences.len()] == [2, 1],
+        counted(bundle.proofs.first()) == Some((2, 1)),
+        counted(bundle.proofs.last()) == Some((0, 0)),
+        counted(bundle.absences.first()) == Some((1, 1)),
+    ])
+}
+
 #[test]
 fn fields_of_a_map_bundle(rt: HostRuntime) -> Result<(), Fail> {
     let bytes = bytes_of(rt.alloc(), "0a26 0a00 0a22 0a20 L0 0a00 1204 0a020a00")?;
     let bundle = MapProofBundle::decode(rt.alloc(), &bytes)?;
-    assert!(rt; all(&[bundle.proofs.len() == 2, bundle.absences.len() == 1]));
-    assert!(rt; counted(bundle.proofs.first()) == Some((2, 1)));
-    assert!(rt; counted(bundle.proofs.last()) == Some((0, 0)));
-    assert!(rt; counted(bundle.absences.first()) == Some((1, 1)));
+    assert!(rt; has_peers(&bundle));
     assert!(rt; bundle == MapProofBundle::decode(rt.alloc(), &bytes)?);
     assert!(rt; bundle != MapProofBundle::decode(rt.alloc(), &[10, 0])?);
     Ok(())
 }
 
 #[test]
-fn fields_of_log_images(rt: HostRuntime) -> Result<(), Fail> {
+fn fields_of_a_stack_log(rt: HostRuntime) -> Result<(), Fail> {
     let bytes = bytes_of(rt.alloc(), "0805 1224 0807 1220 L0 1200")?;
-    let stack = StackLog::decode(rt.alloc(), &bytes)?;
-    assert!(rt; all(&[stack.length == 5, stack.stack.len() == 2]));
-    assert!(rt; is_entry(rt.alloc(), stack.stack.first(), 7)?);
-    assert!(rt; stack == StackLog::decode(rt.alloc(), &bytes)?);
+    let log = StackLog::decode(rt.alloc(), &bytes)?;
+    assert!(rt;
+        all(&[
+            log.length == 5,
+            log.stack.len() == 2,
+            is_entry(log.stack.first(), 7)
+        ])
+    );
+    assert!(rt; log == StackLog::decode(rt.alloc(), &bytes)?);
+    Ok(())
+}
+
+#[test]
+fn fields_of_a_vec_log(rt: HostRuntime) -> Result<(), Fail> {
     let bytes = bytes_of(rt.alloc(), "0803 12020102 1200")?;
     let log = VecLog::decode(rt.alloc(), &bytes)?;
     assert!(rt; all(&[log.length == 3, log.tree.len() == 2]));

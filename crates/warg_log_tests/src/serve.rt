@@ -1,5 +1,6 @@
 //! Checkpoints and logs as text, and proofs as bytes, with values from outside.
 
+use crate::digests::all;
 use refusing::Refusing;
 use std::alloc::{Allocator, Global};
 use std::test::Fail;
@@ -39,29 +40,38 @@ fn checkpoint_text(rt: HostRuntime) -> Result<(), Fail> {
     Ok(())
 }
 
+// What stands before a root in texts that are no checkpoints.
+const FRONTS: [&str; 8] = [
+    "",
+    " ",
+    "4",
+    "+4 ",
+    "04 ",
+    "4  ",
+    "4x ",
+    "18446744073709551616 ",
+];
+
+// The length of the checkpoint that a text is, if it's one.
+fn length_of(alloc: Global, front: &str, end: &str) -> Result<Option<usize>, Fail> {
+    let root = &TEXT[2..];
+    let text = format!(in alloc; "{front}{root}{end}")?;
+    match text.parse::<Checkpoint<Sha256>>() {
+        Ok(checkpoint) => Ok(Some(checkpoint.length())),
+        Err(_) => Ok(None),
+    }
+}
+
 #[test]
 fn other_texts_are_no_checkpoints(rt: HostRuntime) -> Result<(), Fail> {
-    let root = &TEXT[2..];
-    for front in [
-        "",
-        " ",
-        "4",
-        "+4 ",
-        "04 ",
-        "4  ",
-        "4x ",
-        "18446744073709551616 ",
-    ] {
-        let text = format!(in rt.alloc(); "{front}{root}")?;
-        assert!(rt; text.parse::<Checkpoint<Sha256>>().is_err());
+    for front in FRONTS {
+        assert!(rt; length_of(rt.alloc(), front, "")?.is_none());
     }
     for end in [" ", "0", "\n"] {
-        let text = format!(in rt.alloc(); "{TEXT}{end}")?;
-        assert!(rt; text.parse::<Checkpoint<Sha256>>().is_err());
+        assert!(rt; length_of(rt.alloc(), "4 ", end)?.is_none());
     }
-    let greatest = format!(in rt.alloc(); "18446744073709551615 {root}")?;
-    assert!(rt; greatest.parse::<Checkpoint<Sha256>>()?.length() == usize::MAX);
-    assert!(rt; decimal_in("0") == Some(0));
+    let greatest = length_of(rt.alloc(), "18446744073709551615 ", "")?;
+    assert!(rt; all(&[greatest == Some(usize::MAX), decimal_in("0") == Some(0)]));
     Ok(())
 }
 
@@ -76,18 +86,28 @@ fn debug_of_logs(rt: HostRuntime) -> Result<(), Fail> {
     Ok(())
 }
 
-// The digits of bytes that were given.
-fn digits<B: Allocator>(alloc: Global, bytes: &Vec<u8, B>) -> Result<String, Fail> {
-    Ok(hex::encode(alloc, bytes.as_slice())?)
+// Whether bytes are spelled by these digits.
+fn are_spelled<A: Allocator>(
+    alloc: Global,
+    bytes: &Vec<u8, A>,
+    digits: &str,
+) -> Result<bool, Fail> {
+    Ok(hex::encode(alloc, bytes.as_slice())?.as_str() == digits)
 }
 
 #[test]
 fn proofs_as_bytes(rt: HostRuntime) -> Result<(), Fail> {
     let log = four(rt.alloc())?;
     let inclusion = inclusion_bytes(rt.alloc(), &log, 1, 4)?;
-    assert!(rt; digits(rt.alloc(), &inclusion)?.as_str() == INCLUSION);
+    assert!(rt; are_spelled(rt.alloc(), &inclusion, INCLUSION)?);
     let growth = growth_bytes(rt.alloc(), &log, 2, 4)?;
-    assert!(rt; digits(rt.alloc(), &growth)?.as_str() == GROWTH);
+    assert!(rt; are_spelled(rt.alloc(), &growth, GROWTH)?);
+    Ok(())
+}
+
+#[test]
+fn proofs_out_of_range(rt: HostRuntime) -> Result<(), Fail> {
+    let log = four(rt.alloc())?;
     for (index, length) in [(4, 4), (0, 0), (0, 5), (7, 3)] {
         let refused = inclusion_bytes(rt.alloc(), &log, index, length);
         assert!(rt; refused == Err(ServeError::OutOfRange));
@@ -99,20 +119,42 @@ fn proofs_as_bytes(rt: HostRuntime) -> Result<(), Fail> {
     Ok(())
 }
 
+type Bytes<'a> = Vec<u8, &'a Refusing<Global>>;
+
+// The bytes of both proofs.
+fn both<'a>(
+    memory: &'a Refusing<Global>,
+    log: &TextLog,
+) -> Result<(Bytes<'a>, Bytes<'a>), ServeError> {
+    let inclusion = inclusion_bytes(memory, log, 1, 4);
+    let growth = growth_bytes(memory, log, 2, 4)?;
+    Ok((inclusion?, growth))
+}
+
+// Whether so many growths are refused for want of memory, or give the bytes of both proofs; and which of the two.
+fn is_refused(alloc: Global, log: &TextLog, growths: u64) -> Result<bool, Fail> {
+    let memory = Refusing::after(alloc, growths);
+    match both(&memory, log) {
+        Ok((inclusion, growth)) => {
+            let right = are_spelled(alloc, &inclusion, INCLUSION)?;
+            if right && are_spelled(alloc, &growth, GROWTH)? && !memory.has_refused() {
+                return Ok(false);
+            }
+            Err("other bytes")?
+        }
+        Err(ServeError::Memory) if memory.has_refused() => Ok(true),
+        Err(_) => Err("refused for another reason")?,
+    }
+}
+
 // Each growth of both calls is refused in turn, until none is.
 #[test]
 fn bytes_with_each_growth_refused(rt: HostRuntime) -> Result<(), Fail> {
     let log = four(rt.alloc())?;
     for growths in 0..60 {
-        let memory = Refusing::after(rt.alloc(), growths);
-        let inclusion = inclusion_bytes(&memory, &log, 1, 4);
-        let growth = growth_bytes(&memory, &log, 2, 4);
-        if !memory.has_refused() {
-            assert!(rt; digits(rt.alloc(), &inclusion?)?.as_str() == INCLUSION);
-            assert!(rt; digits(rt.alloc(), &growth?)?.as_str() == GROWTH);
+        if !is_refused(rt.alloc(), &log, growths)? {
             return Ok(());
         }
-        assert!(rt; growth == Err(ServeError::Memory));
     }
     Err("all growths were refused")?
 }

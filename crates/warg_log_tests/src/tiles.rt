@@ -1,11 +1,11 @@
 //! Logs that keep their right edge: their tiles and checkpoints beside those of a log that holds every digest.
 
 use refusing::Refusing;
-use std::alloc::Global;
+use std::alloc::{Allocator, Global};
 use std::test::Fail;
 use warg_crypto::weak::Sum;
 use warg_crypto::{Hash, Sha256, SupportedDigest};
-use warg_log::{GREATEST_LENGTH, LogBuilder, VecLog};
+use warg_log::{GREATEST_LENGTH, LogBuilder, Node, VecLog};
 use warg_tiles::{
     EntriesError, OpenError, StoredTile, Tile, TileLog, push_entry, tile_hashes, tiles_between,
 };
@@ -25,7 +25,7 @@ impl<D: SupportedDigest> Logs<D> {
         }
     }
 
-    // Pushes one entry on both. None where they are as long as logs can be.
+    // Pushes one entry on both, unless they are as long as logs can be.
     fn push(&mut self) -> Result<(), Fail> {
         if self.all.length() >= GREATEST_LENGTH || self.edge.length() >= GREATEST_LENGTH {
             return Ok(());
@@ -36,35 +36,71 @@ impl<D: SupportedDigest> Logs<D> {
         Ok(())
     }
 
+    fn push_many(&mut self, count: usize) -> Result<(), Fail> {
+        for _ in 0..count {
+            self.push()?;
+        }
+        Ok(())
+    }
+
+    // Goes on from the partial tiles of the log that keeps its right edge.
+    fn open_again(&mut self, alloc: Global) -> Result<(), Fail> {
+        let tiles = self.edge.partial(alloc)?;
+        self.edge = TileLog::open(alloc, self.edge.length(), tiles.as_slice())?;
+        Ok(())
+    }
+
     // Whether both have one length and one root.
     fn agree(&self) -> bool {
         self.all.length() == self.edge.length() && self.all.checkpoint() == self.edge.checkpoint()
     }
 
+    // Whether a tile is the log's own, with its digests.
+    fn has_tile(&self, alloc: Global, stored: &StoredTile<D>) -> Result<bool, Fail> {
+        let tile = stored.tile;
+        if !tile.exists_at_length(1 << 63) {
+            return Ok(false);
+        }
+        let digests = tile_hashes(alloc, &self.all, &tile)?;
+        Ok(digests.as_slice() == stored.digests.as_slice())
+    }
+
     // Whether tiles are the log's own, with its digests.
     fn has(&self, alloc: Global, tiles: &[StoredTile<D>]) -> Result<bool, Fail> {
         for stored in tiles {
-            let tile = stored.tile;
-            if !tile.exists_at_length(1 << 63) {
-                return Ok(false);
-            }
-            let digests = tile_hashes(alloc, &self.all, &tile)?;
-            if digests.as_slice() != stored.digests.as_slice() {
+            if !self.has_tile(alloc, stored)? {
                 return Ok(false);
             }
         }
         Ok(true)
     }
+
+    // Whether the log's partial tiles are those of its length, with its digests.
+    fn has_partial(&self, alloc: Global) -> Result<bool, Fail> {
+        let tiles = self.edge.partial(alloc)?;
+        let wanted = wanted(alloc, 0, self.all.length(), false)?;
+        Ok(self.has(alloc, tiles.as_slice())? && are_places(alloc, tiles.as_slice(), &wanted)?)
+    }
+
+    // Takes the full tiles. How many they are, if they are those that an older length hadn't, with the log's digests.
+    fn take_full(&mut self, alloc: Global, old: usize) -> Result<Option<usize>, Fail> {
+        let tiles = self.edge.take_full();
+        let wanted = wanted(alloc, old, self.all.length(), true)?;
+        if self.has(alloc, tiles.as_slice())? && are_places(alloc, tiles.as_slice(), &wanted)? {
+            return Ok(Some(tiles.len()));
+        }
+        Ok(None)
+    }
 }
 
-// The places of tiles in order.
-fn places<D>(alloc: Global, tiles: &[StoredTile<D>]) -> Result<Vec<Tile>, Fail> {
+// Whether tiles have these places, in whichever order.
+fn are_places<D>(alloc: Global, tiles: &[StoredTile<D>], wanted: &Vec<Tile>) -> Result<bool, Fail> {
     let mut places = Vec::new(alloc);
     for stored in tiles {
         places.push(stored.tile)?;
     }
     places.sort()?;
-    Ok(places)
+    Ok(places == *wanted)
 }
 
 // The partial tiles of a length, or its full ones that an older length hadn't.
@@ -86,25 +122,9 @@ fn tiles_at_each_length(rt: HostRuntime) -> Result<(), Fail> {
     let mut logs: Logs<Sum> = Logs::new(rt.alloc());
     for old in 0..600usize {
         logs.push()?;
-        let length = logs.all.length();
-        let full = logs.edge.take_full();
-        let partial = logs.edge.partial(rt.alloc())?;
-        assert!(rt; logs.agree(), "at {length}");
-        assert!(rt; logs.has(rt.alloc(), full.as_slice())?, "full at {length}");
-        assert!(rt;
-            logs.has(rt.alloc(), partial.as_slice())?,
-            "partial at {length}"
-        );
-        let places_of_full = places(rt.alloc(), full.as_slice())?;
-        let places_of_partial = places(rt.alloc(), partial.as_slice())?;
-        assert!(rt;
-            places_of_full == wanted(rt.alloc(), old, length, true)?,
-            "full at {length}"
-        );
-        assert!(rt;
-            places_of_partial == wanted(rt.alloc(), 0, length, false)?,
-            "partial at {length}"
-        );
+        assert!(rt; logs.agree(), "behind {old}");
+        assert!(rt; logs.take_full(rt.alloc(), old)?.is_some(), "behind {old}");
+        assert!(rt; logs.has_partial(rt.alloc())?, "behind {old}");
     }
     Ok(())
 }
@@ -112,51 +132,37 @@ fn tiles_at_each_length(rt: HostRuntime) -> Result<(), Fail> {
 #[test]
 fn tiles_of_three_levels(rt: HostRuntime) -> Result<(), Fail> {
     let mut logs: Logs<Sum> = Logs::new(rt.alloc());
-    for _ in 0..65_300 {
-        logs.push()?;
-    }
-    let full = logs.edge.take_full();
-    assert_eq!(rt; full.len(), 255);
-    assert!(rt; logs.has(rt.alloc(), full.as_slice())?);
+    logs.push_many(65_300)?;
+    assert!(rt; logs.take_full(rt.alloc(), 0)? == Some(255));
     for _ in 65_300..65_540 {
         logs.push()?;
         assert!(rt; logs.agree());
-        let partial = logs.edge.partial(rt.alloc())?;
-        assert!(rt; logs.has(rt.alloc(), partial.as_slice())?);
+        assert!(rt; logs.has_partial(rt.alloc())?);
     }
-    let full = logs.edge.take_full();
-    assert!(rt; logs.has(rt.alloc(), full.as_slice())?);
-    let places_of_full = places(rt.alloc(), full.as_slice())?;
-    assert!(rt; places_of_full == wanted(rt.alloc(), 65_300, 65_540, true)?);
-    assert_eq!(rt; full.len(), 2);
+    assert!(rt; logs.take_full(rt.alloc(), 65_300)? == Some(2));
     Ok(())
 }
 
-// The log that goes on from the partial tiles of another one.
-fn opened<D: SupportedDigest>(
-    alloc: Global,
-    log: &TileLog<D, u64>,
-) -> Result<TileLog<D, u64>, Fail> {
-    let tiles = log.partial(alloc)?;
-    Ok(TileLog::open(alloc, log.length(), tiles.as_slice())?)
-}
-
 #[test]
-fn opened_again_at_many_lengths(rt: HostRuntime) -> Result<(), Fail> {
+fn opened_again_at_each_length(rt: HostRuntime) -> Result<(), Fail> {
     let mut logs: Logs<Sha256> = Logs::new(rt.alloc());
     for _ in 0..300 {
         logs.push()?;
-        logs.edge = opened(rt.alloc(), &logs.edge)?;
+        logs.open_again(rt.alloc())?;
         assert!(rt; logs.agree());
     }
+    Ok(())
+}
+
+#[test]
+fn opened_again_behind_many_entries(rt: HostRuntime) -> Result<(), Fail> {
+    let mut logs: Logs<Sha256> = Logs::new(rt.alloc());
+    logs.push_many(300)?;
     for step in 1..40usize {
-        for _ in 0..step {
-            logs.push()?;
-        }
-        logs.edge = opened(rt.alloc(), &logs.edge)?;
+        logs.push_many(step)?;
+        logs.open_again(rt.alloc())?;
         assert!(rt; logs.agree());
-        let partial = logs.edge.partial(rt.alloc())?;
-        assert!(rt; logs.has(rt.alloc(), partial.as_slice())?);
+        assert!(rt; logs.has_partial(rt.alloc())?);
     }
     Ok(())
 }
@@ -175,57 +181,83 @@ fn refusal(alloc: Global, tiles: &[StoredTile<Sum>], length: usize) -> Option<Op
 #[test]
 fn opened_at_another_length(rt: HostRuntime) -> Result<(), Fail> {
     let mut logs: Logs<Sum> = Logs::new(rt.alloc());
-    for _ in 0..300 {
-        logs.push()?;
-    }
+    logs.push_many(300)?;
     let tiles = logs.edge.partial(rt.alloc())?;
-    let tiles = tiles.as_slice();
     assert_eq!(rt; tiles.len(), 2);
-    assert_eq!(rt; refusal(rt.alloc(), tiles, 300), None);
-    assert_eq!(rt; refusal(rt.alloc(), tiles, 301), Some(OpenError::Width));
-    assert_eq!(rt; refusal(rt.alloc(), tiles, 44), Some(OpenError::Place));
-    assert_eq!(rt; refusal(rt.alloc(), tiles, 256), Some(OpenError::Place));
-    assert_eq!(rt; refusal(rt.alloc(), tiles, 0), Some(OpenError::Count));
-    assert_eq!(rt;
-        refusal(rt.alloc(), &tiles[..1], 300),
-        Some(OpenError::Count)
-    );
+    let one = refusal(rt.alloc(), &tiles.as_slice()[..1], 300);
+    assert!(rt; one == Some(OpenError::Count));
+    for (length, fault) in [
+        (300, None),
+        (301, Some(OpenError::Width)),
+        (44, Some(OpenError::Place)),
+        (256, Some(OpenError::Place)),
+        (0, Some(OpenError::Count)),
+    ] {
+        assert!(rt;
+            refusal(rt.alloc(), tiles.as_slice(), length) == fault,
+            "{length}"
+        );
+    }
     Ok(())
 }
 
-// Whether a push with so few growths, where it is refused, leaves the log as it was, and else is done.
-fn push_with(alloc: Global, length: usize, growths: u64) -> Result<(bool, bool), Fail> {
-    let memory = Refusing::after(alloc, u64::MAX);
-    let mut log: TileLog<Sum, u64, &Refusing<Global>> = TileLog::new(&memory);
+type Scarce<'a> = TileLog<Sum, u64, &'a Refusing<Global>>;
+
+// The log of so many entries.
+fn scarce(memory: &Refusing<Global>, length: usize) -> Result<Scarce<'_>, Fail> {
+    let mut log = Scarce::new(memory);
     for entry in 0..length {
         if log.length() < GREATEST_LENGTH {
             log.push(&(entry as u64))?;
         }
     }
+    Ok(log)
+}
+
+// How a push ends.
+#[derive(Clone, Copy, PartialEq)]
+enum Pushed {
+    Done,
+    Refused,
+    Spoilt,
+}
+
+// How a push with so few growths ends.
+fn push_with(memory: &Refusing<Global>, log: &mut Scarce<'_>, growths: u64) -> Pushed {
     if log.length() >= GREATEST_LENGTH {
-        return Ok((false, false));
+        return Pushed::Spoilt;
     }
     let before = log.checkpoint();
     memory.exhaust();
     memory.grant(growths);
     let done = log.push(&0).is_ok();
     memory.grant(u64::MAX);
-    let kept = done || log.checkpoint() == before;
-    Ok((done, kept))
+    if done {
+        Pushed::Done
+    } else if log.checkpoint() == before {
+        Pushed::Refused
+    } else {
+        Pushed::Spoilt
+    }
+}
+
+// How a push on the log of so many entries ends, with so few growths.
+fn end_of_push(alloc: Global, length: usize, growths: u64) -> Result<Pushed, Fail> {
+    let memory = Refusing::after(alloc, u64::MAX);
+    let mut log = scarce(&memory, length)?;
+    Ok(push_with(&memory, &mut log, growths))
 }
 
 #[test]
 fn pushes_without_memory(rt: HostRuntime) -> Result<(), Fail> {
     for length in [0usize, 1, 255, 256, 511] {
-        let mut refused = 0usize;
+        let mut is_done = false;
         for growths in 0..8u64 {
-            let (done, kept) = push_with(rt.alloc(), length, growths)?;
-            assert!(rt; kept, "{growths} growths at {length}");
-            if !done {
-                refused = refused.saturating_add(1);
-            }
+            let ended = end_of_push(rt.alloc(), length, growths)?;
+            assert!(rt; ended != Pushed::Spoilt, "{growths} growths at {length}");
+            is_done = is_done || ended == Pushed::Done;
         }
-        assert!(rt; refused < 8, "{length}");
+        assert!(rt; is_done, "{length}");
     }
     Ok(())
 }
@@ -247,6 +279,15 @@ fn full_tiles_in_turn(rt: HostRuntime) -> Result<(), Fail> {
     Ok(())
 }
 
+// The nodes of the tile with a path, unless it's none or memory lacks.
+fn nodes_at<A: Allocator>(memory: A, path: &str) -> Option<Vec<Node, A>> {
+    let tile = Tile::from_path(path).ok()?;
+    if !tile.exists_at_length(GREATEST_LENGTH) {
+        return None;
+    }
+    tile.nodes(memory).ok()
+}
+
 // The nodes of a tile, by the numbering of nodes: leaf i is node 2 i, and 256 leaves have the node 255.
 #[test]
 fn nodes_of_tiles(rt: HostRuntime) -> Result<(), Fail> {
@@ -255,36 +296,43 @@ fn nodes_of_tiles(rt: HostRuntime) -> Result<(), Fail> {
         ("tile/0/001.p/2", 512, 514),
         ("tile/1/000.p/2", 255, 767),
     ] {
-        let tile = Tile::from_path(path)?;
-        if !tile.exists_at_length(GREATEST_LENGTH) {
-            return Err("no tile of any log")?;
-        }
-        let nodes = tile.nodes(rt.alloc())?;
+        let nodes = nodes_at(rt.alloc(), path).ok_or("no nodes")?;
         assert!(rt;
-            nodes.len() == 2 && nodes[0].0 == first && nodes[1].0 == second,
+            nodes.as_slice() == [Node(first), Node(second)].as_slice(),
             "{path}"
         );
         let memory = Refusing::after(rt.alloc(), 0);
-        assert!(rt; tile.nodes(&memory).is_err());
+        assert!(rt; nodes_at(&memory, path).is_none() && memory.has_refused());
     }
     Ok(())
 }
 
-// An entry behind another, one that is too long, and one without memory.
+// An entry behind another.
 #[test]
 fn entries_one_by_one(rt: HostRuntime) -> Result<(), Fail> {
     let mut bytes = Vec::new(rt.alloc());
     push_entry(&mut bytes, b"ab")?;
     push_entry(&mut bytes, b"")?;
     assert!(rt; bytes.as_slice() == b"\x00\x02ab\x00\x00".as_slice());
+    Ok(())
+}
+
+// An entry of 65,536 bytes is too long, and one of 65,535 isn't.
+#[test]
+fn the_longest_entry(rt: HostRuntime) -> Result<(), Fail> {
     let long = vec![in rt.alloc(); 7u8; 65536]?;
+    let mut bytes = b"\x00\x02ab\x00\x00".to_vec(rt.alloc())?;
     let refused = push_entry(&mut bytes, long.as_slice());
     assert!(rt; refused == Err(EntriesError::TooLong) && bytes.len() == 6);
     push_entry(&mut bytes, &long.as_slice()[1..])?;
     assert!(rt; bytes.len() == 6 + 65537 && bytes[6] == 255 && bytes[7] == 255);
+    Ok(())
+}
+
+#[test]
+fn an_entry_without_memory(rt: HostRuntime) {
     let memory = Refusing::after(rt.alloc(), 0);
     let mut none = Vec::new(&memory);
     let refused = push_entry(&mut none, b"ab");
     assert!(rt; refused == Err(EntriesError::Memory) && none.len() == 0);
-    Ok(())
 }
