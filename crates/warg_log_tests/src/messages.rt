@@ -9,7 +9,8 @@ use refusing::Refusing;
 use std::alloc::Allocator;
 use std::test::Fail;
 use warg_protobuf::{
-    HashEntry, LogProofBundle, MapInclusionProof, MapProofBundle, StackLog, VecLog, WireError,
+    DigestBytes, HashEntry, LogProofBundle, MapInclusionProof, MapProofBundle, StackLog, VecLog,
+    WireError,
 };
 
 // Decoding what was encoded gives the same message, by the contracts of the two alone.
@@ -105,6 +106,16 @@ fn fields_of_a_vec_log(rt: HostRuntime) -> Result<(), Fail> {
     let first = log.tree.first().map(|digest| digest.as_slice());
     assert!(rt; first == Some([1, 2].as_slice()));
     assert!(rt; log == VecLog::decode(rt.alloc(), &bytes)?);
+    Ok(())
+}
+
+#[test]
+fn digests_of_32_bytes_take_no_memory(rt: HostRuntime) -> Result<(), Fail> {
+    let none = Refusing::after(rt.alloc(), 0);
+    let digest = DigestBytes::from_slice(&none, &[7; 32])?;
+    assert!(rt; digest == DigestBytes::from_array([7; 32]));
+    assert!(rt; digest != DigestBytes::from_array([8; 32]));
+    assert!(rt; DigestBytes::from_slice(&none, &[7; 31]).is_err());
     Ok(())
 }
 
