@@ -85,14 +85,6 @@ pub get-under_apart : (a : List Bool) (b c : Bool) (cs p : List Bool) (m : Spars
 get-under_apart a b c cs p m h =
     ap (λ t. get t (a ++ b ∷ p)) (under-append a (c ∷ cs) m) ∙ get-under a (b ∷ p) (under (c ∷ cs) m) ∙ get-under_head b c cs p m h
 
-insert-under_head : (b c : Bool) (cs p : List Bool) (m : SparseMap) (v : List ℕ) → ¬ (c ≡ b) → insert (under (c ∷ cs) m) (b ∷ p) v ≡ join_at b (insert empty p v) (under cs m)
-unfolding under
-insert-under_head b c cs p m v h = ap (λ t. insert t (b ∷ p) v) (join_at-other b c (under cs m) empty h) ∙ insert-join_at b empty (under cs m) p v
-
-pub insert-under_apart : (a : List Bool) (b c : Bool) (cs p : List Bool) (m : SparseMap) (v : List ℕ) → ¬ (c ≡ b) → insert (under (a ++ c ∷ cs) m) (a ++ b ∷ p) v ≡ under a (join_at b (insert empty p v) (under cs m))
-insert-under_apart a b c cs p m v h =
-    ap (λ t. insert t (a ++ b ∷ p) v) (under-append a (c ∷ cs) m) ∙ insert-under a (b ∷ p) (under (c ∷ cs) m) v ∙ ap (under a) (insert-under_head b c cs p m v h)
-
 -- one key is bits in front of a leaf
 pub lone-under : (bs : List Bool) (v : List ℕ) → insert empty bs v ≡ under bs (insert empty [] v)
 unfolding under

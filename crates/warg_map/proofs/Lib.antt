@@ -3,8 +3,8 @@ pub mod BitsInFront
 pub mod SideBits
 pub mod StemRoots
 pub mod TreeForm
-pub mod InsertIntoNode
 pub mod ManyLeaves
+pub mod LeavesBelowNodes
 pub mod FoundInNode
 pub mod HeldKeys
 pub mod ProofValue

@@ -1,11 +1,10 @@
 -- Messages of map proofs and of their bundles.
-use Rattle.std.proofs.Common.{◌≡◌, ℕ, suc, ◌+◌, ◌<◌, ◌≤◌, List, [], ◌∷◌, ◌++◌, length, map, take, drop, get_or, Option, None, Some, Result, Ok, Err, refl, sym, ap, ◌∙◌, add-one, append_assoc, arith, cond, false, inl, inr}
-use Rattle.std.proofs.Math.Seq.{drop-cons}
+use Rattle.std.proofs.Common.{◌≡◌, ℕ, ◌<◌, ◌≤◌, List, length, map, None, Some, Result, Ok, Err, sym, ap, ◌∙◌, arith, cond, false, inl, inr}
 use Rattle.warg_protobuf.specs.declared.value_error.DecodeError.{DecodeError}
 use Rattle.std.proofs.Math.Dec.{leb}
 use Rattle.std.proofs.lemmas.Bool.{le-leb}
 use Rattle.std.proofs.lemmas.Bool.Decides.{leb_tells}
-use Rattle.std.proofs.lemmas.List.{take_more, take_all, drop_all, map-append, length-map}
+use Rattle.std.proofs.lemmas.List.{length-map}
 use Rattle.warg_protobuf.specs.declared.error.WireError.{WireError}
 use Rattle.warg_protobuf.specs.declared.value_error.DecodeError.TheVariants.{TooManyPeers, Wire}
 use Rattle.warg_protobuf.specs.Decoding.{unless, earlier, first_fault}

@@ -1,23 +1,19 @@
 -- The digests of lone keys and stems.
-use Rattle.std.proofs.Common.{◌≡◌, ℕ, ◌+◌, ◌-◌, ◌≤◌, List, [], ◌++◌, sym, ap, ◌∙◌, arith}
+use Rattle.std.proofs.Common.{◌≡◌, ℕ, ◌+◌, ◌-◌, ◌≤◌, List, ◌++◌, sym, ap, ◌∙◌, arith}
 use Rattle.std.specs.FinMap.{insert, empty}
 use Rattle.warg_map.specs.Bits.{bits_from, last_bits}
 use Rattle.warg_map.specs.Sparse.{SparseMap, sparse_root}
 use Rattle.warg_map.specs.Private.Under.{under, stem_root}
 use Rattle.warg_map.proofs.SparseTree.{sparse_root-leaf, length-bits_from}
-use Rattle.warg_map.proofs.BitsInFront.{stem_root-under, lone-under, lone-append, bits_from-append}
+use Rattle.warg_map.proofs.BitsInFront.{stem_root-under, lone-append, bits_from-append, bits_from-none}
 
 pub root-stem : (H : List ℕ → List ℕ) (x key : List ℕ) (k h from len : ℕ) (m : SparseMap) → k ≡ h → x ≡ sparse_root H h m → stem_root H k x (bits_from key from len) ≡ sparse_root H (h + len) (under (bits_from key from len) m)
 root-stem H x key k h from len m e r =
     ap (λ j. stem_root H j x (bits_from key from len)) e ∙ ap (λ y. stem_root H h y (bits_from key from len)) r ∙ stem_root-under H h (bits_from key from len) m
     ∙ ap (λ n. sparse_root H (h + n) (under (bits_from key from len) m)) (length-bits_from key from len)
 
-pub root-lone : (H : List ℕ → List ℕ) (v key : List ℕ) (k h : ℕ) → k ≡ 0 → stem_root H k v (last_bits key h) ≡ sparse_root H h (insert empty (last_bits key h) v)
-root-lone H v key k h e =
-    let z : 0 + h ≡ h = omega arith in
-    root-stem H v key k 0 (256 - h) h (insert empty [] v) e (sym (sparse_root-leaf H v))
-    ∙ ap (λ j. sparse_root H j (under (last_bits key h) (insert empty [] v))) z
-    ∙ ap (sparse_root H h) (sym (lone-under (last_bits key h) v))
+pub root-leaf : (H : List ℕ → List ℕ) (v key : List ℕ) → v ≡ sparse_root H 0 (insert empty (last_bits key 0) v)
+root-leaf H v key = sym (sparse_root-leaf H v) ∙ ap (λ q. sparse_root H 0 (insert empty q v)) (sym (bits_from-none key (256 - 0)))
 
 -- a lone key above a lower tree of it
 pub root-kept : (H : List ℕ → List ℕ) (kept v key : List ℕ) (k c h : ℕ) → h ≤ 256 → c ≤ h → k ≡ c → kept ≡ sparse_root H c (insert empty (last_bits key c) v) → stem_root H k kept (bits_from key (256 - h) (h - c)) ≡ sparse_root H h (insert empty (last_bits key h) v)

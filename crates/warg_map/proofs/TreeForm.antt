@@ -8,12 +8,12 @@ use Rattle.warg_map.specs.declared.node.Node.TheVariants.{Fork, Singleton, Stem,
 use Rattle.warg_map.specs.declared.fork.Fork.{Fork as Fork'}
 use Rattle.warg_map.specs.declared.stem.Stem.{Stem as Stem'}
 use Rattle.warg_map.specs.Private.Lone.{Lone}
-use Rattle.warg_map.specs.Bits.{bit_at, bits_from, last_bits}
+use Rattle.warg_map.specs.Bits.{bits_from, last_bits}
 use Rattle.warg_map.specs.Sparse.{SparseMap, bits_cmp}
-use Rattle.warg_map.specs.Private.Under.{join, join_at, under, HoldsKey, Splits, IsLone}
-use Rattle.warg_map.specs.Private.Seen.{seen, tree_height, held_by, IsWellFormed, IsForkOf, IsSeen, Carries}
-use Rattle.warg_map.proofs.SparseTree.{bits_total, get-join_true, get-join_false, contains_key-join_at, contains_key-insert_same, last_bits-step, length-bits_from}
-use Rattle.warg_map.proofs.BitsInFront.{under-append, under-none, bits_from-none, bits_from-append, last_bits-at, under_same, holds-under}
+use Rattle.warg_map.specs.Private.Under.{join, under, HoldsKey, Splits, IsLone}
+use Rattle.warg_map.specs.Private.Seen.{seen, tree_height, held_by, IsWellFormed, IsSeen, Carries}
+use Rattle.warg_map.proofs.SparseTree.{bits_total, get-join_true, get-join_false, contains_key-insert_same, length-bits_from}
+use Rattle.warg_map.proofs.BitsInFront.{under-append, under-none, bits_from-none, bits_from-append, last_bits-at, under_same, lone-append}
 
 -- a node by what was read out of its variant
 pub is_fork : {D A : _} {n : Node D A} {rc : Rc (Fork' D A) A} {f : Fork' D A} → n ≡ Fork rc → f ≡ rc.value → n ≡ Fork (record rc { value = f })
@@ -25,32 +25,8 @@ is_lone {rc = rc} is e = is ∙ ap (λ v. Singleton (record rc { value = v })) (
 pub is_stem : {D A : _} {n : Node D A} {rc : Rc (Stem' D A) A} {s : Stem' D A} → n ≡ Stem rc → s ≡ rc.value → n ≡ Stem (record rc { value = s })
 is_stem {rc = rc} is e = is ∙ ap (λ v. Stem (record rc { value = v })) (sym e)
 
-pub fork_held : {D A : _} (b : Bool) (near far : ℕ × SparseMap) (f : Rc (Fork' D A) A) → IsForkOf b near far f.value → near.0 ≡ far.0 → seen (Fork f) ≡ (near.0 + 1, join_at b near.1 far.1)
-fork_held true near far f h e = cc
-fork_held false near far f h e = cc
-
-pub fork_formed : {D A : _} (b : Bool) (near far : ℕ × SparseMap) (f : Rc (Fork' D A) A) → IsForkOf b near far f.value → near.0 ≡ far.0 → near.0 < 256 → HoldsKey near.1 → HoldsKey far.1 → IsWellFormed (Fork f)
-fork_formed true near far f h e lt n o =
-    record {
-      level = (cc, rw (ap (λ d. d.0) h.left, ← e) lt);
-      formed = (subst (λ (d : ℕ × SparseMap). HoldsKey d.1) (sym h.left) o, subst (λ (d : ℕ × SparseMap). HoldsKey d.1) (sym h.right) n);
-    }
-fork_formed false near far f h e lt n o =
-    record {
-      level = (cc, rw (ap (λ d. d.0) h.left) lt);
-      formed = (subst (λ (d : ℕ × SparseMap). HoldsKey d.1) (sym h.left) n, subst (λ (d : ℕ × SparseMap). HoldsKey d.1) (sym h.right) o);
-    }
-
-pub fork_has : {D A : _} (b : Bool) (near far : ℕ × SparseMap) (f : Rc (Fork' D A) A) (key : List ℕ) → IsForkOf b near far f.value → near.0 ≡ far.0 → near.0 < 256 → bit_at key (255 - near.0) ≡ b → contains_key near.1 (last_bits key near.0) ≡ true → contains_key (held_by (Fork f)) (last_bits key (tree_height (Fork f))) ≡ true
-fork_has b near far f key h e lt at has =
-    subst (λ (d : ℕ × SparseMap). contains_key d.1 (last_bits key d.0) ≡ true) (sym (fork_held b near far f h e))
-    (ap (contains_key (join_at b near.1 far.1)) (last_bits-step key near.0 lt ∙ ap (λ x. x ∷ last_bits key near.0) at) ∙ contains_key-join_at b near.1 far.1 (last_bits key near.0) ∙ has)
-
 pub lone_seen : (s : Lone) (k : ℕ) (key v : List ℕ) → s.height ≡ k → s.key ≡ key → s.value ≡ v → ◌≡◌ {A = ℕ × SparseMap} (s.height, insert empty (last_bits s.key s.height) s.value) (k, insert empty (last_bits key k) v)
 lone_seen s k key v h e x = ap (λ j. (j, insert empty (last_bits s.key j) s.value)) h ∙ ap (λ y. (k, insert empty (last_bits y k) s.value)) e ∙ ap (λ y. (k, insert empty (last_bits key k) y)) x
-
-pub lone_holds : (d : ℕ × SparseMap) (k : ℕ) (q : List Bool) (v : List ℕ) → d ≡ (k, insert empty q v) → HoldsKey d.1
-lone_holds d k q v e = subst (λ (d : ℕ × SparseMap). HoldsKey d.1) (sym e) (q, contains_key-insert_same empty q v)
 
 pub lone_has : (d : ℕ × SparseMap) (k : ℕ) (key v : List ℕ) → d ≡ (k, insert empty (last_bits key k) v) → contains_key d.1 (last_bits key d.0) ≡ true
 lone_has d k key v e = subst (λ (d : ℕ × SparseMap). contains_key d.1 (last_bits key d.0) ≡ true) (sym e) (contains_key-insert_same empty (last_bits key k) v)
@@ -65,9 +41,6 @@ still false v m q h = h
 
 pub held_after : (m : SparseMap) (p q : List Bool) (v : List ℕ) → contains_key m q ≡ true → contains_key (insert m p v) q ≡ true
 held_after m p q v h = ap is_some (get-insert bits_total m p v q) ∙ still (eq_by_cmp bits_cmp q p) v m q h
-
-pub splits_after : (m : SparseMap) (p : List Bool) (v : List ℕ) → Splits m → Splits (insert m p v)
-splits_after m p v s = ((s.0.0, held_after m p _ v s.0.1), (s.1.0, held_after m p _ v s.1.1))
 
 pub one_false : (b : Bool) (v : List ℕ) → is_some (cond b (Some v) None) ≡ true → b ≡ true
 one_false true v h = refl
@@ -91,13 +64,10 @@ formed_below (Singleton s) from len w c n z h = inr (omega (arith, c, h, z), c, 
 formed_below (Stem s) from len w c n z h = absurd (n s refl)
 formed_below Empty from len w c n z h = absurd c
 
-pub with_no_stem : {D A : _} (n : Node D A) (key : List ℕ) (from len : ℕ) → len ≡ 0 → IsWellFormed n → IsSeen n (tree_height n + len) (under (bits_from key from len) (held_by n))
-with_no_stem n key from len h w =
-    let e : tree_height n ≡ tree_height n + len = omega (arith, h) in
-    record {
-      seen_as = ap (λ j. (j, held_by n)) e ∙ ap (λ m. (tree_height n + len, m)) (sym (under-none (held_by n)) ∙ ap (λ t. under t (held_by n)) (sym (bits_from-none key from)) ∙ ap (λ j. under (bits_from key from j) (held_by n)) (sym h));
-      well_formed = w;
-    }
+pub with_no_stem : (link : ℕ × SparseMap) (key : List ℕ) (from len : ℕ) → len ≡ 0 → link ≡ (link.0 + len, under (bits_from key from len) link.1)
+with_no_stem link key from len h =
+    let e : link.0 ≡ link.0 + len = omega (arith, h) in
+    ap (λ j. (j, link.1)) e ∙ ap (λ m. (link.0 + len, m)) (sym (under-none link.1) ∙ ap (λ t. under t link.1) (sym (bits_from-none key from)) ∙ ap (λ j. under (bits_from key from j) link.1) (sym h))
 
 pub with_new_stem : {D A : _} (node : Node D A) (s : Rc (Stem' D A) A) (key : List ℕ) (from len : ℕ) → IsWellFormed node → Carries node → ((x : Rc (Stem' D A) A) → node ≡ Stem x → ⊥) → ¬ (len ≡ 0) → from + len + tree_height node ≡ 256 → s.value.key ≡ key → s.value.from ≡ from → s.value.len ≡ len → s.value.below ≡ seen node → IsSeen (Stem s) (tree_height node + len) (under (bits_from key from len) (held_by node))
 with_new_stem node s key from len w c n z h ek ef el eb =
@@ -149,22 +119,33 @@ high_carries (Singleton l) w h = h
 high_carries (Stem t) w h = tt
 high_carries Empty w h = omega (arith, h)
 
-after_by : {D A : _} (len from k : ℕ) (m : SparseMap) (p : List Bool) (v : List ℕ) (node : Node D A) → from + len + k ≡ 256 → 0 < len → Splits m ⊎ ((len ≡ 1) × (k ≡ 255) × IsLone m) → IsWellFormed node → seen node ≡ (k, insert m p v) → Carries node
-after_by len from k m p v node lev some (inl s) w e =
-    let h : tree_height node ≡ k = ap (λ d. d.0) e in
-    splits_carries node w (omega (arith, h, lev, some)) (subst (λ (d : ℕ × SparseMap). Splits d.1) (sym e) (splits_after m p v s))
-after_by len from k m p v node lev some (inr o) w e = high_carries node w (ap (λ d. d.0) e ∙ o.1)
-
-pub after_carries : {D A : _} (old : Node D A) (s : Rc (Stem' D A) A) (below node : Node D A) (p : List Bool) (v : List ℕ) → old ≡ Stem s → IsWellFormed old → seen below ≡ s.value.below → IsWellFormed node → seen node ≡ (tree_height below, insert (held_by below) p v) → Carries node
-after_carries old s below node p v is w b wn e =
-    let ws : IsWellFormed (Stem s) = subst IsWellFormed is w in
-    after_by s.value.len s.value.from s.value.below.0 s.value.below.1 p v node ws.level ws.formed.0 ws.formed.1 wn (e ∙ ap (λ d. (d.0, insert d.1 p v)) b)
+pub carries : {D A : _} (node : Node D A) (link : ℕ × SparseMap) (from len : ℕ) → IsWellFormed node → seen node ≡ link → from + len + link.0 ≡ 256 → ¬ (len ≡ 0) → Splits link.1 ⊎ (link.0 ≡ 255) → Carries node
+carries node link from len w e h z (inl s) =
+    let k : tree_height node ≡ link.0 = ap (λ d. d.0) e in
+    splits_carries node w (omega (arith, k, h, z)) (subst (λ (d : ℕ × SparseMap). Splits d.1) (sym e) s)
+carries node link from len w e h z (inr o) = high_carries node w (ap (λ d. d.0) e ∙ o)
 
 pub stem_holds : (len k : ℕ) (m : SparseMap) → Splits m ⊎ ((len ≡ 1) × (k ≡ 255) × IsLone m) → HoldsKey m
 stem_holds len k m (inl s) = (false ∷ s.0.0, s.0.1)
 stem_holds len k m (inr o) = (o.2.0, ap (λ t. contains_key t o.2.0) o.2.2 ∙ contains_key-insert_same empty o.2.0 o.2.1)
 
-pub rest_holds : {D A : _} (old : Node D A) (s : Rc (Stem' D A) A) (far : ℕ × SparseMap) (k : ℕ) (bs : List Bool) → old ≡ Stem s → IsWellFormed old → far ≡ (k, under bs s.value.below.1) → HoldsKey far.1
-rest_holds old s far k bs is w e =
-    let ws : IsWellFormed (Stem s) = subst IsWellFormed is w in
-    subst (λ (d : ℕ × SparseMap). HoldsKey d.1) (sym e) (holds-under bs s.value.below.1 (stem_holds s.value.len s.value.below.0 s.value.below.1 ws.formed.1))
+-- a link with a stem above it
+pub link_with_new_stem : {D A : _} (node : Node D A) (s : Rc (Stem' D A) A) (link : ℕ × SparseMap) (key : List ℕ) (from len : ℕ) → IsWellFormed node → seen node ≡ link → ((x : Rc (Stem' D A) A) → node ≡ Stem x → ⊥) → ¬ (len ≡ 0) → from + len + link.0 ≡ 256 → Splits link.1 ⊎ (link.0 ≡ 255) → s.value.key ≡ key → s.value.from ≡ from → s.value.len ≡ len → s.value.below ≡ link → IsSeen (Stem s) (link.0 + len) (under (bits_from key from len) link.1)
+link_with_new_stem node s link key from len w e n z h below ek ef el eb =
+    subst (λ (d : ℕ × SparseMap). IsSeen (Stem s) (d.0 + len) (under (bits_from key from len) d.1)) e
+    (with_new_stem node s key from len w (carries node link from len w e h z below) n z (subst (λ (d : ℕ × SparseMap). from + len + d.0 ≡ 256) (sym e) h) ek ef el (eb ∙ sym e))
+
+pub link_with_longer_stem : {D A : _} (node : Node D A) (lower s : Rc (Stem' D A) A) (link : ℕ × SparseMap) (key : List ℕ) (from len : ℕ) → node ≡ Stem lower → IsWellFormed node → seen node ≡ link → ¬ (len ≡ 0) → from + len + link.0 ≡ 256 → contains_key link.1 (last_bits key link.0) ≡ true → s.value.key ≡ key → s.value.from ≡ from → s.value.len ≡ len + lower.value.len → s.value.below ≡ lower.value.below → IsSeen (Stem s) (link.0 + len) (under (bits_from key from len) link.1)
+link_with_longer_stem node lower s link key from len is w e z h has ek ef el eb =
+    subst (λ (d : ℕ × SparseMap). IsSeen (Stem s) (d.0 + len) (under (bits_from key from len) d.1)) e
+    (with_longer_stem node lower s key from len is w z (subst (λ (d : ℕ × SparseMap). from + len + d.0 ≡ 256) (sym e) h) (subst (λ (d : ℕ × SparseMap). contains_key d.1 (last_bits key d.0) ≡ true) (sym e) has) ek ef el eb)
+
+-- a lone key with bits above it
+pub lone_with_stem : (key v : List ℕ) (from len k : ℕ) (below l : ℕ × SparseMap) → from + len + k ≡ 256 → below ≡ (k, insert empty (last_bits key k) v) → l ≡ (below.0 + len, under (bits_from key from len) below.1) → l ≡ (256 - from, insert empty (last_bits key (256 - from)) v)
+lone_with_stem key v from len k below l h b e =
+    let a = bits_from key from len in
+    let up : k + len ≡ 256 - from = omega (arith, h) in
+    let low : len + k ≡ 256 - from = omega (arith, h) in
+    let place : from + (256 - from) ≡ 256 = omega (arith, h) in
+    let bits : a ++ last_bits key k ≡ last_bits key (256 - from) = ap (λ t. a ++ t) (last_bits-at key (from + len) k h) ∙ sym (bits_from-append key from len k) ∙ ap (bits_from key from) low ∙ sym (last_bits-at key from (256 - from) place) in
+    e ∙ ap (λ d. (d.0 + len, under a d.1)) b ∙ ap (λ j. (j, under a (insert empty (last_bits key k) v))) up ∙ ap (λ m. (256 - from, m)) (sym (lone-append a (last_bits key k) v) ∙ ap (λ q. insert empty q v) bits)

@@ -5,7 +5,7 @@ ghost use Rattle.warg_map.specs.Sparse.{sparse_root};
 ghost use Rattle.warg_map.specs.Private.Under.{join};
 
 use crate::link::Link;
-use std::alloc::{AllocError, Allocator, Global};
+use std::alloc::{Allocator, Global};
 use std::ops::Index;
 use warg_crypto::{Hash, Side, SupportedDigest, hash_branch};
 
@@ -46,15 +46,6 @@ impl<D: SupportedDigest, A: Allocator> Fork<D, A> {
             (join self.now.left.1 self.now.right.1) }
     {
         hash_branch(self.left.hash(), self.right.hash())
-    }
-
-    /// The fork with another link on a side. The link on the other side is shared.
-    pub fn with_side(&self, side: Side, link: Link<D, A>) -> Result<Fork<D, A>, AllocError>
-        ensures { IfOk result (λ f. IsForkOf (side_bit side) link
-            (if side_bit side then self.now.left else self.now.right) f) }
-    {
-        let other = self[side.opposite()].clone()?;
-        Ok(Fork::beside(side, link, other))
     }
 }
 

@@ -13,7 +13,7 @@
 //! ```
 //!
 //! The modules stand on one another in this order: `path` (bits of a digest), `singleton`, `fork`, `stem`, `link` (a
-//! node with its digest), `node`, `walk` (down to a key, for its proof), `grown` (many leaves at once), `proof`, `map`,
+//! node with its digest), `node`, `walk` (down to a key, for its proof), `grown` (leaves that are put into a tree), `proof`, `map`,
 //! and `laws` (what follows from the definitions alone).
 #![tactic(auto)]
 

@@ -8,17 +8,19 @@ ghost use Rattle.warg_crypto.specs.EmptyTrees.{empty_root};
 ghost use Rattle.warg_crypto.specs.Tree.{leaf_digest};
 ghost use Rattle.warg_map.specs.Sparse.{HasLevels, sparse_root, leaf_at, inserted, pair_bytes};
 ghost use Rattle.warg_map.specs.Peers.{Proves, ProvesEmpty};
+ghost use Rattle.warg_map.specs.Private.Grown.{with_leaves};
 ghost use Rattle.warg_map.specs.Private.Walk.{IsWanted, AnswersWanted};
 ghost use Rattle.warg_map.specs.Count.{node_count};
 
 mod insertion;
 mod key_proof;
 
-use crate::grown::spread;
+use crate::grown::{one_leaf, spread};
 use crate::link::Link;
 use crate::node::Node;
 use crate::path::Path;
 use crate::proof::Proof;
+use crate::singleton::Singleton;
 use crate::walk::Wanted;
 pub use insertion::Insertion;
 pub use key_proof::KeyProof;
@@ -306,15 +308,28 @@ impl<D: SupportedDigest, K: VisitBytes + Drop, V: VisitBytes + Drop, A: Allocato
             ↔ ((map.len self.now ≡ usize.MAX)
             × (map.contains_key self.now (last_bits key.now 256) ≡ false)) }
     {
+        let _len = self.len();
         if self.is_full_for(key) {
             return Err(MapError::Full);
         }
-        let len = self.len();
-        let (node, fresh) = self.link.node().insert(self.alloc, Path::new(key), leaf)?;
-        let count = if fresh { len + 1 } else { len };
+        let leaves = one_leaf(self.alloc, Singleton::leaf(key.copied(), leaf))?;
+        let (map, fresh) = self.with_leaves(leaves)?;
+        Ok((map, fresh == 1))
+    }
+
+    // The map with leaf digests put under their key digests, in order, and how many of these are new.
+    fn with_leaves(
+        &self,
+        leaves: Vec<Singleton<D>, A>,
+    ) -> Result<(Map<D, K, V, A>, usize), AllocError>
+        requires { map.len (with_leaves 256 self.now leaves.items) ≤ usize.MAX }
+        ensures ok { IfOk result (λ p. p.0 ≡ with_leaves 256 self.now leaves.items) }
+        ensures count { IfOk result (λ p. map.len self.now + p.1 ≡ map.len p.0) }
+    {
+        let (link, fresh) = spread(self.alloc, &self.link, leaves, 0)?;
         let map = Map {
-            link: Link::new(node),
-            count,
+            link,
+            count: self.len() + fresh,
             alloc: self.alloc,
             key: PhantomData,
             value: PhantomData,
@@ -332,8 +347,8 @@ impl<D: SupportedDigest, K: VisitBytes + Drop, V: VisitBytes + Drop, A: Allocato
 
     /// The map with all the pairs of an iterator inserted, in order.
     ///
-    /// It first takes all of them, as two digests each. Then it hashes once each branch above several of them, but
-    /// where they meet a lone key or a stem, which take them one by one, as a map more than half full does.
+    /// It first takes all of them, as their digests, and then hashes once each branch above several of them. A map more
+    /// than half full takes them one by one.
     ///
     /// `Full` comes where one of them is a new key digest at a `len` of `usize::MAX`: before anything grows where it is
     /// the first. After a refusal the rest of the iterator is dropped.
@@ -385,16 +400,10 @@ impl<D: SupportedDigest, K: VisitBytes + Drop, V: VisitBytes + Drop, A: Allocato
     {
         let mut leaves = Vec::new(self.alloc);
         for (key, value) in iter {
-            leaves.push((Hash::of(&key), hash_leaf(&value)))?;
+            leaves.push(Singleton::leaf(Hash::of(&key), hash_leaf(&value)))?;
         }
-        let (link, fresh) = spread(self.alloc, &self.link, leaves, 0)?;
-        Ok(Map {
-            link,
-            count: self.len() + fresh,
-            alloc: self.alloc,
-            key: PhantomData,
-            value: PhantomData,
-        })
+        let (map, _) = self.with_leaves(leaves)?;
+        Ok(map)
     }
 
     // This map with all the pairs of an iterator inserted, in order.

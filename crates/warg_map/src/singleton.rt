@@ -1,31 +1,28 @@
 //! Lone keys.
 
-ghost use Rattle.std.specs.Prelude.{◌≡◌, ℕ, ◌+◌, ◌-◌, ◌<◌, ◌≤◌, IfOk};
+ghost use Rattle.std.specs.Prelude.{◌≡◌, ℕ, ◌+◌, ◌-◌, ◌<◌, ◌≤◌};
 ghost use Rattle.warg_map.specs.Bits.{bit_at, bits_from};
 ghost use Rattle.warg_map.specs.Sparse.{sparse_root};
-ghost use Rattle.warg_map.specs.Private.Lone.{held_alone, IsKept};
+ghost use Rattle.warg_map.specs.Private.Lone.{held_alone, IsRootAt};
 
-use crate::link::Link;
-use crate::node::Node;
 use crate::path::{Path, shared_bits};
 use crate::stem::stem_digest;
-use std::alloc::{AllocError, Allocator};
 use std::marker::Model;
-use std::rc::Rc;
 use warg_crypto::{Hash, SupportedDigest};
 
-/// The height at which a lone key keeps its digest. A split lowers most lone keys to little above it.
-const KEPT_HEIGHT: usize = 224;
+/// How many levels below the top of its tree a lone key keeps a digest.
+const KEPT_BELOW: usize = 8;
 
 /// A lone key: a tree of any height that holds one key and nothing else.
 ///
-/// It keeps the digest of its tree of 224 levels, from which those of higher trees follow, so a split that lowers a lone
-/// key hashes few levels anew.
+/// It keeps the digest of a lower tree of its own, from which those of higher ones follow, so a split that lowers a lone
+/// key by a few levels hashes few of them anew.
 pub struct Singleton<D: SupportedDigest> {
     key: Hash<D>,
     value: Hash<D>,
     kept: Hash<D>,
-    height: usize,
+    kept_height: u16,
+    height: u16,
 }
 
 // Contracts see a lone key as its digest, its leaf digest and its height.
@@ -37,19 +34,10 @@ impl<D: SupportedDigest> Model for Singleton<D> {
 
     ghost view = { λ s. record { key = s.key; value = s.value; height = s.height } };
 
-    ghost use Rattle.warg_map.specs.Private.Lone.{IsKept};
+    ghost use Rattle.warg_map.specs.Private.Lone.{IsRootAt};
 
-    ghost invariant = { λ s. (s.height ≤ 256) × IsKept D.digest s.kept s.key s.value s.height };
-}
-
-/// The digest that a lone key of this height keeps: that of its tree of 224 levels, or nothing of use in a lower tree.
-fn kept_digest<D: SupportedDigest>(key: &Hash<D>, value: &Hash<D>, height: usize) -> Hash<D>
-    ensures { IsKept D.digest result key.now value.now height }
-{
-    if height < KEPT_HEIGHT {
-        return value.copied();
-    }
-    stem_digest(key, 256 - KEPT_HEIGHT, KEPT_HEIGHT, value)
+    ghost invariant = { λ s. (s.height ≤ 256) × (s.kept_height ≤ s.height)
+        × IsRootAt D.digest s.key s.value s.kept_height s.kept };
 }
 
 impl<D: SupportedDigest> Drop for Singleton<D> {
@@ -58,29 +46,47 @@ impl<D: SupportedDigest> Drop for Singleton<D> {
             key: _,
             value: _,
             kept: _,
+            kept_height: _,
             height: _,
         } = self;
     }
 }
 
 impl<D: SupportedDigest> Singleton<D> {
-    ghost use Rattle.warg_map.specs.Private.Path.{bits_left};
-    ghost use Rattle.warg_map.specs.Private.Seen.{Inserts};
-
-    /// The tree of `height` levels that holds `value` under the last bits of `key`.
-    pub fn new(key: Hash<D>, value: Hash<D>, height: usize) -> Singleton<D>
-        requires { height ≤ 256 }
+    /// A key digest with its leaf digest, alone in the whole tree. Nothing is hashed.
+    pub(crate) fn leaf(key: Hash<D>, value: Hash<D>) -> Singleton<D>
         ensures key { result.key ≡ key }
         ensures value { result.value ≡ value }
-        ensures height { result.height ≡ height }
+        ensures height { result.height ≡ 256 }
     {
-        let kept = kept_digest(&key, &value, height);
+        let kept = value.copied();
         Singleton {
             key,
             value,
             kept,
-            height,
+            kept_height: 0,
+            height: 256,
         }
+    }
+
+    /// The same key in the same tree.
+    pub(crate) fn copied(&self) -> Singleton<D>
+        ensures { result ≡ self.now }
+    {
+        Singleton {
+            key: self.key.copied(),
+            value: self.value.copied(),
+            kept: self.kept.copied(),
+            kept_height: self.kept_height,
+            height: self.height,
+        }
+    }
+
+    /// The key digest.
+    pub(crate) fn key(&self) -> &Hash<D>
+        ensures { result.now ≡ self.now.key }
+    {
+        &self.key
     }
 
     /// The leaf digest.
@@ -95,21 +101,37 @@ impl<D: SupportedDigest> Singleton<D> {
         ensures value { result ≡ self.now.height }
         ensures bound { result ≤ 256 }
     {
-        self.height
+        self.height as usize
     }
 
-    /// The same key in a lower tree.
-    pub(crate) fn lowered(&self, height: usize) -> Singleton<D>
-        requires { height ≤ self.now.height }
+    // The highest digest that is known of the key's trees of at most `height` levels, and the height of its tree.
+    fn known_below(&self, height: usize) -> (&Hash<D>, usize)
+        ensures at_most { result.1 ≤ height }
+        ensures root { IsRootAt D.digest self.now.key self.now.value result.1 result.0.now }
+    {
+        let kept_height = self.kept_height as usize;
+        if kept_height <= height {
+            return (&self.kept, kept_height);
+        }
+        (&self.value, 0)
+    }
+
+    /// The same key in a tree of another height.
+    pub(crate) fn with_height(&self, height: usize) -> Singleton<D>
+        requires { height ≤ 256 }
         ensures key { result.key ≡ self.now.key }
         ensures value { result.value ≡ self.now.value }
         ensures height { result.height ≡ height }
     {
+        let (known, from) = self.known_below(height);
+        let kept_height = from.max(height.saturating_sub(KEPT_BELOW));
+        let kept = stem_digest(&self.key, 256 - kept_height, kept_height - from, known);
         Singleton {
             key: self.key.copied(),
             value: self.value.copied(),
-            kept: self.kept.copied(),
-            height,
+            kept,
+            kept_height: kept_height as u16,
+            height: height as u16,
         }
     }
 
@@ -117,11 +139,9 @@ impl<D: SupportedDigest> Singleton<D> {
     pub fn hash(&self) -> Hash<D>
         ensures { result ≡ sparse_root D.digest self.now.height (held_alone self.now) }
     {
-        let from = 256 - self.height;
-        if self.height < KEPT_HEIGHT {
-            return stem_digest(&self.key, from, self.height, &self.value);
-        }
-        stem_digest(&self.key, from, self.height - KEPT_HEIGHT, &self.kept)
+        let height = self.height as usize;
+        let len = height - self.kept_height as usize;
+        stem_digest(&self.key, 256 - height, len, &self.kept)
     }
 
     /// How many of the bits that a path has left the key shares before it parts.
@@ -134,30 +154,6 @@ impl<D: SupportedDigest> Singleton<D> {
             → ¬ (bit_at self.now.key (path.now.index + result)
             ≡ bit_at path.now.hash.now (path.now.index + result)) }
     {
-        shared_bits(&self.key, path.hash(), path.index(), self.height)
-    }
-
-    /// The node after an insertion of `value` under the path's digest, and whether that is a new key.
-    pub fn insert<A: Allocator + Copy>(
-        &self,
-        alloc: A,
-        path: &Path<'_, D>,
-        value: Hash<D>,
-    ) -> Result<(Node<D, A>, bool), AllocError>
-        requires formed { self.now.height < 256 }
-        requires height { self.now.height + path.now.index ≡ 256 }
-        ensures { IfOk result (λ p. Inserts (self.now.height, held_alone self.now)
-            (bits_left path.now) value p.0 p.1) }
-    {
-        let key = path.hash();
-        let shared = self.shared_with(path);
-        if shared == self.height {
-            let same = Singleton::new(key.copied(), value, self.height);
-            return Ok((Node::Singleton(Rc::new(alloc, same)?), false));
-        }
-        let far = self.lowered(self.height - shared - 1);
-        let far = Link::new(Node::Singleton(Rc::new(alloc, far)?));
-        let node = Node::parted(alloc, key, value, path.index(), shared, far)?;
-        Ok((node, true))
+        shared_bits(&self.key, path.hash(), path.index(), self.height as usize)
     }
 }

@@ -141,7 +141,7 @@ impl<D: SupportedDigest, A: Allocator> Node<D, A> {
                 if !wanted.is_nothing() {
                     return Ok(false);
                 }
-                let far = singleton.lowered(singleton.height() - shared - 1);
+                let far = singleton.with_height(singleton.height() - shared - 1);
                 push_beside(peers, far.hash(), path.index(), shared)?;
                 Ok(true)
             }

@@ -1,5 +1,5 @@
 -- A lone key, as a contract sees it.
-use Rattle.std.specs.Prelude.{◌≡◌, ℕ, ◌≤◌, List}
+use Rattle.std.specs.Prelude.{◌≡◌, ℕ, List}
 use Rattle.std.specs.FinMap.{insert, empty}
 use Rattle.warg_map.specs.Bits.{last_bits}
 use Rattle.warg_map.specs.Sparse.{SparseMap, sparse_root}
@@ -14,6 +14,6 @@ pub record Lone : Type 0 where
 abbrev pub held_alone : Lone → SparseMap
 held_alone s = insert empty (last_bits s.key s.height) s.value
 
--- In a tree of 224 levels or more, the digest kept is that of the lone key's tree of 224 levels.
-abbrev pub IsKept : (List ℕ → List ℕ) → List ℕ → List ℕ → List ℕ → ℕ → Type 0
-IsKept H kept key value height = 224 ≤ height → kept ≡ sparse_root H 224 (insert empty (last_bits key 224) value)
+-- A digest is that of the lone key's tree of some height.
+abbrev pub IsRootAt : (List ℕ → List ℕ) → List ℕ → List ℕ → ℕ → List ℕ → Type 0
+IsRootAt H key value height digest = digest ≡ sparse_root H height (insert empty (last_bits key height) value)

@@ -1,6 +1,6 @@
 -- What a node of the tree stands for.
-use Rattle.std.specs.Prelude.{◌≡◌, ℕ, ◌+◌, ◌≤◌, ◌<◌, Bool, not, if◌then◌else◌, List, ◌⊎◌}
-use Rattle.std.specs.FinMap.{insert, empty, contains_key}
+use Rattle.std.specs.Prelude.{◌≡◌, ℕ, ◌+◌, ◌≤◌, ◌<◌, Bool, if◌then◌else◌, ◌⊎◌}
+use Rattle.std.specs.FinMap.{empty}
 use Rattle.warg_map.specs.declared.node.Node.{Node}
 use Rattle.warg_map.specs.declared.node.Node.TheVariants.{Fork, Singleton, Stem, Empty}
 use Rattle.warg_map.specs.declared.fork.Fork.{Fork as Fork'}
@@ -49,12 +49,6 @@ IsFormed Empty = Unit {0}
 pub record IsWellFormed {D A : _} (n : Node D A) : Type 0 where
   pub level : IsLevel n
   pub formed : IsFormed n
-
--- The new node is what was seen before with the bits set to the value, and `fresh` says whether these bits were not held.
-pub record Inserts {D A : _} (old : ℕ × SparseMap) (bits : List Bool) (value : List ℕ) (new : Node D A) (fresh : Bool) : Type 0 where
-  pub seen_as : seen new ≡ (old.0, insert old.1 bits value)
-  pub well_formed : IsWellFormed new
-  pub is_fresh : fresh ≡ not (contains_key old.1 bits)
 
 -- A fork that sees `near` on the side of the bit, and `far` on the other.
 pub record IsForkOf {D A : _} (bit : Bool) (near far : ℕ × SparseMap) (f : Fork' D A) : Type 0 where

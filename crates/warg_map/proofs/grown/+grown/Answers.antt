@@ -1,88 +1,138 @@
-use Rattle.std.proofs.Common.{◌≡◌, ℕ, ◌+◌, ◌-◌, ◌<◌, length, List, arith, rules, sym, ap, ◌∙◌, subst}
-use Rattle.std.specs.FinMap.{len, empty}
-use Rattle.warg_map.specs.Private.Grown.{with_leaves, ShareBits}
-use Rattle.warg_map.proofs.ManyLeaves.{split_at_last, one_key_seen, one_key_count, both_sides, grown_fork, grown_formed, grown_has, grown_seen, grown_count, length-sides}
+use Rattle.std.proofs.Common.{◌≡◌, ℕ, ◌+◌, ◌-◌, ◌<◌, not, length, List, arith, rules, sym, ap, ◌∙◌, subst, inl, refl}
+use Rattle.std.specs.FinMap.{len, empty, len-empty}
+use Rattle.warg_crypto.specs.Sides.{side_bit}
+use Rattle.warg_map.specs.Bits.{bit_at, bits_from, last_bits}
+use Rattle.warg_map.specs.Sparse.{bits_cmp}
+use Rattle.warg_map.specs.Private.Lone.{Lone}
+use Rattle.warg_map.specs.Private.Under.{join_at, under}
+use Rattle.warg_map.specs.Private.Grown.{with_leaves, ShareBits, on_side}
+use Rattle.warg_map.proofs.SparseTree.{empty-is_join_at}
+use Rattle.warg_map.proofs.NodeCounts.{len-lone, len-under}
+use Rattle.warg_map.proofs.ManyLeaves.{split_at_last, one_key, some_near, few_new, put_beside, put_below, under-empty}
+use Rattle.warg_map.proofs.LeavesBelowNodes.{holds_after, splits_beside, len_beside, has_at}
 use Rattle.warg_map.proofs.grown.+grown.Goals as goal
 
 pub returns-then-shared-depth-clause-seen : goal.returns-then-shared-depth-clause-seen
 returns-then-shared-depth-clause-seen g t c =
     let es = c.args.leaves.items in
-    let last = split_at_last es c.len.result c.index.result.now (c.len.ensures ∙ c.args.leaves.ok.0) c.requires.some c.index.ensures in
-    one_key_seen c.in_ok-lone.field-0 es _ c.index.result.now c.copied-key.result c.copied.result c.args.depth c.shared_by_all-shared.result last c.copied-key.ensures c.copied.ensures c.requires.depth c.if-shared-depth.true
-    (subst (ShareBits c.copied-key.result c.args.depth c.shared_by_all-shared.result) c.deref.ensures.value c.shared_by_all-shared.ensures.same) c.in_ok-lone.ensures
+    let last = split_at_last es c.len.result c.index-last.result.now (c.len.ensures ∙ c.args.leaves.ok.0) c.requires.some c.index-last.ensures in
+    let share = subst (λ x. ShareBits x c.args.depth c.shared_by_all-shared.result es) c.key.ensures (subst (λ (x : List Lone). ShareBits c.key.result.now c.args.depth c.shared_by_all-shared.result x) c.deref.ensures.value c.shared_by_all-shared.ensures.same) in
+    let one = one_key es _ c.index-last.result.now c.index-last.result.now.key c.index-last.result.now.value c.args.depth c.shared_by_all-shared.result last refl refl c.requires.depth c.if-shared-depth.true share in
+    c.in_ok-lone.ensures ∙ ap (λ m. (256 - c.args.depth, m)) (sym one)
 
 pub returns-then-shared-depth-clause-count : goal.returns-then-shared-depth-clause-count
-returns-then-shared-depth-clause-count g t c =
-    let es = c.args.leaves.items in
-    let last = split_at_last es c.len.result c.index.result.now (c.len.ensures ∙ c.args.leaves.ok.0) c.requires.some c.index.ensures in
-    one_key_count es _ c.index.result.now c.copied-key.result c.copied.result c.args.depth c.shared_by_all-shared.result last c.copied-key.ensures c.copied.ensures c.requires.depth c.if-shared-depth.true
-    (subst (ShareBits c.copied-key.result c.args.depth c.shared_by_all-shared.result) c.deref.ensures.value c.shared_by_all-shared.ensures.same)
+returns-then-shared-depth-clause-count g t c = sym (ap (λ d. len d.1) c.in_ok-lone.ensures ∙ len-lone (last_bits c.index-last.result.now.key (256 - c.args.depth)) c.index-last.result.now.value)
 
 pub grown-requires : goal.grown-requires
 grown-requires g t c κs within =
     let es = c.args.leaves.items in
+    let last = split_at_last es c.len.result c.index-last.result.now (c.len.ensures ∙ c.args.leaves.ok.0) c.requires.some c.index-last.ensures in
+    let lt : c.shared_by_all-shared.result < 256 - c.args.depth = omega (arith, c.if-shared-depth.false, c.shared_by_all-shared.ensures.at_most, c.requires.depth) in
     let at = c.args.depth + c.shared_by_all-shared.result in
-    let last = split_at_last es c.len.result c.index.result.now (c.len.ensures ∙ c.args.leaves.ok.0) c.requires.some c.index.ensures in
-    let lt : c.shared_by_all-shared.result < 256 - c.args.depth = omega (arith, c.if-shared-depth.false, c.shared_by_all-shared.ensures.at_most) in
-    let both = both_sides es _ c.index.result.now c.copied-key.result at last c.copied-key.ensures (rw c.deref.ensures.value at (c.shared_by_all-shared.ensures.apart lt)) in
-    let some : 0 < length c.in_ok-zeros.zeros.items = subst (λ (x : List (List ℕ × List ℕ)). 0 < length x) (sym c.in_ok-zeros.ensures.0) both.0 in
-    (omega (arith, lt), (search rules, (search rules, (omega (arith, lt), some))))
+    let key = c.copied-key.result in
+    let ek = c.copied-key.ensures ∙ c.key-2.ensures in
+    let b = side_bit c.side_at-side.result in
+    let z = c.in_ok-near.ensures.0 ∙ ap (λ x. on_side at x es) c.side_at-side.ensures in
+    let o = c.in_ok-near.ensures.1 ∙ ap (λ x. on_side at (not x) es) c.side_at-side.ensures in
+    let near : 0 < length c.in_ok-near.near.items = subst (λ (x : List Lone). 0 < length x) (sym z) (some_near es _ c.index-last.result.now key at last ek) in
+    (omega (arith, lt), (search rules, (search rules, (omega (arith, lt), near))))
 
 pub grown-requires-2 : goal.grown-requires-2
 grown-requires-2 g t c κs within =
     let es = c.args.leaves.items in
+    let last = split_at_last es c.len.result c.index-last.result.now (c.len.ensures ∙ c.args.leaves.ok.0) c.requires.some c.index-last.ensures in
+    let lt : c.shared_by_all-shared.result < 256 - c.args.depth = omega (arith, c.if-shared-depth.false, c.shared_by_all-shared.ensures.at_most, c.requires.depth) in
     let at = c.args.depth + c.shared_by_all-shared.result in
-    let last = split_at_last es c.len.result c.index.result.now (c.len.ensures ∙ c.args.leaves.ok.0) c.requires.some c.index.ensures in
-    let lt : c.shared_by_all-shared.result < 256 - c.args.depth = omega (arith, c.if-shared-depth.false, c.shared_by_all-shared.ensures.at_most) in
-    let both = both_sides es _ c.index.result.now c.copied-key.result at last c.copied-key.ensures (rw c.deref.ensures.value at (c.shared_by_all-shared.ensures.apart lt)) in
-    let some : 0 < length c.in_ok-zeros.ones.items = subst (λ (x : List (List ℕ × List ℕ)). 0 < length x) (sym c.in_ok-zeros.ensures.1) both.1 in
-    (omega (arith, lt), (search rules, (search rules, (omega (arith, lt), some))))
+    let key = c.copied-key.result in
+    let ek = c.copied-key.ensures ∙ c.key-2.ensures in
+    let b = side_bit c.side_at-side.result in
+    let z = c.in_ok-near.ensures.0 ∙ ap (λ x. on_side at x es) c.side_at-side.ensures in
+    let o = c.in_ok-near.ensures.1 ∙ ap (λ x. on_side at (not x) es) c.side_at-side.ensures in
+    let apart = subst (λ (x : List Lone). 0 < length (on_side at (not (bit_at c.key.result.now at)) x)) c.deref.ensures.value (c.shared_by_all-shared.ensures.apart lt) in
+    let far : 0 < length c.in_ok-near.far.items = subst (λ (x : List Lone). 0 < length x) (sym o) (subst (λ x. 0 < length (on_side at (not (bit_at x at)) es)) (c.key.ensures ∙ sym ek) apart) in
+    (omega (arith, lt), (search rules, (search rules, (omega (arith, lt), far))))
 
-pub with_stem-requires-clause-well_formed : goal.with_stem-requires-clause-well_formed
-with_stem-requires-clause-well_formed g t c =
+pub beside-requires-clause-hold : goal.beside-requires-clause-hold
+beside-requires-clause-hold g t c =
     let es = c.args.leaves.items in
+    let last = split_at_last es c.len.result c.index-last.result.now (c.len.ensures ∙ c.args.leaves.ok.0) c.requires.some c.index-last.ensures in
+    let lt : c.shared_by_all-shared.result < 256 - c.args.depth = omega (arith, c.if-shared-depth.false, c.shared_by_all-shared.ensures.at_most, c.requires.depth) in
     let at = c.args.depth + c.shared_by_all-shared.result in
-    let k = 256 - (at + 1) in
-    let last = split_at_last es c.len.result c.index.result.now (c.len.ensures ∙ c.args.leaves.ok.0) c.requires.some c.index.ensures in
-    let lt : c.shared_by_all-shared.result < 256 - c.args.depth = omega (arith, c.if-shared-depth.false, c.shared_by_all-shared.ensures.at_most) in
-    let both = both_sides es _ c.index.result.now c.copied-key.result at last c.copied-key.ensures (rw c.deref.ensures.value at (c.shared_by_all-shared.ensures.apart lt)) in
-    let fork = grown_fork c.in_ok-fork.fork c.new-3.result c.new.result c.new-2.result c.in_ok-left.left c.in_ok-right.right k at es c.in_ok-zeros.zeros.items c.in_ok-zeros.ones.items c.in_ok-fork.ensures.ok c.new-3.ensures.left c.new-3.ensures.right c.new.ensures c.new-2.ensures c.in_ok-left.ensures.seen c.in_ok-right.ensures.seen c.in_ok-zeros.ensures.0 c.in_ok-zeros.ensures.1 in
-    grown_formed c.in_ok-fork.fork k at es fork (omega arith) both
+    let key = c.copied-key.result in
+    let ek = c.copied-key.ensures ∙ c.key-2.ensures in
+    let b = side_bit c.side_at-side.result in
+    let z = c.in_ok-near.ensures.0 ∙ ap (λ x. on_side at x es) c.side_at-side.ensures in
+    let o = c.in_ok-near.ensures.1 ∙ ap (λ x. on_side at (not x) es) c.side_at-side.ensures in
+    let near : 0 < length c.in_ok-near.near.items = subst (λ (x : List Lone). 0 < length x) (sym z) (some_near es _ c.index-last.result.now key at last ek) in
+    let apart = subst (λ (x : List Lone). 0 < length (on_side at (not (bit_at c.key.result.now at)) x)) c.deref.ensures.value (c.shared_by_all-shared.ensures.apart lt) in
+    let far : 0 < length c.in_ok-near.far.items = subst (λ (x : List Lone). 0 < length x) (sym o) (subst (λ x. 0 < length (on_side at (not (bit_at x at)) es)) (c.key.ensures ∙ sym ek) apart) in
+    (holds_after _ _ c.in_ok-near-2.near c.in_ok-near.near.items c.in_ok-near-2.ensures.seen near, holds_after _ _ c.in_ok-far.far c.in_ok-near.far.items c.in_ok-far.ensures.seen far)
+
+pub with_stem-requires-clause-below : goal.with_stem-requires-clause-below
+with_stem-requires-clause-below g t c = λ _.
+    let es = c.args.leaves.items in
+    let last = split_at_last es c.len.result c.index-last.result.now (c.len.ensures ∙ c.args.leaves.ok.0) c.requires.some c.index-last.ensures in
+    let lt : c.shared_by_all-shared.result < 256 - c.args.depth = omega (arith, c.if-shared-depth.false, c.shared_by_all-shared.ensures.at_most, c.requires.depth) in
+    let at = c.args.depth + c.shared_by_all-shared.result in
+    let key = c.copied-key.result in
+    let ek = c.copied-key.ensures ∙ c.key-2.ensures in
+    let b = side_bit c.side_at-side.result in
+    let z = c.in_ok-near.ensures.0 ∙ ap (λ x. on_side at x es) c.side_at-side.ensures in
+    let o = c.in_ok-near.ensures.1 ∙ ap (λ x. on_side at (not x) es) c.side_at-side.ensures in
+    let near : 0 < length c.in_ok-near.near.items = subst (λ (x : List Lone). 0 < length x) (sym z) (some_near es _ c.index-last.result.now key at last ek) in
+    let apart = subst (λ (x : List Lone). 0 < length (on_side at (not (bit_at c.key.result.now at)) x)) c.deref.ensures.value (c.shared_by_all-shared.ensures.apart lt) in
+    let far : 0 < length c.in_ok-near.far.items = subst (λ (x : List Lone). 0 < length x) (sym o) (subst (λ x. 0 < length (on_side at (not (bit_at x at)) es)) (c.key.ensures ∙ sym ek) apart) in
+    inl (splits_beside b _ c.in_ok-near-2.near c.in_ok-far.far c.in_ok-fork.fork (holds_after _ _ c.in_ok-near-2.near c.in_ok-near.near.items c.in_ok-near-2.ensures.seen near) (holds_after _ _ c.in_ok-far.far c.in_ok-near.far.items c.in_ok-far.ensures.seen far) c.in_ok-fork.ensures)
 
 pub with_stem-requires-clause-held : goal.with_stem-requires-clause-held
 with_stem-requires-clause-held g t c =
     let es = c.args.leaves.items in
+    let last = split_at_last es c.len.result c.index-last.result.now (c.len.ensures ∙ c.args.leaves.ok.0) c.requires.some c.index-last.ensures in
+    let lt : c.shared_by_all-shared.result < 256 - c.args.depth = omega (arith, c.if-shared-depth.false, c.shared_by_all-shared.ensures.at_most, c.requires.depth) in
     let at = c.args.depth + c.shared_by_all-shared.result in
+    let key = c.copied-key.result in
+    let ek = c.copied-key.ensures ∙ c.key-2.ensures in
+    let b = side_bit c.side_at-side.result in
     let k = 256 - (at + 1) in
-    let last = split_at_last es c.len.result c.index.result.now (c.len.ensures ∙ c.args.leaves.ok.0) c.requires.some c.index.ensures in
-    let lt : c.shared_by_all-shared.result < 256 - c.args.depth = omega (arith, c.if-shared-depth.false, c.shared_by_all-shared.ensures.at_most) in
-    let fork = grown_fork c.in_ok-fork.fork c.new-3.result c.new.result c.new-2.result c.in_ok-left.left c.in_ok-right.right k at es c.in_ok-zeros.zeros.items c.in_ok-zeros.ones.items c.in_ok-fork.ensures.ok c.new-3.ensures.left c.new-3.ensures.right c.new.ensures c.new-2.ensures c.in_ok-left.ensures.seen c.in_ok-right.ensures.seen c.in_ok-zeros.ensures.0 c.in_ok-zeros.ensures.1 in
-    grown_has c.in_ok-fork.fork k at es _ c.index.result.now c.copied-key.result last c.copied-key.ensures fork (omega arith) (omega (arith, lt))
+    let sum : c.args.depth + c.shared_by_all-shared.result + 1 + (256 - (c.args.depth + c.shared_by_all-shared.result + 1)) ≡ 256 = omega (arith, lt) in
+    let top : 256 - (c.args.depth + c.shared_by_all-shared.result + 1) + 1 ≡ 256 - (c.args.depth + c.shared_by_all-shared.result) = omega (arith, lt) in
+    let fork = put_beside b at k sum empty empty c.in_ok-near-2.near c.in_ok-far.far c.in_ok-fork.fork es c.in_ok-near.near.items c.in_ok-near.far.items c.in_ok-near-2.ensures.seen c.in_ok-far.ensures.seen c.in_ok-near.ensures.0 c.in_ok-near.ensures.1 c.in_ok-fork.ensures
+    ∙ ap (λ j. (j, with_leaves j (join_at b empty empty) es)) top ∙ ap (λ m. (256 - at, with_leaves (256 - at) m es)) (sym (empty-is_join_at b)) in
+    has_at (256 - at) empty c.in_ok-fork.fork es _ c.index-last.result.now key fork last ek
+
+pub overflow_add-result : goal.overflow_add-result
+overflow_add-result g t c =
+    let none = len-empty bits_cmp (List ℕ) in
+    let n : len empty + c.in_ok-near-2.inner ≡ len c.in_ok-near-2.near.1 = omega (arith, none, c.in_ok-near-2.ensures.count) in
+    let f : len empty + c.in_ok-far.outer ≡ len c.in_ok-far.far.1 = omega (arith, none, c.in_ok-far.ensures.count) in
+    let inner = few_new _ c.in_ok-near-2.inner empty c.in_ok-near-2.near c.in_ok-near.near.items c.in_ok-near-2.ensures.seen n in
+    let outer = few_new _ c.in_ok-far.outer empty c.in_ok-far.far c.in_ok-near.far.items c.in_ok-far.ensures.seen f in
+    search (rules, inner, outer)
 
 pub returns-clause-seen : goal.returns-clause-seen
 returns-clause-seen g t c =
     let es = c.args.leaves.items in
+    let last = split_at_last es c.len.result c.index-last.result.now (c.len.ensures ∙ c.args.leaves.ok.0) c.requires.some c.index-last.ensures in
+    let lt : c.shared_by_all-shared.result < 256 - c.args.depth = omega (arith, c.if-shared-depth.false, c.shared_by_all-shared.ensures.at_most, c.requires.depth) in
+    let share = subst (λ x. ShareBits x c.args.depth c.shared_by_all-shared.result es) c.key.ensures (subst (λ (x : List Lone). ShareBits c.key.result.now c.args.depth c.shared_by_all-shared.result x) c.deref.ensures.value c.shared_by_all-shared.ensures.same) in
     let at = c.args.depth + c.shared_by_all-shared.result in
+    let key = c.copied-key.result in
+    let ek = c.copied-key.ensures ∙ c.key-2.ensures in
+    let b = side_bit c.side_at-side.result in
     let k = 256 - (at + 1) in
-    let lt : c.shared_by_all-shared.result < 256 - c.args.depth = omega (arith, c.if-shared-depth.false, c.shared_by_all-shared.ensures.at_most) in
     let sum : c.args.depth + c.shared_by_all-shared.result + 1 + (256 - (c.args.depth + c.shared_by_all-shared.result + 1)) ≡ 256 = omega (arith, lt) in
-    let fork = grown_fork c.in_ok-fork.fork c.new-3.result c.new.result c.new-2.result c.in_ok-left.left c.in_ok-right.right k at es c.in_ok-zeros.zeros.items c.in_ok-zeros.ones.items c.in_ok-fork.ensures.ok c.new-3.ensures.left c.new-3.ensures.right c.new.ensures c.new-2.ensures c.in_ok-left.ensures.seen c.in_ok-right.ensures.seen c.in_ok-zeros.ensures.0 c.in_ok-zeros.ensures.1 in
-    grown_seen c.in_ok-node.node c.in_ok-fork.fork c.copied-key.result c.args.depth c.shared_by_all-shared.result k es sum
-    (subst (ShareBits c.copied-key.result c.args.depth c.shared_by_all-shared.result) c.deref.ensures.value c.shared_by_all-shared.ensures.same) fork c.in_ok-node.ensures
+    let top : 256 - (c.args.depth + c.shared_by_all-shared.result + 1) + 1 ≡ 256 - (c.args.depth + c.shared_by_all-shared.result) = omega (arith, lt) in
+    let fork = put_beside b at k sum empty empty c.in_ok-near-2.near c.in_ok-far.far c.in_ok-fork.fork es c.in_ok-near.near.items c.in_ok-near.far.items c.in_ok-near-2.ensures.seen c.in_ok-far.ensures.seen c.in_ok-near.ensures.0 c.in_ok-near.ensures.1 c.in_ok-fork.ensures
+    ∙ ap (λ j. (j, with_leaves j (join_at b empty empty) es)) top ∙ ap (λ m. (256 - at, with_leaves (256 - at) m es)) (sym (empty-is_join_at b)) in
+    let mine = subst (λ x. ShareBits x c.args.depth c.shared_by_all-shared.result es) (sym ek) share in
+    let place : c.args.depth + c.shared_by_all-shared.result + (256 - (c.args.depth + c.shared_by_all-shared.result)) ≡ 256 = omega (arith, lt) in
+    let up : 256 - (c.args.depth + c.shared_by_all-shared.result) + c.shared_by_all-shared.result ≡ 256 - c.args.depth = omega (arith, lt) in
+    put_below key c.args.depth c.shared_by_all-shared.result (256 - at) place empty c.in_ok-fork.fork c.in_ok-with_stem.field-0 es mine fork c.in_ok-with_stem.ensures
+    ∙ ap (λ j. (j, with_leaves j (under (bits_from key c.args.depth c.shared_by_all-shared.result) empty) es)) up
+    ∙ ap (λ m. (256 - c.args.depth, with_leaves (256 - c.args.depth) m es)) (under-empty (bits_from key c.args.depth c.shared_by_all-shared.result))
 
 pub returns-clause-count : goal.returns-clause-count
 returns-clause-count g t c =
-    let es = c.args.leaves.items in
-    let k = 256 - (c.args.depth + c.shared_by_all-shared.result + 1) in
-    let lt : c.shared_by_all-shared.result < 256 - c.args.depth = omega (arith, c.if-shared-depth.false, c.shared_by_all-shared.ensures.at_most) in
-    let sum : c.args.depth + c.shared_by_all-shared.result + 1 + (256 - (c.args.depth + c.shared_by_all-shared.result + 1)) ≡ 256 = omega (arith, lt) in
-    grown_count c.copied-key.result c.args.depth c.shared_by_all-shared.result k c.in_ok-left.lefts c.in_ok-right.rights es sum
-    (subst (ShareBits c.copied-key.result c.args.depth c.shared_by_all-shared.result) c.deref.ensures.value c.shared_by_all-shared.ensures.same)
-    (c.in_ok-left.ensures.count ∙ ap (λ x. len (with_leaves k empty x)) c.in_ok-zeros.ensures.0) (c.in_ok-right.ensures.count ∙ ap (λ x. len (with_leaves k empty x)) c.in_ok-zeros.ensures.1)
-
-pub returns-clause-few : goal.returns-clause-few
-returns-clause-few g t c =
-    let all = length-sides (c.args.depth + c.shared_by_all-shared.result) c.args.leaves.items in
-    let zs = ap length c.in_ok-zeros.ensures.0 in
-    let os = ap length c.in_ok-zeros.ensures.1 in
-    omega (arith, all, zs, os, c.in_ok-left.ensures.few, c.in_ok-right.ensures.few)
+    let both = len_beside (side_bit c.side_at-side.result) _ c.in_ok-near-2.near c.in_ok-far.far c.in_ok-fork.fork c.in_ok-fork.ensures in
+    let stem = ap (λ d. len d.1) c.in_ok-with_stem.ensures ∙ len-under (bits_from c.copied-key.result c.args.depth c.shared_by_all-shared.result) c.in_ok-fork.fork.1 in
+    omega (arith, both, stem, c.in_ok-near-2.ensures.count, c.in_ok-far.ensures.count)

@@ -1,33 +1,26 @@
-use Rattle.std.proofs.Common.{◌+◌, ap, sym, ◌∙◌, subst}
-use Rattle.std.specs.Iterator.{Yields}
-use Rattle.std.specs.FinMap.{len}
-use Rattle.warg_map.specs.Sparse.{SparseMap, HasLevels}
+use Rattle.std.proofs.Common.{ap, sym, ◌∙◌, rules}
+use Rattle.std.specs.FinMap.{insert}
+use Rattle.warg_map.specs.Bits.{last_bits}
+use Rattle.warg_crypto.specs.Tree.{leaf_digest}
 use Rattle.warg_map.specs.Private.Grown.{with_leaves}
-use Rattle.warg_map.proofs.ManyLeaves.{leaves_of-none, leaves_of-next, levels-with_leaves, with_leaves_is}
+use Rattle.warg_map.proofs.InsertedPairs.{inserted-none, inserted-pair}
+use Rattle.warg_map.proofs.ManyLeaves.{with_leaves-none, with_leaves-push, len-with_leaves}
 use Rattle.warg_map.proofs.map.Map.extended_at_once.Goals as goal
 
 pub loop-key-init : goal.loop-key-init
-loop-key-init g c = c.new-leaves.ensures.items ∙ sym (leaves_of-none g.D.SupportedDigest.digest g.K.VisitBytes.bytes g.V.VisitBytes.bytes)
+loop-key-init g c = λ m. ap (with_leaves 256 m) c.new-leaves.ensures.items ∙ with_leaves-none 256 m ∙ sym (inserted-none g.D.SupportedDigest.digest m)
 
 pub loop-key-preserved : goal.loop-key-preserved
-loop-key-preserved g c =
-    leaves_of-next g.D.SupportedDigest.digest g.K.VisitBytes.bytes g.V.VisitBytes.bytes c.loop-key.yielded (c.in-Some.key, c.in-Some.value) c.loop-key.leaves.items c.push.new.self.items c.of.result c.hash_leaf.result c.in_ok-push.ensures.items c.loop-key.invariant c.of.ensures c.hash_leaf.ensures
+loop-key-preserved g c = λ m.
+    let e = c.leaf.result in
+    let old = c.loop-key.leaves.items in
+    ap (with_leaves 256 m) c.in_ok-push.ensures.items ∙ with_leaves-push 256 m old e
+    ∙ ap (λ k. insert (with_leaves 256 m old) (last_bits k 256) e.value) (c.leaf.ensures.key ∙ c.of.ensures)
+    ∙ ap (λ v. insert (with_leaves 256 m old) (last_bits (g.D.SupportedDigest.digest (g.K.VisitBytes.bytes c.in-Some.key)) 256) v) (c.leaf.ensures.value ∙ c.hash_leaf.ensures)
+    ∙ ap (λ x. insert x (last_bits (g.D.SupportedDigest.digest (g.K.VisitBytes.bytes c.in-Some.key)) 256) (leaf_digest g.D.SupportedDigest.digest (g.V.VisitBytes.bytes c.in-Some.value))) (c.loop-key.invariant m)
+    ∙ sym (inserted-pair g.D.SupportedDigest.digest g.K.VisitBytes.bytes g.V.VisitBytes.bytes m c.loop-key.yielded (c.in-Some.key, c.in-Some.value))
 
-pub invariant_of-result : goal.invariant_of-result
-invariant_of-result g c =
-    let leaves = c.loop-key.leaves.items in
-    let seen = c.in_ok-link.ensures.seen in
-    let new = seen ∙ ap (λ k. (k, with_leaves k c.self.inside.link.1 leaves)) c.self.invariant.0 ∙ ap (λ m. (256, with_leaves 256 m leaves)) c.self.view_is in (
-      ap (λ d. d.0) new,
-      ap (λ n. n + c.in_ok-link.fresh) (c.len.ensures ∙ sym (ap len c.self.view_is)) ∙ c.in_ok-link.ensures.count ∙ sym (ap (λ d. len d.1) seen),
-      subst (λ (m : SparseMap). HasLevels 256 m) (sym (ap (λ d. d.1) new)) (levels-with_leaves c.args.self.now leaves (subst (λ (m : SparseMap). HasLevels 256 m) c.self.view_is c.self.invariant.2)),
-    )
-
-pub returns-clause-ok : goal.returns-clause-ok
-returns-clause-ok g c =
-    let leaves = c.loop-key.leaves.items in
-    let new = c.in_ok-link.ensures.seen ∙ ap (λ k. (k, with_leaves k c.self.inside.link.1 leaves)) c.self.invariant.0 ∙ ap (λ m. (256, with_leaves 256 m leaves)) c.self.view_is in (
-      c.loop-key.yielded,
-      (c.next.new.self, (c.loop-key.key-iterator, subst (λ (it : _). Yields g.I.Iterator.next_gives it c.loop-key.yielded c.loop-key.key-iterator) c.into_iter-key-iterator.ensures.into_iter_gives c.loop-key.yielded_by, c.in-None.ensures.steps)),
-      ap (λ d. d.1) new ∙ with_leaves_is g.D.SupportedDigest.digest g.K.VisitBytes.bytes g.V.VisitBytes.bytes c.args.self.now c.loop-key.yielded leaves c.loop-key.invariant,
-    )
+pub with_leaves-requires : goal.with_leaves-requires
+with_leaves-requires g c =
+    let most = len-with_leaves 256 c.args.self.now c.loop-key.leaves.items in
+    search (rules, most, c.requires.few)

@@ -107,9 +107,9 @@ returns-in_ok-push_beside-in-Singleton-clause-peers g t c = λ _.
     let parts = parts_lone c.args.self.now _ _ c.args.path.hash.now c.args.path.index j (is_lone c.in-Singleton.is c.as_ref-singleton.ensures) refl c.requires.height lt
     c.shared_with-shared.ensures.same (c.shared_with-shared.ensures.apart lt) in
     let f : c.is_nothing-in-Singleton.result ≡ true = search rules in
-    let low : c.lowered-far.result.height ≡ c.as_ref-singleton.result.now.height - c.shared_with-shared.result - 1 = c.lowered-far.ensures.height ∙ ap (λ h. h - c.shared_with-shared.result - 1) c.height-in-Singleton.ensures.value in
+    let low : c.with_height-far.result.height ≡ c.as_ref-singleton.result.now.height - c.shared_with-shared.result - 1 = c.with_height-far.ensures.height ∙ ap (λ h. h - c.shared_with-shared.result - 1) c.height-in-Singleton.ensures.value in
     collects_beside_lone g.D.SupportedDigest.digest c.args.wanted c.args.self.now _ _ c.args.path.hash.now c.hash-in-Singleton.result c.args.path.index c.index-in-Singleton.result j _ _ (c.is_nothing-in-Singleton.ensures.0 f) (is_lone c.in-Singleton.is c.as_ref-singleton.ensures) c.requires.height parts
-    (c.hash-in-Singleton.ensures ∙ ap (λ d. sparse_root g.D.SupportedDigest.digest d.0 d.1) (lone_seen c.lowered-far.result (s.height - j - 1) s.key s.value low c.lowered-far.ensures.key c.lowered-far.ensures.value))
+    (c.hash-in-Singleton.ensures ∙ ap (λ d. sparse_root g.D.SupportedDigest.digest d.0 d.1) (lone_seen c.with_height-far.result (s.height - j - 1) s.key s.value low c.with_height-far.ensures.key c.with_height-far.ensures.value))
     c.index-in-Singleton.ensures c.requires.none c.in_ok-push_beside-in-Singleton.ensures
 
 -- a stem
