@@ -8,9 +8,8 @@ use Rattle.std.proofs.lemmas.Nat.{pow_pos, pow-add}
 use Rattle.std.proofs.lemmas.Bool.{cases_lt}
 use Rattle.std.proofs.lemmas.List.{take_all, length-drop, length-take-le, get_or-take, get_or-drop, take-append-le, drop-append-le, length-append, append-nil}
 use Rattle.warg_crypto.specs.Tree.{branch}
-use Rattle.warg_log.specs.Tree.{root_of, root_over, leaves_below}
-use Rattle.warg_log.specs.Nodes.{number_of}
-use Rattle.warg_tiles.specs.Tiles.{TileAt, node_in}
+use Rattle.warg_log.specs.Tree.{root_of}
+use Rattle.warg_tiles.specs.Tiles.{TileAt}
 use Rattle.warg_tiles.specs.TileLog.{last_tile, tile_digests}
 use Rattle.warg_tiles.specs.Private.Edges.{root_if}
 use Rattle.warg_tiles.proofs.RootLemmas.{root_one, root_parts}

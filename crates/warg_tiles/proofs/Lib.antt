@@ -7,6 +7,7 @@ mod RootLemmas
 mod DataLemmas
 mod OwnLemmas
 mod FetchLemmas
+mod GrowthLemmas
 mod TextLemmas
 mod EdgeLemmas
 mod PushLemmas

@@ -1,5 +1,5 @@
 -- The tiles of a length, and those by which a log grows.
-use Rattle.std.specs.Prelude.{◌≡◌, ℕ, zero, suc, ◌+◌, ◌-◌, ◌*◌, ◌/◌, ◌^◌, ◌<◌, min, ◌==◌, if◌then◌else◌, List, [], ◌++◌, map}
+use Rattle.std.specs.Prelude.{◌≡◌, ◌≢◌, ◌↔◌, ℕ, zero, suc, ◌+◌, ◌-◌, ◌*◌, ◌/◌, ◌^◌, ◌<◌, min, ◌==◌, if◌then◌else◌, List, [], ◌++◌, map, Contains, AllPairs}
 use Rattle.std.specs.List.{range_with_len}
 use Rattle.warg_tiles.specs.Tiles.{TileAt}
 
@@ -26,3 +26,8 @@ levels_from (suc levels) level old new = level_tiles level (old / 2 ^ (8 * level
 -- The tiles that a length has and an older one hasn't, by level and then by number. A length up to 2 ^ 63 has eight levels.
 abbrev pub tiles_between : ℕ → ℕ → List TileAt
 tiles_between old new = levels_from 8 0 old new
+
+-- The tiles are those that a length has and an older one hasn't, each once. A tile of another width is another one.
+pub record AreNew (old new : ℕ) (tiles : List TileAt) : Type 0 where
+  pub exactly : (t : TileAt) → Contains tiles t ↔ (IsTileOf new t × (IsTileOf old t → ⊥))
+  pub once : AllPairs (λ (s t : TileAt). s ≢ t) tiles

@@ -1,8 +1,9 @@
 //! Laws of the tiles: the contract of each function is the law, and it has no effect.
 
-ghost use Rattle.std.specs.Prelude.{◌≡◌, ℕ, List, Option, Some};
+ghost use Rattle.std.specs.Prelude.{◌≡◌, ℕ, ◌^◌, ◌≤◌, List, Option, Some};
 ghost use Rattle.std.specs.List.{AllByRecursion};
 ghost use Rattle.warg_log.specs.Tree.{own_digest};
+ghost use Rattle.warg_tiles.specs.Between.{AreNew, tiles_between};
 ghost use Rattle.warg_tiles.specs.TileData.{Tiles, IsTileBy, digest_by};
 ghost use Rattle.warg_tiles.specs.CheckpointText.{Said, CanBeSaid, text_before};
 
@@ -19,4 +20,10 @@ pub fn digest_by_own_tiles()
 pub fn checkpoint_text_once()
     ensures { (s t : Said) (a b : Option (List ℕ)) → CanBeSaid s → CanBeSaid t
         → text_before s a ≡ text_before t b → (s ≡ t) × (a ≡ b) }
+{}
+
+/// The tiles that `tiles_between` gives are exactly those that a log has at its new length and hadn't at its old one, each
+/// once. A wider tile in the place of a partial one is another tile.
+pub fn each_new_tile_once()
+    ensures { (old new : ℕ) → old ≤ new → new ≤ 2 ^ 63 → AreNew old new (tiles_between old new) }
 {}

@@ -46,7 +46,7 @@ fn push_lines(rt: &HostRuntime, folder: &Folder, log: &mut GrowingLog) -> Result
         if !lines.go_on(rt.alloc())? {
             break;
         }
-        log.push(rt, folder, &lines.entry(rt.alloc())?)?;
+        log.push(rt, folder, lines.entry()?)?;
         progress.step(rt);
     }
     Ok(())

@@ -1,7 +1,6 @@
 //! Standard input, line by line.
 
 use crate::refusal::Refusal;
-use hex::FromHexError;
 use std::alloc::Global;
 use std::io::{BufRead, BufReader, ErrorKind, Input, Read};
 
@@ -21,6 +20,7 @@ type Reader = <HostRuntime as Input>::Reader;
 pub struct Lines {
     input: BufReader<Reader>,
     line: Vec<u8>,
+    entry: Vec<u8>,
     number: usize,
 }
 
@@ -33,6 +33,7 @@ impl Lines {
         Ok(Lines {
             input,
             line: Vec::new(rt.alloc()),
+            entry: Vec::new(rt.alloc()),
             number: 0,
         })
     }
@@ -60,9 +61,7 @@ impl Lines {
 
     /// The line's bytes, without its end.
     pub fn line(&self) -> &[u8] {
-        let line = self.line.as_slice();
-        let line = line.strip_suffix(b"\n").unwrap_or(line);
-        line.strip_suffix(b"\r").unwrap_or(line)
+        without_end(self.line.as_slice())
     }
 
     /// The refusal for this line.
@@ -73,18 +72,24 @@ impl Lines {
         }
     }
 
-    /// The entry whose hexadecimal digits the line has.
-    pub fn entry(&self, alloc: Global) -> Result<Vec<u8>, Refusal> {
-        let line = self.line();
-        if line.len() > 2 * MOST {
+    /// The entry whose hexadecimal digits the line has. Its bytes take the place of the last entry's.
+    pub fn entry(&mut self) -> Result<&Vec<u8>, Refusal> {
+        let digits = without_end(self.line.as_slice());
+        if digits.len() > 2 * MOST {
             return Err(self.refused("is too long: an entry has at most 65,535 bytes"));
         }
-        match hex::decode(alloc, line) {
-            Ok(entry) => Ok(entry),
-            Err(FromHexError::OutOfMemory) => Err(Refusal::Memory),
+        self.entry.resize(digits.len() / 2, 0)?;
+        match hex::decode_to_slice(digits, self.entry.as_mut_slice()) {
+            Ok(()) => Ok(&self.entry),
             Err(_) => Err(self.refused(
                 "isn't an entry: write two hexadecimal digits for each byte",
             )),
         }
     }
+}
+
+// A line without its newline, and without a carriage return before that.
+fn without_end(line: &[u8]) -> &[u8] {
+    let line = line.strip_suffix(b"\n").unwrap_or(line);
+    line.strip_suffix(b"\r").unwrap_or(line)
 }

@@ -29,7 +29,7 @@ pub fn verify(rt: &HostRuntime) -> Result<bool, Refusal> {
     match claim_in(lines.line()) {
         Some(Claim::Inclusion { index, checkpoint }) => {
             next(alloc, &mut lines)?;
-            let entry = lines.entry(alloc)?;
+            let entry = lines.entry()?.clone()?;
             let path = path_in(alloc, &mut lines)?;
             Ok(check_record(&checkpoint, index, &entry, path.as_slice()))
         }
