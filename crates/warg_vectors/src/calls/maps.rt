@@ -51,16 +51,28 @@ fn write<D: SupportedDigest, A: Allocator>(
     to.shown(&map.node_count())
 }
 
-// The map of these pairs, inserted one by one. Extending the map of those before the last two gives the same.
+// The map of these pairs, inserted one by one. Extending the empty map by all of them gives the same, and so does
+// extending that of the first half by the others, and that of those before the last two by these.
 fn grown_both_ways<'a, D: SupportedDigest, M: Memory>(
     memory: M,
     pairs: &'a [Insertion],
 ) -> Result<BytesMap<'a, D, M>, Wrong> {
-    let (first, last) = pairs.split_at(pairs.len().saturating_sub(2));
-    let before = grown_by(Map::default(memory), memory, first)?;
-    let map = grown_by(before.clone()?, memory, last)?;
-    extend(&before, &map, memory, last)?;
+    let map = grown_by(Map::default(memory), memory, pairs)?;
+    extend_front(&map, memory, pairs.split_at(0))?;
+    extend_front(&map, memory, pairs.split_at(pairs.len() / 2))?;
+    extend_front(&map, memory, pairs.split_at(pairs.len().saturating_sub(2)))?;
     Ok(map)
+}
+
+// Extends a clone of the map of the pairs at the front by the others, which gives the map that is wanted.
+fn extend_front<'a, D: SupportedDigest, M: Memory>(
+    wanted: &BytesMap<'a, D, M>,
+    memory: M,
+    parts: (&'a [Insertion], &'a [Insertion]),
+) -> Result<(), Wrong> {
+    let (front, rest) = parts;
+    let before = grown_by(Map::default(memory), memory, front)?;
+    extend(&before.clone()?, wanted, memory, rest)
 }
 
 /// The map of these insertions.
