@@ -85,7 +85,7 @@ pub fn measure(rt: &HostRuntime) -> Result<()> {
 fn of_proofs(rt: &HostRuntime, count: usize, others: &str) -> Result<()> {
     let list = entries(rt, count)?;
     let keys = list.as_slice();
-    let map = &map_of(rt, keys)?;
+    let map: &Keys = &map_of(rt, keys)?;
     let every = 1;
     let what = "Map::prove";
     let row = Row {
