@@ -76,18 +76,19 @@ fn pairs(alloc: Global, keys: &[Entry]) -> Result<Vec<(Entry, Entry)>> {
 
 /// Measures the calls whose figures are compared.
 pub fn measure(rt: &HostRuntime) -> Result<()> {
-    of_proofs(rt, 1_000, "before 3.38, the Rust crate 1.96")?;
-    of_proofs(rt, 10_000, "before 4.84, the Rust crate 3.92")?;
+    let others = "before 3.38, the Rust crate 1.96";
+    of_proofs(rt, 1_000, "Map::prove at 1,000 keys", others)?;
+    let others = "before 4.84, the Rust crate 3.92";
+    of_proofs(rt, 10_000, "Map::prove at 10,000 keys", others)?;
     of_image(rt)?;
     of_extensions(rt)
 }
 
-fn of_proofs(rt: &HostRuntime, count: usize, others: &str) -> Result<()> {
+fn of_proofs(rt: &HostRuntime, count: usize, what: &str, others: &str) -> Result<()> {
     let list = entries(rt, count)?;
     let keys = list.as_slice();
     let map: &Keys = &map_of(rt, keys)?;
     let every = 1;
-    let what = "Map::prove";
     let row = Row {
         what,
         pieces: count,
