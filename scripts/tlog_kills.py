@@ -70,28 +70,30 @@ def gone_on(program, log, entries, wanted, why):
 
 
 def random_moments(program, room, start, entries, wanted, times):
-    """Kills an append at random moments of its time. Returns how many of the runs were killed before they ended."""
-    began = time.monotonic()
+    """Kills an append at random moments of its time, until so many came before its end. Returns how many did, and in
+    how many runs."""
     log = room / "timed"
     shutil.copytree(start, log)
+    began = time.monotonic()
     run(program, "append", str(log), entries=entries[length_of(log) :])
     whole = time.monotonic() - began
     shutil.rmtree(log)
-    killed = 0
+    runs = killed = 0
     rest = room / "rest"
     rest.write_bytes(lines(entries[length_of(start) :]))
-    for turn in range(times):
+    while killed < times and runs < 10 * times:
         log = room / "killed"
         shutil.copytree(start, log)
         with rest.open("rb") as given:
             process = subprocess.Popen([program, "append", str(log)], stdin=given, stderr=subprocess.DEVNULL)
         time.sleep(random.uniform(0, whole))
         process.send_signal(signal.SIGKILL)
+        runs += 1
         killed += process.wait() == -signal.SIGKILL
-        check_now(log, length_of(start), entries, f"moment {turn}")
-        gone_on(program, log, entries, wanted, f"moment {turn}")
+        check_now(log, length_of(start), entries, f"moment {runs}")
+        gone_on(program, log, entries, wanted, f"moment {runs}")
         shutil.rmtree(log)
-    return killed
+    return killed, runs
 
 
 def traced(program, log, given, stop_behind):
@@ -158,9 +160,11 @@ def main():
             print(f"killed behind each of {calls} calls that change a file: each log goes on to the same files")
         except PermissionError as error:
             print(f"not killed behind single calls: {error}")
-        killed = random_moments(program, room, start, ENTRIES, files(whole), times)
-        print(f"killed at {times} random moments of an append of {len(ENTRIES) - 300} entries, {killed} of them before its end:"
+        killed, runs = random_moments(program, room, start, ENTRIES, files(whole), times)
+        print(f"killed at {killed} random moments of an append of {len(ENTRIES) - 300} entries, and at {runs - killed} behind its end:"
               " each log goes on to the same files")
+        if killed < times:
+            sys.exit(f"of {runs} runs only {killed} were killed before their end")
 
 
 if __name__ == "__main__":
