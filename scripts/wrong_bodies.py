@@ -159,8 +159,8 @@ class Crate:
         self.seconds, self.checks, self.refused, self.faults = 0.0, 0, {}, []
 
     def edits(self, only):
-        # The planted ones go first, into the round of what they wait for.
         found = [read(it) for it in sorted(self.folder.glob("wrong-bodies/**/*.edit")) if only in it.stem]
+        # into the round of what they wait for
         found.sort(key=lambda it: not it.is_planted)
         for edit in found:
             if fits(edit, self.texts):
