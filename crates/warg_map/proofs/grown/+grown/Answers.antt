@@ -11,6 +11,27 @@ use Rattle.warg_map.proofs.NodeCounts.{len-lone, len-under}
 use Rattle.warg_map.proofs.ManyLeaves.{split_at_last, one_key, some_near, few_new, put_beside, put_below, under-empty}
 use Rattle.warg_map.proofs.LeavesBelowNodes.{holds_after, splits_beside, len_beside, has_at}
 use Rattle.warg_map.proofs.grown.+grown.Goals as goal
+use Rattle.warg_map.proofs.grown.+grown.Goals.{In_ok-near}
+
+shares_less : (g : _) (t : _) (c : In_ok-near g t) → c.shared_by_all-shared.result < 256 - c.args.depth
+shares_less g t c = omega (arith, c.if-shared-depth.false, c.shared_by_all-shared.ensures.at_most, c.requires.depth)
+
+-- a leaf goes to each side
+near_some : (g : _) (t : _) (c : In_ok-near g t) → 0 < length c.in_ok-near.near.items
+near_some g t c =
+    let es = c.args.leaves.items in
+    let last = split_at_last es c.len.result c.index-last.result.now (c.len.ensures ∙ c.args.leaves.ok.0) c.requires.some c.index-last.ensures in
+    let at = c.args.depth + c.shared_by_all-shared.result in
+    let z = c.in_ok-near.ensures.0 ∙ ap (λ x. on_side at x es) c.side_at-side.ensures in
+    subst (λ (x : List Lone). 0 < length x) (sym z) (some_near es _ c.index-last.result.now c.copied-key.result at last (c.copied-key.ensures ∙ c.key-2.ensures))
+
+far_some : (g : _) (t : _) (c : In_ok-near g t) → 0 < length c.in_ok-near.far.items
+far_some g t c =
+    let es = c.args.leaves.items in
+    let at = c.args.depth + c.shared_by_all-shared.result in
+    let o = c.in_ok-near.ensures.1 ∙ ap (λ x. on_side at (not x) es) c.side_at-side.ensures in
+    let apart = subst (λ (x : List Lone). 0 < length (on_side at (not (bit_at c.key.result.now at)) x)) c.deref.ensures.value (c.shared_by_all-shared.ensures.apart (shares_less g t c)) in
+    subst (λ (x : List Lone). 0 < length x) (sym o) (subst (λ x. 0 < length (on_side at (not (bit_at x at)) es)) (c.key.ensures ∙ sym (c.copied-key.ensures ∙ c.key-2.ensures)) apart)
 
 pub returns-then-shared-depth-clause-seen : goal.returns-then-shared-depth-clause-seen
 returns-then-shared-depth-clause-seen g t c =
@@ -25,64 +46,23 @@ returns-then-shared-depth-clause-count g t c = sym (ap (λ d. len d.1) c.in_ok-l
 
 pub grown-requires : goal.grown-requires
 grown-requires g t c κs within =
-    let es = c.args.leaves.items in
-    let last = split_at_last es c.len.result c.index-last.result.now (c.len.ensures ∙ c.args.leaves.ok.0) c.requires.some c.index-last.ensures in
-    let lt : c.shared_by_all-shared.result < 256 - c.args.depth = omega (arith, c.if-shared-depth.false, c.shared_by_all-shared.ensures.at_most, c.requires.depth) in
-    let at = c.args.depth + c.shared_by_all-shared.result in
-    let key = c.copied-key.result in
-    let ek = c.copied-key.ensures ∙ c.key-2.ensures in
-    let b = side_bit c.side_at-side.result in
-    let z = c.in_ok-near.ensures.0 ∙ ap (λ x. on_side at x es) c.side_at-side.ensures in
-    let o = c.in_ok-near.ensures.1 ∙ ap (λ x. on_side at (not x) es) c.side_at-side.ensures in
-    let near : 0 < length c.in_ok-near.near.items = subst (λ (x : List Lone). 0 < length x) (sym z) (some_near es _ c.index-last.result.now key at last ek) in
-    (omega (arith, lt), (search rules, (search rules, (omega (arith, lt), near))))
+    let split = (goal.at.grown-requires g t c).In_ok-near in
+    (omega (arith, shares_less g t split), (search rules, (search rules, (omega (arith, shares_less g t split), near_some g t split))))
 
 pub grown-requires-2 : goal.grown-requires-2
 grown-requires-2 g t c κs within =
-    let es = c.args.leaves.items in
-    let last = split_at_last es c.len.result c.index-last.result.now (c.len.ensures ∙ c.args.leaves.ok.0) c.requires.some c.index-last.ensures in
-    let lt : c.shared_by_all-shared.result < 256 - c.args.depth = omega (arith, c.if-shared-depth.false, c.shared_by_all-shared.ensures.at_most, c.requires.depth) in
-    let at = c.args.depth + c.shared_by_all-shared.result in
-    let key = c.copied-key.result in
-    let ek = c.copied-key.ensures ∙ c.key-2.ensures in
-    let b = side_bit c.side_at-side.result in
-    let z = c.in_ok-near.ensures.0 ∙ ap (λ x. on_side at x es) c.side_at-side.ensures in
-    let o = c.in_ok-near.ensures.1 ∙ ap (λ x. on_side at (not x) es) c.side_at-side.ensures in
-    let apart = subst (λ (x : List Lone). 0 < length (on_side at (not (bit_at c.key.result.now at)) x)) c.deref.ensures.value (c.shared_by_all-shared.ensures.apart lt) in
-    let far : 0 < length c.in_ok-near.far.items = subst (λ (x : List Lone). 0 < length x) (sym o) (subst (λ x. 0 < length (on_side at (not (bit_at x at)) es)) (c.key.ensures ∙ sym ek) apart) in
-    (omega (arith, lt), (search rules, (search rules, (omega (arith, lt), far))))
+    let split = (goal.at.grown-requires-2 g t c).In_ok-near in
+    (omega (arith, shares_less g t split), (search rules, (search rules, (omega (arith, shares_less g t split), far_some g t split))))
 
 pub beside-requires-clause-hold : goal.beside-requires-clause-hold
 beside-requires-clause-hold g t c =
-    let es = c.args.leaves.items in
-    let last = split_at_last es c.len.result c.index-last.result.now (c.len.ensures ∙ c.args.leaves.ok.0) c.requires.some c.index-last.ensures in
-    let lt : c.shared_by_all-shared.result < 256 - c.args.depth = omega (arith, c.if-shared-depth.false, c.shared_by_all-shared.ensures.at_most, c.requires.depth) in
-    let at = c.args.depth + c.shared_by_all-shared.result in
-    let key = c.copied-key.result in
-    let ek = c.copied-key.ensures ∙ c.key-2.ensures in
-    let b = side_bit c.side_at-side.result in
-    let z = c.in_ok-near.ensures.0 ∙ ap (λ x. on_side at x es) c.side_at-side.ensures in
-    let o = c.in_ok-near.ensures.1 ∙ ap (λ x. on_side at (not x) es) c.side_at-side.ensures in
-    let near : 0 < length c.in_ok-near.near.items = subst (λ (x : List Lone). 0 < length x) (sym z) (some_near es _ c.index-last.result.now key at last ek) in
-    let apart = subst (λ (x : List Lone). 0 < length (on_side at (not (bit_at c.key.result.now at)) x)) c.deref.ensures.value (c.shared_by_all-shared.ensures.apart lt) in
-    let far : 0 < length c.in_ok-near.far.items = subst (λ (x : List Lone). 0 < length x) (sym o) (subst (λ x. 0 < length (on_side at (not (bit_at x at)) es)) (c.key.ensures ∙ sym ek) apart) in
-    (holds_after _ _ c.in_ok-near-2.near c.in_ok-near.near.items c.in_ok-near-2.ensures.seen near, holds_after _ _ c.in_ok-far.far c.in_ok-near.far.items c.in_ok-far.ensures.seen far)
+    let split = (goal.at.beside-requires-clause-hold g t c).In_ok-near in
+    (holds_after _ _ c.in_ok-near-2.near c.in_ok-near.near.items c.in_ok-near-2.ensures.seen (near_some g t split), holds_after _ _ c.in_ok-far.far c.in_ok-near.far.items c.in_ok-far.ensures.seen (far_some g t split))
 
 pub with_stem-requires-clause-below : goal.with_stem-requires-clause-below
 with_stem-requires-clause-below g t c = λ _.
-    let es = c.args.leaves.items in
-    let last = split_at_last es c.len.result c.index-last.result.now (c.len.ensures ∙ c.args.leaves.ok.0) c.requires.some c.index-last.ensures in
-    let lt : c.shared_by_all-shared.result < 256 - c.args.depth = omega (arith, c.if-shared-depth.false, c.shared_by_all-shared.ensures.at_most, c.requires.depth) in
-    let at = c.args.depth + c.shared_by_all-shared.result in
-    let key = c.copied-key.result in
-    let ek = c.copied-key.ensures ∙ c.key-2.ensures in
-    let b = side_bit c.side_at-side.result in
-    let z = c.in_ok-near.ensures.0 ∙ ap (λ x. on_side at x es) c.side_at-side.ensures in
-    let o = c.in_ok-near.ensures.1 ∙ ap (λ x. on_side at (not x) es) c.side_at-side.ensures in
-    let near : 0 < length c.in_ok-near.near.items = subst (λ (x : List Lone). 0 < length x) (sym z) (some_near es _ c.index-last.result.now key at last ek) in
-    let apart = subst (λ (x : List Lone). 0 < length (on_side at (not (bit_at c.key.result.now at)) x)) c.deref.ensures.value (c.shared_by_all-shared.ensures.apart lt) in
-    let far : 0 < length c.in_ok-near.far.items = subst (λ (x : List Lone). 0 < length x) (sym o) (subst (λ x. 0 < length (on_side at (not (bit_at x at)) es)) (c.key.ensures ∙ sym ek) apart) in
-    inl (splits_beside b _ c.in_ok-near-2.near c.in_ok-far.far c.in_ok-fork.fork (holds_after _ _ c.in_ok-near-2.near c.in_ok-near.near.items c.in_ok-near-2.ensures.seen near) (holds_after _ _ c.in_ok-far.far c.in_ok-near.far.items c.in_ok-far.ensures.seen far) c.in_ok-fork.ensures)
+    let split = (goal.at.with_stem-requires-clause-below g t c).In_ok-near in
+    inl (splits_beside (side_bit c.side_at-side.result) _ c.in_ok-near-2.near c.in_ok-far.far c.in_ok-fork.fork (holds_after _ _ c.in_ok-near-2.near c.in_ok-near.near.items c.in_ok-near-2.ensures.seen (near_some g t split)) (holds_after _ _ c.in_ok-far.far c.in_ok-near.far.items c.in_ok-far.ensures.seen (far_some g t split)) c.in_ok-fork.ensures)
 
 pub with_stem-requires-clause-held : goal.with_stem-requires-clause-held
 with_stem-requires-clause-held g t c =
