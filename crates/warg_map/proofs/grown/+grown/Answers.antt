@@ -11,7 +11,7 @@ use Rattle.warg_map.proofs.NodeCounts.{len-lone, len-under}
 use Rattle.warg_map.proofs.ManyLeaves.{split_at_last, one_key, some_near, few_new, put_beside, put_below, under-empty}
 use Rattle.warg_map.proofs.LeavesBelowNodes.{holds_after, splits_beside, len_beside, has_at}
 use Rattle.warg_map.proofs.grown.+grown.Goals as goal
-use Rattle.warg_map.proofs.grown.+grown.Goals.{In_ok-near}
+use Rattle.warg_map.proofs.grown.+grown.Goals.{In_ok-near, In_ok-fork}
 
 shares_less : (g : _) (t : _) (c : In_ok-near g t) → c.shared_by_all-shared.result < 256 - c.args.depth
 shares_less g t c = omega (arith, c.if-shared-depth.false, c.shared_by_all-shared.ensures.at_most, c.requires.depth)
@@ -32,6 +32,18 @@ far_some g t c =
     let o = c.in_ok-near.ensures.1 ∙ ap (λ x. on_side at (not x) es) c.side_at-side.ensures in
     let apart = subst (λ (x : List Lone). 0 < length (on_side at (not (bit_at c.key.result.now at)) x)) c.deref.ensures.value (c.shared_by_all-shared.ensures.apart (shares_less g t c)) in
     subst (λ (x : List Lone). 0 < length x) (sym o) (subst (λ x. 0 < length (on_side at (not (bit_at x at)) es)) (c.key.ensures ∙ sym (c.copied-key.ensures ∙ c.key-2.ensures)) apart)
+
+-- the fork holds the leaves
+fork_holds : (g : _) (t : _) (c : In_ok-fork g t) → let at = c.args.depth + c.shared_by_all-shared.result in c.in_ok-fork.fork ≡ (256 - at, with_leaves (256 - at) empty c.args.leaves.items)
+fork_holds g t c =
+    let es = c.args.leaves.items in
+    let lt = shares_less g t (goal.at.In_ok-fork g t c).In_ok-near in
+    let at = c.args.depth + c.shared_by_all-shared.result in
+    let b = side_bit c.side_at-side.result in
+    let sum : at + 1 + (256 - (at + 1)) ≡ 256 = omega (arith, lt) in
+    let top : 256 - (at + 1) + 1 ≡ 256 - at = omega (arith, lt) in
+    put_beside b at (256 - (at + 1)) sum empty empty c.in_ok-near-2.near c.in_ok-far.far c.in_ok-fork.fork es c.in_ok-near.near.items c.in_ok-near.far.items c.in_ok-near-2.ensures.seen c.in_ok-far.ensures.seen c.in_ok-near.ensures.0 c.in_ok-near.ensures.1 c.in_ok-fork.ensures
+    ∙ ap (λ j. (j, with_leaves j (join_at b empty empty) es)) top ∙ ap (λ m. (256 - at, with_leaves (256 - at) m es)) (sym (empty-is_join_at b))
 
 pub returns-then-shared-depth-clause-seen : goal.returns-then-shared-depth-clause-seen
 returns-then-shared-depth-clause-seen g t c =
@@ -68,17 +80,7 @@ pub with_stem-requires-clause-held : goal.with_stem-requires-clause-held
 with_stem-requires-clause-held g t c =
     let es = c.args.leaves.items in
     let last = split_at_last es c.len.result c.index-last.result.now (c.len.ensures ∙ c.args.leaves.ok.0) c.requires.some c.index-last.ensures in
-    let lt : c.shared_by_all-shared.result < 256 - c.args.depth = omega (arith, c.if-shared-depth.false, c.shared_by_all-shared.ensures.at_most, c.requires.depth) in
-    let at = c.args.depth + c.shared_by_all-shared.result in
-    let key = c.copied-key.result in
-    let ek = c.copied-key.ensures ∙ c.key-2.ensures in
-    let b = side_bit c.side_at-side.result in
-    let k = 256 - (at + 1) in
-    let sum : c.args.depth + c.shared_by_all-shared.result + 1 + (256 - (c.args.depth + c.shared_by_all-shared.result + 1)) ≡ 256 = omega (arith, lt) in
-    let top : 256 - (c.args.depth + c.shared_by_all-shared.result + 1) + 1 ≡ 256 - (c.args.depth + c.shared_by_all-shared.result) = omega (arith, lt) in
-    let fork = put_beside b at k sum empty empty c.in_ok-near-2.near c.in_ok-far.far c.in_ok-fork.fork es c.in_ok-near.near.items c.in_ok-near.far.items c.in_ok-near-2.ensures.seen c.in_ok-far.ensures.seen c.in_ok-near.ensures.0 c.in_ok-near.ensures.1 c.in_ok-fork.ensures
-    ∙ ap (λ j. (j, with_leaves j (join_at b empty empty) es)) top ∙ ap (λ m. (256 - at, with_leaves (256 - at) m es)) (sym (empty-is_join_at b)) in
-    has_at (256 - at) empty c.in_ok-fork.fork es _ c.index-last.result.now key fork last ek
+    has_at _ empty c.in_ok-fork.fork es _ c.index-last.result.now c.copied-key.result (fork_holds g t (goal.at.with_stem-requires-clause-held g t c).In_ok-fork) last (c.copied-key.ensures ∙ c.key-2.ensures)
 
 pub overflow_add-result : goal.overflow_add-result
 overflow_add-result g t c =
@@ -92,24 +94,18 @@ overflow_add-result g t c =
 pub returns-clause-seen : goal.returns-clause-seen
 returns-clause-seen g t c =
     let es = c.args.leaves.items in
-    let last = split_at_last es c.len.result c.index-last.result.now (c.len.ensures ∙ c.args.leaves.ok.0) c.requires.some c.index-last.ensures in
-    let lt : c.shared_by_all-shared.result < 256 - c.args.depth = omega (arith, c.if-shared-depth.false, c.shared_by_all-shared.ensures.at_most, c.requires.depth) in
-    let share = subst (λ x. ShareBits x c.args.depth c.shared_by_all-shared.result es) c.key.ensures (subst (λ (x : List Lone). ShareBits c.key.result.now c.args.depth c.shared_by_all-shared.result x) c.deref.ensures.value c.shared_by_all-shared.ensures.same) in
-    let at = c.args.depth + c.shared_by_all-shared.result in
+    let now = (goal.at.returns-clause-seen g t c).In_ok-fork in
+    let lt = shares_less g t (goal.at.returns-clause-seen g t c).In_ok-near in
+    let n = c.shared_by_all-shared.result in
+    let at = c.args.depth + n in
     let key = c.copied-key.result in
-    let ek = c.copied-key.ensures ∙ c.key-2.ensures in
-    let b = side_bit c.side_at-side.result in
-    let k = 256 - (at + 1) in
-    let sum : c.args.depth + c.shared_by_all-shared.result + 1 + (256 - (c.args.depth + c.shared_by_all-shared.result + 1)) ≡ 256 = omega (arith, lt) in
-    let top : 256 - (c.args.depth + c.shared_by_all-shared.result + 1) + 1 ≡ 256 - (c.args.depth + c.shared_by_all-shared.result) = omega (arith, lt) in
-    let fork = put_beside b at k sum empty empty c.in_ok-near-2.near c.in_ok-far.far c.in_ok-fork.fork es c.in_ok-near.near.items c.in_ok-near.far.items c.in_ok-near-2.ensures.seen c.in_ok-far.ensures.seen c.in_ok-near.ensures.0 c.in_ok-near.ensures.1 c.in_ok-fork.ensures
-    ∙ ap (λ j. (j, with_leaves j (join_at b empty empty) es)) top ∙ ap (λ m. (256 - at, with_leaves (256 - at) m es)) (sym (empty-is_join_at b)) in
-    let mine = subst (λ x. ShareBits x c.args.depth c.shared_by_all-shared.result es) (sym ek) share in
-    let place : c.args.depth + c.shared_by_all-shared.result + (256 - (c.args.depth + c.shared_by_all-shared.result)) ≡ 256 = omega (arith, lt) in
-    let up : 256 - (c.args.depth + c.shared_by_all-shared.result) + c.shared_by_all-shared.result ≡ 256 - c.args.depth = omega (arith, lt) in
-    put_below key c.args.depth c.shared_by_all-shared.result (256 - at) place empty c.in_ok-fork.fork c.in_ok-with_stem.field-0 es mine fork c.in_ok-with_stem.ensures
-    ∙ ap (λ j. (j, with_leaves j (under (bits_from key c.args.depth c.shared_by_all-shared.result) empty) es)) up
-    ∙ ap (λ m. (256 - c.args.depth, with_leaves (256 - c.args.depth) m es)) (under-empty (bits_from key c.args.depth c.shared_by_all-shared.result))
+    let share = subst (λ x. ShareBits x c.args.depth n es) c.key.ensures (subst (λ (x : List Lone). ShareBits c.key.result.now c.args.depth n x) c.deref.ensures.value c.shared_by_all-shared.ensures.same) in
+    let mine = subst (λ x. ShareBits x c.args.depth n es) (sym (c.copied-key.ensures ∙ c.key-2.ensures)) share in
+    let place : at + (256 - at) ≡ 256 = omega (arith, lt) in
+    let up : 256 - at + n ≡ 256 - c.args.depth = omega (arith, lt) in
+    put_below key c.args.depth n (256 - at) place empty c.in_ok-fork.fork c.in_ok-with_stem.field-0 es mine (fork_holds g t now) c.in_ok-with_stem.ensures
+    ∙ ap (λ j. (j, with_leaves j (under (bits_from key c.args.depth n) empty) es)) up
+    ∙ ap (λ m. (256 - c.args.depth, with_leaves (256 - c.args.depth) m es)) (under-empty (bits_from key c.args.depth n))
 
 pub returns-clause-count : goal.returns-clause-count
 returns-clause-count g t c =
