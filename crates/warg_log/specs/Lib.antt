@@ -1,6 +1,7 @@
 pub mod Nodes
 pub mod Ranges
 pub mod Tree
+pub mod Growing
 pub mod Cut
 pub mod Walks
 pub mod Consistency

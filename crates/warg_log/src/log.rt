@@ -3,6 +3,7 @@
 ghost use Rattle.std.specs.Prelude.{◌≡◌, ℕ, ◌+◌, ◌*◌, ◌^◌, ◌<◌, ◌≤◌, ◌↔◌, map, take, List, [], ◌∷◌, ◌++◌, length, Option, IsTrue, IsSome, IfOk, OnOk, OnErr};
 ghost use Rattle.warg_crypto.specs.Tree.{leaf_digest};
 ghost use Rattle.warg_log.specs.Tree.{root_of, leaves_of};
+ghost use Rattle.warg_log.specs.Growing.{Appends};
 
 use crate::consistency::ConsistencyProof;
 use crate::node::Node;
@@ -80,8 +81,8 @@ pub trait LogBuilder<D: SupportedDigest, V: VisitBytes> {
         requires { len self.old < 2 ^ 63 }
         ensures node { IfOk result (λ node. node.0 ≡ 2 * len self.old) }
         ensures length { OnOk result (len self.new ≡ len self.old + 1) }
-        ensures ok { OnOk result ((ds : List (List ℕ)) → stands_for self.old ds
-            → stands_for self.new (ds ++ leaf_digest D.digest (V.bytes entry.now) ∷ [])) }
+        ensures ok { OnOk result (Appends stands_for self.old self.new
+            (leaf_digest D.digest (V.bytes entry.now) ∷ [])) }
         ensures err { OnErr result (self.new ≡ self.old) };
 
     // Each list that the log stands for has as many digests as the log has entries.
@@ -132,20 +133,16 @@ pub fn push_all<D: SupportedDigest, V: VisitBytes, B: LogBuilder<D, V>>(
     entries: &[V],
 ) -> Result<Checkpoint<D>, AllocError>
     requires { B.len log.old + length entries.now ≤ 2 ^ 63 }
-    ensures ok { OnOk result ((ds : List (List ℕ)) → B.stands_for log.old ds
-        → B.stands_for log.new (ds ++ leaves_of D.digest (map (λ e. V.bytes e) entries.now))) }
-    ensures root { IfOk result (λ checkpoint. (ds : List (List ℕ)) → B.stands_for log.old ds
-        → checkpoint.root ≡ root_of D.digest
-        (ds ++ leaves_of D.digest (map (λ e. V.bytes e) entries.now))) }
-    ensures length { IfOk result (λ checkpoint.
-        checkpoint.length ≡ B.len log.old + length entries.now) }
+    ensures ok { OnOk result (Appends B.stands_for log.old log.new
+        (leaves_of D.digest (map V.bytes entries.now))) }
     ensures grown { OnOk result (B.len log.new ≡ B.len log.old + length entries.now) }
-    ensures grown_by { OnErr result ((k : ℕ) × (k < length entries.now)
-        × (B.len log.new ≡ B.len log.old + k)) }
+    ensures root { IfOk result (λ checkpoint. (ds : List (List ℕ)) → B.stands_for log.new ds
+        → checkpoint.root ≡ root_of D.digest ds) }
+    ensures length { IfOk result (λ checkpoint. checkpoint.length ≡ B.len log.new) }
     ensures err { OnErr result ((k : ℕ) × (k < length entries.now)
-        × ((ds : List (List ℕ)) → B.stands_for log.old ds
-        → B.stands_for log.new (ds ++ leaves_of D.digest
-        (map (λ e. V.bytes e) (take k entries.now))))) }
+        × (B.len log.new ≡ B.len log.old + k)
+        × Appends B.stands_for log.old log.new
+        (leaves_of D.digest (map V.bytes (take k entries.now)))) }
 {
     'entries: for entry in entries {
         log.push(entry)?;

@@ -23,8 +23,8 @@ pub fn audit<D: SupportedDigest, V: VisitBytes, L: LogData<D, V>>(
 
     // A proof that leads to the entries' root, and lies, gives a collision.
     ensures lies { IsMet D.digest (L.digest_at hashes.now) proof.now
-        (leaf_digest D.digest (V.bytes value.now)) (map (λ e. V.bytes e) entries.now)
-        → (IsEntry (V.bytes value.now) proof.now.leaf.0 (map (λ e. V.bytes e) entries.now) → ⊥)
+        (leaf_digest D.digest (V.bytes value.now)) (map V.bytes entries.now)
+        → (IsEntry (V.bytes value.now) proof.now.leaf.0 (map V.bytes entries.now) → ⊥)
         → result ≢ Ok None }
 {
     match witness_value(alloc, proof, hashes, value, entries)? {

@@ -53,9 +53,9 @@ fn meet_entries<D: SupportedDigest, V: VisitBytes, L: LogData<D, V>, A: Allocato
         → result ≡ Ok None }
     ensures met { IfOk result (λ met. MatchOption met
         (¬ (IsMet D.digest (L.digest_at hashes.now) proof.now hash.now
-        (map (λ e. V.bytes e) entries.now)))
+        (map V.bytes entries.now)))
         (λ m. IsMeeting D.digest (L.digest_at hashes.now) proof.now hash.now
-        (map (λ e. V.bytes e) entries.now)
+        (map V.bytes entries.now)
         m.tree m.target.start m.target.count m.plain m.divergence)) }
 {
     if entries.len() != proof.log_length() {
@@ -88,7 +88,7 @@ fn is_entry<D: SupportedDigest, V: VisitBytes, A: Allocator>(
 ) -> Result<bool, AllocError>
     requires { met.now.target.start + met.now.target.count ≤ length entries.now }
     ensures { IfOk result (λ is. IsTrue is ↔ IsAt (V.bytes value.now)
-        (map (λ e. V.bytes e) entries.now) met.now.target.start met.now.target.count) }
+        (map V.bytes entries.now) met.now.target.start met.now.target.count) }
 {
     if met.target.count != 1 {
         return Ok(false);
@@ -103,15 +103,15 @@ fn collide<D: SupportedDigest, V: VisitBytes, A: Allocator + Copy>(
     value: &V,
     entries: &[V],
 ) -> Result<Collision<D, A>, AllocError>
-    requires tree { met.now.tree ≡ leaves_of D.digest (map (λ e. V.bytes e) entries.now) }
+    requires tree { met.now.tree ≡ leaves_of D.digest (map V.bytes entries.now) }
     requires node { IsNodeRange met.now.target.start met.now.target.count }
     requires within { met.now.target.start + met.now.target.count ≤ length entries.now }
     requires collides { Collides D.digest (inputs_of met.now.divergence
         (leaf_input (V.bytes value.now)) (plain_input D.digest
-        (map (λ e. V.bytes e) entries.now) met.now.target.start met.now.target.count)) }
+        (map V.bytes entries.now) met.now.target.start met.now.target.count)) }
     ensures { IfOk result (λ c. c ≡ inputs_of met.now.divergence (leaf_input (V.bytes value.now))
         (plain_input D.digest
-        (map (λ e. V.bytes e) entries.now) met.now.target.start met.now.target.count)) }
+        (map V.bytes entries.now) met.now.target.start met.now.target.count)) }
 {
     if !met.divergence.is_target() {
         return collide_branch(alloc, &met.divergence);
@@ -152,10 +152,10 @@ pub fn witness_value<D: SupportedDigest, V: VisitBytes, L: LogData<D, V>, A: All
         (leaf_digest D.digest (V.bytes value.now)) ≡ Err e → result ≡ Ok Finding.NotMet }
     ensures found { IfOk result (Finds
         (IsMet D.digest (L.digest_at hashes.now) proof.now
-        (leaf_digest D.digest (V.bytes value.now)) (map (λ e. V.bytes e) entries.now))
-        (IsEntry (V.bytes value.now) proof.now.leaf.0 (map (λ e. V.bytes e) entries.now))
+        (leaf_digest D.digest (V.bytes value.now)) (map V.bytes entries.now))
+        (IsEntry (V.bytes value.now) proof.now.leaf.0 (map V.bytes entries.now))
         (IsValuePlaced D.digest (L.digest_at hashes.now) (V.bytes value.now) proof.now.leaf.0
-        (map (λ e. V.bytes e) entries.now))) }
+        (map V.bytes entries.now))) }
 {
     let hash = hash_leaf::<D, V>(value);
     let Some(met) = meet_entries(alloc, proof, hashes, &hash, entries)? else {
@@ -189,10 +189,10 @@ pub fn witness_hash<D: SupportedDigest, V: VisitBytes, L: LogData<D, V>, A: Allo
         → inclusion D.digest (L.digest_at hashes.now) proof.now hash ≡ Err e
         → result ≡ Ok Finding.NotMet }
     ensures found { IfOk result (Finds
-        (IsMet D.digest (L.digest_at hashes.now) proof.now hash (map (λ e. V.bytes e) entries.now))
-        (IsRootBelow D.digest hash proof.now.leaf.0 (map (λ e. V.bytes e) entries.now))
+        (IsMet D.digest (L.digest_at hashes.now) proof.now hash (map V.bytes entries.now))
+        (IsRootBelow D.digest hash proof.now.leaf.0 (map V.bytes entries.now))
         (IsHashPlaced D.digest (L.digest_at hashes.now) hash proof.now.leaf.0
-        (map (λ e. V.bytes e) entries.now))) }
+        (map V.bytes entries.now))) }
 {
     let Some(met) = meet_entries(alloc, proof, hashes, &hash, entries)? else {
         return Ok(Finding::NotMet);

@@ -40,9 +40,9 @@ fn meet_path<D: SupportedDigest, V: VisitBytes, A: Allocator>(
         → result ≡ Ok None }
     ensures met { IfOk result (λ met. MatchOption met
         (inclusion_root D.digest index (length entries.now) leaf.now path.now
-        ≡ Some (root_of D.digest (leaves_of D.digest (map (λ e. V.bytes e) entries.now))) → ⊥)
+        ≡ Some (root_of D.digest (leaves_of D.digest (map V.bytes entries.now))) → ⊥)
         (λ tree. IsPathMeeting D.digest index path.now leaf.now
-        (map (λ e. V.bytes e) entries.now) tree)) }
+        (map V.bytes entries.now) tree)) }
 {
     let Some(root) = root_of_inclusion(index, entries.len(), leaf, path) else {
         return Ok(None);
@@ -171,10 +171,10 @@ pub fn witness_record<D: SupportedDigest, V: VisitBytes, A: Allocator + Copy>(
         (leaf_digest D.digest (V.bytes value.now)) path.now ≡ None
         → result ≡ Ok Finding.NotMet }
     ensures found { IfOk result (Finds
-        (IsRecordMet D.digest index path.now (V.bytes value.now) (map (λ e. V.bytes e) entries.now))
-        (IsRecord index (V.bytes value.now) (map (λ e. V.bytes e) entries.now))
+        (IsRecordMet D.digest index path.now (V.bytes value.now) (map V.bytes entries.now))
+        (IsRecord index (V.bytes value.now) (map V.bytes entries.now))
         (IsRecordPlaced D.digest index path.now (V.bytes value.now)
-        (map (λ e. V.bytes e) entries.now))) }
+        (map V.bytes entries.now))) }
 {
     let leaf = hash_leaf::<D, V>(value);
     let Some(tree) = meet_path(alloc, index, path, &leaf, entries)? else {

@@ -17,7 +17,7 @@ pub(crate) fn plain_tree<D: SupportedDigest, V: VisitBytes, A: Allocator>(
 ) -> Result<(VecLog<D, V, A>, Hash<D>), AllocError>
     requires { length entries.now ≤ 2 ^ 63 }
     ensures tree { IfOk result (λ plain. plain.0
-        ≡ leaves_of D.digest (map (λ e. V.bytes e) entries.now)) }
+        ≡ leaves_of D.digest (map V.bytes entries.now)) }
     ensures root { IfOk result (λ plain. plain.1 ≡ root_of D.digest plain.0) }
 {
     let mut tree = VecLog::default(alloc);
@@ -47,11 +47,11 @@ pub(crate) fn plain_bytes<D: SupportedDigest, V: VisitBytes, A: Allocator + Copy
     entries: &[V],
     range: &LeafRange,
 ) -> Result<Vec<u8, A>, AllocError>
-    requires tree { tree.now ≡ leaves_of D.digest (map (λ e. V.bytes e) entries.now) }
+    requires tree { tree.now ≡ leaves_of D.digest (map V.bytes entries.now) }
     requires aligned { IsAligned range.now.start range.now.count }
     requires within { range.now.start + range.now.count ≤ length entries.now }
     ensures { IfOk result (λ bytes. bytes.items
-        ≡ plain_input D.digest (map (λ e. V.bytes e) entries.now) range.now.start range.now.count) }
+        ≡ plain_input D.digest (map V.bytes entries.now) range.now.start range.now.count) }
 {
     if range.count == 1 {
         return leaf_bytes(alloc, &entries[range.start]);

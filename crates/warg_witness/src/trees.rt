@@ -54,10 +54,10 @@ pub(crate) fn first_difference<D: SupportedDigest, V: VisitBytes, A: Allocator>(
 ) -> Result<Option<usize>, AllocError>
     requires order { length old.now ≤ length new.now }
     requires fits { length old.now ≤ 2 ^ 63 }
-    requires old_tree { trees.now.old ≡ leaves_of D.digest (map (λ e. V.bytes e) old.now) }
-    requires new_tree { trees.now.new ≡ leaves_of D.digest (map (λ e. V.bytes e) new.now) }
-    ensures { IfOk result (IsFirstDifference (map (λ e. V.bytes e) old.now)
-        (map (λ e. V.bytes e) new.now)) }
+    requires old_tree { trees.now.old ≡ leaves_of D.digest (map V.bytes old.now) }
+    requires new_tree { trees.now.new ≡ leaves_of D.digest (map V.bytes new.now) }
+    ensures { IfOk result (IsFirstDifference (map V.bytes old.now)
+        (map V.bytes new.now)) }
 {
     for (place, entry) in old.iter().enumerate() {
         if !is_same_entry(trees, place, entry, &new[place])? {

@@ -53,10 +53,10 @@ fn meet_trees<D: SupportedDigest, V: VisitBytes, L: LogData<D, V>, A: Allocator 
     ensures met { IfOk result (λ met. MatchOption met
         (IsConsistencyMet D.digest
         (L.digest_at hashes.now) proof.now.old_length proof.now.new_length
-        (map (λ e. V.bytes e) old.now) (map (λ e. V.bytes e) new.now) → ⊥)
+        (map V.bytes old.now) (map V.bytes new.now) → ⊥)
         (λ trees. IsConsistencyMeeting D.digest
         (L.digest_at hashes.now) proof.now.old_length proof.now.new_length
-        (map (λ e. V.bytes e) old.now) (map (λ e. V.bytes e) new.now) trees.old trees.new)) }
+        (map V.bytes old.now) (map V.bytes new.now) trees.old trees.new)) }
     ensures fits { IfOk result (λ met. IfSome met
         (λ _. (length old.now ≤ 2 ^ 63) × (length new.now ≤ 2 ^ 63))) }
 {
@@ -157,12 +157,12 @@ fn collide_at<D: SupportedDigest, V: VisitBytes, L: LogData<D, V>, A: Allocator 
 ) -> Result<Collision<D, A>, AllocError>
     requires fits { length new.now ≤ 2 ^ 63 }
     requires met { IsConsistencyMeeting D.digest (L.digest_at hashes.now) (length old.now)
-        (length new.now) (map (λ e. V.bytes e) old.now)
-        (map (λ e. V.bytes e) new.now) trees.now.old trees.now.new }
-    requires differ { DiffersFirst (map (λ e. V.bytes e) old.now)
-        (map (λ e. V.bytes e) new.now) place }
+        (length new.now) (map V.bytes old.now)
+        (map V.bytes new.now) trees.now.old trees.now.new }
+    requires differ { DiffersFirst (map V.bytes old.now)
+        (map V.bytes new.now) place }
     ensures { IfOk result (λ c. IsConsistencyPlaced D.digest (L.digest_at hashes.now)
-        (map (λ e. V.bytes e) old.now) (map (λ e. V.bytes e) new.now) c.0 c.1) }
+        (map V.bytes old.now) (map V.bytes new.now) c.0 c.1) }
 {
     let (root, hash) = held_root(hashes, trees, place);
     let from_old = divergence_from(hashes, &hash, &root, &trees.old);
@@ -215,10 +215,10 @@ pub fn witness_consistency<
     ensures found { IfOk result (Finds
         (IsConsistencyMet D.digest
         (L.digest_at hashes.now) proof.now.old_length proof.now.new_length
-        (map (λ e. V.bytes e) old.now) (map (λ e. V.bytes e) new.now))
-        (Begins (map (λ e. V.bytes e) old.now) (map (λ e. V.bytes e) new.now))
-        (IsConsistencyPlaced D.digest (L.digest_at hashes.now) (map (λ e. V.bytes e) old.now)
-        (map (λ e. V.bytes e) new.now))) }
+        (map V.bytes old.now) (map V.bytes new.now))
+        (Begins (map V.bytes old.now) (map V.bytes new.now))
+        (IsConsistencyPlaced D.digest (L.digest_at hashes.now) (map V.bytes old.now)
+        (map V.bytes new.now))) }
 {
     let Some(trees) = meet_trees(alloc, proof, hashes, old, new)? else {
         return Ok(Finding::NotMet);

@@ -40,13 +40,13 @@ fn meet_trees<D: SupportedDigest, V: VisitBytes, A: Allocator + Copy>(
     new: &[V],
 ) -> Result<Option<Trees<D, V, A>>, AllocError>
     ensures leads { consistency_roots D.digest (length old.now) (length new.now)
-        (root_of D.digest (leaves_of D.digest (map (λ e. V.bytes e) old.now))) path.now ≡ None
+        (root_of D.digest (leaves_of D.digest (map V.bytes old.now))) path.now ≡ None
         → result ≡ Ok None }
     ensures met { IfOk result (λ met. MatchOption met
-        (IsTreeMet D.digest path.now (map (λ e. V.bytes e) old.now) (map (λ e. V.bytes e) new.now)
+        (IsTreeMet D.digest path.now (map V.bytes old.now) (map V.bytes new.now)
         → ⊥)
-        (λ trees. IsTreeMeeting D.digest path.now (map (λ e. V.bytes e) old.now)
-        (map (λ e. V.bytes e) new.now) trees.old trees.new)) }
+        (λ trees. IsTreeMeeting D.digest path.now (map V.bytes old.now)
+        (map V.bytes new.now) trees.old trees.new)) }
 {
     if !leads(path, old.len(), new.len()) {
         return Ok(None);
@@ -188,13 +188,13 @@ pub fn witness_tree<D: SupportedDigest, V: VisitBytes, A: Allocator + Copy>(
     new: &[V],
 ) -> Result<Finding<D, A>, AllocError>
     ensures leads { consistency_roots D.digest (length old.now) (length new.now)
-        (root_of D.digest (leaves_of D.digest (map (λ e. V.bytes e) old.now))) path.now ≡ None
+        (root_of D.digest (leaves_of D.digest (map V.bytes old.now))) path.now ≡ None
         → result ≡ Ok Finding.NotMet }
     ensures found { IfOk result (Finds
-        (IsTreeMet D.digest path.now (map (λ e. V.bytes e) old.now) (map (λ e. V.bytes e) new.now))
-        (Begins (map (λ e. V.bytes e) old.now) (map (λ e. V.bytes e) new.now))
-        (IsTreePlaced D.digest path.now (map (λ e. V.bytes e) old.now)
-        (map (λ e. V.bytes e) new.now))) }
+        (IsTreeMet D.digest path.now (map V.bytes old.now) (map V.bytes new.now))
+        (Begins (map V.bytes old.now) (map V.bytes new.now))
+        (IsTreePlaced D.digest path.now (map V.bytes old.now)
+        (map V.bytes new.now))) }
 {
     let Some(trees) = meet_trees(alloc, path, old, new)? else {
         return Ok(Finding::NotMet);

@@ -12,7 +12,7 @@ descend-divergence-requires-clause-aligned g c = rw c.new-whole.ensures.start (w
 
 pub descend-divergence-requires-clause-one : goal.descend-divergence-requires-clause-one
 descend-divergence-requires-clause-one g c =
-    let count = length-map c.args.entries.now (λ e. g.V.VisitBytes.bytes e) ∙ c.if-entries-log_length.false ∙ c.log_length.ensures.value in
+    let count = length-map c.args.entries.now g.V.VisitBytes.bytes ∙ c.if-entries-log_length.false ∙ c.log_length.ensures.value in
     let all = ap length c.in_ok-tree.ensures.tree ∙ length-leaves g.D.SupportedDigest.digest _ ∙ count in
     let leads = (inclusion_leads _ _ c.args.proof.now _ _).0 (sym (rw c.copied.ensures at c.in-Ok.ensures)) in
     let evaluation = leads.1 ∙ ap Some (ne_false _ _ c.if-ne.ensures ∙ c.in_ok-tree.ensures.root) in
@@ -23,7 +23,7 @@ pub returns-clause-met : goal.returns-clause-met
 returns-clause-met g c =
     let start = rw c.leaf.ensures at c.leaf_range-target.ensures.start in
     let width = rw c.leaf.ensures at c.leaf_range-target.ensures.count in
-    let count = length-map c.args.entries.now (λ e. g.V.VisitBytes.bytes e) ∙ c.if-entries-log_length.false ∙ c.log_length.ensures.value in
+    let count = length-map c.args.entries.now g.V.VisitBytes.bytes ∙ c.if-entries-log_length.false ∙ c.log_length.ensures.value in
     let all = ap length c.in_ok-tree.ensures.tree ∙ length-leaves g.D.SupportedDigest.digest _ ∙ count in
     let root = ne_false _ _ c.if-ne.ensures ∙ c.in_ok-tree.ensures.root ∙ ap (root_of g.D.SupportedDigest.digest) c.in_ok-tree.ensures.tree in
     record {

@@ -10,20 +10,20 @@ descend_path-divergence-requires-clause-aligned g c = rw c.new-whole.ensures.sta
 pub descend_path-divergence-requires-clause-leads : goal.descend_path-divergence-requires-clause-leads
 descend_path-divergence-requires-clause-leads g c =
     let met = rw c.in-Some.is at c.in_ok-tree.ensures.met in
-    rw (c.new-whole.ensures.start, c.new-whole.ensures.count ∙ sym (length-map c.args.entries.now (λ e. g.V.VisitBytes.bytes e))) (whole_leads met)
+    rw (c.new-whole.ensures.start, c.new-whole.ensures.count ∙ sym (length-map c.args.entries.now g.V.VisitBytes.bytes)) (whole_leads met)
 
 pub collide_values-requires : goal.collide_values-requires
 collide_values-requires g c =
     let met = rw (c.in-Some.is, c.hash_leaf-leaf.ensures) at c.in_ok-tree.ensures.met in
-    (read_shown (λ e. g.V.VisitBytes.bytes e) _ _ _ _ _ _ _ met c.index-entries-index.is (grind arith)
+    (read_shown g.V.VisitBytes.bytes _ _ _ _ _ _ _ met c.index-entries-index.is (grind arith)
     (rw (c.hash_leaf-leaf.ensures, c.new-whole.ensures.start, c.new-whole.ensures.count) at c.descend_path-divergence.ensures)).0
 
 pub returns-clause-found : goal.returns-clause-found
 returns-clause-found g c =
     let met = rw (c.in-Some.is, c.hash_leaf-leaf.ensures) at c.in_ok-tree.ensures.met in
-    let shown = read_shown (λ e. g.V.VisitBytes.bytes e) _ _ _ _ _ _ _ met c.index-entries-index.is (grind arith)
+    let shown = read_shown g.V.VisitBytes.bytes _ _ _ _ _ _ _ met c.index-entries-index.is (grind arith)
     (rw (c.hash_leaf-leaf.ensures, c.new-whole.ensures.start, c.new-whole.ensures.count) at c.descend_path-divergence.ensures) in (
       grind arith,
-      read_other (λ e. g.V.VisitBytes.bytes e) _ _ _ _ _ _ _ met c.index-entries-index.is (grind arith),
+      read_other g.V.VisitBytes.bytes _ _ _ _ _ _ _ met c.index-entries-index.is (grind arith),
       rw c.in_ok-pair.ensures shown.1,
     )

@@ -25,7 +25,7 @@ pub new-requires-clause-same : goal.new-requires-clause-same
 new-requires-clause-same g c =
     let new_meets = rw (c.if-not-is_target-2.ensures.0 refl) at c.divergence_from-from_new.ensures in
     let meets = rw (c.if-not-is_target-3.ensures.0 refl) at c.divergence_below-below.ensures in
-    (entries_shown (λ e. g.V.VisitBytes.bytes e) c.args.old.now c.args.new.now c.requires.met c.held_root-hash.ensures.leads new_meets.part meets c.requires.differ
+    (entries_shown g.V.VisitBytes.bytes c.args.old.now c.args.new.now c.requires.met c.held_root-hash.ensures.leads new_meets.part meets c.requires.differ
     c.index-old-place.is c.index-new-place.is c.in_ok-first.ensures c.in_ok-second.ensures).0.same
 
 pub returns : goal.returns
@@ -33,5 +33,5 @@ returns g c =
     let new_meets = rw (c.if-not-is_target-2.ensures.0 refl) at c.divergence_from-from_new.ensures in
     let meets = rw (c.if-not-is_target-3.ensures.0 refl) at c.divergence_below-below.ensures in
     rw (c.new.ensures.first, c.new.ensures.second)
-    (entries_shown (λ e. g.V.VisitBytes.bytes e) c.args.old.now c.args.new.now c.requires.met c.held_root-hash.ensures.leads new_meets.part meets c.requires.differ
+    (entries_shown g.V.VisitBytes.bytes c.args.old.now c.args.new.now c.requires.met c.held_root-hash.ensures.leads new_meets.part meets c.requires.differ
     c.index-old-place.is c.index-new-place.is c.in_ok-first.ensures c.in_ok-second.ensures).1

@@ -18,8 +18,8 @@ returns-clause-met g c =
     let new_root = ne_false c.in-Ok.new_root _ c.if-ne-2.ensures ∙ c.in_ok-new_tree.ensures.root ∙ ap (root_of g.D.SupportedDigest.digest) c.in_ok-new_tree.ensures.tree in
     record {
       met = record {
-        old_count = length-map c.args.old.now (λ e. g.V.VisitBytes.bytes e) ∙ lengths.0;
-        new_count = length-map c.args.new.now (λ e. g.V.VisitBytes.bytes e) ∙ lengths.1;
+        old_count = length-map c.args.old.now g.V.VisitBytes.bytes ∙ lengths.0;
+        new_count = length-map c.args.new.now g.V.VisitBytes.bytes ∙ lengths.1;
         roots = rw (← old_root, ← new_root) (consistency_only _ _ _ _ _ _ (sym c.evaluate.ensures.value ∙ c.in-Ok.is));
       };
       old_is = c.in_ok-old_tree.ensures.tree;

@@ -12,22 +12,22 @@ pub returns-then-ne-clause-met : goal.returns-then-ne-clause-met
 returns-then-ne-clause-met g c met =
     let root = c.in_ok-old_tree.ensures.root ∙ ap (root_of g.D.SupportedDigest.digest) c.in_ok-old_tree.ensures.tree in
     let led = sym c.roots_of_consistency.ensures ∙ c.in-Some.is in
-    ne_true _ _ c.if-ne.ensures (met_roots (λ e. g.V.VisitBytes.bytes e) g.D.SupportedDigest.digest c.args.path.now c.args.old.now c.args.new.now _ _ _ root led met).0
+    ne_true _ _ c.if-ne.ensures (met_roots g.V.VisitBytes.bytes g.D.SupportedDigest.digest c.args.path.now c.args.old.now c.args.new.now _ _ _ root led met).0
 
 pub returns-then-ne-2-clause-met : goal.returns-then-ne-2-clause-met
 returns-then-ne-2-clause-met g c met =
     let root = c.in_ok-old_tree.ensures.root ∙ ap (root_of g.D.SupportedDigest.digest) c.in_ok-old_tree.ensures.tree in
     let led = sym c.roots_of_consistency.ensures ∙ c.in-Some.is in
     let new_root = c.in_ok-new_tree.ensures.root ∙ ap (root_of g.D.SupportedDigest.digest) c.in_ok-new_tree.ensures.tree in
-    ne_true _ _ c.if-ne-2.ensures ((met_roots (λ e. g.V.VisitBytes.bytes e) g.D.SupportedDigest.digest c.args.path.now c.args.old.now c.args.new.now _ _ _ root led met).1 ∙ sym new_root)
+    ne_true _ _ c.if-ne-2.ensures ((met_roots g.V.VisitBytes.bytes g.D.SupportedDigest.digest c.args.path.now c.args.old.now c.args.new.now _ _ _ root led met).1 ∙ sym new_root)
 
 pub returns-clause-met : goal.returns-clause-met
 returns-clause-met g c =
     let root = c.in_ok-old_tree.ensures.root ∙ ap (root_of g.D.SupportedDigest.digest) c.in_ok-old_tree.ensures.tree in
     let led = sym c.roots_of_consistency.ensures ∙ c.in-Some.is in
     let new_root = c.in_ok-new_tree.ensures.root ∙ ap (root_of g.D.SupportedDigest.digest) c.in_ok-new_tree.ensures.tree in
-    let old_count = length-map c.args.old.now (λ e. g.V.VisitBytes.bytes e) in
-    let new_count = length-map c.args.new.now (λ e. g.V.VisitBytes.bytes e) in
+    let old_count = length-map c.args.old.now g.V.VisitBytes.bytes in
+    let new_count = length-map c.args.new.now g.V.VisitBytes.bytes in
     let order = c.if-not-leads.ensures.order refl in
     record {
       some = omega arith;
@@ -35,5 +35,5 @@ returns-clause-met g c =
       fits = omega arith;
       old_is = c.in_ok-old_tree.ensures.tree;
       new_is = c.in_ok-new_tree.ensures.tree;
-      met = roots_met (λ e. g.V.VisitBytes.bytes e) g.D.SupportedDigest.digest c.args.path.now c.args.old.now c.args.new.now _ _ _ root led (ne_false _ _ c.if-ne.ensures) (ne_false _ _ c.if-ne-2.ensures ∙ new_root);
+      met = roots_met g.V.VisitBytes.bytes g.D.SupportedDigest.digest c.args.path.now c.args.old.now c.args.new.now _ _ _ root led (ne_false _ _ c.if-ne.ensures) (ne_false _ _ c.if-ne-2.ensures ∙ new_root);
     }

@@ -13,19 +13,19 @@ pub descend_growth-divergence-requires-clause-leads : goal.descend_growth-diverg
 descend_growth-divergence-requires-clause-leads g c =
     let meeting = rw c.in-Some.is at c.in_ok-trees.ensures.met in
     rw (c.plain_digest-old_root.ensures, c.new.ensures.start, c.new.ensures.count, c.new-whole.ensures.start, c.new-whole.ensures.count)
-    (whole_growth (λ e. g.V.VisitBytes.bytes e) _ _ c.args.old.now c.args.new.now _ _ meeting)
+    (whole_growth g.V.VisitBytes.bytes _ _ c.args.old.now c.args.new.now _ _ meeting)
 
 pub collide_values-requires : goal.collide_values-requires
 collide_values-requires g c =
     let meeting = rw c.in-Some.is at c.in_ok-trees.ensures.met in
     let differs = rw c.in-Some-2.is at c.in_ok-place.ensures in
     let diverges = rw (c.plain_digest-old_root.ensures, c.new.ensures.start, c.new.ensures.count, c.new-whole.ensures.start, c.new-whole.ensures.count) at c.descend_growth-divergence.ensures in
-    (growth_shown (λ e. g.V.VisitBytes.bytes e) _ _ c.args.old.now c.args.new.now _ _ meeting _ _ differs c.index-old-place.is c.index-new-place.is diverges).collides
+    (growth_shown g.V.VisitBytes.bytes _ _ c.args.old.now c.args.new.now _ _ meeting _ _ differs c.index-old-place.is c.index-new-place.is diverges).collides
 
 pub returns-clause-found : goal.returns-clause-found
 returns-clause-found g c =
     let meeting = rw c.in-Some.is at c.in_ok-trees.ensures.met in
     let differs = rw c.in-Some-2.is at c.in_ok-place.ensures in
     let diverges = rw (c.plain_digest-old_root.ensures, c.new.ensures.start, c.new.ensures.count, c.new-whole.ensures.start, c.new-whole.ensures.count) at c.descend_growth-divergence.ensures in
-    let shown = growth_shown (λ e. g.V.VisitBytes.bytes e) _ _ c.args.old.now c.args.new.now _ _ meeting _ _ differs c.index-old-place.is c.index-new-place.is diverges in
+    let shown = growth_shown g.V.VisitBytes.bytes _ _ c.args.old.now c.args.new.now _ _ meeting _ _ differs c.index-old-place.is c.index-new-place.is diverges in
     (meeting.met, differs_not_begins _ _ _ differs, rw c.in_ok-pair.ensures shown.placed)
