@@ -1,9 +1,34 @@
 -- Lemmas for the proofs of the crates above, over public definitions alone.
-use Rattle.std.proofs.Common.{◌≡◌, ℕ, ◌-◌, ◌<◌, ◌≤◌, List, [], ◌∷◌, ◌++◌, length, reverse, Option, Some, None}
-use Rattle.warg_log.specs.Tree.{front_of}
-use Rattle.warg_log.specs.Cut.{joined}
-use Rattle.warg_paths.specs.Paths.{root_down, roots_down, one_root, twice, grown, both_over}
+use Rattle.std.proofs.Common.{◌≡◌, ℕ, ◌+◌, ◌-◌, ◌<◌, ◌≤◌, List, [], ◌∷◌, ◌++◌, length, reverse, slice_index_or, Option, Some, None}
+use Rattle.warg_log.specs.Ranges.{IsAligned}
+use Rattle.warg_log.specs.Tree.{front_of, root_of, root_over, own_digest}
+use Rattle.warg_log.specs.Cut.{joined, old_over}
+use Rattle.warg_paths.specs.Paths.{beside, inclusion_of, inclusion_over, inclusion_root, root_down, roots_down, one_root, twice, grown, both_over}
 use Rattle.warg_paths.proofs.PathLemmas as paths
+use Rattle.warg_paths.proofs.MakeLemmas as making
+use Rattle.warg_paths.proofs.LawLemmas as laws
+
+-- the path of one leaf is empty
+pub path_one : (R : ℕ → ℕ → Option (List ℕ)) (m a : ℕ) → inclusion_over R m a 1 ≡ Some []
+path_one = making.inclusion_one
+
+-- the path of a leaf in the first part
+pub path_front : (R : ℕ → ℕ → Option (List ℕ)) (m a n : ℕ) → 1 < n → m < front_of n → inclusion_over R m a n ≡ beside (inclusion_over R m a (front_of n)) (R (a + front_of n) (n - front_of n))
+path_front = making.inclusion_front
+
+-- the path of a leaf in the rest
+pub path_rest : (R : ℕ → ℕ → Option (List ℕ)) (m a n : ℕ) → 1 < n → front_of n ≤ m → inclusion_over R m a n ≡ beside (inclusion_over R (m - front_of n) (a + front_of n) (n - front_of n)) (R a (front_of n))
+path_rest = making.inclusion_rest
+
+-- a log's own path of a leaf in a range leads to the range's root
+pub own_path_leads : (H : List ℕ → List ℕ) (ds : List (List ℕ)) (m a n : ℕ) (path : List (List ℕ)) → m < n → IsAligned a n → a + n ≤ length ds
+    → inclusion_over (old_over H (own_digest H ds)) m a n ≡ Some path → root_down H m n (slice_index_or ds (a + m) []) (reverse path) ≡ Some (root_over H ds a n)
+own_path_leads = laws.own_path_leads
+
+-- a log's own path of a leaf is there, and leads to its root
+pub own_path_is : (H : List ℕ → List ℕ) (ds : List (List ℕ)) (m : ℕ) → m < length ds
+    → (path : List (List ℕ)) × (inclusion_of (old_over H (own_digest H ds)) m (length ds) ≡ Some path) × (inclusion_root H m (length ds) (slice_index_or ds m []) path ≡ Some (root_of H ds))
+own_path_is = laws.own_path_is
 
 -- of one leaf, no digests lead to its own
 pub root_one : (H : List ℕ → List ℕ) (m : ℕ) (x : List ℕ) (path : List (List ℕ)) → length path ≡ 0 → root_down H m 1 x (reverse path) ≡ Some x

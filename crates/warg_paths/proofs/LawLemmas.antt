@@ -1,10 +1,12 @@
 -- Where paths lead.
 use Rattle.std.proofs.Common.{◌≡◌, inl, inr, ℕ, zero, suc, ◌+◌, ◌-◌, ◌*◌, ◌<◌, ◌≤◌, List, [], length, reverse, take, slice_index_or, Option, Some, None, refl, sym, ap, ◌∙◌, arith, add-zero}
 use Rattle.std.proofs.lemmas.Bool.{lt-ltb, cases_lt}
-use Rattle.warg_log.specs.Tree.{front_of, root_of, own_digest}
+use Rattle.std.proofs.Math.Seq.{take-length}
+use Rattle.warg_log.specs.Ranges.{IsAligned}
+use Rattle.warg_log.specs.Tree.{front_of, root_of, root_over, own_digest}
 use Rattle.warg_log.specs.Cut.{joined, cut_over, cut_root, old_over}
 use Rattle.warg_log.proofs.ForCallers.{below_pow, node_at, root_over_one, cut_target, cut_parts, cut_old, cut_own_range}
-use Rattle.warg_paths.specs.Paths.{beside, inclusion_over, inclusion_of, root_down, led_to}
+use Rattle.warg_paths.specs.Paths.{beside, inclusion_over, inclusion_of, inclusion_root, root_down, led_to}
 use Rattle.warg_paths.proofs.PathLemmas.{root_one, root_front, root_rest}
 use Rattle.warg_paths.proofs.MakeLemmas.{parts_fewer, inclusion_one, inclusion_front, inclusion_rest}
 
@@ -74,11 +76,34 @@ leads_as_proof H F m n x inside =
     led_is H m n x (inclusion_of (old_over H F) m n) inside ∙ climbs H F x n m 0 n (omega arith) inside
     ∙ rw (leaf.0, leaf.1) (ap (λ s. cut_over H F x s 1 0 n) (omega arith))
 
+-- a log's own path of a leaf in a range leads to the range's root
+own_climbs : (H : List ℕ → List ℕ) (ds : List (List ℕ)) (m a n : ℕ) → m < n → IsAligned a n → a + n ≤ length ds
+    → led H m n (slice_index_or ds (a + m) []) (inclusion_over (old_over H (own_digest H ds)) m a n) ≡ Some (root_over H ds a n)
+own_climbs H ds m a n inside aligned fits =
+    climbs H (own_digest H ds) (slice_index_or ds (a + m) []) n m a n (omega arith) inside
+    ∙ ap (λ d. cut_over H (own_digest H ds) d (a + m) 1 a n) (sym (root_over_one H ds (a + m) (omega arith)))
+    ∙ cut_own_range H ds (a + m) 1 a n (omega arith) aligned fits
+
+pub own_path_leads : (H : List ℕ → List ℕ) (ds : List (List ℕ)) (m a n : ℕ) (path : List (List ℕ)) → m < n → IsAligned a n → a + n ≤ length ds
+    → inclusion_over (old_over H (own_digest H ds)) m a n ≡ Some path → root_down H m n (slice_index_or ds (a + m) []) (reverse path) ≡ Some (root_over H ds a n)
+own_path_leads H ds m a n path inside aligned fits is = rw is at (own_climbs H ds m a n inside aligned fits)
+
 -- a log's own path of a leaf leads to its root
 pub own_leads : (H : List ℕ → List ℕ) (ds : List (List ℕ)) (m n : ℕ) → m < n → n ≤ length ds
     → led_to H m n (slice_index_or ds m []) (inclusion_of (old_over H (own_digest H ds)) m n) ≡ Some (root_of H (take n ds))
 own_leads H ds m n inside fits =
-    let x = slice_index_or ds m [] in
-    led_is H m n x (inclusion_of (old_over H (own_digest H ds)) m n) inside ∙ climbs H (own_digest H ds) x n m 0 n (omega arith) inside
-    ∙ ap (λ s. cut_over H (own_digest H ds) x s 1 0 n) (omega arith) ∙ ap (λ d. cut_over H (own_digest H ds) d m 1 0 n) (sym (root_over_one H ds m (omega arith)))
-    ∙ cut_own_range H ds m 1 0 n (omega arith) (record { height = n; place = 0; start = omega arith; most = omega (arith, below_pow n) }) (omega arith)
+    let at : 0 + m ≡ m = omega arith in
+    let aligned : IsAligned 0 n = record { height = n; place = 0; start = omega arith; most = omega (arith, below_pow n) } in
+    led_is H m n (slice_index_or ds m []) (inclusion_of (old_over H (own_digest H ds)) m n) inside ∙ rw at at (own_climbs H ds m 0 n inside aligned (omega arith))
+
+pub own_path_is : (H : List ℕ → List ℕ) (ds : List (List ℕ)) (m : ℕ) → m < length ds
+    → (path : List (List ℕ)) × (inclusion_of (old_over H (own_digest H ds)) m (length ds) ≡ Some path) × (inclusion_root H m (length ds) (slice_index_or ds m []) path ≡ Some (root_of H ds))
+own_path_is H ds m inside = there (inclusion_of (old_over H (own_digest H ds)) m (length ds)) refl (own_leads H ds m (length ds) inside (omega arith) ∙ ap (λ l. Some (root_of H l)) (take-length ds))
+  where
+    there : (path : Option (List (List ℕ))) → inclusion_of (old_over H (own_digest H ds)) m (length ds) ≡ path → led_to H m (length ds) (slice_index_or ds m []) (inclusion_of (old_over H (own_digest H ds)) m (length ds)) ≡ Some (root_of H ds)
+        → (path : List (List ℕ)) × (inclusion_of (old_over H (own_digest H ds)) m (length ds) ≡ Some path) × (inclusion_root H m (length ds) (slice_index_or ds m []) path ≡ Some (root_of H ds))
+    there None is leads = absurd (nothing (rw is at leads))
+      where
+        nothing : None ≡ Some (root_of H ds) → ⊥
+        nothing e = cc
+    there (Some path) is leads = (path, is, rw is at leads)

@@ -1,5 +1,6 @@
 pub mod RangeLemmas
 pub mod DescentLemmas
+pub mod ClimbLemmas
 pub mod HashLemmas
 pub mod ShownLemmas
 pub mod BothLemmas
@@ -18,5 +19,6 @@ pub mod UpdateLawLemmas
 pub mod KeysLemmas
 pub mod TreeLemmas
 pub mod RecordLemmas
-pub mod PathAgreementLemmas
+pub mod OwnPathLemmas
+pub mod PathClimbLemmas
 pub mod GrowthLemmas

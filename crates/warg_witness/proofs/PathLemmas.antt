@@ -1,16 +1,17 @@
 -- Two evaluations along one key's bits.
-use Rattle.std.proofs.Common.{◌≡◌, ℕ, zero, suc, ◌+◌, ◌-◌, ◌<◌, Bool, true, false, cond, nat_lt, List, [], ◌∷◌, ◌++◌, length, Option, Some, None, unwrap_or, get_or, ⊎_elim, refl, sym, ap, ◌∙◌}
+use Rattle.std.proofs.Common.{◌≡◌, ℕ, zero, suc, ◌+◌, ◌-◌, ◌<◌, Bool, true, false, cond, nat_lt, List, [], ◌∷◌, ◌++◌, length, Option, Some, None, unwrap_or, get_or, ⊎_elim, inl, inr, refl, sym, ap, ◌∙◌}
 use Rattle.std.proofs.lemmas.Bool.{cases_Bool}
-use Rattle.warg_crypto.proofs.ForCallers.{same_or_not}
+use Rattle.warg_crypto.proofs.ForCallers.{same_or_not, branch_parts}
 use Rattle.warg_crypto.specs.EmptyTrees.{empty_root}
 use Rattle.warg_map.specs.ProofValue.{peer_of, proof_value}
-use Rattle.warg_crypto.specs.Tree.{branch_input, input_beside}
+use Rattle.warg_crypto.specs.Tree.{input_beside}
 use Rattle.warg_witness.specs.Laws.{HoldsPeers}
 use Rattle.warg_witness.specs.MapInputs.{fork_input}
 use Rattle.warg_witness.specs.Private.MapPaths.{DivergesNowhere, IsPathDivergence, IsClimb}
 use Rattle.warg_witness.specs.declared.descent.Divergence.{Divergence}
 use Rattle.warg_witness.specs.declared.descent.Divergence.TheVariants.{Target, Branch}
-use Rattle.warg_witness.proofs.DescentLemmas.{inputs_differ}
+use Rattle.warg_witness.specs.Private.Climbs.{IsBranchAt, IsUp}
+use Rattle.warg_witness.proofs.ClimbLemmas.{same_parts}
 use Rattle.warg_witness.proofs.CollisionLemmas.{SomeDivergence}
 use Rattle.warg_map.proofs.ForCallers.{last_bits-more, last_bits-none, length-last_bits}
 use Rattle.warg_map.specs.Bits.{bit_at, last_bits}
@@ -43,55 +44,39 @@ widened_path H P x Q y b bits (Branch l r l' r') peers is = record {
   same = is.same;
 }
 
--- the input of one bit more
-fork_is : (H : List ℕ → List ℕ) (P : List (Option (List ℕ))) (x : List ℕ) (b : Bool) (bits : List Bool) (value peer l r : List ℕ)
-    → value ≡ proof_value H P x bits → peer_of H P (length bits) ≡ peer → l ≡ cond b peer value → r ≡ cond b value peer → branch_input l r ≡ fork_input H P x b bits
-fork_is H P x true bits value peer l r v p el er = ap (λ t. 1 ∷ t ++ r) (el ∙ sym p) ∙ ap (λ t. 1 ∷ peer_of H P (length bits) ++ t) (er ∙ v)
-fork_is H P x false bits value peer l r v p el er = ap (λ t. 1 ∷ t ++ r) (el ∙ v) ∙ ap (λ t. 1 ∷ proof_value H P x bits ++ t) (er ∙ sym p)
-
--- of equal parts the one on the path is equal
-near_same : (b : Bool) (near far near' far' l r l' r' : List ℕ) → r ≡ cond b near far → l ≡ cond b far near → r' ≡ cond b near' far' → l' ≡ cond b far' near' → (l ≡ l') × (r ≡ r') → near ≡ near'
-near_same true near far near' far' l r l' r' er el er' el' same = sym er ∙ same.1 ∙ er'
-near_same false near far near' far' l r l' r' er el er' el' same = sym el ∙ same.0 ∙ el'
-
--- and the one beside the path
-far_same : (b : Bool) (near far near' far' l r l' r' : List ℕ) → r ≡ cond b near far → l ≡ cond b far near → r' ≡ cond b near' far' → l' ≡ cond b far' near' → (l ≡ l') × (r ≡ r') → far ≡ far'
-far_same true near far near' far' l r l' r' er el er' el' same = sym el ∙ same.0 ∙ el'
-far_same false near far near' far' l r l' r' er el er' el' same = sym er ∙ same.1 ∙ er'
-
--- one bit up, where the inputs are the same
-pub climb_same : {D : Type 0} (H : List ℕ → List ℕ) (P : List (Option (List ℕ))) (x : List ℕ) (Q : List (Option (List ℕ))) (y : List ℕ) (b : Bool) (bits : List Bool)
-    (first second peer peer' l r l' r' up up' : List ℕ) (p : Divergence D) → peer_of H P (length bits) ≡ peer → peer_of H Q (length bits) ≡ peer' → IsClimb H P x Q y bits first second p
-    → (l ≡ cond b peer first) × (r ≡ cond b first peer) → (l' ≡ cond b peer' second) × (r' ≡ cond b second peer') → up ≡ H (branch_input l r) → up' ≡ H (branch_input l' r')
-    → (l ≡ l') × (r ≡ r') → IsClimb H P x Q y (b ∷ bits) up up' p
-unfolding proof_value
-climb_same H P x Q y b bits first second peer peer' l r l' r' up up' p at at' climb parts parts' is is' same = record {
-  first_is = is ∙ ap H (fork_is H P x b bits first peer l r climb.first_is at parts.0 parts.1);
-  second_is = is' ∙ ap H (fork_is H Q y b bits second peer' l' r' climb.second_is at' parts'.0 parts'.1);
-  diverges = λ _. widened_path H P x Q y b bits p (at ∙ far_same b first peer second peer' l r l' r' parts.1 parts.0 parts'.1 parts'.0 same ∙ sym at')
-      (climb.diverges (near_same b first peer second peer' l r l' r' parts.1 parts.0 parts'.1 parts'.0 same));
+-- where the inputs after one bit more differ and have one digest
+diverges_here : {D : Type 0} (H : List ℕ → List ℕ) (P : List (Option (List ℕ))) (x : List ℕ) (Q : List (Option (List ℕ))) (y : List ℕ) (b : Bool) (bits : List Bool) (p : Divergence D)
+    → IsBranchAt (fork_input H P x b bits) (fork_input H Q y b bits) p → (fork_input H P x b bits ≡ fork_input H Q y b bits → ⊥) → H (fork_input H P x b bits) ≡ H (fork_input H Q y b bits)
+    → IsPathDivergence H P x Q y (b ∷ bits) p
+diverges_here H P x Q y b bits Target at differ same = absurd at
+diverges_here H P x Q y b bits (Branch l r l' r') at differ same = record {
+  above = [];
+  bit = b;
+  below = bits;
+  split = refl;
+  first_input = sym at.0;
+  second_input = sym at.1;
+  differ = λ e. differ (at.0 ∙ e ∙ sym at.1);
+  same = sym (ap H at.0) ∙ same ∙ ap H at.1;
 }
 
--- one bit up, where they differ
-pub climb_diverges : {D : Type 0} (H : List ℕ → List ℕ) (P : List (Option (List ℕ))) (x : List ℕ) (Q : List (Option (List ℕ))) (y : List ℕ) (b : Bool) (bits : List Bool)
-    (first second peer peer' l r l' r' up up' : List ℕ) (p : Divergence D) → peer_of H P (length bits) ≡ peer → peer_of H Q (length bits) ≡ peer' → IsClimb H P x Q y bits first second p
-    → (l ≡ cond b peer first) × (r ≡ cond b first peer) → (l' ≡ cond b peer' second) × (r' ≡ cond b second peer') → up ≡ H (branch_input l r) → up' ≡ H (branch_input l' r')
-    → length l ≡ length l' → ((l ≡ l') × (r ≡ r') → ⊥) → IsClimb {D = D} H P x Q y (b ∷ bits) up up' (Branch l r l' r')
+-- one bit up
+pub climb_up : {D : Type 0} {H : List ℕ → List ℕ} {P : List (Option (List ℕ))} {x : List ℕ} {Q : List (Option (List ℕ))} {y : List ℕ} {b : Bool} {bits : List Bool} {first second peer peer' above above' : List ℕ}
+    {p q : Divergence D} → peer_of H P (length bits) ≡ peer → peer_of H Q (length bits) ≡ peer' → IsClimb H P x Q y bits first second p → IsUp H b first peer second peer' p above above' q
+    → IsClimb H P x Q y (b ∷ bits) above above' q
 unfolding proof_value
-climb_diverges H P x Q y b bits first second peer peer' l r l' r' up up' p at at' climb parts parts' is is' len other = record {
-  first_is = is ∙ ap H (fork_is H P x b bits first peer l r climb.first_is at parts.0 parts.1);
-  second_is = is' ∙ ap H (fork_is H Q y b bits second peer' l' r' climb.second_is at' parts'.0 parts'.1);
-  diverges = λ e. record {
-    above = [];
-    bit = b;
-    below = bits;
-    split = refl;
-    first_input = fork_is H P x b bits first peer l r climb.first_is at parts.0 parts.1;
-    second_input = fork_is H Q y b bits second peer' l' r' climb.second_is at' parts'.0 parts'.1;
-    differ = inputs_differ l r l' r' len other;
-    same = sym is ∙ e ∙ is';
-  };
-}
+climb_up {D} {H} {P} {x} {Q} {y} {b} {bits} {p = p} {q = q} at at' climb up =
+    let inputs = fork_same b _ _ _ _ at (sym climb.first_is) in
+    let others = fork_same b _ _ _ _ at' (sym climb.second_is) in record {
+      first_is = up.first_is ∙ ap H (sym inputs);
+      second_is = up.second_is ∙ ap H (sym others);
+      diverges = λ e. elim up.diverges [
+        | inl same ↦ rw same.2 (widened_path H P x Q y b bits p (at ∙ same.1 ∙ sym at') (climb.diverges same.0))
+        | inr here ↦
+            let moved : (fork_input H P x b bits ≡ fork_input H Q y b bits → ⊥) × IsBranchAt (fork_input H P x b bits) (fork_input H Q y b bits) q = rw (inputs, others) here in
+            diverges_here H P x Q y b bits q moved.1 moved.0 (ap H inputs ∙ sym up.first_is ∙ e ∙ up.second_is ∙ ap H (sym others))
+      ];
+    }
 
 -- the values and the peers have 32 bytes
 value_len : (H : List ℕ → List ℕ) (P : List (Option (List ℕ))) (x : List ℕ) → HasSize H → length x ≡ 32 → (bits : List Bool) → length (proof_value H P x bits) ≡ 32
@@ -124,41 +109,19 @@ diverged_on_path H P x Q y gives holds holds' size size' (b ∷ bits) e =
     let peer' = peer_of H Q (length bits) in
     let value = proof_value H P x bits in
     let value' = proof_value H Q y bits in
-    ⊎_elim
-    (λ (same : cond b peer value ≡ cond b peer' value'). ⊎_elim
-    (λ (same' : cond b value peer ≡ cond b value' peer').
-    let deep = diverged_on_path H P x Q y gives holds holds' size size' bits (near_same b value peer value' peer' _ _ _ _ refl refl refl refl (same, same')) in
-    (deep.0, widened_path H P x Q y b bits deep.0 (far_same b value peer value' peer' _ _ _ _ refl refl refl refl (same, same')) deep.1))
-    (λ (other : cond b value peer ≡ cond b value' peer' → ⊥). here (λ both. other both.1))
-    (same_or_not (cond b value peer) (cond b value' peer')))
-    (λ (other : cond b peer value ≡ cond b peer' value' → ⊥). here (λ both. other both.0))
-    (same_or_not (cond b peer value) (cond b peer' value'))
+    let sizes : length (cond b peer value) ≡ length (cond b peer' value') =
+    side_len b peer value (peer_len H P gives holds (length bits)) (value_len H P x gives size bits) ∙ sym (side_len b peer' value' (peer_len H Q gives holds' (length bits)) (value_len H Q y gives size' bits)) in
+    elim (same_or_not (fork_input H P x b bits) (fork_input H Q y b bits)) [
+      | inl same ↦
+          let below = same_parts b {x = value} {u = peer} {y = value'} {v = peer'} (record { left = refl; right = refl }) (record { left = refl; right = refl }) (branch_parts _ _ _ _ sizes same) in
+          let deep = diverged_on_path H P x Q y gives holds holds' size size' bits below.0 in (deep.0, widened_path H P x Q y b bits deep.0 below.1 deep.1)
+      | inr differ ↦
+          let p : SomeDivergence = Branch (cond b peer value) (cond b value peer) (cond b peer' value') (cond b value' peer') in (p, diverges_here H P x Q y b bits p (refl, refl) differ e)
+    ]
   where
     side_len : (b : Bool) (p v : List ℕ) → length p ≡ 32 → length v ≡ 32 → length (cond b p v) ≡ 32
     side_len true p v e f = e
     side_len false p v e f = f
-
-    here : ((cond b (peer_of H P (length bits)) (proof_value H P x bits) ≡ cond b (peer_of H Q (length bits)) (proof_value H Q y bits))
-        × (cond b (proof_value H P x bits) (peer_of H P (length bits)) ≡ cond b (proof_value H Q y bits) (peer_of H Q (length bits))) → ⊥)
-        → (p : SomeDivergence) × IsPathDivergence H P x Q y (b ∷ bits) p
-    here other =
-        let first = fork_is H P x b bits _ _ _ _ refl refl refl refl in
-        let second = fork_is H Q y b bits _ _ _ _ refl refl refl refl in (
-          Branch (cond b (peer_of H P (length bits)) (proof_value H P x bits)) (cond b (proof_value H P x bits) (peer_of H P (length bits)))
-              (cond b (peer_of H Q (length bits)) (proof_value H Q y bits)) (cond b (proof_value H Q y bits) (peer_of H Q (length bits))),
-          record {
-            above = [];
-            bit = b;
-            below = bits;
-            split = refl;
-            first_input = first;
-            second_input = second;
-            differ = inputs_differ _ _ _ _
-                (side_len b _ _ (peer_len H P gives holds (length bits)) (value_len H P x gives size bits)
-                ∙ sym (side_len b _ _ (peer_len H Q gives holds' (length bits)) (value_len H Q y gives size' bits))) other;
-            same = ap H first ∙ e ∙ sym (ap H second);
-          },
-        )
 
 -- at the leaf
 pub climb_starts : {D : Type 0} (H : List ℕ → List ℕ) (P : List (Option (List ℕ))) (x : List ℕ) (Q : List (Option (List ℕ))) (y key : List ℕ) → IsClimb {D = D} H P x Q y (last_bits key 0) x y Target

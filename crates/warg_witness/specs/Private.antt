@@ -4,7 +4,8 @@ pub mod MapMeeting
 pub mod MapPaths
 pub mod Meeting
 pub mod Divergence
+pub mod Climbs
 pub mod Compared
 pub mod PathDivergence
-pub mod PathAgreement
+pub mod PathClimbs
 pub mod TreeDivergence

@@ -7,6 +7,7 @@
 //! strings of equal digest.
 #![tactic(auto)]
 
+mod climb;
 mod collide;
 mod collision;
 mod compare;

@@ -9,9 +9,10 @@ ghost use Rattle.warg_witness.specs.PathClaims.{IsTreeMet};
 ghost use Rattle.warg_witness.specs.TreePlaced.{IsTreePlaced};
 ghost use Rattle.warg_witness.specs.Ranges.{IsAround};
 ghost use Rattle.warg_log.specs.Ranges.{IsAligned};
+ghost use Rattle.warg_witness.specs.Private.PathDivergence.{IsBranchDivergence};
 ghost use Rattle.warg_witness.specs.Private.TreeDivergence.{IsTreeMeeting, LeadsOver, IsTurnDivergence, IsTreeDivergence};
 
-use super::{MOST_LEAVES, branch_divergence};
+use super::MOST_LEAVES;
 use crate::collide::collide_values;
 use crate::collision::Finding;
 use crate::descent::Divergence;
@@ -19,7 +20,7 @@ use crate::plain::{plain_digest, plain_tree};
 use crate::trees::{Trees, divergence_below, first_difference};
 use std::alloc::{AllocError, Allocator};
 use warg_crypto::{Hash, SupportedDigest, VisitBytes};
-use warg_log::LeafRange;
+use warg_log::{LeafRange, VecLog};
 use warg_paths::{roots_of_consistency, roots_of_subproof};
 
 // Whether the path leads from a root of `old_length` entries to some root of `new_length`, whichever the old root is.
@@ -74,6 +75,34 @@ fn meet_trees<D: SupportedDigest, V: VisitBytes, A: Allocator + Copy>(
         old: old_tree,
         new: new_tree,
     }))
+}
+
+// Where the branch over two digests and a tree's branch over a range diverge.
+fn branch_divergence<D: SupportedDigest, V: VisitBytes, A: Allocator>(
+    left: &Hash<D>,
+    right: &Hash<D>,
+    tree: &VecLog<D, V, A>,
+    range: &LeafRange,
+) -> Divergence<D>
+    requires more { 1 < range.now.count }
+    requires aligned { IsAligned range.now.start range.now.count }
+    requires within { range.now.start + range.now.count ≤ length tree.now }
+    ensures { IsBranchDivergence D.digest left.now right.now tree.now range.now.start
+        range.now.count result }
+{
+    let (front, rest) = range.split();
+    let second_left = plain_digest(tree, &front);
+    let second_right = plain_digest(tree, &rest);
+    prove_eq!(left.len(), second_left.len());
+    if left != &second_left || right != &second_right {
+        return Divergence::Branch {
+            first_left: left.copied(),
+            first_right: right.copied(),
+            second_left,
+            second_right,
+        };
+    }
+    Divergence::Target
 }
 
 // Where the evaluation and the trees diverge at a range, of which not all leaves are old, by the topmost digest of a

@@ -1,10 +1,8 @@
-use Rattle.std.proofs.Common.{[]}
+use Rattle.std.proofs.Common.{[], refl}
 use Rattle.warg_witness.proofs.plain.plain_tree.Goals as goal
 
 pub returns-clause-tree : goal.returns-clause-tree
 returns-clause-tree g c = c.in_ok-checkpoint.ensures.ok [] c.default-tree.ensures
 
 pub returns-clause-root : goal.returns-clause-root
-returns-clause-root g c =
-    let tree = c.in_ok-checkpoint.ensures.ok [] c.default-tree.ensures in
-    let root = c.in_ok-checkpoint.ensures.root [] c.default-tree.ensures in cc
+returns-clause-root g c = let root = c.in_ok-checkpoint.ensures.root _ refl in cc

@@ -3,7 +3,7 @@ use Rattle.std.specs.Cmp.Lexicographic.{bytes_decides}
 use Rattle.warg_witness.proofs.HashLemmas.{ne_false}
 use Rattle.warg_witness.proofs.RangeLemmas.{side_aligned}
 use Rattle.warg_witness.proofs.DescentLemmas.{inputs_differ}
-use Rattle.warg_witness.proofs.paths.branch_divergence.Goals as goal
+use Rattle.warg_witness.proofs.paths.tree.branch_divergence.Goals as goal
 
 pub plain_digest-second_right-requires-clause-aligned : goal.plain_digest-second_right-requires-clause-aligned
 plain_digest-second_right-requires-clause-aligned g c = side_aligned _ _ c.requires.aligned (omega arith) (inr c.split.ensures.rest)

@@ -1,17 +1,17 @@
--- Where the evaluations of two paths that have one digest at a range diverge, on the way to the leaf of both. The
+-- Two evaluations along inclusion paths of one place, and where they diverge if they lead to one digest over a range. The
 -- digests of a path are given from the topmost down.
-use Rattle.std.specs.Prelude.{◌≡◌, ℕ, ◌+◌, List, [], ◌∷◌, Some}
-use Rattle.warg_paths.specs.Paths.{root_down}
+use Rattle.std.specs.Prelude.{◌≡◌, ℕ, ◌+◌, List, [], ◌∷◌, length, slice_index_or, reverse, Some}
+use Rattle.warg_log.specs.Tree.{own_digest}
+use Rattle.warg_log.specs.Cut.{old_over}
+use Rattle.warg_paths.specs.Paths.{inclusion_of, inclusion_root, root_down}
 use Rattle.warg_crypto.specs.Tree.{branch_input}
 use Rattle.warg_witness.specs.PathPlaced.{IsOnWay, turn_input}
 use Rattle.warg_witness.specs.declared.descent.Divergence.{Divergence}
 use Rattle.warg_witness.specs.declared.descent.Divergence.TheVariants.{Target, Branch}
 
--- Two paths lead to one digest over n leaves, the first from the digest x of leaf m and the second from y.
-pub record LeadToOne (H : List ℕ → List ℕ) (x : List ℕ) (digests : List (List ℕ)) (y : List ℕ) (other_digests : List (List ℕ)) (m n : ℕ) : Type 0 where
-  pub digest : List ℕ
-  pub first : root_down H m n x digests ≡ Some digest
-  pub second : root_down H m n y other_digests ≡ Some digest
+-- One of two paths leads to no digest over n leaves, the first from the digest x of leaf m and the second from y.
+abbrev pub LeadNowhere : (List ℕ → List ℕ) → List ℕ → List (List ℕ) → List ℕ → List (List ℕ) → ℕ → ℕ → Type 0
+LeadNowhere H x digests y other_digests m n = (first second : List ℕ) → root_down H m n x digests ≡ Some first → root_down H m n y other_digests ≡ Some second → ⊥
 
 -- At a range of more than one leaf on the way, the two evaluations' inputs differ and have one digest.
 pub record PathsDiverge (H : List ℕ → List ℕ) (x : List ℕ) (digests₀ : List (List ℕ)) (y : List ℕ) (other_digests₀ : List (List ℕ)) (m₀ a₀ n₀ : ℕ) (first second : List ℕ) : Type 0 where
@@ -45,3 +45,26 @@ PathsPart H x digests₀ y other_digests₀ m₀ a₀ n₀ place (Branch first_l
 abbrev pub IsPathsDivergence : {D : _} → (List ℕ → List ℕ) → List ℕ → List (List ℕ) → List ℕ → List (List ℕ) → ℕ → ℕ → ℕ → Divergence D → Type 0
 IsPathsDivergence H x digests y other_digests m a n p = (m₀ a₀ n₀ : ℕ) (digests₀ other_digests₀ : List (List ℕ)) → IsOnWay m₀ a₀ n₀ digests₀ m a n digests
     → IsOnWay m₀ a₀ n₀ other_digests₀ m a n other_digests → PathsPart H x digests₀ y other_digests₀ m₀ a₀ n₀ (a + m) p
+
+-- Both paths lead to these digests over the n leaves from a on, and diverge as said if the two are one.
+pub record IsPathClimb {D : _} (H : List ℕ → List ℕ) (x : List ℕ) (digests : List (List ℕ)) (y : List ℕ) (other_digests : List (List ℕ)) (m a n : ℕ) (first second : List ℕ) (p : Divergence D) : Type 0 where
+  pub first_is : root_down H m n x digests ≡ Some first
+  pub second_is : root_down H m n y other_digests ≡ Some second
+  pub diverges : first ≡ second → IsPathsDivergence H x digests y other_digests m a n p
+
+-- Two paths of leaf m of n, the first from the digest x and the second from y, don't lead to one root.
+abbrev pub NeverMeet : (List ℕ → List ℕ) → List ℕ → List (List ℕ) → List ℕ → List (List ℕ) → ℕ → ℕ → Type 0
+NeverMeet H x path y other_path m n = (root : List ℕ) → inclusion_root H m n x path ≡ Some root → inclusion_root H m n y other_path ≡ Some root → ⊥
+
+-- They lead to one root, and diverge as said on the way down from it.
+pub record IsPathsMeeting {D : _} (H : List ℕ → List ℕ) (x : List ℕ) (path : List (List ℕ)) (y : List ℕ) (other_path : List (List ℕ)) (m n : ℕ) (p : Divergence D) : Type 0 where
+  pub root : List ℕ
+  pub first_is : inclusion_root H m n x path ≡ Some root
+  pub second_is : inclusion_root H m n y other_path ≡ Some root
+  pub diverges : IsPathsDivergence H x (reverse path) y (reverse other_path) m 0 n p
+
+-- A path that leads to a tree's root and the tree's own path of that leaf diverge as said.
+pub record DivergesFromTree {D : _} (H : List ℕ → List ℕ) (x : List ℕ) (path tree : List (List ℕ)) (m : ℕ) (p : Divergence D) : Type 0 where
+  pub own : List (List ℕ)
+  pub own_is : inclusion_of (old_over H (own_digest H tree)) m (length tree) ≡ Some own
+  pub diverges : IsPathsDivergence H x (reverse path) (slice_index_or tree m []) (reverse own) m 0 (length tree) p

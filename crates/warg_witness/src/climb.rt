@@ -1,0 +1,73 @@
+//! Two evaluations that go up one way side by side.
+
+ghost use Rattle.std.specs.Prelude.{◌≡◌, if◌then◌else◌};
+ghost use Rattle.warg_witness.specs.Private.Climbs.{IsUp};
+
+use crate::descent::Divergence;
+use warg_crypto::{Hash, SupportedDigest, hash_branch};
+
+/// Two evaluations along one way, as far as they have come up from the bottom.
+#[derive(Drop)]
+pub(crate) struct Climb<D> {
+    pub(crate) first: Hash<D>,
+    pub(crate) second: Hash<D>,
+    /// Where they diverge, seen from here, if both digests are one.
+    pub(crate) divergence: Divergence<D>,
+}
+
+impl<D: SupportedDigest> Climb<D> {
+    /// Both evaluations at the bottom.
+    pub(crate) fn new(first: Hash<D>, second: Hash<D>) -> Climb<D>
+        ensures first { result.first ≡ first }
+        ensures second { result.second ≡ second }
+        ensures divergence { result.divergence ≡ Divergence.Target }
+    {
+        Climb {
+            first,
+            second,
+            divergence: Divergence::Target,
+        }
+    }
+
+    /// One branch up: on the right of the digests beside them, or on the left.
+    pub(crate) fn up(self, right: bool, first_beside: &Hash<D>, second_beside: &Hash<D>) -> Climb<D>
+        ensures { IsUp D.digest right self.first first_beside.now self.second second_beside.now
+            self.divergence result.first result.second result.divergence }
+    {
+        let Climb {
+            first,
+            second,
+            divergence,
+        } = self;
+        let (first_left, first_right) = left_and_right(right, first, first_beside.copied());
+        let (second_left, second_right) = left_and_right(right, second, second_beside.copied());
+        let first = hash_branch(&first_left, &first_right);
+        let second = hash_branch(&second_left, &second_right);
+        prove_eq!(first_left.len(), second_left.len());
+        if first_left == second_left && first_right == second_right {
+            return Climb {
+                first,
+                second,
+                divergence,
+            };
+        }
+        Climb {
+            first,
+            second,
+            divergence: Divergence::Branch {
+                first_left,
+                first_right,
+                second_left,
+                second_right,
+            },
+        }
+    }
+}
+
+// The two digests of a branch, with `near` on the right or on the left.
+fn left_and_right<D>(right: bool, near: Hash<D>, far: Hash<D>) -> (Hash<D>, Hash<D>)
+    ensures left { result.0 ≡ (if right then far else near) }
+    ensures right { result.1 ≡ (if right then near else far) }
+{
+    if right { (far, near) } else { (near, far) }
+}
