@@ -1,9 +1,11 @@
 pub mod Bits
 pub mod Sparse
 pub mod Last
+pub mod Extended
 pub mod ProofValue
 pub mod Peers
 pub mod Count
 pub mod Messages
 pub mod KeyProofs
+pub mod Insertions
 pub mod Private

@@ -2,7 +2,8 @@
 
 ghost use Rattle.std.specs.Prelude.{◌≡◌, ◌≢◌, ℕ, List, Option, ◌+◌, ◌*◌, ◌/◌, ◌<◌, ◌≤◌, ◌↔◌, ◌∷◌, ◌++◌, [], IfOk, IfSome, IsSome, IsTrue, MatchOption, Some, None, Ok, Err, false, not};
 ghost use Rattle.std.specs.FinMap as map;
-ghost use Rattle.std.specs.Iterator.{IsFinite, Drains, Yields};
+ghost use Rattle.std.specs.Iterator.{IsFinite};
+ghost use Rattle.warg_map.specs.Extended.{IsExtended, IsFullWithin, BeginsNew};
 ghost use Rattle.warg_map.specs.Bits.{key_bits, last_bits};
 ghost use Rattle.warg_crypto.specs.EmptyTrees.{empty_root};
 ghost use Rattle.warg_crypto.specs.Tree.{leaf_digest};
@@ -358,22 +359,15 @@ impl<D: SupportedDigest, K: VisitBytes + Drop, V: VisitBytes + Drop, A: Allocato
     ) -> Result<Map<D, K, V, A>, MapError>
         requires can { I.can_next iter }
         requires ends { IsFinite (I.remaining iter) }
-        ensures ok { IfOk result (λ m. ((es : List (K × V)) × Drains I.next_gives iter es
-            × (m ≡ inserted D.digest self.now (pair_bytes K.bytes V.bytes es)))) }
+        ensures ok { IfOk result (IsExtended D.digest K.bytes V.bytes I.next_gives iter self.now) }
         ensures full { result ≡ Err MapError.Full
-            → ((es : List (K × V)) × (e : K × V) × (rest : I)
-            × Yields I.next_gives iter (es ++ e ∷ []) rest
-            × (map.len (inserted D.digest self.now (pair_bytes K.bytes V.bytes es)) ≡ usize.MAX)
-            × (map.contains_key (inserted D.digest self.now (pair_bytes K.bytes V.bytes es))
-            (key_bits D.digest (K.bytes e.0)) ≡ false)) }
+            → IsFullWithin D.digest K.bytes V.bytes I.next_gives iter self.now }
         // Where a map is the answer, no pair was one too many.
         ensures fits { IfOk result (λ m. map.len m ≤ usize.MAX) }
 
         // Where the map is full, and the first pair, whichever it is, is of a new key digest, memory isn't asked for.
         ensures at_once { map.len self.now ≡ usize.MAX
-            → ((first : Option (K × V)) (rest : I) → I.next_gives iter first rest
-            → MatchOption first ⊥ (λ e. map.contains_key self.now (key_bits D.digest (K.bytes e.0))
-            ≡ false))
+            → BeginsNew D.digest K.bytes I.next_gives iter self.now
             → result ≡ Err MapError.Full }
     {
         let _len = self.len();
@@ -394,8 +388,7 @@ impl<D: SupportedDigest, K: VisitBytes + Drop, V: VisitBytes + Drop, A: Allocato
         requires few { map.len self.now ≤ usize.MAX / 2 }
         requires can { I.can_next iter }
         requires ends { IsFinite (I.remaining iter) }
-        ensures ok { IfOk result (λ m. ((es : List (K × V)) × Drains I.next_gives iter es
-            × (m ≡ inserted D.digest self.now (pair_bytes K.bytes V.bytes es)))) }
+        ensures ok { IfOk result (IsExtended D.digest K.bytes V.bytes I.next_gives iter self.now) }
         ensures fits { IfOk result (λ m. map.len m ≤ usize.MAX) }
     {
         let mut leaves = Vec::new(self.alloc);
@@ -413,14 +406,9 @@ impl<D: SupportedDigest, K: VisitBytes + Drop, V: VisitBytes + Drop, A: Allocato
     ) -> Result<Map<D, K, V, A>, MapError>
         requires can { I.can_next iter }
         requires ends { IsFinite (I.remaining iter) }
-        ensures ok { IfOk result (λ m. ((es : List (K × V)) × Drains I.next_gives iter es
-            × (m ≡ inserted D.digest self (pair_bytes K.bytes V.bytes es)))) }
+        ensures ok { IfOk result (IsExtended D.digest K.bytes V.bytes I.next_gives iter self) }
         ensures full { result ≡ Err MapError.Full
-            → ((es : List (K × V)) × (e : K × V) × (rest : I)
-            × Yields I.next_gives iter (es ++ e ∷ []) rest
-            × (map.len (inserted D.digest self (pair_bytes K.bytes V.bytes es)) ≡ usize.MAX)
-            × (map.contains_key (inserted D.digest self (pair_bytes K.bytes V.bytes es))
-            (key_bits D.digest (K.bytes e.0)) ≡ false)) }
+            → IsFullWithin D.digest K.bytes V.bytes I.next_gives iter self }
         ensures fits { IfOk result (λ m. map.len m ≤ usize.MAX) }
     {
         let mut all = self;

@@ -1,12 +1,10 @@
 //! An insertion with the proof of its step.
 
-ghost use Rattle.std.specs.Prelude.{◌≡◌, ◌↔◌, IfOk, Err, false, not};
+ghost use Rattle.std.specs.Prelude.{◌≡◌, ◌↔◌, IfOk, Err, false};
 ghost use Rattle.std.specs.FinMap as map;
 ghost use Rattle.warg_map.specs.Bits.{key_bits};
 ghost use Rattle.warg_crypto.specs.Tree.{leaf_digest};
-ghost use Rattle.warg_map.specs.Sparse.{sparse_root, leaf_at};
-ghost use Rattle.warg_map.specs.ProofValue.{proof_value};
-ghost use Rattle.warg_map.specs.Peers.{Proves};
+ghost use Rattle.warg_map.specs.Insertions.{IsInserted};
 
 use crate::map::{Map, MapError};
 use crate::proof::Proof;
@@ -37,24 +35,11 @@ impl<D: SupportedDigest, K: VisitBytes + Drop, V: VisitBytes + Drop, A: Allocato
     /// key that is an empty leaf. It hashes the key once, and no branch beside those of `insert`: a proof is made of the
     /// digests that the new map keeps. `Full` comes as there.
     pub fn insert_with_proof(&self, key: K, val: V) -> Result<Insertion<D, K, V, A>, MapError>
-        ensures ok { IfOk result (λ i. i.map
-            ≡ map.insert self.now (key_bits D.digest (K.bytes key))
-            (leaf_digest D.digest (V.bytes val))) }
-        ensures proof { IfOk result (λ i. Proves D.digest 256 i.map
-            (key_bits D.digest (K.bytes key)) i.proof) }
-        ensures is_new { IfOk result (λ i. i.is_new
-            ≡ not (map.contains_key self.now (key_bits D.digest (K.bytes key)))) }
+        ensures ok { IfOk result (λ i. IsInserted D.digest self.now (key_bits D.digest (K.bytes key))
+            (leaf_digest D.digest (V.bytes val)) i.map i.proof i.is_new) }
         ensures full { (result ≡ Err MapError.Full)
             ↔ ((map.len self.now ≡ usize.MAX)
             × (map.contains_key self.now (key_bits D.digest (K.bytes key)) ≡ false)) }
-
-        // The step: from the leaf before to the root before, and from the leaf after to the root after.
-        ensures before { IfOk result (λ i. proof_value D.digest i.proof
-            (leaf_at D.digest self.now (key_bits D.digest (K.bytes key)))
-            (key_bits D.digest (K.bytes key)) ≡ sparse_root D.digest 256 self.now) }
-        ensures after { IfOk result (λ i. proof_value D.digest i.proof
-            (leaf_digest D.digest (V.bytes val))
-            (key_bits D.digest (K.bytes key)) ≡ sparse_root D.digest 256 i.map) }
     {
         let key = Hash::of(&key);
         let (map, is_new) = self.with_leaf(&key, hash_leaf(&val))?;

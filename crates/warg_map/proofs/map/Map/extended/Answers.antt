@@ -32,3 +32,10 @@ loop-key-preserved g c =
     c.in_ok-all.ensures.ok
     ∙ ap (λ m. insert m (key_bits H (kb c.in-Some.key)) (leaf_digest H (vb c.in-Some.val))) c.loop-key.invariant
     ∙ sym (inserted-pair H kb vb c.args.self c.loop-key.yielded (c.in-Some.key, c.in-Some.val))
+
+pub returns-clause-ok : goal.returns-clause-ok
+returns-clause-ok g c = (
+  c.loop-key.yielded,
+  (c.next.new.self, (c.loop-key.key-iterator, subst (λ (it : _). Yields g.I.Iterator.next_gives it c.loop-key.yielded c.loop-key.key-iterator) c.into_iter-key-iterator.ensures.into_iter_gives c.loop-key.yielded_by, c.in-None.ensures.steps)),
+  c.loop-key.invariant,
+)

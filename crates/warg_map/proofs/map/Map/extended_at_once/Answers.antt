@@ -1,4 +1,5 @@
-use Rattle.std.proofs.Common.{ap, sym, ◌∙◌, rules}
+use Rattle.std.proofs.Common.{ap, sym, ◌∙◌, subst, rules}
+use Rattle.std.specs.Iterator.{Yields}
 use Rattle.std.specs.FinMap.{insert}
 use Rattle.warg_map.specs.Bits.{last_bits}
 use Rattle.warg_crypto.specs.Tree.{leaf_digest}
@@ -24,3 +25,10 @@ pub with_leaves-requires : goal.with_leaves-requires
 with_leaves-requires g c =
     let most = len-with_leaves 256 c.args.self.now c.loop-key.leaves.items in
     search (rules, most, c.requires.few)
+
+pub returns-clause-ok : goal.returns-clause-ok
+returns-clause-ok g c = (
+  c.loop-key.yielded,
+  (c.next.new.self, (c.loop-key.key-iterator, subst (λ (it : _). Yields g.I.Iterator.next_gives it c.loop-key.yielded c.loop-key.key-iterator) c.into_iter-key-iterator.ensures.into_iter_gives c.loop-key.yielded_by, c.in-None.ensures.steps)),
+  c.in_ok-map.ensures.ok ∙ c.loop-key.invariant c.args.self.now,
+)

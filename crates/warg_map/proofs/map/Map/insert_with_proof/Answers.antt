@@ -14,17 +14,16 @@ unreachable-requires g c =
     let none : contains_key (insert c.args.self.now bits (leaf_digest H (g.V.VisitBytes.bytes c.args.val))) bits ≡ false = search rules in
     held_after c.args.self.now bits _ none
 
-pub returns-clause-before : goal.returns-clause-before
-returns-clause-before g c =
+pub returns-clause-ok : goal.returns-clause-ok
+returns-clause-ok g c =
     let H = g.D.SupportedDigest.digest in
     let bits = key_bits H (g.K.VisitBytes.bytes c.args.key) in
     let proves : Proves H 256 (insert c.args.self.now bits (leaf_digest H (g.V.VisitBytes.bytes c.args.val))) bits c.in-Some.proof = search rules in
-    root_before H c.args.self.now bits _ c.in-Some.proof (length-last_bits _ 256) proves
-
-pub returns-clause-after : goal.returns-clause-after
-returns-clause-after g c =
-    let H = g.D.SupportedDigest.digest in
-    let bits = key_bits H (g.K.VisitBytes.bytes c.args.key) in
-    let proves : Proves H 256 (insert c.args.self.now bits (leaf_digest H (g.V.VisitBytes.bytes c.args.val))) bits c.in-Some.proof = search rules in
-    let root = root_after H c.args.self.now bits _ c.in-Some.proof (length-last_bits _ 256) proves in
-    rw c.in_ok-map.ensures.ok (search rules)
+    let after = root_after H c.args.self.now bits _ c.in-Some.proof (length-last_bits _ 256) proves in
+    record {
+      inserted = search rules;
+      proves = search rules;
+      before = root_before H c.args.self.now bits _ c.in-Some.proof (length-last_bits _ 256) proves;
+      after = rw c.in_ok-map.ensures.ok (search rules);
+      newness = search rules;
+    }
