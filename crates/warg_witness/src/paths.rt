@@ -97,7 +97,7 @@ fn divergence_from_tree<D: SupportedDigest, V: VisitBytes, A: Allocator>(
 /// the tree over the entries (second) at one range on the way to the leaf.
 ///
 /// It hashes each leaf and branch of the tree over the entries once, and besides the value and at most as many branches
-/// as three times the path's length. Out of memory is the only error. A value or an entry of more than
+/// as four times the path's length. Out of memory is the only error. A value or an entry of more than
 /// `usize::MAX` bytes counts as that, and so do more than 2^63 entries.
 pub fn witness_record<D: SupportedDigest, V: VisitBytes, A: Allocator + Copy>(
     alloc: A,

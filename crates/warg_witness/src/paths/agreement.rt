@@ -20,8 +20,8 @@ use warg_crypto::{Hash, SupportedDigest, VisitBytes, hash_leaf};
 /// root, and the values have the same bytes. Else a collision: what the digest function takes in the evaluation of the
 /// first path and in that of the second (RFC 6962, section 2.1.1) at one range on the way to the leaf.
 ///
-/// It hashes both values, and each branch of both evaluations once. Out of memory is the
-/// only error. A value of more than `usize::MAX` bytes counts as that.
+/// It hashes both values, and each branch of both evaluations once. Out of memory is the only error. A value of more than
+/// `usize::MAX` bytes counts as that.
 pub fn agree_record<D: SupportedDigest, V: VisitBytes, A: Allocator + Copy>(
     alloc: A,
     index: usize,
