@@ -2,7 +2,7 @@
 use Rattle.std.proofs.Common.{◌≡◌, ℕ, suc, zero-add, ◌+◌, ◌-◌, ◌^◌, ◌<◌, ◌≤◌, List, [], ◌∷◌, length, take, drop, slice_index_or, sym, ap, ◌∙◌, arith}
 use Rattle.std.proofs.lemmas.List.{take_all, length-drop}
 use Rattle.warg_crypto.specs.Tree.{branch}
-use Rattle.warg_log.specs.Tree.{front_of, root_of, root_over}
+use Rattle.warg_log.specs.Tree.{front_of, root_of, root_over, root_within}
 use Rattle.warg_log.proofs.ForCallers.{root_over_one, root_over_parts, front_of_is}
 
 -- the root over all digests
@@ -12,6 +12,14 @@ whole H ds = ap (root_of H) (take_all (length ds) ds (omega arith))
 -- the root over one digest is it
 pub root_one : (H : List ℕ → List ℕ) (ds : List (List ℕ)) → length ds ≡ 1 → root_of H ds ≡ slice_index_or ds 0 []
 root_one H ds one = sym (whole H ds) ∙ ap (root_over H ds 0) one ∙ root_over_one H ds 0 (omega arith)
+
+-- the root over two is the branch over them
+pub root_two : (H : List ℕ → List ℕ) (ds : List (List ℕ)) (left right : List ℕ) → 2 ≤ length ds → length ds < 3 → left ≡ slice_index_or ds 0 left → right ≡ slice_index_or ds 1 right → branch H left right ≡ root_of H ds
+unfolding root_within
+root_two H [] left right some few first second = absurd (omega arith)
+root_two H (d ∷ []) left right some few first second = absurd (omega arith)
+root_two H (d ∷ e ∷ []) left right some few first second = ap (λ l. branch H l right) first ∙ ap (branch H d) second
+root_two H (d ∷ e ∷ f ∷ ds) left right some few first second = absurd (omega arith)
 
 -- the root over more is the branch over the roots of both parts
 pub root_parts : (H : List ℕ → List ℕ) (ds front rest : List (List ℕ)) (e : ℕ) → 2 ^ e ≤ length ds - 1 → length ds - 1 < 2 ^ suc e → 1 < length ds → front ≡ take (2 ^ e) ds → rest ≡ drop (2 ^ e) ds

@@ -13,6 +13,9 @@ pub(crate) fn root_over<D: SupportedDigest>(digests: &[Hash<D>]) -> Hash<D>
     if digests.len() == 1 {
         return digests[0].copied();
     }
+    if let [left, right] = digests {
+        return hash_branch(left, right);
+    }
     let (front, rest) = digests.split_at(1 << (digests.len() - 1).ilog2());
     hash_branch(&root_over(front), &root_over(rest))
 }

@@ -159,6 +159,12 @@ impl<D: SupportedDigest, V: VisitBytes, A: Allocator + Copy> LogBuilder<D, V> fo
         ensures err { OnErr result (self.new ≡ self.old) }
     {
         let digest = hash_leaf::<D, V>(entry);
+        let leaf = Node::leaf(self.count);
+        if self.count % 256 < 255 {
+            self.edge.push(digest)?;
+            self.count += 1;
+            return Ok(leaf);
+        }
         let alloc = *self.full.allocator();
         let mut filled = Vec::new(alloc);
         let (kept, digest) = fill(
@@ -171,7 +177,6 @@ impl<D: SupportedDigest, V: VisitBytes, A: Allocator + Copy> LogBuilder<D, V> fo
         )?;
         self.edge.reserve(1)?;
         self.full.append(&mut filled)?;
-        let leaf = Node::leaf(self.count);
         self.edge.truncate(kept);
         self.edge.push_reserved(digest);
         self.count += 1;
@@ -354,11 +359,11 @@ fn fill<D: SupportedDigest, A: Allocator + Copy>(
     fill(alloc, filled, above, level + 1, count / 256, root)
 }
 
-// The same digests once more.
+// The same digests once more, with room for one behind them.
 fn copies<D, A: Allocator>(alloc: A, digests: &[Hash<D>]) -> Result<Vec<Hash<D>, A>, AllocError>
     ensures { IfOk result (λ copies. copies.items ≡ digests.now) }
 {
-    let mut copies = Vec::with_capacity(alloc, digests.len())?;
+    let mut copies = Vec::with_capacity(alloc, digests.len() + 1)?;
     'digests: for digest in digests {
         copies.push(digest.copied())?;
     }

@@ -1,14 +1,16 @@
 //! Standard input, line by line.
 
 use crate::refusal::Refusal;
+use memchr::memchr;
 use std::alloc::Global;
-use std::io::{BufRead, BufReader, ErrorKind, Input, Read};
+use std::io;
+use std::io::{BufRead, BufReader, ErrorKind, Input};
 
 // The greatest number of bytes of an entry.
 const MOST: usize = 65_535;
 
 // A line of the greatest entry, with a carriage return, a newline and one byte more.
-const LONGEST: u64 = 131_073;
+const LONGEST: usize = 131_073;
 
 // How many bytes are read at a time.
 const AT_ONCE: usize = 1 << 16;
@@ -41,22 +43,35 @@ impl Lines {
     /// Goes on to the next line. False at the end of the input.
     pub fn go_on(&mut self, alloc: Global) -> Result<bool, Refusal> {
         self.line.clear();
-        let read = self
-            .input
-            .by_ref()
-            .take(LONGEST)
-            .read_until(b'\n', &mut self.line);
-        match read {
-            Ok(0) => return Ok(false),
-            Ok(_) => {}
-            Err(error) if error.kind() == ErrorKind::OutOfMemory => return Err(Refusal::Memory),
-            Err(error) => {
-                let path = String::from_str(alloc, "standard input")?;
-                return Err(Refusal::of_read(path, error));
+        for _ in 0..u64::MAX {
+            match self.read_on() {
+                Ok(true) => break,
+                Ok(false) => {}
+                Err(error) if error.kind() == ErrorKind::Interrupted => {}
+                Err(error) => {
+                    let path = String::from_str(alloc, "standard input")?;
+                    return Err(Refusal::of_read(path, error));
+                }
             }
+        }
+        if self.line.is_empty() {
+            return Ok(false);
         }
         self.number = self.number.saturating_add(1);
         Ok(true)
+    }
+
+    // Adds to the line what the buffer has of it, which is filled first where it is empty. True at the end of the line, and
+    // of the input.
+    fn read_on(&mut self) -> io::Result<bool> {
+        let room = LONGEST.saturating_sub(self.line.len());
+        let held = self.input.fill_buf()?;
+        let held = &held[..held.len().min(room)];
+        let newline = memchr(b'\n', held);
+        let count = newline.map_or(held.len(), |at| at + 1);
+        self.line.extend_from_slice(&held[..count])?;
+        self.input.consume(count);
+        Ok(newline.is_some() || count == 0 || count == room)
     }
 
     /// The line's bytes, without its end.

@@ -3,7 +3,7 @@
 use crate::folder::Folder;
 use crate::refusal::Refusal;
 use std::alloc::{AllocError, Global};
-use warg_crypto::{Hash, Sha256};
+use warg_crypto::Sha256;
 use warg_paths::{HashesError, hashes_in};
 use warg_tiles::{StoredTile, Tile};
 
@@ -50,7 +50,7 @@ pub fn write_tile(
     stored: &StoredTile<Sha256>,
 ) -> Result<(), Refusal> {
     let path = stored.tile.path(rt.alloc())?;
-    let bytes = bytes_of(rt.alloc(), stored.digests.as_slice())?;
+    let bytes = bytes_of(rt.alloc(), stored)?;
     folder.write(rt, path.as_str(), bytes.as_slice())
 }
 
@@ -62,9 +62,9 @@ fn tile_bytes(rt: &HostRuntime, folder: &Folder, tile: &Tile) -> Result<Vec<u8>,
     }
 }
 
-fn bytes_of(alloc: Global, digests: &[Hash<Sha256>]) -> Result<Vec<u8>, AllocError> {
-    let mut bytes = Vec::new(alloc);
-    'digests: for digest in digests {
+fn bytes_of(alloc: Global, stored: &StoredTile<Sha256>) -> Result<Vec<u8>, AllocError> {
+    let mut bytes = Vec::with_capacity(alloc, stored.tile.width() * DIGEST)?;
+    'digests: for digest in stored.digests.as_slice() {
         bytes.extend_from_slice(digest.bytes())?;
     }
     Ok(bytes)

@@ -1,11 +1,14 @@
 use Rattle.std.proofs.Common.{◌≡◌, ◌^◌, ◌*◌, ◌%◌, take, drop, sym, ap, ◌∙◌, arith}
 use Rattle.std.proofs.Math.Nat.{pow-suc}
-use Rattle.warg_tiles.proofs.RootLemmas.{root_one, root_parts, first_is}
+use Rattle.warg_tiles.proofs.RootLemmas.{root_one, root_two, root_parts, first_is}
 use Rattle.warg_tiles.proofs.root.+root_over.Goals as goal
 
 pub returns-then-digests-eq1 : goal.returns-then-digests-eq1
 returns-then-digests-eq1 g t c =
     c.copied.ensures ∙ first_is c.args.digests.now c.index-digests-0.result (omega (arith, c.if-digests-eq1.true)) c.index-digests-0.is ∙ sym (root_one g.D.SupportedDigest.digest c.args.digests.now c.if-digests-eq1.true)
+
+pub returns-in-len2 : goal.returns-in-len2
+returns-in-len2 g t c = c.hash_branch.ensures ∙ root_two g.D.SupportedDigest.digest c.args.digests.now c.left-item.result c.right-item.result c.in-len2.len_at_least c.in-len2.len_below c.left-item.is c.right-item.is
 
 pub returns : goal.returns
 returns g t c =
@@ -17,4 +20,4 @@ returns g t c =
           (omega (arith, c.ilog2.ensures.next_power_gt, pow-suc 2 c.ilog2.result)) (omega arith) front rest,
       ← c.root_over.ensures,
       ← c.root_over-2.ensures,
-    ) c.hash_branch.ensures
+    ) c.hash_branch-2.ensures
