@@ -25,100 +25,132 @@ The first line of standard input is the claim:
 The path is behind it, a line of 64 hexadecimal digits for each digest, as prove and consistency write it. A root is as in a
 checkpoint, or 64 hexadecimal digits. Prints true or false, with the exit status 0 or 1.";
 
+// A command: its name, what it says, what stands below its help, and its arguments in turn.
+struct Usage {
+    name: &'static str,
+    about: &'static str,
+    after: Option<&'static str>,
+    words: &'static [Word],
+}
+
+// An argument: its kind, its name, what its value is called, and what it is.
+type Word = (Kind, &'static str, &'static str, &'static str);
+
+#[derive(Clone, Copy)]
+enum Kind {
+    Text,
+    Number,
+    OptionalNumber,
+}
+
+const FOLDER: Word = (Kind::Text, "folder", "FOLDER", "The log's folder");
+
+const COMMANDS: [Usage; 7] = [
+    Usage {
+        name: "init",
+        about: "Makes a log of no entries",
+        after: None,
+        words: &[
+            FOLDER,
+            (
+                Kind::Text,
+                "origin",
+                "ORIGIN",
+                "The log's name in its checkpoints, as example.com/log",
+            ),
+        ],
+    },
+    Usage {
+        name: "append",
+        about: "Adds entries",
+        after: Some(APPEND_AFTER),
+        words: &[FOLDER],
+    },
+    Usage {
+        name: "checkpoint",
+        about: "Prints the checkpoint, once the right edge of the log leads to its root",
+        after: None,
+        words: &[FOLDER],
+    },
+    Usage {
+        name: "prove",
+        about: "Prints an entry's inclusion path, a line of hexadecimal digits for each digest",
+        after: None,
+        words: &[
+            FOLDER,
+            (Kind::Number, "index", "INDEX", "The entry's index, from 0"),
+            (
+                Kind::OptionalNumber,
+                "length",
+                "LENGTH",
+                "The log's length, if not the checkpoint's",
+            ),
+        ],
+    },
+    Usage {
+        name: "consistency",
+        about: "Prints the consistency path from an old length, a line of hexadecimal digits for each digest",
+        after: None,
+        words: &[
+            FOLDER,
+            (Kind::Number, "old", "OLD", "The old length, from 1"),
+            (
+                Kind::OptionalNumber,
+                "new",
+                "NEW",
+                "The new length, if not the checkpoint's",
+            ),
+        ],
+    },
+    Usage {
+        name: "verify",
+        about: "Says whether the path on standard input shows the claim above it",
+        after: Some(VERIFY_AFTER),
+        words: &[],
+    },
+    Usage {
+        name: "audit",
+        about: "Reads every entry, makes each tile again, and says the first that differs",
+        after: None,
+        words: &[FOLDER],
+    },
+];
+
 /// The command line.
 pub fn command<'a>(alloc: Global) -> Result<Command<'a>, AllocError> {
-    Command::new(alloc, "warg_tlog")
+    let mut command = Command::new(alloc, "warg_tlog")
         .version("0.9.2-rattle.1")
         .about(ABOUT)
         .after_help(AFTER)
-        .subcommand_required(true)
-        .subcommand(init(alloc)?)?
-        .subcommand(append(alloc)?)?
-        .subcommand(over_folder(
-            alloc,
-            "checkpoint",
-            "Prints the checkpoint, once the right edge of the log leads to its root",
-        )?)?
-        .subcommand(prove(alloc)?)?
-        .subcommand(consistency(alloc)?)?
-        .subcommand(verify(alloc))?
-        .subcommand(over_folder(
-            alloc,
-            "audit",
-            "Reads every entry, makes each tile again, and says the first that differs",
-        )?)
+        .subcommand_required(true);
+    for usage in &COMMANDS {
+        command = command.subcommand(subcommand(alloc, usage)?)?;
+    }
+    Ok(command)
 }
 
-fn init<'a>(alloc: Global) -> Result<Command<'a>, AllocError> {
-    over_folder(alloc, "init", "Makes a log of no entries")?.arg(word(
-        alloc,
-        "origin",
-        "ORIGIN",
-        "The log's name in its checkpoints, as example.com/log",
-    ))
+fn subcommand<'a>(alloc: Global, usage: &Usage) -> Result<Command<'a>, AllocError> {
+    let mut command = about(alloc, usage);
+    for word in usage.words {
+        command = command.arg(argument(alloc, word))?;
+    }
+    Ok(command)
 }
 
-fn append<'a>(alloc: Global) -> Result<Command<'a>, AllocError> {
-    Ok(over_folder(alloc, "append", "Adds entries")?.after_help(APPEND_AFTER))
+fn about<'a>(alloc: Global, usage: &Usage) -> Command<'a> {
+    let command = Command::new(alloc, usage.name).about(usage.about);
+    match usage.after {
+        Some(after) => command.after_help(after),
+        None => command,
+    }
 }
 
-fn prove<'a>(alloc: Global) -> Result<Command<'a>, AllocError> {
-    over_folder(
-        alloc,
-        "prove",
-        "Prints an entry's inclusion path, a line of hexadecimal digits for each digest",
-    )?
-    .arg(number(alloc, "index", "INDEX", "The entry's index, from 0").required(true))?
-    .arg(number(
-        alloc,
-        "length",
-        "LENGTH",
-        "The log's length, if not the checkpoint's",
-    ))
-}
-
-fn consistency<'a>(alloc: Global) -> Result<Command<'a>, AllocError> {
-    over_folder(
-        alloc,
-        "consistency",
-        "Prints the consistency path from an old length, a line of hexadecimal digits for each digest",
-    )?
-    .arg(number(alloc, "old", "OLD", "The old length, from 1").required(true))?
-    .arg(number(
-        alloc,
-        "new",
-        "NEW",
-        "The new length, if not the checkpoint's",
-    ))
-}
-
-fn verify<'a>(alloc: Global) -> Command<'a> {
-    Command::new(alloc, "verify")
-        .about("Says whether the path on standard input shows the claim above it")
-        .after_help(VERIFY_AFTER)
-}
-
-// A command on a log's folder.
-fn over_folder<'a>(
-    alloc: Global,
-    name: &'a str,
-    about: &'a str,
-) -> Result<Command<'a>, AllocError> {
-    Command::new(alloc, name)
-        .about(about)
-        .arg(word(alloc, "folder", "FOLDER", "The log's folder"))
-}
-
-fn word<'a>(alloc: Global, name: &'a str, value: &'a str, help: &'a str) -> Arg<'a> {
-    Arg::new(alloc, name)
-        .value_name(value)
-        .help(help)
-        .required(true)
-}
-
-fn number<'a>(alloc: Global, name: &'a str, value: &'a str, help: &'a str) -> Arg<'a> {
-    Arg::new(alloc, name)
-        .value_name(value)
-        .help(help)
-        .value_parser(value_parser!(usize))
+fn argument<'a>(alloc: Global, word: &Word) -> Arg<'a> {
+    let (kind, name, value, help) = *word;
+    let argument = Arg::new(alloc, name).value_name(value).help(help);
+    match kind {
+        Kind::Text => argument.required(true),
+        Kind::Number => argument.required(true).value_parser(value_parser!(usize)),
+        Kind::OptionalNumber => argument.value_parser(value_parser!(usize)),
+    }
 }
