@@ -1,6 +1,5 @@
 //! Messages of bundles, written and read.
 
-use crate::rows::Piece::{Count, Number, Text};
 use crate::rows::print;
 use crate::times::{Call, time};
 use anyhow::Result;
@@ -57,71 +56,61 @@ impl Call for MapReads<'_> {
 
 /// Measures the messages of a log's bundle and of a map's.
 pub fn measure(rt: &HostRuntime) -> Result<()> {
+    measure_log(rt, &log_bundle(rt.alloc())?)?;
+    measure_map(rt, &map_bundle(rt.alloc())?)
+}
+
+fn measure_log(rt: &HostRuntime, bundle: &LogProofBundle) -> Result<()> {
     let alloc = rt.alloc();
-    let bundle = &log_bundle(alloc)?;
     let bytes = log_bytes(alloc, bundle)?;
     let bytes = bytes.as_slice();
-    print_writes(
-        rt,
-        "log bundle of 64 hashes",
-        &LogWrites { alloc, bundle },
-        bytes.len(),
-    )?;
-    print_reads(rt, "log bundle of 64 hashes", &LogReads { alloc, bytes })?;
-    measure_maps(rt, alloc)
+    let text = "log bundle of 64 hashes, # bytes: encode # ns";
+    print_writes(rt, text, &LogWrites { alloc, bundle }, bytes.len())?;
+    let text = "log bundle of 64 hashes: decode # ns";
+    print_reads(rt, text, &LogReads { alloc, bytes })
 }
 
-fn measure_maps(rt: &HostRuntime, alloc: Global) -> Result<()> {
-    let bundle = &map_bundle(alloc)?;
+fn measure_map(rt: &HostRuntime, bundle: &MapProofBundle) -> Result<()> {
+    let alloc = rt.alloc();
     let bytes = map_bytes(alloc, bundle)?;
     let bytes = bytes.as_slice();
-    print_writes(
-        rt,
-        "map bundle of 256 peers",
-        &MapWrites { alloc, bundle },
-        bytes.len(),
-    )?;
-    print_reads(rt, "map bundle of 256 peers", &MapReads { alloc, bytes })
+    let text = "map bundle of 256 peers, # bytes: encode # ns";
+    print_writes(rt, text, &MapWrites { alloc, bundle }, bytes.len())?;
+    let text = "map bundle of 256 peers: decode # ns";
+    print_reads(rt, text, &MapReads { alloc, bytes })
 }
 
-fn print_writes<C: Call>(rt: &HostRuntime, what: &str, calls: &C, bytes: usize) -> Result<()> {
+fn print_writes<C: Call>(rt: &HostRuntime, text: &str, calls: &C, bytes: usize) -> Result<()> {
     let taken = time(rt, calls, 1_000)?;
-    let row = [
-        Text(what),
-        Text(", "),
-        Count(bytes),
-        Text(" bytes: encode "),
-        Number(taken.each(taken.good)),
-        Text(" ns"),
-    ];
-    print(rt, &row)
+    print(rt, text, &[bytes as u128, taken.each(taken.good)])
 }
 
-fn print_reads<C: Call>(rt: &HostRuntime, what: &str, calls: &C) -> Result<()> {
+fn print_reads<C: Call>(rt: &HostRuntime, text: &str, calls: &C) -> Result<()> {
     let taken = time(rt, calls, 1_000)?;
-    let row = [
-        Text(what),
-        Text(": decode "),
-        Number(taken.each(taken.good)),
-        Text(" ns"),
-    ];
-    print(rt, &row)
+    print(rt, text, &[taken.each(taken.good)])
 }
 
 fn log_bundle(alloc: Global) -> Result<LogProofBundle> {
-    let mut hashes = Vec::new(alloc);
-    for index in 0..64u32 {
-        hashes.push(HashEntry {
-            index,
-            hash: digest(alloc)?,
-        })?;
-    }
+    let hashes = hash_entries(alloc)?;
     Ok(LogProofBundle {
         log_length: 100_000,
         consistent_lengths: Vec::new(alloc),
         included_indices: Vec::new(alloc),
         hashes,
     })
+}
+
+fn hash_entries(alloc: Global) -> Result<Vec<HashEntry>> {
+    let mut entries = Vec::new(alloc);
+    for index in 0..64u32 {
+        entries.push(hash_entry(alloc, index)?)?;
+    }
+    Ok(entries)
+}
+
+fn hash_entry(alloc: Global, index: u32) -> Result<HashEntry> {
+    let hash = digest(alloc)?;
+    Ok(HashEntry { index, hash })
 }
 
 fn digest(alloc: Global) -> Result<Vec<u8>> {
@@ -133,21 +122,29 @@ fn log_bytes(alloc: Global, bundle: &LogProofBundle) -> Result<Vec<u8>> {
 }
 
 fn map_bundle(alloc: Global) -> Result<MapProofBundle> {
-    let hashes = peers(alloc)?;
+    let proofs = proofs(alloc)?;
     Ok(MapProofBundle {
-        proofs: vec![in alloc; MapInclusionProof { hashes }]?,
+        proofs,
         absences: Vec::new(alloc),
     })
+}
+
+fn proofs(alloc: Global) -> Result<Vec<MapInclusionProof>> {
+    let hashes = peers(alloc)?;
+    Ok(vec![in alloc; MapInclusionProof { hashes }]?)
 }
 
 fn peers(alloc: Global) -> Result<Vec<OptionalHash>> {
     let mut peers = Vec::new(alloc);
     for _ in 0..256u32 {
-        peers.push(OptionalHash {
-            hash: Some(digest(alloc)?),
-        })?;
+        peers.push(peer(alloc)?)?;
     }
     Ok(peers)
+}
+
+fn peer(alloc: Global) -> Result<OptionalHash> {
+    let hash = Some(digest(alloc)?);
+    Ok(OptionalHash { hash })
 }
 
 fn map_bytes(alloc: Global, bundle: &MapProofBundle) -> Result<Vec<u8>> {

@@ -2,7 +2,6 @@
 
 use crate::logs::{Consistencies, Inclusions, Log, log_of};
 use crate::maps::{Keys, Proofs, ProofsInUse, map_of, node_bytes};
-use crate::rows::Piece::{Count, Number, Text};
 use crate::rows::print;
 use crate::times::{Call, each, now, rounds, share, time};
 use crate::{Entry, entries};
@@ -28,17 +27,11 @@ fn measure_log(rt: &HostRuntime, list: &[Entry]) -> Result<()> {
     let push = each(rt, start, rounds(list.len()))?;
     let inclusion = inclusion_time(rt, &log, list)?;
     let consistency = consistency_time(rt, &log)?;
-    let row = [
-        Count(list.len()),
-        Text(" entries: push "),
-        Number(push),
-        Text(" ns, inclusion evaluation "),
-        Number(inclusion),
-        Text(" ns, consistency evaluation "),
-        Number(consistency),
-        Text(" ns"),
-    ];
-    print(rt, &row)
+    print(
+        rt,
+        "# entries: push # ns, inclusion evaluation # ns, consistency evaluation # ns",
+        &[list.len() as u128, push, inclusion, consistency],
+    )
 }
 
 fn inclusion_time(rt: &HostRuntime, log: &Log, entries: &[Entry]) -> Result<u128> {
@@ -64,19 +57,17 @@ fn measure_map(rt: &HostRuntime, keys: &[Entry]) -> Result<()> {
     let insert = each(rt, start, rounds(keys.len()))?;
     let prove = prove_time(rt, &map, keys)?;
     let both = evaluate_time(rt, &map, keys)?;
-    let row = [
-        Count(keys.len()),
-        Text(" keys: insert "),
-        Number(insert),
-        Text(" ns, prove "),
-        Number(prove),
-        Text(" ns, prove and evaluate "),
-        Number(both),
-        Text(" ns, "),
-        Number(bytes_a_key(&map, rounds(keys.len()))),
-        Text(" bytes a key"),
-    ];
-    print(rt, &row)
+    print(
+        rt,
+        "# keys: insert # ns, prove # ns, prove and evaluate # ns, # bytes a key",
+        &[
+            keys.len() as u128,
+            insert,
+            prove,
+            both,
+            bytes_a_key(&map, rounds(keys.len())),
+        ],
+    )
 }
 
 fn bytes_a_key(map: &Keys, keys: u128) -> u128 {

@@ -1,6 +1,5 @@
 //! Logs: pushes, evaluations, and images.
 
-use crate::rows::Piece::{Count, Number, Text};
 use crate::rows::print;
 use crate::times::{Call, each, now, time};
 use crate::{ENTRIES, Entry, entries};
@@ -69,7 +68,8 @@ pub fn measure(rt: &HostRuntime, branch: u128) -> Result<()> {
     let list = list.as_slice();
     let log = pushed(rt, list)?;
     push_to_stack(rt, list)?;
-    evaluate(rt, &log, list)?;
+    evaluate_inclusions(rt, &log, list)?;
+    evaluate_consistencies(rt, &log)?;
     images(rt, branch)
 }
 
@@ -77,7 +77,7 @@ fn pushed(rt: &HostRuntime, list: &[Entry]) -> Result<Log> {
     let start = now(rt)?;
     let log = log_of(rt, list)?;
     let time = each(rt, start, 100_000)?;
-    print(rt, &[Text("VecLog push: "), Number(time), Text(" ns")])?;
+    print(rt, "VecLog push: # ns", &[time])?;
     Ok(log)
 }
 
@@ -85,7 +85,7 @@ fn push_to_stack(rt: &HostRuntime, list: &[Entry]) -> Result<()> {
     let start = now(rt)?;
     let _stack = stack_of(rt, list)?;
     let time = each(rt, start, 100_000)?;
-    print(rt, &[Text("StackLog push: "), Number(time), Text(" ns")])
+    print(rt, "StackLog push: # ns", &[time])
 }
 
 fn stack_of(rt: &HostRuntime, list: &[Entry]) -> Result<StackLog<Sha256, Entry>> {
@@ -94,35 +94,28 @@ fn stack_of(rt: &HostRuntime, list: &[Entry]) -> Result<StackLog<Sha256, Entry>>
     Ok(stack)
 }
 
-fn evaluate(rt: &HostRuntime, log: &Log, entries: &[Entry]) -> Result<()> {
-    let every = 1;
-    let taken = time(
+fn evaluate_inclusions(rt: &HostRuntime, log: &Log, entries: &[Entry]) -> Result<()> {
+    let calls = Inclusions {
+        log,
+        entries,
+        every: 1,
+    };
+    let taken = time(rt, &calls, 2_000)?;
+    print(
         rt,
-        &Inclusions {
-            log,
-            entries,
-            every,
-        },
-        2_000,
-    )?;
-    let row = [
-        Text("inclusion evaluation at 100,000: "),
-        Number(taken.each(2_000)),
-        Text(" ns ("),
-        Number(taken.good),
-        Text(" of 2000)"),
-    ];
-    print(rt, &row)?;
+        "inclusion evaluation at 100,000: # ns (# of 2000)",
+        &[taken.each(2_000), taken.good],
+    )
+}
+
+fn evaluate_consistencies(rt: &HostRuntime, log: &Log) -> Result<()> {
     let (first, every) = (1, 99);
     let taken = time(rt, &Consistencies { log, first, every }, 1_000)?;
-    let row = [
-        Text("consistency evaluation at 100,000: "),
-        Number(taken.each(1_000)),
-        Text(" ns ("),
-        Number(taken.good),
-        Text(" of 1000)"),
-    ];
-    print(rt, &row)
+    print(
+        rt,
+        "consistency evaluation at 100,000: # ns (# of 1000)",
+        &[taken.each(1_000), taken.good],
+    )
 }
 
 fn images(rt: &HostRuntime, branch: u128) -> Result<()> {
@@ -136,14 +129,11 @@ fn write_image(rt: &HostRuntime, log: &Log) -> Result<Vec<u8>> {
     let start = now(rt)?;
     let bytes = log.to_protobuf()?;
     let time = each(rt, start, 1)?;
-    let row = [
-        Text("VecLog of 10,000 entries, "),
-        Count(bytes.len()),
-        Text(" bytes: to_protobuf "),
-        Number(time),
-        Text(" ns"),
-    ];
-    print(rt, &row)?;
+    print(
+        rt,
+        "VecLog of 10,000 entries, # bytes: to_protobuf # ns",
+        &[bytes.len() as u128, time],
+    )?;
     Ok(bytes)
 }
 
@@ -151,16 +141,11 @@ fn read_image(rt: &HostRuntime, bytes: &[u8], branch: u128) -> Result<()> {
     let start = now(rt)?;
     let log = read(rt, bytes)?;
     let time = each(rt, start, 1)?;
-    let row = [
-        Text("VecLog of "),
-        Count(log.length()),
-        Text(" entries: from_protobuf "),
-        Number(time),
-        Text(" ns, of which its 9,999 branches take "),
-        Number(branch.saturating_mul(9_999)),
-        Text(" ns"),
-    ];
-    print(rt, &row)
+    print(
+        rt,
+        "VecLog of # entries: from_protobuf # ns, of which its 9,999 branches take # ns",
+        &[log.length() as u128, time, branch.saturating_mul(9_999)],
+    )
 }
 
 fn read(rt: &HostRuntime, bytes: &[u8]) -> Result<Log> {

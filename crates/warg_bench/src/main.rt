@@ -16,7 +16,6 @@ mod updates;
 mod verdicts;
 mod witnesses;
 
-use crate::rows::Piece::{Number, Text};
 use crate::rows::print;
 use crate::times::{each, now};
 use anyhow::Result;
@@ -38,10 +37,7 @@ fn main(rt: HostRuntime) -> Result<()> {
 // Measures each call, one part after the other.
 fn measure(rt: &HostRuntime) -> Result<()> {
     let branch = branch_time(rt)?;
-    print(
-        rt,
-        &[Text("one hash of a branch: "), Number(branch), Text(" ns")],
-    )?;
+    print(rt, "one hash of a branch: # ns", &[branch])?;
     counts::measure(rt)?;
     logs::measure(rt, branch)?;
     paths::measure(rt, branch)?;
@@ -58,7 +54,7 @@ fn branch_time(rt: &HostRuntime) -> Result<u128> {
     let start = now(rt)?;
     let last = last_byte_of_branches();
     let time = each(rt, start, 200_000)?;
-    print(rt, &[Text("last byte "), Number(last)])?;
+    print(rt, "last byte #", &[last])?;
     Ok(time)
 }
 
@@ -85,8 +81,6 @@ fn entries(rt: &HostRuntime, count: usize) -> Result<Vec<Entry>> {
 
 fn entry(number: usize) -> Entry {
     let mut entry = [7u8; 32];
-    for (place, byte) in entry.iter_mut().zip(number.to_le_bytes()) {
-        *place = byte;
-    }
+    entry[..8].copy_from_slice(&number.to_le_bytes());
     entry
 }

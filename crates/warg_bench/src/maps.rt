@@ -1,6 +1,5 @@
 //! Maps: insertions, proofs, evaluations, and verdicts on a key.
 
-use crate::rows::Piece::{Count, Number, Text};
 use crate::rows::print;
 use crate::times::{Call, each, now, rounds, share, time};
 use crate::verdicts::{KeyChecks, KeyReads};
@@ -125,14 +124,11 @@ fn grown(rt: &HostRuntime, keys: &[Entry]) -> Result<Keys> {
     let start = now(rt)?;
     let map = map_of(rt, keys)?;
     let time = each(rt, start, rounds(keys.len()))?;
-    let row = [
-        Text("map insert up to "),
-        Count(keys.len()),
-        Text(" keys: "),
-        Number(time),
-        Text(" ns"),
-    ];
-    print(rt, &row)?;
+    print(
+        rt,
+        "map insert up to # keys: # ns",
+        &[keys.len() as u128, time],
+    )?;
     Ok(map)
 }
 
@@ -140,16 +136,11 @@ fn prove(rt: &HostRuntime, map: &Keys, keys: &[Entry]) -> Result<()> {
     let start = now(rt)?;
     let peers = peers_of_all(map, keys)?;
     let time = each(rt, start, rounds(keys.len()))?;
-    let row = [
-        Text("map prove at "),
-        Count(keys.len()),
-        Text(" keys: "),
-        Number(time),
-        Text(" ns ("),
-        Count(peers),
-        Text(" peers)"),
-    ];
-    print(rt, &row)
+    print(
+        rt,
+        "map prove at # keys: # ns (# peers)",
+        &[keys.len() as u128, time, peers as u128],
+    )
 }
 
 // How many peers the proofs of these keys have.
@@ -166,30 +157,24 @@ fn peers_of_all(map: &Keys, keys: &[Entry]) -> Result<usize> {
 fn evaluate(rt: &HostRuntime, map: &Keys, keys: &[Entry]) -> Result<()> {
     let every = 1;
     let taken = time(rt, &ProofsInUse { map, keys, every }, 1_000)?;
-    let row = [
-        Text("map prove and evaluate at "),
-        Count(keys.len()),
-        Text(" keys: "),
-        Number(taken.each(1_000)),
-        Text(" ns ("),
-        Number(taken.good),
-        Text(" good)"),
-    ];
-    print(rt, &row)
+    print(
+        rt,
+        "map prove and evaluate at # keys: # ns (# good)",
+        &[keys.len() as u128, taken.each(1_000), taken.good],
+    )
 }
 
 fn print_size(rt: &HostRuntime, map: &Keys, count: usize) -> Result<()> {
     let nodes = map.node_count();
-    let row = [
-        Text("map nodes at "),
-        Count(count),
-        Text(" keys: "),
-        Number(nodes),
-        Text(", "),
-        Number(share(node_bytes(nodes, rounds(count)), rounds(count))),
-        Text(" bytes a key"),
-    ];
-    print(rt, &row)
+    print(
+        rt,
+        "map nodes at # keys: #, # bytes a key",
+        &[
+            count as u128,
+            nodes,
+            share(node_bytes(nodes, rounds(count)), rounds(count)),
+        ],
+    )
 }
 
 /// The bytes of a map's nodes, by the sizes of their fields and two counters each: 120 for a lone key, of
@@ -234,16 +219,11 @@ fn measure_key(rt: &HostRuntime, map: &Keys, key: &Entry, count: usize) -> Resul
 
 fn evaluate_one(rt: &HostRuntime, calls: &Evaluation<'_, Sha256>, count: usize) -> Result<()> {
     let taken = time(rt, calls, 1_000)?;
-    let row = [
-        Text("map evaluate at "),
-        Count(count),
-        Text(" keys: "),
-        Number(taken.each(1_000)),
-        Text(" ns ("),
-        Number(taken.good),
-        Text(" of 1000)"),
-    ];
-    print(rt, &row)
+    print(
+        rt,
+        "map evaluate at # keys: # ns (# of 1000)",
+        &[count as u128, taken.each(1_000), taken.good],
+    )
 }
 
 /// The bundle of one proof, as bytes.
@@ -255,28 +235,18 @@ pub fn bundle_of(rt: &HostRuntime, proof: KeyProof) -> Result<Vec<u8>> {
 fn read(rt: &HostRuntime, bytes: &[u8], count: usize) -> Result<()> {
     let alloc = rt.alloc();
     let taken = time(rt, &KeyReads { alloc, bytes }, 1_000)?;
-    let row = [
-        Text("map bundle of "),
-        Count(bytes.len()),
-        Text(" bytes at "),
-        Count(count),
-        Text(" keys: decode "),
-        Number(taken.each(taken.good)),
-        Text(" ns"),
-    ];
-    print(rt, &row)
+    print(
+        rt,
+        "map bundle of # bytes at # keys: decode # ns",
+        &[bytes.len() as u128, count as u128, taken.each(taken.good)],
+    )
 }
 
 fn check(rt: &HostRuntime, calls: &KeyChecks<'_>, count: usize) -> Result<()> {
     let taken = time(rt, calls, 1_000)?;
-    let row = [
-        Text("check_key at "),
-        Count(count),
-        Text(" keys: "),
-        Number(taken.each(1_000)),
-        Text(" ns ("),
-        Number(taken.good),
-        Text(" of 1000)"),
-    ];
-    print(rt, &row)
+    print(
+        rt,
+        "check_key at # keys: # ns (# of 1000)",
+        &[count as u128, taken.each(1_000), taken.good],
+    )
 }

@@ -1,7 +1,6 @@
 //! Paths as deployed logs send them: an evaluation and the verdicts, in hashes of a branch.
 
 use crate::logs::{Log, log_of};
-use crate::rows::Piece::{Count, Number, Text};
 use crate::rows::print;
 use crate::times::{Call, share, time};
 use crate::{ENTRIES, Entry, entries};
@@ -69,7 +68,7 @@ fn of_record(rt: &HostRuntime, log: &Log, value: Entry, branch: u128) -> Result<
     let leaf = hash_leaf(&value);
     print_calls(
         rt,
-        "root_of_inclusion",
+        "root_of_inclusion of # digests at 100,000: # ns (# of 2000), # thousandths of a branch",
         &Roots { leaf, path },
         path.len(),
         branch,
@@ -79,7 +78,13 @@ fn of_record(rt: &HostRuntime, log: &Log, value: Entry, branch: u128) -> Result<
         value: &value,
         path,
     };
-    print_calls(rt, "check_record", &checks, path.len(), branch)
+    print_calls(
+        rt,
+        "check_record of # digests at 100,000: # ns (# of 2000), # thousandths of a branch",
+        &checks,
+        path.len(),
+        branch,
+    )
 }
 
 fn of_tree(rt: &HostRuntime, log: &Log, branch: u128) -> Result<()> {
@@ -92,29 +97,32 @@ fn of_tree(rt: &HostRuntime, log: &Log, branch: u128) -> Result<()> {
         new: &Checkpoint::new(new_root, ENTRIES),
         path,
     };
-    print_calls(rt, "check_tree", &checks, path.len(), branch)
+    print_calls(
+        rt,
+        "check_tree of # digests at 100,000: # ns (# of 2000), # thousandths of a branch",
+        &checks,
+        path.len(),
+        branch,
+    )
 }
 
 fn print_calls<C: Call>(
     rt: &HostRuntime,
-    what: &str,
+    text: &str,
     calls: &C,
     digests: usize,
     branch: u128,
 ) -> Result<()> {
     let taken = time(rt, calls, 2_000)?;
     let each = taken.each(2_000);
-    let row = [
-        Text(what),
-        Text(" of "),
-        Count(digests),
-        Text(" digests at 100,000: "),
-        Number(each),
-        Text(" ns ("),
-        Number(taken.good),
-        Text(" of 2000), "),
-        Number(share(each.saturating_mul(1_000), branch)),
-        Text(" thousandths of a branch"),
-    ];
-    print(rt, &row)
+    print(
+        rt,
+        text,
+        &[
+            digests as u128,
+            each,
+            taken.good,
+            share(each.saturating_mul(1_000), branch),
+        ],
+    )
 }

@@ -4,22 +4,13 @@
 
 use crate::logs::{Log, log_of};
 use crate::maps::{Keys, Proofs, map_of};
-use crate::rows::Piece::{Number, Text};
 use crate::rows::print;
-use crate::times::{Call, rounds, share, time};
+use crate::times::{Call, share, time};
 use crate::{Entry, entries};
 use anyhow::Result;
 use std::alloc::Global;
 use warg_crypto::{Hash, Sha256, hash_branch};
 use warg_map::Map;
-
-// What a row compares: hundredths of a compression for each of so many pieces of a call.
-#[derive(Clone, Copy)]
-struct Row<'a> {
-    what: &'a str,
-    pieces: usize,
-    others: &'a str,
-}
 
 // Hashes a branch.
 #[derive(Drop)]
@@ -76,25 +67,26 @@ fn pairs(alloc: Global, keys: &[Entry]) -> Result<Vec<(Entry, Entry)>> {
 
 /// Measures the calls whose figures are compared.
 pub fn measure(rt: &HostRuntime) -> Result<()> {
-    let others = "before 3.38, the Rust crate 1.96";
-    of_proofs(rt, 1_000, "Map::prove at 1,000 keys", others)?;
-    let others = "before 4.84, the Rust crate 3.92";
-    of_proofs(rt, 10_000, "Map::prove at 10,000 keys", others)?;
+    of_proofs(
+        rt,
+        1_000,
+        "Map::prove at 1,000 keys: #.## compressions (before 3.38, the Rust crate 1.96)",
+    )?;
+    of_proofs(
+        rt,
+        10_000,
+        "Map::prove at 10,000 keys: #.## compressions (before 4.84, the Rust crate 3.92)",
+    )?;
     of_image(rt)?;
     of_extensions(rt)
 }
 
-fn of_proofs(rt: &HostRuntime, count: usize, what: &str, others: &str) -> Result<()> {
+fn of_proofs(rt: &HostRuntime, count: usize, text: &str) -> Result<()> {
     let list = entries(rt, count)?;
     let keys = list.as_slice();
     let map: &Keys = &map_of(rt, keys)?;
     let every = 1;
-    let row = Row {
-        what,
-        pieces: count,
-        others,
-    };
-    compare(rt, &Proofs { map, keys, every }, count, row)
+    compare(rt, &Proofs { map, keys, every }, count, count as u128, text)
 }
 
 fn of_image(rt: &HostRuntime) -> Result<()> {
@@ -105,12 +97,8 @@ fn of_image(rt: &HostRuntime) -> Result<()> {
         alloc: rt.alloc(),
         bytes: bytes.as_slice(),
     };
-    let row = Row {
-        what: "VecLog::from_protobuf, an entry",
-        pieces: 10_000,
-        others: "its digests 2.00, before 2.38",
-    };
-    compare(rt, &calls, 1, row)
+    let text = "VecLog::from_protobuf, an entry: #.## compressions (its digests 2.00, before 2.38)";
+    compare(rt, &calls, 1, 10_000, text)
 }
 
 fn of_extensions(rt: &HostRuntime) -> Result<()> {
@@ -124,16 +112,20 @@ fn of_extensions(rt: &HostRuntime) -> Result<()> {
         first,
         second,
     };
-    let row = Row {
-        what: "two Map::extend of 5,000 pairs, a pair",
-        pieces: 10_000,
-        others: "before 503.1, the Rust crate's insert 860",
-    };
-    compare(rt, &calls, 1, row)
+    let text =
+        "two Map::extend of 5,000 pairs, a pair: #.## compressions (before 503.1, the Rust crate's insert 860)";
+    compare(rt, &calls, 1, 10_000, text)
 }
 
-// Times so many calls and as many branches in turns, and prints a row.
-fn compare<C: Call>(rt: &HostRuntime, calls: &C, count: usize, row: Row<'_>) -> Result<()> {
+// Times so many calls and as many branches in turns, and prints hundredths of a compression for each of the pieces of the
+// calls.
+fn compare<C: Call>(
+    rt: &HostRuntime,
+    calls: &C,
+    count: usize,
+    pieces: u128,
+    text: &str,
+) -> Result<()> {
     let branches = Branches {
         hash: Hash::of(&()),
     };
@@ -141,26 +133,16 @@ fn compare<C: Call>(rt: &HostRuntime, calls: &C, count: usize, row: Row<'_>) -> 
     let mut call = u128::MAX;
     for _ in 0..7u32 {
         branch = branch.min(time(rt, &branches, 2_000)?.each(2));
-        call = call.min(
-            time(rt, calls, count)?
-                .each(rounds(row.pieces))
-                .saturating_mul(1_000),
-        );
+        let taken = time(rt, calls, count)?;
+        call = call.min(taken.each(pieces).saturating_mul(1_000));
     }
-    print_row(rt, row, share(call.saturating_mul(200), branch))
+    print_hundredths(rt, text, share(call.saturating_mul(200), branch))
 }
 
-fn print_row(rt: &HostRuntime, row: Row<'_>, hundredths: u128) -> Result<()> {
-    let pieces = [
-        Text(row.what),
-        Text(": "),
-        Number(hundredths / 100),
-        Text("."),
-        Number(hundredths / 10 % 10),
-        Number(hundredths % 10),
-        Text(" compressions ("),
-        Text(row.others),
-        Text(")"),
-    ];
-    print(rt, &pieces)
+fn print_hundredths(rt: &HostRuntime, text: &str, hundredths: u128) -> Result<()> {
+    print(
+        rt,
+        text,
+        &[hundredths / 100, hundredths / 10 % 10, hundredths % 10],
+    )
 }

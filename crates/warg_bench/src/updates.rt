@@ -1,7 +1,6 @@
 //! A step that an auditor checks: one insertion into a map, by the roots alone.
 
 use crate::maps::{Keys, bundle_of, map_of};
-use crate::rows::Piece::{Count, Number, Text};
 use crate::rows::print;
 use crate::times::{Call, Taken, share, time};
 use crate::verdicts::KeyReads;
@@ -45,24 +44,42 @@ pub fn measure(rt: &HostRuntime, branch: u128, count: usize) -> Result<()> {
     let list = entries(rt, count)?;
     let map: Keys = map_of(rt, list.as_slice())?;
     let (key, new_value) = (entry(0), entry(count));
+    let (new_root, bytes) = inserted(rt, &map, key, new_value)?;
+    let calls = UpdateChecks {
+        alloc: rt.alloc(),
+        bytes: bytes.as_slice(),
+        key: &key,
+        new_value: &new_value,
+        old_root: map.root(),
+        new_root: &new_root,
+    };
+    measure_step(rt, &calls, branch, count)
+}
+
+// The root of the map that a pair is inserted into, and the bundle of the insertion's proof.
+fn inserted(
+    rt: &HostRuntime,
+    map: &Keys,
+    key: Entry,
+    value: Entry,
+) -> Result<(Hash<Sha256>, Vec<u8>)> {
     let Insertion {
         map: new_map,
         proof,
         is_new: _,
-    } = map.insert_with_proof(key, new_value)?;
-    let bytes = bundle_of(rt, proof)?;
-    let bytes = bytes.as_slice();
-    let alloc = rt.alloc();
+    } = map.insert_with_proof(key, value)?;
+    Ok((new_map.root().copied(), bundle_of(rt, proof)?))
+}
+
+fn measure_step(
+    rt: &HostRuntime,
+    calls: &UpdateChecks<'_>,
+    branch: u128,
+    count: usize,
+) -> Result<()> {
+    let (alloc, bytes) = (calls.alloc, calls.bytes);
     let reading = time(rt, &KeyReads { alloc, bytes }, 1_000)?.each(1_000);
-    let calls = UpdateChecks {
-        alloc,
-        bytes,
-        key: &key,
-        new_value: &new_value,
-        old_root: map.root(),
-        new_root: new_map.root(),
-    };
-    let taken = time(rt, &calls, 1_000)?;
+    let taken = time(rt, calls, 1_000)?;
     let least = branch.saturating_mul(DIGESTS).saturating_add(reading);
     print_step(rt, bytes.len(), count, &taken, least)
 }
@@ -75,18 +92,15 @@ fn print_step(
     taken: &Taken,
     least: u128,
 ) -> Result<()> {
-    let row = [
-        Text("check_update of "),
-        Count(bytes),
-        Text(" bytes at "),
-        Count(count),
-        Text(" keys: "),
-        Number(taken.each(1_000)),
-        Text(" ns ("),
-        Number(taken.good),
-        Text(" of 1000), "),
-        Number(share(taken.each(1_000).saturating_mul(1_000), least)),
-        Text(" thousandths of 514 branches and its decoding"),
-    ];
-    print(rt, &row)
+    print(
+        rt,
+        "check_update of # bytes at # keys: # ns (# of 1000), # thousandths of 514 branches and its decoding",
+        &[
+            bytes as u128,
+            count as u128,
+            taken.each(1_000),
+            taken.good,
+            share(taken.each(1_000).saturating_mul(1_000), least),
+        ],
+    )
 }

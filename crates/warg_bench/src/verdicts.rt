@@ -2,7 +2,6 @@
 
 use crate::logs::{Log, log_of};
 use crate::maps::{Keys, map_of};
-use crate::rows::Piece::{Count, Number, Text};
 use crate::rows::print;
 use crate::times::{Call, each, now, time};
 use crate::{ENTRIES, Entry, entries};
@@ -102,7 +101,12 @@ fn check_entry(rt: &HostRuntime, log: &Log, value: Entry) -> Result<()> {
         value,
         root: log.checkpoint().root(),
     };
-    print_checks(rt, "check_inclusion of ", &calls, bytes.len())
+    print_checks(
+        rt,
+        "check_inclusion of # bytes at 100,000: # ns (# of 1000)",
+        &calls,
+        bytes.len(),
+    )
 }
 
 // The bundle of the proof of the log's first entry.
@@ -122,7 +126,12 @@ fn check_growth(rt: &HostRuntime, log: &Log) -> Result<()> {
         old,
         new,
     };
-    print_checks(rt, "check_consistency of ", &calls, bytes.len())
+    print_checks(
+        rt,
+        "check_consistency of # bytes at 100,000: # ns (# of 1000)",
+        &calls,
+        bytes.len(),
+    )
 }
 
 fn roots_of(
@@ -142,18 +151,9 @@ fn consistency_of(
     Ok(bundle.encode(rt.alloc())?)
 }
 
-fn print_checks<C: Call>(rt: &HostRuntime, what: &str, calls: &C, bytes: usize) -> Result<()> {
+fn print_checks<C: Call>(rt: &HostRuntime, text: &str, calls: &C, bytes: usize) -> Result<()> {
     let taken = time(rt, calls, 1_000)?;
-    let row = [
-        Text(what),
-        Count(bytes),
-        Text(" bytes at 100,000: "),
-        Number(taken.each(1_000)),
-        Text(" ns ("),
-        Number(taken.good),
-        Text(" of 1000)"),
-    ];
-    print(rt, &row)
+    print(rt, text, &[bytes as u128, taken.each(1_000), taken.good])
 }
 
 // The program on lines that insert, beside the insertions alone.
@@ -164,14 +164,11 @@ fn measure_lines(rt: &HostRuntime) -> Result<()> {
     let start = now(rt)?;
     let map: Keys = map_of(rt, list.as_slice())?;
     let time = each(rt, start, 1)?;
-    let row = [
-        Text("10,000 insertions: "),
-        Number(time),
-        Text(" ns ("),
-        Count(map.len()),
-        Text(" keys)"),
-    ];
-    print(rt, &row)
+    print(
+        rt,
+        "10,000 insertions: # ns (# keys)",
+        &[time, map.len() as u128],
+    )
 }
 
 fn lines_of(rt: &HostRuntime, keys: &[Entry]) -> Result<Vec<u8>> {
@@ -197,16 +194,14 @@ fn push_words(lines: &mut Vec<u8>, digits: &[u8]) -> Result<()> {
 
 fn run_on(rt: &HostRuntime, lines: &[u8]) -> Result<()> {
     let mut input = lines;
-    let mut text = Vec::new(rt.alloc());
+    let mut written = Vec::new(rt.alloc());
     let start = now(rt)?;
-    let good = matches!(run(rt.alloc(), &mut input, &mut text), Ok(true));
+    let good = matches!(run(rt.alloc(), &mut input, &mut written), Ok(true));
     let time = each(rt, start, 1)?;
-    let row = [
-        Text("10,000 insert lines and map, end to end: "),
-        Number(time),
-        Text(if good { " ns (true, " } else { " ns (false, " }),
-        Count(text.len()),
-        Text(" bytes written)"),
-    ];
-    print(rt, &row)
+    let text = if good {
+        "10,000 insert lines and map, end to end: # ns (true, # bytes written)"
+    } else {
+        "10,000 insert lines and map, end to end: # ns (false, # bytes written)"
+    };
+    print(rt, text, &[time, written.len() as u128])
 }

@@ -2,7 +2,6 @@
 
 use crate::logs::{Log, log_of};
 use crate::maps::{Keys, map_of, proof_of};
-use crate::rows::Piece::{Count, Number, Text};
 use crate::rows::print;
 use crate::times::{Call, each, now, share};
 use crate::{Entry, entries};
@@ -50,25 +49,11 @@ fn over_log(rt: &HostRuntime) -> Result<()> {
     let start = now(rt)?;
     let log = log_of(rt, entries)?;
     let time = each(rt, start, 1)?;
-    print(
-        rt,
-        &[
-            Text("the tree over 10,000 entries: "),
-            Number(time),
-            Text(" ns"),
-        ],
-    )?;
+    print(rt, "the tree over 10,000 entries: # ns", &[time])?;
     let start = now(rt)?;
     judge_entry(rt, &log, entries)?;
     let time = each(rt, start, 1)?;
-    print(
-        rt,
-        &[
-            Text("witness_value at 10,000 entries: "),
-            Number(time),
-            Text(" ns"),
-        ],
-    )
+    print(rt, "witness_value at 10,000 entries: # ns", &[time])
 }
 
 fn judge_entry(rt: &HostRuntime, log: &Log, entries: &[Entry]) -> Result<()> {
@@ -101,7 +86,13 @@ fn over_key(
     let start = now(rt)?;
     let _ = witness_key(rt.alloc(), &proof, key, &[8; 32], insertions)?;
     let time = each(rt, start, 1)?;
-    print_hashes(rt, "witness_key over ", insertions.len(), time, branch)
+    print_hashes(
+        rt,
+        "witness_key over # insertions: # ns, # hashes",
+        insertions.len(),
+        time,
+        branch,
+    )
 }
 
 fn over_absence(
@@ -117,24 +108,21 @@ fn over_absence(
     let start = now(rt)?;
     let _ = witness_absent(rt.alloc(), &proof, &other, insertions)?;
     let time = each(rt, start, 1)?;
-    print_hashes(rt, "witness_absent over ", insertions.len(), time, branch)
+    print_hashes(
+        rt,
+        "witness_absent over # insertions: # ns, # hashes",
+        insertions.len(),
+        time,
+        branch,
+    )
 }
 
 fn print_hashes(
     rt: &HostRuntime,
-    what: &str,
+    text: &str,
     insertions: usize,
     time: u128,
     branch: u128,
 ) -> Result<()> {
-    let row = [
-        Text(what),
-        Count(insertions),
-        Text(" insertions: "),
-        Number(time),
-        Text(" ns, "),
-        Number(share(time, branch)),
-        Text(" hashes"),
-    ];
-    print(rt, &row)
+    print(rt, text, &[insertions as u128, time, share(time, branch)])
 }
