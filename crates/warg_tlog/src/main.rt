@@ -64,21 +64,42 @@ fn answer(rt: &HostRuntime) -> Result<ExitCode, Refusal> {
 // Does what a command on a folder asks for.
 fn over_folder(rt: &HostRuntime, name: &str, asked: &ArgMatches<'_>) -> Result<ExitCode, Refusal> {
     let folder = Folder::new(rt.alloc(), text(asked, "folder"))?;
-    match name {
-        "init" => init(rt, &folder, text(asked, "origin"))?,
-        "append" => append(rt, &folder)?,
-        "checkpoint" => print_checkpoint(rt, &folder)?,
-        "prove" => {
-            let length = optional_number(asked, "length");
-            print_path(rt, &prove(rt, &folder, number(asked, "index"), length)?)?;
-        }
-        "consistency" => {
-            let new = optional_number(asked, "new");
-            print_path(rt, &consistency(rt, &folder, number(asked, "old"), new)?)?;
-        }
-        _ => print_audit(rt, &folder)?,
-    }
+    run(rt, name, &folder, asked)?;
     Ok(ExitCode::SUCCESS)
+}
+
+fn run(
+    rt: &HostRuntime,
+    name: &str,
+    folder: &Folder,
+    asked: &ArgMatches<'_>,
+) -> Result<(), Refusal> {
+    match name {
+        "init" => init(rt, folder, text(asked, "origin")),
+        "append" => append(rt, folder),
+        "checkpoint" => print_checkpoint(rt, folder),
+        "prove" => print_inclusion(rt, folder, asked),
+        "consistency" => print_consistency(rt, folder, asked),
+        _ => print_audit(rt, folder),
+    }
+}
+
+fn print_inclusion(
+    rt: &HostRuntime,
+    folder: &Folder,
+    asked: &ArgMatches<'_>,
+) -> Result<(), Refusal> {
+    let length = optional_number(asked, "length");
+    print_path(rt, &prove(rt, folder, number(asked, "index"), length)?)
+}
+
+fn print_consistency(
+    rt: &HostRuntime,
+    folder: &Folder,
+    asked: &ArgMatches<'_>,
+) -> Result<(), Refusal> {
+    let new = optional_number(asked, "new");
+    print_path(rt, &consistency(rt, folder, number(asked, "old"), new)?)
 }
 
 fn print_verdict(rt: &HostRuntime, verdict: bool) -> Result<ExitCode, Refusal> {

@@ -28,19 +28,37 @@ pub fn verify(rt: &HostRuntime) -> Result<bool, Refusal> {
     next(alloc, &mut lines)?;
     match claim_in(lines.line()) {
         Some(Claim::Inclusion { index, checkpoint }) => {
-            next(alloc, &mut lines)?;
-            let entry = lines.entry()?.clone()?;
-            let path = path_in(alloc, &mut lines)?;
-            Ok(check_record(&checkpoint, index, &entry, path.as_slice()))
+            is_record(alloc, &mut lines, &checkpoint, index)
         }
-        Some(Claim::Consistency { old, new }) => {
-            let path = path_in(alloc, &mut lines)?;
-            Ok(check_tree(&old, &new, path.as_slice()))
-        }
+        Some(Claim::Consistency { old, new }) => is_tree(alloc, &mut lines, &old, &new),
         None => Err(lines.refused(
             "isn't a claim: write inclusion INDEX LENGTH ROOT, or consistency OLD OLD_ROOT NEW NEW_ROOT",
         )),
     }
+}
+
+// Whether the entry of the next line has this index, by the path behind it.
+fn is_record(
+    alloc: Global,
+    lines: &mut Lines,
+    checkpoint: &Checkpoint<Sha256>,
+    index: usize,
+) -> Result<bool, Refusal> {
+    next(alloc, lines)?;
+    let entry = lines.entry()?.clone()?;
+    let path = path_in(alloc, lines)?;
+    Ok(check_record(checkpoint, index, &entry, path.as_slice()))
+}
+
+// Whether the old log is a beginning of the new one, by the path of the lines that are left.
+fn is_tree(
+    alloc: Global,
+    lines: &mut Lines,
+    old: &Checkpoint<Sha256>,
+    new: &Checkpoint<Sha256>,
+) -> Result<bool, Refusal> {
+    let path = path_in(alloc, lines)?;
+    Ok(check_tree(old, new, path.as_slice()))
 }
 
 // Goes on to a line that has to be there.
@@ -73,24 +91,25 @@ fn path_in(alloc: Global, lines: &mut Lines) -> Result<Vec<Hash<Sha256>>, Refusa
 fn claim_in(line: &[u8]) -> Option<Claim> {
     let (kind, words) = text_in(line)?.split_once(' ')?;
     match kind {
-        "inclusion" => {
-            let (index, words) = words.split_once(' ')?;
-            let checkpoint = checkpoint_in(words)?;
-            Some(Claim::Inclusion {
-                index: index.parse().ok()?,
-                checkpoint,
-            })
-        }
-        "consistency" => {
-            let (old_length, words) = words.split_once(' ')?;
-            let (old_root, new) = words.split_once(' ')?;
-            Some(Claim::Consistency {
-                old: Checkpoint::new(root_in(old_root)?, old_length.parse().ok()?),
-                new: checkpoint_in(new)?,
-            })
-        }
+        "inclusion" => inclusion_in(words),
+        "consistency" => consistency_in(words),
         _ => None,
     }
+}
+
+fn inclusion_in(words: &str) -> Option<Claim> {
+    let (index, words) = words.split_once(' ')?;
+    let checkpoint = checkpoint_in(words)?;
+    let index = index.parse().ok()?;
+    Some(Claim::Inclusion { index, checkpoint })
+}
+
+fn consistency_in(words: &str) -> Option<Claim> {
+    let (old_length, words) = words.split_once(' ')?;
+    let (old_root, new) = words.split_once(' ')?;
+    let old = Checkpoint::new(root_in(old_root)?, old_length.parse().ok()?);
+    let new = checkpoint_in(new)?;
+    Some(Claim::Consistency { old, new })
 }
 
 fn checkpoint_in(words: &str) -> Option<Checkpoint<Sha256>> {
