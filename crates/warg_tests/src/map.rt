@@ -37,7 +37,7 @@ fn hashed<A: Allocator>(map: &TextMap<A>) -> u64 {
     hasher.finish()
 }
 
-// Equal roots make equal maps: insertions in any order, and a value without bytes.
+// Equal roots make equal maps: a value without bytes, and insertions in any order.
 #[test]
 fn equal_maps(rt: HostRuntime) -> Result<(), Fail> {
     let nothing = grown(rt.alloc(), &[])?;
@@ -50,9 +50,14 @@ fn equal_maps(rt: HostRuntime) -> Result<(), Fail> {
         ])
     );
     assert!(rt; hashed(&empty_value) == hashed(&nothing));
+    Ok(())
+}
+
+#[test]
+fn equal_maps_in_any_order(rt: HostRuntime) -> Result<(), Fail> {
     let pairs = [("foo", "bar"), ("baz", "bat")];
     let up = grown(rt.alloc(), &pairs)?;
-    let down = nothing.extend(pairs.into_iter().rev())?;
+    let down = TextMap::default(rt.alloc()).extend(pairs.into_iter().rev())?;
     assert!(rt; all(&[up == down, hashed(&up) == hashed(&down), down.len() == 2]));
     Ok(())
 }
@@ -107,92 +112,129 @@ fn lists_of_a_bundle_stay_where_they_lie(rt: HostRuntime) -> Result<(), Fail> {
     Ok(())
 }
 
-// Proofs are equal exactly if their peers are, and bundles where their proofs and their absences are.
+const PAIRS: [(Text, Text); 2] = [("foo", "bar"), ("baz", "bat")];
+
+const BACK: [(Text, Text); 2] = [("baz", "bat"), ("foo", "bar")];
+
+// Proofs are equal exactly if their peers are.
 #[test]
-fn equal_proofs_and_bundles(rt: HostRuntime) -> Result<(), Fail> {
-    let pairs = [("foo", "bar"), ("baz", "bat")];
-    let back = [("baz", "bat"), ("foo", "bar")];
-    let proof = proven(rt.alloc(), &pairs, "foo")?;
-    assert!(rt; proof == proven(rt.alloc(), &back, "foo")?);
-    assert!(rt; proof != proven(rt.alloc(), &pairs, "baz")?);
+fn equal_proofs(rt: HostRuntime) -> Result<(), Fail> {
+    let proof = proven(rt.alloc(), &PAIRS, "foo")?;
+    assert!(rt; proof == proven(rt.alloc(), &BACK, "foo")?);
+    assert!(rt; proof != proven(rt.alloc(), &PAIRS, "baz")?);
     assert!(rt; proof != proven(rt.alloc(), &[("foo", "bar")], "foo")?);
-    let bundle = MapProofBundle::bundle(vec![in rt.alloc(); proof]?);
-    let again = vec![in rt.alloc(); proven(rt.alloc(), &back, "foo")?]?;
-    let lone = vec![in rt.alloc(); proven(rt.alloc(), &back, "foo")?]?;
-    assert!(rt; bundle == MapProofBundle::bundle(again));
-    assert!(rt; bundle != MapProofBundle::bundle_with(Vec::new(rt.alloc()), lone));
     Ok(())
+}
+
+// A list of the proof of "foo".
+fn lone(alloc: Global, pairs: &[(Text, Text)]) -> Result<Vec<TextProof>, Fail> {
+    Ok(vec![in alloc; proven(alloc, pairs, "foo")?]?)
+}
+
+// Bundles are equal exactly if their proofs and their absences are.
+#[test]
+fn equal_bundles(rt: HostRuntime) -> Result<(), Fail> {
+    let bundle = MapProofBundle::bundle(lone(rt.alloc(), &PAIRS)?);
+    assert!(rt; bundle == MapProofBundle::bundle(lone(rt.alloc(), &BACK)?));
+    let absences = lone(rt.alloc(), &BACK)?;
+    assert!(rt; bundle != MapProofBundle::bundle_with(Vec::new(rt.alloc()), absences));
+    Ok(())
+}
+
+// Whether a held key's proof leads to the root from its value.
+fn is_present(map: &TextMap, key: Text, value: Text) -> Result<bool, Fail> {
+    match map.prove_key(&key)? {
+        KeyProof::Presence(proof) => Ok(proof.evaluate(&key, &value) == *map.root()),
+        KeyProof::Absence(_) => Err("a held key is absent")?,
+    }
+}
+
+// Whether an absent key's proof leads to the root from nothing.
+fn is_missing(map: &TextMap, key: Text) -> Result<bool, Fail> {
+    match map.prove_key(&key)? {
+        KeyProof::Presence(_) => Err("an absent key is held")?,
+        KeyProof::Absence(proof) => Ok(proof.evaluate_absent(&key) == *map.root()),
+    }
 }
 
 // A key that is held is proved by its value, and another one by nothing.
 #[test]
 fn keys_proved_held_or_absent(rt: HostRuntime) -> Result<(), Fail> {
-    let map = grown(rt.alloc(), &[("foo", "bar"), ("baz", "bat")])?;
-    match map.prove_key(&"baz")? {
-        KeyProof::Presence(proof) => {
-            assert!(rt; proof.evaluate(&"baz", &"bat") == *map.root());
-        }
-        KeyProof::Absence(_) => Err("a held key is absent")?,
-    }
-    match map.prove_key(&"qux")? {
-        KeyProof::Presence(_) => Err("an absent key is held")?,
-        KeyProof::Absence(proof) => assert!(rt; proof.evaluate_absent(&"qux") == *map.root()),
-    }
+    let map = grown(rt.alloc(), &PAIRS)?;
+    assert!(rt; is_present(&map, "baz", "bat")?);
+    assert!(rt; is_missing(&map, "qux")?);
     Ok(())
+}
+
+const THREE: [(Text, Text); 3] = [("foo", "bar"), ("baz", "bat"), ("nil", "")];
+
+// Whether the bytes of a key's proof pass the verdict on the key.
+fn passes(alloc: Global, map: &TextMap, key: Text, value: Text) -> Result<bool, Fail> {
+    let bytes = key_bytes(alloc, map, &key)?;
+    Ok(check_key(alloc, bytes.as_slice(), 0, &key, &value, map.root())?)
+}
+
+// Whether they pass the verdict on its absence.
+fn passes_as_absent(alloc: Global, map: &TextMap, key: Text) -> Result<bool, Fail> {
+    let bytes = key_bytes(alloc, map, &key)?;
+    Ok(check_absent(alloc, bytes.as_slice(), 0, &key, map.root())?)
 }
 
 // The bytes of a key's proof pass the verdict on the key, or that on its absence.
 #[test]
 fn proofs_of_keys_as_bytes(rt: HostRuntime) -> Result<(), Fail> {
-    let map = grown(rt.alloc(), &[("foo", "bar"), ("baz", "bat"), ("nil", "")])?;
-    let root = map.root();
-    for (key, value) in [("foo", "bar"), ("baz", "bat"), ("nil", "")] {
-        let bytes = key_bytes(rt.alloc(), &map, &key)?;
-        assert!(rt; check_key(rt.alloc(), bytes.as_slice(), 0, &key, &value, root)?);
+    let map = grown(rt.alloc(), &THREE)?;
+    for (key, value) in THREE {
+        assert!(rt; passes(rt.alloc(), &map, key, value)?);
     }
-    let absent = key_bytes(rt.alloc(), &map, &"bar")?;
-    assert!(rt; check_absent(rt.alloc(), absent.as_slice(), 0, &"bar", root)?);
-    let nothing = grown(rt.alloc(), &[])?;
-    let absent = key_bytes(rt.alloc(), &nothing, &"foo")?;
-    assert!(rt; check_absent(rt.alloc(), absent.as_slice(), 0, &"foo", nothing.root())?);
+    assert!(rt; passes_as_absent(rt.alloc(), &map, "bar")?);
+    assert!(rt; passes_as_absent(rt.alloc(), &grown(rt.alloc(), &[])?, "foo")?);
     Ok(())
+}
+
+// The proof's bytes are refused with so few growths, or those of a key that is held and of one that isn't are more than two.
+fn are_refused(alloc: Global, growths: u64) -> Result<bool, Fail> {
+    let memory = Refusing::after(alloc, 90);
+    let map = foo(&memory)?.insert("baz", "bat")?;
+    memory.exhaust();
+    memory.grant(growths);
+    let held = key_bytes(&memory, &map, &"foo");
+    let absent = key_bytes(&memory, &map, &"bar");
+    if memory.has_refused() {
+        return Ok(absent == Err(EncodeError::Memory));
+    }
+    if held?.len() > 2 && absent?.len() > 2 {
+        return Ok(false);
+    }
+    Err("no bytes")?
 }
 
 // Each growth of the bytes of a proof is refused in turn, until none is.
 #[test]
 fn bytes_of_a_key_with_each_growth_refused(rt: HostRuntime) -> Result<(), Fail> {
     for growths in 0..90 {
-        let memory = Refusing::after(rt.alloc(), 90);
-        let map = TextMap::default(&memory)
-            .insert("foo", "bar")?
-            .insert("baz", "bat")?;
-        memory.exhaust();
-        memory.grant(growths);
-        let held = key_bytes(&memory, &map, &"foo");
-        let absent = key_bytes(&memory, &map, &"bar");
-        if !memory.has_refused() {
-            assert!(rt; all(&[held?.len() > 2, absent?.len() > 2]));
+        if !are_refused(rt.alloc(), growths)? {
             return Ok(());
         }
-        assert!(rt; absent == Err(EncodeError::Memory));
     }
     Err("all growths were refused")?
+}
+
+// Whether the proof leads to the map's root from this key and value.
+fn leads(map: &TextMap, proof: &TextProof, key: Text, value: Text) -> bool {
+    proof.evaluate(&key, &value) == *map.root()
 }
 
 // A proof leads to the root from the value that is held, and from no other one.
 #[test]
 fn values_of_a_proof(rt: HostRuntime) -> Result<(), Fail> {
-    let map = grown(rt.alloc(), &[("foo", "bar"), ("baz", "bat")])?;
+    let map = grown(rt.alloc(), &PAIRS)?;
     let proof = map.prove("baz")?.ok_or("held")?;
-    for (key, value, leads) in [
-        ("baz", "bat", true),
-        ("other", "bar", false),
-        ("baz", "", false),
-    ] {
-        assert!(rt; (proof.evaluate(&key, &value) == *map.root()) == leads);
-    }
     assert!(rt;
         all(&[
+            leads(&map, &proof, "baz", "bat"),
+            !leads(&map, &proof, "other", "bar"),
+            !leads(&map, &proof, "baz", ""),
             proof.evaluate_absent(&"baz") != *map.root(),
             map.prove("qux")?.is_none()
         ])
@@ -206,6 +248,28 @@ fn foo(memory: &Refusing<Global>) -> Result<Scarce<'_>, MapError> {
     Scarce::default(memory).insert("foo", "bar")
 }
 
+// Whether a clone of a map of "foo" is the same.
+fn is_its_clone(map: &Scarce<'_>) -> Result<bool, Fail> {
+    let same = map.clone()?;
+    Ok(all(&[
+        same == *map,
+        hashed(&same) == hashed(map),
+        same.root() == map.root(),
+        same.len() == 1,
+        !same.is_empty(),
+        same.node_count() == 2,
+    ]))
+}
+
+// Whether the proofs of "foo" and of an absent key lead to the map's root.
+fn lead_to_root(map: &Scarce<'_>, proof: &LentProof<'_>, absence: &LentProof<'_>) -> bool {
+    all(&[
+        proof.peers().len() == 1,
+        proof.evaluate(&"foo", &"bar") == *map.root(),
+        absence.evaluate_absent(&"qux") == *map.root(),
+    ])
+}
+
 #[test]
 fn calls_without_memory(rt: HostRuntime) -> Result<(), Fail> {
     let memory = Refusing::after(rt.alloc(), 99);
@@ -213,24 +277,14 @@ fn calls_without_memory(rt: HostRuntime) -> Result<(), Fail> {
     let proof = map.prove("foo")?.ok_or("held")?;
     let absence = map.prove_absence("qux")?.ok_or("absent")?;
     memory.exhaust();
-    let same = map.clone()?;
+    assert!(rt; is_its_clone(&map)?);
+    assert!(rt; lead_to_root(&map, &proof, &absence));
     assert!(rt;
         all(&[
-            same == map,
-            hashed(&same) == hashed(&map),
-            same.root() == map.root()
+            Vec::from(proof).len() == 1,
+            Scarce::default(&memory).is_empty()
         ])
     );
-    assert!(rt; all(&[same.len() == 1, !same.is_empty(), same.node_count() == 2]));
-    assert!(rt;
-        all(&[
-            proof.peers().len() == 1,
-            proof.evaluate(&"foo", &"bar") == *same.root()
-        ])
-    );
-    assert!(rt; absence.evaluate_absent(&"qux") == *same.root());
-    assert!(rt; Vec::from(proof).len() == 1);
-    assert!(rt; Scarce::default(&memory).is_empty());
     assert!(rt; all(&[memory.left() == 0, !memory.has_refused()]));
     Ok(())
 }

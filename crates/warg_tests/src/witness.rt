@@ -117,43 +117,57 @@ fn a_log_s_own_consistency_proofs_hold(rt: HostRuntime) -> Result<(), Fail> {
     Ok(())
 }
 
-// The way down is as deep as the tree is high, and each entry is hashed once.
-#[test]
-fn a_witness_over_a_million_entries(rt: HostRuntime) -> Result<(), Fail> {
-    let mut entries = Vec::new(rt.alloc());
+type Numbers = VecLog<Sha256, [u8; 4]>;
+
+// The first million numbers.
+fn million(alloc: Global) -> Result<Vec<[u8; 4]>, Fail> {
+    let mut entries = Vec::new(alloc);
     for number in 0..1_000_000u32 {
         entries.push(number.to_be_bytes())?;
     }
-    let mut log: VecLog<Sha256, [u8; 4]> = VecLog::default(rt.alloc());
-    push_all(&mut log, entries.as_slice())?;
+    Ok(entries)
+}
+
+// What a witness finds of the claim that number 700,000 is this value.
+fn judged(
+    alloc: Global,
+    entries: &[[u8; 4]],
+    log: &Numbers,
+    value: [u8; 4],
+) -> Result<Finding<Sha256>, Fail> {
     let proof = log.prove_inclusion(Node(1_400_000), log.length());
-    let value = 700_000u32.to_be_bytes();
-    let finding = witness_value(rt.alloc(), &proof, &log, &value, entries.as_slice())?;
+    Ok(witness_value(alloc, &proof, log, &value, entries)?)
+}
+
+// The way down is as deep as the tree is high, and each entry is hashed once.
+#[test]
+fn a_witness_over_a_million_entries(rt: HostRuntime) -> Result<(), Fail> {
+    let entries = million(rt.alloc())?;
+    let entries = entries.as_slice();
+    let mut log = Numbers::default(rt.alloc());
+    push_all(&mut log, entries)?;
+    let finding = judged(rt.alloc(), entries, &log, 700_000u32.to_be_bytes())?;
     assert!(rt; matches!(finding, Finding::Holds));
-    let finding = witness_value(rt.alloc(), &proof, &log, &[0; 4], entries.as_slice())?;
-    assert!(rt; matches!(finding, Finding::NotMet));
+    assert!(rt; matches!(judged(rt.alloc(), entries, &log, [0; 4])?, Finding::NotMet));
     Ok(())
+}
+
+type Nothing = SparseLogData<Sum, u8>;
+
+// Whether claims of a value and of a hash are not met, without memory.
+fn are_not_met(none: &Refusing<Global>, data: &Nothing) -> bool {
+    let proof = data.prove_inclusion(Node(0), 2);
+    let value = witness_value(none, &proof, data, &1, &[1]);
+    let hash = witness_hash(none, &proof, data, Hash::from_array([1; 32]), &[1]);
+    matches!(value, Ok(Finding::NotMet)) && matches!(hash, Ok(Finding::NotMet))
 }
 
 // Other counts of entries are looked at before anything grows.
 #[test]
 fn other_counts_without_memory(rt: HostRuntime) -> Result<(), Fail> {
     let none = Refusing::after(rt.alloc(), 0);
-    let data: SparseLogData<Sum, u8> = SparseLogData::from(Vec::new(rt.alloc()));
-    let proof = data.prove_inclusion(Node(0), 2);
-    assert!(rt;
-        matches!(
-            witness_value(&none, &proof, &data, &1, &[1]),
-            Ok(Finding::NotMet)
-        )
-    );
-    let hash = Hash::from_array([1; 32]);
-    assert!(rt;
-        matches!(
-            witness_hash(&none, &proof, &data, hash, &[1]),
-            Ok(Finding::NotMet)
-        )
-    );
+    let data = Nothing::from(Vec::new(rt.alloc()));
+    assert!(rt; are_not_met(&none, &data));
     for (old, new) in [(1, 2), (2, 3), (1 << 63, 1 << 63)] {
         let proof = data.prove_consistency(old, new);
         let finding = witness_consistency(&none, &proof, &data, &[1], &[1, 2, 3]);
