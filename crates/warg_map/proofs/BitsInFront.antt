@@ -1,12 +1,13 @@
 -- Laws of bits that are put in front of a map.
-use Rattle.std.proofs.Common.{◌≡◌, ℕ, zero, suc, length, ◌+◌, ◌-◌, ◌<◌, Bool, true, false, List, [], ◌∷◌, ◌++◌, Option, None, is_some, refl, sym, ap, ◌∙◌, arith, add-one}
+use Rattle.std.proofs.Common.{◌≡◌, ℕ, zero, suc, length, ◌+◌, ◌-◌, ◌<◌, Bool, true, false, List, [], ◌∷◌, ◌++◌, Option, None, is_some, refl, sym, ap, ◌∙◌, arith, add-one, take}
+use Rattle.std.proofs.lemmas.List.{take_at}
 use Rattle.std.specs.FinMap.{get, insert, empty, contains_key, get-empty}
 use Rattle.warg_crypto.specs.EmptyTrees.{empty_root}
 use Rattle.warg_crypto.specs.Tree.{input_beside}
 use Rattle.warg_map.specs.Bits.{bit_at, bits_from, last_bits}
 use Rattle.warg_map.specs.Sparse.{SparseMap, bits_cmp, sparse_root}
 use Rattle.warg_map.specs.Private.Under.{join_at, under, stem_root, HoldsKey}
-use Rattle.warg_map.proofs.SparseTree.{insert-join_at, get-join_at, insert-empty_at, get-join_nil, sparse_root-join, sparse_root-empty, length-bits_from}
+use Rattle.warg_map.proofs.SparseTree.{insert-join_at, get-join_at, get-join_far, insert-empty_at, get-join_nil, sparse_root-join, sparse_root-empty, length-bits_from}
 
 -- the bits of a digest
 pub bits_from-append : (key : List ℕ) (i m n : ℕ) → bits_from key i (m + n) ≡ bits_from key i m ++ bits_from key (i + m) n
@@ -98,24 +99,17 @@ lone-append a bs v = lone-under (a ++ bs) v ∙ under-append a bs (insert empty 
 pub no_some : (o : Option (List ℕ)) → o ≡ None → is_some o ≡ true → ⊥
 no_some o n s = let e : false ≡ true = ap is_some (sym n) ∙ s in cc
 
-same_head : (b c : Bool) (bs q : List Bool) (m : SparseMap) → contains_key (under (c ∷ bs) m) (b ∷ q) ≡ true → b ≡ c
-same_head true true bs q m h = refl
-same_head true false bs q m h = absurd (no_some _ (get-under_head true false bs q m (λ e. cc)) h)
-same_head false true bs q m h = absurd (no_some _ (get-under_head false true bs q m (λ e. cc)) h)
-same_head false false bs q m h = refl
-
-below_head : (c : Bool) (bs q : List Bool) (m : SparseMap) → contains_key (under (c ∷ bs) m) (c ∷ q) ≡ true → contains_key (under bs m) q ≡ true
+pub only-under : (bs q : List Bool) (m : SparseMap) → contains_key (under bs m) q ≡ true → (r : List Bool) × (q ≡ bs ++ r) × (contains_key m r ≡ true)
 unfolding under
-below_head c bs q m h = ap is_some (sym (get-join_at c (under bs m) empty q)) ∙ h
+only-under [] q m h = (q, refl, h)
+only-under (b ∷ bs) [] m h = absurd (no_some _ (get-join_at_nil b (under bs m) empty) h)
+only-under (true ∷ bs) (true ∷ q) m h = let r = only-under bs q m (ap is_some (sym (get-join_at true (under bs m) empty q)) ∙ h) in (r.0, ap (λ t. true ∷ t) r.1, r.2)
+only-under (true ∷ bs) (false ∷ q) m h = absurd (no_some _ (get-join_far true (under bs m) empty q ∙ get-empty bits_cmp q) h)
+only-under (false ∷ bs) (true ∷ q) m h = absurd (no_some _ (get-join_far false (under bs m) empty q ∙ get-empty bits_cmp q) h)
+only-under (false ∷ bs) (false ∷ q) m h = let r = only-under bs q m (ap is_some (sym (get-join_at false (under bs m) empty q)) ∙ h) in (r.0, ap (λ t. false ∷ t) r.1, r.2)
 
 pub under_same : (a bs rest : List Bool) (m : SparseMap) → length a ≡ length bs → contains_key (under bs m) (a ++ rest) ≡ true → a ≡ bs
-under_same [] [] rest m n h = refl
-under_same [] (c ∷ bs) rest m n h = absurd (omega arith)
-under_same (b ∷ a) [] rest m n h = absurd (omega arith)
-under_same (b ∷ a) (c ∷ bs) rest m n h =
-    let e = same_head b c bs (a ++ rest) m h in
-    let k : contains_key (under (c ∷ bs) m) (c ∷ (a ++ rest)) ≡ true = rw e at h in
-    ap (λ x. x ∷ a) e ∙ ap (λ t. c ∷ t) (under_same a bs rest m (omega arith) (below_head c bs (a ++ rest) m k))
+under_same a bs rest m n h = let r = only-under bs (a ++ rest) m h in sym (take_at a rest (length bs) n) ∙ ap (take (length bs)) r.1 ∙ take_at bs r.0 (length bs) refl
 
 pub holds-under : (bs : List Bool) (m : SparseMap) → HoldsKey m → HoldsKey (under bs m)
 holds-under bs m h = (bs ++ h.0, ap is_some (get-under bs h.0 m) ∙ h.1)

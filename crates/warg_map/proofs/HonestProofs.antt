@@ -1,5 +1,5 @@
 -- Honest proofs evaluate to the root.
-use Rattle.std.proofs.Common.{◌≡◌, ℕ, suc, ◌+◌, ◌-◌, ◌<◌, ◌≤◌, Bool, true, false, cond, not, nat_lt, List, [], ◌∷◌, ◌++◌, length, Option, Some, None, is_some, unwrap_or, refl, sym, ap, ◌∙◌, arith, inl, inr, append_assoc}
+use Rattle.std.proofs.Common.{◌≡◌, ℕ, suc, ◌+◌, ◌-◌, ◌<◌, ◌≤◌, Bool, true, false, cond, not, nat_lt, List, [], ◌∷◌, ◌++◌, length, Option, Some, None, is_some, unwrap_or, refl, sym, ap, ◌∙◌, arith, inl, inr, append_assoc, length-append}
 use Rattle.std.proofs.lemmas.List.{get_or-reverse, length-reverse}
 use Rattle.std.proofs.lemmas.Bool.{lt-ltb, ltb-true}
 use Rattle.std.proofs.Math.ListN.{get_or}
@@ -13,7 +13,7 @@ use Rattle.warg_map.specs.ProofValue.{peer_of, proof_value}
 use Rattle.warg_map.specs.Peers.{IsPeer, IsPeers, Proves, ProvesAbsent, ProvesEmpty}
 use Rattle.warg_map.proofs.SparseTree.{bits_total, same_sparse, root-nothing, root-same, tied_itself_bits}
 use Rattle.warg_map.proofs.FoundInNode.{tied}
-use Rattle.warg_map.proofs.CollectedPeers.{length_peers, few_collected}
+use Rattle.warg_map.proofs.CollectedPeers.{few_collected}
 
 -- peers from the top by which the tree over the bits is known: each stands for the other half, and below the last nothing else is held
 unfoldable pub Explains : (List ℕ → List ℕ) → (List Bool → Option (List ℕ)) → List Bool → List (Option (List ℕ)) → Type 0
@@ -42,7 +42,7 @@ not_lt a b h = elim (nat_lt a b) as (λ c. nat_lt a b ≡ c → c ≡ false) [ t
 
 pub peer_there : (H : List ℕ → List ℕ) (peers before os : List (Option (List ℕ))) (o : Option (List ℕ)) (i : ℕ) → reverse peers ≡ before ++ o ∷ os → length before + i ≡ 255 → length peers ≤ 256 → peer_of H peers i ≡ unwrap_or o (empty_root H i)
 peer_there H peers before os o i e place few =
-    let n : length peers ≡ length before + length (o ∷ os) = sym (length-reverse peers) ∙ ap length e ∙ length_peers before (o ∷ os) in
+    let n : length peers ≡ length before + length (o ∷ os) = sym (length-reverse peers) ∙ ap length e ∙ length-append before (o ∷ os) in
     let at : length peers - 1 - length before ≡ i - (256 - length peers) = omega (arith, n, place, few) in
     there (nat_lt i (256 - length peers)) _ _ (not_lt i (256 - length peers) (omega (arith, n, place, few)))
     ∙ ap (λ x. unwrap_or x (empty_root H i))
@@ -77,11 +77,11 @@ honest_below_last H (b ∷ bits) m peers v few h e =
 pub honest : (H : List ℕ → List ℕ) (bits : List Bool) (m : List Bool → Option (List ℕ)) (peers before os : List (Option (List ℕ))) (v : List ℕ) → reverse peers ≡ before ++ os → length before + length bits ≡ 256 → length peers ≤ 256 → Explains H m bits os → unwrap_or (m bits) (empty_root H 0) ≡ v → proof_value H peers v bits ≡ root_of_levels H (length bits) m
 unfolding proof_value Explains
 honest H bits m peers before [] v e place few h u =
-    let n : length peers ≡ length before + 0 = sym (length-reverse peers) ∙ ap length e ∙ length_peers before [] in
+    let n : length peers ≡ length before + 0 = sym (length-reverse peers) ∙ ap length e ∙ length-append before [] in
     honest_below_last H bits m peers v (omega (arith, n, place)) h u
 honest H [] m peers before (o ∷ os) v e place few h u = absurd h
 honest H (b ∷ bits) m peers before (o ∷ os) v e place few h u =
-    let one : length (before ++ o ∷ []) ≡ length before + 1 = length_peers before (o ∷ []) in
+    let one : length (before ++ o ∷ []) ≡ length before + 1 = length-append before (o ∷ []) in
     branch H b (length bits) m (peer_of H peers (length bits)) (proof_value H peers v bits)
     (peer_there H peers before os o (length bits) e (omega (arith, place)) few ∙ h.0)
     (honest H bits (λ q. m (b ∷ q)) peers (before ++ o ∷ []) os v (e ∙ sym (append_assoc before (o ∷ []) os)) (omega (arith, one, place)) few h.1 u)

@@ -1,13 +1,13 @@
 -- The proof of a key in the map after an insertion, as the proof of the step.
-use Rattle.std.proofs.Common.{◌≡◌, ℕ, Bool, true, false, cond, List, length, Option, Some, unwrap_or, refl, sym, ap, ◌∙◌}
-use Rattle.std.proofs.lemmas.Bool.{false≢true}
-use Rattle.std.specs.FinMap.{get, insert, contains_key, get-insert}
+use Rattle.std.proofs.Common.{◌≡◌, ℕ, Bool, true, false, cond, List, length, Option, Some, unwrap_or, ◌+◌, not, nat_lt, refl, sym, ap, ◌∙◌, arith}
+use Rattle.std.proofs.lemmas.Bool.{lt-ltb, le-ltb}
+use Rattle.std.specs.FinMap.{get, insert, contains_key, get-insert, len, len-insert}
 use Rattle.std.specs.Ordering.{eq_by_cmp}
 use Rattle.warg_crypto.specs.EmptyTrees.{empty_root}
 use Rattle.warg_map.specs.Sparse.{SparseMap, bits_cmp, sparse_root, leaf_at}
 use Rattle.warg_map.specs.Peers.{Proves}
 use Rattle.warg_map.specs.ProofValue.{proof_value}
-use Rattle.warg_map.proofs.SparseTree.{bits_total, insert-again, contains_key-insert_same}
+use Rattle.warg_map.proofs.SparseTree.{bits_total, insert-again}
 use Rattle.warg_map.proofs.FoundInNode.{tied}
 use Rattle.warg_map.proofs.HonestProofs.{honest_replaced}
 use Rattle.warg_map.proofs.UniqueRootsAndProofs.{same_root}
@@ -35,6 +35,10 @@ pub root_after : (H : List ℕ → List ℕ) (m : SparseMap) (bits : List Bool) 
     → proof_value H peers x bits ≡ sparse_root H 256 (insert m bits x)
 root_after H m bits x peers n p = honest_replaced H 256 bits (insert m bits x) peers x n p ∙ ap (sparse_root H 256) (insert-again m bits x x)
 
--- what was inserted is held
-pub held_after : (m : SparseMap) (bits : List Bool) (x : List ℕ) → contains_key (insert m bits x) bits ≡ false → ⊥
-held_after m bits x none = false≢true (sym none ∙ contains_key-insert_same m bits x)
+-- a new key makes the map longer
+pub grows : (m n : SparseMap) (bits : List Bool) (v : List ℕ) → n ≡ insert m bits v → nat_lt (len m) (len n) ≡ not (contains_key m bits)
+grows m n bits v e = rw (e, len-insert bits_total m bits v) (by (contains_key m bits) (len m))
+  where
+    by : (held : Bool) (k : ℕ) → nat_lt k (cond held k (k + 1)) ≡ not held
+    by true k = le-ltb k k (omega arith)
+    by false k = lt-ltb k (k + 1) (omega arith)

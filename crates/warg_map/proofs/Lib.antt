@@ -9,7 +9,6 @@ pub mod FoundInNode
 pub mod HeldKeys
 pub mod ProofValue
 pub mod CollectedPeers
-pub mod WantedLeaves
 pub mod NodeCounts
 pub mod HonestProofs
 pub mod InsertionSteps

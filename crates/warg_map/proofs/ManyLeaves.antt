@@ -1,5 +1,5 @@
 -- Laws of leaves that are put into a tree.
-use Rattle.std.proofs.Common.{◌≡◌, ℕ, zero, suc, length, ◌+◌, ◌-◌, ◌<◌, ◌≤◌, Bool, true, false, cond, not, List, [], ◌∷◌, ◌++◌, refl, sym, ap, ◌∙◌, subst, arith, take, get_or, lit<, nat_eq, IsTrue, ◌↔◌, ◌⊎◌, inl, inr}
+use Rattle.std.proofs.Common.{◌≡◌, ℕ, zero, suc, length, ◌+◌, ◌-◌, ◌<◌, ◌≤◌, Bool, true, false, cond, not, List, [], ◌∷◌, ◌++◌, refl, sym, ap, ◌∙◌, subst, arith, take, get_or, lit<, ◌⊎◌, inl, inr}
 use Rattle.std.specs.FinMap.{insert, empty, contains_key, len}
 use Rattle.std.proofs.lemmas.List.{take_more}
 use Rattle.std.proofs.lemmas.List.Elements.{filter-append}
@@ -308,19 +308,3 @@ share-last key i n (x ∷ fs) e s = share-last key i n fs e s.1
 pub one_leaf_put : (m : SparseMap) (es : List Lone) (e : Lone) (key v : List ℕ) → es ≡ e ∷ [] → e.key ≡ key → e.value ≡ v → with_leaves 256 m es ≡ insert m (last_bits key 256) v
 unfolding with_leaves
 one_leaf_put m es e key v is k x = ap (with_leaves 256 m) is ∙ ap (λ t. insert m (last_bits t 256) e.value) k ∙ ap (insert m (last_bits key 256)) x
-
-new_at : (n fresh : ℕ) (held : Bool) → cond (not held) (n + 1) n ≡ n + fresh → nat_eq fresh 1 ≡ not held
-new_at n fresh true h = let z : fresh ≡ 0 = omega (arith, h) in ap (λ j. nat_eq j 1) z
-new_at n fresh false h = let z : fresh ≡ 1 = omega (arith, h) in ap (λ j. nat_eq j 1) z
-
-pub new_once : (m : SparseMap) (bits : List Bool) (v : List ℕ) (fresh : ℕ) (held : Bool) → contains_key m bits ≡ held → len m + fresh ≡ len (insert m bits v) → nat_eq fresh 1 ≡ not held
-new_once m bits v fresh held h e = new_at (len m) fresh held (len-insert_fresh m bits v (not held) (ap not (sym h)) ∙ sym e)
-
-room_at : (m : SparseMap) (bits : List Bool) (v : List ℕ) (held : Bool) (max : ℕ) → contains_key m bits ≡ held → (len m ≡ max → held ≡ false → ⊥) → len m ≤ max → len (insert m bits v) ≤ max
-room_at m bits v true max h unless le = let e = len-insert_fresh m bits v false (ap not (sym h)) in omega (arith, e, le)
-room_at m bits v false max h unless le =
-    let e = len-insert_fresh m bits v true (ap not (sym h)) in
-    elim (below_or_same (len m) max le) as (λ _. len (insert m bits v) ≤ max) [ inl lt ↦ omega (arith, e, lt) | inr s ↦ absurd (unless s refl) ]
-
-pub room_for_one : (m : SparseMap) (bits : List Bool) (v : List ℕ) (full : Bool) (max : ℕ) → (IsTrue full ↔ ((len m ≡ max) × (contains_key m bits ≡ false))) → full ≡ false → len m ≤ max → len (insert m bits v) ≤ max
-room_for_one m bits v full max is f le = room_at m bits v (contains_key m bits) max refl (λ s n. let x : false ≡ true = sym f ∙ is.1 (s, n) in cc) le

@@ -1,5 +1,5 @@
 -- Honest proofs lead to the plain root at each prefix of the key's bits.
-use Rattle.std.proofs.Common.{◌≡◌, ℕ, ◌+◌, ◌≤◌, Bool, List, [], ◌∷◌, ◌++◌, length, Option, Some, unwrap_or, refl, sym, ap, ◌∙◌, arith, append_assoc}
+use Rattle.std.proofs.Common.{◌≡◌, ℕ, ◌+◌, ◌≤◌, Bool, List, [], ◌∷◌, ◌++◌, length, Option, Some, unwrap_or, refl, sym, ap, ◌∙◌, arith, append_assoc, length-append}
 use Rattle.std.proofs.lemmas.List.{length-reverse}
 use Rattle.std.specs.Prelude.{reverse}
 use Rattle.std.specs.FinMap.{get}
@@ -7,7 +7,6 @@ use Rattle.warg_crypto.specs.EmptyTrees.{empty_root}
 use Rattle.warg_map.specs.Sparse.{SparseMap, root_of_levels}
 use Rattle.warg_map.specs.ProofValue.{proof_value}
 use Rattle.warg_map.specs.Peers.{Proves, ProvesAbsent}
-use Rattle.warg_map.proofs.CollectedPeers.{length_peers}
 use Rattle.warg_map.proofs.HonestProofs.{Explains, explains_held, explains_absent, honest, honest_below_last, tail_is, none_of}
 
 same_rest : (prefix p q : List Bool) → prefix ++ p ≡ prefix ++ q → p ≡ q
@@ -20,10 +19,10 @@ honest_after : (H : List ℕ → List ℕ) (prefix rest : List Bool) (m : List B
 unfolding Explains
 honest_after H [] rest m peers before os v e place few h u = honest H rest m peers before os v e (omega (arith, place)) few h u
 honest_after H (b ∷ prefix) rest m peers before [] v e place few h u =
-    let n : length peers ≡ length before + 0 = sym (length-reverse peers) ∙ ap length e ∙ length_peers before [] in
+    let n : length peers ≡ length before + 0 = sym (length-reverse peers) ∙ ap length e ∙ length-append before [] in
     honest_below_last H rest (λ q. m (b ∷ (prefix ++ q))) peers v (omega (arith, n, place)) (λ q other. h (b ∷ (prefix ++ q)) (λ x. other (same_rest (b ∷ prefix) q rest x))) u
 honest_after H (b ∷ prefix) rest m peers before (o ∷ os) v e place few h u =
-    let one : length (before ++ o ∷ []) ≡ length before + 1 = length_peers before (o ∷ []) in
+    let one : length (before ++ o ∷ []) ≡ length before + 1 = length-append before (o ∷ []) in
     honest_after H prefix rest (λ q. m (b ∷ q)) peers (before ++ o ∷ []) os v (e ∙ sym (append_assoc before (o ∷ []) os)) (omega (arith, one, place)) few h.1 u
 
 pub held_after : (H : List ℕ → List ℕ) (m : SparseMap) (prefix rest : List Bool) (peers : List (Option (List ℕ))) (x : List ℕ) → length prefix + length rest ≡ 256 → length peers ≤ 256

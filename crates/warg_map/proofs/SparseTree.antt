@@ -1,5 +1,5 @@
 -- Laws of the plain sparse tree.
-use Rattle.std.proofs.Common.{◌≡◌, ℕ, zero, suc, length, ◌+◌, ◌-◌, ◌<◌, Bool, true, false, cond, List, [], ◌∷◌, ◌++◌, map, Option, Some, None, is_some, unwrap_or, refl, sym, ap, ◌∙◌, subst, arith, add-one}
+use Rattle.std.proofs.Common.{◌≡◌, ℕ, zero, suc, length, ◌+◌, ◌-◌, ◌<◌, Bool, true, false, cond, not, List, [], ◌∷◌, ◌++◌, map, Option, Some, None, is_some, unwrap_or, refl, sym, ap, ◌∙◌, subst, arith, add-one}
 use Rattle.std.specs.FinMap.{entries, get, insert, empty, find, get-empty, get-insert, get-entries, get-from_entries, same_map, IsAntisymmetric, slice_cmp-IsAntisymmetric, contains_key}
 use Rattle.std.specs.Ordering.{bool_cmp, eq_by_cmp}
 use Rattle.std.specs.Cmp.{IsTotalOrder, bool_cmp_total}
@@ -177,8 +177,9 @@ pub get-join_at : (b : Bool) (m o : SparseMap) (q : List Bool) → get (join_at 
 get-join_at true m o q = get-join_true o m q
 get-join_at false m o q = get-join_false m o q
 
-pub contains_key-join_at : (b : Bool) (m o : SparseMap) (q : List Bool) → contains_key (join_at b m o) (b ∷ q) ≡ contains_key m q
-contains_key-join_at b m o q = ap is_some (get-join_at b m o q)
+pub get-join_far : (b : Bool) (m o : SparseMap) (q : List Bool) → get (join_at b m o) (not b ∷ q) ≡ get o q
+get-join_far true m o q = get-join_false o m q
+get-join_far false m o q = get-join_true m o q
 
 pub empty-is_join_at : (b : Bool) → empty {X = List ℕ} {R = bits_cmp} ≡ join_at b empty empty
 empty-is_join_at true = empty-is_join

@@ -1,6 +1,6 @@
 //! Forks: two nodes of one height.
 
-ghost use Rattle.std.specs.Prelude.{◌≡◌, ℕ, ◌+◌, IfOk, if◌then◌else◌};
+ghost use Rattle.std.specs.Prelude.{◌≡◌, ℕ, ◌+◌, if◌then◌else◌};
 ghost use Rattle.warg_map.specs.Sparse.{sparse_root};
 ghost use Rattle.warg_map.specs.Private.Under.{join};
 
@@ -13,32 +13,11 @@ use warg_crypto::{Hash, Side, SupportedDigest, hash_branch};
 #[cycle(tree)]
 #[derive(Drop)]
 pub struct Fork<D: SupportedDigest, A: Allocator = Global> {
-    left: Link<D, A>,
-    right: Link<D, A>,
+    pub(crate) left: Link<D, A>,
+    pub(crate) right: Link<D, A>,
 }
 
 impl<D: SupportedDigest, A: Allocator> Fork<D, A> {
-    ghost use Rattle.warg_crypto.specs.Sides.{side_bit};
-    ghost use Rattle.warg_map.specs.Private.Seen.{IsForkOf};
-
-    /// The fork of two links.
-    pub fn new(left: Link<D, A>, right: Link<D, A>) -> Fork<D, A>
-        ensures left { result.left ≡ left }
-        ensures right { result.right ≡ right }
-    {
-        Fork { left, right }
-    }
-
-    /// The fork of two links, the first on a side and the second on the other.
-    pub(crate) fn beside(side: Side, near: Link<D, A>, far: Link<D, A>) -> Fork<D, A>
-        ensures { IsForkOf (side_bit side) near far result }
-    {
-        match side {
-            Side::Left => Fork::new(near, far),
-            Side::Right => Fork::new(far, near),
-        }
-    }
-
     /// The digest of the tree.
     pub fn hash(&self) -> Hash<D>
         requires { self.now.left.0 ≡ self.now.right.0 }

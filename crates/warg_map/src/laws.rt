@@ -73,7 +73,7 @@ pub fn one_root()
 pub fn held_bits<D: SupportedDigest, K, V, A: Allocator>(map: &Map<D, K, V, A>)
     ensures { HasLevels 256 map.now }
 {
-    map.levels();
+    let _link = &map.link;
 }
 
 /// Keys of the same bits have the same digest.

@@ -109,8 +109,17 @@ impl<D: SupportedDigest, A: Allocator + Copy> Link<D, A> {
         requires hold { HoldsKey near.1 × HoldsKey far.1 }
         ensures { IfOk result (λ l. l ≡ (near.0 + 1, join_at (side_bit side) near.1 far.1)) }
     {
-        let fork = Rc::new(alloc, Fork::beside(side, near, far))?;
-        Ok(Link::new(Node::Fork(fork)))
+        let fork = match side {
+            Side::Left => Fork {
+                left: near,
+                right: far,
+            },
+            Side::Right => Fork {
+                left: far,
+                right: near,
+            },
+        };
+        Ok(Link::new(Node::Fork(Rc::new(alloc, fork)?)))
     }
 
     /// The link with a stem of `len` bits of `key` above it, from bit `from` on. It holds the key, so a stem becomes

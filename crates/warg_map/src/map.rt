@@ -1,6 +1,6 @@
 //! The map.
 
-ghost use Rattle.std.specs.Prelude.{◌≡◌, ◌≢◌, ℕ, List, Option, ◌+◌, ◌*◌, ◌/◌, ◌<◌, ◌≤◌, ◌↔◌, ◌∷◌, ◌++◌, [], IfOk, IfSome, IsSome, IsTrue, MatchOption, Some, None, Ok, Err, false, not};
+ghost use Rattle.std.specs.Prelude.{◌≡◌, ◌≢◌, ℕ, List, Option, ◌+◌, ◌*◌, ◌/◌, ◌<◌, ◌≤◌, ◌↔◌, ◌∷◌, ◌++◌, [], IfOk, IfSome, IsSome, IsTrue, MatchOption, Some, None, Ok, Err, true, false};
 ghost use Rattle.std.specs.FinMap as map;
 ghost use Rattle.std.specs.Iterator.{IsFinite};
 ghost use Rattle.warg_map.specs.Extended.{IsExtended, IsFullWithin, BeginsNew};
@@ -8,9 +8,8 @@ ghost use Rattle.warg_map.specs.Bits.{key_bits, last_bits};
 ghost use Rattle.warg_crypto.specs.EmptyTrees.{empty_root};
 ghost use Rattle.warg_crypto.specs.Tree.{leaf_digest};
 ghost use Rattle.warg_map.specs.Sparse.{HasLevels, sparse_root, leaf_at, inserted, pair_bytes};
-ghost use Rattle.warg_map.specs.Peers.{Proves, ProvesEmpty};
+ghost use Rattle.warg_map.specs.Peers.{Proves, ProvesAbsent, ProvesEmpty};
 ghost use Rattle.warg_map.specs.Private.Grown.{with_leaves};
-ghost use Rattle.warg_map.specs.Private.Walk.{IsWanted, AnswersWanted};
 ghost use Rattle.warg_map.specs.Count.{node_count};
 
 mod insertion;
@@ -19,10 +18,8 @@ mod key_proof;
 use crate::grown::{one_leaf, spread};
 use crate::link::Link;
 use crate::node::Node;
-use crate::path::Path;
 use crate::proof::Proof;
 use crate::singleton::Singleton;
-use crate::walk::Wanted;
 pub use insertion::Insertion;
 pub use key_proof::KeyProof;
 use std::alloc::{AllocError, Allocator, Global};
@@ -30,7 +27,7 @@ use std::fmt;
 use std::fmt::Debug;
 use std::marker::{Model, PhantomData};
 use thiserror::Error;
-use warg_crypto::{Hash, SupportedDigest, VisitBytes, hash_leaf};
+use warg_crypto::{Hash, SupportedDigest, VisitBytes, empty_tree_hash, hash_leaf};
 
 /// Why an insertion was refused. The map that it was to go into stays as it was.
 #[derive(Debug, PartialEq, Eq, Drop, Error)]
@@ -73,7 +70,7 @@ impl From<AllocError> for MapError {
 /// }
 /// ```
 pub struct Map<D: SupportedDigest, K, V, A: Allocator = Global> {
-    link: Link<D, A>,
+    pub(crate) link: Link<D, A>,
     count: usize,
     alloc: A,
     key: PhantomData<K>,
@@ -180,13 +177,6 @@ impl<D: SupportedDigest, K, V, A: Allocator> Map<D, K, V, A> {
         self.count
     }
 
-    // All bits that are held are 256.
-    pub(crate) fn levels(&self)
-        ensures { HasLevels 256 self.now }
-    {
-        let _link = &self.link;
-    }
-
     /// Whether no key digest is held.
     pub fn is_empty(&self) -> bool
         ensures { IsTrue result ↔ (map.len self.now ≡ 0) }
@@ -242,7 +232,11 @@ impl<D: SupportedDigest, K: VisitBytes + Drop, V: VisitBytes + Drop, A: Allocato
         ensures none { map.contains_key self.now (key_bits D.digest (K.bytes key)) ≡ false
             → result ≡ Ok None }
     {
-        self.proof_of(&Hash::of(&key), Wanted::Leaf)
+        let key = Hash::of(&key);
+        if self.leaf_of(&key).is_none() {
+            return Ok(None);
+        }
+        Ok(Some(self.proof_of(&key, true)?))
     }
 
     /// The proof that the leaf digest under `key` is that of an empty leaf, or `None` exactly if it isn't, which takes
@@ -262,28 +256,37 @@ impl<D: SupportedDigest, K: VisitBytes + Drop, V: VisitBytes + Drop, A: Allocato
             ≢ empty_root D.digest 0 → result ≡ Ok None }
     {
         let key = Hash::of(&key);
-        let Some(proof) = self.proof_of(&key, Wanted::NoLeaf)? else {
-            return self.proof_of(&key, Wanted::EmptyLeaf);
+        let Some(leaf) = self.leaf_of(&key) else {
+            return Ok(Some(self.proof_of(&key, false)?));
         };
-        Ok(Some(proof))
+        if leaf != empty_tree_hash(0) {
+            return Ok(None);
+        }
+        Ok(Some(self.proof_of(&key, true)?))
     }
 
-    // The proof of what is wanted under a key digest, or `None` exactly if it isn't there, which takes no memory.
+    // The leaf digest that is held under a key digest, if one is.
+    pub(crate) fn leaf_of(&self, key: &Hash<D>) -> Option<Hash<D>>
+        ensures { result ≡ map.get self.now (last_bits key.now 256) }
+    {
+        self.link.node().leaf(key, 0)
+    }
+
+    // The proof of what is held under a key digest, or that nothing is.
     pub(crate) fn proof_of(
         &self,
         key: &Hash<D>,
-        wanted: Wanted,
-    ) -> Result<Option<Proof<D, K, V, A>>, AllocError>
-        ensures answer { let bits = last_bits key.now 256 in
-            IfOk result (AnswersWanted D.digest wanted self.now bits) }
-        ensures none { ¬ (IsWanted D.digest wanted (map.get self.now (last_bits key.now 256)))
-            → result ≡ Ok None }
+        held: bool,
+    ) -> Result<Proof<D, K, V, A>, AllocError>
+        requires { map.contains_key self.now (last_bits key.now 256) ≡ held }
+        ensures held { held ≡ true
+            → IfOk result (Proves D.digest 256 self.now (last_bits key.now 256)) }
+        ensures absent { held ≡ false
+            → IfOk result (ProvesAbsent D.digest self.now (last_bits key.now 256)) }
     {
         let mut peers = Vec::new(self.alloc);
-        if !self.link.node().walk(Path::new(key), wanted, &mut peers)? {
-            return Ok(None);
-        }
-        Ok(Some(Proof::new(peers)))
+        self.link.node().collect(key, 0, held, &mut peers)?;
+        Ok(Proof::new(peers))
     }
 
     /// The map with `val` under `key`, in place of what was held under the key's digest.
@@ -296,54 +299,37 @@ impl<D: SupportedDigest, K: VisitBytes + Drop, V: VisitBytes + Drop, A: Allocato
             ↔ ((map.len self.now ≡ usize.MAX)
             × (map.contains_key self.now (key_bits D.digest (K.bytes key)) ≡ false)) }
     {
-        let (map, _) = self.with_leaf(&Hash::of(&key), hash_leaf(&val))?;
-        Ok(map)
+        self.with_leaf(&Hash::of(&key), hash_leaf(&val))
     }
 
-    // The map with a leaf digest under a key digest, and whether the key digest is new.
-    fn with_leaf(&self, key: &Hash<D>, leaf: Hash<D>) -> Result<(Map<D, K, V, A>, bool), MapError>
-        ensures ok { IfOk result (λ p. p.0 ≡ map.insert self.now (last_bits key.now 256) leaf) }
-        ensures is_new { IfOk result (λ p. p.1
-            ≡ not (map.contains_key self.now (last_bits key.now 256))) }
+    // The map with a leaf digest under a key digest.
+    fn with_leaf(&self, key: &Hash<D>, leaf: Hash<D>) -> Result<Map<D, K, V, A>, MapError>
+        ensures ok { IfOk result (λ m. m ≡ map.insert self.now (last_bits key.now 256) leaf) }
         ensures full { (result ≡ Err MapError.Full)
             ↔ ((map.len self.now ≡ usize.MAX)
             × (map.contains_key self.now (last_bits key.now 256) ≡ false)) }
     {
         let _len = self.len();
-        if self.is_full_for(key) {
+        if self.len() == usize::MAX && self.leaf_of(key).is_none() {
             return Err(MapError::Full);
         }
         let leaves = one_leaf(self.alloc, Singleton::leaf(key.copied(), leaf))?;
-        let (map, fresh) = self.with_leaves(leaves)?;
-        Ok((map, fresh == 1))
+        Ok(self.with_leaves(leaves)?)
     }
 
-    // The map with leaf digests put under their key digests, in order, and how many of these are new.
-    fn with_leaves(
-        &self,
-        leaves: Vec<Singleton<D>, A>,
-    ) -> Result<(Map<D, K, V, A>, usize), AllocError>
+    // The map with leaf digests put under their key digests, in order.
+    fn with_leaves(&self, leaves: Vec<Singleton<D>, A>) -> Result<Map<D, K, V, A>, AllocError>
         requires { map.len (with_leaves 256 self.now leaves.items) ≤ usize.MAX }
-        ensures ok { IfOk result (λ p. p.0 ≡ with_leaves 256 self.now leaves.items) }
-        ensures count { IfOk result (λ p. map.len self.now + p.1 ≡ map.len p.0) }
+        ensures { IfOk result (λ m. m ≡ with_leaves 256 self.now leaves.items) }
     {
         let (link, fresh) = spread(self.alloc, &self.link, leaves, 0)?;
-        let map = Map {
+        Ok(Map {
             link,
             count: self.len() + fresh,
             alloc: self.alloc,
             key: PhantomData,
             value: PhantomData,
-        };
-        Ok((map, fresh))
-    }
-
-    // Whether a key digest is one too many: a new one, where as many are held as can be counted.
-    fn is_full_for(&self, key: &Hash<D>) -> bool
-        ensures { IsTrue result ↔ ((map.len self.now ≡ usize.MAX)
-            × (map.contains_key self.now (last_bits key.now 256) ≡ false)) }
-    {
-        self.len() == usize::MAX && matches!(self.proof_of(key, Wanted::Leaf), Ok(None))
+        })
     }
 
     /// The map with all the pairs of an iterator inserted, in order.
@@ -395,8 +381,7 @@ impl<D: SupportedDigest, K: VisitBytes + Drop, V: VisitBytes + Drop, A: Allocato
         for (key, value) in iter {
             leaves.push(Singleton::leaf(Hash::of(&key), hash_leaf(&value)))?;
         }
-        let (map, _) = self.with_leaves(leaves)?;
-        Ok(map)
+        self.with_leaves(leaves)
     }
 
     // This map with all the pairs of an iterator inserted, in order.

@@ -1,14 +1,11 @@
 //! The nodes of the tree.
 
-ghost use Rattle.std.specs.Prelude.{◌≡◌, ℕ, ◌+◌, ◌-◌, ◌<◌, ◌≤◌, true, IfOk};
+ghost use Rattle.std.specs.Prelude.{◌≡◌, ℕ, ◌+◌, ◌-◌, ◌<◌, ◌≤◌};
 ghost use Rattle.std.specs.FinMap as map;
-ghost use Rattle.warg_map.specs.Bits.{bit_at, bits_from, last_bits};
 ghost use Rattle.warg_map.specs.Sparse.{sparse_root};
-ghost use Rattle.warg_map.specs.Private.Under.{join_at, under, HoldsKey};
 
 use crate::fork::Fork;
 use crate::link::Link;
-use crate::path::{Path, side_at};
 use crate::singleton::Singleton;
 use crate::stem::Stem;
 use std::alloc::{AllocError, Allocator, Global};
@@ -34,7 +31,6 @@ pub enum Node<D: SupportedDigest, A: Allocator = Global> {
 }
 
 impl<D: SupportedDigest, A: Allocator> Node<D, A> {
-    ghost use Rattle.warg_map.specs.Private.Path.{bits_left};
     ghost use Rattle.warg_map.specs.Private.Seen.{tree_height, held_by, IsLevel, IsWellFormed};
 
     /// The digest of the tree.
@@ -45,7 +41,7 @@ impl<D: SupportedDigest, A: Allocator> Node<D, A> {
         match self {
             Node::Fork(fork) => fork.hash(),
             Node::Singleton(singleton) => singleton.hash(),
-            Node::Stem(stem) => stem.hash(),
+            Node::Stem(stem) => stem.hash_below(0),
             Node::Empty => empty_tree_hash(256),
         }
     }

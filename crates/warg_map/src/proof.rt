@@ -51,15 +51,8 @@ impl<D, K, V, A: Allocator> PartialEq for Proof<D, K, V, A> {
         ensures value { result ≡ same_peers self.now other.now }
         ensures exact { IsTrue result ↔ (self.now ≡ other.now) }
     {
-        are_same(self.peers(), other.peers())
+        self.peers() == other.peers()
     }
-}
-
-// Whether these are the same peers.
-fn are_same<D>(first: &[Option<Hash<D>>], second: &[Option<Hash<D>>]) -> bool
-    ensures { result ≡ same_peers first.now second.now }
-{
-    first == second
 }
 
 impl<D, K, V, A: Allocator> Eq for Proof<D, K, V, A> {

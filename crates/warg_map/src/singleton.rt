@@ -1,11 +1,9 @@
 //! Lone keys.
 
-ghost use Rattle.std.specs.Prelude.{◌≡◌, ℕ, ◌+◌, ◌-◌, ◌<◌, ◌≤◌};
-ghost use Rattle.warg_map.specs.Bits.{bit_at, bits_from};
+ghost use Rattle.std.specs.Prelude.{◌≡◌, ◌≤◌};
 ghost use Rattle.warg_map.specs.Sparse.{sparse_root};
 ghost use Rattle.warg_map.specs.Private.Lone.{held_alone, IsRootAt};
 
-use crate::path::{Path, shared_bits};
 use crate::stem::stem_digest;
 use std::marker::Model;
 use warg_crypto::{Hash, SupportedDigest};
@@ -104,18 +102,6 @@ impl<D: SupportedDigest> Singleton<D> {
         self.height as usize
     }
 
-    // The highest digest that is known of the key's trees of at most `height` levels, and the height of its tree.
-    fn known_below(&self, height: usize) -> (&Hash<D>, usize)
-        ensures at_most { result.1 ≤ height }
-        ensures root { IsRootAt D.digest self.now.key self.now.value result.1 result.0.now }
-    {
-        let kept_height = self.kept_height as usize;
-        if kept_height <= height {
-            return (&self.kept, kept_height);
-        }
-        (&self.value, 0)
-    }
-
     /// The same key in a tree of another height.
     pub(crate) fn with_height(&self, height: usize) -> Singleton<D>
         requires { height ≤ 256 }
@@ -123,7 +109,12 @@ impl<D: SupportedDigest> Singleton<D> {
         ensures value { result.value ≡ self.now.value }
         ensures height { result.height ≡ height }
     {
-        let (known, from) = self.known_below(height);
+        let mut known = &self.kept;
+        let mut from = self.kept_height as usize;
+        if height < from {
+            known = &self.value;
+            from = 0;
+        }
         let kept_height = from.max(height.saturating_sub(KEPT_BELOW));
         let kept = stem_digest(&self.key, 256 - kept_height, kept_height - from, known);
         Singleton {
@@ -142,18 +133,5 @@ impl<D: SupportedDigest> Singleton<D> {
         let height = self.height as usize;
         let len = height - self.kept_height as usize;
         stem_digest(&self.key, 256 - height, len, &self.kept)
-    }
-
-    /// How many of the bits that a path has left the key shares before it parts.
-    pub(crate) fn shared_with(&self, path: &Path<'_, D>) -> usize
-        requires { path.now.index + self.now.height ≤ 256 }
-        ensures at_most { result ≤ self.now.height }
-        ensures same { bits_from self.now.key path.now.index result
-            ≡ bits_from path.now.hash.now path.now.index result }
-        ensures apart { result < self.now.height
-            → ¬ (bit_at self.now.key (path.now.index + result)
-            ≡ bit_at path.now.hash.now (path.now.index + result)) }
-    {
-        shared_bits(&self.key, path.hash(), path.index(), self.height as usize)
     }
 }

@@ -1,13 +1,13 @@
 //! Stems: runs of bits beside which all is empty.
 
 ghost use Rattle.std.specs.Prelude.{◌≡◌, ℕ, ◌+◌, ◌-◌, ◌<◌, ◌≤◌, IfOk};
-ghost use Rattle.warg_map.specs.Bits.{bit_at, bits_from};
+ghost use Rattle.warg_map.specs.Bits.{bits_from};
 ghost use Rattle.warg_map.specs.Sparse.{sparse_root};
 ghost use Rattle.warg_map.specs.Private.Under.{under, stem_root};
 
 use crate::link::Link;
 use crate::node::Node;
-use crate::path::{Path, shared_bits, side_at};
+use crate::path::side_at;
 use std::alloc::{AllocError, Allocator, Global};
 use std::rc::Rc;
 use warg_crypto::{Hash, SupportedDigest, empty_tree_hash};
@@ -47,15 +47,6 @@ pub(crate) fn stem_digest<D: SupportedDigest>(
 }
 
 impl<D: SupportedDigest, A: Allocator> Stem<D, A> {
-    /// The digest of the tree.
-    pub fn hash(&self) -> Hash<D>
-        requires { self.now.from + self.now.len + self.now.below.0 ≡ 256 }
-        ensures { result ≡ sparse_root D.digest (self.now.below.0 + self.now.len)
-            (under (bits_from self.now.key self.now.from self.now.len) self.now.below.1) }
-    {
-        self.hash_below(0)
-    }
-
     /// The digest of what stands below the stem's first `at` bits.
     pub(crate) fn hash_below(&self, at: usize) -> Hash<D>
         requires level { self.now.from + self.now.len + self.now.below.0 ≡ 256 }
@@ -65,19 +56,6 @@ impl<D: SupportedDigest, A: Allocator> Stem<D, A> {
             (self.now.len - at)) self.now.below.1) }
     {
         stem_digest(&self.key, self.from + at, self.len - at, self.below.hash())
-    }
-
-    /// How many of the stem's bits a path shares before it parts.
-    pub(crate) fn shared_with(&self, path: &Path<'_, D>) -> usize
-        requires { path.now.index + self.now.len ≤ 256 }
-        ensures at_most { result ≤ self.now.len }
-        ensures same { bits_from self.now.key path.now.index result
-            ≡ bits_from path.now.hash.now path.now.index result }
-        ensures apart { result < self.now.len
-            → ¬ (bit_at self.now.key (path.now.index + result)
-            ≡ bit_at path.now.hash.now (path.now.index + result)) }
-    {
-        shared_bits(&self.key, path.hash(), path.index(), self.len)
     }
 }
 

@@ -1,9 +1,8 @@
 -- What a node of the tree stands for.
-use Rattle.std.specs.Prelude.{◌≡◌, ℕ, ◌+◌, ◌≤◌, ◌<◌, Bool, if◌then◌else◌, ◌⊎◌}
+use Rattle.std.specs.Prelude.{◌≡◌, ℕ, ◌+◌, ◌≤◌, ◌<◌, ◌⊎◌}
 use Rattle.std.specs.FinMap.{empty}
 use Rattle.warg_map.specs.declared.node.Node.{Node}
 use Rattle.warg_map.specs.declared.node.Node.TheVariants.{Fork, Singleton, Stem, Empty}
-use Rattle.warg_map.specs.declared.fork.Fork.{Fork as Fork'}
 use Rattle.warg_map.specs.Bits.{bits_from}
 use Rattle.warg_map.specs.Sparse.{SparseMap}
 use Rattle.warg_map.specs.Private.Lone.{held_alone}
@@ -49,11 +48,6 @@ IsFormed Empty = Unit {0}
 pub record IsWellFormed {D A : _} (n : Node D A) : Type 0 where
   pub level : IsLevel n
   pub formed : IsFormed n
-
--- A fork that sees `near` on the side of the bit, and `far` on the other.
-pub record IsForkOf {D A : _} (bit : Bool) (near far : ℕ × SparseMap) (f : Fork' D A) : Type 0 where
-  pub left : f.left ≡ (if bit then far else near)
-  pub right : f.right ≡ (if bit then near else far)
 
 -- What may stand below a stem's bits.
 abbrev pub Carries : {D A : _} → Node D A → Type 0

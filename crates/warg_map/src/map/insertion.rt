@@ -8,7 +8,6 @@ ghost use Rattle.warg_map.specs.Insertions.{IsInserted};
 
 use crate::map::{Map, MapError};
 use crate::proof::Proof;
-use crate::walk::Wanted;
 use std::alloc::{Allocator, Global};
 use warg_crypto::{Hash, SupportedDigest, VisitBytes, hash_leaf};
 
@@ -42,10 +41,9 @@ impl<D: SupportedDigest, K: VisitBytes + Drop, V: VisitBytes + Drop, A: Allocato
             × (map.contains_key self.now (key_bits D.digest (K.bytes key)) ≡ false)) }
     {
         let key = Hash::of(&key);
-        let (map, is_new) = self.with_leaf(&key, hash_leaf(&val))?;
-        let Some(proof) = map.proof_of(&key, Wanted::Leaf)? else {
-            unreachable!()
-        };
+        let map = self.with_leaf(&key, hash_leaf(&val))?;
+        let proof = map.proof_of(&key, true)?;
+        let is_new = map.len() > self.len();
         Ok(Insertion { map, proof, is_new })
     }
 }

@@ -5,7 +5,6 @@ ghost use Rattle.warg_map.specs.Bits.{key_bits};
 
 use crate::map::Map;
 use crate::proof::Proof;
-use crate::walk::Wanted;
 use std::alloc::{AllocError, Allocator, Global};
 use warg_crypto::{Hash, SupportedDigest, VisitBytes};
 
@@ -31,12 +30,9 @@ impl<D: SupportedDigest, K: VisitBytes + Drop, V: VisitBytes + Drop, A: Allocato
         ensures { IfOk result (ProvesKey D.digest self.now (key_bits D.digest (K.bytes key.now))) }
     {
         let hash = Hash::of(key);
-        if let Some(proof) = self.proof_of(&hash, Wanted::Leaf)? {
-            return Ok(KeyProof::Presence(proof));
+        if self.leaf_of(&hash).is_some() {
+            return Ok(KeyProof::Presence(self.proof_of(&hash, true)?));
         }
-        let Some(proof) = self.proof_of(&hash, Wanted::NoLeaf)? else {
-            unreachable!()
-        };
-        Ok(KeyProof::Absence(proof))
+        Ok(KeyProof::Absence(self.proof_of(&hash, false)?))
     }
 }

@@ -1,31 +1,30 @@
 use Rattle.std.proofs.Common.{◌≡◌, ◌+◌, ◌-◌, ◌∷◌, ◌++◌, [], Some, sym, ap, ◌∙◌, arith}
-use Rattle.warg_map.specs.Private.Walk.{empty_half, empty_halves}
-use Rattle.warg_map.proofs.CollectedPeers.{halves-none, halves-more, half_digest, half_above, no_half_above}
+use Rattle.std.proofs.lemmas.Option.{cond_some}
+use Rattle.warg_map.specs.Private.Walk.{empty_half}
+use Rattle.warg_map.proofs.CollectedPeers.{halves-none, halves-more, no_half}
 use Rattle.warg_map.proofs.walk.push_empty_halves.Goals as goal
-use Rattle.warg_map.proofs.walk.push_empty_halves.Goals.{in-Some, in-None}
+use Rattle.warg_map.proofs.walk.push_empty_halves.Goals.{then-held, else-held, in-Some, in-None}
 
 pub loop-height-init : goal.loop-height-init
 loop-height-init g c =
-    let half = empty_half g.D.SupportedDigest.digest c.args.wanted in
-    let z : 0 ≡ c.args.from - c.args.from = omega arith in record {
-      peers = sym (halves-none half c.args.from c.args.peers.now.items) ∙ ap (λ n. c.args.peers.now.items ++ empty_halves half c.args.from n) z;
-      half = c.empty_half-half.ensures;
+    let z : c.args.from - c.args.from ≡ 0 = omega arith in record {
+      peers = rw z (sym (halves-none (empty_half g.D.SupportedDigest.digest c.args.held) c.args.from c.args.peers.now.items));
+      half = elim c.if-held.branch [ then-held w ↦ w.half-is ∙ rw w.if-held.true (ap Some w.empty_tree_hash.ensures) | else-held w ↦ rw w.if-held.false w.half-is ];
     }
 
 pub empty_above-requires-clause-empty : goal.empty_above-requires-clause-empty
-empty_above-requires-clause-empty g c = half_digest g.D.SupportedDigest.digest c.args.wanted c.loop-height.height c.in-Some.empty (sym c.loop-height.invariant.half ∙ c.in-Some.is)
+empty_above-requires-clause-empty g c = sym (cond_some c.args.held _ _ (sym c.loop-height.invariant.half ∙ c.in-Some.is)).1
 
 pub loop-height-preserved : goal.loop-height-preserved
 loop-height-preserved g c =
     let H = g.D.SupportedDigest.digest in
-    let half = empty_half H c.args.wanted in
-    let n = c.loop-height.height - c.args.from in
+    let half = empty_half H c.args.held in
     let at : c.args.from + (c.loop-height.height - c.args.from) ≡ c.loop-height.height = omega arith in
-    let next : c.loop-height.height - c.args.from + 1 ≡ c.loop-height.height + 1 - c.args.from = omega arith in record {
-      peers = c.in_ok-push.ensures.items ∙ ap (λ x. c.loop-height.peers.items ++ x ∷ []) (c.replace.ensures.value ∙ c.loop-height.invariant.half ∙ ap half (sym at))
-          ∙ ap (λ t. t ++ half (c.args.from + n) ∷ []) c.loop-height.invariant.peers ∙ halves-more half c.args.from n c.args.peers.now.items ∙ ap (λ j. c.args.peers.now.items ++ empty_halves half c.args.from j) next;
+    let next : c.loop-height.height + 1 - c.args.from ≡ c.loop-height.height - c.args.from + 1 = omega arith in record {
+      peers = rw next (c.in_ok-push.ensures.items ∙ ap (λ x. c.loop-height.peers.items ++ x ∷ []) (c.replace.ensures.value ∙ c.loop-height.invariant.half ∙ ap half (sym at))
+          ∙ ap (λ t. t ++ half (c.args.from + (c.loop-height.height - c.args.from)) ∷ []) c.loop-height.invariant.peers ∙ halves-more half c.args.from (c.loop-height.height - c.args.from) c.args.peers.now.items);
       half = c.replace.ensures.after ∙ elim c.match-half.branch [
-        | in-Some w ↦ w.above-is ∙ ap Some w.empty_above.ensures ∙ half_above H c.args.wanted c.loop-height.height _ (sym c.loop-height.invariant.half ∙ w.in-Some.is)
-        | in-None w ↦ w.above-is ∙ no_half_above H c.args.wanted c.loop-height.height (sym c.loop-height.invariant.half ∙ w.in-None.is)
+        | in-Some w ↦ (let yes = cond_some c.args.held _ _ (sym c.loop-height.invariant.half ∙ w.in-Some.is) in w.above-is ∙ rw yes.0 (ap Some w.empty_above.ensures))
+        | in-None w ↦ w.above-is ∙ no_half c.args.held _ _ (sym c.loop-height.invariant.half ∙ w.in-None.is)
       ];
     }

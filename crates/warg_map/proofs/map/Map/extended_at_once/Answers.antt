@@ -1,5 +1,6 @@
 use Rattle.std.proofs.Common.{ap, sym, ◌∙◌, subst, rules}
 use Rattle.std.specs.Iterator.{Yields}
+use Rattle.std.proofs.lemmas.Result.{IfOk-weaker}
 use Rattle.std.specs.FinMap.{insert}
 use Rattle.warg_map.specs.Bits.{last_bits}
 use Rattle.warg_crypto.specs.Tree.{leaf_digest}
@@ -27,8 +28,8 @@ with_leaves-requires g c =
     search (rules, most, c.requires.few)
 
 pub returns-clause-ok : goal.returns-clause-ok
-returns-clause-ok g c = (
+returns-clause-ok g c = IfOk-weaker c.with_leaves.result _ _ (λ m is. (
   c.loop-key.yielded,
   (c.next.new.self, (c.loop-key.key-iterator, subst (λ (it : _). Yields g.I.Iterator.next_gives it c.loop-key.yielded c.loop-key.key-iterator) c.into_iter-key-iterator.ensures.into_iter_gives c.loop-key.yielded_by, c.in-None.ensures.steps)),
-  c.in_ok-map.ensures.ok ∙ c.loop-key.invariant c.args.self.now,
-)
+  is ∙ c.loop-key.invariant c.args.self.now,
+)) c.with_leaves.ensures

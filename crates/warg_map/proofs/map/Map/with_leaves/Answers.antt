@@ -5,8 +5,8 @@ use Rattle.warg_map.specs.Private.Grown.{with_leaves}
 use Rattle.warg_map.proofs.ManyLeaves.{levels-with_leaves}
 use Rattle.warg_map.proofs.map.Map.with_leaves.Goals as goal
 
-pub invariant_of-map : goal.invariant_of-map
-invariant_of-map g c =
+pub invariant_of-result : goal.invariant_of-result
+invariant_of-result g c =
     let es = c.args.leaves.items in
     let new = c.in_ok-link.ensures.seen ∙ ap (λ k. (k, with_leaves k c.self.inside.link.1 es)) c.self.invariant.0 in (
       ap (λ d. d.0) new,

@@ -5,5 +5,5 @@ use Rattle.warg_map.proofs.proof.ProofPartialEq.eq.Goals as goal
 
 pub returns-clause-exact : goal.returns-clause-exact
 returns-clause-exact g c =
-    let same : c.are_same.result ≡ same_peers c.args.self.now c.args.other.now = search rules in
+    let same : c.eq.result ≡ same_peers c.args.self.now c.args.other.now = search rules in
     rw same (peers_decide _ _)
