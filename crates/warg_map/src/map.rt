@@ -2,6 +2,7 @@
 
 ghost use Rattle.std.specs.Prelude.{◌≡◌, ◌≢◌, ℕ, List, Option, ◌+◌, ◌*◌, ◌/◌, ◌<◌, ◌≤◌, ◌↔◌, ◌∷◌, ◌++◌, [], IfOk, IfSome, IsSome, IsTrue, MatchOption, Some, None, Ok, Err, true, false};
 ghost use Rattle.std.specs.FinMap as map;
+ghost use Rattle.std.specs.Option.{option_copied};
 ghost use Rattle.std.specs.Iterator.{IsFinite};
 ghost use Rattle.warg_map.specs.Extended.{IsExtended, IsFullWithin, BeginsNew};
 ghost use Rattle.warg_map.specs.Bits.{key_bits, last_bits};
@@ -259,15 +260,15 @@ impl<D: SupportedDigest, K: VisitBytes + Drop, V: VisitBytes + Drop, A: Allocato
         let Some(leaf) = self.leaf_of(&key) else {
             return Ok(Some(self.proof_of(&key, false)?));
         };
-        if leaf != empty_tree_hash(0) {
+        if *leaf != empty_tree_hash(0) {
             return Ok(None);
         }
         Ok(Some(self.proof_of(&key, true)?))
     }
 
     // The leaf digest that is held under a key digest, if one is.
-    pub(crate) fn leaf_of(&self, key: &Hash<D>) -> Option<Hash<D>>
-        ensures { result ≡ map.get self.now (last_bits key.now 256) }
+    pub(crate) fn leaf_of(&self, key: &Hash<D>) -> Option<&Hash<D>>
+        ensures { option_copied result ≡ map.get self.now (last_bits key.now 256) }
     {
         self.link.node().leaf(key, 0)
     }

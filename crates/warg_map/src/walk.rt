@@ -2,6 +2,7 @@
 
 ghost use Rattle.std.specs.Prelude.{◌≡◌, ◌+◌, ◌-◌, ◌<◌, ◌≤◌, ◌∷◌, ◌++◌, [], Some, OnOk, false};
 ghost use Rattle.std.specs.FinMap as map;
+ghost use Rattle.std.specs.Option.{option_copied};
 ghost use Rattle.warg_map.specs.Bits.{last_bits};
 ghost use Rattle.warg_map.specs.Private.Seen.{tree_height, held_by, IsWellFormed};
 ghost use Rattle.warg_map.specs.Private.Walk.{empty_half, empty_halves, Collects};
@@ -58,10 +59,10 @@ fn push_beside<D: SupportedDigest, A: Allocator>(
 
 impl<D: SupportedDigest, A: Allocator> Node<D, A> {
     /// The leaf digest that is held under the bits of a key digest from bit `depth` on, if one is.
-    pub(crate) fn leaf(&self, key: &Hash<D>, depth: usize) -> Option<Hash<D>>
+    pub(crate) fn leaf(&self, key: &Hash<D>, depth: usize) -> Option<&Hash<D>>
         requires well_formed { IsWellFormed self.now }
         requires height { tree_height self.now + depth ≡ 256 }
-        ensures { result ≡ map.get (held_by self.now) (last_bits key.now (256 - depth)) }
+        ensures { option_copied result ≡ map.get (held_by self.now) (last_bits key.now (256 - depth)) }
     {
         match self {
             Node::Empty => None,
@@ -75,7 +76,7 @@ impl<D: SupportedDigest, A: Allocator> Node<D, A> {
                 if shared < lone.height() {
                     return None;
                 }
-                Some(lone.value().copied())
+                Some(lone.value())
             }
             Node::Stem(stem) => {
                 let stem = stem.as_ref();

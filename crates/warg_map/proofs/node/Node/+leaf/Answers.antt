@@ -24,7 +24,7 @@ returns-then-shared-height g t c =
 pub returns-else-shared-height : goal.returns-else-shared-height
 returns-else-shared-height g t c =
     let run = run_of_lone c.args.self.now _ c.key.result.now c.args.depth c.height.result (is_lone c.in-Singleton.is c.as_ref-lone.ensures) c.key.ensures c.height.ensures.value c.requires.height in
-    ap Some (c.copied.ensures ∙ c.value.ensures) ∙ (found_lone _ _ _ c.args.key.now _ _ _ _ run c.shared_bits-shared.ensures.at_most (omega arith) c.shared_bits-shared.ensures.same).1
+    ap Some c.value.ensures ∙ (found_lone _ _ _ c.args.key.now _ _ _ _ run c.shared_bits-shared.ensures.at_most (omega arith) c.shared_bits-shared.ensures.same).1
 
 pub returns-then-shared-stem : goal.returns-then-shared-stem
 returns-then-shared-stem g t c =
