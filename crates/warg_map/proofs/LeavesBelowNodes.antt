@@ -13,7 +13,7 @@ use Rattle.warg_map.specs.Private.Under.{join, join_at, under, HoldsKey, Splits}
 use Rattle.warg_map.specs.Private.Grown.{with_leaves, ShareBits, on_side}
 use Rattle.warg_map.specs.Private.Seen.{seen, IsWellFormed, IsBelow}
 use Rattle.warg_map.proofs.BitsInFront.{bits_from-append, bits_from-first, bits_from-none, under-append, under-none, holds-under}
-use Rattle.warg_map.proofs.NodeCounts.{len-join, len_join_at, len-under, len-lone}
+use Rattle.warg_map.proofs.NodeCounts.{len-join_at, len-under, len-lone}
 use Rattle.warg_map.proofs.TreeForm.{splits_join, stem_holds}
 use Rattle.warg_map.proofs.ManyLeaves.{put_beside, put_below, put_in_front, still_holds, still_splits, with_leaves-holds, has_last}
 
@@ -43,7 +43,7 @@ put_below_fork old f link x y near far depth es zs os sn is wf sum xe ye ne fe z
         subst (λ (d : ℕ × SparseMap). HoldsKey d.1) (sym m) (still_holds k r os w.formed.1),
       );
       is = λ t e. put_beside false depth k (omega (arith, h, sum)) l r near far t es zs os n m z o e ∙ ap (λ d. (d.0, with_leaves d.0 d.1 es)) top;
-      before = ap (λ d. len d.1) (sym top) ∙ len-join l r ∙ ap (λ d. len d.1 + len r) (sym xe) ∙ ap (λ d. len x.1 + len d.1) (sym ye);
+      before = ap (λ d. len d.1) (sym top) ∙ len-join_at false l r ∙ ap (λ d. len d.1 + len r) (sym xe) ∙ ap (λ d. len x.1 + len d.1) (sym ye);
     }
 
 -- beside a lone key
@@ -145,7 +145,7 @@ splits_beside true k near far l n f e = subst (λ (d : ℕ × SparseMap). Splits
 splits_beside false k near far l n f e = subst (λ (d : ℕ × SparseMap). Splits d.1) (sym e) (splits_join near.1 far.1 n f)
 
 pub len_beside : (b : Bool) (k : ℕ) (near far l : ℕ × SparseMap) → l ≡ (k, join_at b near.1 far.1) → len l.1 ≡ len near.1 + len far.1
-len_beside b k near far l e = ap (λ d. len d.1) e ∙ len_join_at b near.1 far.1
+len_beside b k near far l e = ap (λ d. len d.1) e ∙ len-join_at b near.1 far.1
 
 -- what is held after leaves
 pub holds_after : (k : ℕ) (m : SparseMap) (l : ℕ × SparseMap) (es : List Lone) → l ≡ (k, with_leaves k m es) → 0 < length es → HoldsKey l.1
