@@ -1,5 +1,5 @@
 -- Laws of bits that are put in front of a map.
-use Rattle.std.proofs.Common.{◌≡◌, ℕ, zero, suc, length, ◌+◌, ◌-◌, ◌<◌, Bool, true, false, List, [], ◌∷◌, ◌++◌, Option, None, is_some, refl, sym, ap, ◌∙◌, arith, add-one, take}
+use Rattle.std.proofs.Common.{◌≡◌, ℕ, zero, suc, length, ◌+◌, ◌-◌, ◌<◌, ◌≤◌, Bool, true, false, List, [], ◌∷◌, ◌++◌, Option, None, is_some, refl, sym, ap, ◌∙◌, arith, add-one, take}
 use Rattle.std.proofs.lemmas.List.{take_at}
 use Rattle.std.specs.FinMap.{get, insert, empty, contains_key, get-empty}
 use Rattle.warg_crypto.specs.EmptyTrees.{empty_root}
@@ -42,6 +42,13 @@ bits_from-part key i j len h =
 
 pub last_bits-at : (key : List ℕ) (i n : ℕ) → i + n ≡ 256 → last_bits key n ≡ bits_from key i n
 last_bits-at key i n h = ap (λ j. bits_from key j n) (let e : 256 - n ≡ i = omega arith in e)
+
+-- the bits from a place on, behind some of them
+pub bits_left-split : (key : List ℕ) (i n : ℕ) → i + n ≤ 256 → last_bits key (256 - i) ≡ bits_from key i n ++ last_bits key (256 - (i + n))
+bits_left-split key i n le =
+    let e : 256 - i ≡ n + (256 - (i + n)) = omega (arith, le) in
+    last_bits-at key i (256 - i) (omega (arith, le)) ∙ ap (bits_from key i) e ∙ bits_from-append key i n (256 - (i + n))
+    ∙ ap (λ t. bits_from key i n ++ t) (sym (last_bits-at key (i + n) (256 - (i + n)) (omega (arith, le))))
 
 -- a map on one side
 pub join_at-other : (b c : Bool) (x y : SparseMap) → ¬ (c ≡ b) → join_at c x y ≡ join_at b y x

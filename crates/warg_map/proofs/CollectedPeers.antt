@@ -15,9 +15,9 @@ use Rattle.warg_map.specs.Private.Seen.{tree_height, held_by, seen, IsWellFormed
 use Rattle.warg_map.specs.Private.Walk.{empty_half, empty_halves, Reaches, lone_count, Collects}
 use Rattle.warg_map.specs.Peers.{IsPeer, IsPeers, IsPeerCount, Proves, ProvesAbsent, shared}
 use Rattle.warg_map.proofs.SparseTree.{get-join_at, get-join_far, length-bits_from, length-last_bits, last_bits-first, tail_same}
-use Rattle.warg_map.proofs.BitsInFront.{join_at-other, get-under, get-under_head, under-append, holds-under, only-under, no_some, lone-under, last_bits-at}
+use Rattle.warg_map.proofs.BitsInFront.{bits_left-split, join_at-other, get-under, get-under_head, under-append, holds-under, only-under, no_some, lone-under, last_bits-at}
 use Rattle.warg_map.proofs.TreeForm.{lone_tied, stem_holds}
-use Rattle.warg_map.proofs.FoundInNode.{tied, get-lone_other, IsRun, run_apart, found_apart, bits_left-split}
+use Rattle.warg_map.proofs.FoundInNode.{tied, get-lone_other, IsRun, run_apart, found_apart}
 
 -- bits that part at once, and later
 shared_other : (b : Bool) (p q : List Bool) → shared (b ∷ p) (not b ∷ q) ≡ 0

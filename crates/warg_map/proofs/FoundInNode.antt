@@ -1,5 +1,5 @@
 -- What is found in a node.
-use Rattle.std.proofs.Common.{◌≡◌, ℕ, ◌+◌, ◌-◌, ◌<◌, ◌≤◌, Bool, true, false, cond, List, [], ◌∷◌, ◌++◌, Option, Some, None, refl, sym, ap, ◌∙◌, arith}
+use Rattle.std.proofs.Common.{◌≡◌, ℕ, ◌+◌, ◌-◌, ◌<◌, ◌≤◌, Bool, true, false, cond, List, [], ◌∷◌, ◌++◌, Option, Some, None, refl, sym, ap, ◌∙◌, subst, arith}
 use Rattle.std.proofs.lemmas.List.{append-nil}
 use Rattle.std.specs.FinMap.{insert, empty, get, get-insert, get-empty}
 use Rattle.std.specs.Ordering.{eq_by_cmp}
@@ -15,7 +15,7 @@ use Rattle.warg_map.specs.Private.Under.{under, HoldsKey}
 use Rattle.warg_map.specs.Private.Seen.{seen, tree_height, held_by, IsWellFormed}
 use Rattle.warg_map.proofs.SparseTree.{bits_total, get-join_true, get-join_false, tied_itself_bits, contains_key-insert_same, last_bits-first, last_bits-end}
 use Rattle.warg_map.proofs.TreeForm.{stem_holds}
-use Rattle.warg_map.proofs.BitsInFront.{get-under, get-under_apart, lone-under, bits_from-part, last_bits-at, bits_from-append}
+use Rattle.warg_map.proofs.BitsInFront.{get-under, get-under_apart, lone-under, bits_from-part, bits_left-split, last_bits-at}
 
 pub tied : (q p : List Bool) → eq_by_cmp bits_cmp q p ≡ true → q ≡ p
 tied [] [] e = refl
@@ -83,12 +83,11 @@ run_of_stem old s from is w height =
       },
     )
 
--- the bits from a place on, behind some of them
-pub bits_left-split : (key : List ℕ) (i n : ℕ) → i + n ≤ 256 → last_bits key (256 - i) ≡ bits_from key i n ++ last_bits key (256 - (i + n))
-bits_left-split key i n le =
-    let e : 256 - i ≡ n + (256 - (i + n)) = omega (arith, le) in
-    last_bits-at key i (256 - i) (omega (arith, le)) ∙ ap (bits_from key i) e ∙ bits_from-append key i n (256 - (i + n))
-    ∙ ap (λ t. bits_from key i n ++ t) (sym (last_bits-at key (i + n) (256 - (i + n)) (omega (arith, le))))
+pub run_of_link : {D A : _} (old : Node D A) (s : Rc (Stem' D A) A) (link : ℕ × SparseMap) (from : ℕ) → seen old ≡ link → old ≡ Stem s → IsWellFormed old → link.0 + from ≡ 256
+    → (s.value.from ≡ from) × IsRun link.1 link.0 s.value.key from s.value.len s.value.below.0 s.value.below.1
+run_of_link old s link from sn is w height =
+    let run = run_of_stem old s from is w (subst (λ (d : ℕ × SparseMap). d.0 + from ≡ 256) (sym sn) height) in
+    (run.0, subst (λ (d : ℕ × SparseMap). IsRun d.1 d.0 s.value.key from s.value.len s.value.below.0 s.value.below.1) sn run.1)
 
 -- all bits of the run are the key's
 pub found_below : (held : SparseMap) (height : ℕ) (one key : List ℕ) (from len k j : ℕ) (m : SparseMap) → IsRun held height one from len k m → j ≤ len → len ≤ j → bits_from one from j ≡ bits_from key from j

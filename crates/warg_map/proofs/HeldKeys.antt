@@ -1,18 +1,11 @@
 -- How many keys are held, and how many bits each has.
-use Rattle.std.proofs.Common.{◌≡◌, ℕ, ◌+◌, Bool, true, false, cond, not, List, IsTrue, is_some, length, refl, sym, ap, ◌∙◌}
-use Rattle.std.specs.FinMap.{insert, empty, len, contains_key, len-insert}
+use Rattle.std.proofs.Common.{◌≡◌, ℕ, Bool, true, false, List, IsTrue, is_some, length, refl, sym, ap, ◌∙◌}
+use Rattle.std.specs.FinMap.{insert, empty, contains_key}
 use Rattle.std.specs.Ordering.{eq_by_cmp}
 use Rattle.warg_map.specs.Sparse.{SparseMap, HasLevels, bits_cmp}
-use Rattle.warg_map.proofs.SparseTree.{bits_total, contains_key-empty, tied_itself_bits}
+use Rattle.warg_map.proofs.SparseTree.{contains_key-empty, tied_itself_bits}
 use Rattle.warg_map.proofs.FoundInNode.{tied}
 use Rattle.warg_map.proofs.HonestProofs.{get-insert_other}
-
-turn : (b : Bool) (m n : ℕ) → cond (not b) m n ≡ cond b n m
-turn true m n = refl
-turn false m n = refl
-
-pub len-insert_fresh : (m : SparseMap) (bits : List Bool) (v : List ℕ) (fresh : Bool) → fresh ≡ not (contains_key m bits) → cond fresh (len m + 1) (len m) ≡ len (insert m bits v)
-len-insert_fresh m bits v fresh e = ap (λ b. cond b (len m + 1) (len m)) e ∙ turn (contains_key m bits) (len m + 1) (len m) ∙ sym (len-insert bits_total m bits v)
 
 pub levels-empty : HasLevels 256 empty
 levels-empty bits h = absurd (let e : contains_key empty bits ≡ false = contains_key-empty bits in cc)

@@ -173,6 +173,10 @@ pub insert-join_at : (b : Bool) (m o : SparseMap) (p : List Bool) (v : List ℕ)
 insert-join_at true m o p v = insert-join_true o m p v
 insert-join_at false m o p v = insert-join_false m o p v
 
+pub insert-join_far : (b : Bool) (m o : SparseMap) (p : List Bool) (v : List ℕ) → insert (join_at b m o) (not b ∷ p) v ≡ join_at b m (insert o p v)
+insert-join_far true m o p v = insert-join_false o m p v
+insert-join_far false m o p v = insert-join_true m o p v
+
 pub get-join_at : (b : Bool) (m o : SparseMap) (q : List Bool) → get (join_at b m o) (b ∷ q) ≡ get m q
 get-join_at true m o q = get-join_true o m q
 get-join_at false m o q = get-join_false m o q

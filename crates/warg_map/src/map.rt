@@ -191,12 +191,8 @@ impl<D: SupportedDigest, K, V, A: Allocator> Map<D, K, V, A> {
         ensures exact { result ≡ node_count self.now }
         ensures few { 1 < map.len self.now → result + 2 ≤ 3 * map.len self.now }
     {
-        let len = self.len();
-        match len {
-            0 => 1,
-            1 => 2,
-            _ => self.link.node().count(),
-        }
+        let _len = self.len();
+        self.link.node().count()
     }
 }
 

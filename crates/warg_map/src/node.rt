@@ -1,7 +1,6 @@
 //! The nodes of the tree.
 
 ghost use Rattle.std.specs.Prelude.{◌≡◌, ℕ, ◌+◌, ◌-◌, ◌<◌, ◌≤◌};
-ghost use Rattle.std.specs.FinMap as map;
 ghost use Rattle.warg_map.specs.Sparse.{sparse_root};
 
 use crate::fork::Fork;
@@ -48,19 +47,19 @@ impl<D: SupportedDigest, A: Allocator> Node<D, A> {
 }
 
 impl<D: SupportedDigest, A: Allocator> Node<D, A> {
-    ghost use Rattle.std.specs.Prelude.{◌*◌, ◌^◌, ◌⊎◌, false};
+    ghost use Rattle.std.specs.Prelude.{◌*◌, ◌^◌, ◌⊎◌};
+    ghost use Rattle.std.specs.FinMap as map;
     ghost use Rattle.warg_map.specs.Private.Under.{Splits};
-    ghost use Rattle.warg_map.specs.Count.{nodes};
-    ghost use Rattle.warg_map.specs.Private.Seen.{tree_height, held_by, IsWellFormed};
+    ghost use Rattle.warg_map.specs.Private.Seen.{tree_height, held_by, IsWellFormed, counted};
 
-    /// The number of nodes of a tree that holds a key, and more than one where it is the whole tree of 256 levels.
+    /// The number of nodes of the tree.
     pub(crate) fn count(&self) -> u128
         requires well_formed { IsWellFormed self.now }
-        requires some { 0 < map.len (held_by self.now) }
-        requires more { (tree_height self.now < 256) ⊎ (1 < map.len (held_by self.now)) }
         requires fits { map.len (held_by self.now) < 2 ^ 64 }
-        ensures exact { result ≡ nodes (tree_height self.now) (held_by self.now) false }
-        ensures few { result + 2 ≤ 3 * map.len (held_by self.now) }
+        ensures exact { result ≡ counted (tree_height self.now) (held_by self.now) }
+        ensures few { 0 < map.len (held_by self.now)
+            → (tree_height self.now < 256) ⊎ (1 < map.len (held_by self.now))
+            → result + 2 ≤ 3 * map.len (held_by self.now) }
         ensures fewer { Splits (held_by self.now) → result + 3 ≤ 3 * map.len (held_by self.now) }
     {
         match self {

@@ -1,5 +1,6 @@
 -- Leaves that are put into a tree: leaf digests, each with its key digest, in the order of their insertion.
 use Rattle.std.specs.Prelude.{◌≡◌, ℕ, Bool, true, false, not, List, [], ◌∷◌, filter}
+use Rattle.std.specs.List.{AllByRecursion}
 use Rattle.std.specs.FinMap.{insert}
 use Rattle.warg_map.specs.Bits.{bit_at, bits_from, last_bits}
 use Rattle.warg_map.specs.Sparse.{SparseMap}
@@ -11,9 +12,8 @@ with_leaves k m [] = m
 with_leaves k m (e ∷ es) = with_leaves k (insert m (last_bits e.key k) e.value) es
 
 -- All key digests have the n bits of `key` from bit i on.
-unfoldable pub ShareBits : List ℕ → ℕ → ℕ → List Lone → Type 0
-ShareBits key i n [] = Unit {0}
-ShareBits key i n (e ∷ es) = (bits_from e.key i n ≡ bits_from key i n) × ShareBits key i n es
+abbrev pub ShareBits : List ℕ → ℕ → ℕ → List Lone → Type 0
+ShareBits key i n es = AllByRecursion (λ e. bits_from e.key i n ≡ bits_from key i n) es
 
 -- Whether a bit is another.
 abbrev pub is_bit : Bool → Bool → Bool

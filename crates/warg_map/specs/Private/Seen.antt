@@ -1,10 +1,12 @@
 -- What a node of the tree stands for.
-use Rattle.std.specs.Prelude.{◌≡◌, ℕ, ◌+◌, ◌≤◌, ◌<◌, ◌⊎◌}
-use Rattle.std.specs.FinMap.{empty}
+use Rattle.std.specs.Prelude.{◌≡◌, ℕ, ◌+◌, ◌≤◌, ◌<◌, false, cond, nat_eq, ◌⊎◌}
+use Rattle.std.specs.FinMap.{empty, len}
 use Rattle.warg_map.specs.declared.node.Node.{Node}
 use Rattle.warg_map.specs.declared.node.Node.TheVariants.{Fork, Singleton, Stem, Empty}
 use Rattle.warg_map.specs.Bits.{bits_from}
 use Rattle.warg_map.specs.Sparse.{SparseMap}
+use Rattle.warg_map.specs.Count.{nodes}
+use Rattle.warg_map.specs.Peers.{lone_peers}
 use Rattle.warg_map.specs.Private.Lone.{held_alone}
 use Rattle.warg_map.specs.Private.Under.{join, under, HoldsKey, Splits, IsLone}
 
@@ -60,3 +62,7 @@ Carries Empty = ⊥
 pub record IsSeen {D A : _} (n : Node D A) (height : ℕ) (held : SparseMap) : Type 0 where
   pub seen_as : seen n ≡ (height, held)
   pub well_formed : IsWellFormed n
+
+-- How many nodes the tree of a height over a map has: one where it holds no key; one for a lone key, and two in the whole tree; and else those of the plain tree that are kept.
+abbrev pub counted : ℕ → SparseMap → ℕ
+counted k m = cond (nat_eq (len m) 0) 1 (cond (nat_eq (len m) 1) (1 + lone_peers k) (nodes k m false))

@@ -1,17 +1,14 @@
-use Rattle.std.proofs.Common.{◌≡◌, ℕ, ◌+◌, ◌-◌, ◌<◌, not, length, List, arith, rules, sym, ap, ◌∙◌, subst, inl, refl}
-use Rattle.std.specs.FinMap.{len, empty, len-empty}
+use Rattle.std.proofs.Common.{◌≡◌, ◌+◌, ◌-◌, ◌<◌, length, arith, rules, sym, ◌∙◌, inl, inr}
+use Rattle.std.specs.FinMap.{empty}
 use Rattle.warg_crypto.specs.Sides.{side_bit}
-use Rattle.warg_map.specs.Bits.{bit_at, bits_from, last_bits}
-use Rattle.warg_map.specs.Sparse.{bits_cmp}
-use Rattle.warg_map.specs.Private.Lone.{Lone}
-use Rattle.warg_map.specs.Private.Under.{join_at, under}
-use Rattle.warg_map.specs.Private.Grown.{with_leaves, ShareBits, on_side}
+use Rattle.warg_map.specs.Bits.{bits_from, last_bits}
+use Rattle.warg_map.specs.Private.Grown.{with_leaves}
 use Rattle.warg_map.proofs.SparseTree.{empty-is_join_at}
 use Rattle.warg_map.proofs.NodeCounts.{len-lone, len-under}
-use Rattle.warg_map.proofs.ManyLeaves.{split_at_last, one_key, some_near, few_new, put_beside, put_below, under-empty}
-use Rattle.warg_map.proofs.LeavesBelowNodes.{holds_after, splits_beside, len_beside, has_at}
+use Rattle.warg_map.proofs.ManyLeaves.{split_at_last, one_key, some_near, few_grown, has_last}
+use Rattle.warg_map.proofs.LeavesBelowNodes.{IsPutBeside, put_beside, put_below_bits}
 use Rattle.warg_map.proofs.grown.+grown.Goals as goal
-use Rattle.warg_map.proofs.grown.+grown.Goals.{In_ok-near, In_ok-fork}
+use Rattle.warg_map.proofs.grown.+grown.Goals.{In_ok-near, In_ok-far, In_ok-fork}
 
 shares_less : (g : _) (t : _) (c : In_ok-near g t) → c.shared_by_all-shared.result < 256 - c.args.depth
 shares_less g t c = omega (arith, c.if-shared-depth.false, c.shared_by_all-shared.ensures.at_most, c.requires.depth)
@@ -19,42 +16,30 @@ shares_less g t c = omega (arith, c.if-shared-depth.false, c.shared_by_all-share
 -- a leaf goes to each side
 near_some : (g : _) (t : _) (c : In_ok-near g t) → 0 < length c.in_ok-near.near.items
 near_some g t c =
-    let es = c.args.leaves.items in
-    let last = split_at_last es c.len.result c.index-last.result.now (c.len.ensures ∙ c.args.leaves.ok.0) c.requires.some c.index-last.ensures in
-    let at = c.args.depth + c.shared_by_all-shared.result in
-    let z = c.in_ok-near.ensures.0 ∙ ap (λ x. on_side at x es) c.side_at-side.ensures in
-    subst (λ (x : List Lone). 0 < length x) (sym z) (some_near es _ c.index-last.result.now c.copied-key.result at last (c.copied-key.ensures ∙ c.key-2.ensures))
+    let last = split_at_last c.args.leaves.items c.len.result c.index-last.result.now (c.len.ensures ∙ c.args.leaves.ok.0) c.requires.some c.index-last.ensures in
+    rw (c.in_ok-near.ensures.0, c.side_at-side.ensures) (some_near c.args.leaves.items _ c.index-last.result.now c.copied-key.result (c.args.depth + c.shared_by_all-shared.result) last (c.copied-key.ensures ∙ c.key-2.ensures))
 
 far_some : (g : _) (t : _) (c : In_ok-near g t) → 0 < length c.in_ok-near.far.items
-far_some g t c =
-    let es = c.args.leaves.items in
-    let at = c.args.depth + c.shared_by_all-shared.result in
-    let o = c.in_ok-near.ensures.1 ∙ ap (λ x. on_side at (not x) es) c.side_at-side.ensures in
-    let apart = subst (λ (x : List Lone). 0 < length (on_side at (not (bit_at c.key.result.now at)) x)) c.deref.ensures.value (c.shared_by_all-shared.ensures.apart (shares_less g t c)) in
-    subst (λ (x : List Lone). 0 < length x) (sym o) (subst (λ x. 0 < length (on_side at (not (bit_at x at)) es)) (c.key.ensures ∙ sym (c.copied-key.ensures ∙ c.key-2.ensures)) apart)
+far_some g t c = rw (c.in_ok-near.ensures.1, c.side_at-side.ensures, c.copied-key.ensures ∙ c.key-2.ensures) (rw (c.key.ensures, c.deref.ensures.value) at c.shared_by_all-shared.ensures.apart (shares_less g t c))
 
--- the fork holds the leaves
+-- the fork and its leaves
+put : (g : _) (t : _) (c : In_ok-far g t) → let at = c.args.depth + c.shared_by_all-shared.result in IsPutBeside (side_bit c.side_at-side.result) at (256 - (at + 1), empty) (256 - (at + 1), empty) c.in_ok-near-2.near c.in_ok-far.far c.args.leaves.items
+put g t c =
+    let now = (goal.at.In_ok-far g t c).In_ok-near in
+    let less = shares_less g t now in
+    put_beside _ (c.args.depth + c.shared_by_all-shared.result) _ _ _ _ c.args.leaves.items _ _ (omega (arith, less)) (omega (arith, less)) c.in_ok-near-2.ensures.seen c.in_ok-far.ensures.seen c.in_ok-near.ensures.0 c.in_ok-near.ensures.1 (inr (near_some g t now)) (inr (far_some g t now))
+
 fork_holds : (g : _) (t : _) (c : In_ok-fork g t) → let at = c.args.depth + c.shared_by_all-shared.result in c.in_ok-fork.fork ≡ (256 - at, with_leaves (256 - at) empty c.args.leaves.items)
-fork_holds g t c =
-    let es = c.args.leaves.items in
-    let lt = shares_less g t (goal.at.In_ok-fork g t c).In_ok-near in
-    let at = c.args.depth + c.shared_by_all-shared.result in
-    let b = side_bit c.side_at-side.result in
-    let sum : at + 1 + (256 - (at + 1)) ≡ 256 = omega (arith, lt) in
-    let top : 256 - (at + 1) + 1 ≡ 256 - at = omega (arith, lt) in
-    put_beside b at (256 - (at + 1)) sum empty empty c.in_ok-near-2.near c.in_ok-far.far c.in_ok-fork.fork es c.in_ok-near.near.items c.in_ok-near.far.items c.in_ok-near-2.ensures.seen c.in_ok-far.ensures.seen c.in_ok-near.ensures.0 c.in_ok-near.ensures.1 c.in_ok-fork.ensures
-    ∙ ap (λ j. (j, with_leaves j (join_at b empty empty) es)) top ∙ ap (λ m. (256 - at, with_leaves (256 - at) m es)) (sym (empty-is_join_at b))
+fork_holds g t c = rw (empty-is_join_at (side_bit c.side_at-side.result)) (c.in_ok-fork.ensures ∙ (put g t (goal.at.In_ok-fork g t c).In_ok-far).is)
 
 pub returns-then-shared-depth-clause-seen : goal.returns-then-shared-depth-clause-seen
 returns-then-shared-depth-clause-seen g t c =
-    let es = c.args.leaves.items in
-    let last = split_at_last es c.len.result c.index-last.result.now (c.len.ensures ∙ c.args.leaves.ok.0) c.requires.some c.index-last.ensures in
-    let share = subst (λ x. ShareBits x c.args.depth c.shared_by_all-shared.result es) c.key.ensures (subst (λ (x : List Lone). ShareBits c.key.result.now c.args.depth c.shared_by_all-shared.result x) c.deref.ensures.value c.shared_by_all-shared.ensures.same) in
-    let one = one_key es _ c.index-last.result.now c.index-last.result.now.key c.index-last.result.now.value c.args.depth c.shared_by_all-shared.result last refl refl c.requires.depth c.if-shared-depth.true share in
-    c.in_ok-lone.ensures ∙ ap (λ m. (256 - c.args.depth, m)) (sym one)
+    let last = split_at_last c.args.leaves.items c.len.result c.index-last.result.now (c.len.ensures ∙ c.args.leaves.ok.0) c.requires.some c.index-last.ensures in
+    let share = rw (c.key.ensures, c.deref.ensures.value, c.if-shared-depth.true) at c.shared_by_all-shared.ensures.same in
+    rw (one_key c.args.leaves.items _ c.index-last.result.now c.args.depth last c.requires.depth share) c.in_ok-lone.ensures
 
 pub returns-then-shared-depth-clause-count : goal.returns-then-shared-depth-clause-count
-returns-then-shared-depth-clause-count g t c = sym (ap (λ d. len d.1) c.in_ok-lone.ensures ∙ len-lone (last_bits c.index-last.result.now.key (256 - c.args.depth)) c.index-last.result.now.value)
+returns-then-shared-depth-clause-count g t c = rw (c.in_ok-lone.ensures, len-lone (last_bits c.index-last.result.now.key (256 - c.args.depth)) c.index-last.result.now.value)
 
 pub grown-requires : goal.grown-requires
 grown-requires g t c κs within =
@@ -67,48 +52,29 @@ grown-requires-2 g t c κs within =
     (omega (arith, shares_less g t split), (search rules, (search rules, (omega (arith, shares_less g t split), far_some g t split))))
 
 pub beside-requires-clause-hold : goal.beside-requires-clause-hold
-beside-requires-clause-hold g t c =
-    let split = (goal.at.beside-requires-clause-hold g t c).In_ok-near in
-    (holds_after _ _ c.in_ok-near-2.near c.in_ok-near.near.items c.in_ok-near-2.ensures.seen (near_some g t split), holds_after _ _ c.in_ok-far.far c.in_ok-near.far.items c.in_ok-far.ensures.seen (far_some g t split))
+beside-requires-clause-hold g t c = (put g t (goal.at.beside-requires-clause-hold g t c).In_ok-far).hold
 
 pub with_stem-requires-clause-below : goal.with_stem-requires-clause-below
-with_stem-requires-clause-below g t c = λ _.
-    let split = (goal.at.with_stem-requires-clause-below g t c).In_ok-near in
-    inl (splits_beside (side_bit c.side_at-side.result) _ c.in_ok-near-2.near c.in_ok-far.far c.in_ok-fork.fork (holds_after _ _ c.in_ok-near-2.near c.in_ok-near.near.items c.in_ok-near-2.ensures.seen (near_some g t split)) (holds_after _ _ c.in_ok-far.far c.in_ok-near.far.items c.in_ok-far.ensures.seen (far_some g t split)) c.in_ok-fork.ensures)
+with_stem-requires-clause-below g t c = λ _. inl (rw c.in_ok-fork.ensures (put g t (goal.at.with_stem-requires-clause-below g t c).In_ok-far).splits)
 
 pub with_stem-requires-clause-held : goal.with_stem-requires-clause-held
 with_stem-requires-clause-held g t c =
-    let es = c.args.leaves.items in
-    let last = split_at_last es c.len.result c.index-last.result.now (c.len.ensures ∙ c.args.leaves.ok.0) c.requires.some c.index-last.ensures in
-    has_at _ empty c.in_ok-fork.fork es _ c.index-last.result.now c.copied-key.result (fork_holds g t (goal.at.with_stem-requires-clause-held g t c).In_ok-fork) last (c.copied-key.ensures ∙ c.key-2.ensures)
+    let last = split_at_last c.args.leaves.items c.len.result c.index-last.result.now (c.len.ensures ∙ c.args.leaves.ok.0) c.requires.some c.index-last.ensures in
+    has_last _ empty c.in_ok-fork.fork c.args.leaves.items _ c.index-last.result.now c.copied-key.result (fork_holds g t (goal.at.with_stem-requires-clause-held g t c).In_ok-fork) last (c.copied-key.ensures ∙ c.key-2.ensures)
 
 pub overflow_add-result : goal.overflow_add-result
 overflow_add-result g t c =
-    let none = len-empty bits_cmp (List ℕ) in
-    let n : len empty + c.in_ok-near-2.inner ≡ len c.in_ok-near-2.near.1 = omega (arith, none, c.in_ok-near-2.ensures.count) in
-    let f : len empty + c.in_ok-far.outer ≡ len c.in_ok-far.far.1 = omega (arith, none, c.in_ok-far.ensures.count) in
-    let inner = few_new _ c.in_ok-near-2.inner empty c.in_ok-near-2.near c.in_ok-near.near.items c.in_ok-near-2.ensures.seen n in
-    let outer = few_new _ c.in_ok-far.outer empty c.in_ok-far.far c.in_ok-near.far.items c.in_ok-far.ensures.seen f in
+    let inner = few_grown _ c.in_ok-near-2.inner c.in_ok-near-2.near c.in_ok-near.near.items c.in_ok-near-2.ensures.seen c.in_ok-near-2.ensures.count in
+    let outer = few_grown _ c.in_ok-far.outer c.in_ok-far.far c.in_ok-near.far.items c.in_ok-far.ensures.seen c.in_ok-far.ensures.count in
     search (rules, inner, outer)
 
 pub returns-clause-seen : goal.returns-clause-seen
 returns-clause-seen g t c =
-    let es = c.args.leaves.items in
-    let now = (goal.at.returns-clause-seen g t c).In_ok-fork in
-    let lt = shares_less g t (goal.at.returns-clause-seen g t c).In_ok-near in
-    let n = c.shared_by_all-shared.result in
-    let at = c.args.depth + n in
-    let key = c.copied-key.result in
-    let share = subst (λ x. ShareBits x c.args.depth n es) c.key.ensures (subst (λ (x : List Lone). ShareBits c.key.result.now c.args.depth n x) c.deref.ensures.value c.shared_by_all-shared.ensures.same) in
-    let mine = subst (λ x. ShareBits x c.args.depth n es) (sym (c.copied-key.ensures ∙ c.key-2.ensures)) share in
-    let place : at + (256 - at) ≡ 256 = omega (arith, lt) in
-    let up : 256 - at + n ≡ 256 - c.args.depth = omega (arith, lt) in
-    put_below key c.args.depth n (256 - at) place empty c.in_ok-fork.fork c.in_ok-with_stem.field-0 es mine (fork_holds g t now) c.in_ok-with_stem.ensures
-    ∙ ap (λ j. (j, with_leaves j (under (bits_from key c.args.depth n) empty) es)) up
-    ∙ ap (λ m. (256 - c.args.depth, with_leaves (256 - c.args.depth) m es)) (under-empty (bits_from key c.args.depth n))
+    let now = goal.at.returns-clause-seen g t c in
+    let share = rw (c.key.ensures ∙ sym (c.copied-key.ensures ∙ c.key-2.ensures), c.deref.ensures.value) at c.shared_by_all-shared.ensures.same in
+    put_below_bits c.copied-key.result c.args.depth c.shared_by_all-shared.result (256 - (c.args.depth + c.shared_by_all-shared.result)) c.in_ok-fork.fork _ c.args.leaves.items (omega (arith, shares_less g t now.In_ok-near)) share (fork_holds g t now.In_ok-fork) c.in_ok-with_stem.ensures
 
 pub returns-clause-count : goal.returns-clause-count
 returns-clause-count g t c =
-    let both = len_beside (side_bit c.side_at-side.result) _ c.in_ok-near-2.near c.in_ok-far.far c.in_ok-fork.fork c.in_ok-fork.ensures in
-    let stem = ap (λ d. len d.1) c.in_ok-with_stem.ensures ∙ len-under (bits_from c.copied-key.result c.args.depth c.shared_by_all-shared.result) c.in_ok-fork.fork.1 in
-    omega (arith, both, stem, c.in_ok-near-2.ensures.count, c.in_ok-far.ensures.count)
+    let both = (put g t (goal.at.returns-clause-count g t c).In_ok-far).size_is in
+    rw (c.in_ok-with_stem.ensures, len-under (bits_from c.copied-key.result c.args.depth c.shared_by_all-shared.result) c.in_ok-fork.fork.1, c.in_ok-fork.ensures) (omega (arith, both, c.in_ok-near-2.ensures.count, c.in_ok-far.ensures.count))

@@ -1,86 +1,69 @@
-use Rattle.std.proofs.Common.{ℕ, List, ap, sym, ◌∙◌, arith, rules, inl, subst}
+use Rattle.std.proofs.Common.{ℕ, List, ◌∙◌, refl, arith, rules, inl}
 use Rattle.std.specs.FinMap.{len, len-empty}
-use Rattle.warg_map.specs.Bits.{bits_from}
-use Rattle.warg_map.specs.Sparse.{SparseMap, bits_cmp}
-use Rattle.warg_map.specs.Private.Under.{Splits}
-use Rattle.warg_map.specs.Private.Seen.{held_by}
-use Rattle.warg_map.proofs.TreeForm.{lone_no_split, is_fork, is_stem}
-use Rattle.warg_map.proofs.NodeCounts.{left_child, right_child, below_child, below_splits, count_fork, count_stem, len-join, len-under, len-lone, nodes-lone, stem_is_no_split}
+use Rattle.warg_map.specs.Sparse.{bits_cmp}
+use Rattle.warg_map.specs.Private.Seen.{seen, tree_height, held_by, counted}
+use Rattle.warg_map.proofs.TreeForm.{is_fork, is_stem}
+use Rattle.warg_map.proofs.NodeCounts.{IsForkCount, IsStemCount, fork_count, stem_count, counted_lone, splits_more}
 use Rattle.warg_map.proofs.node.Node.+count.Goals as goal
+use Rattle.warg_map.proofs.node.Node.+count.Goals.{After-count-right, After-count}
+
+fork : (g : _) (t : _) (c : After-count-right g t) → IsForkCount (counted (tree_height c.args.self.now) (held_by c.args.self.now)) (len (held_by c.args.self.now)) (seen c.node.result.now) (seen c.node-in-Fork.result.now)
+fork g t c = fork_count c.args.self.now _ _ _ (is_fork c.in-Fork.is c.as_ref-fork.ensures) c.requires.well_formed (c.node.ensures.seen ∙ c.index.ensures) (c.node-in-Fork.ensures.seen ∙ c.index-in-Fork.ensures)
+
+stem : (g : _) (t : _) (c : After-count g t) → IsStemCount (seen c.args.self.now) (seen c.node-in-Stem.result.now)
+stem g t c = stem_count c.args.self.now _ _ (is_stem c.in-Stem.is c.deref.ensures) c.requires.well_formed c.node-in-Stem.ensures.seen
 
 pub count-left-requires : goal.count-left-requires
 count-left-requires g t c κs within =
-    let h = left_child c.args.self.now _ _ (is_fork c.in-Fork.is c.as_ref-fork.ensures) c.requires.well_formed (c.node.ensures.seen ∙ c.index.ensures) c.requires.fits in
-    (search rules, (search rules, (search rules, (c.node.ensures.well_formed, (h.some, (inl h.height, h.fits))))))
+    let f = fork_count c.args.self.now _ _ _ (is_fork c.in-Fork.is c.as_ref-fork.ensures) c.requires.well_formed (c.node.ensures.seen ∙ c.index.ensures) refl in
+    (search rules, (search rules, (search rules, (c.node.ensures.well_formed, omega (arith, f.size_is, c.requires.fits)))))
 
 pub count-right-requires : goal.count-right-requires
 count-right-requires g t c κs within =
-    let h = right_child c.args.self.now _ _ (is_fork c.in-Fork.is c.as_ref-fork.ensures) c.requires.well_formed (c.node-in-Fork.ensures.seen ∙ c.index-in-Fork.ensures) c.requires.fits in
-    (search rules, (search rules, (search rules, (c.node-in-Fork.ensures.well_formed, (h.some, (inl h.height, h.fits))))))
+    let f = fork_count c.args.self.now _ _ _ (is_fork c.in-Fork.is c.as_ref-fork.ensures) c.requires.well_formed refl (c.node-in-Fork.ensures.seen ∙ c.index-in-Fork.ensures) in
+    (search rules, (search rules, (search rules, (c.node-in-Fork.ensures.well_formed, omega (arith, f.size_is, c.requires.fits)))))
 
 pub overflow_add-result : goal.overflow_add-result
-overflow_add-result g t c =
-    let h = left_child c.args.self.now _ _ (is_fork c.in-Fork.is c.as_ref-fork.ensures) c.requires.well_formed (c.node.ensures.seen ∙ c.index.ensures) c.requires.fits in
-    omega (arith, h.fits, c.count-left.ensures.few)
+overflow_add-result g t c = let f = fork g t c in omega (arith, f.size_is, c.requires.fits, c.count-left.ensures.few f.some.0 (inl f.low.0))
 
 pub overflow_add-result-in-Fork : goal.overflow_add-result-in-Fork
 overflow_add-result-in-Fork g t c =
-    let h = left_child c.args.self.now _ _ (is_fork c.in-Fork.is c.as_ref-fork.ensures) c.requires.well_formed (c.node.ensures.seen ∙ c.index.ensures) c.requires.fits in
-    let k = right_child c.args.self.now _ _ (is_fork c.in-Fork.is c.as_ref-fork.ensures) c.requires.well_formed (c.node-in-Fork.ensures.seen ∙ c.index-in-Fork.ensures) c.requires.fits in
-    omega (arith, h.fits, k.fits, c.count-left.ensures.few, c.count-right.ensures.few)
+    let f = fork g t c in omega (arith, f.size_is, c.requires.fits, c.count-left.ensures.few f.some.0 (inl f.low.0), c.count-right.ensures.few f.some.1 (inl f.low.1))
 
 pub count-requires : goal.count-requires
 count-requires g t c κs within =
-    let h = below_child c.args.self.now _ _ (is_stem c.in-Stem.is c.deref.ensures) c.requires.well_formed c.node-in-Stem.ensures.seen c.requires.more c.requires.fits in
-    (search rules, (search rules, (search rules, (c.node-in-Stem.ensures.well_formed, (h.some, (inl h.height, h.fits))))))
+    let s = stem_count c.args.self.now _ _ (is_stem c.in-Stem.is c.deref.ensures) c.requires.well_formed c.node-in-Stem.ensures.seen in
+    (search rules, (search rules, (search rules, (c.node-in-Stem.ensures.well_formed, omega (arith, s.size_is, c.requires.fits)))))
 
 pub overflow_add-result-in-Stem : goal.overflow_add-result-in-Stem
-overflow_add-result-in-Stem g t c =
-    let h = below_child c.args.self.now _ _ (is_stem c.in-Stem.is c.deref.ensures) c.requires.well_formed c.node-in-Stem.ensures.seen c.requires.more c.requires.fits in
-    omega (arith, h.fits, c.count.ensures.few)
+overflow_add-result-in-Stem g t c = let s = stem g t c in omega (arith, s.size_is, c.requires.fits, c.count.ensures.few s.some (inl s.low))
 
 pub returns-in-Singleton-clause-exact : goal.returns-in-Singleton-clause-exact
-returns-in-Singleton-clause-exact g t c = rw c.in-Singleton.is (sym (nodes-lone _ _ _ (len-lone _ _)))
+returns-in-Singleton-clause-exact g t c = rw c.in-Singleton.is (counted_lone _ _ _ (rw c.in-Singleton.is at c.requires.well_formed).formed)
 
 pub returns-in-Singleton-clause-fewer : goal.returns-in-Singleton-clause-fewer
-returns-in-Singleton-clause-fewer g t c = λ s. absurd (lone_no_split _ _ (subst (λ (d : _). Splits (held_by d)) c.in-Singleton.is s))
+returns-in-Singleton-clause-fewer g t c = λ s. let more = splits_more (held_by c.args.self.now) s in omega (arith, more)
 
 pub returns-in-Empty-clause-exact : goal.returns-in-Empty-clause-exact
-returns-in-Empty-clause-exact g t c =
-    let n = ap (λ d. len (held_by d)) c.in-Empty.is in
-    let z = len-empty bits_cmp (List ℕ) in
-    absurd (omega (arith, c.requires.some, n, z))
+returns-in-Empty-clause-exact g t c = rw (c.in-Empty.is, len-empty bits_cmp (List ℕ))
+
+pub returns-in-Empty-clause-fewer : goal.returns-in-Empty-clause-fewer
+returns-in-Empty-clause-fewer g t c = λ s. let more = splits_more (held_by c.args.self.now) s in omega (arith, more)
 
 pub returns-in-Fork-clause-exact : goal.returns-in-Fork-clause-exact
-returns-in-Fork-clause-exact g t c =
-    count_fork c.args.self.now _ _ _ c.count-left.result c.count-right.result (is_fork c.in-Fork.is c.as_ref-fork.ensures) c.requires.well_formed (c.node.ensures.seen ∙ c.index.ensures) (c.node-in-Fork.ensures.seen ∙ c.index-in-Fork.ensures) c.count-left.ensures.exact c.count-right.ensures.exact
+returns-in-Fork-clause-exact g t c = let f = fork g t c in omega (arith, f.exact, c.count-left.ensures.exact, c.count-right.ensures.exact)
 
 pub returns-in-Fork-clause-few : goal.returns-in-Fork-clause-few
-returns-in-Fork-clause-few g t c =
-    let n = ap (λ d. len (held_by d)) (is_fork c.in-Fork.is c.as_ref-fork.ensures) ∙ len-join c.as_ref-fork.result.now.left.1 c.as_ref-fork.result.now.right.1 in
-    let l = ap (λ d. len d.1) (c.node.ensures.seen ∙ c.index.ensures) in
-    let r = ap (λ d. len d.1) (c.node-in-Fork.ensures.seen ∙ c.index-in-Fork.ensures) in
-    omega (arith, n, l, r, c.count-left.ensures.few, c.count-right.ensures.few)
+returns-in-Fork-clause-few g t c = λ _ _. let f = fork g t c in omega (arith, f.size_is, c.count-left.ensures.few f.some.0 (inl f.low.0), c.count-right.ensures.few f.some.1 (inl f.low.1))
 
 pub returns-in-Fork-clause-fewer : goal.returns-in-Fork-clause-fewer
-returns-in-Fork-clause-fewer g t c =
-    let n = ap (λ d. len (held_by d)) (is_fork c.in-Fork.is c.as_ref-fork.ensures) ∙ len-join c.as_ref-fork.result.now.left.1 c.as_ref-fork.result.now.right.1 in
-    let l = ap (λ d. len d.1) (c.node.ensures.seen ∙ c.index.ensures) in
-    let r = ap (λ d. len d.1) (c.node-in-Fork.ensures.seen ∙ c.index-in-Fork.ensures) in
-    λ s. omega (arith, n, l, r, c.count-left.ensures.few, c.count-right.ensures.few)
+returns-in-Fork-clause-fewer g t c = λ _. let f = fork g t c in omega (arith, f.size_is, c.count-left.ensures.few f.some.0 (inl f.low.0), c.count-right.ensures.few f.some.1 (inl f.low.1))
 
 pub returns-in-Stem-clause-exact : goal.returns-in-Stem-clause-exact
-returns-in-Stem-clause-exact g t c =
-    count_stem c.args.self.now _ _ c.count.result (is_stem c.in-Stem.is c.deref.ensures) c.requires.well_formed c.requires.more c.node-in-Stem.ensures.seen c.count.ensures.exact
+returns-in-Stem-clause-exact g t c = let s = stem g t c in omega (arith, s.exact, c.count.ensures.exact)
 
 pub returns-in-Stem-clause-few : goal.returns-in-Stem-clause-few
-returns-in-Stem-clause-few g t c =
-    let b = c.node-in-Stem.ensures.seen in
-    let n = ap (λ d. len (held_by d)) (is_stem c.in-Stem.is c.deref.ensures) ∙ len-under (bits_from c.deref.result.now.key c.deref.result.now.from c.deref.result.now.len) c.deref.result.now.below.1 in
-    let l = ap (λ d. len d.1) b in
-    let sp = below_splits c.args.self.now _ (is_stem c.in-Stem.is c.deref.ensures) c.requires.well_formed c.requires.more in
-    let f = c.count.ensures.fewer (subst (λ (d : ℕ × SparseMap). Splits d.1) (sym b) sp) in
-    omega (arith, n, l, f)
+returns-in-Stem-clause-few g t c = λ _ more. let s = stem g t c in omega (arith, s.size_is, c.count.ensures.fewer (s.splits more))
 
 pub returns-in-Stem-clause-fewer : goal.returns-in-Stem-clause-fewer
-returns-in-Stem-clause-fewer g t c = λ s. absurd (stem_is_no_split c.args.self.now _ (is_stem c.in-Stem.is c.deref.ensures) c.requires.well_formed s)
+returns-in-Stem-clause-fewer g t c = λ h. absurd ((stem g t c).runs h)
