@@ -1,23 +1,6 @@
-//! The digests of empty trees.
+//! The digests of empty trees by SHA-256.
 
-ghost use Rattle.std.specs.Prelude.{◌≡◌, ◌≤◌};
-ghost use Rattle.warg_crypto.specs.EmptyTrees.{empty_root};
-
-use crate::digest::SupportedDigest;
-use crate::hash::Hash;
-
-/// The digest of the empty tree of `height` levels: `H(00)` at height 0, and at each height above
-/// `H(01 ++ e ++ e)`, with the digest `e` of the height below.
-///
-/// It hashes once for each height, and under SHA-256 not at all.
-pub fn empty_tree_hash<D: SupportedDigest>(height: usize) -> Hash<D>
-    requires { height ≤ 256 }
-    ensures { result ≡ empty_root D.digest height }
-{
-    D::empty_tree(height)
-}
-
-// Those of 0 to 256 levels by SHA-256, each of them proved.
+// Those of 0 to 256 levels, each of them proved.
 #[rattlefmt::skip]
 pub(crate) static EMPTY_TREES: [[u8; 32]; 257] = [
     [110, 52, 11, 156, 255, 179, 122, 152, 156, 165, 68, 230, 187, 120, 10, 44, 120, 144, 29, 63, 179, 55, 56, 118, 133, 17, 163, 6, 23, 175, 160, 29],

@@ -12,9 +12,8 @@ mod visit;
 pub mod weak;
 
 pub use digest::{Sha256, SupportedDigest};
-pub use empty::empty_tree_hash;
 pub use framed::Framed;
 pub use hash::{Hash, HashLength, bytes_of};
 pub use text::HashDigits;
-pub use tree::{Branch, Leaf, Side, hash_branch, hash_empty, hash_leaf};
+pub use tree::{Branch, Leaf, Side, empty_tree_hash, hash_branch, hash_empty, hash_leaf};
 pub use visit::{ByteVisitor, VisitBytes};

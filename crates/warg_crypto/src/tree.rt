@@ -1,6 +1,7 @@
-//! The leaves and branches of both trees (RFC 6962, section 2.1), and the sides of a branch.
+//! The leaves and branches of both trees (RFC 6962, section 2.1), empty trees, and the sides of a branch.
 
-ghost use Rattle.std.specs.Prelude.{◌≡◌, [], not};
+ghost use Rattle.std.specs.Prelude.{◌≡◌, ◌≤◌, [], not};
+ghost use Rattle.warg_crypto.specs.EmptyTrees.{empty_root};
 ghost use Rattle.warg_crypto.specs.Sides.{side_bit};
 ghost use Rattle.warg_crypto.specs.Tree.{branch, branch_input, input_beside, leaf_digest, leaf_input};
 
@@ -32,8 +33,8 @@ impl<D> VisitBytes for Branch<'_, D> {
 
     fn visit<W: ByteVisitor>(&self, to: &mut W) {
         to.visit_bytes(&[1]);
-        self.0.visit(to);
-        self.1.visit(to);
+        to.visit_bytes(self.0.bytes());
+        to.visit_bytes(self.1.bytes());
     }
 }
 
@@ -57,6 +58,17 @@ pub fn hash_branch<D: SupportedDigest>(left: &Hash<D>, right: &Hash<D>) -> Hash<
     ensures { result ≡ branch D.digest left.now right.now }
 {
     Hash::of(&Branch(left, right))
+}
+
+/// The digest of the empty tree of `height` levels: `H(00)` at height 0, and at each height above
+/// `H(01 ++ e ++ e)`, with the digest `e` of the height below.
+///
+/// It hashes once for each height, and under SHA-256 not at all.
+pub fn empty_tree_hash<D: SupportedDigest>(height: usize) -> Hash<D>
+    requires { height ≤ 256 }
+    ensures { result ≡ empty_root D.digest height }
+{
+    D::empty_tree(height)
 }
 
 /// The side of its parent on which a node stands. In a map, a bit of a key's digest chooses it.
