@@ -7,7 +7,7 @@ use Rattle.std.specs.FinMap.{insert, empty, contains_key, get, get-empty}
 use Rattle.std.specs.declared.rc.Rc.{Rc}
 use Rattle.warg_map.specs.declared.node.Node.{Node}
 use Rattle.warg_map.specs.declared.node.Node.TheVariants.{Fork}
-use Rattle.warg_map.specs.declared.fork.Fork.{Fork as Fork'}
+use Rattle.warg_map.specs.declared.node.Fork.{Fork as Fork'}
 use Rattle.warg_map.specs.Bits.{bit_at, last_bits, bits_from}
 use Rattle.warg_map.specs.Sparse.{SparseMap, bits_cmp, sparse_root}
 use Rattle.warg_map.specs.Private.Under.{join_at, under, HoldsKey}

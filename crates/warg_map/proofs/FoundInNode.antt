@@ -6,8 +6,8 @@ use Rattle.std.specs.Ordering.{eq_by_cmp}
 use Rattle.std.specs.declared.rc.Rc.{Rc}
 use Rattle.warg_map.specs.declared.node.Node.{Node}
 use Rattle.warg_map.specs.declared.node.Node.TheVariants.{Fork, Singleton, Stem}
-use Rattle.warg_map.specs.declared.fork.Fork.{Fork as Fork'}
-use Rattle.warg_map.specs.declared.stem.Stem.{Stem as Stem'}
+use Rattle.warg_map.specs.declared.node.Fork.{Fork as Fork'}
+use Rattle.warg_map.specs.declared.node.Stem.{Stem as Stem'}
 use Rattle.warg_map.specs.Private.Lone.{Lone}
 use Rattle.warg_map.specs.Bits.{bit_at, bits_from, last_bits}
 use Rattle.warg_map.specs.Sparse.{SparseMap, bits_cmp}

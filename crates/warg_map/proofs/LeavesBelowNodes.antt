@@ -4,15 +4,15 @@ use Rattle.std.specs.FinMap.{empty, len}
 use Rattle.std.specs.declared.rc.Rc.{Rc}
 use Rattle.warg_map.specs.declared.node.Node.{Node}
 use Rattle.warg_map.specs.declared.node.Node.TheVariants.{Fork, Singleton}
-use Rattle.warg_map.specs.declared.fork.Fork.{Fork as Fork'}
+use Rattle.warg_map.specs.declared.node.Fork.{Fork as Fork'}
 use Rattle.warg_map.specs.Bits.{bit_at, bits_from, last_bits}
 use Rattle.warg_map.specs.Sparse.{SparseMap}
 use Rattle.warg_map.specs.Private.Lone.{Lone}
 use Rattle.warg_map.specs.Private.Under.{join_at, under, HoldsKey, Splits}
 use Rattle.warg_map.specs.Private.Grown.{with_leaves, ShareBits, on_side}
 use Rattle.warg_map.specs.Private.Seen.{seen, IsWellFormed, IsBelow}
-use Rattle.warg_map.proofs.BitsInFront.{bits_from-append, bits_from-first, bits_from-none, under-append, under-none, holds-under}
-use Rattle.warg_map.proofs.NodeCounts.{len-join_at, len-under, len-lone}
+use Rattle.warg_map.proofs.BitsInFront.{bits_from-append, bits_from-first, bits_from-none, under-append, under-none}
+use Rattle.warg_map.proofs.NodeCounts.{len-join_at, len-lone}
 use Rattle.warg_map.proofs.TreeForm.{splits_join, stem_holds}
 use Rattle.warg_map.proofs.FoundInNode.{IsRun}
 use Rattle.warg_map.proofs.ManyLeaves.{with_leaves-join_at, with_leaves-under, under-empty, put_in_front, still_splits, with_leaves-holds}
@@ -82,9 +82,6 @@ put_below_stem link below l one key depth shared len_ k rest m es run left le sh
     let all : shared + rest ≡ len_ = omega (arith, left, le) in
     rw (e, b, same, high, run.held_is, ← all, bits_from-append one depth shared rest, under-append (bits_from one depth shared) (bits_from one (depth + shared) rest) m, with_leaves-under one depth shared low place (under (bits_from one (depth + shared) rest) m) es share)
 
-pub count_below_stem : (link below l : ℕ × SparseMap) (one : List ℕ) (depth len_ k fresh n : ℕ) (m : SparseMap) (bs : List Bool) → IsRun link.1 link.0 one depth len_ k m → len m + fresh ≡ len below.1 → l ≡ (n, under bs below.1) → len link.1 + fresh ≡ len l.1
-count_below_stem link below l one depth len_ k fresh n m bs run c e = rw (run.held_is, e, len-under (bits_from one depth len_) m, len-under bs below.1) c
-
 -- what stands below a stem
 pub below_stands : (len_ : ℕ) (below l : ℕ × SparseMap) (es : List Lone) → IsBelow len_ below → l ≡ (below.0, with_leaves below.0 below.1 es) → Splits l.1 ⊎ (l.0 ≡ 255)
 below_stands len_ below l es (inl s) e = inl (rw e (still_splits below.0 below.1 es s))
@@ -94,13 +91,16 @@ below_stands len_ below l es (inr o) e = inr (rw e o.1)
 pub put_at_end : (key : List ℕ) (at rest : ℕ) (below l : ℕ × SparseMap) (es : List Lone) → at + below.0 ≡ 256 → rest ≡ 0 → l ≡ (below.0, with_leaves below.0 below.1 es) → l ≡ (256 - at, with_leaves (256 - at) (under (bits_from key at rest) below.1) es)
 put_at_end key at rest below l es sum z e = let k : 256 - at ≡ below.0 = omega (arith, sum) in rw (k, z, bits_from-none key at, under-none below.1) e
 
--- where it is cut
-pub cut_rest : (len_ from at : ℕ) (below rest : ℕ × SparseMap) (key : List ℕ) → IsBelow len_ below → from + len_ + below.0 ≡ 256 → from ≤ at → at < from + len_
-    → rest ≡ (below.0 + (len_ - (at + 1 - from)), under (bits_from key (from + (at + 1 - from)) (len_ - (at + 1 - from))) below.1)
-    → (rest.0 + (at + 1) ≡ 256) × HoldsKey rest.1 × (len rest.1 ≡ len below.1) × (under (bits_from key at (from + len_ - at)) below.1 ≡ join_at (bit_at key at) rest.1 empty)
+-- from a place on
+pub rest_run : (len_ from at : ℕ) (below : ℕ × SparseMap) (key : List ℕ) → IsBelow len_ below → from + len_ + below.0 ≡ 256 → from ≤ at → at ≤ from + len_
+    → IsRun (under (bits_from key at (from + len_ - at)) below.1) (256 - at) key at (from + len_ - at) below.0 below.1
+rest_run len_ from at below key b sum low high = record {
+  held_is = refl;
+  height_is = omega (arith, sum, low, high);
+  whole = omega (arith, sum, low, high);
+  holds = stem_holds len_ below.0 below.1 b;
+}
+
+pub cut_at : (key : List ℕ) (at n : ℕ) (m : SparseMap) → under (bits_from key at (n + 1)) m ≡ join_at (bit_at key at) (under (bits_from key (at + 1) n) m) empty
 unfolding under
-cut_rest len_ from at below rest key b sum low lt e =
-    let i : from + (at + 1 - from) ≡ at + 1 = omega (arith, low) in
-    let all : from + len_ - at ≡ len_ - (at + 1 - from) + 1 = omega (arith, low, lt) in
-    rw (e, i, all, bits_from-first key at (len_ - (at + 1 - from)), len-under (bits_from key (at + 1) (len_ - (at + 1 - from))) below.1)
-    (omega (arith, sum, low, lt), holds-under _ below.1 (stem_holds len_ below.0 below.1 b), refl, refl)
+cut_at key at n m = rw (bits_from-first key at n) refl

@@ -1,14 +1,14 @@
 -- The number of nodes.
-use Rattle.std.proofs.Common.{◌≡◌, ℕ, zero, suc, length, ◌+◌, ◌<◌, Bool, true, false, cond, not, List, [], ◌∷◌, Some, is_some, refl, sym, ap, ◌∙◌, arith, add-one, ◌⊎◌, inl, inr}
+use Rattle.std.proofs.Common.{◌≡◌, ℕ, zero, suc, length, ◌+◌, ◌<◌, Bool, true, false, cond, not, List, [], ◌∷◌, Some, is_some, refl, sym, ap, ◌∙◌, subst, arith, add-one, ◌⊎◌, inl, inr}
 use Rattle.std.proofs.lemmas.Bool.Decides.{nat_tests}
 use Rattle.std.specs.FinMap.{from_entries, entries, find, get, insert, empty, len, contains_key, get-entries, get-from_entries, len-insert, len-empty, len-remove, get-remove, remove, empty_of_len}
 use Rattle.std.specs.Ordering.{eq_by_cmp}
 use Rattle.std.specs.declared.rc.Rc.{Rc}
 use Rattle.warg_map.specs.declared.node.Node.{Node}
 use Rattle.warg_map.specs.declared.node.Node.TheVariants.{Fork, Stem}
-use Rattle.warg_map.specs.declared.fork.Fork.{Fork as Fork'}
-use Rattle.warg_map.specs.declared.stem.Stem.{Stem as Stem'}
-use Rattle.warg_map.specs.Bits.{bits_from}
+use Rattle.warg_map.specs.declared.node.Fork.{Fork as Fork'}
+use Rattle.warg_map.specs.declared.node.Stem.{Stem as Stem'}
+use Rattle.warg_map.specs.Bits.{bits_from, last_bits}
 use Rattle.warg_map.specs.Sparse.{SparseMap, bits_cmp}
 use Rattle.warg_map.specs.Private.Under.{join, join_at, under, HoldsKey, Splits}
 use Rattle.warg_map.specs.Private.Seen.{seen, tree_height, held_by, IsWellFormed, IsBelow, counted}
@@ -187,3 +187,8 @@ stem_count old s b is w be =
       splits = λ more. stem_splits s.value.len s.value.below.0 s.value.below.1 ws.formed.1 (rw size at more);
       runs = stem_runs a s.value.below.1 (omega (arith, la, ws.formed.0));
     })
+
+-- a stem that may stand below other bits holds the key
+pub has_lower : {D A : _} (node : Node D A) (lower : Rc (Stem' D A) A) (link : ℕ × SparseMap) (key : List ℕ) → node ≡ Stem lower → IsWellFormed node → seen node ≡ link → Splits link.1 ⊎ ((link.0 ≡ 255) × (contains_key link.1 (last_bits key 255) ≡ true)) → contains_key link.1 (last_bits key link.0) ≡ true
+has_lower node lower link key is w e (inl s) = absurd ((stem_count node lower _ is w refl).runs (subst (λ (d : ℕ × SparseMap). Splits d.1) (sym e) s))
+has_lower node lower link key is w e (inr o) = rw o.0 o.1

@@ -5,8 +5,8 @@ use Rattle.std.specs.Ordering.{eq_by_cmp}
 use Rattle.std.specs.declared.rc.Rc.{Rc}
 use Rattle.warg_map.specs.declared.node.Node.{Node}
 use Rattle.warg_map.specs.declared.node.Node.TheVariants.{Fork, Singleton, Stem, Empty}
-use Rattle.warg_map.specs.declared.fork.Fork.{Fork as Fork'}
-use Rattle.warg_map.specs.declared.stem.Stem.{Stem as Stem'}
+use Rattle.warg_map.specs.declared.node.Fork.{Fork as Fork'}
+use Rattle.warg_map.specs.declared.node.Stem.{Stem as Stem'}
 use Rattle.warg_map.specs.Private.Lone.{Lone}
 use Rattle.warg_map.specs.Bits.{bits_from, last_bits}
 use Rattle.warg_map.specs.Sparse.{SparseMap, bits_cmp}
@@ -28,8 +28,8 @@ is_stem {rc = rc} is e = is ∙ ap (λ v. Stem (record rc { value = v })) (sym e
 pub lone_seen : (s : Lone) (k : ℕ) (key v : List ℕ) → s.height ≡ k → s.key ≡ key → s.value ≡ v → ◌≡◌ {A = ℕ × SparseMap} (s.height, insert empty (last_bits s.key s.height) s.value) (k, insert empty (last_bits key k) v)
 lone_seen s k key v h e x = ap (λ j. (j, insert empty (last_bits s.key j) s.value)) h ∙ ap (λ y. (k, insert empty (last_bits y k) s.value)) e ∙ ap (λ y. (k, insert empty (last_bits key k) y)) x
 
-pub lone_has : (d : ℕ × SparseMap) (k : ℕ) (key v : List ℕ) → d ≡ (k, insert empty (last_bits key k) v) → contains_key d.1 (last_bits key d.0) ≡ true
-lone_has d k key v e = subst (λ (d : ℕ × SparseMap). contains_key d.1 (last_bits key d.0) ≡ true) (sym e) (contains_key-insert_same empty (last_bits key k) v)
+pub lone_has : (d : ℕ × SparseMap) (k : ℕ) (key v : List ℕ) → d ≡ (k, insert empty (last_bits key k) v) → k ≡ 255 → (d.0 ≡ 255) × (contains_key d.1 (last_bits key 255) ≡ true)
+lone_has d k key v e h = rw (e, h) (refl, contains_key-insert_same empty (last_bits key 255) v)
 
 -- what splits
 pub splits_join : (l r : SparseMap) → HoldsKey l → HoldsKey r → Splits (join l r)

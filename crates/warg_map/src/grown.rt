@@ -9,22 +9,11 @@ ghost use Rattle.warg_map.specs.Private.Grown.{with_leaves, ShareBits, on_side};
 ghost use Rattle.warg_map.specs.Private.Seen.{IsBelow};
 
 use crate::link::Link;
-use crate::node::Node;
+use crate::node::{Node, Stem};
 use crate::path::{shared_bits, side_at};
 use crate::singleton::Singleton;
-use crate::stem::Stem;
 use std::alloc::{AllocError, Allocator};
 use warg_crypto::{Hash, Side, SupportedDigest};
-
-/// A list of one leaf.
-pub(crate) fn one_leaf<D: SupportedDigest, A: Allocator>(
-    alloc: A,
-    leaf: Singleton<D>,
-) -> Result<Vec<Singleton<D>, A>, AllocError>
-    ensures { IfOk result (λ v. v.items ≡ leaf ∷ []) }
-{
-    Ok(vec![in alloc; leaf]?)
-}
 
 // How many of `len` bits from bit `from` on all the leaves' key digests share with one.
 fn shared_by_all<D: SupportedDigest>(
@@ -96,38 +85,45 @@ fn grown<D: SupportedDigest, A: Allocator + Copy>(
     Ok((fork.with_stem(alloc, &key, depth, shared)?, inner + outer))
 }
 
-// What stands below the bits of a stem up to bit `at` after leaves are put there, and how many of their key digests are
-// new. There the stem ends, or the first leaf parts from it.
+// What stands below the bits of a stem up to bit `from` after leaves are put there, and how many of their key digests are
+// new. The stem is cut where the first leaf parts from it.
 #[cycle(spread)]
-fn spread_below<D: SupportedDigest, A: Allocator + Copy>(
+fn spread_stem<D: SupportedDigest, A: Allocator + Copy>(
     alloc: A,
     stem: &Stem<D, A>,
     leaves: Vec<Singleton<D>, A>,
-    at: usize,
+    from: usize,
 ) -> Result<(Link<D, A>, usize), AllocError>
     requires level { stem.now.from + stem.now.len + stem.now.below.0 ≡ 256 }
     requires below { IsBelow stem.now.len stem.now.below }
-    requires place { (stem.now.from ≤ at) × (at ≤ stem.now.from + stem.now.len) }
-    requires apart { at < stem.now.from + stem.now.len
-        → 0 < length (on_side at (not (bit_at stem.now.key at)) leaves.items) }
+    requires place { (stem.now.from ≤ from) × (from ≤ stem.now.from + stem.now.len) }
+    requires some { stem.now.from < from ⊎ (0 < length leaves.items) }
     ensures seen { IfOk result (λ p. p.0 ≡ (
-      256 - at,
-      with_leaves (256 - at)
-          (under (bits_from stem.now.key at (stem.now.from + stem.now.len - at))
+      256 - from,
+      with_leaves (256 - from)
+          (under (bits_from stem.now.key from (stem.now.from + stem.now.len - from))
           stem.now.below.1) leaves.items,
     )) }
-    ensures stands { IfOk result (λ p. Splits p.0.1 ⊎ (p.0.0 ≡ 255)) }
     ensures count { IfOk result (λ p. map.len stem.now.below.1 + p.1 ≡ map.len p.0.1) }
 {
-    if at == stem.from + stem.len {
-        return spread(alloc, &stem.below, leaves, at);
+    let len = stem.from + stem.len - from;
+    if leaves.is_empty() {
+        let below = stem.below.clone()?;
+        return Ok((below.with_stem(alloc, &stem.key, from, len)?, 0));
     }
-    let rest = stem.rest(alloc, at + 1 - stem.from)?;
+    let key = leaves[leaves.len() - 1].key().copied();
+    let shared = shared_by_all(&stem.key, &leaves, from, len);
+    if shared == len {
+        let (below, fresh) = spread(alloc, &stem.below, leaves, from + len)?;
+        return Ok((below.with_stem(alloc, &key, from, len)?, fresh));
+    }
+    let at = from + shared;
     let side = side_at(&stem.key, at);
     let (near, far) = parted(alloc, leaves, side, at)?;
-    let (near, inner) = spread(alloc, &rest, near, at + 1)?;
+    let (near, inner) = spread_stem(alloc, stem, near, at + 1)?;
     let (far, outer) = grown(alloc, far, at + 1)?;
-    Ok((Link::beside(alloc, side, near, far)?, inner + outer))
+    let fork = Link::beside(alloc, side, near, far)?;
+    Ok((fork.with_stem(alloc, &key, from, shared)?, inner + outer))
 }
 
 /// The link after leaf digests are put under their key digests, in order, and how many of these are new. A branch above
@@ -163,12 +159,6 @@ pub(crate) fn spread<D: SupportedDigest, A: Allocator + Copy>(
             let fork = Link::beside(alloc, Side::Left, left, right)?;
             Ok((fork, lefts + rights))
         }
-        Node::Stem(stem) => {
-            let stem = stem.as_ref();
-            let key = leaves[leaves.len() - 1].key().copied();
-            let shared = shared_by_all(&stem.key, &leaves, depth, stem.len);
-            let (below, fresh) = spread_below(alloc, stem, leaves, depth + shared)?;
-            Ok((below.with_stem(alloc, &key, depth, shared)?, fresh))
-        }
+        Node::Stem(stem) => spread_stem(alloc, stem.as_ref(), leaves, depth),
     }
 }

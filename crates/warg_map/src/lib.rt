@@ -12,12 +12,11 @@
 //!   singleton    a lone key, whatever the height
 //! ```
 //!
-//! The modules stand on one another in this order: `path` (bits of a digest), `singleton`, `fork`, `stem`, `link` (a
-//! node with its digest), `node`, `walk` (down to a key, for its proof), `grown` (leaves that are put into a tree), `proof`, `map`,
-//! and `laws` (what follows from the definitions alone).
+//! The modules stand on one another in this order: `path` (bits of a digest), `singleton`, `link` (a node with its
+//! digest), `node`, `walk` (down to a key, for its proof), `grown` (leaves that are put into a tree), `proof`, `map`, and
+//! `laws` (what follows from the definitions alone).
 #![tactic(auto)]
 
-mod fork;
 mod grown;
 pub mod laws;
 mod link;
@@ -26,7 +25,6 @@ mod node;
 mod path;
 mod proof;
 mod singleton;
-mod stem;
 mod walk;
 
 pub use map::{Insertion, KeyProof, Map, MapError};

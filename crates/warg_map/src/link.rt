@@ -3,14 +3,12 @@
 ghost use Rattle.std.specs.Prelude.{◌≡◌, ℕ};
 ghost use Rattle.warg_map.specs.Sparse.{sparse_root};
 
-use crate::fork::Fork;
-use crate::node::Node;
+use crate::node::{Fork, Node, Stem, stem_digest};
 use crate::singleton::Singleton;
-use crate::stem::Stem;
 use std::alloc::{AllocError, Allocator, Global};
 use std::marker::Model;
 use std::rc::Rc;
-use warg_crypto::{Hash, Side, SupportedDigest};
+use warg_crypto::{Hash, Side, SupportedDigest, hash_branch};
 
 /// A node, with its digest.
 ///
@@ -53,7 +51,18 @@ impl<D: SupportedDigest, A: Allocator> Link<D, A> {
         requires { IsWellFormed node }
         ensures { result ≡ seen node }
     {
-        let hash = node.hash();
+        let hash = match &node {
+            Node::Fork(fork) => {
+                let fork = fork.as_ref();
+                hash_branch(fork.left.hash(), fork.right.hash())
+            }
+            Node::Singleton(lone) => lone.hash(),
+            Node::Stem(stem) => {
+                let stem = stem.as_ref();
+                stem_digest(&stem.key, stem.from, stem.len, stem.below.hash())
+            }
+            Node::Empty => D::empty_tree(256),
+        };
         Link { hash, node }
     }
 
@@ -122,8 +131,8 @@ impl<D: SupportedDigest, A: Allocator + Copy> Link<D, A> {
         Ok(Link::new(Node::Fork(Rc::new(alloc, fork)?)))
     }
 
-    /// The link with a stem of `len` bits of `key` above it, from bit `from` on. It holds the key, so a stem becomes
-    /// longer.
+    /// The link with a stem of `len` bits of `key` above it, from bit `from` on. Below the top it may be a stem that holds
+    /// the key, which becomes longer.
     pub(crate) fn with_stem(
         self,
         alloc: A,
@@ -132,8 +141,8 @@ impl<D: SupportedDigest, A: Allocator + Copy> Link<D, A> {
         len: usize,
     ) -> Result<Link<D, A>, AllocError>
         requires height { from + len + self.0 ≡ 256 }
-        requires below { 0 < len → Splits self.1 ⊎ (self.0 ≡ 255) }
-        requires held { map.contains_key self.1 (last_bits key.now self.0) ≡ true }
+        requires below { 0 < len → Splits self.1
+            ⊎ ((self.0 ≡ 255) × (map.contains_key self.1 (last_bits key.now 255) ≡ true)) }
         ensures { IfOk result
             (λ l. l ≡ (self.0 + len, under (bits_from key.now from len) self.1)) }
     {

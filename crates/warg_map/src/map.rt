@@ -16,7 +16,7 @@ ghost use Rattle.warg_map.specs.Count.{node_count};
 mod insertion;
 mod key_proof;
 
-use crate::grown::{one_leaf, spread};
+use crate::grown::spread;
 use crate::link::Link;
 use crate::node::Node;
 use crate::proof::Proof;
@@ -310,7 +310,8 @@ impl<D: SupportedDigest, K: VisitBytes + Drop, V: VisitBytes + Drop, A: Allocato
         if self.len() == usize::MAX && self.leaf_of(key).is_none() {
             return Err(MapError::Full);
         }
-        let leaves = one_leaf(self.alloc, Singleton::leaf(key.copied(), leaf))?;
+        let mut leaves = Vec::with_capacity(self.alloc, 1)?;
+        leaves.push_reserved(Singleton::leaf(key.copied(), leaf));
         Ok(self.with_leaves(leaves)?)
     }
 

@@ -1,15 +1,17 @@
 //! The nodes of the tree.
 
 ghost use Rattle.std.specs.Prelude.{◌≡◌, ℕ, ◌+◌, ◌-◌, ◌<◌, ◌≤◌};
+ghost use Rattle.warg_map.specs.Bits.{bits_from};
 ghost use Rattle.warg_map.specs.Sparse.{sparse_root};
+ghost use Rattle.warg_map.specs.Private.Under.{under, stem_root};
 
-use crate::fork::Fork;
 use crate::link::Link;
+use crate::path::side_at;
 use crate::singleton::Singleton;
-use crate::stem::Stem;
 use std::alloc::{AllocError, Allocator, Global};
+use std::ops::Index;
 use std::rc::Rc;
-use warg_crypto::{Hash, Side, SupportedDigest, empty_tree_hash};
+use warg_crypto::{Hash, Side, SupportedDigest};
 
 /// A node of the tree, with what stands below it.
 ///
@@ -29,20 +31,74 @@ pub enum Node<D: SupportedDigest, A: Allocator = Global> {
     Empty,
 }
 
-impl<D: SupportedDigest, A: Allocator> Node<D, A> {
-    ghost use Rattle.warg_map.specs.Private.Seen.{tree_height, held_by, IsLevel, IsWellFormed};
+/// Two links of one height.
+#[cycle(tree)]
+#[derive(Drop)]
+pub struct Fork<D: SupportedDigest, A: Allocator = Global> {
+    pub(crate) left: Link<D, A>,
+    pub(crate) right: Link<D, A>,
+}
 
-    /// The digest of the tree.
-    pub fn hash(&self) -> Hash<D>
-        requires { IsLevel self.now }
-        ensures { result ≡ sparse_root D.digest (tree_height self.now) (held_by self.now) }
-    {
-        match self {
-            Node::Fork(fork) => fork.hash(),
-            Node::Singleton(singleton) => singleton.hash(),
-            Node::Stem(stem) => stem.hash_below(0),
-            Node::Empty => empty_tree_hash(256),
+impl<D: SupportedDigest, A: Allocator> Index<Side> for Fork<D, A> {
+    type Output = Link<D, A>;
+
+    ghost use Rattle.std.specs.Prelude.{◌≡◌, if◌then◌else◌};
+    ghost use Rattle.warg_crypto.specs.Sides.{side_bit};
+
+    ghost index_gives = { λ f side link. link ≡ (if side_bit side then f.right else f.left) };
+
+    fn index(&self, index: Side) -> &Link<D, A> {
+        match index {
+            Side::Left => &self.left,
+            Side::Right => &self.right,
         }
+    }
+}
+
+/// Bits beside which all is empty: `len` bits of a key digest, from bit `from` on, over a lower node.
+///
+/// The bits stand at their own place in the digest, so a stem that is cut or lengthened shifts nothing.
+#[cycle(tree)]
+#[derive(Drop)]
+pub struct Stem<D: SupportedDigest, A: Allocator = Global> {
+    pub(crate) key: Hash<D>,
+    pub(crate) from: usize,
+    pub(crate) len: usize,
+    pub(crate) below: Link<D, A>,
+}
+
+/// The digest of the tree in which `len` bits of `key`, from bit `from` on, lead down to a tree with digest `below`, and
+/// all beside them is empty.
+pub(crate) fn stem_digest<D: SupportedDigest>(
+    key: &Hash<D>,
+    from: usize,
+    len: usize,
+    below: &Hash<D>,
+) -> Hash<D>
+    requires { from + len ≤ 256 }
+    ensures { result ≡ stem_root D.digest (256 - (from + len)) below.now
+        (bits_from key.now from len) }
+{
+    let bottom = 256 - (from + len);
+    let mut hash = below.copied();
+    let mut empty = D::empty_tree(bottom);
+    for above in 0..len {
+        hash = side_at(key, from + (len - 1 - above)).branch(&hash, &empty);
+        empty = D::empty_above(bottom + above, &empty);
+    }
+    hash
+}
+
+impl<D: SupportedDigest, A: Allocator> Stem<D, A> {
+    /// The digest of what stands below the stem's first `at` bits.
+    pub(crate) fn hash_below(&self, at: usize) -> Hash<D>
+        requires level { self.now.from + self.now.len + self.now.below.0 ≡ 256 }
+        requires place { at ≤ self.now.len }
+        ensures { result ≡ sparse_root D.digest (self.now.below.0 + (self.now.len - at))
+            (under (bits_from self.now.key (self.now.from + at)
+            (self.now.len - at)) self.now.below.1) }
+    {
+        stem_digest(&self.key, self.from + at, self.len - at, self.below.hash())
     }
 }
 

@@ -11,7 +11,6 @@ pub(crate) fn side_at<D>(hash: &Hash<D>, at: usize) -> Side
     requires { at < 256 }
     ensures { side_bit result ≡ bit_at hash.now at }
 {
-    let _bytes = hash.len();
     let byte = hash.bytes()[at / 8];
     if (byte >> (7 - at % 8)) & 1 == 1 {
         Side::Right

@@ -1,26 +1,33 @@
 //! Lone keys.
 
-ghost use Rattle.std.specs.Prelude.{◌≡◌, ◌≤◌};
+ghost use Rattle.std.specs.Prelude.{◌≡◌, ◌≤◌, List, ℕ};
 ghost use Rattle.warg_map.specs.Sparse.{sparse_root};
-ghost use Rattle.warg_map.specs.Private.Lone.{held_alone, IsRootAt};
+ghost use Rattle.warg_map.specs.Private.Lone.{held_alone, IsKept};
 
-use crate::stem::stem_digest;
+use crate::node::stem_digest;
 use std::marker::Model;
 use warg_crypto::{Hash, SupportedDigest};
 
-/// How many levels below the top of its tree a lone key keeps a digest.
-const KEPT_BELOW: usize = 8;
+/// The digest of a lone key's tree of some height.
+#[derive(Drop)]
+struct Kept<D> {
+    digest: Hash<D>,
+    height: u16,
+}
 
 /// A lone key: a tree of any height that holds one key and nothing else.
 ///
-/// It keeps the digest of a lower tree of its own, from which those of higher ones follow, so a split that lowers a lone
-/// key by a few levels hashes few of them anew.
+/// It keeps the digests of five lower trees of its own, near its top and further below. A split lowers a lone key by one
+/// level in half of all cases, by two in a quarter and so on, and goes on from the highest digest that it leaves.
 pub struct Singleton<D: SupportedDigest> {
     key: Hash<D>,
     value: Hash<D>,
-    kept: Hash<D>,
-    kept_height: u16,
     height: u16,
+    fourteen_below: Kept<D>,
+    seven_below: Kept<D>,
+    four_below: Kept<D>,
+    two_below: Kept<D>,
+    one_below: Kept<D>,
 }
 
 // Contracts see a lone key as its digest, its leaf digest and its height.
@@ -32,10 +39,14 @@ impl<D: SupportedDigest> Model for Singleton<D> {
 
     ghost view = { λ s. record { key = s.key; value = s.value; height = s.height } };
 
-    ghost use Rattle.warg_map.specs.Private.Lone.{IsRootAt};
+    ghost use Rattle.warg_map.specs.Private.Lone.{IsKept};
 
-    ghost invariant = { λ s. (s.height ≤ 256) × (s.kept_height ≤ s.height)
-        × IsRootAt D.digest s.key s.value s.kept_height s.kept };
+    ghost invariant = { λ s. (s.height ≤ 256)
+        × (s.fourteen_below.height ≤ s.height) × IsKept D.digest s.key s.value s.fourteen_below
+        × (s.seven_below.height ≤ s.height) × IsKept D.digest s.key s.value s.seven_below
+        × (s.four_below.height ≤ s.height) × IsKept D.digest s.key s.value s.four_below
+        × (s.two_below.height ≤ s.height) × IsKept D.digest s.key s.value s.two_below
+        × (s.one_below.height ≤ s.height) × IsKept D.digest s.key s.value s.one_below };
 }
 
 impl<D: SupportedDigest> Drop for Singleton<D> {
@@ -43,10 +54,56 @@ impl<D: SupportedDigest> Drop for Singleton<D> {
         let Singleton {
             key: _,
             value: _,
-            kept: _,
-            kept_height: _,
             height: _,
+            fourteen_below: _,
+            seven_below: _,
+            four_below: _,
+            two_below: _,
+            one_below: _,
         } = self;
+    }
+}
+
+impl<D: SupportedDigest> Kept<D> {
+    // The digest of the tree of no levels.
+    fn leaf(value: &Hash<D>) -> Kept<D>
+        ensures digest { result.digest ≡ value.now }
+        ensures height { result.height ≡ 0 }
+    {
+        Kept {
+            digest: value.copied(),
+            height: 0,
+        }
+    }
+
+    fn copied(&self) -> Kept<D>
+        ensures { result ≡ self.now }
+    {
+        Kept {
+            digest: self.digest.copied(),
+            height: self.height,
+        }
+    }
+
+    // This digest, unless its tree is higher than `top`, or lower than that of `lower`. From there on it goes up to the
+    // tree that is so many levels below the top.
+    fn for_top(&self, lower: &Kept<D>, key: &Hash<D>, top: usize, below: usize) -> Kept<D>
+        requires top { top ≤ 256 }
+        requires lower { lower.now.height ≤ top }
+        ensures height { result.height ≤ top }
+        ensures digest { (value : List ℕ) → IsKept D.digest key.now value self.now
+            → IsKept D.digest key.now value lower.now → IsKept D.digest key.now value result }
+    {
+        let mut known = lower;
+        if self.height as usize <= top && lower.height <= self.height {
+            known = self;
+        }
+        let from = known.height as usize;
+        let height = from.max(top.saturating_sub(below));
+        Kept {
+            digest: stem_digest(key, 256 - height, height - from, &known.digest),
+            height: height as u16,
+        }
     }
 }
 
@@ -57,13 +114,16 @@ impl<D: SupportedDigest> Singleton<D> {
         ensures value { result.value ≡ value }
         ensures height { result.height ≡ 256 }
     {
-        let kept = value.copied();
+        let kept = Kept::leaf(&value);
         Singleton {
             key,
             value,
-            kept,
-            kept_height: 0,
             height: 256,
+            fourteen_below: kept.copied(),
+            seven_below: kept.copied(),
+            four_below: kept.copied(),
+            two_below: kept.copied(),
+            one_below: kept,
         }
     }
 
@@ -74,9 +134,12 @@ impl<D: SupportedDigest> Singleton<D> {
         Singleton {
             key: self.key.copied(),
             value: self.value.copied(),
-            kept: self.kept.copied(),
-            kept_height: self.kept_height,
             height: self.height,
+            fourteen_below: self.fourteen_below.copied(),
+            seven_below: self.seven_below.copied(),
+            four_below: self.four_below.copied(),
+            two_below: self.two_below.copied(),
+            one_below: self.one_below.copied(),
         }
     }
 
@@ -109,20 +172,22 @@ impl<D: SupportedDigest> Singleton<D> {
         ensures value { result.value ≡ self.now.value }
         ensures height { result.height ≡ height }
     {
-        let mut known = &self.kept;
-        let mut from = self.kept_height as usize;
-        if height < from {
-            known = &self.value;
-            from = 0;
-        }
-        let kept_height = from.max(height.saturating_sub(KEPT_BELOW));
-        let kept = stem_digest(&self.key, 256 - kept_height, kept_height - from, known);
+        let key = &self.key;
+        let leaf = Kept::leaf(&self.value);
+        let fourteen_below = self.fourteen_below.for_top(&leaf, key, height, 14);
+        let seven_below = self.seven_below.for_top(&fourteen_below, key, height, 7);
+        let four_below = self.four_below.for_top(&seven_below, key, height, 4);
+        let two_below = self.two_below.for_top(&four_below, key, height, 2);
+        let one_below = self.one_below.for_top(&two_below, key, height, 1);
         Singleton {
-            key: self.key.copied(),
+            key: key.copied(),
             value: self.value.copied(),
-            kept,
-            kept_height: kept_height as u16,
             height: height as u16,
+            fourteen_below,
+            seven_below,
+            four_below,
+            two_below,
+            one_below,
         }
     }
 
@@ -131,7 +196,7 @@ impl<D: SupportedDigest> Singleton<D> {
         ensures { result ≡ sparse_root D.digest self.now.height (held_alone self.now) }
     {
         let height = self.height as usize;
-        let len = height - self.kept_height as usize;
-        stem_digest(&self.key, 256 - height, len, &self.kept)
+        let len = height - self.one_below.height as usize;
+        stem_digest(&self.key, 256 - height, len, &self.one_below.digest)
     }
 }

@@ -3,6 +3,7 @@ use Rattle.std.specs.Prelude.{◌≡◌, ℕ, List}
 use Rattle.std.specs.FinMap.{insert, empty}
 use Rattle.warg_map.specs.Bits.{last_bits}
 use Rattle.warg_map.specs.Sparse.{SparseMap, sparse_root}
+use Rattle.warg_map.specs.declared.singleton.Kept.{Kept}
 
 -- A key digest with its leaf digest, and the height of the tree that holds nothing else.
 pub record Lone : Type 0 where
@@ -14,6 +15,6 @@ pub record Lone : Type 0 where
 abbrev pub held_alone : Lone → SparseMap
 held_alone s = insert empty (last_bits s.key s.height) s.value
 
--- A digest is that of the lone key's tree of some height.
-abbrev pub IsRootAt : (List ℕ → List ℕ) → List ℕ → List ℕ → ℕ → List ℕ → Type 0
-IsRootAt H key value height digest = digest ≡ sparse_root H height (insert empty (last_bits key height) value)
+-- A digest is that of the lone key's tree of its height.
+abbrev pub IsKept : {D : _} → (List ℕ → List ℕ) → List ℕ → List ℕ → Kept D → Type 0
+IsKept H key value kept = kept.digest ≡ sparse_root H kept.height (insert empty (last_bits key kept.height) value)

@@ -5,7 +5,7 @@ use Rattle.warg_map.specs.Bits.{bits_from, last_bits}
 use Rattle.warg_map.specs.Private.Grown.{with_leaves}
 use Rattle.warg_map.proofs.SparseTree.{empty-is_join_at}
 use Rattle.warg_map.proofs.NodeCounts.{len-lone, len-under}
-use Rattle.warg_map.proofs.ManyLeaves.{split_at_last, one_key, some_near, few_grown, has_last}
+use Rattle.warg_map.proofs.ManyLeaves.{split_at_last, one_key, some_near, few_grown}
 use Rattle.warg_map.proofs.LeavesBelowNodes.{IsPutBeside, put_beside, put_below_bits}
 use Rattle.warg_map.proofs.grown.+grown.Goals as goal
 use Rattle.warg_map.proofs.grown.+grown.Goals.{In_ok-near, In_ok-far, In_ok-fork}
@@ -56,11 +56,6 @@ beside-requires-clause-hold g t c = (put g t (goal.at.beside-requires-clause-hol
 
 pub with_stem-requires-clause-below : goal.with_stem-requires-clause-below
 with_stem-requires-clause-below g t c = λ _. inl (rw c.in_ok-fork.ensures (put g t (goal.at.with_stem-requires-clause-below g t c).In_ok-far).splits)
-
-pub with_stem-requires-clause-held : goal.with_stem-requires-clause-held
-with_stem-requires-clause-held g t c =
-    let last = split_at_last c.args.leaves.items c.len.result c.index-last.result.now (c.len.ensures ∙ c.args.leaves.ok.0) c.requires.some c.index-last.ensures in
-    has_last _ empty c.in_ok-fork.fork c.args.leaves.items _ c.index-last.result.now c.copied-key.result (fork_holds g t (goal.at.with_stem-requires-clause-held g t c).In_ok-fork) last (c.copied-key.ensures ∙ c.key-2.ensures)
 
 pub overflow_add-result : goal.overflow_add-result
 overflow_add-result g t c =

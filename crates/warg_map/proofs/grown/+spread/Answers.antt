@@ -1,20 +1,21 @@
-use Rattle.std.proofs.Common.{◌≡◌, ℕ, ◌+◌, ◌-◌, ◌<◌, ◌≤◌, length, List, arith, rules, sym, ap, ◌∙◌, inl, inr, false}
+use Rattle.std.proofs.Common.{◌≡◌, ℕ, ◌+◌, ◌-◌, ◌<◌, ◌≤◌, length, List, arith, rules, refl, sym, ap, ◌∙◌, inl, inr, false}
 use Rattle.std.specs.FinMap.{len, empty, len-empty}
 use Rattle.std.proofs.lemmas.List.{nil_from_length}
 use Rattle.std.proofs.lemmas.Result.{IfOk-weaker}
 use Rattle.warg_crypto.specs.Sides.{side_bit}
-use Rattle.warg_map.specs.Bits.{bit_at, bits_from}
+use Rattle.warg_map.specs.Bits.{bits_from}
 use Rattle.warg_map.specs.Sparse.{bits_cmp}
 use Rattle.warg_map.specs.Private.Under.{join_at, under, HoldsKey}
-use Rattle.warg_map.specs.Private.Grown.{with_leaves}
+use Rattle.warg_map.specs.Private.Grown.{with_leaves, ShareBits}
 use Rattle.warg_map.specs.Private.Seen.{held_by}
 use Rattle.warg_map.proofs.TreeForm.{is_fork, is_lone, is_stem}
-use Rattle.warg_map.proofs.NodeCounts.{len-join_at}
+use Rattle.warg_map.proofs.NodeCounts.{len-join_at, len-under}
 use Rattle.warg_map.proofs.FoundInNode.{run_of_link}
+use Rattle.warg_map.proofs.BitsInFront.{holds-under}
 use Rattle.warg_map.proofs.ManyLeaves.{split_at_last, with_leaves-none, few_new, few_grown, share-last, has_last, len-with_leaves}
-use Rattle.warg_map.proofs.LeavesBelowNodes.{IsPutBeside, put_beside, in_fork, put_beside_lone, put_below_stem, count_below_stem, below_stands, put_at_end, cut_rest}
+use Rattle.warg_map.proofs.LeavesBelowNodes.{IsPutBeside, put_beside, in_fork, put_beside_lone, put_below_stem, below_stands, put_at_end, rest_run, cut_at}
 use Rattle.warg_map.proofs.grown.+spread.Goals as goal
-use Rattle.warg_map.proofs.grown.+spread.Goals.{spread-In_ok-right-in-Fork, spread-In_ok-link-in-Singleton, spread_below-In_ok-rest, spread_below-In_ok-far}
+use Rattle.warg_map.proofs.grown.+spread.Goals.{spread-In_ok-right-in-Fork, spread-In_ok-link-in-Singleton, spread_stem-After-shared_by_all-shared, spread_stem-In_ok-far, spread_stem-In_ok-fork}
 
 pub spread-returns-then-is_empty-clause-seen : goal.spread-returns-then-is_empty-clause-seen
 spread-returns-then-is_empty-clause-seen g t c =
@@ -76,100 +77,106 @@ spread-returns-in_ok-fork-in-Fork-clause-count g t c =
     let rights = rw c.index-in-Fork.ensures at c.in_ok-right-in-Fork.ensures.count in
     rw ((at_fork g t now).0, c.in_ok-fork-in-Fork.ensures) (omega (arith, before, (put g t now).size_is, lefts, rights))
 
-pub spread-spread_below-requires : goal.spread-spread_below-requires
-spread-spread_below-requires g t c κs within =
-    let is = is_stem c.in-Stem.is c.as_ref-stem.ensures in
-    let run = run_of_link c.node.result.now _ c.args.link.now c.args.depth c.node.ensures.seen is c.node.ensures.well_formed c.requires in
-    let w = rw is at c.node.ensures.well_formed in
-    let apart = rw c.deref.ensures.value at c.shared_by_all-shared.ensures.apart in (
-      omega (arith, run.0, w.level, w.formed.0, c.shared_by_all-shared.ensures.at_most),
-      (search rules, (search rules, (w.level, (w.formed.1, ((omega (arith, run.0), omega (arith, run.0, c.shared_by_all-shared.ensures.at_most)), λ lt. apart (omega (arith, lt, run.0))))))),
-    )
-
-pub spread-with_stem-requires-clause-height : goal.spread-with_stem-requires-clause-height
-spread-with_stem-requires-clause-height g t c =
-    let run = run_of_link c.node.result.now _ c.args.link.now c.args.depth c.node.ensures.seen (is_stem c.in-Stem.is c.as_ref-stem.ensures) c.node.ensures.well_formed c.requires in
-    let h = ap (λ d. d.0) c.in_ok-below-in-Stem.ensures.seen in
-    omega (arith, h, run.1.whole, c.shared_by_all-shared.ensures.at_most)
-
-pub spread-with_stem-requires-clause-held : goal.spread-with_stem-requires-clause-held
-spread-with_stem-requires-clause-held g t c =
-    let last = split_at_last c.args.leaves.items c.len.result c.index-in-Stem.result.now (c.len.ensures ∙ c.args.leaves.ok.0) (search rules) c.index-in-Stem.ensures in
-    has_last _ _ c.in_ok-below-in-Stem.below c.args.leaves.items _ c.index-in-Stem.result.now c.copied-key.result c.in_ok-below-in-Stem.ensures.seen last (c.copied-key.ensures ∙ c.key.ensures)
-
 pub spread-returns-in-Empty-clause-count : goal.spread-returns-in-Empty-clause-count
 spread-returns-in-Empty-clause-count g t c =
     let none : len c.args.link.now.1 ≡ 0 = ap (λ d. len d.1) (sym c.node.ensures.seen) ∙ ap (λ n. len (held_by n)) c.in-Empty.is ∙ len-empty bits_cmp (List ℕ) in
     IfOk-weaker c.grown.result _ _ (λ p e. omega (arith, none, e)) c.grown.ensures.count
 
-pub spread-returns-in_ok-with_stem-in-Stem-clause-seen : goal.spread-returns-in_ok-with_stem-in-Stem-clause-seen
-spread-returns-in_ok-with_stem-in-Stem-clause-seen g t c =
-    let run = run_of_link c.node.result.now _ c.args.link.now c.args.depth c.node.ensures.seen (is_stem c.in-Stem.is c.as_ref-stem.ensures) c.node.ensures.well_formed c.requires in
-    let last = split_at_last c.args.leaves.items c.len.result c.index-in-Stem.result.now (c.len.ensures ∙ c.args.leaves.ok.0) (search rules) c.index-in-Stem.ensures in
+pub spread-returns-in-Stem-clause-count : goal.spread-returns-in-Stem-clause-count
+spread-returns-in-Stem-clause-count g t c =
+    let run = run_of_link c.node.result.now _ c.args.link.now c.args.depth c.node.ensures.seen (is_stem c.in-Stem.is c.as_ref-in-Stem.ensures) c.node.ensures.well_formed c.requires in
+    IfOk-weaker c.spread_stem.result _ _ (λ p e. rw (run.1.held_is, len-under (bits_from _ c.args.depth _) _) e) c.spread_stem.ensures.count
+
+-- a stem, from a bit on
+pub spread_stem-returns-then-is_empty-clause-seen : goal.spread_stem-returns-then-is_empty-clause-seen
+spread_stem-returns-then-is_empty-clause-seen g t c =
+    let none = nil_from_length c.args.leaves.items (search rules) in
+    let high : c.args.stem.now.below.0 + (c.args.stem.now.from + c.args.stem.now.len - c.args.from) ≡ 256 - c.args.from = omega (arith, c.requires.level, c.requires.place.0, c.requires.place.1) in
+    rw (c.in_ok-with_stem.ensures, c.in_ok-below.ensures.cases, none, with_leaves-none, high) refl
+
+pub spread_stem-returns-then-is_empty-clause-count : goal.spread_stem-returns-then-is_empty-clause-count
+spread_stem-returns-then-is_empty-clause-count g t c =
+    rw (c.in_ok-with_stem.ensures, c.in_ok-below.ensures.cases, len-under (bits_from c.args.stem.now.key c.args.from _) c.args.stem.now.below.1) (omega arith)
+
+pub spread_stem-with_stem-requires-then-shared-len-clause-below : goal.spread_stem-with_stem-requires-then-shared-len-clause-below
+spread_stem-with_stem-requires-then-shared-len-clause-below g t c = λ _.
+    let last = split_at_last c.args.leaves.items c.len.result c.index.result.now (c.len.ensures ∙ c.args.leaves.ok.0) (search rules) c.index.ensures in
+    let has = has_last _ _ c.in_ok-below-2.below c.args.leaves.items _ c.index.result.now c.copied-key.result c.in_ok-below-2.ensures.seen last (c.copied-key.ensures ∙ c.key.ensures) in
+    elim (below_stands c.args.stem.now.len c.args.stem.now.below c.in_ok-below-2.below c.args.leaves.items c.requires.below c.in_ok-below-2.ensures.seen) [ inl s ↦ inl s | inr h ↦ inr (h, rw h at has) ]
+
+-- the last leaf has the bits that all share
+shares : (g : _) (t : _) (c : spread_stem-After-shared_by_all-shared g t) → let n = c.shared_by_all-shared.result in
+    ShareBits c.args.stem.now.key c.args.from n c.args.leaves.items × (bits_from c.copied-key.result c.args.from n ≡ bits_from c.args.stem.now.key c.args.from n)
+shares g t c =
     let n = c.shared_by_all-shared.result in
+    let last = split_at_last c.args.leaves.items c.len.result c.index.result.now (c.len.ensures ∙ c.args.leaves.ok.0) (search rules) c.index.ensures in
     let share = rw c.deref.ensures.value at c.shared_by_all-shared.ensures.same in
-    let same = ap (λ x. bits_from x c.args.depth n) (c.copied-key.ensures ∙ c.key.ensures) ∙ share-last _ c.args.depth n _ _ (rw last at share) in
-    put_below_stem c.args.link.now c.in_ok-below-in-Stem.below c.in_ok-with_stem-in-Stem.field-0 _ c.copied-key.result c.args.depth n _ _ _ _ c.args.leaves.items run.1 (omega (arith, run.0)) c.shared_by_all-shared.ensures.at_most share same c.in_ok-below-in-Stem.ensures.seen c.in_ok-with_stem-in-Stem.ensures
+    (share, ap (λ x. bits_from x c.args.from n) (c.copied-key.ensures ∙ c.key.ensures) ∙ share-last _ c.args.from n _ _ (rw last at share))
 
-pub spread-returns-in_ok-with_stem-in-Stem-clause-count : goal.spread-returns-in_ok-with_stem-in-Stem-clause-count
-spread-returns-in_ok-with_stem-in-Stem-clause-count g t c =
-    let run = run_of_link c.node.result.now _ c.args.link.now c.args.depth c.node.ensures.seen (is_stem c.in-Stem.is c.as_ref-stem.ensures) c.node.ensures.well_formed c.requires in
-    count_below_stem c.args.link.now c.in_ok-below-in-Stem.below c.in_ok-with_stem-in-Stem.field-0 _ _ _ _ c.in_ok-below-in-Stem.fresh _ _ _ run.1 c.in_ok-below-in-Stem.ensures.count c.in_ok-with_stem-in-Stem.ensures
+pub spread_stem-returns-then-shared-len-clause-seen : goal.spread_stem-returns-then-shared-len-clause-seen
+spread_stem-returns-then-shared-len-clause-seen g t c =
+    let s = c.args.stem.now in
+    let i = c.args.from in
+    let n = c.args.stem.now.from + c.args.stem.now.len - c.args.from in
+    let z : 0 ≡ n - n = omega arith in
+    let run = rest_run s.len s.from i s.below s.key c.requires.below c.requires.level c.requires.place.0 c.requires.place.1 in
+    let at_end : c.args.from + (c.args.stem.now.from + c.args.stem.now.len - c.args.from) + c.args.stem.now.below.0 ≡ 256 = omega (arith, run.whole) in
+    let share = rw c.if-shared-len.true at (shares g t (goal.at.spread_stem-returns-then-shared-len-clause-seen g t c).After-shared_by_all-shared) in
+    put_below_stem (256 - i, under (bits_from s.key i n) s.below.1) c.in_ok-below-2.below c.in_ok-with_stem-2.field-0 s.key c.copied-key.result i n n s.below.0 0 s.below.1 c.args.leaves.items run z (omega arith) share.0 share.1
+    (put_at_end s.key (i + n) 0 s.below c.in_ok-below-2.below c.args.leaves.items at_end refl c.in_ok-below-2.ensures.seen) c.in_ok-with_stem-2.ensures
 
-pub spread_below-spread-requires : goal.spread_below-spread-requires
-spread_below-spread-requires g t c κs within = (omega (arith, c.if-at-stem.true), (search rules, (search rules, omega (arith, c.if-at-stem.true, c.requires.level))))
+pub spread_stem-returns-then-shared-len-clause-count : goal.spread_stem-returns-then-shared-len-clause-count
+spread_stem-returns-then-shared-len-clause-count g t c = rw (c.in_ok-with_stem-2.ensures, len-under (bits_from c.copied-key.result c.args.from _) c.in_ok-below-2.below.1) c.in_ok-below-2.ensures.count
 
-pub spread_below-returns-then-at-stem-clause-seen : goal.spread_below-returns-then-at-stem-clause-seen
-spread_below-returns-then-at-stem-clause-seen g t c =
-    let z : c.args.stem.now.from + c.args.stem.now.len - c.args.at ≡ 0 = omega (arith, c.if-at-stem.true) in
-    let sum : c.args.at + c.args.stem.now.below.0 ≡ 256 = omega (arith, c.if-at-stem.true, c.requires.level) in
-    IfOk-weaker c.spread.result _ _ (λ p e. put_at_end c.args.stem.now.key c.args.at _ c.args.stem.now.below p.0 c.args.leaves.items sum z e) c.spread.ensures.seen
+-- where the first leaf parts from it
+place : (g : _) (t : _) (c : spread_stem-In_ok-far g t) → c.args.from + c.shared_by_all-shared.result < c.args.stem.now.from + c.args.stem.now.len
+place g t c = omega (arith, c.shared_by_all-shared.ensures.at_most, c.if-shared-len.false, c.requires.place.1)
 
-pub spread_below-returns-then-at-stem-clause-stands : goal.spread_below-returns-then-at-stem-clause-stands
-spread_below-returns-then-at-stem-clause-stands g t c =
-    IfOk-weaker c.spread.result _ _ (λ p e. below_stands c.args.stem.now.len c.args.stem.now.below p.0 c.args.leaves.items c.requires.below e) c.spread.ensures.seen
-
--- where the stem is cut
-cuts : (g : _) (t : _) (c : spread_below-In_ok-rest g t) → (c.in_ok-rest.rest.0 + (c.args.at + 1) ≡ 256) × HoldsKey c.in_ok-rest.rest.1 × (len c.in_ok-rest.rest.1 ≡ len c.args.stem.now.below.1)
-    × (under (bits_from c.args.stem.now.key c.args.at (c.args.stem.now.from + c.args.stem.now.len - c.args.at)) c.args.stem.now.below.1 ≡ join_at (bit_at c.args.stem.now.key c.args.at) c.in_ok-rest.rest.1 empty)
-cuts g t c = cut_rest c.args.stem.now.len c.args.stem.now.from c.args.at c.args.stem.now.below c.in_ok-rest.rest c.args.stem.now.key c.requires.below c.requires.level c.requires.place.0 (omega (arith, c.if-at-stem.false, c.requires.place.1)) c.in_ok-rest.ensures
-
-pub spread_below-spread-requires-2 : goal.spread_below-spread-requires-2
-spread_below-spread-requires-2 g t c κs within =
-    let cut = cuts g t (goal.at.spread_below-spread-requires-2 g t c).In_ok-rest in
-    (omega (arith, c.if-at-stem.false, c.requires.place.1, c.requires.level), (search rules, (search rules, cut.0)))
-
-pub spread_below-grown-requires-clause-some : goal.spread_below-grown-requires-clause-some
-spread_below-grown-requires-clause-some g t c = rw (c.in_ok-near.ensures.1, c.side_at-side.ensures) (c.requires.apart (omega (arith, c.if-at-stem.false, c.requires.place.1)))
-
-put_below : (g : _) (t : _) (c : spread_below-In_ok-far g t) → IsPutBeside (side_bit c.side_at-side.result) c.args.at c.in_ok-rest.rest (256 - (c.args.at + 1), empty) c.in_ok-near-2.near c.in_ok-far.far c.args.leaves.items
+put_below : (g : _) (t : _) (c : spread_stem-In_ok-far g t) → let s = c.args.stem.now in let at = c.args.from + c.shared_by_all-shared.result in
+    IsPutBeside (side_bit c.side_at-side.result) at (256 - (at + 1), under (bits_from s.key (at + 1) (s.from + s.len - (at + 1))) s.below.1) (256 - (at + 1), empty) c.in_ok-near-2.near c.in_ok-far.far c.args.leaves.items
 put_below g t c =
-    let cut = cuts g t (goal.at.spread_below-In_ok-far g t c).In_ok-rest in
-    let some : 0 < length c.in_ok-near.far.items = rw (c.in_ok-near.ensures.1, c.side_at-side.ensures) (c.requires.apart (omega (arith, c.if-at-stem.false, c.requires.place.1))) in
-    put_beside _ c.args.at _ _ _ _ c.args.leaves.items _ _ cut.0 (omega (arith, cut.0)) c.in_ok-near-2.ensures.seen c.in_ok-far.ensures.seen c.in_ok-near.ensures.0 c.in_ok-near.ensures.1 (inl cut.1) (inr some)
+    let s = c.args.stem.now in
+    let at = c.args.from + c.shared_by_all-shared.result in
+    let lt = place g t c in
+    let low : c.args.stem.now.from ≤ c.args.from + c.shared_by_all-shared.result + 1 = omega (arith, c.requires.place.0) in
+    let run = rest_run s.len s.from (at + 1) s.below s.key c.requires.below c.requires.level low (omega (arith, lt)) in
+    let some : 0 < length c.in_ok-near.far.items = rw (c.in_ok-near.ensures.1, c.side_at-side.ensures) (rw c.deref.ensures.value at (c.shared_by_all-shared.ensures.apart (omega (arith, lt)))) in
+    put_beside _ at _ _ _ _ c.args.leaves.items _ _ (omega (arith, lt, run.whole)) (omega (arith, lt, run.whole)) c.in_ok-near-2.ensures.seen c.in_ok-far.ensures.seen c.in_ok-near.ensures.0 c.in_ok-near.ensures.1
+    (inl (holds-under _ s.below.1 run.holds)) (inr some)
 
-pub spread_below-beside-requires-clause-heights : goal.spread_below-beside-requires-clause-heights
-spread_below-beside-requires-clause-heights g t c = (put_below g t (goal.at.spread_below-beside-requires-clause-heights g t c).In_ok-far).heights
+fork_holds : (g : _) (t : _) (c : spread_stem-In_ok-fork g t) → let s = c.args.stem.now in let at = c.args.from + c.shared_by_all-shared.result in
+    c.in_ok-fork.fork ≡ (256 - at, with_leaves (256 - at) (under (bits_from s.key at (s.from + s.len - c.args.from - c.shared_by_all-shared.result)) s.below.1) c.args.leaves.items)
+fork_holds g t c =
+    let s = c.args.stem.now in
+    let at = c.args.from + c.shared_by_all-shared.result in
+    let now = (goal.at.spread_stem-In_ok-fork g t c).In_ok-far in
+    let lt = place g t now in
+    let n : c.args.stem.now.from + c.args.stem.now.len - c.args.from - c.shared_by_all-shared.result ≡ c.args.stem.now.from + c.args.stem.now.len - (c.args.from + c.shared_by_all-shared.result + 1) + 1 = omega (arith, lt) in
+    rw (n, cut_at s.key at (s.from + s.len - (at + 1)) s.below.1, ← c.side_at-side.ensures) (c.in_ok-fork.ensures ∙ (put_below g t now).is)
 
-pub spread_below-beside-requires-clause-hold : goal.spread_below-beside-requires-clause-hold
-spread_below-beside-requires-clause-hold g t c = (put_below g t (goal.at.spread_below-beside-requires-clause-hold g t c).In_ok-far).hold
+pub spread_stem-beside-requires-clause-hold : goal.spread_stem-beside-requires-clause-hold
+spread_stem-beside-requires-clause-hold g t c = (put_below g t (goal.at.spread_stem-beside-requires-clause-hold g t c).In_ok-far).hold
 
-pub spread_below-overflow_add-result : goal.spread_below-overflow_add-result
-spread_below-overflow_add-result g t c =
-    let inner = few_new _ c.in_ok-near-2.inner c.in_ok-rest.rest.1 c.in_ok-near-2.near c.in_ok-near.near.items c.in_ok-near-2.ensures.seen c.in_ok-near-2.ensures.count in
+pub spread_stem-with_stem-requires-2-clause-below : goal.spread_stem-with_stem-requires-2-clause-below
+spread_stem-with_stem-requires-2-clause-below g t c = λ _. inl (rw c.in_ok-fork.ensures (put_below g t (goal.at.spread_stem-with_stem-requires-2-clause-below g t c).In_ok-far).splits)
+
+pub spread_stem-overflow_add-result : goal.spread_stem-overflow_add-result
+spread_stem-overflow_add-result g t c =
+    let inner = few_new _ c.in_ok-near-2.inner _ c.in_ok-near-2.near c.in_ok-near.near.items c.in_ok-near-2.ensures.seen (rw (len-under (bits_from c.args.stem.now.key (c.args.from + c.shared_by_all-shared.result + 1) _) c.args.stem.now.below.1) c.in_ok-near-2.ensures.count) in
     let outer = few_grown _ c.in_ok-far.outer c.in_ok-far.far c.in_ok-near.far.items c.in_ok-far.ensures.seen c.in_ok-far.ensures.count in
     search (rules, inner, outer)
 
-pub spread_below-returns-clause-seen : goal.spread_below-returns-clause-seen
-spread_below-returns-clause-seen g t c =
-    let now = goal.at.spread_below-returns-clause-seen g t c in
-    rw ((cuts g t now.In_ok-rest).3, ← c.side_at-side.ensures) (c.in_ok-beside.ensures ∙ (put_below g t now.In_ok-far).is)
+pub spread_stem-returns-clause-seen : goal.spread_stem-returns-clause-seen
+spread_stem-returns-clause-seen g t c =
+    let s = c.args.stem.now in
+    let i = c.args.from in
+    let now = goal.at.spread_stem-returns-clause-seen g t c in
+    let run = rest_run s.len s.from i s.below s.key c.requires.below c.requires.level c.requires.place.0 c.requires.place.1 in
+    let share = shares g t now.After-shared_by_all-shared in
+    put_below_stem (256 - i, under (bits_from s.key i (s.from + s.len - i)) s.below.1) c.in_ok-fork.fork c.in_ok-with_stem-3.field-0 s.key c.copied-key.result i c.shared_by_all-shared.result _ s.below.0 _ s.below.1 c.args.leaves.items run refl c.shared_by_all-shared.ensures.at_most share.0 share.1
+    (fork_holds g t now.In_ok-fork) c.in_ok-with_stem-3.ensures
 
-pub spread_below-returns-clause-stands : goal.spread_below-returns-clause-stands
-spread_below-returns-clause-stands g t c = inl (rw c.in_ok-beside.ensures (put_below g t (goal.at.spread_below-returns-clause-stands g t c).In_ok-far).splits)
-
-pub spread_below-returns-clause-count : goal.spread_below-returns-clause-count
-spread_below-returns-clause-count g t c =
-    let now = goal.at.spread_below-returns-clause-count g t c in
-    let same = (cuts g t now.In_ok-rest).2 in
-    rw c.in_ok-beside.ensures (omega (arith, same, (put_below g t now.In_ok-far).size_is, c.in_ok-near-2.ensures.count, c.in_ok-far.ensures.count))
+pub spread_stem-returns-clause-count : goal.spread_stem-returns-clause-count
+spread_stem-returns-clause-count g t c =
+    let both = (put_below g t (goal.at.spread_stem-returns-clause-count g t c).In_ok-far).size_is in
+    rw (c.in_ok-with_stem-3.ensures, len-under (bits_from c.copied-key.result c.args.from _) c.in_ok-fork.fork.1, c.in_ok-fork.ensures) (omega (arith, both, c.in_ok-near-2.ensures.count, c.in_ok-far.ensures.count))

@@ -1,4 +1,4 @@
-use Rattle.std.proofs.Common.{◌≡◌, ◌+◌, ◌-◌, ◌∙◌, ap, sym, arith}
+use Rattle.std.proofs.Common.{◌≡◌, ◌+◌, ◌-◌, ◌∙◌, ap, sym, arith, inr}
 use Rattle.std.proofs.lemmas.Result.{IfOk-weaker}
 use Rattle.warg_map.specs.Bits.{bits_from}
 use Rattle.warg_map.specs.Private.Under.{under}
@@ -6,12 +6,13 @@ use Rattle.warg_map.specs.Private.Lone.{Lone, held_alone}
 use Rattle.warg_map.proofs.TreeForm.{lone_seen, lone_has, lone_with_stem}
 use Rattle.warg_map.proofs.link.Link.lone.Goals as goal
 
-pub with_stem-requires-clause-held : goal.with_stem-requires-clause-held
-with_stem-requires-clause-held g c =
+pub with_stem-requires-clause-below : goal.with_stem-requires-clause-below
+with_stem-requires-clause-below g c = λ more.
     let k = 256 - c.args.depth - c.saturating_sub-len.result in
     let key = c.key.result.now in
+    let few : c.saturating_sub-len.result ≡ 1 - c.args.depth = c.saturating_sub-len.ensures in
     let lone = c.new-2.ensures ∙ ap (λ (s : Lone). (s.height, held_alone s)) c.in_ok-lone.ensures.ok ∙ lone_seen c.with_height.result k key c.args.leaf.now.value c.with_height.ensures.height (c.with_height.ensures.key ∙ sym c.key.ensures) c.with_height.ensures.value in
-    lone_has _ k key c.args.leaf.now.value lone
+    inr (lone_has _ k key c.args.leaf.now.value lone (omega (arith, few, more)))
 
 pub returns : goal.returns
 returns g c =

@@ -1,4 +1,4 @@
-use Rattle.std.proofs.Common.{refl, rules}
+use Rattle.std.proofs.Common.{refl}
 use Rattle.warg_map.specs.Bits.{last_bits}
 use Rattle.warg_map.proofs.SparseTree.{length-last_bits, contains_key-insert_same}
 use Rattle.warg_map.proofs.InsertionSteps.{root_before, root_after, grows}

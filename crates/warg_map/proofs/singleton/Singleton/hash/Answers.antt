@@ -8,5 +8,6 @@ pub returns : goal.returns
 returns g c =
     let H = g.D.SupportedDigest.digest in
     let s = c.self.inside in
-    let z : 256 - (256 - c.self.inside.height + (c.self.inside.height - c.self.inside.kept_height)) ≡ c.self.inside.kept_height = omega (arith, c.self.invariant.0, c.self.invariant.1) in
-    c.stem_digest.ensures ∙ root-kept H s.kept s.value s.key _ s.kept_height s.height c.self.invariant.0 c.self.invariant.1 z c.self.invariant.2 ∙ ap (λ (l : Lone). sparse_root H l.height (held_alone l)) c.self.view_is
+    let k = c.self.invariant in
+    let z : 256 - (256 - c.self.inside.height + (c.self.inside.height - c.self.inside.one_below.height)) ≡ c.self.inside.one_below.height = omega (arith, k.0, k.9) in
+    c.stem_digest.ensures ∙ root-kept H s.one_below.digest s.value s.key _ s.one_below.height s.height k.0 k.9 z k.10 ∙ ap (λ (l : Lone). sparse_root H l.height (held_alone l)) c.self.view_is

@@ -1,6 +1,6 @@
 use Rattle.std.proofs.Common.{◌≡◌, ◌∙◌, ◌+◌, ◌-◌, arith}
 use Rattle.warg_map.proofs.StemRoots.{root-stem}
-use Rattle.warg_map.proofs.stem.Stem.hash_below.Goals as goal
+use Rattle.warg_map.proofs.node.Stem.hash_below.Goals as goal
 
 pub returns : goal.returns
 returns g c =
