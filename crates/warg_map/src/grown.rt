@@ -13,6 +13,7 @@ use crate::node::{Node, Stem};
 use crate::path::{shared_bits, side_at};
 use crate::singleton::Singleton;
 use std::alloc::{AllocError, Allocator};
+use std::rc::Rc;
 use warg_crypto::{Hash, Side, SupportedDigest};
 
 // How many of `len` bits from bit `from` on all the leaves' key digests share with one.
@@ -73,7 +74,11 @@ fn grown<D: SupportedDigest, A: Allocator + Copy>(
     let last = &leaves[leaves.len() - 1];
     let shared = shared_by_all(last.key(), &leaves, depth, 256 - depth);
     if shared == 256 - depth {
-        return Ok((Link::lone(alloc, last, depth)?, 1));
+        // In the whole tree a lone key stands below a stem of one bit, and in a lower one below none.
+        let len = 1_usize.saturating_sub(depth);
+        let lone = Rc::new(alloc, last.with_height(256 - depth - len))?;
+        let link = Link::new(Node::Singleton(lone));
+        return Ok((link.with_stem(alloc, last.key(), depth, len)?, 1));
     }
     let key = last.key().copied();
     let at = depth + shared;

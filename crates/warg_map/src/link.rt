@@ -89,24 +89,6 @@ impl<D: SupportedDigest, A: Allocator + Copy> Link<D, A> {
     ghost use Rattle.warg_map.specs.Bits.{bits_from, last_bits};
     ghost use Rattle.warg_map.specs.Private.Under.{join_at, under, HoldsKey, Splits};
 
-    /// The tree below `depth` bits that holds one key.
-    pub(crate) fn lone(
-        alloc: A,
-        leaf: &Singleton<D>,
-        depth: usize,
-    ) -> Result<Link<D, A>, AllocError>
-        requires { depth ≤ 256 }
-        ensures { IfOk result (λ l. l ≡ (
-          256 - depth,
-          map.insert map.empty (last_bits leaf.now.key (256 - depth)) leaf.now.value,
-        )) }
-    {
-        // In the whole tree a lone key stands below a stem of one bit, and in a lower one below none.
-        let len = 1_usize.saturating_sub(depth);
-        let lone = Rc::new(alloc, leaf.with_height(256 - depth - len))?;
-        Link::new(Node::Singleton(lone)).with_stem(alloc, leaf.key(), depth, len)
-    }
-
     /// The fork of two links, the first on a side and the second on the other.
     pub(crate) fn beside(
         alloc: A,

@@ -306,8 +306,7 @@ impl<D: SupportedDigest, K: VisitBytes + Drop, V: VisitBytes + Drop, A: Allocato
             ↔ ((map.len self.now ≡ usize.MAX)
             × (map.contains_key self.now (last_bits key.now 256) ≡ false)) }
     {
-        let _len = self.len();
-        if self.len() == usize::MAX && self.leaf_of(key).is_none() {
+        if self.count == usize::MAX && self.leaf_of(key).is_none() {
             return Err(MapError::Full);
         }
         let mut leaves = Vec::with_capacity(self.alloc, 1)?;
@@ -323,7 +322,7 @@ impl<D: SupportedDigest, K: VisitBytes + Drop, V: VisitBytes + Drop, A: Allocato
         let (link, fresh) = spread(self.alloc, &self.link, leaves, 0)?;
         Ok(Map {
             link,
-            count: self.len() + fresh,
+            count: self.count + fresh,
             alloc: self.alloc,
             key: PhantomData,
             value: PhantomData,

@@ -65,17 +65,6 @@ impl<D: SupportedDigest> Drop for Singleton<D> {
 }
 
 impl<D: SupportedDigest> Kept<D> {
-    // The digest of the tree of no levels.
-    fn leaf(value: &Hash<D>) -> Kept<D>
-        ensures digest { result.digest ≡ value.now }
-        ensures height { result.height ≡ 0 }
-    {
-        Kept {
-            digest: value.copied(),
-            height: 0,
-        }
-    }
-
     fn copied(&self) -> Kept<D>
         ensures { result ≡ self.now }
     {
@@ -114,7 +103,10 @@ impl<D: SupportedDigest> Singleton<D> {
         ensures value { result.value ≡ value }
         ensures height { result.height ≡ 256 }
     {
-        let kept = Kept::leaf(&value);
+        let kept = Kept {
+            digest: value.copied(),
+            height: 0,
+        };
         Singleton {
             key,
             value,
@@ -173,7 +165,10 @@ impl<D: SupportedDigest> Singleton<D> {
         ensures height { result.height ≡ height }
     {
         let key = &self.key;
-        let leaf = Kept::leaf(&self.value);
+        let leaf = Kept {
+            digest: self.value.copied(),
+            height: 0,
+        };
         let fourteen_below = self.fourteen_below.for_top(&leaf, key, height, 14);
         let seven_below = self.seven_below.for_top(&fourteen_below, key, height, 7);
         let four_below = self.four_below.for_top(&seven_below, key, height, 4);
