@@ -2,22 +2,33 @@
 use Rattle.std.proofs.Common.{◌≡◌, ℕ, zero, suc, ◌+◌, ◌-◌, ◌<◌, ◌≤◌, Bool, true, false, cond, not, List, [], ◌∷◌, ◌++◌, length, Option, Some, None, is_some, refl, sym, ap, ◌∙◌, subst, arith, add-one, inl, inr, IsTrue, append_assoc, length-append}
 use Rattle.std.proofs.lemmas.List.{reverse-append, length-reverse, append-nil, append_cancel_left, length_push}
 use Rattle.std.proofs.lemmas.Bool.{ne_eqb}
-use Rattle.std.specs.Prelude.{reverse}
+use Rattle.std.specs.Prelude.{reverse, IsSome, MatchOption}
+use Rattle.std.specs.Bool.{then_some}
 use Rattle.std.specs.FinMap.{insert, empty, contains_key, get, get-empty}
 use Rattle.std.specs.declared.rc.Rc.{Rc}
 use Rattle.warg_map.specs.declared.node.Node.{Node}
 use Rattle.warg_map.specs.declared.node.Node.TheVariants.{Fork}
 use Rattle.warg_map.specs.declared.node.Fork.{Fork as Fork'}
+use Rattle.warg_map.specs.declared.walk.Asked.{Asked}
 use Rattle.warg_map.specs.Bits.{bit_at, last_bits, bits_from}
 use Rattle.warg_map.specs.Sparse.{SparseMap, bits_cmp, sparse_root}
 use Rattle.warg_map.specs.Private.Under.{join_at, under, HoldsKey}
 use Rattle.warg_map.specs.Private.Seen.{tree_height, held_by, seen, IsWellFormed, IsBelow}
-use Rattle.warg_map.specs.Private.Walk.{empty_half, empty_halves, Reaches, lone_count, Collects}
-use Rattle.warg_map.specs.Peers.{IsPeer, IsPeers, IsPeerCount, Proves, ProvesAbsent, shared}
+use Rattle.warg_map.specs.Private.Walk.{answer_of, empty_half, empty_halves, Reaches, lone_count, Collects}
+use Rattle.warg_map.specs.Peers.{IsPeer, IsPeers, IsPeerCount, Proves, ProvesAbsent, ProvesEmpty, shared}
 use Rattle.warg_map.proofs.SparseTree.{get-join_at, get-join_far, length-bits_from, length-last_bits, last_bits-first, tail_same}
 use Rattle.warg_map.proofs.BitsInFront.{bits_left-split, join_at-other, get-under, get-under_head, under-append, holds-under, only-under, no_some, lone-under, last_bits-at}
 use Rattle.warg_map.proofs.TreeForm.{lone_tied, stem_holds}
-use Rattle.warg_map.proofs.FoundInNode.{tied, get-lone_other, IsRun, run_apart, found_apart}
+use Rattle.warg_map.proofs.FoundInNode.{tied, get-lone_other, IsRun, run_apart}
+
+-- an answer says whether a leaf digest is held
+only_some : (b x held : Bool) → Some held ≡ then_some b x → x ≡ held
+only_some true x held e = cc
+only_some false x held e = cc
+
+pub answered : (H : List ℕ → List ℕ) (asked : Asked) (leaf : Option (List ℕ)) (held : Bool) → Some held ≡ answer_of H asked leaf → is_some leaf ≡ held
+answered H asked None held e = only_some _ false held e
+answered H asked (Some x) held e = only_some _ true held e
 
 -- bits that part at once, and later
 shared_other : (b : Bool) (p q : List Bool) → shared (b ∷ p) (not b ∷ q) ≡ 0
@@ -56,23 +67,22 @@ collected_count H held height m bits peers c = record {
   reached = c.reaches;
 }
 
--- what is collected in the whole tree
-pub collected_whole : (H : List ℕ → List ℕ) (held : Bool) (child link : ℕ × SparseMap) (m : SparseMap) (bits : List Bool) (peers : List (Option (List ℕ))) → child ≡ link → link.0 ≡ 256 → link.1 ≡ m → contains_key m bits ≡ held
-    → (contains_key child.1 bits ≡ held → Collects H held child.0 child.1 bits peers) → Collects H held 256 m bits peers
-collected_whole H held child link m bits peers e top view is c =
+-- what is collected in the whole tree proves what is held there
+proves_found : (H : List ℕ → List ℕ) (held : Bool) (m : SparseMap) (bits : List Bool) (peers : List (Option (List ℕ))) (o : Option (List ℕ)) → get m bits ≡ o → is_some o ≡ held → Collects H held 256 m bits peers → MatchOption o (ProvesAbsent H m bits peers) (λ _. Proves H 256 m bits peers)
+proves_found H true m bits peers None e is c = absurd (cc is)
+proves_found H true m bits peers (Some v) e is c = record { held = ap is_some e; peers_from_top = c.peers_from_top; count = collected_count H true 256 m bits peers c }
+proves_found H false m bits peers None e is c = record { absent = ap is_some e; peers_from_top = c.peers_from_top; count = collected_count H false 256 m bits peers c }
+proves_found H false m bits peers (Some v) e is c = absurd (cc is)
+
+proves_whole : (H : List ℕ → List ℕ) (asked : Asked) (o : Option Bool) (m : SparseMap) (bits : List Bool) (peers : List (Option (List ℕ))) → length bits ≡ 256 → o ≡ answer_of H asked (get m bits) → MatchOption o (peers ≡ []) (λ held. Collects H held 256 m bits peers) → (length peers ≤ 256) × (IsSome o → ProvesEmpty H m bits peers)
+proves_whole H asked None m bits peers n e c = (rw c (omega arith), λ is. absurd (cc is))
+proves_whole H asked (Some held) m bits peers n e c = (few_collected H _ (get m) bits peers c.peers_from_top n, λ _. proves_found H held m bits peers (get m bits) refl (answered H asked (get m bits) held e) c)
+
+pub proves_asked : (H : List ℕ → List ℕ) (asked : Asked) (o : Option Bool) (child link : ℕ × SparseMap) (m : SparseMap) (bits : List Bool) (peers : List (Option (List ℕ))) → child ≡ link → link.0 ≡ 256 → link.1 ≡ m → length bits ≡ 256
+    → o ≡ answer_of H asked (get child.1 bits) → MatchOption o (peers ≡ []) (λ held. Collects H held child.0 child.1 bits peers) → (length peers ≤ 256) × (IsSome o → ProvesEmpty H m bits peers)
+proves_asked H asked o child link m bits peers e top view n a c =
     let at : child ≡ (256, m) = e ∙ (λ i. (top i, view i)) in
-    (rw at at c) is
-
--- what is collected proves that the bits are held, or that they aren't
-pub proves_held : (H : List ℕ → List ℕ) (held : Bool) (m : SparseMap) (bits : List Bool) (peers : List (Option (List ℕ))) → Collects H held 256 m bits peers → contains_key m bits ≡ held → held ≡ true → Proves H 256 m bits peers
-proves_held H held m bits peers c is e =
-    let d : Collects H true 256 m bits peers = rw e at c in
-    record { held = is ∙ e; peers_from_top = d.peers_from_top; count = collected_count H true 256 m bits peers d }
-
-pub proves_absent : (H : List ℕ → List ℕ) (held : Bool) (m : SparseMap) (bits : List Bool) (peers : List (Option (List ℕ))) → Collects H held 256 m bits peers → contains_key m bits ≡ held → held ≡ false → ProvesAbsent H m bits peers
-proves_absent H held m bits peers c is e =
-    let d : Collects H false 256 m bits peers = rw e at c in
-    record { absent = is ∙ e; peers_from_top = d.peers_from_top; count = collected_count H false 256 m bits peers d }
+    proves_whole H asked o m bits peers n (rw at at a) (rw at at c)
 
 -- one bit up
 peers_up : (H : List ℕ → List ℕ) (half : ℕ → Option (List ℕ)) (b : Bool) (near far : SparseMap) (p : List Bool) (ps : List (Option (List ℕ))) (x : Option (List ℕ)) → IsPeer H (half (length p)) (length p) (get far) x → IsPeers H half (get near) p (reverse ps) → IsPeers H half (get (join_at b near far)) (b ∷ p) (reverse (ps ++ x ∷ []))
@@ -138,11 +148,10 @@ lone_below true len k m p n (inr o) is e only = rw (e, o.0, o.1)
 lone_below false len k m p n (inr o) is e only = absurd (not_lone m p (stem_holds len k m (inr o)) is only)
 
 pub collects_below : (H : List ℕ → List ℕ) (held : Bool) (whole : SparseMap) (below child : ℕ × SparseMap) (height : ℕ) (one key : List ℕ) (from len : ℕ) (ps new : List (Option (List ℕ))) → IsRun whole height one from len below.0 below.1 → IsBelow len below → child ≡ below
-    → (bits_from one from len ≡ bits_from key from len) × (get below.1 (last_bits key (256 - (from + len))) ≡ get whole (last_bits key (256 - from))) → contains_key whole (last_bits key (256 - from)) ≡ held
-    → (contains_key child.1 (last_bits key (256 - (from + len))) ≡ held → Collects H held child.0 child.1 (last_bits key (256 - (from + len))) ps) → new ≡ ps ++ empty_halves (empty_half H held) (256 - from - len) len
+    → bits_from one from len ≡ bits_from key from len → contains_key child.1 (last_bits key (256 - (from + len))) ≡ held
+    → Collects H held child.0 child.1 (last_bits key (256 - (from + len))) ps → new ≡ ps ++ empty_halves (empty_half H held) (256 - from - len) len
     → Collects H held height whole (last_bits key (256 - from)) new
-collects_below H held whole below child height one key from len ps new run formed at found is c n =
-    let there = ap is_some found.1 ∙ is in
+collects_below H held whole below child height one key from len ps new run formed at same is c n =
     let k = below.0 in
     let m = below.1 in
     let a = bits_from key from len in
@@ -150,8 +159,8 @@ collects_below H held whole below child height one key from len ps new run forme
     let la : length (bits_from key from len) ≡ len = length-bits_from key from len in
     let lp : length (last_bits key (256 - (from + len))) ≡ 256 - from - len = (let e = length-last_bits key (256 - (from + len)) in omega (arith, e)) in
     let le : from + len ≤ 256 = omega (arith, run.whole) in
-    let up = collects_under H held (k + len) k a p m ps (λ e only. rw la (lone_below held len k m p (length ps) formed there e only)) ((rw at at c) there) in
-    rw (n, run.held_is, run.height_is, found.0, bits_left-split key from len le) (rw (la, lp) at up)
+    let up = collects_under H held (k + len) k a p m ps (λ e only. rw la (lone_below held len k m p (length ps) formed (rw at at is) e only)) (rw at at c) in
+    rw (n, run.held_is, run.height_is, same, bits_left-split key from len le) (rw (la, lp) at up)
 
 -- a tree below the top has no peers beside a lone key
 lone_low : (held : Bool) (k : ℕ) → k < 256 → lone_count held k ≡ 0
@@ -159,25 +168,28 @@ lone_low true k lt = rw (ne_eqb k 256 (λ e. omega (arith, lt, e)))
 lone_low false k lt = refl
 
 -- at a lone key, and where nothing is held
-pub collects_lone : (H : List ℕ → List ℕ) (h : ℕ) (p : List Bool) (v : List ℕ) → h < 256 → Collects H true h (insert empty p v) p []
+collects_lone : (H : List ℕ → List ℕ) (h : ℕ) (p : List Bool) (v : List ℕ) → h < 256 → Collects H true h (insert empty p v) p []
 unfolding IsPeers
 collects_lone H h p v lt = record {
   peers_from_top = get-lone_other p v;
   reaches = inl (sym (lone_low true h lt), λ q c. tied q p (lone_tied p q v c));
 }
 
-pub collects_nothing : (H : List ℕ → List ℕ) (h : ℕ) (p : List Bool) → Collects H false h empty p []
+collects_nothing : (H : List ℕ → List ℕ) (h : ℕ) (p : List Bool) → Collects H false h empty p []
 unfolding IsPeers
 collects_nothing H h p = record { peers_from_top = λ q _. get-empty bits_cmp q; reaches = inl (refl, λ q c. absurd (no_some _ (get-empty bits_cmp q) c)) }
 
+pub collects_none : (H : List ℕ → List ℕ) (b : Bool) (h : ℕ) (p : List Bool) (peers : List (Option (List ℕ))) → peers ≡ [] → MatchOption (then_some b false) (peers ≡ []) (λ held. Collects H held h empty p peers)
+collects_none H true h p peers e = rw e (collects_nothing H h p)
+collects_none H false h p peers e = e
+
 -- beside bits that part
-pub collects_beside : (H : List ℕ → List ℕ) (held : Bool) (whole m : SparseMap) (height : ℕ) (one key d : List ℕ) (from len k j : ℕ) (new : List (Option (List ℕ))) → IsRun whole height one from len k m → j < len
-    → bits_from one from j ≡ bits_from key from j → ¬ (bit_at one (from + j) ≡ bit_at key (from + j)) → contains_key whole (last_bits key (256 - from)) ≡ held
-    → d ≡ sparse_root H (k + (len - (j + 1))) (under (bits_from one (from + (j + 1)) (len - (j + 1))) m) → new ≡ Some d ∷ empty_halves (empty_half H false) (256 - from - j) j → Collects H held height whole (last_bits key (256 - from)) new
+pub collects_beside : (H : List ℕ → List ℕ) (whole m : SparseMap) (height : ℕ) (one key d : List ℕ) (from len k j : ℕ) (new : List (Option (List ℕ))) → IsRun whole height one from len k m → j < len
+    → bits_from one from j ≡ bits_from key from j → ¬ (bit_at one (from + j) ≡ bit_at key (from + j))
+    → d ≡ sparse_root H (k + (len - (j + 1))) (under (bits_from one (from + (j + 1)) (len - (j + 1))) m) → new ≡ Some d ∷ empty_halves (empty_half H false) (256 - from - j) j → Collects H false height whole (last_bits key (256 - from)) new
 unfolding under
-collects_beside H held whole m height one key d from len k j new run less same apart is de n =
+collects_beside H whole m height one key d from len k j new run less same apart de n =
     let parts = run_apart whole height one key from len k j m run less same apart in
-    let no : held ≡ false = sym is ∙ ap is_some (found_apart whole height one key from len k j m run less same apart) in
     let holds = run.holds in
     let rest = len - (j + 1) in
     let low = 256 - from - (j + 1) in
@@ -194,7 +206,7 @@ collects_beside H held whole m height one key d from len k j new run less same a
     (collects_up H false 0 0 b empty (under cs m) p [] d refl (holds-under cs m holds) (rw (lp, sum) de) (collects_nothing H 0 p)) in
     let none : contains_key (under (c ∷ cs) m) (b ∷ p) ≡ false = ap is_some (get-under_head b c cs p m apart) in
     let up = collects_under H false height 0 a (b ∷ p) (under (c ∷ cs) m) (Some d ∷ []) (λ _ only. absurd (not_lone (under (c ∷ cs) m) (b ∷ p) (holds-under (c ∷ cs) m holds) none only)) base in
-    rw (no, n, parts.held_is, parts.bits_are, under-append a (c ∷ cs) m) (rw (lb, la) at up)
+    rw (n, parts.held_is, parts.bits_are, under-append a (c ∷ cs) m) (rw (lb, la) at up)
 
 pub lone_far : (H : List ℕ → List ℕ) (one v d : List ℕ) (from len j low : ℕ) → from + len ≡ 256 → j < len → low ≡ len - (j + 1) → d ≡ sparse_root H low (insert empty (last_bits one low) v)
     → d ≡ sparse_root H (0 + (len - (j + 1))) (under (bits_from one (from + (j + 1)) (len - (j + 1))) (insert empty [] v))
@@ -203,14 +215,10 @@ lone_far H one v d from len j low sum less e de =
     let place : from + (j + 1) + low ≡ 256 = omega (arith, sum, less, e) in
     rw (z, ← e, ← lone-under (bits_from one (from + (j + 1)) low) v, ← last_bits-at one (from + (j + 1)) low place) de
 
-pub collects_at_lone : (H : List ℕ → List ℕ) (held : Bool) (whole : SparseMap) (height : ℕ) (one key v : List ℕ) (from len : ℕ) (new : List (Option (List ℕ))) → IsRun whole height one from len 0 (insert empty [] v) → height < 256
-    → (last_bits key (256 - from) ≡ bits_from one from len) × (Some v ≡ get whole (last_bits key (256 - from))) → contains_key whole (last_bits key (256 - from)) ≡ held → new ≡ [] → Collects H held height whole (last_bits key (256 - from)) new
-collects_at_lone H held whole height one key v from len new run lt found is n =
-    let yes : held ≡ true = sym is ∙ sym (ap is_some found.1) in
-    rw (yes, n, run.held_is, found.0, ← lone-under (bits_from one from len) v) (collects_lone H height (bits_from one from len) v lt)
-
-pub collects_empty : (H : List ℕ → List ℕ) (held : Bool) (h : ℕ) (p : List Bool) → contains_key (empty {K = List Bool} {X = List ℕ} {R = bits_cmp}) p ≡ held → Collects H held h empty p []
-collects_empty H held h p is = rw (sym is ∙ ap is_some (get-empty bits_cmp p)) (collects_nothing H h p)
+pub collects_at_lone : (H : List ℕ → List ℕ) (whole : SparseMap) (height : ℕ) (one key v : List ℕ) (from len : ℕ) (new : List (Option (List ℕ))) → IsRun whole height one from len 0 (insert empty [] v) → height < 256
+    → last_bits key (256 - from) ≡ bits_from one from len → new ≡ [] → Collects H true height whole (last_bits key (256 - from)) new
+collects_at_lone H whole height one key v from len new run lt at n =
+    rw (n, run.held_is, at, ← lone-under (bits_from one from len) v) (collects_lone H height (bits_from one from len) v lt)
 
 -- in a fork
 in_fork : {D A : _} (H : List ℕ → List ℕ) (held : Bool) (f : Rc (Fork' D A) A) (b : Bool) (p : List Bool) (ps : List (Option (List ℕ))) (d : List ℕ) (child x : ℕ × SparseMap) → IsWellFormed (Fork f) → length p ≡ f.value.left.0

@@ -8,7 +8,7 @@ use Rattle.warg_map.specs.declared.node.Node.{Node}
 use Rattle.warg_map.specs.declared.node.Node.TheVariants.{Fork, Singleton, Stem}
 use Rattle.warg_map.specs.declared.node.Fork.{Fork as Fork'}
 use Rattle.warg_map.specs.declared.node.Stem.{Stem as Stem'}
-use Rattle.warg_map.specs.Private.Lone.{Lone}
+use Rattle.warg_map.specs.Private.Lone.{Lone, held_alone}
 use Rattle.warg_map.specs.Bits.{bit_at, bits_from, last_bits}
 use Rattle.warg_map.specs.Sparse.{SparseMap, bits_cmp}
 use Rattle.warg_map.specs.Private.Under.{under, HoldsKey}
@@ -57,16 +57,19 @@ pub record IsRun (held : SparseMap) (height : ℕ) (one : List ℕ) (from len k 
   pub whole : from + len + k ≡ 256
   pub holds : HoldsKey m
 
-pub run_of_lone : {D A : _} (old : Node D A) (s : Rc Lone A) (one : List ℕ) (from len : ℕ) → old ≡ Singleton s → one ≡ s.value.key → len ≡ s.value.height → tree_height old + from ≡ 256
-    → IsRun (held_by old) (tree_height old) one from len 0 (insert empty [] s.value.value)
-run_of_lone old s one from len is key all height =
-    let sum : from + s.value.height ≡ 256 = (let h : s.value.height + from ≡ 256 = rw is at height in omega (arith, h)) in
-    rw (is, key, all) (record {
-      held_is = ap (λ q. insert empty q s.value.value) (last_bits-at s.value.key from s.value.height sum) ∙ lone-under (bits_from s.value.key from s.value.height) s.value.value;
+pub lone_run : (s : Lone) (one : List ℕ) (from len : ℕ) → one ≡ s.key → len ≡ s.height → s.height + from ≡ 256 → IsRun (held_alone s) s.height one from len 0 (insert empty [] s.value)
+lone_run s one from len key all height =
+    let sum : from + s.height ≡ 256 = omega (arith, height) in
+    rw (key, all) (record {
+      held_is = ap (λ q. insert empty q s.value) (last_bits-at s.key from s.height sum) ∙ lone-under (bits_from s.key from s.height) s.value;
       height_is = omega arith;
       whole = omega (arith, sum);
-      holds = ([], contains_key-insert_same empty [] s.value.value);
+      holds = ([], contains_key-insert_same empty [] s.value);
     })
+
+pub run_of_lone : {D A : _} (old : Node D A) (s : Rc Lone A) (one : List ℕ) (from len : ℕ) → old ≡ Singleton s → one ≡ s.value.key → len ≡ s.value.height → tree_height old + from ≡ 256
+    → IsRun (held_by old) (tree_height old) one from len 0 (insert empty [] s.value.value)
+run_of_lone old s one from len is key all height = rw is (lone_run s.value one from len key all (rw is at height))
 
 pub run_of_stem : {D A : _} (old : Node D A) (s : Rc (Stem' D A) A) (from : ℕ) → old ≡ Stem s → IsWellFormed old → tree_height old + from ≡ 256 → (s.value.from ≡ from) × IsRun (held_by old) (tree_height old) s.value.key from s.value.len s.value.below.0 s.value.below.1
 run_of_stem old s from is w height =

@@ -1,6 +1,6 @@
 //! The map.
 
-ghost use Rattle.std.specs.Prelude.{◌≡◌, ◌≢◌, ℕ, List, Option, ◌+◌, ◌*◌, ◌/◌, ◌<◌, ◌≤◌, ◌↔◌, ◌∷◌, ◌++◌, [], IfOk, IfSome, IsSome, IsTrue, MatchOption, Some, None, Ok, Err, true, false};
+ghost use Rattle.std.specs.Prelude.{◌≡◌, ◌≢◌, ℕ, List, Option, ◌+◌, ◌*◌, ◌/◌, ◌<◌, ◌≤◌, ◌↔◌, ◌∷◌, ◌++◌, [], IfOk, IfSome, IsSome, IsTrue, MatchOption, MatchResult, Some, None, Ok, Err, true, false};
 ghost use Rattle.std.specs.FinMap as map;
 ghost use Rattle.std.specs.Option.{option_copied};
 ghost use Rattle.std.specs.Iterator.{IsFinite};
@@ -9,8 +9,9 @@ ghost use Rattle.warg_map.specs.Bits.{key_bits, last_bits};
 ghost use Rattle.warg_crypto.specs.EmptyTrees.{empty_root};
 ghost use Rattle.warg_crypto.specs.Tree.{leaf_digest};
 ghost use Rattle.warg_map.specs.Sparse.{HasLevels, sparse_root, leaf_at, inserted, pair_bytes};
-ghost use Rattle.warg_map.specs.Peers.{Proves, ProvesAbsent, ProvesEmpty};
+ghost use Rattle.warg_map.specs.Peers.{Proves, ProvesEmpty};
 ghost use Rattle.warg_map.specs.Private.Grown.{with_leaves};
+ghost use Rattle.warg_map.specs.Private.Walk.{answer_of};
 ghost use Rattle.warg_map.specs.Count.{node_count};
 
 mod insertion;
@@ -21,6 +22,7 @@ use crate::link::Link;
 use crate::node::Node;
 use crate::proof::Proof;
 use crate::singleton::Singleton;
+use crate::walk::Asked;
 pub use insertion::Insertion;
 pub use key_proof::KeyProof;
 use std::alloc::{AllocError, Allocator, Global};
@@ -28,7 +30,7 @@ use std::fmt;
 use std::fmt::Debug;
 use std::marker::{Model, PhantomData};
 use thiserror::Error;
-use warg_crypto::{Hash, SupportedDigest, VisitBytes, empty_tree_hash, hash_leaf};
+use warg_crypto::{Hash, SupportedDigest, VisitBytes, hash_leaf};
 
 /// Why an insertion was refused. The map that it was to go into stays as it was.
 #[derive(Debug, PartialEq, Eq, Drop, Error)]
@@ -229,11 +231,8 @@ impl<D: SupportedDigest, K: VisitBytes + Drop, V: VisitBytes + Drop, A: Allocato
         ensures none { map.contains_key self.now (key_bits D.digest (K.bytes key)) ≡ false
             → result ≡ Ok None }
     {
-        let key = Hash::of(&key);
-        if self.leaf_of(&key).is_none() {
-            return Ok(None);
-        }
-        Ok(Some(self.proof_of(&key, true)?))
+        let (answer, proof) = self.proof_of(&Hash::of(&key), Asked::Presence)?;
+        Ok(answer.and(Some(proof)))
     }
 
     /// The proof that the leaf digest under `key` is that of an empty leaf, or `None` exactly if it isn't, which takes
@@ -252,14 +251,8 @@ impl<D: SupportedDigest, K: VisitBytes + Drop, V: VisitBytes + Drop, A: Allocato
         ensures none { leaf_at D.digest self.now (key_bits D.digest (K.bytes key))
             ≢ empty_root D.digest 0 → result ≡ Ok None }
     {
-        let key = Hash::of(&key);
-        let Some(leaf) = self.leaf_of(&key) else {
-            return Ok(Some(self.proof_of(&key, false)?));
-        };
-        if *leaf != empty_tree_hash(0) {
-            return Ok(None);
-        }
-        Ok(Some(self.proof_of(&key, true)?))
+        let (answer, proof) = self.proof_of(&Hash::of(&key), Asked::EmptyLeaf)?;
+        Ok(answer.and(Some(proof)))
     }
 
     // The leaf digest that is held under a key digest, if one is.
@@ -269,21 +262,20 @@ impl<D: SupportedDigest, K: VisitBytes + Drop, V: VisitBytes + Drop, A: Allocato
         self.link.node().leaf(key, 0)
     }
 
-    // The proof of what is held under a key digest, or that nothing is.
+    // Whether a key digest is held, with the proof of that, if such a proof is asked for; else no memory is taken.
     pub(crate) fn proof_of(
         &self,
         key: &Hash<D>,
-        held: bool,
-    ) -> Result<Proof<D, K, V, A>, AllocError>
-        requires { map.contains_key self.now (last_bits key.now 256) ≡ held }
-        ensures held { held ≡ true
-            → IfOk result (Proves D.digest 256 self.now (last_bits key.now 256)) }
-        ensures absent { held ≡ false
-            → IfOk result (ProvesAbsent D.digest self.now (last_bits key.now 256)) }
+        asked: Asked,
+    ) -> Result<(Option<bool>, Proof<D, K, V, A>), AllocError>
+        ensures answer { let answer = answer_of D.digest asked (map.get self.now (last_bits key.now 256)) in
+            MatchResult result (λ r. r.0 ≡ answer) (λ _. IsSome answer) }
+        ensures proof { let bits = last_bits key.now 256 in
+            IfOk result (λ r. IsSome r.0 → ProvesEmpty D.digest self.now bits r.1) }
     {
         let mut peers = Vec::new(self.alloc);
-        self.link.node().collect(key, 0, held, &mut peers)?;
-        Ok(Proof::new(peers))
+        let answer = self.link.node().collect(key, 0, asked, &mut peers)?;
+        Ok((answer, Proof::new(peers)))
     }
 
     /// The map with `val` under `key`, in place of what was held under the key's digest.

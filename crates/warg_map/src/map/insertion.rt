@@ -8,6 +8,7 @@ ghost use Rattle.warg_map.specs.Insertions.{IsInserted};
 
 use crate::map::{Map, MapError};
 use crate::proof::Proof;
+use crate::walk::Asked;
 use std::alloc::{Allocator, Global};
 use warg_crypto::{Hash, SupportedDigest, VisitBytes, hash_leaf};
 
@@ -42,7 +43,7 @@ impl<D: SupportedDigest, K: VisitBytes + Drop, V: VisitBytes + Drop, A: Allocato
     {
         let key = Hash::of(&key);
         let map = self.with_leaf(&key, hash_leaf(&val))?;
-        let proof = map.proof_of(&key, true)?;
+        let (_, proof) = map.proof_of(&key, Asked::Presence)?;
         let is_new = map.len() > self.len();
         Ok(Insertion { map, proof, is_new })
     }

@@ -5,6 +5,7 @@ ghost use Rattle.warg_map.specs.Bits.{key_bits};
 
 use crate::map::Map;
 use crate::proof::Proof;
+use crate::walk::Asked;
 use std::alloc::{AllocError, Allocator, Global};
 use warg_crypto::{Hash, SupportedDigest, VisitBytes};
 
@@ -29,10 +30,11 @@ impl<D: SupportedDigest, K: VisitBytes + Drop, V: VisitBytes + Drop, A: Allocato
     pub fn prove_key(&self, key: &K) -> Result<KeyProof<D, K, V, A>, AllocError>
         ensures { IfOk result (ProvesKey D.digest self.now (key_bits D.digest (K.bytes key.now))) }
     {
-        let hash = Hash::of(key);
-        if self.leaf_of(&hash).is_some() {
-            return Ok(KeyProof::Presence(self.proof_of(&hash, true)?));
-        }
-        Ok(KeyProof::Absence(self.proof_of(&hash, false)?))
+        let (held, proof) = self.proof_of(&Hash::of(key), Asked::Either)?;
+        Ok(if held == Some(true) {
+            KeyProof::Presence(proof)
+        } else {
+            KeyProof::Absence(proof)
+        })
     }
 }
