@@ -2,7 +2,6 @@
 
 ghost use Rattle.std.specs.Prelude.{◌≡◌, ◌≢◌, ℕ, List, Option, ◌+◌, ◌*◌, ◌/◌, ◌<◌, ◌≤◌, ◌↔◌, ◌∷◌, ◌++◌, [], IfOk, IfSome, IsSome, IsTrue, MatchOption, MatchResult, Some, None, Ok, Err, true, false};
 ghost use Rattle.std.specs.FinMap as map;
-ghost use Rattle.std.specs.Option.{option_copied};
 ghost use Rattle.std.specs.Iterator.{IsFinite};
 ghost use Rattle.warg_map.specs.Extended.{IsExtended, IsFullWithin, BeginsNew};
 ghost use Rattle.warg_map.specs.Bits.{key_bits, last_bits};
@@ -255,13 +254,6 @@ impl<D: SupportedDigest, K: VisitBytes + Drop, V: VisitBytes + Drop, A: Allocato
         Ok(answer.and(Some(proof)))
     }
 
-    // The leaf digest that is held under a key digest, if one is.
-    pub(crate) fn leaf_of(&self, key: &Hash<D>) -> Option<&Hash<D>>
-        ensures { option_copied result ≡ map.get self.now (last_bits key.now 256) }
-    {
-        self.link.node().leaf(key, 0)
-    }
-
     // Whether a key digest is held, with the proof of that, if such a proof is asked for; else no memory is taken.
     pub(crate) fn proof_of(
         &self,
@@ -298,7 +290,7 @@ impl<D: SupportedDigest, K: VisitBytes + Drop, V: VisitBytes + Drop, A: Allocato
             ↔ ((map.len self.now ≡ usize.MAX)
             × (map.contains_key self.now (last_bits key.now 256) ≡ false)) }
     {
-        if self.count == usize::MAX && self.leaf_of(key).is_none() {
+        if self.count == usize::MAX && self.link.node().leaf(key, 0).is_none() {
             return Err(MapError::Full);
         }
         let mut leaves = Vec::with_capacity(self.alloc, 1)?;

@@ -1,8 +1,7 @@
-//! The walk down a key's bits: to its leaf digest, and for the peers of its proof.
+//! The walk down a key's bits, for the peers of its proof.
 
 ghost use Rattle.std.specs.Prelude.{◌≡◌, ◌+◌, ◌-◌, ◌<◌, ◌≤◌, ◌∷◌, ◌++◌, [], Some, OnOk, IfOk, MatchOption, false};
 ghost use Rattle.std.specs.FinMap as map;
-ghost use Rattle.std.specs.Option.{option_copied};
 ghost use Rattle.warg_map.specs.Bits.{last_bits};
 ghost use Rattle.warg_map.specs.Private.Lone.{held_alone};
 ghost use Rattle.warg_map.specs.Private.Seen.{tree_height, held_by, IsWellFormed};
@@ -120,37 +119,6 @@ fn collect_lone<D: SupportedDigest, A: Allocator>(
 }
 
 impl<D: SupportedDigest, A: Allocator> Node<D, A> {
-    /// The leaf digest that is held under the bits of a key digest from bit `depth` on, if one is.
-    pub(crate) fn leaf(&self, key: &Hash<D>, depth: usize) -> Option<&Hash<D>>
-        requires well_formed { IsWellFormed self.now }
-        requires height { tree_height self.now + depth ≡ 256 }
-        ensures { option_copied result ≡ map.get (held_by self.now) (last_bits key.now (256 - depth)) }
-    {
-        match self {
-            Node::Empty => None,
-            Node::Fork(fork) => {
-                let fork = fork.as_ref();
-                fork[side_at(key, depth)].node().leaf(key, depth + 1)
-            }
-            Node::Singleton(lone) => {
-                let lone = lone.as_ref();
-                let shared = shared_bits(lone.key(), key, depth, lone.height());
-                if shared < lone.height() {
-                    return None;
-                }
-                Some(lone.value())
-            }
-            Node::Stem(stem) => {
-                let stem = stem.as_ref();
-                let shared = shared_bits(&stem.key, key, depth, stem.len);
-                if shared < stem.len {
-                    return None;
-                }
-                stem.below.node().leaf(key, depth + stem.len)
-            }
-        }
-    }
-
     /// Whether the bits of a key digest from bit `depth` on are held, if a proof of that is asked for. Their peers are then
     /// added to none, from the bottom of the tree to the top: beside bits that are held an empty half is written as its
     /// digest, and else as `None`. Where no proof is asked for it takes no memory.
