@@ -228,10 +228,11 @@ in_fork H held f true p ps d child x wf len ce xe e c =
 in_fork H held f false p ps d child x wf len ce xe e c =
     collects_up H held _ f.value.left.0 false f.value.left.1 f.value.right.1 p ps d (lone_low held f.value.left.0 wf.level.1) wf.formed.1 (rw (len, wf.level.0) (rw xe at e)) (rw ce at c)
 
-pub collects_fork : {D A : _} (H : List ℕ → List ℕ) (held : Bool) (old child : Node D A) (f : Rc (Fork' D A) A) (key : List ℕ) (b : Bool) (depth : ℕ) (ps new : List (Option (List ℕ))) (d : List ℕ) (x : ℕ × SparseMap) → old ≡ Fork f → IsWellFormed old → tree_height old + depth ≡ 256 → b ≡ bit_at key depth
-    → seen child ≡ (cond b f.value.right f.value.left) → x ≡ (cond (not b) f.value.right f.value.left) → d ≡ sparse_root H x.0 x.1 → Collects H held (tree_height child) (held_by child) (last_bits key (256 - (depth + 1))) ps → new ≡ ps ++ Some d ∷ []
-    → Collects H held (tree_height old) (held_by old) (last_bits key (256 - depth)) new
-collects_fork H held old child f key b depth ps new d x is wf height e ce xe de c n =
+pub collects_fork : {D A : _} (H : List ℕ → List ℕ) (o : Option Bool) (old child : Node D A) (f : Rc (Fork' D A) A) (key : List ℕ) (b : Bool) (depth : ℕ) (ps new : List (Option (List ℕ))) (d : List ℕ) (x : ℕ × SparseMap) → old ≡ Fork f → IsWellFormed old → tree_height old + depth ≡ 256 → b ≡ bit_at key depth
+    → seen child ≡ (cond b f.value.right f.value.left) → x ≡ (cond (not b) f.value.right f.value.left) → d ≡ sparse_root H x.0 x.1 → is_some o ≡ true → MatchOption o (ps ≡ []) (λ held. Collects H held (tree_height child) (held_by child) (last_bits key (256 - (depth + 1))) ps) → new ≡ ps ++ Some d ∷ []
+    → MatchOption o (new ≡ []) (λ held. Collects H held (tree_height old) (held_by old) (last_bits key (256 - depth)) new)
+collects_fork H None old child f key b depth ps new d x is wf height e ce xe de some c n = absurd (cc some)
+collects_fork H (Some held) old child f key b depth ps new d x is wf height e ce xe de some c n =
     let h : f.value.left.0 + 1 + depth ≡ 256 = rw is at height in
     let len : length (last_bits key (256 - (depth + 1))) ≡ f.value.left.0 = (let l = length-last_bits key (256 - (depth + 1)) in omega (arith, l, h)) in
     rw (is, n, last_bits-first key depth (omega (arith, h)), ← e) (in_fork H held f b (last_bits key (256 - (depth + 1))) ps d (seen child) x (rw is at wf) len ce xe de c)

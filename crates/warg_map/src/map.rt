@@ -21,7 +21,7 @@ use crate::link::Link;
 use crate::node::Node;
 use crate::proof::Proof;
 use crate::singleton::Singleton;
-use crate::walk::Asked;
+use crate::walk::{Asked, Collected};
 pub use insertion::Insertion;
 pub use key_proof::KeyProof;
 use std::alloc::{AllocError, Allocator, Global};
@@ -254,7 +254,8 @@ impl<D: SupportedDigest, K: VisitBytes + Drop, V: VisitBytes + Drop, A: Allocato
         Ok(answer.and(Some(proof)))
     }
 
-    // Whether a key digest is held, with the proof of that, if such a proof is asked for; else no memory is taken.
+    // Whether a key digest is held, with the proof of that, if one is asked for. Else the proof has no peers, and no memory
+    // is taken.
     pub(crate) fn proof_of(
         &self,
         key: &Hash<D>,
@@ -265,9 +266,13 @@ impl<D: SupportedDigest, K: VisitBytes + Drop, V: VisitBytes + Drop, A: Allocato
         ensures proof { let bits = last_bits key.now 256 in
             IfOk result (λ r. IsSome r.0 → ProvesEmpty D.digest self.now bits r.1) }
     {
-        let mut peers = Vec::new(self.alloc);
-        let answer = self.link.node().collect(key, 0, asked, &mut peers)?;
-        Ok((answer, Proof::new(peers)))
+        let mut to = Collected {
+            asked,
+            held: None,
+            peers: Vec::new(self.alloc),
+        };
+        self.link.node().collect(key, 0, &mut to)?;
+        Ok((to.held, Proof::new(to.peers)))
     }
 
     /// The map with `val` under `key`, in place of what was held under the key's digest.

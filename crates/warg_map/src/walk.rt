@@ -1,6 +1,6 @@
 //! The walk down a key's bits, for the peers of its proof.
 
-ghost use Rattle.std.specs.Prelude.{◌≡◌, ◌+◌, ◌-◌, ◌<◌, ◌≤◌, ◌∷◌, ◌++◌, [], Some, OnOk, IfOk, MatchOption, false};
+ghost use Rattle.std.specs.Prelude.{◌≡◌, ◌+◌, ◌-◌, ◌<◌, ◌≤◌, ◌∷◌, ◌++◌, [], Some, None, OnOk, MatchOption, false};
 ghost use Rattle.std.specs.FinMap as map;
 ghost use Rattle.warg_map.specs.Bits.{last_bits};
 ghost use Rattle.warg_map.specs.Private.Lone.{held_alone};
@@ -39,6 +39,17 @@ impl Asked {
     {
         !matches!(self, Asked::EmptyLeaf) || *leaf == empty_tree_hash(0)
     }
+}
+
+/// What is collected for a proof on the way down a key's bits.
+#[derive(Drop)]
+pub(crate) struct Collected<D, A: Allocator> {
+    /// What the proof is asked for.
+    pub(crate) asked: Asked,
+    /// Whether the bits are held, once that is known and if a proof of it is asked for.
+    pub(crate) held: Option<bool>,
+    /// The peers, from the bottom of the tree to the top.
+    pub(crate) peers: Vec<Option<Hash<D>>, A>,
 }
 
 // Adds the peers of the empty halves of the heights from `from` up to `to`, beside bits that are held or not.
@@ -90,82 +101,85 @@ fn collect_lone<D: SupportedDigest, A: Allocator>(
     lone: &Singleton<D>,
     key: &Hash<D>,
     depth: usize,
-    asked: Asked,
-    peers: &mut Vec<Option<Hash<D>>, A>,
-) -> Result<Option<bool>, AllocError>
+    to: &mut Collected<D, A>,
+) -> Result<(), AllocError>
     requires low { lone.now.height < 256 }
     requires height { lone.now.height + depth ≡ 256 }
-    requires none { peers.old.items ≡ [] }
+    requires unknown { to.old.held ≡ None }
+    requires none { to.old.peers.items ≡ [] }
     ensures answer { let bits = last_bits key.now (256 - depth) in
-        IsAnswer D.digest asked (map.get (held_alone lone.now) bits) result }
+        IsAnswer D.digest to.old.asked (map.get (held_alone lone.now) bits) result to.new.held }
     ensures peers { let bits = last_bits key.now (256 - depth) in
-        IfOk result (λ o. MatchOption o (peers.new.items ≡ [])
-        (λ held. Collects D.digest held lone.now.height (held_alone lone.now) bits peers.new.items)) }
+        OnOk result (MatchOption to.new.held (to.new.peers.items ≡ []) (λ held.
+        Collects D.digest held lone.now.height (held_alone lone.now) bits to.new.peers.items)) }
 {
     let shared = shared_bits(lone.key(), key, depth, lone.height());
     if shared < lone.height() {
-        if !asked.is_of_absence() {
-            return Ok(None);
+        if to.asked.is_of_absence() {
+            let far = lone.with_height(lone.height() - shared - 1);
+            push_beside(&mut to.peers, far.hash(), depth, shared)?;
+            to.held = Some(false);
         }
-        let far = lone.with_height(lone.height() - shared - 1);
-        push_beside(peers, far.hash(), depth, shared)?;
-        return Ok(Some(false));
+        return Ok(());
     }
-    if !asked.is_of_leaf(lone.value()) {
-        return Ok(None);
+    if to.asked.is_of_leaf(lone.value()) {
+        to.peers.reserve_exact(depth)?;
+        to.held = Some(true);
     }
-    peers.reserve_exact(depth)?;
-    Ok(Some(true))
+    Ok(())
 }
 
 impl<D: SupportedDigest, A: Allocator> Node<D, A> {
-    /// Whether the bits of a key digest from bit `depth` on are held, if a proof of that is asked for. Their peers are then
-    /// added to none, from the bottom of the tree to the top: beside bits that are held an empty half is written as its
-    /// digest, and else as `None`. Where no proof is asked for it takes no memory.
+    /// Collects, of the bits of a key digest from bit `depth` on, whether they are held, and then their peers: beside bits
+    /// that are held an empty half is written as its digest, and else as `None`. Where no proof is asked for of what is
+    /// held there, nothing is collected, and no memory taken.
     pub(crate) fn collect(
         &self,
         key: &Hash<D>,
         depth: usize,
-        asked: Asked,
-        peers: &mut Vec<Option<Hash<D>>, A>,
-    ) -> Result<Option<bool>, AllocError>
+        to: &mut Collected<D, A>,
+    ) -> Result<(), AllocError>
         requires well_formed { IsWellFormed self.now }
         requires height { tree_height self.now + depth ≡ 256 }
-        requires none { peers.old.items ≡ [] }
+        requires unknown { to.old.held ≡ None }
+        requires none { to.old.peers.items ≡ [] }
         ensures answer { let bits = last_bits key.now (256 - depth) in
-            IsAnswer D.digest asked (map.get (held_by self.now) bits) result }
+            IsAnswer D.digest to.old.asked (map.get (held_by self.now) bits) result to.new.held }
         ensures peers { let bits = last_bits key.now (256 - depth) in
-            IfOk result (λ o. MatchOption o (peers.new.items ≡ []) (λ held.
-            Collects D.digest held (tree_height self.now) (held_by self.now) bits peers.new.items)) }
+            OnOk result (MatchOption to.new.held (to.new.peers.items ≡ []) (λ held.
+            Collects D.digest held (tree_height self.now) (held_by self.now) bits to.new.peers.items)) }
     {
         match self {
-            Node::Empty => Ok(asked.is_of_absence().then_some(false)),
+            Node::Empty => {
+                to.held = to.asked.is_of_absence().then_some(false);
+                Ok(())
+            }
             Node::Fork(fork) => {
                 let fork = fork.as_ref();
                 let side = side_at(key, depth);
-                let Some(held) = fork[side].node().collect(key, depth + 1, asked, peers)? else {
-                    return Ok(None);
-                };
-                peers.push(Some(fork[side.opposite()].hash().copied()))?;
-                Ok(Some(held))
+                fork[side].node().collect(key, depth + 1, to)?;
+                if to.held.is_some() {
+                    to.peers.push(Some(fork[side.opposite()].hash().copied()))?;
+                }
+                Ok(())
             }
-            Node::Singleton(lone) => collect_lone(lone.as_ref(), key, depth, asked, peers),
+            Node::Singleton(lone) => collect_lone(lone.as_ref(), key, depth, to),
             Node::Stem(stem) => {
                 let stem = stem.as_ref();
                 let shared = shared_bits(&stem.key, key, depth, stem.len);
                 if shared < stem.len {
-                    if !asked.is_of_absence() {
-                        return Ok(None);
+                    if to.asked.is_of_absence() {
+                        push_beside(&mut to.peers, stem.hash_below(shared + 1), depth, shared)?;
+                        to.held = Some(false);
                     }
-                    push_beside(peers, stem.hash_below(shared + 1), depth, shared)?;
-                    return Ok(Some(false));
+                    return Ok(());
                 }
                 let below = depth + stem.len;
-                let Some(held) = stem.below.node().collect(key, below, asked, peers)? else {
-                    return Ok(None);
-                };
-                push_empty_halves(peers, held, 256 - below, 256 - depth)?;
-                Ok(Some(held))
+                stem.below.node().collect(key, below, to)?;
+                if let Some(held) = to.held {
+                    push_empty_halves(&mut to.peers, held, 256 - below, 256 - depth)?;
+                }
+                Ok(())
             }
         }
     }

@@ -26,10 +26,10 @@ abbrev pub answer_of : (List ℕ → List ℕ) → Asked → Option (List ℕ) �
 answer_of H asked None = then_some (is_of_absence asked) false
 answer_of H asked (Some leaf) = then_some (is_of_leaf H asked leaf) true
 
--- The answer, or an error, which comes only where there is an answer.
-abbrev pub IsAnswer : {E : Type 0} → (List ℕ → List ℕ) → Asked → Option (List ℕ) → Result (Option Bool) E → Type 0
-IsAnswer H asked leaf (Ok o) = o ≡ answer_of H asked leaf
-IsAnswer H asked leaf (Err e) = IsSome (answer_of H asked leaf)
+-- The answer is known, or an error came, which it does only where there is an answer.
+abbrev pub IsAnswer : {E : Type 0} → (List ℕ → List ℕ) → Asked → Option (List ℕ) → Result (Unit {0}) E → Option Bool → Type 0
+IsAnswer H asked leaf (Ok _) held = held ≡ answer_of H asked leaf
+IsAnswer H asked leaf (Err _) held = IsSome (answer_of H asked leaf)
 
 -- The peer of an empty half of k levels: its digest beside bits that are held, and else None.
 abbrev pub empty_half : (List ℕ → List ℕ) → Bool → ℕ → Option (List ℕ)

@@ -32,13 +32,13 @@ pub returns-in-Empty-clause-answer : goal.returns-in-Empty-clause-answer
 returns-in-Empty-clause-answer g t c = rw (c.in-Empty.is, get-empty) (search rules)
 
 pub returns-in-Empty-clause-peers : goal.returns-in-Empty-clause-peers
-returns-in-Empty-clause-peers g t c = rw (c.in-Empty.is, c.then_some.ensures) (collects_none _ _ _ _ _ c.requires.none)
+returns-in-Empty-clause-peers g t c = rw (c.in-Empty.is, c.then_some-to.ensures) (collects_none _ _ _ _ _ c.requires.none)
 
-pub returns-in_err-held-in-Fork-clause-answer : goal.returns-in_err-held-in-Fork-clause-answer
-returns-in_err-held-in-Fork-clause-answer g t c = rw (child g t (goal.at.returns-in_err-held-in-Fork-clause-answer g t c).After-node) (search rules)
+pub returns-in_err-collect-in-Fork-clause-answer : goal.returns-in_err-collect-in-Fork-clause-answer
+returns-in_err-collect-in-Fork-clause-answer g t c = rw (child g t (goal.at.returns-in_err-collect-in-Fork-clause-answer g t c).After-node) (search rules)
 
-pub returns-in_default-clause-answer : goal.returns-in_default-clause-answer
-returns-in_default-clause-answer g t c = rw (child g t (goal.at.returns-in_default-clause-answer g t c).After-node) (search rules)
+pub returns-else-is_some-clause-answer : goal.returns-else-is_some-clause-answer
+returns-else-is_some-clause-answer g t c = rw (child g t (goal.at.returns-else-is_some-clause-answer g t c).After-node) (search rules)
 
 pub returns-in_err-push-in-Fork-clause-answer : goal.returns-in_err-push-in-Fork-clause-answer
 returns-in_err-push-in-Fork-clause-answer g t c = rw (child g t (goal.at.returns-in_err-push-in-Fork-clause-answer g t c).After-node) (search rules)
@@ -48,31 +48,31 @@ returns-in_ok-push-in-Fork-clause-answer g t c = rw (child g t (goal.at.returns-
 
 pub returns-in_ok-push-in-Fork-clause-peers : goal.returns-in_ok-push-in-Fork-clause-peers
 returns-in_ok-push-in-Fork-clause-peers g t c =
-    collects_fork g.D.SupportedDigest.digest c.in-Some.held c.args.self.now c.node.result.now _ c.args.key.now _ c.args.depth _ _ _ c.index-in-Fork.result.now (is_fork c.in-Fork.is c.as_ref-fork.ensures) c.requires.well_formed c.requires.height c.side_at-side.ensures
-    (c.node.ensures.seen ∙ c.index.ensures) (c.index-in-Fork.ensures ∙ ap (λ b. cond b c.as_ref-fork.result.now.right c.as_ref-fork.result.now.left) c.opposite.ensures) (c.copied.ensures ∙ c.hash.ensures)
-    (rw c.in-Some.is at c.in_ok-held-in-Fork.ensures.peers) c.in_ok-push-in-Fork.ensures.items
+    collects_fork g.D.SupportedDigest.digest c.collect.new.to.held c.args.self.now c.node.result.now _ c.args.key.now _ c.args.depth _ _ _ c.index-then-is_some.result.now (is_fork c.in-Fork.is c.as_ref-fork.ensures) c.requires.well_formed c.requires.height c.side_at-side.ensures
+    (c.node.ensures.seen ∙ c.index.ensures) (c.index-then-is_some.ensures ∙ ap (λ b. cond b c.as_ref-fork.result.now.right c.as_ref-fork.result.now.left) c.opposite.ensures) (c.copied.ensures ∙ c.hash.ensures)
+    (sym c.is_some.ensures ∙ c.if-is_some.true) c.in_ok-collect-in-Fork.ensures.peers c.in_ok-push-in-Fork.ensures.items
 
-pub returns-then-not-is_of_absence-clause-answer : goal.returns-then-not-is_of_absence-clause-answer
-returns-then-not-is_of_absence-clause-answer g t c = rw (apart g t (goal.at.returns-then-not-is_of_absence-clause-answer g t c).After-is_of_absence-then-shared-stem) (search rules)
+pub returns-else-is_of_absence-clause-answer : goal.returns-else-is_of_absence-clause-answer
+returns-else-is_of_absence-clause-answer g t c = rw (apart g t (goal.at.returns-else-is_of_absence-clause-answer g t c).After-is_of_absence-then-shared-stem) (search rules)
 
 pub returns-in_err-push_beside-in-Stem-clause-answer : goal.returns-in_err-push_beside-in-Stem-clause-answer
 returns-in_err-push_beside-in-Stem-clause-answer g t c = rw (apart g t (goal.at.returns-in_err-push_beside-in-Stem-clause-answer g t c).After-is_of_absence-then-shared-stem) (search rules)
 
-pub returns-then-shared-stem-clause-answer : goal.returns-then-shared-stem-clause-answer
-returns-then-shared-stem-clause-answer g t c = rw (apart g t (goal.at.returns-then-shared-stem-clause-answer g t c).After-is_of_absence-then-shared-stem) (search rules)
+pub returns-in_ok-push_beside-in-Stem-clause-answer : goal.returns-in_ok-push_beside-in-Stem-clause-answer
+returns-in_ok-push_beside-in-Stem-clause-answer g t c = rw (apart g t (goal.at.returns-in_ok-push_beside-in-Stem-clause-answer g t c).After-is_of_absence-then-shared-stem) (search rules)
 
-pub returns-then-shared-stem-clause-peers : goal.returns-then-shared-stem-clause-peers
-returns-then-shared-stem-clause-peers g t c =
+pub returns-in_ok-push_beside-in-Stem-clause-peers : goal.returns-in_ok-push_beside-in-Stem-clause-peers
+returns-in_ok-push_beside-in-Stem-clause-peers g t c =
     let run = run_of_stem c.args.self.now _ c.args.depth (is_stem c.in-Stem.is c.as_ref-stem.ensures) c.requires.well_formed c.requires.height in
     let less = c.if-shared-stem.true in
     let shared = c.shared_bits-shared.ensures in
     collects_beside g.D.SupportedDigest.digest _ _ _ _ c.args.key.now _ c.args.depth _ _ _ _ run.1 less shared.same (shared.apart less) (rw run.0 at c.hash_below.ensures) (rw c.requires.none at c.in_ok-push_beside-in-Stem.ensures)
 
-pub returns-in_err-held-in-Stem-clause-answer : goal.returns-in_err-held-in-Stem-clause-answer
-returns-in_err-held-in-Stem-clause-answer g t c = rw (below g t (goal.at.returns-in_err-held-in-Stem-clause-answer g t c).After-node-in-Stem) (search rules)
+pub returns-in_err-collect-in-Stem-clause-answer : goal.returns-in_err-collect-in-Stem-clause-answer
+returns-in_err-collect-in-Stem-clause-answer g t c = rw (below g t (goal.at.returns-in_err-collect-in-Stem-clause-answer g t c).After-node-in-Stem) (search rules)
 
-pub returns-in_default-2-clause-answer : goal.returns-in_default-2-clause-answer
-returns-in_default-2-clause-answer g t c = rw (below g t (goal.at.returns-in_default-2-clause-answer g t c).After-node-in-Stem) (search rules)
+pub returns-in_default-clause-answer : goal.returns-in_default-clause-answer
+returns-in_default-clause-answer g t c = rw (below g t (goal.at.returns-in_default-clause-answer g t c).After-node-in-Stem) (search rules)
 
 pub returns-in_err-push_empty_halves-in-Stem-clause-answer : goal.returns-in_err-push_empty_halves-in-Stem-clause-answer
 returns-in_err-push_empty_halves-in-Stem-clause-answer g t c = rw (below g t (goal.at.returns-in_err-push_empty_halves-in-Stem-clause-answer g t c).After-node-in-Stem) (search rules)
@@ -89,5 +89,5 @@ returns-in_ok-push_empty_halves-in-Stem-clause-peers g t c =
     let len = c.as_ref-stem.result.now.len in
     let halves : 256 - c.args.depth - (256 - (c.args.depth + len)) ≡ len = omega (arith, run.1.whole) in
     let place : 256 - (c.args.depth + len) ≡ 256 - c.args.depth - len = omega arith in
-    collects_below g.D.SupportedDigest.digest c.in-Some-2.held _ c.as_ref-stem.result.now.below _ _ _ c.args.key.now c.args.depth _ _ _ run.1 formed.formed.1 c.node-in-Stem.ensures.seen same (answered _ _ _ _ (rw c.in-Some-2.is at c.in_ok-held-in-Stem.ensures.answer))
-    (rw c.in-Some-2.is at c.in_ok-held-in-Stem.ensures.peers) (rw (halves, place) at c.in_ok-push_empty_halves-in-Stem.ensures)
+    rw c.in-Some.is (collects_below g.D.SupportedDigest.digest c.in-Some.held _ c.as_ref-stem.result.now.below _ _ _ c.args.key.now c.args.depth _ _ _ run.1 formed.formed.1 c.node-in-Stem.ensures.seen same (answered _ _ _ _ (rw c.in-Some.is at c.in_ok-collect-in-Stem.ensures.answer))
+    (rw c.in-Some.is at c.in_ok-collect-in-Stem.ensures.peers) (rw (halves, place) at c.in_ok-push_empty_halves-in-Stem.ensures))
