@@ -5,7 +5,7 @@ use Rattle.std.specs.FinMap.{insert, empty, get, get-insert, get-empty}
 use Rattle.std.specs.Ordering.{eq_by_cmp}
 use Rattle.std.specs.declared.rc.Rc.{Rc}
 use Rattle.warg_map.specs.declared.node.Node.{Node}
-use Rattle.warg_map.specs.declared.node.Node.TheVariants.{Fork, Singleton, Stem}
+use Rattle.warg_map.specs.declared.node.Node.TheVariants.{Fork, Stem}
 use Rattle.warg_map.specs.declared.node.Fork.{Fork as Fork'}
 use Rattle.warg_map.specs.declared.node.Stem.{Stem as Stem'}
 use Rattle.warg_map.specs.Private.Lone.{Lone, held_alone}
@@ -66,10 +66,6 @@ lone_run s one from len key all height =
       whole = omega (arith, sum);
       holds = ([], contains_key-insert_same empty [] s.value);
     })
-
-pub run_of_lone : {D A : _} (old : Node D A) (s : Rc Lone A) (one : List ℕ) (from len : ℕ) → old ≡ Singleton s → one ≡ s.value.key → len ≡ s.value.height → tree_height old + from ≡ 256
-    → IsRun (held_by old) (tree_height old) one from len 0 (insert empty [] s.value.value)
-run_of_lone old s one from len is key all height = rw is (lone_run s.value one from len key all (rw is at height))
 
 pub run_of_stem : {D A : _} (old : Node D A) (s : Rc (Stem' D A) A) (from : ℕ) → old ≡ Stem s → IsWellFormed old → tree_height old + from ≡ 256 → (s.value.from ≡ from) × IsRun (held_by old) (tree_height old) s.value.key from s.value.len s.value.below.0 s.value.below.1
 run_of_stem old s from is w height =

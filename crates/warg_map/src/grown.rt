@@ -159,8 +159,8 @@ pub(crate) fn spread<D: SupportedDigest, A: Allocator + Copy>(
         Node::Fork(fork) => {
             let fork = fork.as_ref();
             let (near, far) = parted(alloc, leaves, Side::Left, depth)?;
-            let (left, lefts) = spread(alloc, &fork[Side::Left], near, depth + 1)?;
-            let (right, rights) = spread(alloc, &fork[Side::Right], far, depth + 1)?;
+            let (left, lefts) = spread(alloc, &fork.left, near, depth + 1)?;
+            let (right, rights) = spread(alloc, &fork.right, far, depth + 1)?;
             let fork = Link::beside(alloc, Side::Left, left, right)?;
             Ok((fork, lefts + rights))
         }

@@ -295,7 +295,7 @@ impl<D: SupportedDigest, K: VisitBytes + Drop, V: VisitBytes + Drop, A: Allocato
             ↔ ((map.len self.now ≡ usize.MAX)
             × (map.contains_key self.now (last_bits key.now 256) ≡ false)) }
     {
-        if self.count == usize::MAX && self.link.node().leaf(key, 0).is_none() {
+        if self.count == usize::MAX && self.proof_of(key, Asked::Presence)?.0.is_none() {
             return Err(MapError::Full);
         }
         let mut leaves = Vec::with_capacity(self.alloc, 1)?;

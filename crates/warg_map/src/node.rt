@@ -6,7 +6,7 @@ ghost use Rattle.warg_map.specs.Sparse.{sparse_root};
 ghost use Rattle.warg_map.specs.Private.Under.{under, stem_root};
 
 use crate::link::Link;
-use crate::path::{shared_bits, side_at};
+use crate::path::side_at;
 use crate::singleton::Singleton;
 use std::alloc::{AllocError, Allocator, Global};
 use std::ops::Index;
@@ -128,43 +128,6 @@ impl<D: SupportedDigest, A: Allocator> Node<D, A> {
                 1 + left + right
             }
             Node::Stem(stem) => 1 + stem.below.node().count(),
-        }
-    }
-}
-
-impl<D: SupportedDigest, A: Allocator> Node<D, A> {
-    ghost use Rattle.std.specs.FinMap as map;
-    ghost use Rattle.std.specs.Option.{option_copied};
-    ghost use Rattle.warg_map.specs.Bits.{last_bits};
-    ghost use Rattle.warg_map.specs.Private.Seen.{tree_height, held_by, IsWellFormed};
-
-    /// The leaf digest that is held under the bits of a key digest from bit `depth` on, if one is.
-    pub(crate) fn leaf(&self, key: &Hash<D>, depth: usize) -> Option<&Hash<D>>
-        requires well_formed { IsWellFormed self.now }
-        requires height { tree_height self.now + depth ≡ 256 }
-        ensures { option_copied result ≡ map.get (held_by self.now) (last_bits key.now (256 - depth)) }
-    {
-        match self {
-            Node::Empty => None,
-            Node::Fork(fork) => {
-                let fork = fork.as_ref();
-                fork[side_at(key, depth)].node().leaf(key, depth + 1)
-            }
-            Node::Singleton(lone) => {
-                let lone = lone.as_ref();
-                if shared_bits(lone.key(), key, depth, 256 - depth) < 256 - depth {
-                    return None;
-                }
-                Some(lone.value())
-            }
-            Node::Stem(stem) => {
-                let stem = stem.as_ref();
-                let shared = shared_bits(&stem.key, key, depth, stem.len);
-                if shared < stem.len {
-                    return None;
-                }
-                stem.below.node().leaf(key, depth + stem.len)
-            }
         }
     }
 }

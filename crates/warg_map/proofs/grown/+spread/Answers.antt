@@ -50,7 +50,7 @@ at_fork g t c = in_fork c.node.result.now _ c.args.link.now c.args.depth c.node.
 put : (g : _) (t : _) (c : spread-In_ok-right-in-Fork g t) → IsPutBeside false c.args.depth c.as_ref-fork.result.now.left c.as_ref-fork.result.now.right c.in_ok-left-in-Fork.left c.in_ok-right-in-Fork.right c.args.leaves.items
 put g t c =
     let i = at_fork g t c in
-    put_beside false c.args.depth _ _ _ _ c.args.leaves.items _ _ i.1 i.2 (rw c.index.ensures at c.in_ok-left-in-Fork.ensures.seen) (rw c.index-in-Fork.ensures at c.in_ok-right-in-Fork.ensures.seen) c.in_ok-near-in-Fork.ensures.0 c.in_ok-near-in-Fork.ensures.1 (inl i.3) (inl i.4)
+    put_beside false c.args.depth _ _ _ _ c.args.leaves.items _ _ i.1 i.2 c.in_ok-left-in-Fork.ensures.seen c.in_ok-right-in-Fork.ensures.seen c.in_ok-near-in-Fork.ensures.0 c.in_ok-near-in-Fork.ensures.1 (inl i.3) (inl i.4)
 
 pub spread-beside-requires-clause-heights : goal.spread-beside-requires-clause-heights
 spread-beside-requires-clause-heights g t c = (put g t (goal.at.spread-beside-requires-clause-heights g t c).In_ok-right-in-Fork).heights
@@ -60,8 +60,8 @@ spread-beside-requires-clause-hold g t c = (put g t (goal.at.spread-beside-requi
 
 pub spread-overflow_add-result : goal.spread-overflow_add-result
 spread-overflow_add-result g t c =
-    let lefts = few_new _ c.in_ok-left-in-Fork.lefts c.index.result.now.1 c.in_ok-left-in-Fork.left c.in_ok-near-in-Fork.near.items c.in_ok-left-in-Fork.ensures.seen c.in_ok-left-in-Fork.ensures.count in
-    let rights = few_new _ c.in_ok-right-in-Fork.rights c.index-in-Fork.result.now.1 c.in_ok-right-in-Fork.right c.in_ok-near-in-Fork.far.items c.in_ok-right-in-Fork.ensures.seen c.in_ok-right-in-Fork.ensures.count in
+    let lefts = few_new _ c.in_ok-left-in-Fork.lefts c.as_ref-fork.result.now.left.1 c.in_ok-left-in-Fork.left c.in_ok-near-in-Fork.near.items c.in_ok-left-in-Fork.ensures.seen c.in_ok-left-in-Fork.ensures.count in
+    let rights = few_new _ c.in_ok-right-in-Fork.rights c.as_ref-fork.result.now.right.1 c.in_ok-right-in-Fork.right c.in_ok-near-in-Fork.far.items c.in_ok-right-in-Fork.ensures.seen c.in_ok-right-in-Fork.ensures.count in
     search (rules, lefts, rights)
 
 pub spread-returns-in_ok-fork-in-Fork-clause-seen : goal.spread-returns-in_ok-fork-in-Fork-clause-seen
@@ -73,9 +73,7 @@ pub spread-returns-in_ok-fork-in-Fork-clause-count : goal.spread-returns-in_ok-f
 spread-returns-in_ok-fork-in-Fork-clause-count g t c =
     let now = (goal.at.spread-returns-in_ok-fork-in-Fork-clause-count g t c).In_ok-right-in-Fork in
     let before = len-join_at false c.as_ref-fork.result.now.left.1 c.as_ref-fork.result.now.right.1 in
-    let lefts = rw c.index.ensures at c.in_ok-left-in-Fork.ensures.count in
-    let rights = rw c.index-in-Fork.ensures at c.in_ok-right-in-Fork.ensures.count in
-    rw ((at_fork g t now).0, c.in_ok-fork-in-Fork.ensures) (omega (arith, before, (put g t now).size_is, lefts, rights))
+    rw ((at_fork g t now).0, c.in_ok-fork-in-Fork.ensures) (omega (arith, before, (put g t now).size_is, c.in_ok-left-in-Fork.ensures.count, c.in_ok-right-in-Fork.ensures.count))
 
 pub spread-returns-in-Empty-clause-count : goal.spread-returns-in-Empty-clause-count
 spread-returns-in-Empty-clause-count g t c =
