@@ -15,26 +15,26 @@ use std::alloc::{AllocError, Allocator};
 use std::mem;
 use warg_crypto::{Hash, SupportedDigest, empty_tree_hash};
 
-/// What a proof is asked for.
+/// What is to be proved of a key.
 #[derive(Clone, Copy)]
 pub(crate) enum Asked {
-    /// Of a leaf digest that is held.
+    /// That its digest is held.
     Presence,
-    /// Of an empty leaf, held or not.
+    /// That its leaf is an empty one, held or not.
     EmptyLeaf,
-    /// Of what is held, and of nothing.
+    /// That its digest is held, or that it isn't.
     Either,
 }
 
 impl Asked {
-    // Whether a proof is asked for that nothing is held.
+    // Whether a proof is asked for where nothing is held.
     fn is_of_absence(self) -> bool
         ensures { result ≡ is_of_absence self }
     {
         !matches!(self, Asked::Presence)
     }
 
-    // Whether a proof is asked for of a leaf digest that is held.
+    // Whether a proof is asked for where this leaf digest is held.
     fn is_of_leaf<D: SupportedDigest>(self, leaf: &Hash<D>) -> bool
         ensures { result ≡ is_of_leaf D.digest self leaf.now }
     {
@@ -45,9 +45,9 @@ impl Asked {
 /// What is collected for a proof on the way down a key's bits.
 #[derive(Drop)]
 pub(crate) struct Collected<D, A: Allocator> {
-    /// What the proof is asked for.
+    /// What is to be proved.
     pub(crate) asked: Asked,
-    /// Whether the bits are held, once that is known and if a proof of it is asked for.
+    /// Whether the bits are held, once that is known, and if a proof of it is asked for.
     pub(crate) held: Option<bool>,
     /// The peers, from the bottom of the tree to the top.
     pub(crate) peers: Vec<Option<Hash<D>>, A>,

@@ -9,13 +9,13 @@ use Rattle.warg_map.specs.declared.walk.Asked.TheVariants.{Presence, EmptyLeaf, 
 use Rattle.warg_map.specs.Sparse.{SparseMap}
 use Rattle.warg_map.specs.Peers.{IsPeers, shared, lone_peers}
 
--- Whether a proof is asked for that nothing is held.
+-- Whether a proof is asked for where nothing is held.
 abbrev pub is_of_absence : Asked → Bool
 is_of_absence Presence = false
 is_of_absence EmptyLeaf = true
 is_of_absence Either = true
 
--- Whether a proof is asked for of a leaf digest that is held.
+-- Whether a proof is asked for where this leaf digest is held.
 abbrev pub is_of_leaf : (List ℕ → List ℕ) → Asked → List ℕ → Bool
 is_of_leaf H Presence leaf = true
 is_of_leaf H EmptyLeaf leaf = pointwise nat_eq leaf (empty_root H 0)
