@@ -1,11 +1,11 @@
 //! The walk down a key's bits, for the peers of its proof.
 
-ghost use Rattle.std.specs.Prelude.{◌≡◌, ◌+◌, ◌-◌, ◌<◌, ◌≤◌, ◌∷◌, ◌++◌, [], Some, None, OnOk, MatchOption, false};
+ghost use Rattle.std.specs.Prelude.{◌≡◌, ◌+◌, ◌-◌, ◌<◌, ◌≤◌, ◌∷◌, ◌++◌, [], Some, None, IsSome, OnOk, OnErr, MatchOption, false};
 ghost use Rattle.std.specs.FinMap as map;
 ghost use Rattle.warg_map.specs.Bits.{last_bits};
 ghost use Rattle.warg_map.specs.Private.Lone.{held_alone};
 ghost use Rattle.warg_map.specs.Private.Seen.{tree_height, held_by, IsWellFormed};
-ghost use Rattle.warg_map.specs.Private.Walk.{is_of_absence, is_of_leaf, IsAnswer, empty_half, empty_halves, Collects};
+ghost use Rattle.warg_map.specs.Private.Walk.{is_of_absence, is_of_leaf, answer_of, empty_half, empty_halves, Collects};
 
 use crate::node::Node;
 use crate::path::{shared_bits, side_at};
@@ -14,26 +14,26 @@ use std::alloc::{AllocError, Allocator};
 use std::mem;
 use warg_crypto::{Hash, SupportedDigest, empty_tree_hash};
 
-/// What a proof is asked for.
+/// What is to be proved of a key.
 #[derive(Clone, Copy)]
 pub(crate) enum Asked {
-    /// Of a leaf digest that is held.
+    /// That its digest is held.
     Presence,
-    /// Of an empty leaf, held or not.
+    /// That its leaf is an empty one, held or not.
     EmptyLeaf,
-    /// Of what is held, and of nothing.
+    /// That its digest is held, or that it isn't.
     Either,
 }
 
 impl Asked {
-    // Whether a proof is asked for that nothing is held.
+    // Whether a proof is asked for where nothing is held.
     fn is_of_absence(self) -> bool
         ensures { result ≡ is_of_absence self }
     {
         !matches!(self, Asked::Presence)
     }
 
-    // Whether a proof is asked for of a leaf digest that is held.
+    // Whether a proof is asked for where this leaf digest is held.
     fn is_of_leaf<D: SupportedDigest>(self, leaf: &Hash<D>) -> bool
         ensures { result ≡ is_of_leaf D.digest self leaf.now }
     {
@@ -44,9 +44,9 @@ impl Asked {
 /// What is collected for a proof on the way down a key's bits.
 #[derive(Drop)]
 pub(crate) struct Collected<D, A: Allocator> {
-    /// What the proof is asked for.
+    /// What is to be proved.
     pub(crate) asked: Asked,
-    /// Whether the bits are held, once that is known and if a proof of it is asked for.
+    /// Whether the bits are held, once that is known, and if a proof of it is asked for.
     pub(crate) held: Option<bool>,
     /// The peers, from the bottom of the tree to the top.
     pub(crate) peers: Vec<Option<Hash<D>>, A>,
@@ -107,26 +107,27 @@ fn collect_lone<D: SupportedDigest, A: Allocator>(
     requires height { lone.now.height + depth ≡ 256 }
     requires unknown { to.old.held ≡ None }
     requires none { to.old.peers.items ≡ [] }
-    ensures answer { let bits = last_bits key.now (256 - depth) in
-        IsAnswer D.digest to.old.asked (map.get (held_alone lone.now) bits) result to.new.held }
+    ensures answer { let leaf = map.get (held_alone lone.now) (last_bits key.now (256 - depth)) in
+        to.new.held ≡ answer_of D.digest to.old.asked leaf }
+    ensures refused { OnErr result (IsSome to.new.held) }
     ensures peers { let bits = last_bits key.now (256 - depth) in
         OnOk result (MatchOption to.new.held (to.new.peers.items ≡ []) (λ held.
         Collects D.digest held lone.now.height (held_alone lone.now) bits to.new.peers.items)) }
 {
     let shared = shared_bits(lone.key(), key, depth, lone.height());
     if shared < lone.height() {
-        if to.asked.is_of_absence() {
-            let far = lone.with_height(lone.height() - shared - 1);
-            push_beside(&mut to.peers, far.hash(), depth, shared)?;
-            to.held = Some(false);
+        if !to.asked.is_of_absence() {
+            return Ok(());
         }
+        to.held = Some(false);
+        let far = lone.with_height(lone.height() - shared - 1);
+        return push_beside(&mut to.peers, far.hash(), depth, shared);
+    }
+    if !to.asked.is_of_leaf(lone.value()) {
         return Ok(());
     }
-    if to.asked.is_of_leaf(lone.value()) {
-        to.peers.reserve_exact(depth)?;
-        to.held = Some(true);
-    }
-    Ok(())
+    to.held = Some(true);
+    to.peers.reserve_exact(depth)
 }
 
 impl<D: SupportedDigest, A: Allocator> Node<D, A> {
@@ -143,8 +144,9 @@ impl<D: SupportedDigest, A: Allocator> Node<D, A> {
         requires height { tree_height self.now + depth ≡ 256 }
         requires unknown { to.old.held ≡ None }
         requires none { to.old.peers.items ≡ [] }
-        ensures answer { let bits = last_bits key.now (256 - depth) in
-            IsAnswer D.digest to.old.asked (map.get (held_by self.now) bits) result to.new.held }
+        ensures answer { let leaf = map.get (held_by self.now) (last_bits key.now (256 - depth)) in
+            to.new.held ≡ answer_of D.digest to.old.asked leaf }
+        ensures refused { OnErr result (IsSome to.new.held) }
         ensures peers { let bits = last_bits key.now (256 - depth) in
             OnOk result (MatchOption to.new.held (to.new.peers.items ≡ []) (λ held.
             Collects D.digest held (tree_height self.now) (held_by self.now) bits to.new.peers.items)) }
@@ -168,18 +170,19 @@ impl<D: SupportedDigest, A: Allocator> Node<D, A> {
                 let stem = stem.as_ref();
                 let shared = shared_bits(&stem.key, key, depth, stem.len);
                 if shared < stem.len {
-                    if to.asked.is_of_absence() {
-                        push_beside(&mut to.peers, stem.hash_below(shared + 1), depth, shared)?;
-                        to.held = Some(false);
+                    if !to.asked.is_of_absence() {
+                        return Ok(());
                     }
-                    return Ok(());
+                    to.held = Some(false);
+                    let far = stem.hash_below(shared + 1);
+                    return push_beside(&mut to.peers, far, depth, shared);
                 }
                 let below = depth + stem.len;
                 stem.below.node().collect(key, below, to)?;
-                if let Some(held) = to.held {
-                    push_empty_halves(&mut to.peers, held, 256 - below, 256 - depth)?;
-                }
-                Ok(())
+                let Some(held) = to.held else {
+                    return Ok(());
+                };
+                push_empty_halves(&mut to.peers, held, 256 - below, 256 - depth)
             }
         }
     }

@@ -1,5 +1,5 @@
 -- What is collected on the way down a key's bits.
-use Rattle.std.specs.Prelude.{◌≡◌, ℕ, zero, suc, ◌+◌, Bool, true, false, cond, nat_eq, ◌⊎◌, IsTrue, List, [], ◌∷◌, ◌++◌, length, reverse, Option, Some, None, IsSome, Result, Ok, Err}
+use Rattle.std.specs.Prelude.{◌≡◌, ℕ, zero, suc, ◌+◌, Bool, true, false, cond, nat_eq, ◌⊎◌, IsTrue, List, [], ◌∷◌, ◌++◌, length, reverse, Option, Some, None}
 use Rattle.std.specs.Bool.{then_some}
 use Rattle.std.specs.Cmp.Lexicographic.{pointwise}
 use Rattle.std.specs.FinMap.{get, contains_key}
@@ -9,13 +9,13 @@ use Rattle.warg_map.specs.declared.walk.Asked.TheVariants.{Presence, EmptyLeaf, 
 use Rattle.warg_map.specs.Sparse.{SparseMap}
 use Rattle.warg_map.specs.Peers.{IsPeers, shared, lone_peers}
 
--- Whether a proof is asked for that nothing is held.
+-- Whether a proof is asked for where nothing is held.
 abbrev pub is_of_absence : Asked → Bool
 is_of_absence Presence = false
 is_of_absence EmptyLeaf = true
 is_of_absence Either = true
 
--- Whether a proof is asked for of a leaf digest that is held.
+-- Whether a proof is asked for where this leaf digest is held.
 abbrev pub is_of_leaf : (List ℕ → List ℕ) → Asked → List ℕ → Bool
 is_of_leaf H Presence leaf = true
 is_of_leaf H EmptyLeaf leaf = pointwise nat_eq leaf (empty_root H 0)
@@ -25,11 +25,6 @@ is_of_leaf H Either leaf = true
 abbrev pub answer_of : (List ℕ → List ℕ) → Asked → Option (List ℕ) → Option Bool
 answer_of H asked None = then_some (is_of_absence asked) false
 answer_of H asked (Some leaf) = then_some (is_of_leaf H asked leaf) true
-
--- The answer is known, or an error came, which it does only where there is an answer.
-abbrev pub IsAnswer : {E : Type 0} → (List ℕ → List ℕ) → Asked → Option (List ℕ) → Result (Unit {0}) E → Option Bool → Type 0
-IsAnswer H asked leaf (Ok _) held = held ≡ answer_of H asked leaf
-IsAnswer H asked leaf (Err _) held = IsSome (answer_of H asked leaf)
 
 -- The peer of an empty half of k levels: its digest beside bits that are held, and else None.
 abbrev pub empty_half : (List ℕ → List ℕ) → Bool → ℕ → Option (List ℕ)

@@ -1,4 +1,5 @@
 use Rattle.std.proofs.Common.{◌≡◌, ◌+◌, ◌-◌, cond, None, ap, sym, ◌∙◌, arith, rules}
+use Rattle.std.proofs.lemmas.Result.{on_ok_weaker}
 use Rattle.std.specs.FinMap.{get, get-empty}
 use Rattle.warg_map.specs.Bits.{last_bits}
 use Rattle.warg_map.specs.Private.Seen.{held_by}
@@ -52,21 +53,18 @@ returns-in_ok-push-in-Fork-clause-peers g t c =
     (c.node.ensures.seen ∙ c.index.ensures) (c.index-then-is_some.ensures ∙ ap (λ b. cond b c.as_ref-fork.result.now.right c.as_ref-fork.result.now.left) c.opposite.ensures) (c.copied.ensures ∙ c.hash.ensures)
     (sym c.is_some.ensures ∙ c.if-is_some.true) c.in_ok-collect-in-Fork.ensures.peers c.in_ok-push-in-Fork.ensures.items
 
-pub returns-else-is_of_absence-clause-answer : goal.returns-else-is_of_absence-clause-answer
-returns-else-is_of_absence-clause-answer g t c = rw (apart g t (goal.at.returns-else-is_of_absence-clause-answer g t c).After-is_of_absence-then-shared-stem) (search rules)
+pub returns-then-not-is_of_absence-clause-answer : goal.returns-then-not-is_of_absence-clause-answer
+returns-then-not-is_of_absence-clause-answer g t c = rw (apart g t (goal.at.returns-then-not-is_of_absence-clause-answer g t c).After-is_of_absence-then-shared-stem) (search rules)
 
-pub returns-in_err-push_beside-in-Stem-clause-answer : goal.returns-in_err-push_beside-in-Stem-clause-answer
-returns-in_err-push_beside-in-Stem-clause-answer g t c = rw (apart g t (goal.at.returns-in_err-push_beside-in-Stem-clause-answer g t c).After-is_of_absence-then-shared-stem) (search rules)
+pub returns-then-shared-stem-clause-answer : goal.returns-then-shared-stem-clause-answer
+returns-then-shared-stem-clause-answer g t c = rw (apart g t (goal.at.returns-then-shared-stem-clause-answer g t c).After-is_of_absence-then-shared-stem) (search rules)
 
-pub returns-in_ok-push_beside-in-Stem-clause-answer : goal.returns-in_ok-push_beside-in-Stem-clause-answer
-returns-in_ok-push_beside-in-Stem-clause-answer g t c = rw (apart g t (goal.at.returns-in_ok-push_beside-in-Stem-clause-answer g t c).After-is_of_absence-then-shared-stem) (search rules)
-
-pub returns-in_ok-push_beside-in-Stem-clause-peers : goal.returns-in_ok-push_beside-in-Stem-clause-peers
-returns-in_ok-push_beside-in-Stem-clause-peers g t c =
+pub returns-then-shared-stem-clause-peers : goal.returns-then-shared-stem-clause-peers
+returns-then-shared-stem-clause-peers g t c =
     let run = run_of_stem c.args.self.now _ c.args.depth (is_stem c.in-Stem.is c.as_ref-stem.ensures) c.requires.well_formed c.requires.height in
     let less = c.if-shared-stem.true in
     let shared = c.shared_bits-shared.ensures in
-    collects_beside g.D.SupportedDigest.digest _ _ _ _ c.args.key.now _ c.args.depth _ _ _ _ run.1 less shared.same (shared.apart less) (rw run.0 at c.hash_below.ensures) (rw c.requires.none at c.in_ok-push_beside-in-Stem.ensures)
+    on_ok_weaker _ (λ added. collects_beside g.D.SupportedDigest.digest _ _ _ _ c.args.key.now _ c.args.depth _ _ _ _ run.1 less shared.same (shared.apart less) (rw run.0 at c.hash_below-far.ensures) (rw c.requires.none at added)) c.push_beside.ensures
 
 pub returns-in_err-collect-in-Stem-clause-answer : goal.returns-in_err-collect-in-Stem-clause-answer
 returns-in_err-collect-in-Stem-clause-answer g t c = rw (below g t (goal.at.returns-in_err-collect-in-Stem-clause-answer g t c).After-node-in-Stem) (search rules)
@@ -74,14 +72,11 @@ returns-in_err-collect-in-Stem-clause-answer g t c = rw (below g t (goal.at.retu
 pub returns-in_default-clause-answer : goal.returns-in_default-clause-answer
 returns-in_default-clause-answer g t c = rw (below g t (goal.at.returns-in_default-clause-answer g t c).After-node-in-Stem) (search rules)
 
-pub returns-in_err-push_empty_halves-in-Stem-clause-answer : goal.returns-in_err-push_empty_halves-in-Stem-clause-answer
-returns-in_err-push_empty_halves-in-Stem-clause-answer g t c = rw (below g t (goal.at.returns-in_err-push_empty_halves-in-Stem-clause-answer g t c).After-node-in-Stem) (search rules)
+pub returns-in-Some-clause-answer : goal.returns-in-Some-clause-answer
+returns-in-Some-clause-answer g t c = rw (below g t (goal.at.returns-in-Some-clause-answer g t c).After-node-in-Stem) (search rules)
 
-pub returns-in_ok-push_empty_halves-in-Stem-clause-answer : goal.returns-in_ok-push_empty_halves-in-Stem-clause-answer
-returns-in_ok-push_empty_halves-in-Stem-clause-answer g t c = rw (below g t (goal.at.returns-in_ok-push_empty_halves-in-Stem-clause-answer g t c).After-node-in-Stem) (search rules)
-
-pub returns-in_ok-push_empty_halves-in-Stem-clause-peers : goal.returns-in_ok-push_empty_halves-in-Stem-clause-peers
-returns-in_ok-push_empty_halves-in-Stem-clause-peers g t c =
+pub returns-in-Some-clause-peers : goal.returns-in-Some-clause-peers
+returns-in-Some-clause-peers g t c =
     let is = is_stem c.in-Stem.is c.as_ref-stem.ensures in
     let run = run_of_stem c.args.self.now _ c.args.depth is c.requires.well_formed c.requires.height in
     let same = (found_below _ _ _ c.args.key.now _ _ _ _ _ run.1 c.shared_bits-shared.ensures.at_most c.if-shared-stem.false c.shared_bits-shared.ensures.same).0 in
@@ -89,5 +84,5 @@ returns-in_ok-push_empty_halves-in-Stem-clause-peers g t c =
     let len = c.as_ref-stem.result.now.len in
     let halves : 256 - c.args.depth - (256 - (c.args.depth + len)) ≡ len = omega (arith, run.1.whole) in
     let place : 256 - (c.args.depth + len) ≡ 256 - c.args.depth - len = omega arith in
-    rw c.in-Some.is (collects_below g.D.SupportedDigest.digest c.in-Some.held _ c.as_ref-stem.result.now.below _ _ _ c.args.key.now c.args.depth _ _ _ run.1 formed.formed.1 c.node-in-Stem.ensures.seen same (answered _ _ _ _ (rw c.in-Some.is at c.in_ok-collect-in-Stem.ensures.answer))
-    (rw c.in-Some.is at c.in_ok-collect-in-Stem.ensures.peers) (rw (halves, place) at c.in_ok-push_empty_halves-in-Stem.ensures))
+    rw c.in-Some.is (on_ok_weaker _ (λ added. collects_below g.D.SupportedDigest.digest c.in-Some.held _ c.as_ref-stem.result.now.below _ _ _ c.args.key.now c.args.depth _ _ _ run.1 formed.formed.1 c.node-in-Stem.ensures.seen same (answered _ _ _ _ (rw c.in-Some.is at c.in_ok-collect-in-Stem.ensures.answer))
+    (rw c.in-Some.is at c.in_ok-collect-in-Stem.ensures.peers) (rw (halves, place) at added)) c.push_empty_halves.ensures)
