@@ -21,7 +21,7 @@ type Reader = <HostRuntime as Input>::Reader;
 #[derive(Drop)]
 pub struct Lines {
     input: BufReader<Reader>,
-    // So many bytes at the front of the buffer are the line; none where it stands in `line`.
+    // So many bytes at the front of the buffer are the line, with its newline; 0 where it stands in `line`.
     held: usize,
     line: Vec<u8>,
     entry: Vec<u8>,
@@ -54,7 +54,7 @@ impl Lines {
         Ok(true)
     }
 
-    // Goes on to a line that the buffer has no end of, and gathers it.
+    // Goes on to a line that the buffer has no end of, and gathers it. False at the end of the input.
     #[cold]
     fn gather(&mut self, alloc: Global) -> Result<bool, Refusal> {
         self.line.clear();
@@ -89,16 +89,19 @@ impl Lines {
         Ok(newline.is_some() || count == 0 || count == room)
     }
 
-    /// Goes on to the next line, and returns its entry; none at the end of the input.
+    /// Goes on to the next line and returns its entry, as `go_on` and `entry` do; none at the end of the input.
     pub fn next_entry(&mut self, alloc: Global) -> Result<Option<&Vec<u8>>, Refusal> {
         if self.go_on_alike() {
             return Ok(Some(&self.entry));
         }
-        self.entry_after(alloc)
+        if self.go_on(alloc)? {
+            return Ok(Some(self.entry()?));
+        }
+        Ok(None)
     }
 
-    // Goes on to the next line, and decodes it, if it has an entry as long as the last one: its newline is then the first,
-    // since it stands behind digits alone. False where it has none.
+    // Goes on to the next line and decodes it, if its entry is as long as the last one. A newline in that place is the
+    // line's own, as digits alone stand before it. False, and no line further, where it isn't so.
     fn go_on_alike(&mut self) -> bool {
         self.input.consume(self.held);
         self.held = 0;
@@ -114,22 +117,12 @@ impl Lines {
         true
     }
 
-    // The entry of the next line, whatever its length.
-    #[cold]
-    fn entry_after(&mut self, alloc: Global) -> Result<Option<&Vec<u8>>, Refusal> {
-        if self.go_on(alloc)? {
-            return Ok(Some(self.entry()?));
-        }
-        Ok(None)
-    }
-
     /// The line's bytes, without its end.
     pub fn line(&self) -> &[u8] {
         line_in(self.input.buffer(), self.held, self.line.as_slice())
     }
 
     /// The refusal for this line.
-    #[cold]
     pub fn refused(&self, fault: &'static str) -> Refusal {
         Refusal::Line {
             number: self.number,
@@ -150,7 +143,7 @@ impl Lines {
     }
 }
 
-// Puts the bytes that digits spell in the place of the entry's. False where they aren't two hexadecimal digits for each byte.
+// Puts the bytes that digits spell in the place of an entry's. False where they aren't two hexadecimal digits for each.
 fn decode(digits: &[u8], entry: &mut Vec<u8>) -> Result<bool, AllocError> {
     entry.resize(digits.len() / 2, 0)?;
     Ok(hex::decode_to_slice(digits, entry.as_mut_slice()).is_ok())
