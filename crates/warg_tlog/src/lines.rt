@@ -94,10 +94,7 @@ impl Lines {
         if self.go_on_alike() {
             return Ok(Some(&self.entry));
         }
-        if self.go_on(alloc)? {
-            return Ok(Some(self.entry()?));
-        }
-        Ok(None)
+        self.entry_after(alloc)
     }
 
     // Goes on to the next line and decodes it, if its entry is as long as the last one. A newline in that place is the
@@ -115,6 +112,15 @@ impl Lines {
         self.held = length;
         self.number = self.number.saturating_add(1);
         true
+    }
+
+    // The entry of the next line, of whatever length. Apart from `next_entry`, as its large results would slow that down.
+    #[cold]
+    fn entry_after(&mut self, alloc: Global) -> Result<Option<&Vec<u8>>, Refusal> {
+        if self.go_on(alloc)? {
+            return Ok(Some(self.entry()?));
+        }
+        Ok(None)
     }
 
     /// The line's bytes, without its end.
