@@ -43,10 +43,10 @@ fn push_lines(rt: &HostRuntime, folder: &Folder, log: &mut GrowingLog) -> Result
     let mut lines = Lines::new(rt)?;
     let mut progress = Progress::new();
     for _ in 0..u64::MAX {
-        if !lines.go_on(rt.alloc())? {
+        let Some(entry) = lines.next_entry(rt.alloc())? else {
             break;
-        }
-        log.push(rt, folder, lines.entry()?)?;
+        };
+        log.push(rt, folder, entry)?;
         progress.step(rt);
     }
     Ok(())

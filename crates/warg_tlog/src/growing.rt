@@ -8,7 +8,7 @@ use crate::folder::Folder;
 use crate::refusal::Refusal;
 use crate::tile_files::{read_tile, write_tile};
 use warg_crypto::{Sha256, hash_leaf};
-use warg_log::{Checkpoint, GREATEST_LENGTH, LogBuilder};
+use warg_log::{AppendError, Checkpoint, GREATEST_LENGTH, LogBuilder};
 use warg_tiles::{CheckpointText, OpenError, StoredTile, Tile, TileLog};
 
 /// A log that keeps its right edge in memory: the partial tiles, and the entries that fill no bundle yet.
@@ -41,11 +41,17 @@ impl GrowingLog {
         push_entry(&mut self.log, entry)?;
         self.bundle.push(entry.as_slice())?;
         if self.bundle.is_full() {
-            self.bundle.write(rt, folder, self.log.length())?;
-            self.bundle.clear();
-            write_tiles(rt, folder, self.log.take_full().as_slice())?;
+            return self.write_full(rt, folder);
         }
         Ok(())
+    }
+
+    // Writes the bundle and the tiles that the last entry filled.
+    #[cold]
+    fn write_full(&mut self, rt: &HostRuntime, folder: &Folder) -> Result<(), Refusal> {
+        self.bundle.write(rt, folder, self.log.length())?;
+        self.bundle.clear();
+        write_tiles(rt, folder, self.log.take_full().as_slice())
     }
 
     /// Writes what the log's end has of a bundle and of tiles, and returns the checkpoint over all that is written.
@@ -60,12 +66,12 @@ impl GrowingLog {
     }
 }
 
-/// Adds an entry to a log, unless it is full.
-pub fn push_entry(log: &mut TileLog<Sha256, Vec<u8>>, entry: &Vec<u8>) -> Result<(), Refusal>
+/// Adds an entry to a log. `Full` where it takes no more.
+pub fn push_entry(log: &mut TileLog<Sha256, Vec<u8>>, entry: &Vec<u8>) -> Result<(), AppendError>
     ensures { OnOk result (HasEntries log.old → HasEntries log.new) }
 {
     if log.length() >= GREATEST_LENGTH {
-        return Err(Refusal::NoMoreEntries);
+        return Err(AppendError::Full);
     }
     log.push(entry)?;
     Ok(())

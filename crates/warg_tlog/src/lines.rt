@@ -2,7 +2,7 @@
 
 use crate::refusal::Refusal;
 use memchr::memchr;
-use std::alloc::Global;
+use std::alloc::{AllocError, Global};
 use std::io;
 use std::io::{BufRead, BufReader, ErrorKind, Input};
 
@@ -21,6 +21,8 @@ type Reader = <HostRuntime as Input>::Reader;
 #[derive(Drop)]
 pub struct Lines {
     input: BufReader<Reader>,
+    // So many bytes at the front of the buffer are the line, with its newline; 0 where it stands in `line`.
+    held: usize,
     line: Vec<u8>,
     entry: Vec<u8>,
     number: usize,
@@ -34,6 +36,7 @@ impl Lines {
         };
         Ok(Lines {
             input,
+            held: 0,
             line: Vec::new(rt.alloc()),
             entry: Vec::new(rt.alloc()),
             number: 0,
@@ -42,6 +45,18 @@ impl Lines {
 
     /// Goes on to the next line. False at the end of the input.
     pub fn go_on(&mut self, alloc: Global) -> Result<bool, Refusal> {
+        self.input.consume(self.held);
+        self.held = line_length(self.input.buffer());
+        if self.held == 0 {
+            return self.gather(alloc);
+        }
+        self.number = self.number.saturating_add(1);
+        Ok(true)
+    }
+
+    // Goes on to a line that the buffer has no end of, and gathers it. False at the end of the input.
+    #[cold]
+    fn gather(&mut self, alloc: Global) -> Result<bool, Refusal> {
         self.line.clear();
         for _ in 0..u64::MAX {
             match self.read_on() {
@@ -74,9 +89,43 @@ impl Lines {
         Ok(newline.is_some() || count == 0 || count == room)
     }
 
+    /// Goes on to the next line and returns its entry, as `go_on` and `entry` do; none at the end of the input.
+    pub fn next_entry(&mut self, alloc: Global) -> Result<Option<&Vec<u8>>, Refusal> {
+        if self.go_on_alike() {
+            return Ok(Some(&self.entry));
+        }
+        self.entry_after(alloc)
+    }
+
+    // Goes on to the next line and decodes it, if its entry is as long as the last one. A newline in that place is the
+    // line's own, as digits alone stand before it. False, and no line further, where it isn't so.
+    fn go_on_alike(&mut self) -> bool {
+        self.input.consume(self.held);
+        self.held = 0;
+        let length = 2 * self.entry.len() + 1;
+        let Some([digits @ .., b'\n']) = self.input.buffer().get(..length) else {
+            return false;
+        };
+        if hex::decode_to_slice(digits, self.entry.as_mut_slice()).is_err() {
+            return false;
+        }
+        self.held = length;
+        self.number = self.number.saturating_add(1);
+        true
+    }
+
+    // The entry of the next line, of whatever length. Apart from `next_entry`, as its large results would slow that down.
+    #[cold]
+    fn entry_after(&mut self, alloc: Global) -> Result<Option<&Vec<u8>>, Refusal> {
+        if self.go_on(alloc)? {
+            return Ok(Some(self.entry()?));
+        }
+        Ok(None)
+    }
+
     /// The line's bytes, without its end.
     pub fn line(&self) -> &[u8] {
-        without_end(self.line.as_slice())
+        line_in(self.input.buffer(), self.held, self.line.as_slice())
     }
 
     /// The refusal for this line.
@@ -89,17 +138,33 @@ impl Lines {
 
     /// The entry whose hexadecimal digits the line has. Its bytes take the place of the last entry's.
     pub fn entry(&mut self) -> Result<&Vec<u8>, Refusal> {
-        let digits = without_end(self.line.as_slice());
+        let digits = line_in(self.input.buffer(), self.held, self.line.as_slice());
         if digits.len() > 2 * MOST {
             return Err(self.refused("is too long: an entry has at most 65,535 bytes"));
         }
-        self.entry.resize(digits.len() / 2, 0)?;
-        match hex::decode_to_slice(digits, self.entry.as_mut_slice()) {
-            Ok(()) => Ok(&self.entry),
-            Err(_) => Err(self.refused(
-                "isn't an entry: write two hexadecimal digits for each byte",
-            )),
+        if !decode(digits, &mut self.entry)? {
+            return Err(self.refused("isn't an entry: write two hexadecimal digits for each byte"));
         }
+        Ok(&self.entry)
+    }
+}
+
+// Puts the bytes that digits spell in the place of an entry's. False where they aren't two hexadecimal digits for each.
+fn decode(digits: &[u8], entry: &mut Vec<u8>) -> Result<bool, AllocError> {
+    entry.resize(digits.len() / 2, 0)?;
+    Ok(hex::decode_to_slice(digits, entry.as_mut_slice()).is_ok())
+}
+
+// How many bytes the first line has, with its newline; 0 where there is no newline.
+fn line_length(held: &[u8]) -> usize {
+    memchr(b'\n', held).map_or(0, |at| at + 1)
+}
+
+// The line at the front of the buffer, of so many bytes, or else the one that was gathered; without its end.
+fn line_in<'a>(buffer: &'a [u8], held: usize, gathered: &'a [u8]) -> &'a [u8] {
+    match buffer.get(..held) {
+        Some(line) if held > 0 => without_end(line),
+        _ => without_end(gathered),
     }
 }
 

@@ -19,8 +19,13 @@ impl Progress {
     pub fn step(&mut self, rt: &HostRuntime) {
         self.count = self.count.saturating_add(1);
         if self.count % STEP == 0 {
-            let count = self.count;
-            let _ = eprintln!(rt; "warg_tlog: {count} entries");
+            self.print(rt);
         }
+    }
+
+    #[cold]
+    fn print(&self, rt: &HostRuntime) {
+        let count = self.count;
+        let _ = eprintln!(rt; "warg_tlog: {count} entries");
     }
 }

@@ -4,6 +4,7 @@ use std::alloc::{AllocError, AllocFailed, Global};
 use std::io;
 use std::io::ErrorKind;
 use thiserror::Error;
+use warg_log::AppendError;
 
 /// Why a command is refused: a line on standard error, and a status of its own.
 #[derive(Debug, Drop, Error)]
@@ -131,6 +132,15 @@ impl From<AllocError> for Refusal {
 impl<T: Drop> From<AllocFailed<T>> for Refusal {
     fn from(_error: AllocFailed<T>) -> Refusal {
         Refusal::Memory
+    }
+}
+
+impl From<AppendError> for Refusal {
+    fn from(error: AppendError) -> Refusal {
+        match error {
+            AppendError::Full => Refusal::NoMoreEntries,
+            AppendError::Memory => Refusal::Memory,
+        }
     }
 }
 
