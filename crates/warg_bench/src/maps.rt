@@ -177,13 +177,13 @@ fn print_size(rt: &HostRuntime, map: &Keys, count: usize) -> Result<()> {
     )
 }
 
-/// The bytes of a map's nodes, by the sizes of their fields and two counters each: 120 for a lone key, of
+/// The bytes of a map's nodes, by the sizes of their fields and two counters each: 252 for a lone key, of
 /// which there is one a key, and 112 for each of the others, forks and stems.
 pub fn node_bytes(nodes: u128, keys: u128) -> u128 {
     nodes
         .saturating_sub(keys)
         .saturating_mul(112)
-        .saturating_add(keys.saturating_mul(120))
+        .saturating_add(keys.saturating_mul(252))
 }
 
 // A verdict on a key beside its two parts, the bundle's reading and the proof's evaluation.
