@@ -152,7 +152,7 @@ pub(crate) fn spread<D: SupportedDigest, A: Allocator + Copy>(
     match link.node() {
         Node::Empty => grown(alloc, leaves, depth),
         Node::Singleton(lone) => {
-            leaves.insert(0, lone.as_ref().copied())?;
+            leaves.insert(0, lone.as_ref().with_height(256 - depth))?;
             let (link, count) = grown(alloc, leaves, depth)?;
             Ok((link, count - 1))
         }

@@ -65,12 +65,13 @@ impl<D: SupportedDigest> Drop for Singleton<D> {
 }
 
 impl<D: SupportedDigest> Kept<D> {
-    fn copied(&self) -> Kept<D>
-        ensures { result ≡ self.now }
+    // The digest of the tree of no levels.
+    fn leaf(value: &Hash<D>) -> Kept<D>
+        ensures { result ≡ record { digest = value.now; height = 0 } }
     {
         Kept {
-            digest: self.digest.copied(),
-            height: self.height,
+            digest: value.copied(),
+            height: 0,
         }
     }
 
@@ -103,35 +104,20 @@ impl<D: SupportedDigest> Singleton<D> {
         ensures value { result.value ≡ value }
         ensures height { result.height ≡ 256 }
     {
-        let kept = Kept {
-            digest: value.copied(),
-            height: 0,
-        };
+        let fourteen_below = Kept::leaf(&value);
+        let seven_below = Kept::leaf(&value);
+        let four_below = Kept::leaf(&value);
+        let two_below = Kept::leaf(&value);
+        let one_below = Kept::leaf(&value);
         Singleton {
             key,
             value,
             height: 256,
-            fourteen_below: kept.copied(),
-            seven_below: kept.copied(),
-            four_below: kept.copied(),
-            two_below: kept.copied(),
-            one_below: kept,
-        }
-    }
-
-    /// The same key in the same tree.
-    pub(crate) fn copied(&self) -> Singleton<D>
-        ensures { result ≡ self.now }
-    {
-        Singleton {
-            key: self.key.copied(),
-            value: self.value.copied(),
-            height: self.height,
-            fourteen_below: self.fourteen_below.copied(),
-            seven_below: self.seven_below.copied(),
-            four_below: self.four_below.copied(),
-            two_below: self.two_below.copied(),
-            one_below: self.one_below.copied(),
+            fourteen_below,
+            seven_below,
+            four_below,
+            two_below,
+            one_below,
         }
     }
 
@@ -157,7 +143,7 @@ impl<D: SupportedDigest> Singleton<D> {
         self.height as usize
     }
 
-    /// The same key in a tree of another height.
+    /// The same key in a tree of some height. Nothing is hashed where that is its own.
     pub(crate) fn with_height(&self, height: usize) -> Singleton<D>
         requires { height ≤ 256 }
         ensures key { result.key ≡ self.now.key }
@@ -165,10 +151,7 @@ impl<D: SupportedDigest> Singleton<D> {
         ensures height { result.height ≡ height }
     {
         let key = &self.key;
-        let leaf = Kept {
-            digest: self.value.copied(),
-            height: 0,
-        };
+        let leaf = Kept::leaf(&self.value);
         let fourteen_below = self.fourteen_below.for_top(&leaf, key, height, 14);
         let seven_below = self.seven_below.for_top(&fourteen_below, key, height, 7);
         let four_below = self.four_below.for_top(&seven_below, key, height, 4);

@@ -15,7 +15,7 @@ use Rattle.warg_map.proofs.BitsInFront.{holds-under}
 use Rattle.warg_map.proofs.ManyLeaves.{split_at_last, with_leaves-none, few_new, few_grown, share-last, has_last, len-with_leaves}
 use Rattle.warg_map.proofs.LeavesBelowNodes.{IsPutBeside, put_beside, in_fork, put_beside_lone, put_below_stem, below_stands, put_at_end, rest_run, cut_at}
 use Rattle.warg_map.proofs.grown.+spread.Goals as goal
-use Rattle.warg_map.proofs.grown.+spread.Goals.{spread-In_ok-right-in-Fork, spread-In_ok-link-in-Singleton, spread_stem-After-shared_by_all-shared, spread_stem-In_ok-far, spread_stem-In_ok-fork}
+use Rattle.warg_map.proofs.grown.+spread.Goals.{spread-After-with_height, spread-In_ok-right-in-Fork, spread-In_ok-link-in-Singleton, spread_stem-After-shared_by_all-shared, spread_stem-In_ok-far, spread_stem-In_ok-fork}
 
 pub spread-returns-then-is_empty-clause-seen : goal.spread-returns-then-is_empty-clause-seen
 spread-returns-then-is_empty-clause-seen g t c =
@@ -23,8 +23,14 @@ spread-returns-then-is_empty-clause-seen g t c =
     rw (c.in_ok-clone.ensures.cases, none, with_leaves-none)
 
 -- a lone key and the leaves before it
+same_lone : (g : _) (t : _) (c : spread-After-with_height g t) → c.with_height.result ≡ c.as_ref.result.now
+same_lone g t c =
+    let top : c.as_ref.result.now.height ≡ c.args.link.now.0 = rw (← c.node.ensures.seen, c.in-Singleton.is, c.as_ref.ensures) refl in
+    let height : 256 - c.args.depth ≡ c.as_ref.result.now.height = omega (arith, top, c.requires) in
+    λ i. record { key = c.with_height.ensures.key i; value = c.with_height.ensures.value i; height = (c.with_height.ensures.height ∙ height) i }
+
 lone : (g : _) (t : _) (c : spread-In_ok-link-in-Singleton g t) → (c.in_ok-link-in-Singleton.link ≡ (c.args.link.now.0, with_leaves c.args.link.now.0 c.args.link.now.1 c.args.leaves.items)) × (len c.args.link.now.1 ≡ 1)
-lone g t c = put_beside_lone c.node.result.now _ c.args.link.now c.in_ok-link-in-Singleton.link c.args.depth c.args.leaves.items c.insert.new.self.items c.node.ensures.seen (is_lone c.in-Singleton.is (c.copied.ensures ∙ c.as_ref.ensures)) c.requires c.in_ok-insert-in-Singleton.ensures.items c.in_ok-link-in-Singleton.ensures.seen
+lone g t c = put_beside_lone c.node.result.now _ c.args.link.now c.in_ok-link-in-Singleton.link c.args.depth c.args.leaves.items c.insert.new.self.items c.node.ensures.seen (is_lone c.in-Singleton.is (same_lone g t (goal.at.spread-In_ok-link-in-Singleton g t c).After-with_height ∙ c.as_ref.ensures)) c.requires c.in_ok-insert-in-Singleton.ensures.items c.in_ok-link-in-Singleton.ensures.seen
 
 some_key : (g : _) (t : _) (c : spread-In_ok-link-in-Singleton g t) → 1 ≤ c.in_ok-link-in-Singleton.count
 some_key g t c =

@@ -1,4 +1,3 @@
-use Rattle.std.proofs.Common.{◌∙◌}
 use Rattle.warg_map.specs.Private.Lone.{IsKept}
 use Rattle.warg_map.proofs.StemRoots.{root-leaf}
 use Rattle.warg_map.proofs.singleton.Singleton.with_height.Goals as goal
@@ -8,10 +7,10 @@ invariant_of-result g c =
     let H = g.D.SupportedDigest.digest in
     let s = c.self.inside in
     let k = c.self.invariant in
-    let leaf : IsKept {D = g.row.D.Denot} H s.key s.value (record { digest = c.copied.result; height = 0 }) = c.copied.ensures ∙ root-leaf H s.value s.key in
+    let leaf : IsKept H s.key s.value c.leaf-leaf.result = rw c.leaf-leaf.ensures (root-leaf H s.value s.key) in
     let fourteen = c.for_top-fourteen_below.ensures.digest s.value k.2 leaf in
     let seven = c.for_top-seven_below.ensures.digest s.value k.4 fourteen in
     let four = c.for_top-four_below.ensures.digest s.value k.6 seven in
     let two = c.for_top-two_below.ensures.digest s.value k.8 four in
     let one = c.for_top-one_below.ensures.digest s.value k.10 two in
-    rw (c.copied-2.ensures, c.copied-3.ensures) (c.requires, c.for_top-fourteen_below.ensures.height, fourteen, c.for_top-seven_below.ensures.height, seven, c.for_top-four_below.ensures.height, four, c.for_top-two_below.ensures.height, two, c.for_top-one_below.ensures.height, one)
+    rw (c.copied.ensures, c.copied-2.ensures) (c.requires, c.for_top-fourteen_below.ensures.height, fourteen, c.for_top-seven_below.ensures.height, seven, c.for_top-four_below.ensures.height, four, c.for_top-two_below.ensures.height, two, c.for_top-one_below.ensures.height, one)
