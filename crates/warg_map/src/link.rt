@@ -3,12 +3,12 @@
 ghost use Rattle.std.specs.Prelude.{◌≡◌, ℕ};
 ghost use Rattle.warg_map.specs.Sparse.{sparse_root};
 
-use crate::node::{Fork, Node, Stem, stem_digest};
+use crate::node::{Fork, Node, Stem};
 use crate::singleton::Singleton;
 use std::alloc::{AllocError, Allocator, Global};
 use std::marker::Model;
 use std::rc::Rc;
-use warg_crypto::{Hash, Side, SupportedDigest, hash_branch};
+use warg_crypto::{Hash, Side, SupportedDigest, empty_tree_hash, hash_branch};
 
 /// A node, with its digest.
 ///
@@ -57,11 +57,8 @@ impl<D: SupportedDigest, A: Allocator> Link<D, A> {
                 hash_branch(fork.left.hash(), fork.right.hash())
             }
             Node::Singleton(lone) => lone.hash(),
-            Node::Stem(stem) => {
-                let stem = stem.as_ref();
-                stem_digest(&stem.key, stem.from, stem.len, stem.below.hash())
-            }
-            Node::Empty => D::empty_tree(256),
+            Node::Stem(stem) => stem.hash_below(0),
+            Node::Empty => empty_tree_hash(256),
         };
         Link { hash, node }
     }

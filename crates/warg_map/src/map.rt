@@ -295,6 +295,7 @@ impl<D: SupportedDigest, K: VisitBytes + Drop, V: VisitBytes + Drop, A: Allocato
             ↔ ((map.len self.now ≡ usize.MAX)
             × (map.contains_key self.now (last_bits key.now 256) ≡ false)) }
     {
+        // Where the key isn't held, this takes no memory.
         if self.count == usize::MAX && self.proof_of(key, Asked::Presence)?.0.is_none() {
             return Err(MapError::Full);
         }

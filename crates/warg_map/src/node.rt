@@ -11,7 +11,7 @@ use crate::singleton::Singleton;
 use std::alloc::{AllocError, Allocator, Global};
 use std::ops::Index;
 use std::rc::Rc;
-use warg_crypto::{Hash, Side, SupportedDigest};
+use warg_crypto::{Hash, Side, SupportedDigest, empty_tree_hash};
 
 /// A node of the tree, with what stands below it.
 ///
@@ -81,7 +81,7 @@ pub(crate) fn stem_digest<D: SupportedDigest>(
 {
     let bottom = 256 - (from + len);
     let mut hash = below.copied();
-    let mut empty = D::empty_tree(bottom);
+    let mut empty = empty_tree_hash(bottom);
     for above in 0..len {
         hash = side_at(key, from + (len - 1 - above)).branch(&hash, &empty);
         empty = D::empty_above(bottom + above, &empty);
