@@ -75,7 +75,6 @@ impl<D> Hash<D> {
     pub fn from_array(bytes: [u8; 32]) -> Hash<D>
         ensures { result ≡ bytes }
     {
-        is_digest(&bytes);
         Hash {
             bytes,
             of: PhantomData,
@@ -147,13 +146,6 @@ impl<D> AsRef<[u8; 32]> for Hash<D> {
 #[derive(Clone, Copy, Debug, PartialEq, Eq, Error)]
 #[error("hash is not 32 bytes")]
 pub struct HashLength;
-
-// 32 bytes are a digest.
-pub(crate) fn is_digest(bytes: &[u8; 32])
-    ensures { IsDigest bytes.now }
-{
-    let _slice = bytes.as_slice();
-}
 
 // Keeps the bytes that it takes, until a growth is refused.
 #[derive(Drop)]

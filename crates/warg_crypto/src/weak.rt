@@ -2,11 +2,11 @@
 
 ghost use Rattle.std.specs.Prelude.{◌≡◌, ⊤, ℕ, ◌%◌, ◌++◌, ◌∷◌, [], List, sum};
 ghost use Rattle.sha2.specs.Hashers.{Holds256};
+ghost use Rattle.warg_crypto.specs.Digests.{IsDigest};
 ghost use Rattle.warg_crypto.specs.WeakDigests.{byte_sum, same_or_sha256, zeros, Keeps};
 ghost use Rattle.warg_crypto.specs.DigestFacts.{IsDigest-byte_sum, IsDigest-same_or_sha256, IsDigest-zeros};
 
 use crate::digest::SupportedDigest;
-use crate::hash::is_digest;
 use crate::visit::ByteVisitor;
 use sha2::Digest;
 
@@ -100,6 +100,13 @@ impl SupportedDigest for Own32 {
             self.hasher.finalize()
         }
     }
+}
+
+// 32 bytes are a digest.
+fn is_digest(bytes: &[u8; 32])
+    ensures { IsDigest bytes.now }
+{
+    let _slice = bytes.as_slice();
 }
 
 /// 32 zero bytes, whatever the bytes.

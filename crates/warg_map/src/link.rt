@@ -3,12 +3,12 @@
 ghost use Rattle.std.specs.Prelude.{◌≡◌, ℕ};
 ghost use Rattle.warg_map.specs.Sparse.{sparse_root};
 
-use crate::node::{Fork, Node, Stem};
+use crate::node::{Fork, Node, Stem, stem_digest};
 use crate::singleton::Singleton;
 use std::alloc::{AllocError, Allocator, Global};
 use std::marker::Model;
 use std::rc::Rc;
-use warg_crypto::{Hash, Side, SupportedDigest, empty_tree_hash, hash_branch};
+use warg_crypto::{Hash, Side, SupportedDigest, hash_branch};
 
 /// A node, with its digest.
 ///
@@ -57,8 +57,11 @@ impl<D: SupportedDigest, A: Allocator> Link<D, A> {
                 hash_branch(fork.left.hash(), fork.right.hash())
             }
             Node::Singleton(lone) => lone.hash(),
-            Node::Stem(stem) => stem.hash_below(0),
-            Node::Empty => empty_tree_hash(256),
+            Node::Stem(stem) => {
+                let stem = stem.as_ref();
+                stem_digest(&stem.key, stem.from, stem.len, stem.below.hash())
+            }
+            Node::Empty => D::empty_tree(256),
         };
         Link { hash, node }
     }
@@ -154,9 +157,15 @@ impl<D: SupportedDigest, A: Allocator> Clone for Link<D, A> {
     ghost is_clone = { λ l copy. copy ≡ l };
 
     fn clone(&self) -> Result<Link<D, A>, AllocError> {
+        let node = match &self.node {
+            Node::Fork(fork) => Node::Fork(fork.clone()?),
+            Node::Singleton(lone) => Node::Singleton(lone.clone()?),
+            Node::Stem(stem) => Node::Stem(stem.clone()?),
+            Node::Empty => Node::Empty,
+        };
         Ok(Link {
             hash: self.hash.copied(),
-            node: self.node.clone()?,
+            node,
         })
     }
 }

@@ -2,8 +2,7 @@
 
 ghost use Rattle.std.specs.Prelude.{◌≡◌, ℕ, ◌+◌, ◌-◌, ◌<◌, ◌≤◌};
 ghost use Rattle.warg_map.specs.Bits.{bits_from};
-ghost use Rattle.warg_map.specs.Sparse.{sparse_root};
-ghost use Rattle.warg_map.specs.Private.Under.{under, stem_root};
+ghost use Rattle.warg_map.specs.Private.Under.{stem_root};
 
 use crate::link::Link;
 use crate::path::side_at;
@@ -11,7 +10,7 @@ use crate::singleton::Singleton;
 use std::alloc::{AllocError, Allocator, Global};
 use std::ops::Index;
 use std::rc::Rc;
-use warg_crypto::{Hash, Side, SupportedDigest, empty_tree_hash};
+use warg_crypto::{Hash, Side, SupportedDigest};
 
 /// A node of the tree, with what stands below it.
 ///
@@ -81,25 +80,12 @@ pub(crate) fn stem_digest<D: SupportedDigest>(
 {
     let bottom = 256 - (from + len);
     let mut hash = below.copied();
-    let mut empty = empty_tree_hash(bottom);
+    let mut empty = D::empty_tree(bottom);
     for above in 0..len {
         hash = side_at(key, from + (len - 1 - above)).branch(&hash, &empty);
         empty = D::empty_above(bottom + above, &empty);
     }
     hash
-}
-
-impl<D: SupportedDigest, A: Allocator> Stem<D, A> {
-    /// The digest of what stands below the stem's first `at` bits.
-    pub(crate) fn hash_below(&self, at: usize) -> Hash<D>
-        requires level { self.now.from + self.now.len + self.now.below.0 ≡ 256 }
-        requires place { at ≤ self.now.len }
-        ensures { result ≡ sparse_root D.digest (self.now.below.0 + (self.now.len - at))
-            (under (bits_from self.now.key (self.now.from + at)
-            (self.now.len - at)) self.now.below.1) }
-    {
-        stem_digest(&self.key, self.from + at, self.len - at, self.below.hash())
-    }
 }
 
 impl<D: SupportedDigest, A: Allocator> Node<D, A> {
@@ -129,21 +115,5 @@ impl<D: SupportedDigest, A: Allocator> Node<D, A> {
             }
             Node::Stem(stem) => 1 + stem.below.node().count(),
         }
-    }
-}
-
-/// The node is shared. It takes no memory, and refuses only where its owners can't be counted.
-impl<D: SupportedDigest, A: Allocator> Clone for Node<D, A> {
-    ghost use Rattle.warg_map.specs.Private.Seen.{tree_height, held_by, IsWellFormed, IsSeen};
-
-    ghost is_clone = { λ n copy. IsWellFormed n → IsSeen copy (tree_height n) (held_by n) };
-
-    fn clone(&self) -> Result<Node<D, A>, AllocError> {
-        Ok(match self {
-            Node::Fork(fork) => Node::Fork(fork.clone()?),
-            Node::Singleton(singleton) => Node::Singleton(singleton.clone()?),
-            Node::Stem(stem) => Node::Stem(stem.clone()?),
-            Node::Empty => Node::Empty,
-        })
     }
 }

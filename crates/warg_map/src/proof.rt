@@ -12,7 +12,7 @@ mod message;
 use crate::path::side_at;
 use std::alloc::{Allocator, Global};
 use std::marker::{Model, PhantomData};
-use warg_crypto::{Hash, SupportedDigest, VisitBytes, empty_tree_hash, hash_leaf};
+use warg_crypto::{Hash, SupportedDigest, VisitBytes, hash_leaf};
 
 /// A proof of what a map holds under a key, or that it holds nothing there.
 ///
@@ -117,7 +117,7 @@ impl<D: SupportedDigest, K, V, A: Allocator> Proof<D, K, V, A> {
         ensures { result ≡ proof_value D.digest self.now leaf (last_bits key.now 256) }
     {
         let mut hash = leaf;
-        let mut empty = empty_tree_hash(0);
+        let mut empty = D::empty_tree(0);
         for height in 0..256 {
             hash = side_at(key, 255 - height).branch(&hash, self.peer(height, &empty));
             empty = D::empty_above(height, &empty);
@@ -144,6 +144,6 @@ impl<D: SupportedDigest, K: VisitBytes, V: VisitBytes, A: Allocator> Proof<D, K,
         ensures { result ≡ proof_value D.digest self.now (empty_root D.digest 0)
             (key_bits D.digest (K.bytes key.now)) }
     {
-        self.root_from(&Hash::of(key), empty_tree_hash(0))
+        self.root_from(&Hash::of(key), D::empty_tree(0))
     }
 }

@@ -7,12 +7,12 @@ ghost use Rattle.warg_map.specs.Private.Lone.{held_alone};
 ghost use Rattle.warg_map.specs.Private.Seen.{tree_height, held_by, IsWellFormed};
 ghost use Rattle.warg_map.specs.Private.Walk.{is_of_absence, is_of_leaf, answer_of, empty_half, empty_halves, Collects};
 
-use crate::node::Node;
+use crate::node::{Node, stem_digest};
 use crate::path::{shared_bits, side_at};
 use crate::singleton::Singleton;
 use std::alloc::{AllocError, Allocator};
 use std::mem;
-use warg_crypto::{Hash, SupportedDigest, empty_tree_hash};
+use warg_crypto::{Hash, SupportedDigest};
 
 /// What is to be proved of a key.
 #[derive(Clone, Copy)]
@@ -37,7 +37,7 @@ impl Asked {
     fn is_of_leaf<D: SupportedDigest>(self, leaf: &Hash<D>) -> bool
         ensures { result ≡ is_of_leaf D.digest self leaf.now }
     {
-        !matches!(self, Asked::EmptyLeaf) || *leaf == empty_tree_hash(0)
+        !matches!(self, Asked::EmptyLeaf) || *leaf == D::empty_tree(0)
     }
 }
 
@@ -65,7 +65,7 @@ fn push_empty_halves<D: SupportedDigest, A: Allocator>(
         ≡ peers.old.items ++ empty_halves (empty_half D.digest held) from (to - from)) }
 {
     let mut half = if held {
-        Some(empty_tree_hash(from))
+        Some(D::empty_tree(from))
     } else {
         None
     };
@@ -174,7 +174,9 @@ impl<D: SupportedDigest, A: Allocator> Node<D, A> {
                         return Ok(());
                     }
                     to.held = Some(false);
-                    let far = stem.hash_below(shared + 1);
+                    let cut = shared + 1;
+                    let below = stem.below.hash();
+                    let far = stem_digest(&stem.key, stem.from + cut, stem.len - cut, below);
                     return push_beside(&mut to.peers, far, depth, shared);
                 }
                 let below = depth + stem.len;

@@ -12,7 +12,7 @@ loop-above-init g c =
     let k = 256 - (c.args.from + c.args.len) in
     let z : k ≡ k + 0 = omega arith in (
       c.copied-hash.ensures ∙ sym (stem_root-none H k c.args.below.now c.args.key.now (c.args.from + (c.args.len - 0))),
-      c.empty_tree_hash-empty.ensures ∙ ap (empty_root H) z,
+      c.empty_tree-empty.ensures ∙ ap (empty_root H) z,
     )
 
 pub loop-above-preserved : goal.loop-above-preserved

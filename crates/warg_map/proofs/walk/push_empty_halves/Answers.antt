@@ -9,7 +9,7 @@ pub loop-height-init : goal.loop-height-init
 loop-height-init g c =
     let z : c.args.from - c.args.from ≡ 0 = omega arith in record {
       peers = rw z (sym (halves-none (empty_half g.D.SupportedDigest.digest c.args.held) c.args.from c.args.peers.now.items));
-      half = elim c.if-held.branch [ then-held w ↦ w.half-is ∙ rw w.if-held.true (ap Some w.empty_tree_hash.ensures) | else-held w ↦ rw w.if-held.false w.half-is ];
+      half = elim c.if-held.branch [ then-held w ↦ w.half-is ∙ rw w.if-held.true (ap Some w.empty_tree.ensures) | else-held w ↦ rw w.if-held.false w.half-is ];
     }
 
 pub empty_above-requires-clause-empty : goal.empty_above-requires-clause-empty

@@ -5,6 +5,7 @@ use Rattle.warg_map.specs.Bits.{last_bits}
 use Rattle.warg_map.specs.Private.Seen.{held_by}
 use Rattle.warg_map.proofs.TreeForm.{is_fork, is_stem}
 use Rattle.warg_map.proofs.FoundInNode.{finds_in_fork, run_of_stem, found_below, found_apart}
+use Rattle.warg_map.proofs.StemRoots.{root-stem}
 use Rattle.warg_map.proofs.CollectedPeers.{answered, collects_fork, collects_none, collects_below, collects_beside}
 use Rattle.warg_map.proofs.node.Node.+collect.Goals as goal
 use Rattle.warg_map.proofs.node.Node.+collect.Goals.{After-node, After-is_of_absence-then-shared-stem, After-node-in-Stem}
@@ -64,7 +65,11 @@ returns-then-shared-stem-clause-peers g t c =
     let run = run_of_stem c.args.self.now _ c.args.depth (is_stem c.in-Stem.is c.as_ref-stem.ensures) c.requires.well_formed c.requires.height in
     let less = c.if-shared-stem.true in
     let shared = c.shared_bits-shared.ensures in
-    on_ok_weaker _ (λ added. collects_beside g.D.SupportedDigest.digest _ _ _ _ c.args.key.now _ c.args.depth _ _ _ _ run.1 less shared.same (shared.apart less) (rw run.0 at c.hash_below-far.ensures) (rw c.requires.none at added)) c.push_beside.ensures
+    let s = c.as_ref-stem.result.now in
+    let cut = c.shared_bits-shared.result + 1 in
+    let z : 256 - (c.as_ref-stem.result.now.from + (c.shared_bits-shared.result + 1) + (c.as_ref-stem.result.now.len - (c.shared_bits-shared.result + 1))) ≡ c.as_ref-stem.result.now.below.0 = omega (arith, run.0, run.1.whole) in
+    let far = c.stem_digest-far.ensures ∙ root-stem g.D.SupportedDigest.digest _ s.key _ s.below.0 (s.from + cut) (s.len - cut) s.below.1 z c.hash-below.ensures in
+    on_ok_weaker _ (λ added. collects_beside g.D.SupportedDigest.digest _ _ _ _ c.args.key.now _ c.args.depth _ _ _ _ run.1 less shared.same (shared.apart less) (rw run.0 at far) (rw c.requires.none at added)) c.push_beside.ensures
 
 pub returns-in_err-collect-in-Stem-clause-answer : goal.returns-in_err-collect-in-Stem-clause-answer
 returns-in_err-collect-in-Stem-clause-answer g t c = rw (below g t (goal.at.returns-in_err-collect-in-Stem-clause-answer g t c).After-node-in-Stem) (search rules)

@@ -8,7 +8,7 @@ use Rattle.warg_map.proofs.proof.Proof.root_from.Goals as goal
 pub loop-height-init : goal.loop-height-init
 loop-height-init g c =
     let H = g.D.SupportedDigest.digest in
-    (sym (proof_value-none H c.args.self.now c.args.leaf c.args.key.now), c.empty_tree_hash-empty.ensures)
+    (sym (proof_value-none H c.args.self.now c.args.leaf c.args.key.now), c.empty_tree-empty.ensures)
 
 pub loop-height-preserved : goal.loop-height-preserved
 loop-height-preserved g c =
