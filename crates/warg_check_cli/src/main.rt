@@ -4,12 +4,12 @@
 //! a write failed, and 3 if memory ran out or a log or map is full. Statuses 2 and 3 come with a line on standard error.
 #![tactic(auto)]
 
-mod arguments;
+mod texts;
 
-use arguments::{HELP, Request, VERSION, request_of};
 use std::env;
 use std::io::{self, IsTerminal};
 use std::process::ExitCode;
+use texts::{HELP, VERSION};
 use warg_program::{exit_code, run};
 
 fn main(rt: HostRuntime) -> ExitCode {
@@ -19,18 +19,34 @@ fn main(rt: HostRuntime) -> ExitCode {
     }
 }
 
-// Does what the arguments ask for.
+// Does what the arguments ask for. At most one is taken.
 fn answer(rt: &HostRuntime) -> io::Result<ExitCode> {
     let words = env::args(rt)?.skip(1).collect::<Vec<String>>(rt.alloc())?;
-    match request_of(words.as_slice()) {
-        Request::Run => Ok(run_commands(rt)),
-        Request::Help => rt.print(HELP).map(|()| ExitCode::SUCCESS),
-        Request::Version => rt.println(VERSION).map(|()| ExitCode::SUCCESS),
-        Request::Unknown(word) => {
-            eprintln!(rt; "warg_check: no argument is called {word:?}; see warg_check --help")?;
-            Ok(ExitCode::from(2))
-        }
+    match words.as_slice() {
+        [] => Ok(run_commands(rt)),
+        [word] => tell(rt, word.as_str()),
+        [first, second, ..] if is_known(first.as_str()) => refuse_word(rt, second.as_str()),
+        [first, ..] => refuse_word(rt, first.as_str()),
     }
+}
+
+fn is_known(word: &str) -> bool {
+    matches!(word, "--help" | "-h" | "--version" | "-V")
+}
+
+// Says of the program what the argument asks for.
+fn tell(rt: &HostRuntime, word: &str) -> io::Result<ExitCode> {
+    match word {
+        "--help" | "-h" => rt.print(HELP)?,
+        "--version" | "-V" => rt.println(VERSION)?,
+        _ => return refuse_word(rt, word),
+    }
+    Ok(ExitCode::SUCCESS)
+}
+
+fn refuse_word(rt: &HostRuntime, word: &str) -> io::Result<ExitCode> {
+    eprintln!(rt; "warg_check: no argument is called {word:?}; see warg_check --help")?;
+    Ok(ExitCode::from(2))
 }
 
 // Runs the commands of standard input, and says on standard error what ended the run, if anything did.

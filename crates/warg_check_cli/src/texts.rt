@@ -1,37 +1,4 @@
-//! What the program's arguments ask for, and what it says of itself.
-
-/// What the arguments ask for.
-#[derive(Clone, Copy)]
-pub enum Request<'a> {
-    /// No argument: the commands of standard input.
-    Run,
-    /// `--help` or `-h`.
-    Help,
-    /// `--version` or `-V`.
-    Version,
-    /// A word that is none of the program's arguments.
-    Unknown(&'a str),
-}
-
-/// What the words after the program's name ask for. At most one argument is taken.
-pub fn request_of(words: &[String]) -> Request<'_> {
-    match words {
-        [] => Request::Run,
-        [only] => request_by(only.as_str()),
-        [first, second, ..] => match request_by(first.as_str()) {
-            Request::Unknown(word) => Request::Unknown(word),
-            _ => Request::Unknown(second.as_str()),
-        },
-    }
-}
-
-fn request_by(word: &str) -> Request<'_> {
-    match word {
-        "--help" | "-h" => Request::Help,
-        "--version" | "-V" => Request::Version,
-        _ => Request::Unknown(word),
-    }
-}
+//! What the program says of itself.
 
 /// The line that `--version` prints.
 pub const VERSION: &str = "warg_check 0.9.2-rattle.1";
