@@ -16,7 +16,7 @@ abbrev pub IsBeside : ℕ → ℕ → ℕ → ℕ → Type 0
 IsBeside s w a n = (a + n ≤ s) ⊎ (s + w ≤ a)
 
 -- the tests
-target_decides : (s w a n : ℕ) → Decides (is_target s w a n) ((a ≡ s) × (n ≡ w))
+pub target_decides : (s w a n : ℕ) → Decides (is_target s w a n) ((a ≡ s) × (n ≡ w))
 target_decides s w a n = Decides-and _ _ (Decides-eqb a s) (Decides-eqb n w)
 
 pub beside_decides : (s w a n : ℕ) → Decides (is_beside s w a n) (IsBeside s w a n)
@@ -24,6 +24,9 @@ beside_decides s w a n = Decides-or _ _ (leb-true (a + n) s, le-leb (a + n) s) (
 
 read_decides : (s w h a n : ℕ) → Decides (n == 2 ^ suc h && is_beside s w a n) ((n ≡ 2 ^ suc h) × IsBeside s w a n)
 read_decides s w h a n = Decides-and _ _ (Decides-eqb n (2 ^ suc h)) (beside_decides s w a n)
+
+pub is_other : (s w a n : ℕ) → is_target s w a n ≡ false → a ≡ s → n ≡ w → ⊥
+is_other s w a n apart e f = false≢true (sym apart ∙ (target_decides s w a n).1 (e, f))
 
 target_false : (s w a n : ℕ) → (a ≡ s → n ≡ w → ⊥) → is_target s w a n ≡ false
 target_false s w a n other = false_from_ne_true (is_target s w a n) (λ e. let p = (target_decides s w a n).0 e in other p.0 p.1)

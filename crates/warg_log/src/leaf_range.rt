@@ -9,7 +9,7 @@ ghost use Rattle.warg_log.specs.Cut.{is_beside, IsFull};
 ///
 /// The evaluations, and the search for two byte strings of one digest, go down these ranges. Leaves are
 /// counted from 0, and a range ends at 2^63 at the latest.
-#[derive(Clone, Copy, Debug)]
+#[derive(Clone, Copy, Debug, PartialEq, Eq)]
 pub struct LeafRange {
     pub start: usize,
     pub count: usize,
@@ -60,14 +60,6 @@ impl LeafRange {
         ensures { IsTrue result ↔ IsFull self.now.count }
     {
         self.count == power_of_two(self.count.ilog2())
-    }
-
-    /// Whether both are the same leaves.
-    pub fn equals(&self, other: &LeafRange) -> bool
-        ensures { IsTrue result ↔ ((self.now.start ≡ other.now.start)
-            × (self.now.count ≡ other.now.count)) }
-    {
-        self.start == other.start && self.count == other.count
     }
 
     /// Whether the range has no leaf of the other one.

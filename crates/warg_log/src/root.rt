@@ -42,7 +42,7 @@ pub(crate) fn range_root_by<D: SupportedDigest, V: VisitBytes, L: LogData<D, V>,
         hashes.now) hash.now target.now.start target.now.count range.now.start range.now.count }
     ensures kept { J.is_true joins.new }
 {
-    if range.equals(target) {
+    if range == target {
         return Some(hash.copied());
     }
     if range.is_read(target) {
