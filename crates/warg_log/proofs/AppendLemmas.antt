@@ -1,32 +1,21 @@
 -- A leaf appended to a slice.
-use Rattle.std.proofs.Common.{◌≡◌, ℕ, ◌+◌, ◌*◌, ◌%◌, ◌^◌, ◌<◌, ◌≤◌, List, [], ◌∷◌, ◌++◌, length, take, drop, refl, sym, ap, ◌∙◌, arith}
+use Rattle.std.proofs.Common.{◌≡◌, ℕ, ◌+◌, ◌*◌, ◌%◌, ◌^◌, ◌<◌, ◌≤◌, List, [], ◌∷◌, ◌++◌, length, take, drop, refl, ap, ◌∙◌, arith}
 use Rattle.std.proofs.Math.ListN.{get_or, get_or-append}
-use Rattle.std.proofs.Math.Seq.{get_or-append_seam, drop-append_seam}
+use Rattle.std.proofs.Math.Seq.{get_or-append_seam}
 use Rattle.std.proofs.lemmas.List.{take-append-le, drop-append-le, length-drop, length_push}
 use Rattle.std.proofs.lemmas.Bool.Decides.{nat_tests}
 use Rattle.std.proofs.lemmas.Nat.{pow_pos}
-use Rattle.warg_log.specs.Nodes.{height_of, place_of, start_of, end_of}
-use Rattle.warg_log.specs.Tree.{root_of, leaves_below, leaves_in, slice_of, digest_or_spacer}
+use Rattle.warg_log.specs.Nodes.{height_of, place_of, start_of, end_of, number_of}
+use Rattle.warg_log.specs.Tree.{root_of, leaves_in, slice_of, digest_or_spacer}
 use Rattle.warg_log.specs.Private.Slices.{IsSliceUpTo}
-use Rattle.warg_log.proofs.NodeLemmas.{node_is, node_at, last_leaf}
-use Rattle.warg_log.proofs.SliceLemmas.{slice_of-is}
-use Rattle.warg_log.proofs.RootLemmas.{root_of-one}
+use Rattle.warg_log.proofs.NodeLemmas.{node_is, last_leaf}
+use Rattle.warg_log.proofs.SliceLemmas.{slice_of-is, own_leaf}
 use Rattle.warg_log.proofs.BalancedLemmas.{end_is}
 
 leaves_in-two : (t : List (List ℕ)) (s d : List ℕ) → length t % 2 ≡ 1 → leaves_in ((t ++ s ∷ []) ++ d ∷ []) ≡ leaves_in t ++ d ∷ []
 leaves_in-two [] s d odd = absurd (omega arith)
 leaves_in-two (x ∷ []) s d odd = refl
 leaves_in-two (x ∷ y ∷ t) s d odd = ap (λ r. x ∷ r) (leaves_in-two t s d (omega arith))
-
--- the node of leaf n, and its digest, which is the root below it
-leaf_node : (n : ℕ) → (height_of (2 * n) ≡ 0) × (place_of (2 * n) ≡ n)
-leaf_node n = node_at (2 * n) 0 n (omega arith)
-
-leaf_root : (H : List ℕ → List ℕ) (ds : List (List ℕ)) (d : List ℕ) → d ≡ root_of H (leaves_below (2 * length ds) (ds ++ d ∷ []))
-leaf_root H ds d =
-    let at = leaf_node (length ds) in
-    let one : length ds * 2 ^ 0 ≡ length ds = omega arith in
-    rw (at.0, at.1, one, drop-append_seam ds (d ∷ [])) (sym (root_of-one H d))
 
 -- one more leaf changes nothing below the nodes before it
 pub front_kept : (ds : List (List ℕ)) (d : List ℕ) (a w : ℕ) → a + w ≤ length ds → take w (drop a (ds ++ d ∷ [])) ≡ take w (drop a ds)
@@ -60,24 +49,13 @@ room_more H tree is some =
     }
 
 -- what a leaf appended to that makes
-pub record IsAppended (H : List ℕ → List ℕ) (ds tree : List (List ℕ)) (d : List ℕ) : Type 0 where
-  pub leaves : leaves_in tree ≡ ds ++ d ∷ []
-  pub last : end_of (2 * length ds) ≡ length (leaves_in tree)
-  pub slice : IsSliceUpTo H (leaves_in tree) tree (height_of (2 * length ds))
-  pub digest : d ≡ root_of H (leaves_below (2 * length ds) (leaves_in tree))
-
-pub appended : (H : List ℕ → List ℕ) (ds base : List (List ℕ)) (d : List ℕ) → HasRoom H ds base → length base + 1 < 2 ^ 64 → IsAppended H ds (base ++ d ∷ []) d
+pub appended : (H : List ℕ → List ℕ) (ds base : List (List ℕ)) (d : List ℕ) → HasRoom H ds base → length base + 1 < 2 ^ 64 → IsSliceUpTo H (ds ++ d ∷ []) (base ++ d ∷ []) 0
 appended H ds base d room small =
-    let at = leaf_node (length ds) in
     let count = length_push ds d in
     let size = length_push base d in
-    let ends : end_of (2 * length ds) ≡ length ds + 1 = rw (at.0, at.1) (omega arith) in
+    let number : number_of 0 (length ds) ≡ 2 * length ds = omega arith in
+    let leaf = rw number at (own_leaf H (ds ++ d ∷ []) (length ds) (omega arith)) ∙ get_or-append_seam ds d [] [] in
     record {
-      leaves = room.leaves d;
-      last = rw (room.leaves d) (ends ∙ sym count);
-      slice = rw (room.leaves d) (record {
-        len = omega (arith, size, count, room.len);
-        holds = λ z z_in low. grind (arith, nat_tests, size, count, ends, at.0, room.len, get_or-append base (d ∷ []) [] z, get_or-append_seam base d [] [], room.holds z, kept H ds d z, leaf_root H ds d);
-      });
-      digest = rw (room.leaves d) (leaf_root H ds d);
+      len = omega (arith, size, count, room.len);
+      holds = λ z z_in low. grind (arith, nat_tests, size, count, room.len, get_or-append base (d ∷ []) [] z, get_or-append_seam base d [] [], room.holds z, kept H ds d z, leaf);
     }

@@ -1,7 +1,6 @@
 -- Cut roots.
 use Rattle.std.proofs.Common.{◌≡◌, ℕ, suc, ◌+◌, ◌-◌, ◌*◌, ◌^◌, ◌<◌, ◌≤◌, List, [], length, take, drop, Option, Some, refl, sym, ap, ◌∙◌, arith, ◌⊎◌, inr}
 use Rattle.std.proofs.Math.Nat.{add-sub_of_le}
-use Rattle.std.proofs.Math.Seq.{take-length}
 use Rattle.std.proofs.lemmas.List.{length-drop, length-take-le, drop-drop, drop-take, take-take}
 use Rattle.std.proofs.lemmas.Bool.{le-leb}
 use Rattle.warg_log.specs.Nodes.{height_of, start_of, node_over}
@@ -78,8 +77,3 @@ cut_root-own H ds t n x own some fits = own_at H ds x (start_of t) (2 ^ height_o
 -- over a log's own digests, the old root is the plain root: no leaves have the digest of no bytes
 pub old_root-own : (H : List ℕ → List ℕ) (ds : List (List ℕ)) (m : ℕ) → 0 < m → m ≤ length ds → old_root H (own_digest H ds) m ≡ Some (root_of H (take m ds))
 old_root-own H ds m some fits = own_at H ds (H []) 0 0 m 0 0 m refl (omega arith) some (omega (arith, below_pow)) (omega arith)
-
--- what a program reads as the old root of a whole log
-pub stored_own : (H : List ℕ → List ℕ) (ds : List (List ℕ)) (r : Option (List ℕ)) (a n : ℕ) → r ≡ old_over H (own_digest H ds) a n → a ≡ 0 → n ≡ length ds → (n ≡ 0 → ⊥)
-    → r ≡ Some (root_of H ds)
-stored_own H ds r a n is start count some = rw (is, start, count, old_root-own H ds (length ds) (omega arith) (omega arith), take-length) refl

@@ -2,7 +2,6 @@ pub mod NodeLemmas
 pub mod RootLemmas
 pub mod BalancedLemmas
 pub mod AppendLemmas
-pub mod SideLemmas
 pub mod SliceLemmas
 pub mod WayLemmas
 pub mod CutLemmas

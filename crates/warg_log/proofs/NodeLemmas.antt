@@ -1,9 +1,9 @@
 -- Heights, places and their arithmetic.
-use Rattle.std.proofs.Common.{◌≡◌, ℕ, zero, suc, ◌+◌, ◌-◌, ◌*◌, ◌/◌, ◌%◌, ◌^◌, ◌<◌, ◌≤◌, refl, sym, ap, ◌∙◌, arith, w64, ⊎_elim, lit≤}
+use Rattle.std.proofs.Common.{◌≡◌, ℕ, zero, suc, ◌+◌, ◌-◌, ◌*◌, ◌/◌, ◌%◌, ◌^◌, ◌<◌, ◌≤◌, refl, sym, ap, ◌∙◌, arith, w64, ⊎_elim, lit≤, add-zero}
 use Rattle.std.proofs.Math.Nat.{le_refl, add-sub_of_le, mul-le-mul_left, lt_of_mul-lt-mul_left, pow-le-pow_right, pow-suc}
-use Rattle.std.specs.Int.{trailing_ones, bit_at}
-use Rattle.std.proofs.lemmas.Nat.{pow_pos, pow-add, div-mul-add}
-use Rattle.std.proofs.lemmas.Nat.Bits.{bit_at-suc, bit_at-trailing_ones}
+use Rattle.std.specs.Int.{trailing_ones, trailing_zeros, bit_at}
+use Rattle.std.proofs.lemmas.Nat.{pow_pos, pow-add, div-mul-add, one_shl}
+use Rattle.std.proofs.lemmas.Nat.Bits.{bit_at-suc, bit_at-zero, bit_at_cat_low, bit_at-trailing_ones, bit_at-trailing_zeros}
 use Rattle.std.proofs.lemmas.Bool.{cases_lt, cases_eq, eq-eqb, ne_eqb}
 use Rattle.warg_log.specs.Nodes.{IsNode, height_within, height_of, place_of, start_of, end_of, node_over}
 
@@ -125,3 +125,33 @@ over_at k j = node_at (node_over (j * 2 ^ k) (2 ^ k)) k j (number_over k j)
 
 pub over_ends : (k j : ℕ) → end_of (node_over (j * 2 ^ k) (2 ^ k)) ≡ j * 2 ^ k + 2 ^ k
 over_ends k j = let at = over_at k j in rw (at.0, at.1) (omega arith)
+
+-- a length's last balanced root has as many leaves as the greatest power of two that divides the length
+last_by_bits : (k n : ℕ) → bit_at n k ≡ 1 → ((i : ℕ) → i < k → bit_at n i ≡ 0) → (q : ℕ) × (n ≡ (2 * q + 1) * 2 ^ k)
+last_by_bits zero n one zeros = (n / 2, omega arith)
+last_by_bits (suc k) n one zeros =
+    let half = last_by_bits k (n / 2) (sym (bit_at-suc n k) ∙ one) (λ i lt. sym (bit_at-suc n i) ∙ zeros (suc i) (omega arith)) in
+    (half.0, omega (arith, zeros 0 (omega arith), half.1, ap (λ w. (2 * half.0 + 1) * w) (pow-suc 2 k)))
+
+pub last_root : (n : ℕ) → 0 < n → n < 2 ^ 64 → (q : ℕ) × (n ≡ (2 * q + 1) * 2 ^ trailing_zeros w64 n) × (trailing_zeros w64 n < 64)
+last_root n some fits = let t = bit_at-trailing_zeros w64 n some fits in let last = last_by_bits (trailing_zeros w64 n) n t.1 t.2 in (last.0, last.1, t.0)
+
+pub last_width : (n : ℕ) → 0 < n → n < 2 ^ 64 → (trailing_zeros w64 n < 64) × (1 * 2 ^ trailing_zeros w64 n % 2 ^ 64 ≤ n) × (0 < 1 * 2 ^ trailing_zeros w64 n % 2 ^ 64)
+last_width n some fits =
+    let last = last_root n some fits in
+    rw (one_shl (trailing_zeros w64 n) 64 last.2) (last.2, omega (arith, last.1), pow_pos (trailing_zeros w64 n))
+
+-- twice each smaller power of two divides the length
+pub smaller_root : (n h : ℕ) → 0 < n → n < 2 ^ 64 → h < trailing_zeros w64 n → (j : ℕ) × (n ≡ (j + 1) * 2 ^ suc h) × (1 * 2 ^ h % 2 ^ 64 ≡ 2 ^ h) × (2 * 2 ^ h ≤ n)
+smaller_root n h some fits low =
+    let last = last_root n some fits in
+    let m = (2 * last.0 + 1) * 2 ^ (trailing_zeros w64 n - suc h) in
+    let back : m - 1 + 1 ≡ m = omega (arith, pow_pos (trailing_zeros w64 n - suc h)) in
+    let is : n ≡ (m - 1 + 1) * 2 ^ suc h = rw back (last.1 ∙ rw (parts (suc h) (trailing_zeros w64 n) low) (omega arith)) in
+    (m - 1, is, one_shl h 64 (omega (arith, last.2)), omega (arith, rw pow-suc at is))
+
+-- no greater power of two divides it
+pub divides_most : (n h j : ℕ) → 0 < n → n < 2 ^ 64 → n ≡ j * 2 ^ h → h ≤ trailing_zeros w64 n
+divides_most n h j some fits is =
+    let t = trailing_zeros w64 n in
+    ⊎_elim (λ (tall : t < h). absurd (omega (arith, rw (add-zero, ← is) at (bit_at_cat_low j h 0 t tall), bit_at-zero t, (bit_at-trailing_zeros w64 n some fits).1))) (λ le. le) (cases_lt t h)

@@ -1,17 +1,22 @@
 -- A log's digests by node.
-use Rattle.std.proofs.Common.{◌≡◌, ℕ, zero, suc, ◌+◌, ◌-◌, ◌*◌, ◌/◌, ◌%◌, ◌^◌, ◌<◌, ◌≤◌, List, [], ◌∷◌, length, set, Some, refl, sym, ap, ◌∙◌, arith, ⊎_elim}
-use Rattle.std.proofs.lemmas.Bool.{le-leb, cases_lt, cases_eq}
+use Rattle.std.proofs.Common.{◌≡◌, ℕ, zero, suc, ◌+◌, ◌-◌, ◌*◌, ◌/◌, ◌%◌, ◌^◌, ◌<◌, ◌≤◌, List, [], ◌∷◌, length, set, Option, Some, None, unwrap_or, refl, sym, ap, ◌∙◌, arith, w64, ⊎_elim, lit≤}
+use Rattle.std.specs.Int.{trailing_zeros}
+use Rattle.std.specs.Prelude.{MatchOption}
+use Rattle.std.proofs.Math.Seq.{take-length}
+use Rattle.std.proofs.lemmas.Bool.{le-leb, lt-leb, cases_lt, cases_eq}
 use Rattle.std.proofs.lemmas.List.{get_or_default, get_or-set_same, get_or-set_other, length-set}
-use Rattle.std.proofs.Math.Nat.{pow-suc, eq_of_mul-eq-mul_left}
-use Rattle.std.proofs.lemmas.Nat.{pow_pos, pow-add}
+use Rattle.std.proofs.Math.Nat.{pow-suc, pow-le-pow_right}
+use Rattle.std.proofs.lemmas.Nat.{pow_pos, one_shl}
 use Rattle.std.proofs.lemmas.List.FromFn.{fill_by_all, length-map-range_with_len, get_or-map-range_with_len}
 use Rattle.std.proofs.Math.ListN.{get_or}
-use Rattle.warg_log.specs.Nodes.{IsNode, height_of, place_of, end_of}
+use Rattle.warg_log.specs.Ranges.{IsAligned}
+use Rattle.warg_log.specs.Nodes.{height_of, place_of, end_of, number_of}
 use Rattle.warg_crypto.specs.Tree.{branch}
-use Rattle.warg_log.specs.Tree.{root_of, root_over, leaves_below, leaves_in, digest_or_spacer, slice_of, own_digest}
+use Rattle.warg_log.specs.Tree.{root_of, root_over, leaves_in, digest_or_spacer, slice_of, own_digest}
 use Rattle.warg_log.specs.Private.Slices.{IsSliceUpTo}
-use Rattle.warg_log.proofs.NodeLemmas.{parts, node_is, node_at}
+use Rattle.warg_log.proofs.NodeLemmas.{node_is, over_at, last_root, divides_most}
 use Rattle.warg_log.proofs.CutLemmas.{root_over-split}
+use Rattle.warg_log.proofs.LawLemmas.{root_over-one}
 
 -- a node that exists stands inside the slice
 pub inside_slice : (x n m : ℕ) → end_of x ≤ n → m ≡ 2 * n - 1 → x < m
@@ -44,7 +49,7 @@ own_digest_held H ds tree x d is exists read =
     rw (read ∙ get_or_default tree x d [] inside ∙ slice.holds x inside, le-leb (end_of x) (length ds) exists) refl
 
 -- the root below a branch
-pub root_below : (H : List ℕ → List ℕ) (ds : List (List ℕ)) (k j : ℕ) → (j + 1) * 2 ^ suc k ≤ length ds
+root_below : (H : List ℕ → List ℕ) (ds : List (List ℕ)) (k j : ℕ) → (j + 1) * 2 ^ suc k ≤ length ds
     → root_over H ds (j * 2 ^ suc k) (2 ^ suc k) ≡ branch H (root_over H ds (2 * j * 2 ^ k) (2 ^ k)) (root_over H ds ((2 * j + 1) * 2 ^ k) (2 ^ k))
 root_below H ds k j ends =
     let two : 2 ^ suc k ≡ 2 ^ k * 2 = pow-suc 2 k in
@@ -53,6 +58,23 @@ root_below H ds k j ends =
     let half : 2 ^ suc k - 2 ^ k ≡ 2 ^ k = omega arith in
     rw (start, middle) (root_over-split H ds k (j * 2 ^ suc k) (2 ^ suc k) (omega (arith, pow_pos)) (omega arith) (omega arith) ∙ rw half refl)
 
+-- what stands at a node's place, by its height and its place among those
+module _ (H : List ℕ → List ℕ) (ds : List (List ℕ)) where
+  pub own_there : (k j : ℕ) → (j + 1) * 2 ^ k ≤ length ds → digest_or_spacer H ds (number_of k j) ≡ root_over H ds (j * 2 ^ k) (2 ^ k)
+  own_there k j ends = let at = over_at k j in rw (at.0, at.1, le-leb ((j + 1) * 2 ^ k) (length ds) ends) refl
+
+  pub own_lacks : (k j : ℕ) → length ds < (j + 1) * 2 ^ k → digest_or_spacer H ds (number_of k j) ≡ H []
+  own_lacks k j late = let at = over_at k j in rw (at.0, at.1, lt-leb ((j + 1) * 2 ^ k) (length ds) late) refl
+
+  pub own_leaf : (i : ℕ) → i < length ds → digest_or_spacer H ds (number_of 0 i) ≡ get_or ds i []
+  own_leaf i lt = let one : i * 2 ^ 0 ≡ i = omega arith in own_there 0 i (omega arith) ∙ rw one (root_over-one H ds i lt)
+
+  pub own_branch : (k j : ℕ) → (j + 1) * 2 ^ suc k ≤ length ds
+      → digest_or_spacer H ds (number_of (suc k) j) ≡ branch H (digest_or_spacer H ds (number_of k (2 * j))) (digest_or_spacer H ds (number_of k (2 * j + 1)))
+  own_branch k j ends =
+      let fits = rw (pow-suc 2 k) at ends in
+      rw (own_there (suc k) j ends, own_there k (2 * j) (omega arith), own_there k (2 * j + 1) (omega arith)) (root_below H ds k j ends)
+
 -- a write at an odd place keeps the leaves
 leaves_in-set : (t : List (List ℕ)) (i : ℕ) (v : List ℕ) → leaves_in (set t (suc (2 * i)) v) ≡ leaves_in t
 leaves_in-set [] i v = refl
@@ -60,70 +82,89 @@ leaves_in-set (d ∷ []) i v = refl
 leaves_in-set (d ∷ e ∷ t) zero v = refl
 leaves_in-set (d ∷ e ∷ t) (suc i) v = let next : 2 * suc i ≡ suc (suc (2 * i)) = omega arith in rw next (ap (λ r. d ∷ r) (leaves_in-set t i v))
 
--- where the sibling and the parent of a right node end
-pub sibling_ends : (x y : ℕ) → place_of x % 2 ≡ 1 → IsNode y (height_of x) (place_of x - 1) → end_of y ≤ end_of x
-sibling_ends x y odd is =
-    let at = node_at y (height_of x) (place_of x - 1) is in
-    let one : place_of x - 1 + 1 ≡ place_of x = omega arith in
-    rw (at.0, at.1, one) (omega arith)
+-- what is read at a node that is not too high
+pub read_low : (H : List ℕ → List ℕ) (ds tree : List (List ℕ)) (h k j x : ℕ) (d : List ℕ) → IsSliceUpTo H ds tree h → x ≡ number_of k j → k ≤ h → x < length tree → d ≡ get_or tree x d → d ≡ digest_or_spacer H ds x
+read_low H ds tree h k j x d slice is low inside read =
+    read ∙ get_or_default tree x d [] inside ∙ slice.holds x inside (λ _. rw (is, (over_at k j).0) low)
 
-pub parent_ends : (x p : ℕ) → place_of x % 2 ≡ 1 → IsNode p (height_of x + 1) (place_of x / 2) → end_of p ≡ end_of x
-parent_ends x p odd is =
-    let at = node_at p (height_of x + 1) (place_of x / 2) is in
-    let half : place_of x ≡ 2 * (place_of x / 2) + 1 = omega arith in
-    rw (at.0, at.1, pow-add 2 (height_of x) 1) (omega (arith, ap (λ j. j * 2 ^ height_of x) half))
-
--- a node is known by its height and its last leaf
-same_node : (a b : ℕ) → height_of a ≡ height_of b → end_of a ≡ end_of b → a ≡ b
-same_node a b heights ends = omega (arith, node_is a, node_is b, ap (λ k. 2 ^ k) heights)
-
--- what a step up from a right node leaves
-pub climbed : (H : List ℕ → List ℕ) (ds tree : List (List ℕ)) (x y p : ℕ) (digest sibling : List ℕ) → place_of x % 2 ≡ 1
-    → IsNode y (height_of x) (place_of x - 1) → IsNode p (height_of x + 1) (place_of x / 2) → end_of x ≡ length ds
-    → IsSliceUpTo H ds tree (height_of x) → digest ≡ root_of H (leaves_below x ds) → sibling ≡ get_or tree y sibling
-    → IsSliceUpTo H ds (set tree p (branch H sibling digest)) (height_of p) × (branch H sibling digest ≡ root_of H (leaves_below p ds))
-    × (leaves_in (set tree p (branch H sibling digest)) ≡ leaves_in tree)
-climbed H ds tree x y p digest sibling odd at_y at_p last slice is_digest read =
-    let k = height_of x in
-    let i = place_of x / 2 in
+-- a step up in a slice, from the second of two nodes of height h to the branch over them, all of which end at the last leaf
+pub joined_up : (H : List ℕ → List ℕ) (ds tree : List (List ℕ)) (n h j w x : ℕ) (digest sibling : List ℕ) → length ds ≡ n → n ≡ (j + 1) * 2 ^ suc h → w ≡ 2 ^ h → x + 2 ^ h + 1 ≡ 2 * n
+    → IsSliceUpTo H ds tree h → digest ≡ digest_or_spacer H ds x → sibling ≡ get_or tree (x - 2 * w) sibling
+    → IsSliceUpTo H ds (set tree (x - w) (branch H sibling digest)) (h + 1) × (branch H sibling digest ≡ digest_or_spacer H ds (x - w))
+    × (leaves_in (set tree (x - w) (branch H sibling digest)) ≡ leaves_in tree)
+joined_up H ds tree n h j w x digest sibling count ends width last slice is_digest read =
+    let p = x - w in
     let v = branch H sibling digest in
-    let less : place_of x - 1 ≡ 2 * i = omega arith in
-    let ys = node_at y k (2 * i) (rw less at at_y) in
-    let next : k + 1 ≡ suc k = omega arith in
-    let ps = node_at p (suc k) i (rw next at at_p) in
-    let half : 2 * i + 1 ≡ place_of x = omega arith in
-    let last_p : end_of p ≡ length ds = parent_ends x p odd at_p ∙ last in
-    let y_ends : end_of y ≤ length ds = rw (← last) (sibling_ends x y odd at_y) in
-    let y_in : y < length tree = inside_slice y (length ds) (length tree) y_ends slice.len in
-    let p_in : p < length tree = inside_slice p (length ds) (length tree) (omega arith) slice.len in
-    let left : sibling ≡ root_over H ds (2 * i * 2 ^ k) (2 ^ k) =
-    read ∙ get_or_default tree y sibling [] y_in ∙ slice.holds y y_in (λ _. omega arith) ∙ rw (le-leb (end_of y) (length ds) y_ends, ys.0, ys.1) refl in
-    let right : digest ≡ root_over H ds ((2 * i + 1) * 2 ^ k) (2 ^ k) = rw half is_digest in
-    let root : v ≡ root_of H (leaves_below p ds) = rw (left, right, ps.0, ps.1) (sym (root_below H ds k i (omega (arith, rw (ps.0, ps.1) at last_p)))) in
-    let odd_p : p ≡ suc (2 * (p / 2)) = let at = rw pow-add at at_p in omega arith in (
+    let two = pow-suc 2 h in
+    let wide = rw two at ends in
+    let pos = pow_pos h in
+    let xs : x ≡ number_of h (2 * j + 1) = omega arith in
+    let ys : x - 2 * w ≡ number_of h (2 * j) = omega arith in
+    let ps : p ≡ number_of (suc h) j = rw two (omega arith) in
+    let left = read_low H ds tree h h (2 * j) (x - 2 * w) sibling slice ys (omega arith) (omega (arith, slice.len)) read in
+    let root : v ≡ digest_or_spacer H ds p = rw (left, is_digest, ys, ps, xs) (sym (own_branch H ds h j (omega (arith, ends)))) in
+    let odd : p ≡ suc (2 * (p / 2)) = omega arith in (
       record {
         len = length-set tree p v ∙ slice.len;
         holds = λ z z_in low. ⊎_elim
-            (λ same. rw same (get_or-set_same tree p v [] p_in ∙ root ∙ rw (le-leb (end_of p) (length ds) (omega arith)) refl))
-            (λ other. get_or-set_other tree p z v [] other ∙ slice.holds z (rw length-set at z_in) (λ ends. ⊎_elim
-            (λ tall. absurd (other (same_node z p (omega (arith, low ends)) (ends ∙ sym last_p))))
-            (λ le. le) (cases_lt k (height_of z))))
+            (λ same. rw same (get_or-set_same tree p v [] (omega (arith, slice.len)) ∙ root))
+            (λ other. get_or-set_other tree p z v [] other ∙ slice.holds z (rw length-set at z_in) (λ at_last. ⊎_elim
+            (λ tall. let top : height_of z ≡ suc h = omega (arith, low at_last) in absurd (other (omega (arith, node_is z, at_last, ap (λ k. 2 ^ k) top))))
+            (λ le. le) (cases_lt h (height_of z))))
             (cases_eq z p);
       },
       root,
-      ap (λ i. leaves_in (set tree i v)) odd_p ∙ leaves_in-set tree (p / 2) v,
+      ap (λ i. leaves_in (set tree i v)) odd ∙ leaves_in-set tree (p / 2) v,
     )
 
--- no taller node ends where a left node ends
-not_above : (x z : ℕ) → place_of x % 2 ≡ 0 → end_of z ≡ end_of x → height_of x < height_of z → ⊥
-not_above x z even ends tall =
-    let at = rw (parts (height_of x + 1) (height_of z) (omega arith), pow-add 2 (height_of x) 1) at ends in
-    let same : 2 * ((place_of z + 1) * 2 ^ (height_of z - (height_of x + 1))) ≡ place_of x + 1 = eq_of_mul-eq-mul_left (2 ^ height_of x) (pow_pos (height_of x)) _ _ (omega arith) in
-    omega arith
-
--- at a left node nothing is left to be done
-pub finished : (H : List ℕ → List ℕ) (ds tree : List (List ℕ)) (x : ℕ) → end_of x ≡ length ds → place_of x % 2 ≡ 0 → IsSliceUpTo H ds tree (height_of x) → tree ≡ slice_of H ds
-finished H ds tree x last even slice = slice_is H ds tree (record {
+-- no node that ends at the last leaf is above the last balanced root
+pub finished : (H : List ℕ → List ℕ) (ds tree : List (List ℕ)) (n h : ℕ) → 0 < n → n < 2 ^ 64 → length ds ≡ n → trailing_zeros w64 n ≤ h → IsSliceUpTo H ds tree h → tree ≡ slice_of H ds
+finished H ds tree n h some fits count top slice = slice_is H ds tree (record {
   len = slice.len;
-  holds = λ z z_in. slice.holds z z_in (λ ends. ⊎_elim (λ tall. absurd (not_above x z even (ends ∙ sym last) tall)) (λ low. low) (cases_lt (height_of x) (height_of z)));
+  holds = λ z z_in. slice.holds z z_in (λ ends. omega (arith, divides_most n (height_of z) (place_of z + 1) some fits (sym count ∙ sym ends), top));
 })
+
+-- the root so far, of the leaves from e on, if there are any: they are at most as many as a power of two that divides e
+pub record IsRootFrom (H : List ℕ → List ℕ) (ds : List (List ℕ)) (e : ℕ) (root : Option (List ℕ)) : Type 0 where
+  pub within : e ≤ length ds
+  pub aligned : IsAligned e (length ds - e)
+  pub joined : MatchOption root (e ≡ length ds) (λ r. (e < length ds) × (r ≡ root_over H ds e (length ds - e)))
+
+pub no_root : (H : List ℕ → List ℕ) (ds : List (List ℕ)) (e : ℕ) → e ≡ length ds → IsRootFrom H ds e None
+no_root H ds e all = record { within = omega arith; aligned = record { height = 0; place = e; start = omega arith; most = omega arith }; joined = all }
+
+pub whole_root : (H : List ℕ → List ℕ) (ds : List (List ℕ)) (root : Option (List ℕ)) → IsRootFrom H ds 0 root → unwrap_or root (H []) ≡ root_of H ds
+whole_root H [] None from = refl
+whole_root H (d ∷ ds) None from = absurd (omega (arith, from.joined))
+whole_root H ds (Some r) from = let all : length ds - 0 ≡ length ds = omega arith in from.joined.1 ∙ rw (all, take-length) refl
+
+-- 2 ^ h leaves from a on, put in front of those from e on
+joined_before : (H : List ℕ → List ℕ) (ds : List (List ℕ)) (h a e : ℕ) (root : Option (List ℕ)) (left r : List ℕ) → e ≡ a + 2 ^ h → length ds - e ≤ 2 ^ h → IsRootFrom H ds e root
+    → left ≡ root_over H ds a (2 ^ h) → MatchOption root (r ≡ left) (λ right. r ≡ branch H left right) → r ≡ root_over H ds a (length ds - a)
+joined_before H ds h a e None left r at few from read first = let rest : length ds - a ≡ 2 ^ h = omega (arith, from.joined) in rw rest (first ∙ read)
+joined_before H ds h a e (Some right) left r at few from read next =
+    let split = root_over-split H ds h a (length ds - a) (omega (arith, from.joined.0)) (omega (arith, pow-suc)) (omega (arith, from.within)) in
+    let rest : length ds - a - 2 ^ h ≡ length ds - e = omega arith in
+    next ∙ rw (read, from.joined.1) (sym (rw (← at, rest) at split))
+
+-- the last balanced root of the leaves up to e
+pub next_root : (H : List ℕ → List ℕ) (ds tree : List (List ℕ)) (e w : ℕ) (root : Option (List ℕ)) (left r : List ℕ) → 0 < e → e < 2 ^ 64 → w ≡ 1 * 2 ^ trailing_zeros w64 e % 2 ^ 64
+    → tree ≡ slice_of H ds → IsRootFrom H ds e root → left ≡ get_or tree (e - w + e - 1) left → MatchOption root (r ≡ left) (λ right. r ≡ branch H left right) → IsRootFrom H ds (e - w) (Some r)
+next_root H ds tree e w root left r some fits width slice from read join =
+    let last = last_root e some fits in
+    let t = trailing_zeros w64 e in
+    let pos = pow_pos t in
+    let a = e - w in
+    let start : a ≡ 2 * last.0 * 2 ^ t = rw (width, one_shl t 64 last.2) (omega (arith, last.1)) in
+    let ends : e ≡ a + 2 ^ t = omega (arith, last.1) in
+    let few : length ds - e ≤ 2 ^ t = omega (arith, from.aligned.most, pow-le-pow_right {n = 2} (lit≤ tt) (divides_most e from.aligned.height from.aligned.place some fits from.aligned.start)) in
+    let tree_is = slice_of-is H ds tree slice in
+    let number : a + e - 1 ≡ number_of t (2 * last.0) = omega arith in
+    let inside : a + e - 1 < length tree = omega (arith, tree_is.len, from.within) in
+    let held : left ≡ root_over H ds a (2 ^ t) =
+    read ∙ get_or_default tree _ left [] inside ∙ tree_is.holds _ inside ∙ rw (number, start) (own_there H ds t (2 * last.0) (omega (arith, from.within))) in
+    record {
+      within = omega (arith, from.within);
+      aligned = record { height = suc t; place = last.0; start = start ∙ rw pow-suc (omega arith); most = rw pow-suc (omega arith) };
+      joined = (omega (arith, from.within), joined_before H ds t a e root left r ends few from held join);
+    }

@@ -6,18 +6,17 @@ use Rattle.std.specs.Cmp.Lexicographic.{pointwise, pointwise_decides, bytes_deci
 use Rattle.std.proofs.Math.Nat.{pow-suc}
 use Rattle.std.proofs.lemmas.Nat.{pow_pos}
 use Rattle.std.proofs.lemmas.List.{ext_get_or, get_or_read}
-use Rattle.std.proofs.lemmas.Bool.{cases_lt, cases_eq, le-leb, lt-leb, false≢true}
+use Rattle.std.proofs.lemmas.Bool.{cases_lt, cases_eq, false≢true}
 use Rattle.std.proofs.lemmas.Bool.Decides.{Decides-and, Decides-eqb}
 use Rattle.warg_protobuf.specs.VecLog.{VecImage}
 use Rattle.warg_log.specs.Nodes.{IsNode, height_of, place_of, end_of, number_of}
 use Rattle.warg_crypto.specs.Tree.{branch}
-use Rattle.warg_log.specs.Tree.{root_over, leaves_in, slice_of, digest_or_spacer}
+use Rattle.warg_log.specs.Tree.{leaves_in, slice_of, digest_or_spacer}
 use Rattle.warg_log.specs.Images.{vec_message, is_slice_of_length, vec_in}
 use Rattle.warg_log.specs.Private.Slices.{IsHeld}
 use Rattle.warg_log.proofs.ImageLemmas.{all_good}
 use Rattle.warg_log.proofs.NodeLemmas.{parts, node_is, only_number, over_at}
-use Rattle.warg_log.proofs.SliceLemmas.{IsSlice, slice_is, slice_of-is, root_below}
-use Rattle.warg_log.proofs.LawLemmas.{root_over-one}
+use Rattle.warg_log.proofs.SliceLemmas.{IsSlice, slice_is, slice_of-is, own_lacks, own_leaf, own_branch}
 
 -- a tree and a length, and the message of a log, which is read as the log
 module _ (H : List ℕ → List ℕ) (n : ℕ) (tree : List (List ℕ)) where
@@ -45,23 +44,6 @@ leaves_in-at (d ∷ []) zero = refl
 leaves_in-at (d ∷ []) (suc i) = let next : 2 * suc i ≡ suc (suc (2 * i)) = omega arith in rw next refl
 leaves_in-at (d ∷ s ∷ t) zero = refl
 leaves_in-at (d ∷ s ∷ t) (suc i) = let next : 2 * suc i ≡ suc (suc (2 * i)) = omega arith in rw next (leaves_in-at t i)
-
--- ---- what stands at a node's place, by its height and its place among those
-module _ (H : List ℕ → List ℕ) (ds : List (List ℕ)) where
-  own_there : (k j : ℕ) → (j + 1) * 2 ^ k ≤ length ds → digest_or_spacer H ds (number_of k j) ≡ root_over H ds (j * 2 ^ k) (2 ^ k)
-  own_there k j ends = let at = over_at k j in rw (at.0, at.1, le-leb ((j + 1) * 2 ^ k) (length ds) ends) refl
-
-  own_lacks : (k j : ℕ) → length ds < (j + 1) * 2 ^ k → digest_or_spacer H ds (number_of k j) ≡ H []
-  own_lacks k j late = let at = over_at k j in rw (at.0, at.1, lt-leb ((j + 1) * 2 ^ k) (length ds) late) refl
-
-  own_leaf : (i : ℕ) → i < length ds → digest_or_spacer H ds (number_of 0 i) ≡ get_or ds i []
-  own_leaf i lt = let one : i * 2 ^ 0 ≡ i = omega arith in own_there 0 i (omega arith) ∙ rw one (root_over-one H ds i lt)
-
-  own_branch : (k j : ℕ) → (j + 1) * 2 ^ suc k ≤ length ds
-      → digest_or_spacer H ds (number_of (suc k) j) ≡ branch H (digest_or_spacer H ds (number_of k (2 * j))) (digest_or_spacer H ds (number_of k (2 * j + 1)))
-  own_branch k j ends =
-      let fits = rw (pow-suc 2 k) at ends in
-      rw (own_there (suc k) j ends, own_there k (2 * j) (omega arith), own_there k (2 * j + 1) (omega arith)) (root_below H ds k j ends)
 
 -- ---- branches that hold what their children give
 children_in : (k j n m : ℕ) → (j + 1) * 2 ^ suc k ≤ n → m ≡ 2 * n - 1 → (number_of k (2 * j) < m) × (number_of k (2 * j + 1) < m)

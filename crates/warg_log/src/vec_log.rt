@@ -1,21 +1,18 @@
 //! A log that keeps the digest of every node.
 
-ghost use Rattle.std.specs.Prelude.{◌≡◌, ℕ, ◌+◌, ◌*◌, ◌^◌, ◌<◌, ◌≤◌, List, [], ◌∷◌, ◌++◌, length, IfOk, OnOk, OnErr};
+ghost use Rattle.std.specs.Prelude.{◌≡◌, ℕ, ◌+◌, ◌-◌, ◌*◌, ◌^◌, ◌<◌, ◌≤◌, List, [], ◌∷◌, ◌++◌, length, IsNone, IfSome, IfOk, OnOk, OnErr};
 ghost use Rattle.std.proofs.Common.{ap, sym};
 ghost use Rattle.warg_crypto.specs.Tree.{leaf_digest};
-ghost use Rattle.warg_log.specs.Nodes.{height_of, end_of};
-ghost use Rattle.warg_log.specs.Tree.{slice_of, root_of, leaves_below, leaves_in, own_digest};
+ghost use Rattle.warg_log.specs.Tree.{slice_of, root_of, leaves_in, own_digest, digest_or_spacer};
 ghost use Rattle.warg_log.specs.Private.Slices.{IsSliceUpTo};
 
 mod image;
 
-use crate::leaf_range::LeafRange;
 use crate::log::{Checkpoint, LogBuilder, LogData};
 use crate::node::Node;
-use crate::root::stored_root;
 use std::alloc::{AllocError, Allocator, Global};
 use std::marker::{Model, PhantomData};
-use warg_crypto::{Hash, Side, SupportedDigest, VisitBytes, hash_branch, hash_empty, hash_leaf};
+use warg_crypto::{Hash, SupportedDigest, VisitBytes, hash_branch, hash_empty, hash_leaf};
 
 /// A log that keeps the digest of every node in one slice, at the place of the node's number.
 ///
@@ -38,7 +35,7 @@ pub struct VecLog<D: SupportedDigest, V: VisitBytes, A: Allocator = Global> {
 
 // Contracts see the log as the list of its leaf digests.
 impl<D: SupportedDigest, V: VisitBytes, A: Allocator> Model for VecLog<D, V, A> {
-    ghost use Rattle.std.specs.Prelude.{◌≡◌, ℕ, List, [], length};
+    ghost use Rattle.std.specs.Prelude.{◌≡◌, ◌^◌, ◌≤◌, ℕ, List, [], length};
     ghost use Rattle.warg_log.specs.Tree.{slice_of, leaves_in};
 
     ghost Value = { List (List ℕ) };
@@ -46,7 +43,8 @@ impl<D: SupportedDigest, V: VisitBytes, A: Allocator> Model for VecLog<D, V, A> 
     ghost view = { λ l. leaves_in l.tree.items };
 
     ghost invariant = { λ l. (l.count ≡ length (leaves_in l.tree.items))
-        × (l.tree.items ≡ slice_of D.digest (leaves_in l.tree.items)) × (l.spacer ≡ D.digest []) };
+        × (l.tree.items ≡ slice_of D.digest (leaves_in l.tree.items)) × (l.spacer ≡ D.digest [])
+        × (l.count ≤ 2 ^ 63) };
 }
 
 impl<D: SupportedDigest, V: VisitBytes, A: Allocator> VecLog<D, V, A> {
@@ -91,6 +89,25 @@ impl<D: SupportedDigest, V: VisitBytes, A: Allocator> VecLog<D, V, A> {
             of: PhantomData,
         })
     }
+
+    // The root of the tree over the entries: the digests of the balanced roots, joined from the right.
+    #[tactic(auto, using(crate::proofs::NodeLemmas::last_width))]
+    fn root(&self) -> Hash<D>
+        ensures { result ≡ root_of D.digest self.now }
+    {
+        let mut root = None;
+        let mut end = self.count;
+        'roots: while end > 0 {
+            let start = end - (1 << end.trailing_zeros());
+            let left = &self.tree[start + end - 1];
+            root = Some(match root {
+                Some(right) => hash_branch(left, &right),
+                None => left.copied(),
+            });
+            end = start;
+        }
+        root.unwrap_or(self.spacer.copied())
+    }
 }
 
 impl<D: SupportedDigest, V: VisitBytes, A: Allocator> LogBuilder<D, V> for VecLog<D, V, A> {
@@ -103,15 +120,7 @@ impl<D: SupportedDigest, V: VisitBytes, A: Allocator> LogBuilder<D, V> for VecLo
         ensures length { result.length ≡ length self.now }
         ensures fits { length self.now ≤ 2 ^ 63 }
     {
-        let length = self.length();
-        if length == 0 {
-            return Checkpoint::new(self.spacer.copied(), 0);
-        }
-        let whole = LeafRange::new(0, length);
-        match stored_root::<D, V, Self>(self, &whole) {
-            Some(root) => Checkpoint::new(root, length),
-            None => unreachable!(),
-        }
+        Checkpoint::new(self.root(), self.count)
     }
 
     fn push(&mut self, entry: &V) -> Result<Node, AllocError>
@@ -127,9 +136,9 @@ impl<D: SupportedDigest, V: VisitBytes, A: Allocator> LogBuilder<D, V> for VecLo
         if self.count != 0 {
             self.tree.push_reserved(self.spacer.copied());
         }
-        self.tree.push_reserved(digest.copied());
+        self.tree.push_reserved(digest);
         self.count += 1;
-        join_up(&mut self.tree, leaf, digest);
+        join_up(&mut self.tree, self.count);
         Ok(leaf)
     }
 
@@ -152,24 +161,22 @@ impl<D: SupportedDigest, V: VisitBytes, A: Allocator> LogData<D, V> for VecLog<D
     }
 }
 
-// Fills in the digests of the branches that a new last leaf completes.
-fn join_up<D: SupportedDigest, A: Allocator>(
-    tree: &mut Vec<Hash<D>, A>,
-    leaf: Node,
-    digest: Hash<D>,
-)
-    requires last { end_of leaf.0 ≡ length (leaves_in tree.old.items) }
-    requires slice { IsSliceUpTo D.digest (leaves_in tree.old.items) tree.old.items
-        (height_of leaf.0) }
-    requires digest { digest ≡ root_of D.digest (leaves_below leaf.0 (leaves_in tree.old.items)) }
+// Fills in the digests of the branches that a new last leaf completes: as many as the count of leaves has
+// trailing zeros.
+fn join_up<D: SupportedDigest, A: Allocator>(tree: &mut Vec<Hash<D>, A>, count: usize)
+    requires some { 0 < count }
+    requires fits { count ≤ 2 ^ 63 }
+    requires count { length (leaves_in tree.old.items) ≡ count }
+    requires slice { IsSliceUpTo D.digest (leaves_in tree.old.items) tree.old.items 0 }
     ensures leaves { leaves_in tree.new.items ≡ leaves_in tree.old.items }
     ensures slice { tree.new.items ≡ slice_of D.digest (leaves_in tree.old.items) }
 {
-    let mut node = leaf;
-    let mut digest = digest;
-    'up: while let Side::Right = node.side() {
-        digest = hash_branch(&tree[node.left_sibling().0], &digest);
-        node = node.parent();
-        tree[node.0] = digest.copied();
+    let mut at = 2 * (count - 1);
+    let mut digest = tree[at].copied();
+    'up: for height in 0..count.trailing_zeros() {
+        let distance = 1 << height;
+        digest = hash_branch(&tree[at - 2 * distance], &digest);
+        at -= distance;
+        tree[at] = digest.copied();
     }
 }

@@ -1,40 +1,40 @@
-use Rattle.std.proofs.Common.{◌≡◌, refl, ◌∙◌, arith}
-use Rattle.warg_crypto.specs.Tree.{branch}
-use Rattle.warg_log.proofs.NodeLemmas.{node_at, low_by_end}
-use Rattle.warg_log.proofs.SideLemmas.{left_side}
-use Rattle.warg_log.proofs.SliceLemmas.{inside_slice, sibling_ends, parent_ends, climbed, finished}
+use Rattle.std.proofs.Common.{◌≡◌, ℕ, ◌+◌, ◌-◌, ◌*◌, ◌%◌, ◌≤◌, ◌^◌, ◌∙◌, suc, refl, arith}
+use Rattle.std.proofs.lemmas.Grind.{pow_more}
+use Rattle.std.proofs.lemmas.Nat.{pow_pos}
+use Rattle.warg_log.proofs.NodeLemmas.{smaller_root}
+use Rattle.warg_log.proofs.SliceLemmas.{read_low, joined_up, finished}
 use Rattle.warg_log.proofs.vec_log.join_up.Goals as goal
+use Rattle.warg_log.proofs.vec_log.join_up.Goals.{In-up}
 
-pub side-requires : goal.side-requires
-side-requires g c = low_by_end 63 _ (omega arith)
+-- the height is below that of the last balanced root
+smaller : (g : _) (c : In-up g) → (j : ℕ) × (c.args.count ≡ (j + 1) * 2 ^ suc c.up.height) × (1 * 2 ^ c.up.height % 2 ^ 64 ≡ 2 ^ c.up.height) × (2 * 2 ^ c.up.height ≤ c.args.count)
+smaller g c = smaller_root c.args.count c.up.height c.requires.some (omega arith) c.up-test.true
 
-pub left_sibling-requires-clause-low : goal.left_sibling-requires-clause-low
-left_sibling-requires-clause-low g c = low_by_end 63 _ (omega arith)
+pub up-init : goal.up-init
+up-init g c = record {
+  last = omega arith;
+  slice = c.requires.slice;
+  digest = c.copied-digest.ensures ∙ read_low _ _ _ 0 0 (c.args.count - 1) _ _ c.requires.slice (omega arith) (omega arith) (omega (arith, c.requires.slice.len)) c.index.ensures;
+  leaves = refl;
+}
 
-pub index-requires : goal.index-requires
-index-requires g c = inside_slice _ _ _ (rw (← c.up.invariant.last) (sibling_ends _ _ (c.in-Right.ensures.right refl) c.left_sibling.ensures)) (c.up.tree.ok.0 ∙ c.up.invariant.slice.len)
+pub overflow_sub-at-in-up : goal.overflow_sub-at-in-up
+overflow_sub-at-in-up g c = omega (arith, smaller g c, pow_pos c.up.height)
 
-pub parent-node-requires : goal.parent-node-requires
-parent-node-requires g c = low_by_end 63 _ (omega arith)
-
-pub index_mut-requires : goal.index_mut-requires
-index_mut-requires g c =
-    let last = parent_ends _ _ (c.in-Right.ensures.right refl) c.parent-node.ensures ∙ c.up.invariant.last in
-    inside_slice _ _ _ (omega arith) (c.up.tree.ok.0 ∙ c.up.invariant.slice.len)
-
-pub up-smaller : goal.up-smaller
-up-smaller g c = omega (arith, (node_at _ _ _ c.parent-node.ensures).0, low_by_end 63 c.up.node.0 (omega arith))
+pub overflow_sub-at-in-up-2 : goal.overflow_sub-at-in-up-2
+overflow_sub-at-in-up-2 g c = omega (arith, smaller g (goal.at.overflow_sub-at-in-up-2 g c).In-up, pow_pos c.up.height)
 
 pub up-preserved : goal.up-preserved
 up-preserved g c =
-    let done = climbed _ _ _ _ _ _ _ _ (c.in-Right.ensures.right refl) c.left_sibling.ensures c.parent-node.ensures c.up.invariant.last c.up.invariant.slice c.up.invariant.digest c.index.ensures in
-    let written : c.copied.result ≡ branch g.D.SupportedDigest.digest c.index.result.now c.up.digest = c.copied.ensures ∙ c.hash_branch-digest.ensures in
+    let at = smaller g (goal.at.up-preserved g c).In-up in
+    let written = rw c.hash_branch-digest.ensures at c.copied.ensures in
+    let done = joined_up _ _ _ c.args.count c.up.height at.0 _ c.up.at _ _ c.requires.count at.1 at.2 c.up.invariant.last c.up.invariant.slice c.up.invariant.digest c.index-in-up.ensures in
     record {
-      last = parent_ends _ _ (c.in-Right.ensures.right refl) c.parent-node.ensures ∙ c.up.invariant.last;
+      last = omega (arith, at.2, at.3, pow_more 2 c.up.height);
       slice = rw written done.0;
-      digest = c.hash_branch-digest.ensures ∙ done.1;
-      leaves = rw written done.2 ∙ c.up.invariant.leaves;
+      digest = rw c.hash_branch-digest.ensures done.1;
+      leaves = rw (written, done.2) c.up.invariant.leaves;
     }
 
 pub returns-clause-slice : goal.returns-clause-slice
-returns-clause-slice g c = finished _ _ _ _ c.up.invariant.last (c.side.ensures.left (left_side c.side.result c.in_default.not-Right)) c.up.invariant.slice
+returns-clause-slice g c = finished _ _ _ c.args.count c.up.height c.requires.some (omega arith) c.requires.count c.up-test.false c.up.invariant.slice

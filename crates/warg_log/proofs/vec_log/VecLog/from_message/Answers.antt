@@ -1,4 +1,4 @@
-use Rattle.std.proofs.Common.{◌≡◌, ℕ, false, List, length, sym, ap, ◌∙◌}
+use Rattle.std.proofs.Common.{◌≡◌, ℕ, false, List, length, sym, ap, ◌∙◌, arith}
 use Rattle.warg_protobuf.specs.VecLog.{VecImage, vec_view}
 use Rattle.warg_log.specs.Tree.{leaves_in, slice_of}
 use Rattle.warg_log.specs.Images.{is_slice_of_length}
@@ -17,7 +17,7 @@ slice : (g : _) (c : Else-not-is_slice g)
 slice g c = (slice_decides g.D.SupportedDigest.digest _ _).0 (rw c.as_slice-2.ensures.value at (sym c.is_slice.ensures ∙ c.if-not-is_slice.false))
 
 pub invariant_of-result : goal.invariant_of-result
-invariant_of-result g c = let p = slice g (goal.at.invariant_of-result g c).Else-not-is_slice in (sym p.0, p.1, c.hash_empty-spacer.ensures)
+invariant_of-result g c = let p = slice g (goal.at.invariant_of-result g c).Else-not-is_slice in (sym p.0, p.1, c.hash_empty-spacer.ensures, omega arith)
 
 pub returns-clause-message : goal.returns-clause-message
 returns-clause-message g c =
