@@ -5,7 +5,7 @@ use Rattle.warg_witness.specs.Ranges.{IsPart}
 use Rattle.warg_witness.specs.Placed.{IsPlacedInBoth}
 use Rattle.warg_witness.specs.Private.Divergence.{MeetAt, DivergesAt}
 use Rattle.warg_witness.proofs.RangeLemmas.{Digest, IsPart-trans, wider, part_in}
-use Rattle.warg_witness.proofs.DescentLemmas.{plain_digest_is, own_input}
+use Rattle.warg_witness.proofs.CutLemmas.{plain_digest_is, own_input}
 use Rattle.warg_witness.proofs.ShownLemmas.{Shows}
 
 module _ (H : Digest) (old new : List (List ℕ)) (place a n : ℕ) (in_old : IsPart 0 (length old) a n) (in_new : IsPart 0 (length new) a n) where

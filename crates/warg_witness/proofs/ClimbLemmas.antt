@@ -1,35 +1,52 @@
 -- One step up of two evaluations.
-use Rattle.std.proofs.Common.{◌≡◌, ℕ, Bool, true, false, cond, List, length, inl, inr, refl, sym, ap, ◌∙◌}
+use Rattle.std.proofs.Common.{◌≡◌, ℕ, Bool, true, false, cond, List, length, Option, Some, None, inl, inr, refl, sym, ◌∙◌}
+use Rattle.warg_crypto.proofs.ForCallers.{branch_parts, same_or_not}
+use Rattle.warg_crypto.specs.Collisions.{Collides}
 use Rattle.warg_crypto.specs.Tree.{branch_input, input_beside}
-use Rattle.warg_witness.specs.Private.Climbs.{IsUp}
-use Rattle.warg_witness.specs.declared.descent.Divergence.{Divergence}
-use Rattle.warg_witness.specs.declared.descent.Divergence.TheVariants.{Branch}
-use Rattle.warg_witness.proofs.DescentLemmas.{inputs_differ}
+use Rattle.warg_log.specs.Cut.{joined}
+use Rattle.warg_witness.specs.Private.Climbs.{DivergesUp, IsUp}
+use Rattle.warg_witness.specs.declared.climb.Divergence.{Divergence}
+use Rattle.warg_witness.specs.declared.climb.Divergence.TheVariants.{Branch}
 
--- l and r are the left and the right one of a digest x and the digest u beside it
-pub record AreParts (b : Bool) (x u l r : List ℕ) : Type 0 where
-  pub left : l ≡ cond b u x
-  pub right : r ≡ cond b x u
+-- the inputs of two branches differ where one part does
+pub inputs_differ : (a b c d : List ℕ) → length a ≡ length c → ((a ≡ c) × (b ≡ d) → ⊥) → branch_input a b ≡ branch_input c d → ⊥
+inputs_differ a b c d len other e = other (branch_parts a b c d len e)
 
-parts_input : {b : Bool} {x u l r : List ℕ} → AreParts b x u l r → branch_input l r ≡ input_beside b u x
-parts_input parts = rw (parts.left, parts.right) refl
+module _ {D : Type 0} {H : List ℕ → List ℕ} (b : Bool) {x u y v : List ℕ} {p : Divergence D} where
+  -- a step with equal parts, and one with different ones
+  pub up_same : (cond b u x ≡ cond b v y) × (cond b x u ≡ cond b y v) → IsUp H b x u y v p (H (input_beside b u x)) (H (input_beside b v y)) p
+  up_same same = record { first_is = refl; second_is = refl; diverges = at b same }
+    where
+      at : (b : Bool) → (cond b u x ≡ cond b v y) × (cond b x u ≡ cond b y v) → DivergesUp b x u y v p p
+      at true same = inl (same.1, same.0, refl)
+      at false same = inl (same.0, same.1, refl)
 
--- of equal parts the ones below are equal, and those beside them
-pub same_parts : (b : Bool) {x u y v l r l' r' : List ℕ} → AreParts b x u l r → AreParts b y v l' r' → (l ≡ l') × (r ≡ r') → (x ≡ y) × (u ≡ v)
-same_parts true parts others same = (sym parts.right ∙ same.1 ∙ others.right, sym parts.left ∙ same.0 ∙ others.left)
-same_parts false parts others same = (sym parts.left ∙ same.0 ∙ others.left, sym parts.right ∙ same.1 ∙ others.right)
+  pub up_differs : length (cond b u x) ≡ length (cond b v y) → ((cond b u x ≡ cond b v y) × (cond b x u ≡ cond b y v) → ⊥)
+      → IsUp H b x u y v p (H (input_beside b u x)) (H (input_beside b v y)) (Branch (cond b u x) (cond b x u) (cond b v y) (cond b y v))
+  up_differs sizes differ = record { first_is = refl; second_is = refl; diverges = inr (inputs_differ _ _ _ _ sizes differ, refl) }
 
-module _ {D : Type 0} {H : List ℕ → List ℕ} {b : Bool} {x u y v l r l' r' first second : List ℕ} {p : Divergence D} (parts : AreParts b x u l r) (others : AreParts b y v l' r')
-    (first_is : first ≡ H (branch_input l r)) (second_is : second ≡ H (branch_input l' r')) where
-  -- a step with equal parts
-  pub up_same : (l ≡ l') × (r ≡ r') → IsUp H b x u y v p first second p
-  up_same same = let below = same_parts b parts others same in
-      record { first_is = first_is ∙ ap H (parts_input parts); second_is = second_is ∙ ap H (parts_input others); diverges = inl (below.0, below.1, refl) }
+-- a step from digests of one length, with digests of one length beside them
+pub up_somewhere : {D : Type 0} {H : List ℕ → List ℕ} (b : Bool) {x u y v : List ℕ} (p : Divergence D) → length x ≡ length y → length u ≡ length v
+    → (q : Divergence D) × IsUp H b x u y v p (H (input_beside b u x)) (H (input_beside b v y)) q
+up_somewhere b {x} {u} {y} {v} p sizes others = elim (same_or_not (input_beside b u x) (input_beside b v y)) [
+  | inl same ↦ (p, up_same b (branch_parts _ _ _ _ (size b) same))
+  | inr differ ↦ (Branch (cond b u x) (cond b x u) (cond b v y) (cond b y v), record { first_is = refl; second_is = refl; diverges = inr (differ, refl) })
+]
+  where
+    size : (b : Bool) → length (cond b u x) ≡ length (cond b v y)
+    size true = others
+    size false = sizes
 
-  -- a step with different ones
-  pub up_differs : length l ≡ length l' → ((l ≡ l') × (r ≡ r') → ⊥) → IsUp H b x u y v p first second (Branch l r l' r')
-  up_differs sizes other = record {
-    first_is = first_is ∙ ap H (parts_input parts);
-    second_is = second_is ∙ ap H (parts_input others);
-    diverges = inr ((λ e. inputs_differ l r l' r' sizes other (parts_input parts ∙ e ∙ sym (parts_input others))), (sym (parts_input parts), sym (parts_input others)));
-  }
+-- where two evaluations come to one digest they diverge below, from one digest and with one beside it, or at inputs that collide
+pub up_diverges : {D : Type 0} {H : List ℕ → List ℕ} {b : Bool} {x u y v first second : List ℕ} {p q : Divergence D} (P : Divergence D → Type 0) → IsUp H b x u y v p first second q
+    → (x ≡ y → u ≡ v → P p) → (Collides H (input_beside b u x, input_beside b v y) → P (Branch (cond b u x) (cond b x u) (cond b v y) (cond b y v))) → first ≡ second → P q
+up_diverges P up below here one = elim up.diverges [
+  | inl same ↦ rw same.2 (below same.0 same.1)
+  | inr other ↦ rw other.1 (here (record { differ = other.0; same = sym up.first_is ∙ one ∙ up.second_is }))
+]
+
+-- a branch that is there has both its parts
+pub both_there : (H : List ℕ → List ℕ) (left right : Option (List ℕ)) (d : List ℕ) → joined H left right ≡ Some d → (l : List ℕ) × (r : List ℕ) × (left ≡ Some l) × (right ≡ Some r)
+both_there H (Some l) (Some r) d is = (l, r, refl, refl)
+both_there H (Some l) None d is = absurd (cc)
+both_there H None right d is = absurd (cc)

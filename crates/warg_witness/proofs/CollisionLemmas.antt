@@ -2,27 +2,28 @@
 use Rattle.std.proofs.Common.{◌≡◌, ℕ, zero, suc, ◌+◌, ◌-◌, ◌<◌, ◌≤◌, ◌⊎◌, inl, inr, List, [], ◌∷◌, length, get_or, refl, sym, ◌∙◌, arith, ◌^◌, Some}
 use Rattle.std.proofs.lemmas.Bool.{cases_lt}
 use Rattle.std.proofs.lemmas.Bool.Decides.{nat_tests}
-use Rattle.warg_crypto.proofs.ForCallers.{same_or_not, branch_parts}
+use Rattle.warg_crypto.proofs.ForCallers.{same_or_not}
 use Rattle.warg_log.specs.Tree.{front_of, leaves_of, root_of, root_over, own_digest}
 use Rattle.warg_log.specs.Cut.{cut_over}
-use Rattle.warg_witness.specs.Ranges.{IsPart, IsAround}
+use Rattle.warg_witness.specs.Ranges.{IsAround}
 use Rattle.warg_witness.specs.Claims.{Begins, IsMet, IsEntry, IsRootBelow, IsAgreement, IsConsistencyMet}
 use Rattle.warg_crypto.specs.Tree.{branch_input}
 use Rattle.warg_crypto.specs.Collisions.{SomeCollision}
 use Rattle.warg_witness.specs.Laws.{HoldsHashes}
 use Rattle.warg_log.specs.Ranges.{IsAligned}
 use Rattle.warg_witness.specs.Private.Ranges.{IsNodeRange}
-use Rattle.warg_witness.specs.Private.Divergence.{HaveOneDigest, MeetAt, DivergesAt}
-use Rattle.warg_witness.specs.declared.descent.Divergence.{Divergence}
-use Rattle.warg_witness.proofs.RangeLemmas.{Digest, Data, more_than_one, node_some, wider, side_is_part, side_aligned, side_around, leaf_node, node_aligned, whole_aligned}
+use Rattle.warg_witness.specs.Private.Divergence.{HaveOneDigest, MeetAt, DivergesAt, IsDivergence}
+use Rattle.warg_witness.specs.Private.RangeClimbs.{IsRangeClimb}
+use Rattle.warg_witness.specs.declared.climb.Divergence.{Divergence}
+use Rattle.warg_witness.proofs.RangeLemmas.{Digest, Data, more_than_one, node_some, wider, near_side, side_aligned, side_around, leaf_node, node_aligned, whole_aligned}
+use Rattle.warg_witness.proofs.ClimbLemmas.{up_somewhere}
 use Rattle.warg_witness.proofs.RootLemmas.{Root, full_node, full_or_not, front_node, rest_aligned, root_full, root_front, root_rest}
-use Rattle.warg_witness.proofs.DescentLemmas.{same_at_side, meets_here, sides_of, diverges_at, length-leaves, DivergesFrom, Meets, have_root, have_range, plain_digest_is}
+use Rattle.warg_witness.proofs.CutLemmas.{ranges_start, sides_there, ranges_up, length-leaves, DivergesFrom, Meets, have_root, have_range, plain_digest_is}
 use Rattle.std.proofs.lemmas.Nat.{pow_pos}
 use Rattle.warg_log.specs.Nodes.{height_of, place_of, start_of, node_over}
-use Rattle.warg_witness.specs.Ranges.IsPart.{whole}
 use Rattle.warg_witness.specs.Placed.{IsValuePlaced, IsHashPlaced, IsAgreementPlaced, IsConsistencyPlaced}
 use Rattle.warg_witness.specs.Private.Meeting.{IsConsistencyMeeting}
-use Rattle.warg_witness.specs.declared.descent.Divergence.TheVariants.{Target}
+use Rattle.warg_witness.specs.declared.climb.Divergence.TheVariants.{Target, Branch}
 use Rattle.warg_witness.proofs.ShownLemmas.{Shows, entry_from, value_placed, value_meets, hash_placed, agreement_placed, agreement_meets}
 use Rattle.warg_witness.proofs.ConsistencyLemmas.{trees_consistent, root_leads, old_placed, new_placed, below_placed, leaves_shown}
 use Rattle.warg_log.specs.Claims.{InclusionClaim}
@@ -46,32 +47,36 @@ difference (x ∷ old) (y ∷ new) order other = elim (same_or_not x y) [
   | inr differ ↦ (0, omega arith, differ)
 ]
 
--- two trees of one digest at a range diverge on the way down to the target, or have one digest there
-module _ (H : Digest) (F : Data) (x : List ℕ) (G : Data) (y : List ℕ) (s w a₀ n₀ : ℕ) (P : List ℕ → List ℕ → Type 0) where
-  pub diverged : HasSize H → HoldsHashes F → HoldsHashes G → length x ≡ 32 → length y ≡ 32 → IsNodeRange s w
-      → ((first second : List ℕ) → DivergesAt H F x G y s w a₀ n₀ first second → P first second)
-      → (MeetAt x y s w a₀ n₀ → SomeCollision H P) → (k a n : ℕ) → n ≤ k → IsPart a₀ n₀ a n → IsAligned a n → IsAround s w a n → HaveOneDigest H F x G y s w a n → SomeCollision H P
-  diverged gives holds holds' size size' node place meets zero a n le part aligned around one = let some = node_some node in absurd (omega arith)
-  diverged gives holds holds' size size' node place meets (suc k) a n le part aligned around one = elim (target_or_other s w a n) [
-    | inl here ↦ meets (meets_here H here.0 here.1 part one)
+-- two evaluations with digests at a range go up to it
+module _ (H : Digest) (F : Data) (x : List ℕ) (G : Data) (y : List ℕ) (s w : ℕ) where
+  climbed : HasSize H → HoldsHashes F → HoldsHashes G → length x ≡ 32 → length y ≡ 32 → IsNodeRange s w → (k a n : ℕ) → n ≤ k → IsAligned a n → IsAround s w a n
+      → (d e : List ℕ) → cut_over H F x s w a n ≡ Some d → cut_over H G y s w a n ≡ Some e
+      → (first : List ℕ) × (second : List ℕ) × (p : SomeDivergence) × IsRangeClimb H F x G y s w a n first second p
+  climbed gives holds holds' size size' node zero a n le aligned around d e is is' = let some = node_some node in absurd (omega arith)
+  climbed gives holds holds' size size' node (suc k) a n le aligned around d e is is' = elim (target_or_other s w a n) [
+    | inl here ↦ (x, y, Target, ranges_start here.0 here.1 refl refl refl)
     | inr other ↦
-        let some = node_some node in
-        let more : 1 < n = let wide = wider around other in omega arith in
-        let first = sides_of H some around other F x one.digest one.first in
-        let second = sides_of H some around other G y one.digest one.second in
-        let first_size = cut_size H F x s w a (front_of n) first.0 gives holds size first.2.left in
-        let second_size = cut_size H G y s w a (front_of n) second.0 gives holds' size' second.2.left in
-        elim (same_or_not (branch_input first.0 first.1) (branch_input second.0 second.1)) [
-          | inl same ↦
-              let side = side_around node aligned around other in
-              diverged gives holds holds' size size' node place meets k side.0 side.1 (omega arith) (side_is_part side.0 side.1 part more side.2)
-              (side_aligned side.0 side.1 aligned more side.2) side.3
-              (same_at_side side.0 side.1 first.2 second.2 (branch_parts first.0 first.1 second.0 second.1 (first_size ∙ sym second_size) same) side.2)
-          | inr differ ↦
-              let at = diverges_at H some around other part one first.2 second.2 differ in
-              record { first = branch_input first.0 first.1; second = branch_input second.0 second.1; collide = record { differ = differ; same = at.same }; placed = place _ _ at }
-        ]
+        let more : 1 < n = let wide = wider around other in let some = node_some node in omega arith in
+        let (right, b, m, c, j, sides, at, smaller) = side_around node aligned around other in
+        let first = sides_there H (node_some node) around other F x sides is in
+        let second = sides_there H (node_some node) around other G y sides is' in
+        let below = climbed gives holds holds' size size' node k b m (omega arith) (side_aligned b m aligned more (near_side sides)) at first.0 second.0 first.2 second.2 in
+        let near = cut_size H F x s w b m _ gives holds size below.3.first_is ∙ sym (cut_size H G y s w b m _ gives holds' size' below.3.second_is) in
+        let far = cut_size H F x s w c j _ gives holds size first.3 ∙ sym (cut_size H G y s w c j _ gives holds' size' second.3) in
+        let step = up_somewhere right below.2 near far in
+        (H _, H _, step.0, ranges_up H (node_some node) around other F x G y sides below.3 first.3 second.3 step.1)
   ]
+
+-- so two with one digest there diverge on the way, or have one digest at the target
+diverged : {H : Digest} {F : Data} {x : List ℕ} {G : Data} {y : List ℕ} {s w a n : ℕ} {P : List ℕ → List ℕ → Type 0} → HasSize H → HoldsHashes F → HoldsHashes G → length x ≡ 32 → length y ≡ 32 → IsNodeRange s w
+    → ((first second : List ℕ) → DivergesAt H F x G y s w a n first second → P first second) → (MeetAt x y s w a n → SomeCollision H P) → IsAligned a n → IsAround s w a n
+    → HaveOneDigest H F x G y s w a n → SomeCollision H P
+diverged {H} {F} {x} {G} {y} {s} {w} {a} {n} {P} gives holds holds' size size' node place meets aligned around one =
+    let climb = climbed H F x G y s w gives holds holds' size size' node n a n (omega arith) aligned around one.digest one.digest one.first one.second in at climb.2 (climb.3.diverges (cc (climb.3.first_is, climb.3.second_is)))
+  where
+    at : (p : SomeDivergence) → IsDivergence H F x G y s w a n p → SomeCollision H P
+    at Target is = meets is
+    at (Branch l r l' r') is = record { first = branch_input l r; second = branch_input l' r'; collide = record { differ = is.differ; same = is.same }; placed = place _ _ is }
 
 -- the balanced root of a range around a place
 root_found : (place k a n : ℕ) → n ≤ k → IsAligned a n → a ≤ place → place < a + n → (s : ℕ) × (w : ℕ) × Root s w a n × IsAround place 1 s w
@@ -117,8 +122,7 @@ module _ (H : Digest) where
       let ds = leaves_of H entries in
       let n = length ds in
       let some = node_some node in
-      diverged H F x (own_digest H ds) (root_over H ds s w) s w 0 n _ gives holds (own_holds entries gives) size (root_size entries s w gives some within) node place meets
-      n 0 n (omega arith) whole (whole_aligned n) (omega arith) (have_root H ds s w leads (omega arith))
+      diverged gives holds (own_holds entries gives) size (root_size entries s w gives some within) node place meets (whole_aligned n) (omega arith) (have_root H ds s w leads (omega arith))
 
   -- a claim that is met leads to the root of the tree
   leads_to : {F : Data} {p : InclusionClaim} {digest : List ℕ} {entries : List (List ℕ)} → IsMet H F p digest entries → let ds = leaves_of H entries in let node = p.leaf.0 in
@@ -147,9 +151,9 @@ module _ (H : Digest) where
       let n = p.log_length in
       let first = (inclusion_leads H F p _ met.root).0 met.first_is in
       let second = (inclusion_leads H G p _ met.root).0 met.second_is in
-      diverged H F (H (0 ∷ value)) G (H (0 ∷ other)) (start_of node) (2 ^ height_of node) 0 n _ gives holds holds' (gives (0 ∷ value)) (gives (0 ∷ other)) (node_range node)
+      diverged gives holds holds' (gives (0 ∷ value)) (gives (0 ∷ other)) (node_range node)
       (agreement_placed H F value G other node n) (λ meets. shown_collides _ (agreement_meets H F value G other node n false_claim meets))
-      n 0 n (omega arith) whole (whole_aligned n) (omega arith) (record { digest = met.root; first = first.1; second = second.1 })
+      (whole_aligned n) (omega arith) (record { digest = met.root; first = first.1; second = second.1 })
 
   -- the balanced root around a difference shows a collision
   pub consistency_collides : (F : Data) (m n : ℕ) (old new : List (List ℕ)) → HasSize H → HoldsHashes F → IsConsistencyMet H F m n old new → (Begins old new → ⊥)
@@ -166,8 +170,8 @@ module _ (H : Digest) where
       let size = holds _ _ at.held in
       from_tree old gives holds size at.node at.in_old at.to_old (old_placed is at)
       (λ in_old. from_tree new gives holds size at.node at.in_new at.to_new (new_placed is at)
-      (λ in_new. diverged H (own_digest H ds) (root_over H ds place 1) (own_digest H es) (root_over H es place 1) place 1 root.0 root.1 _ gives (own_holds old gives) (own_holds new gives)
+      (λ in_new. diverged gives (own_holds old gives) (own_holds new gives)
       (root_size old place 1 gives (omega arith) (omega arith)) (root_size new place 1 gives (omega arith) (omega arith)) (leaf_node place)
       (below_placed is at place in_new.part)
       (λ meets. shown_collides _ (leaves_shown is at place in_new.part meets found.2))
-      root.1 root.0 root.1 (omega arith) whole (node_aligned at.node) root.3 (have_range H ds es place 1 (node_aligned at.node) (node_some at.node) at.in_old at.in_new (sym in_old.same ∙ in_new.same))))
+      (node_aligned at.node) root.3 (have_range H ds es place 1 (node_aligned at.node) (node_some at.node) at.in_old at.in_new (sym in_old.same ∙ in_new.same))))

@@ -16,7 +16,7 @@ use Rattle.warg_witness.specs.Placed.{IsConsistencyPlaced}
 use Rattle.warg_witness.specs.Private.Compared.{DiffersFirst}
 use Rattle.warg_witness.specs.Private.Meeting.{IsConsistencyMeeting, LeadsToBoth}
 use Rattle.warg_witness.specs.Private.Divergence.{MeetAt, DivergesAt}
-use Rattle.warg_witness.proofs.DescentLemmas.{length-leaves, DivergesFrom, own_second}
+use Rattle.warg_witness.proofs.CutLemmas.{length-leaves, DivergesFrom, own_second}
 use Rattle.warg_witness.proofs.ShownLemmas.{Shows, hash_placed}
 use Rattle.warg_witness.proofs.BothLemmas.{both_placed, both_meet}
 use Rattle.warg_log.proofs.ForCallers.{cut_old, cut_parts, cut_target, front_is_greatest, old_full, old_parts}

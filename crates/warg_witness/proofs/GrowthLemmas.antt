@@ -19,8 +19,8 @@ use Rattle.warg_witness.specs.Private.Compared.{DiffersFirst}
 use Rattle.warg_witness.specs.Private.Divergence.{IsDivergence, inputs_of}
 use Rattle.warg_witness.specs.Private.PathDivergence.{tree_input, IsBranchDivergence}
 use Rattle.warg_witness.specs.Private.TreeDivergence.{IsTreeMeeting, LeadsOver, IsTurnDivergence, IsOnWayOver, IsTreeShown, IsTreeDivergence}
-use Rattle.warg_witness.specs.declared.descent.Divergence.{Divergence}
-use Rattle.warg_witness.specs.declared.descent.Divergence.TheVariants.{Target, Branch}
+use Rattle.warg_witness.specs.declared.climb.Divergence.{Divergence}
+use Rattle.warg_witness.specs.declared.climb.Divergence.TheVariants.{Target, Branch}
 use Rattle.warg_witness.proofs.RangeLemmas.{Digest}
 use Rattle.warg_witness.proofs.ShownLemmas.{shown}
 use Rattle.warg_witness.proofs.ConsistencyLemmas.{entry_at}

@@ -8,8 +8,8 @@ use Rattle.warg_witness.specs.MapClaims.{IsKeyAgreement}
 use Rattle.warg_witness.specs.MapPlaced.{IsKeyAgreementPlaced}
 use Rattle.warg_witness.specs.Private.MapPaths.{IsPathDivergence}
 use Rattle.warg_witness.specs.Private.Divergence.{inputs_of}
-use Rattle.warg_witness.specs.declared.descent.Divergence.{Divergence}
-use Rattle.warg_witness.specs.declared.descent.Divergence.TheVariants.{Target, Branch}
+use Rattle.warg_witness.specs.declared.climb.Divergence.{Divergence}
+use Rattle.warg_witness.specs.declared.climb.Divergence.TheVariants.{Target, Branch}
 use Rattle.warg_witness.proofs.ShownLemmas.{Shows}
 use Rattle.warg_witness.proofs.CollisionLemmas.{shown_collides}
 use Rattle.warg_witness.proofs.PathLemmas.{diverged_on_path}

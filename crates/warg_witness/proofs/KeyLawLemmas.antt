@@ -14,7 +14,7 @@ use Rattle.warg_witness.specs.Laws.{HoldsPeers}
 use Rattle.warg_witness.specs.MapClaims.{value_in, IsLastValue, IsKeyMet, IsAbsenceMet}
 use Rattle.warg_witness.specs.MapPlaced.{IsKeyPlaced}
 use Rattle.warg_witness.specs.Private.MapPaths.{plain_peers}
-use Rattle.warg_witness.specs.declared.descent.Divergence.TheVariants.{Target}
+use Rattle.warg_witness.specs.declared.climb.Divergence.TheVariants.{Target}
 use Rattle.warg_witness.proofs.CollisionLemmas.{SomeDivergence, target_or_not, shown_collides}
 use Rattle.warg_witness.proofs.LastLemmas.{some_same}
 use Rattle.warg_witness.proofs.PathLemmas.{diverged_on_path}

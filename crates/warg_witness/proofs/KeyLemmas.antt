@@ -17,8 +17,8 @@ use Rattle.warg_witness.specs.Private.MapPaths.{IsPathDivergence, MeetsOnPath, I
 use Rattle.warg_witness.specs.Private.MapMeeting.{IsKeyMeeting}
 use Rattle.warg_crypto.specs.Collisions.{GivesHashes, Collides}
 use Rattle.warg_witness.specs.Private.Divergence.{DivergesAtBranch, inputs_of}
-use Rattle.warg_witness.specs.declared.descent.Divergence.{Divergence}
-use Rattle.warg_witness.specs.declared.descent.Divergence.TheVariants.{Target, Branch}
+use Rattle.warg_witness.specs.declared.climb.Divergence.{Divergence}
+use Rattle.warg_witness.specs.declared.climb.Divergence.TheVariants.{Target, Branch}
 use Rattle.warg_witness.proofs.LastLemmas.{last_with-passes, last_with-contains, last_of_digest, none_of_digest, last_at, last_none}
 use Rattle.warg_witness.proofs.ShownLemmas.{Shows}
 use Rattle.warg_witness.proofs.PlainPathLemmas.{plain_value, plain_leaf_is, plain_input_is, length-plain_peers}

@@ -1,6 +1,6 @@
 pub mod RangeLemmas
-pub mod DescentLemmas
 pub mod ClimbLemmas
+pub mod CutLemmas
 pub mod HashLemmas
 pub mod ShownLemmas
 pub mod BothLemmas

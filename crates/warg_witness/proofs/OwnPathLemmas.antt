@@ -16,10 +16,10 @@ use Rattle.warg_witness.specs.PathPlaced.IsOnWay.{whole, front, rest}
 use Rattle.warg_witness.specs.Private.Divergence.{inputs_of}
 use Rattle.warg_witness.specs.Private.PathDivergence.{IsPathMeeting, tree_input}
 use Rattle.warg_witness.specs.Private.PathClimbs.{PathsPart, DivergesFromTree}
-use Rattle.warg_witness.specs.declared.descent.Divergence.{Divergence}
-use Rattle.warg_witness.specs.declared.descent.Divergence.TheVariants.{Target, Branch}
+use Rattle.warg_witness.specs.declared.climb.Divergence.{Divergence}
+use Rattle.warg_witness.specs.declared.climb.Divergence.TheVariants.{Target, Branch}
 use Rattle.warg_witness.proofs.RangeLemmas.{Digest, whole_aligned, side_aligned}
-use Rattle.warg_witness.proofs.DescentLemmas.{length-leaves, plain_digest_is}
+use Rattle.warg_witness.proofs.CutLemmas.{length-leaves, plain_digest_is}
 use Rattle.warg_witness.proofs.ShownLemmas.{Shows}
 use Rattle.warg_witness.proofs.ConsistencyLemmas.{entry_at}
 

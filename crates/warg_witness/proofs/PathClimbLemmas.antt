@@ -1,17 +1,19 @@
 -- Two evaluations along paths of one place, side by side.
-use Rattle.std.proofs.Common.{◌≡◌, ℕ, ◌+◌, ◌-◌, ◌<◌, ◌≤◌, false, true, List, [], ◌∷◌, length, Option, Some, None, inl, inr, refl, sym, ap, subst, ◌∙◌, arith, reverse}
+use Rattle.std.proofs.Common.{◌≡◌, ℕ, ◌+◌, ◌-◌, ◌<◌, ◌≤◌, false, true, List, [], ◌∷◌, length, Some, refl, sym, ap, subst, ◌∙◌, arith, reverse}
 use Rattle.std.proofs.lemmas.Bool.{lt-ltb, le-ltb}
 use Rattle.warg_log.specs.Tree.{front_of}
 use Rattle.warg_log.specs.Cut.{joined}
 use Rattle.warg_paths.specs.Paths.{root_down}
 use Rattle.warg_paths.proofs.ForCallers.{root_one, root_long}
-use Rattle.warg_witness.specs.PathPlaced.{IsRecordAgreementPlaced, turn_input}
+use Rattle.warg_crypto.specs.Collisions.{Collides}
+use Rattle.warg_witness.specs.PathPlaced.{IsOnWay, IsRecordAgreementPlaced, turn_input}
 use Rattle.warg_witness.specs.PathPlaced.IsOnWay.{whole, front, rest}
-use Rattle.warg_witness.specs.Private.Climbs.{IsBranchAt, IsUp}
+use Rattle.warg_witness.specs.Private.Climbs.{IsUp}
 use Rattle.warg_witness.specs.Private.Divergence.{inputs_of}
-use Rattle.warg_witness.specs.Private.PathClimbs.{LeadNowhere, PathsPart, IsPathsDivergence, IsPathClimb, NeverMeet, IsPathsMeeting}
-use Rattle.warg_witness.specs.declared.descent.Divergence.{Divergence}
-use Rattle.warg_witness.specs.declared.descent.Divergence.TheVariants.{Target, Branch}
+use Rattle.warg_witness.specs.Private.PathClimbs.{LeadNowhere, PathsDiverge, PathsPart, IsPathsDivergence, IsPathClimb, NeverMeet, IsPathsMeeting}
+use Rattle.warg_witness.specs.declared.climb.Divergence.{Divergence}
+use Rattle.warg_witness.specs.declared.climb.Divergence.TheVariants.{Target, Branch}
+use Rattle.warg_witness.proofs.ClimbLemmas.{up_diverges, both_there}
 use Rattle.warg_witness.proofs.RangeLemmas.{Digest}
 use Rattle.warg_witness.proofs.ShownLemmas.{Shows}
 use Rattle.warg_witness.proofs.RecordLemmas.{leads_inside, inside_leads, none_leads, front_leads, rest_leads}
@@ -34,12 +36,11 @@ climb_starts {D} H {x} {y} m a n path other one inside none others first second 
     empty (d ∷ path) is = absurd (omega arith)
 
 -- the ranges on both ways, with the part that has the leaf
-module _ {D : Type 0} (H : Digest) (x t : List ℕ) (ds : List (List ℕ)) (y u : List ℕ) (es : List (List ℕ)) (m a n : ℕ) (more : 1 < n) where
-  -- where the inputs at a range differ and have one digest
-  diverges_at : {i j : List ℕ} (p : Divergence D) → turn_input H x m n t ds ≡ Some i → turn_input H y m n u es ≡ Some j → (i ≡ j → ⊥) → H i ≡ H j → IsBranchAt i j p
-      → IsPathsDivergence H x (t ∷ ds) y (u ∷ es) m a n p
-  diverges_at Target first second differ same at = absurd at
-  diverges_at (Branch l r l' r') first second differ same at = λ m₀ a₀ n₀ digests₀ other_digests₀ way other_way. record {
+module _ (H : Digest) (x t : List ℕ) (ds : List (List ℕ)) (y u : List ℕ) (es : List (List ℕ)) (m a n : ℕ) (more : 1 < n) where
+  -- where the inputs at a range collide
+  diverges_at : {i j : List ℕ} → turn_input H x m n t ds ≡ Some i → turn_input H y m n u es ≡ Some j → Collides H (i, j) → (m₀ a₀ n₀ : ℕ) (digests₀ other_digests₀ : List (List ℕ))
+      → IsOnWay m₀ a₀ n₀ digests₀ m a n (t ∷ ds) → IsOnWay m₀ a₀ n₀ other_digests₀ m a n (u ∷ es) → PathsDiverge H x digests₀ y other_digests₀ m₀ a₀ n₀ i j
+  diverges_at first second collides m₀ a₀ n₀ digests₀ other_digests₀ way other_way = record {
     leaf = m;
     from = a;
     count = n;
@@ -49,50 +50,34 @@ module _ {D : Type 0} (H : Digest) (x t : List ℕ) (ds : List (List ℕ)) (y u 
     other_below = es;
     on_way = way;
     other_on_way = other_way;
-    first_evaluation = first ∙ ap Some at.0;
-    second_evaluation = second ∙ ap Some at.1;
-    differ = λ e. differ (at.0 ∙ e ∙ sym at.1);
-    same = sym (ap H at.0) ∙ same ∙ ap H at.1;
+    first_evaluation = first;
+    second_evaluation = second;
+    differ = collides.differ;
+    same = collides.same;
   }
 
-  module _ {b c d e : List ℕ} (p q : Divergence D) where
+  module _ {D : Type 0} {b c d e : List ℕ} {p q : Divergence D} where
     -- up from the first part
     pub front_up : m < front_of n → IsPathClimb H x ds y es m a (front_of n) b c p → IsUp H false b t c u p d e q → IsPathClimb H x (t ∷ ds) y (u ∷ es) m a n d e q
     front_up lt climb up = record {
       first_is = front_leads H m n x t ds more lt ∙ ap (λ l. joined H l (Some t)) climb.first_is ∙ ap Some (sym up.first_is);
       second_is = front_leads H m n y u es more lt ∙ ap (λ l. joined H l (Some u)) climb.second_is ∙ ap Some (sym up.second_is);
-      diverges = λ same. elim up.diverges [
-        | inl below ↦ rw below.2 (λ m₀ a₀ n₀ digests₀ other_digests₀ way other_way. climb.diverges below.0 m₀ a₀ n₀ digests₀ other_digests₀ (front m a n t ds way more lt) (front m a n u es other_way more lt))
-        | inr here ↦
-            diverges_at q (rw (lt-ltb m (front_of n) lt, climb.first_is) refl) (rw (lt-ltb m (front_of n) lt, climb.second_is) refl) here.0
-            (sym up.first_is ∙ same ∙ up.second_is) here.1
-      ];
+      diverges = up_diverges (IsPathsDivergence H x (t ∷ ds) y (u ∷ es) m a n) up
+          (λ same _ m₀ a₀ n₀ digests₀ other_digests₀ way other_way. climb.diverges same m₀ a₀ n₀ digests₀ other_digests₀ (front m a n t ds way more lt) (front m a n u es other_way more lt))
+          (diverges_at (rw (lt-ltb m (front_of n) lt, climb.first_is) refl) (rw (lt-ltb m (front_of n) lt, climb.second_is) refl));
     }
 
     -- up from the rest
     pub rest_up : front_of n ≤ m → IsPathClimb H x ds y es (m - front_of n) (a + front_of n) (n - front_of n) b c p → IsUp H true b t c u p d e q → IsPathClimb H x (t ∷ ds) y (u ∷ es) m a n d e q
-    rest_up le climb up = record {
-      first_is = rest_leads H m n x t ds more le ∙ ap (λ r. joined H (Some t) r) climb.first_is ∙ ap Some (sym up.first_is);
-      second_is = rest_leads H m n y u es more le ∙ ap (λ r. joined H (Some u) r) climb.second_is ∙ ap Some (sym up.second_is);
-      diverges = λ same. elim up.diverges [
-        | inl below ↦ rw below.2 (λ m₀ a₀ n₀ digests₀ other_digests₀ way other_way.
-            let at : a + front_of n + (m - front_of n) ≡ a + m = omega arith in
-            subst (λ place. PathsPart H x digests₀ y other_digests₀ m₀ a₀ n₀ place p) at
-            (climb.diverges below.0 m₀ a₀ n₀ digests₀ other_digests₀ (rest m a n t ds way more le) (rest m a n u es other_way more le)))
-        | inr here ↦
-            diverges_at q (rw (le-ltb m (front_of n) le, climb.first_is) refl) (rw (le-ltb m (front_of n) le, climb.second_is) refl) here.0
-            (sym up.first_is ∙ same ∙ up.second_is) here.1
-      ];
-    }
-
--- a path that leads somewhere does so in the part that has the leaf
-left_there : (H : Digest) (part : Option (List ℕ)) (top root : List ℕ) → joined H part (Some top) ≡ Some root → (l : List ℕ) × (part ≡ Some l)
-left_there H (Some l) top root is = (l, refl)
-left_there H None top root is = absurd (cc)
-
-right_there : (H : Digest) (top root : List ℕ) (part : Option (List ℕ)) → joined H (Some top) part ≡ Some root → (r : List ℕ) × (part ≡ Some r)
-right_there H top root (Some r) is = (r, refl)
-right_there H top root None is = absurd (cc)
+    rest_up le climb up =
+        let at : a + front_of n + (m - front_of n) ≡ a + m = omega arith in record {
+          first_is = rest_leads H m n x t ds more le ∙ ap (λ r. joined H (Some t) r) climb.first_is ∙ ap Some (sym up.first_is);
+          second_is = rest_leads H m n y u es more le ∙ ap (λ r. joined H (Some u) r) climb.second_is ∙ ap Some (sym up.second_is);
+          diverges = up_diverges (IsPathsDivergence H x (t ∷ ds) y (u ∷ es) m a n) up
+              (λ same _ m₀ a₀ n₀ digests₀ other_digests₀ way other_way. subst (λ place. PathsPart H x digests₀ y other_digests₀ m₀ a₀ n₀ place p) at
+              (climb.diverges same m₀ a₀ n₀ digests₀ other_digests₀ (rest m a n t ds way more le) (rest m a n u es other_way more le)))
+              (diverges_at (rw (le-ltb m (front_of n) le, climb.first_is) refl) (rw (le-ltb m (front_of n) le, climb.second_is) refl));
+        }
 
 -- where no digests are left of one path, or too many, one path leads nowhere
 pub first_short : (H : Digest) (x y : List ℕ) (path : List (List ℕ)) (es : List (List ℕ)) (m n : ℕ) → 1 < n → length path ≡ 0 → LeadNowhere H x (reverse path) y es m n
@@ -112,13 +97,13 @@ one_long H x y path other_path m n one long = λ first second is other. long (sh
 module _ (H : Digest) (x t : List ℕ) (ds : List (List ℕ)) (y u : List ℕ) (es : List (List ℕ)) (m n : ℕ) (more : 1 < n) where
   pub front_nowhere : m < front_of n → LeadNowhere H x ds y es m (front_of n) → LeadNowhere H x (t ∷ ds) y (u ∷ es) m n
   front_nowhere lt nowhere = λ first second is other.
-      let part = left_there H _ t first (sym (front_leads H m n x t ds more lt) ∙ is) in
-      let others = left_there H _ u second (sym (front_leads H m n y u es more lt) ∙ other) in nowhere part.0 others.0 part.1 others.1
+      let part = both_there H _ _ first (sym (front_leads H m n x t ds more lt) ∙ is) in
+      let others = both_there H _ _ second (sym (front_leads H m n y u es more lt) ∙ other) in nowhere part.0 others.0 part.2 others.2
 
   pub rest_nowhere : front_of n ≤ m → LeadNowhere H x ds y es (m - front_of n) (n - front_of n) → LeadNowhere H x (t ∷ ds) y (u ∷ es) m n
   rest_nowhere le nowhere = λ first second is other.
-      let part = right_there H t first _ (sym (rest_leads H m n x t ds more le) ∙ is) in
-      let others = right_there H u second _ (sym (rest_leads H m n y u es more le) ∙ other) in nowhere part.0 others.0 part.1 others.1
+      let part = both_there H (Some t) _ first (sym (rest_leads H m n x t ds more le) ∙ is) in
+      let others = both_there H (Some u) _ second (sym (rest_leads H m n y u es more le) ∙ other) in nowhere part.1 others.1 part.3 others.3
 
 -- both evaluations over all leaves
 pub climbs_meet : {D : Type 0} {H : Digest} {x y : List ℕ} (path other_path : List (List ℕ)) {m n : ℕ} {first second : List ℕ} {p : Divergence D} → m < n

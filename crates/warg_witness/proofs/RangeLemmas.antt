@@ -1,5 +1,5 @@
 -- Ranges of the tree's recursion and their sides.
-use Rattle.std.proofs.Common.{◌≡◌, ℕ, suc, ◌+◌, ◌-◌, ◌*◌, ◌^◌, ◌<◌, ◌≤◌, List, Option, inl, inr, ap, ◌∙◌, arith, refl}
+use Rattle.std.proofs.Common.{◌≡◌, ℕ, suc, ◌+◌, ◌-◌, ◌*◌, ◌^◌, ◌<◌, ◌≤◌, ◌⊎◌, Bool, false, true, List, Option, inl, inr, ap, ◌∙◌, arith, refl}
 use Rattle.std.proofs.lemmas.Nat.{pow-add, pow_pos, pow_below, row_fits, mul-le}
 use Rattle.std.proofs.lemmas.Bool.{cases_lt}
 use Rattle.warg_log.specs.Cut.{IsFull}
@@ -7,7 +7,7 @@ use Rattle.warg_log.specs.Tree.{front_of}
 use Rattle.warg_witness.specs.Ranges.{IsPart, IsAround}
 use Rattle.warg_witness.specs.Ranges.IsPart.{whole, front, rest}
 use Rattle.warg_log.specs.Ranges.{IsAligned}
-use Rattle.warg_witness.specs.Private.Ranges.{IsNodeRange, IsSide}
+use Rattle.warg_witness.specs.Private.Ranges.{IsNodeRange, AreSides}
 use Rattle.warg_log.proofs.ForCallers.{below_pow, front_is_greatest}
 
 -- A digest function, and digests by node, as data holds them.
@@ -48,6 +48,14 @@ IsPart-trans outer whole = outer
 IsPart-trans outer (front c k part more) = front c k (IsPart-trans outer part) more
 IsPart-trans outer (rest c k part more) = rest c k (IsPart-trans outer part) more
 
+-- the second range is one of the two parts of the first
+abbrev pub IsSide : ℕ → ℕ → ℕ → ℕ → Type 0
+IsSide a n b m = ((b ≡ a) × (m ≡ front_of n)) ⊎ ((b ≡ a + front_of n) × (m ≡ n - front_of n))
+
+pub near_side : {right : Bool} {a n b m c k : ℕ} → AreSides right a n b m c k → IsSide a n b m
+near_side {right = false} sides = inl (sides.start, sides.count)
+near_side {right = true} sides = inr (sides.start, sides.count)
+
 -- what is true of both sides of a range is true of each
 pub at_side : (P : ℕ → ℕ → Type 0) (a n b m : ℕ) → IsSide a n b m → P a (front_of n) → P (a + front_of n) (n - front_of n) → P b m
 at_side P a n b m side left right = grind arith
@@ -81,14 +89,18 @@ front_around {s} {w} {a} {n} node aligned around other left =
       | inr le ↦ omega (arith, mul-le at.0 (2 ^ node.height) node.place (2 ^ node.height) le (omega arith))
     ]
 
-pub side_around : {s w a n : ℕ} → IsNodeRange s w → IsAligned a n → IsAround s w a n → (a ≡ s → n ≡ w → ⊥) → (b : ℕ) × (m : ℕ) × IsSide a n b m × IsAround s w b m × (m < n)
+-- so one side of a range is around the target
+pub side_around : {s w a n : ℕ} → IsNodeRange s w → IsAligned a n → IsAround s w a n → (a ≡ s → n ≡ w → ⊥)
+    → (right : Bool) × (b : ℕ) × (m : ℕ) × (c : ℕ) × (k : ℕ) × AreSides right a n b m c k × IsAround s w b m × (m < n)
 side_around {s} {w} {a} {n} node aligned around other =
     let more = wider around other in
     let some = node_some node in
     let f = front_is_greatest n (omega arith) in
     elim (cases_lt s (a + front_of n)) [
-      | inl left ↦ (a, front_of n, inl (refl, refl), record { starts = around.starts; ends = front_around node aligned around other left }, f.1)
-      | inr right ↦ (a + front_of n, n - front_of n, inr (refl, refl), omega arith, omega arith)
+      | inl left ↦
+          let ends = front_around node aligned around other left in
+          (false, a, front_of n, a + front_of n, n - front_of n, record { start = refl; count = refl; other_start = refl; other_count = refl }, record { starts = around.starts; ends = ends }, f.1)
+      | inr right ↦ (true, a + front_of n, n - front_of n, a, front_of n, record { start = refl; count = refl; other_start = refl; other_count = refl }, omega arith, omega arith)
     ]
 
 -- the parts of a whole log lie within it and are aligned

@@ -13,7 +13,7 @@ use Rattle.warg_witness.specs.PathClaims.{IsRecord}
 use Rattle.warg_crypto.specs.Collisions.{Collides}
 use Rattle.warg_witness.specs.Private.PathDivergence.{IsPathMeeting, tree_input}
 use Rattle.warg_witness.proofs.RangeLemmas.{Digest}
-use Rattle.warg_witness.proofs.DescentLemmas.{length-leaves}
+use Rattle.warg_witness.proofs.CutLemmas.{length-leaves}
 use Rattle.warg_witness.proofs.ConsistencyLemmas.{entry_at}
 
 -- a path that leads somewhere, from a place that is there

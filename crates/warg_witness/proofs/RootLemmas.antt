@@ -9,8 +9,8 @@ use Rattle.warg_log.specs.Cut.{IsFull}
 use Rattle.warg_witness.specs.Ranges.{IsPart, IsAround}
 use Rattle.warg_witness.specs.Ranges.IsPart.{whole, front, rest}
 use Rattle.warg_log.specs.Ranges.{IsAligned}
-use Rattle.warg_witness.specs.Private.Ranges.{IsNodeRange, IsSide}
-use Rattle.warg_witness.proofs.RangeLemmas.{multiple, more_than_one, IsPart-trans, side_aligned, node_some, part_in}
+use Rattle.warg_witness.specs.Private.Ranges.{IsNodeRange}
+use Rattle.warg_witness.proofs.RangeLemmas.{IsSide, multiple, more_than_one, IsPart-trans, side_aligned, node_some, part_in}
 use Rattle.warg_log.proofs.ForCallers.{balanced_full, balanced_parts, front_is_greatest, over_at, pow_below_pow}
 
 -- The w leaves from s on are a node's, and this node is a balanced root of the n leaves from a on.

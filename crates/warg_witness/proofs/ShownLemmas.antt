@@ -13,10 +13,10 @@ use Rattle.warg_witness.specs.Private.Compared.{IsAt}
 use Rattle.warg_witness.specs.Private.Meeting.{IsMeeting}
 use Rattle.warg_crypto.specs.Collisions.{Collides}
 use Rattle.warg_witness.specs.Private.Divergence.{MeetAt, DivergesAt, IsDivergence, DivergesAtBranch, inputs_of}
-use Rattle.warg_witness.specs.declared.descent.Divergence.{Divergence}
-use Rattle.warg_witness.specs.declared.descent.Divergence.TheVariants.{Target, Branch}
+use Rattle.warg_witness.specs.declared.climb.Divergence.{Divergence}
+use Rattle.warg_witness.specs.declared.climb.Divergence.TheVariants.{Target, Branch}
 use Rattle.warg_witness.proofs.RangeLemmas.{Digest, Data, part_in}
-use Rattle.warg_witness.proofs.DescentLemmas.{length-leaves, DivergesFrom, Meets, plain_digest_is, own_second}
+use Rattle.warg_witness.proofs.CutLemmas.{length-leaves, DivergesFrom, Meets, plain_digest_is, own_second}
 use Rattle.warg_log.proofs.ForCallers.{pow_below_pow}
 
 -- The pair differs and has one digest, and stands where P says.

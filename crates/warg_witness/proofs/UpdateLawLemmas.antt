@@ -18,7 +18,7 @@ use Rattle.warg_witness.specs.MapPlaced.{IsPlacedAtPrefix}
 use Rattle.warg_witness.specs.UpdateClaims.{IsUpdated, Step, insertions_of, LeadThrough, CollidesAtStep}
 use Rattle.warg_witness.specs.Private.MapPaths.{plain_peers}
 use Rattle.warg_witness.specs.Private.Divergence.{inputs_of}
-use Rattle.warg_witness.specs.declared.descent.Divergence.TheVariants.{Target}
+use Rattle.warg_witness.specs.declared.climb.Divergence.TheVariants.{Target}
 use Rattle.warg_witness.proofs.CollisionLemmas.{target_or_not}
 use Rattle.warg_witness.proofs.PathLemmas.{diverged_on_path}
 use Rattle.warg_witness.proofs.KeyLemmas.{plain_root_is, branch_placed, branch_collides}

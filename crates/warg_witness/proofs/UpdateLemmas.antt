@@ -12,8 +12,8 @@ use Rattle.warg_map.specs.Last.{last_with, same_bits, last_under}
 use Rattle.warg_map.specs.ProofValue.{proof_value}
 use Rattle.warg_witness.specs.UpdateClaims.{IsUpdated}
 use Rattle.warg_witness.specs.Private.MapPaths.{IsPathDivergence, MeetsOnPath, plain_peers}
-use Rattle.warg_witness.specs.declared.descent.Divergence.{Divergence}
-use Rattle.warg_witness.specs.declared.descent.Divergence.TheVariants.{Target, Branch}
+use Rattle.warg_witness.specs.declared.climb.Divergence.{Divergence}
+use Rattle.warg_witness.specs.declared.climb.Divergence.TheVariants.{Target, Branch}
 use Rattle.warg_witness.proofs.KeyLemmas.{IsTree}
 use Rattle.warg_witness.proofs.PlainPathLemmas.{plain_value, length-plain_peers}
 use Rattle.warg_map.proofs.ForCallers.{all_bits, last_held, root-same, same_bits-itself, same_bits-true}

@@ -5,6 +5,7 @@ pub mod MapPaths
 pub mod Meeting
 pub mod Divergence
 pub mod Climbs
+pub mod RangeClimbs
 pub mod Compared
 pub mod PathDivergence
 pub mod PathClimbs

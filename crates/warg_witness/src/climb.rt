@@ -1,10 +1,32 @@
-//! Two evaluations that go up one way side by side.
+//! Two evaluations that go up one way side by side, and where they diverge.
 
-ghost use Rattle.std.specs.Prelude.{◌≡◌, if◌then◌else◌};
+ghost use Rattle.std.specs.Prelude.{◌≡◌, ◌↔◌, IsTrue, if◌then◌else◌};
 ghost use Rattle.warg_witness.specs.Private.Climbs.{IsUp};
 
-use crate::descent::Divergence;
 use warg_crypto::{Hash, SupportedDigest, hash_branch};
+
+/// Where two trees diverge that have one digest at a range.
+#[derive(Drop)]
+pub(crate) enum Divergence<D> {
+    /// Nowhere: they have one digest at the target too.
+    Target,
+    /// At a branch with these digests on both sides.
+    Branch {
+        first_left: Hash<D>,
+        first_right: Hash<D>,
+        second_left: Hash<D>,
+        second_right: Hash<D>,
+    },
+}
+
+impl<D> Divergence<D> {
+    /// Whether the trees diverge nowhere.
+    pub(crate) fn is_target(&self) -> bool
+        ensures { IsTrue result ↔ (self.now ≡ Divergence.Target) }
+    {
+        matches!(self, Divergence::Target)
+    }
+}
 
 /// Two evaluations along one way, as far as they have come up from the bottom.
 #[derive(Drop)]

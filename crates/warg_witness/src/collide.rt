@@ -5,8 +5,8 @@ ghost use Rattle.warg_crypto.specs.Tree.{leaf_input};
 ghost use Rattle.warg_crypto.specs.Collisions.{Collides};
 ghost use Rattle.warg_witness.specs.Private.Divergence.{DivergesAtBranch, inputs_of};
 
+use crate::climb::Divergence;
 use crate::collision::{Collision, branch_bytes, leaf_bytes};
-use crate::descent::Divergence;
 use std::alloc::{AllocError, Allocator};
 use warg_crypto::{SupportedDigest, VisitBytes};
 

@@ -11,12 +11,12 @@ mod climb;
 mod collide;
 mod collision;
 mod compare;
-mod descent;
 pub mod laws;
 mod log;
 mod map;
 mod paths;
 mod plain;
+mod ranges;
 mod trees;
 
 pub use collision::{Collision, Finding};

@@ -17,11 +17,12 @@ ghost use Rattle.warg_witness.specs.Private.Meeting.{IsMeeting};
 
 mod consistency;
 
+use crate::climb::Divergence;
 use crate::collide::{collide_branch, collide_values};
 use crate::collision::{Collision, Finding, leaf_bytes};
 use crate::compare::have_same_bytes;
-use crate::descent::{Divergence, descend};
 use crate::plain::{plain_bytes, plain_digest, plain_tree};
+use crate::ranges::meet_ranges;
 pub use consistency::witness_consistency;
 use std::alloc::{AllocError, Allocator};
 use warg_crypto::{Hash, SupportedDigest, VisitBytes, hash_leaf};
@@ -61,17 +62,16 @@ fn meet_entries<D: SupportedDigest, V: VisitBytes, L: LogData<D, V>, A: Allocato
     if entries.len() != proof.log_length() {
         return Ok(None);
     }
-    let Ok(root) = proof.evaluate_hash(hashes, hash.copied()) else {
+    let Ok(_) = proof.evaluate_hash(hashes, hash.copied()) else {
         return Ok(None);
     };
-    let (tree, plain_root) = plain_tree(alloc, entries)?;
-    if root != plain_root {
-        return Ok(None);
-    }
+    let (tree, _) = plain_tree(alloc, entries)?;
     let target = proof.leaf().leaf_range();
     let whole = LeafRange::new(0, proof.log_length());
     let plain = plain_digest(&tree, &target);
-    let divergence = descend(hashes, hash, &tree, &plain, &target, &whole);
+    let Some(divergence) = meet_ranges(hashes, hash, &tree, &plain, &target, &whole) else {
+        return Ok(None);
+    };
     Ok(Some(Meeting {
         tree,
         target,
@@ -129,9 +129,9 @@ fn collide<D: SupportedDigest, V: VisitBytes, A: Allocator + Copy>(
 /// entries. `Holds` exactly if it is, and the claim is true. Else a collision: what the digest function
 /// takes in the evaluation (first) and in the tree over the entries (second) at one range around the node.
 ///
-/// It hashes each leaf and branch of the tree over the entries once, and few digests on one path beside
-/// them. Out of memory is the only error. A value or an entry of more than `usize::MAX` bytes counts as that:
-/// no copy of it could be had.
+/// It hashes each leaf and branch of the tree over the entries once, and besides the value and at most three
+/// times as many branches as the proof's evaluation has. Out of memory is the only error. A value or an entry of
+/// more than `usize::MAX` bytes counts as that: no copy of it could be had.
 ///
 /// ```rust
 /// match witness_value(alloc, &proof, &data, &"left-pad 6.6.6", &["left-pad 1.0.0"])? {
@@ -175,8 +175,8 @@ pub fn witness_value<D: SupportedDigest, V: VisitBytes, L: LogData<D, V>, A: All
 /// entries. `Holds` exactly if it is, and the claim is true. Else a collision: what the digest function
 /// takes in the evaluation (first) and in the tree over the entries (second) at one range around the node.
 ///
-/// It hashes each leaf and branch of the tree over the entries once, and few digests on one path beside
-/// them. Out of memory is the only error.
+/// It hashes each leaf and branch of the tree over the entries once, and besides at most three times as many
+/// branches as the proof's evaluation has. Out of memory is the only error.
 pub fn witness_hash<D: SupportedDigest, V: VisitBytes, L: LogData<D, V>, A: Allocator + Copy>(
     alloc: A,
     proof: &InclusionProof<D, V>,
@@ -208,8 +208,10 @@ pub fn witness_hash<D: SupportedDigest, V: VisitBytes, L: LogData<D, V>, A: Allo
 ///
 /// `NotMet` exactly if one evaluation isn't Ok or both lead to different roots, which takes no memory.
 /// `Holds` exactly if both are Ok with one root, and the values have the same bytes. Else a collision: what
-/// the digest function takes in the first and in the second evaluation at one range around the node. Out of
-/// memory is the only error. A value of more than `usize::MAX` bytes counts as that.
+/// the digest function takes in the first and in the second evaluation at one range around the node.
+///
+/// It hashes both values, and each branch of both evaluations once. Out of memory is the only error. A value of more
+/// than `usize::MAX` bytes counts as that.
 pub fn agree_value<
     D: SupportedDigest,
     V: VisitBytes,
@@ -239,21 +241,12 @@ pub fn agree_value<
 {
     let first_hash = hash_leaf::<D, V>(first_value);
     let second_hash = hash_leaf::<D, V>(second_value);
-    let Ok(first_root) = proof.evaluate_hash(first_hashes, first_hash.copied()) else {
-        return Ok(Finding::NotMet);
-    };
-    let Ok(second_root) = proof.evaluate_hash(second_hashes, second_hash.copied()) else {
-        return Ok(Finding::NotMet);
-    };
-    if first_root != second_root {
+    if !proof.leaf().exists_at_length(proof.log_length()) {
         return Ok(Finding::NotMet);
     }
-    if have_same_bytes(first_value, second_value)? {
-        return Ok(Finding::Holds);
-    }
-    let whole = LeafRange::new(0, proof.log_length());
     let target = proof.leaf().leaf_range();
-    let divergence = descend(
+    let whole = LeafRange::new(0, proof.log_length());
+    let met = meet_ranges(
         first_hashes,
         &first_hash,
         second_hashes,
@@ -261,6 +254,12 @@ pub fn agree_value<
         &target,
         &whole,
     );
+    let Some(divergence) = met else {
+        return Ok(Finding::NotMet);
+    };
+    if have_same_bytes(first_value, second_value)? {
+        return Ok(Finding::Holds);
+    }
     let pair = collide_values(alloc, &divergence, first_value, second_value)?;
     Ok(Finding::Collision(pair))
 }

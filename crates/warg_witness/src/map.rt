@@ -18,10 +18,10 @@ mod path;
 mod tree;
 mod update;
 
+use crate::climb::Divergence;
 use crate::collide::{collide_branch, collide_values};
 use crate::collision::{Collision, Finding};
 use crate::compare::have_same_bytes;
-use crate::descent::Divergence;
 use empty::empty_trees;
 use last::is_last_value;
 use path::{Evaluation, meet_on_path};

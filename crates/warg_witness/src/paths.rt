@@ -15,10 +15,10 @@ mod agreement;
 mod climbing;
 mod tree;
 
+use crate::climb::Divergence;
 use crate::collide::collide_values;
 use crate::collision::Finding;
 use crate::compare::have_same_bytes;
-use crate::descent::Divergence;
 use crate::plain::{plain_digest, plain_tree};
 pub use agreement::agree_record;
 use climbing::meet_paths;

@@ -8,9 +8,10 @@ ghost use Rattle.warg_log.specs.Ranges.{IsAligned};
 ghost use Rattle.warg_witness.specs.Private.Compared.{IsFirstDifference};
 ghost use Rattle.warg_witness.specs.Private.Divergence.{IsDivergence};
 
+use crate::climb::Divergence;
 use crate::compare::have_same_bytes;
-use crate::descent::{Divergence, descend};
 use crate::plain::plain_digest;
+use crate::ranges::meet_ranges;
 use std::alloc::{AllocError, Allocator};
 use warg_crypto::{SupportedDigest, VisitBytes};
 use warg_log::{LeafRange, VecLog};
@@ -87,5 +88,8 @@ pub(crate) fn divergence_below<D: SupportedDigest, V: VisitBytes, A: Allocator>(
     let leaf = LeafRange::new(place, 1);
     let old = plain_digest(&trees.old, &leaf);
     let new = plain_digest(&trees.new, &leaf);
-    descend(&trees.old, &old, &trees.new, &new, &leaf, range)
+    match meet_ranges(&trees.old, &old, &trees.new, &new, &leaf, range) {
+        Some(divergence) => divergence,
+        None => unreachable!(),
+    }
 }

@@ -5,8 +5,8 @@ use Rattle.warg_witness.specs.Ranges.{IsPart, IsAround}
 use Rattle.warg_crypto.specs.Collisions.{Collides}
 use Rattle.warg_crypto.specs.Tree.{branch_input}
 use Rattle.warg_witness.specs.Inputs.{cut_input}
-use Rattle.warg_witness.specs.declared.descent.Divergence.{Divergence}
-use Rattle.warg_witness.specs.declared.descent.Divergence.TheVariants.{Target, Branch}
+use Rattle.warg_witness.specs.declared.climb.Divergence.{Divergence}
+use Rattle.warg_witness.specs.declared.climb.Divergence.TheVariants.{Target, Branch}
 
 -- Two evaluations have one digest at a range.
 pub record HaveOneDigest (H : List ℕ → List ℕ) (F : ℕ → Option (List ℕ)) (x : List ℕ) (G : ℕ → Option (List ℕ)) (y : List ℕ) (s w a n : ℕ) : Type 0 where

@@ -10,8 +10,8 @@ use Rattle.warg_map.specs.Last.{last_under}
 use Rattle.warg_map.specs.ProofValue.{proof_value}
 use Rattle.warg_crypto.specs.Tree.{branch_input}
 use Rattle.warg_witness.specs.MapInputs.{fork_input}
-use Rattle.warg_witness.specs.declared.descent.Divergence.{Divergence}
-use Rattle.warg_witness.specs.declared.descent.Divergence.TheVariants.{Target, Branch}
+use Rattle.warg_witness.specs.declared.climb.Divergence.{Divergence}
+use Rattle.warg_witness.specs.declared.climb.Divergence.TheVariants.{Target, Branch}
 
 -- At a branch on the way along the bits, the inputs of the evaluations by the peers P from the leaf digest x and
 -- by Q from y differ and have one digest.

@@ -7,7 +7,7 @@ use Rattle.warg_log.specs.Claims.{InclusionClaim}
 use Rattle.warg_witness.specs.Private.Ranges.{IsNodeRange}
 use Rattle.warg_witness.specs.Claims.{IsMet, IsConsistencyMet}
 use Rattle.warg_witness.specs.Private.Divergence.{IsDivergence}
-use Rattle.warg_witness.specs.declared.descent.Divergence.{Divergence}
+use Rattle.warg_witness.specs.declared.climb.Divergence.{Divergence}
 
 -- The claim with a digest at the node is met; the tree is the one over the entries, the target the node's
 -- range, with the plain digest over it, and the evaluation diverges from the tree as said.

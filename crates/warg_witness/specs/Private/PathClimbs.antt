@@ -6,8 +6,8 @@ use Rattle.warg_log.specs.Cut.{old_over}
 use Rattle.warg_paths.specs.Paths.{inclusion_of, inclusion_root, root_down}
 use Rattle.warg_crypto.specs.Tree.{branch_input}
 use Rattle.warg_witness.specs.PathPlaced.{IsOnWay, turn_input}
-use Rattle.warg_witness.specs.declared.descent.Divergence.{Divergence}
-use Rattle.warg_witness.specs.declared.descent.Divergence.TheVariants.{Target, Branch}
+use Rattle.warg_witness.specs.declared.climb.Divergence.{Divergence}
+use Rattle.warg_witness.specs.declared.climb.Divergence.TheVariants.{Target, Branch}
 
 -- One of two paths leads to no digest over n leaves, the first from the digest x of leaf m and the second from y.
 abbrev pub LeadNowhere : (List ℕ → List ℕ) → List ℕ → List (List ℕ) → List ℕ → List (List ℕ) → ℕ → ℕ → Type 0

@@ -2,10 +2,10 @@
 -- are given from the topmost down.
 use Rattle.std.specs.Prelude.{◌≡◌, ℕ, ◌+◌, ◌-◌, ◌<◌, ◌≤◌, ◌^◌, List, length, Some}
 use Rattle.warg_log.specs.Tree.{front_of, leaves_of, root_of, root_over}
-use Rattle.warg_paths.specs.Paths.{root_down, inclusion_root}
+use Rattle.warg_paths.specs.Paths.{inclusion_root}
 use Rattle.warg_crypto.specs.Tree.{branch_input}
-use Rattle.warg_witness.specs.declared.descent.Divergence.{Divergence}
-use Rattle.warg_witness.specs.declared.descent.Divergence.TheVariants.{Target, Branch}
+use Rattle.warg_witness.specs.declared.climb.Divergence.{Divergence}
+use Rattle.warg_witness.specs.declared.climb.Divergence.TheVariants.{Target, Branch}
 
 -- The path leads from the leaf digest x to the root of the tree over the entries, which can be numbered.
 pub record IsPathMeeting (H : List ℕ → List ℕ) (index : ℕ) (path : List (List ℕ)) (x : List ℕ) (entries tree : List (List ℕ)) : Type 0 where
@@ -13,12 +13,6 @@ pub record IsPathMeeting (H : List ℕ → List ℕ) (index : ℕ) (path : List 
   pub fits : length entries ≤ 2 ^ 63
   pub tree_is : tree ≡ leaves_of H entries
   pub leads : inclusion_root H index (length entries) x path ≡ Some (root_of H (leaves_of H entries))
-
--- l and r are the digests of the two parts of n leaves, of which leaf m has the digest x, by the topmost digest of a
--- path and those below it.
-pub record AreSides (H : List ℕ → List ℕ) (x : List ℕ) (m n : ℕ) (top : List ℕ) (below : List (List ℕ)) (l r : List ℕ) : Type 0 where
-  pub front : m < front_of n → (root_down H m (front_of n) x below ≡ Some l) × (r ≡ top)
-  pub rest : front_of n ≤ m → (l ≡ top) × (root_down H (m - front_of n) (n - front_of n) x below ≡ Some r)
 
 -- A tree's input at the branch over n leaves from a on.
 abbrev pub tree_input : (List ℕ → List ℕ) → List (List ℕ) → ℕ → ℕ → List ℕ

@@ -1,5 +1,5 @@
 -- Ranges of the tree's recursion, as the private functions speak of them.
-use Rattle.std.specs.Prelude.{◌≡◌, ℕ, ◌+◌, ◌-◌, ◌*◌, ◌^◌, ◌⊎◌}
+use Rattle.std.specs.Prelude.{◌≡◌, ℕ, ◌+◌, ◌-◌, ◌*◌, ◌^◌, Bool, if◌then◌else◌}
 use Rattle.warg_log.specs.Tree.{front_of}
 
 -- The range is a node's: a power of two of leaves, from a multiple of it on.
@@ -9,6 +9,9 @@ pub record IsNodeRange (s w : ℕ) : Type 0 where
   pub start : s ≡ place * 2 ^ height
   pub count : w ≡ 2 ^ height
 
--- The second range is one of the two parts of the first.
-abbrev pub IsSide : ℕ → ℕ → ℕ → ℕ → Type 0
-IsSide a n b m = ((b ≡ a) × (m ≡ front_of n)) ⊎ ((b ≡ a + front_of n) × (m ≡ n - front_of n))
+-- The second range is the part of the first on the side of a bit, 0 on the left, and the third is the other part.
+pub record AreSides (right : Bool) (a n b m c k : ℕ) : Type 0 where
+  pub start : b ≡ (if right then a + front_of n else a)
+  pub count : m ≡ (if right then n - front_of n else front_of n)
+  pub other_start : c ≡ (if right then a else a + front_of n)
+  pub other_count : k ≡ (if right then front_of n else n - front_of n)

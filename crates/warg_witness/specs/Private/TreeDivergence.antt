@@ -9,8 +9,8 @@ use Rattle.warg_witness.specs.TreePlaced.{IsOnGrowth, old_turn_input, new_turn_i
 use Rattle.warg_crypto.specs.Collisions.{Collides}
 use Rattle.warg_witness.specs.Private.Divergence.{inputs_of}
 use Rattle.warg_witness.specs.Private.PathDivergence.{tree_input}
-use Rattle.warg_witness.specs.declared.descent.Divergence.{Divergence}
-use Rattle.warg_witness.specs.declared.descent.Divergence.TheVariants.{Target, Branch}
+use Rattle.warg_witness.specs.declared.climb.Divergence.{Divergence}
+use Rattle.warg_witness.specs.declared.climb.Divergence.TheVariants.{Target, Branch}
 
 -- The path leads from the root of the tree over the old entries to the roots of both trees, which can be numbered.
 pub record IsTreeMeeting (H : List ℕ → List ℕ) (path old new old_tree new_tree : List (List ℕ)) : Type 0 where

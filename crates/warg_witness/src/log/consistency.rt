@@ -16,10 +16,11 @@ ghost use Rattle.warg_witness.specs.Private.Compared.{DiffersFirst};
 ghost use Rattle.warg_witness.specs.Private.Divergence.{IsDivergence};
 ghost use Rattle.warg_witness.specs.Private.Meeting.{IsConsistencyMeeting, LeadsToBoth};
 
+use crate::climb::Divergence;
 use crate::collide::collide_branch;
 use crate::collision::{Collision, Finding, leaf_bytes};
-use crate::descent::{Divergence, descend};
 use crate::plain::{plain_digest, plain_tree};
+use crate::ranges::meet_ranges;
 use crate::trees::{Trees, divergence_below, first_difference};
 use std::alloc::{AllocError, Allocator};
 use warg_crypto::{Hash, SupportedDigest, VisitBytes};
@@ -141,7 +142,10 @@ fn divergence_from<D: SupportedDigest, V: VisitBytes, L: LogData<D, V>, A: Alloc
 {
     let plain = plain_digest(tree, node);
     let whole = LeafRange::new(0, tree.length());
-    descend(hashes, hash, tree, &plain, node, &whole)
+    match meet_ranges(hashes, hash, tree, &plain, node, &whole) {
+        Some(divergence) => divergence,
+        None => unreachable!(),
+    }
 }
 
 // The collision that a difference at `place` shows: where the evaluation diverges from the old tree or from the
@@ -193,8 +197,10 @@ fn collide_at<D: SupportedDigest, V: VisitBytes, L: LogData<D, V>, A: Allocator 
 /// entries (second) at one range around a balanced root of the old length; what it takes in the old tree
 /// (first) and in the new one (second) at one range of both.
 ///
-/// It hashes each leaf and branch of both trees once, and few digests on three paths beside them. Out of
-/// memory is the only error. An entry of more than `usize::MAX` bytes counts as that.
+/// It hashes each leaf and branch of both trees once, and the branches of the proof's evaluation; besides, on at most
+/// three ways, each branch of two evaluations once: from that balanced root up to the old root and to the new one, and
+/// from the first entry that differs up to it. Out of memory is the only error. An entry of more than `usize::MAX`
+/// bytes counts as that.
 pub fn witness_consistency<
     D: SupportedDigest,
     V: VisitBytes,

@@ -3,8 +3,7 @@
 ghost use Rattle.std.specs.Prelude.{ℕ, ◌^◌, ◌<◌, ◌≤◌, reverse, MatchOption};
 ghost use Rattle.warg_witness.specs.Private.PathClimbs.{LeadNowhere, IsPathClimb, NeverMeet, IsPathsMeeting};
 
-use crate::climb::Climb;
-use crate::descent::Divergence;
+use crate::climb::{Climb, Divergence};
 use warg_crypto::{Hash, SupportedDigest};
 use warg_log::LeafRange;
 

@@ -13,9 +13,9 @@ ghost use Rattle.warg_witness.specs.Private.PathDivergence.{IsBranchDivergence};
 ghost use Rattle.warg_witness.specs.Private.TreeDivergence.{IsTreeMeeting, LeadsOver, IsTurnDivergence, IsTreeDivergence};
 
 use super::MOST_LEAVES;
+use crate::climb::Divergence;
 use crate::collide::collide_values;
 use crate::collision::Finding;
-use crate::descent::Divergence;
 use crate::plain::{plain_digest, plain_tree};
 use crate::trees::{Trees, divergence_below, first_difference};
 use std::alloc::{AllocError, Allocator};

@@ -1,5 +1,5 @@
 use Rattle.std.proofs.Common.{arith}
-use Rattle.warg_witness.proofs.DescentLemmas.{own_cut}
+use Rattle.warg_witness.proofs.CutLemmas.{own_cut}
 use Rattle.warg_witness.proofs.plain.plain_digest.Goals as goal
 
 pub unreachable-requires : goal.unreachable-requires

@@ -1,5 +1,5 @@
 use Rattle.warg_witness.proofs.RangeLemmas.{leaf_node, node_aligned}
-use Rattle.warg_witness.proofs.DescentLemmas.{have_range}
+use Rattle.warg_witness.proofs.CutLemmas.{have_range}
 use Rattle.warg_witness.proofs.trees.divergence_below.Goals as goal
 
 pub plain_digest-old-requires-clause-aligned : goal.plain_digest-old-requires-clause-aligned
@@ -8,13 +8,12 @@ plain_digest-old-requires-clause-aligned g c = rw c.new-leaf.ensures.count (node
 pub plain_digest-new-requires-clause-aligned : goal.plain_digest-new-requires-clause-aligned
 plain_digest-new-requires-clause-aligned g c = rw c.new-leaf.ensures.count (node_aligned (leaf_node _))
 
-pub descend-requires-clause-node : goal.descend-requires-clause-node
-descend-requires-clause-node g c = rw c.new-leaf.ensures.count (leaf_node _)
+pub meet_ranges-requires-clause-node : goal.meet_ranges-requires-clause-node
+meet_ranges-requires-clause-node g c = rw c.new-leaf.ensures.count (leaf_node _)
 
-pub descend-requires-clause-one : goal.descend-requires-clause-one
-descend-requires-clause-one g c =
-    rw (c.plain_digest-old.ensures, c.plain_digest-new.ensures) (have_range _ _ _ _ _ c.requires.aligned c.args.range.now.some c.requires.in_old c.requires.in_new c.requires.same)
+pub unreachable-requires : goal.unreachable-requires
+unreachable-requires g c = (rw (c.plain_digest-old.ensures, c.plain_digest-new.ensures) at c.in-None.ensures) (have_range _ _ _ _ _ c.requires.aligned c.args.range.now.some c.requires.in_old c.requires.in_new c.requires.same)
 
 pub returns : goal.returns
 returns g c =
-    rw (c.plain_digest-old.ensures, c.plain_digest-new.ensures, c.new-leaf.ensures.start, c.new-leaf.ensures.count) at c.descend.ensures
+    (rw (c.plain_digest-old.ensures, c.plain_digest-new.ensures, c.new-leaf.ensures.start, c.new-leaf.ensures.count) at c.in-Some.ensures).diverges

@@ -30,7 +30,7 @@ returns-in_err-climb g t c =
 pub returns-then-index-front : goal.returns-then-index-front
 returns-then-index-front g t c =
     rw (turned _ _ _ c.in_ok-first_top.ensures.cases.0, turned _ _ _ c.in_ok-second_top.ensures.cases.0)
-    (front_up _ _ _ _ _ _ _ _ _ _ (omega arith) _ _ (rw c.split.ensures.front.1 at c.if-index-front.true)
+    (front_up _ _ _ _ _ _ _ _ _ _ (omega arith) (rw c.split.ensures.front.1 at c.if-index-front.true)
     (rw (c.split.ensures.front.0, c.split.ensures.front.1) at c.in_ok-climb.ensures) c.up.ensures)
 
 pub returns-in_err-climb-2 : goal.returns-in_err-climb-2
@@ -41,5 +41,5 @@ returns-in_err-climb-2 g t c =
 pub returns : goal.returns
 returns g t c =
     rw (turned _ _ _ c.in_ok-first_top.ensures.cases.0, turned _ _ _ c.in_ok-second_top.ensures.cases.0)
-    (rest_up _ _ _ _ _ _ _ _ _ _ (omega arith) _ _ (rw c.split.ensures.front.1 at c.if-index-front.false)
+    (rest_up _ _ _ _ _ _ _ _ _ _ (omega arith) (rw c.split.ensures.front.1 at c.if-index-front.false)
     (rw (c.split.ensures.front.1, c.split.ensures.rest.0, c.split.ensures.rest.1) at c.in_ok-climb-2.ensures) c.up-2.ensures)

@@ -2,7 +2,7 @@ use Rattle.std.proofs.Common.{sym, ◌∙◌, refl, arith, inr}
 use Rattle.std.specs.Cmp.Lexicographic.{bytes_decides}
 use Rattle.warg_witness.proofs.HashLemmas.{ne_false}
 use Rattle.warg_witness.proofs.RangeLemmas.{side_aligned}
-use Rattle.warg_witness.proofs.DescentLemmas.{inputs_differ}
+use Rattle.warg_witness.proofs.ClimbLemmas.{inputs_differ}
 use Rattle.warg_witness.proofs.paths.tree.branch_divergence.Goals as goal
 
 pub plain_digest-second_right-requires-clause-aligned : goal.plain_digest-second_right-requires-clause-aligned

@@ -1,6 +1,6 @@
 use Rattle.std.proofs.Common.{arith, inr}
 use Rattle.warg_witness.proofs.RangeLemmas.{front_around, side_aligned}
-use Rattle.warg_witness.proofs.descent.part_around.Goals as goal
+use Rattle.warg_witness.proofs.ranges.sides_around.Goals as goal
 
 pub returns-then-target-rest-clause-around : goal.returns-then-target-rest-clause-around
 returns-then-target-rest-clause-around c =
