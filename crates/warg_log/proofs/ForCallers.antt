@@ -9,7 +9,7 @@ use Rattle.warg_log.specs.Nodes.{IsNode, ExistsAt, height_of, place_of, end_of, 
 use Rattle.warg_crypto.specs.Tree.{branch}
 use Rattle.warg_log.specs.Ranges.{IsAligned}
 use Rattle.warg_log.specs.Tree.{front_of, root_over, own_digest}
-use Rattle.warg_log.specs.Cut.{joined, cut_over, cut_root, old_over, IsFull}
+use Rattle.warg_log.specs.Cut.{is_target, joined, cut_over, cut_root, old_over, IsFull}
 use Rattle.warg_log.specs.Walks.{needed, needed_between}
 use Rattle.warg_log.specs.Consistency.{consistency, IsConsistent}
 use Rattle.warg_log.specs.Inclusion.{inclusion}
@@ -18,6 +18,7 @@ use Rattle.warg_log.proofs.NodeLemmas as nodes
 use Rattle.warg_log.proofs.RootLemmas as powers
 use Rattle.warg_log.proofs.LawLemmas as laws
 use Rattle.warg_log.proofs.BalancedLemmas as balanced
+use Rattle.warg_log.proofs.WayLemmas as ways
 use Rattle.warg_log.proofs.CutLemmas as cuts
 use Rattle.warg_log.proofs.MetLemmas as met
 use Rattle.warg_log.proofs.StackLemmas as stacks
@@ -32,6 +33,10 @@ below_pow = powers.below_pow
 -- a power of two below another has a smaller exponent
 pub pow_below_pow : (a b : ℕ) → 2 ^ a < 2 ^ b → a < b
 pow_below_pow = nodes.pow_below_pow
+
+-- whether a range is the target
+pub target_decides : (s w a n : ℕ) → Decides (is_target s w a n) ((a ≡ s) × (n ≡ w))
+target_decides = ways.target_decides
 
 -- a number is the node of one height and one place
 pub node_at : (x k j : ℕ) → IsNode x k j → (height_of x ≡ k) × (place_of x ≡ j)

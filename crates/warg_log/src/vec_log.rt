@@ -68,6 +68,26 @@ impl<D: SupportedDigest, V: VisitBytes, A: Allocator> VecLog<D, V, A> {
         self.count
     }
 
+    /// The root of the tree over the entries, as in the [`checkpoint`](LogBuilder::checkpoint): for no entries the digest of
+    /// no bytes (RFC 6962, section 2.1). It hashes the branches over the balanced roots, which the log doesn't keep.
+    #[tactic(auto, using(crate::proofs::NodeLemmas::last_width))]
+    pub fn root(&self) -> Hash<D>
+        ensures { result ≡ root_of D.digest self.now }
+    {
+        let mut root = None;
+        let mut end = self.count;
+        'roots: while end > 0 {
+            let start = end - (1 << end.trailing_zeros());
+            let left = &self.tree[start + end - 1];
+            root = Some(match root {
+                Some(right) => hash_branch(left, &right),
+                None => left.copied(),
+            });
+            end = start;
+        }
+        root.unwrap_or(self.spacer.copied())
+    }
+
     /// The digests of the nodes by their numbers, up to the last leaf's: `2 * n - 1` for `n` entries. A
     /// node that doesn't exist yet has the digest of no bytes.
     pub fn as_ref(&self) -> &[Hash<D>]
@@ -88,25 +108,6 @@ impl<D: SupportedDigest, V: VisitBytes, A: Allocator> VecLog<D, V, A> {
             spacer: self.spacer.copied(),
             of: PhantomData,
         })
-    }
-
-    // The root of the tree over the entries: the digests of the balanced roots, joined from the right.
-    #[tactic(auto, using(crate::proofs::NodeLemmas::last_width))]
-    fn root(&self) -> Hash<D>
-        ensures { result ≡ root_of D.digest self.now }
-    {
-        let mut root = None;
-        let mut end = self.count;
-        'roots: while end > 0 {
-            let start = end - (1 << end.trailing_zeros());
-            let left = &self.tree[start + end - 1];
-            root = Some(match root {
-                Some(right) => hash_branch(left, &right),
-                None => left.copied(),
-            });
-            end = start;
-        }
-        root.unwrap_or(self.spacer.copied())
     }
 }
 

@@ -399,6 +399,7 @@ fn appends_alike(
         }
     }
     Ok(all(&[
+        log.root() == *root,
         log.checkpoint().root() == *root,
         stack.checkpoint().root() == *root,
     ]))

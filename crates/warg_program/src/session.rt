@@ -116,9 +116,8 @@ impl<A: Allocator + Copy> Session<A> {
         ensures ok { OnOk result (AnswersOrder self.old self.new log) }
         ensures errors { IfErr result (Refuses self.old log) }
     {
-        let checkpoint = self.log.checkpoint();
-        let length = checkpoint.length();
-        let root = checkpoint.root();
+        let length = self.log.length();
+        let root = self.log.root();
         writeln!(self.text, "log {length} {root}")?;
         Ok(())
     }

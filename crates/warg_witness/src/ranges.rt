@@ -52,7 +52,7 @@ fn climb_ranges<D: SupportedDigest, V: VisitBytes, L: LogData<D, V>, M: LogData<
         target.now.start target.now.count range.now.start range.now.count
         climb.first climb.second climb.divergence) }
 {
-    if range.equals(target) {
+    if range == target {
         return Some(Climb::new(first_hash.copied(), second_hash.copied()));
     }
     let (held, beside, right) = sides_around(target, range);

@@ -1,11 +1,12 @@
 use Rattle.std.proofs.Common.{sym, ◌∙◌, arith, refl}
+use Rattle.warg_log.proofs.ForCallers.{target_decides}
 use Rattle.warg_witness.proofs.CutLemmas.{ranges_start, sides_lack, ranges_up}
 use Rattle.warg_witness.proofs.ranges.+climb_ranges.Goals as goal
 
-pub returns-then-equals : goal.returns-then-equals
-returns-then-equals g t c =
-    let here = c.if-equals.ensures.0 refl in
-    ranges_start here.0 here.1 (c.new.ensures.first ∙ c.copied.ensures) (c.new.ensures.second ∙ c.copied-then-equals.ensures) c.new.ensures.divergence
+pub returns-then-eq : goal.returns-then-eq
+returns-then-eq g t c =
+    let here = (target_decides c.args.target.now.start c.args.target.now.count c.args.range.now.start c.args.range.now.count).0 (sym c.eq.ensures ∙ c.if-eq.true) in
+    ranges_start here.0 here.1 (c.new.ensures.first ∙ c.copied.ensures) (c.new.ensures.second ∙ c.copied-then-eq.ensures) c.new.ensures.divergence
 
 pub returns-in_err-climb : goal.returns-in_err-climb
 returns-in_err-climb g t c =
