@@ -1,12 +1,13 @@
 -- Lemmas on lines, words and numbers.
-use Rattle.std.proofs.Common.{◌≡◌, ◌≢◌, ℕ, zero, suc, ◌+◌, ◌-◌, ◌*◌, ◌^◌, ◌<◌, ◌≤◌, ◌&&◌, Bool, true, false, List, [], ◌∷◌, ◌++◌, length, take, drop, get_or, Option, Some, None, refl, sym, ◌∙◌, ap, arith, add-one, le-leb, lt-ltb, le-ltb, ne_eqb, option_map, Bor, take_all, le_refl, length-drop}
+use Rattle.std.proofs.Common.{◌≡◌, ◌≢◌, ℕ, zero, suc, ◌+◌, ◌-◌, ◌*◌, ◌^◌, ◌<◌, ◌≤◌, ◌&&◌, ◌==◌, Bool, true, false, List, [], ◌∷◌, ◌++◌, length, take, drop, get_or, Option, Some, None, refl, sym, ◌∙◌, ap, arith, add-one, le-leb, lt-ltb, le-ltb, ne_eqb, option_map, take_all, le_refl, length-drop}
 use Rattle.std.proofs.Math.Seq.{take-suc, drop-cons}
-use Rattle.std.proofs.lemmas.Bool.{eq-eqb, eqb-true}
+use Rattle.std.proofs.lemmas.Bool.{eq-eqb, eqb-true, cond_both}
 use Rattle.std.proofs.lemmas.List.{take-append-drop}
 use Rattle.std.specs.List.{list_all}
 use Rattle.std.specs.Char.{is_ascii_digit}
 use Rattle.memchr.specs.Find.{IsFirstByte, is_byte}
-use Rattle.warg_program.specs.Words.{lines_of, words_of, words_left, is_number, number_in, value_from}
+use Rattle.warg_program.specs.Words.{onto_first, lines_of, words_of, words_left, is_number, number_in, at_most_2^63, length_in, value_from}
+use Rattle.warg_program.specs.Orders.{first_says, none_left}
 use Rattle.warg_program.specs.Private.Parts.{Lacks, IsFirstPart}
 
 Lacks-append : (b : ℕ) (xs ys : List ℕ) → Lacks b xs → Lacks b ys → Lacks b (xs ++ ys)
@@ -89,6 +90,25 @@ pub words_next : (line front : List ℕ) (rest : Option (List ℕ)) → IsFirstP
 words_next line front None parts = rw parts.0 (words_whole front parts.1)
 words_next line front (Some rest) parts = rw parts.0 (words_front front rest parts.1)
 
+-- a line has a word
+pub word_left : (line : List ℕ) → none_left (words_of line) ≡ None
+unfolding words_of none_left
+word_left [] = refl
+word_left (b ∷ bytes) = cond_both (b == 32) _ _ (λ words. none_left words ≡ None) (λ _. refl)
+    (λ _. elim (words_of bytes) as (λ (words : List (List ℕ)). none_left (onto_first b words) ≡ None) [ [] ↦ refl | word ∷ words ↦ refl ])
+
+-- a first word says a length where it says a number that isn't too great
+abbrev pub if_length : Option (ℕ × List (List ℕ)) → Option (ℕ × List (List ℕ))
+if_length (Some p) = option_map (λ n. (n, p.1)) (at_most_2^63 (Some p.0))
+if_length None = None
+
+pub length_says : (words : List (List ℕ)) → first_says length_in words ≡ if_length (first_says number_in words)
+unfolding first_says length_in
+length_says [] = refl
+length_says (word ∷ words) =
+    let pair : ℕ → ℕ × List (List ℕ) = λ n. (n, words) in
+    elim (number_in word) as (λ (said : Option ℕ). option_map pair (at_most_2^63 said) ≡ if_length (option_map pair said)) [ Some n ↦ refl | None ↦ refl ]
+
 lines_front : (front rest : List ℕ) → Lacks 10 front → lines_of (front ++ 10 ∷ rest) ≡ front ∷ lines_of rest
 unfolding lines_of
 lines_front [] rest lacks = refl
@@ -100,22 +120,11 @@ lines_whole b [] lacks = rw (ne_eqb b 10 lacks.0) refl
 lines_whole b (c ∷ line) lacks = rw (ne_eqb b 10 lacks.0, lines_whole c line lacks.1) refl
 
 -- the first line, and those of what stands behind its LF
-pub lines_more : (bytes front : List ℕ) (rest : Option (Bor (List ℕ))) (x : Bor (List ℕ)) → rest ≡ Some x
-    → IsFirstPart 10 bytes front (option_map (λ r. r.now) rest) → lines_of bytes ≡ front ∷ lines_of x.now
-lines_more bytes front None x is parts = absurd (cc)
-lines_more bytes front (Some r) x is parts =
-    let same : r ≡ x = cc in
-    rw parts.0 (lines_front front r.now parts.1) ∙ ap (λ (y : Bor (List ℕ)). front ∷ lines_of y.now) same
+pub lines_more : (bytes front rest : List ℕ) → IsFirstPart 10 bytes front (Some rest) → lines_of bytes ≡ front ∷ lines_of rest
+lines_more bytes front rest parts = rw parts.0 (lines_front front rest parts.1)
 
 -- a last line without an LF
-last_line : (bytes front : List ℕ) → 0 < length bytes → (bytes ≡ front) × Lacks 10 front → lines_of bytes ≡ front ∷ lines_of []
+pub lines_end : (bytes front : List ℕ) → 0 < length bytes → IsFirstPart 10 bytes front None → lines_of bytes ≡ front ∷ lines_of []
 unfolding lines_of
-last_line bytes [] some parts = absurd (omega (arith, ap length parts.0))
-last_line bytes (b ∷ front) some parts = rw parts.0 (lines_whole b front parts.1)
-
-pub lines_end : (bytes front : List ℕ) (rest : Option (Bor (List ℕ))) (n : ℕ) → 0 < length bytes → rest ≡ None
-    → IsFirstPart 10 bytes front (option_map (λ r. r.now) rest) → lines_of bytes ≡ front ∷ lines_of (take (n - n) (drop n bytes))
-lines_end bytes front None n some none parts =
-    let no_more : n - n ≡ 0 = omega arith in
-    last_line bytes front some parts ∙ ap (λ m. front ∷ lines_of (take m (drop n bytes))) (sym no_more)
-lines_end bytes front (Some r) n some none parts = absurd (cc)
+lines_end bytes [] some parts = absurd (omega (arith, ap length parts.0))
+lines_end bytes (b ∷ front) some parts = rw parts.0 (lines_whole b front parts.1)

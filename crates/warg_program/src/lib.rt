@@ -4,8 +4,6 @@
 mod command;
 mod program;
 mod session;
-mod status;
 mod words;
 
-pub use program::{RunError, run};
-pub use status::exit_code;
+pub use program::{RunError, exit_code, run};

@@ -1,7 +1,8 @@
 //! The program: lines of commands in, lines of answers out.
 
-ghost use Rattle.std.specs.Prelude.{◌≡◌, ◌≢◌, ◌↔◌, ⊤, [], true, IsTrue, IfSome, IfOk, IfErr, OnOk};
+ghost use Rattle.std.specs.Prelude.{◌≡◌, ◌≢◌, ◌↔◌, ◌⊎◌, ⊤, [], Ok, Err, true, false, IsTrue, IfSome, IfOk, IfErr, OnOk};
 ghost use Rattle.std.specs.Io.KnownBytes.{Appends};
+ghost use Rattle.std.specs.Process.{exit_status};
 ghost use Rattle.warg_program.specs.Words.{lines_of};
 ghost use Rattle.warg_program.specs.Text.{text_of, all_good, MeetsFull, HasText};
 ghost use Rattle.warg_program.specs.declared.program.RunError.TheVariants.{Memory};
@@ -9,6 +10,7 @@ ghost use Rattle.warg_program.specs.declared.program.RunError.TheVariants.{Memor
 use crate::session::answers;
 use std::alloc::{AllocError, AllocFailed, Allocator};
 use std::io::{Read, Write};
+use std::process::ExitCode;
 use thiserror::Error;
 
 /// Why a run ended before its text was written.
@@ -80,6 +82,24 @@ pub fn run<A: Allocator + Copy, R: Read, W: Write>(
         return Err(RunError::Write);
     }
     Ok(good)
+}
+
+/// The exit status after a run: 0 where every line was good, 1 where one was bad, 2 where a read or a write failed, and 3
+/// where memory was refused or a log or map is full.
+pub fn exit_code(ended: Result<bool, RunError>) -> ExitCode
+    ensures good { (exit_status result ≡ 0) ↔ (ended ≡ Ok true) }
+    ensures bad { (exit_status result ≡ 1) ↔ (ended ≡ Ok false) }
+    ensures device { (exit_status result ≡ 2)
+        ↔ ((ended ≡ Err RunError.Read) ⊎ (ended ≡ Err RunError.Write)) }
+    ensures want { (exit_status result ≡ 3) ↔
+        ((ended ≡ Err RunError.Memory) ⊎ (ended ≡ Err RunError.Full)) }
+{
+    match ended {
+        Ok(true) => ExitCode::from(0),
+        Ok(false) => ExitCode::from(1),
+        Err(RunError::Read | RunError::Write) => ExitCode::from(2),
+        Err(RunError::Memory | RunError::Full) => ExitCode::from(3),
+    }
 }
 
 // All that a reader gives up to its end. An error of a read isn't tried again.

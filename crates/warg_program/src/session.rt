@@ -106,7 +106,7 @@ impl<A: Allocator + Copy> Session<A> {
             return Err(RunError::Full);
         }
         let node = self.log.push(entry)?;
-        let number = node.index();
+        let number = node.0;
         writeln!(self.text, "node {number}")?;
         Ok(())
     }
