@@ -91,7 +91,7 @@ impl<D: SupportedDigest, V: VisitBytes, A: Allocator> VecLog<D, V, A> {
     }
 
     // The root of the tree over the entries: the digests of the balanced roots, joined from the right.
-    #[tactic(auto, using(crate::proofs::NodeLemmas::last_width))]
+    #[tactic(auto, using(crate::proofs::NodeLemmas::last_width, crate::proofs::SliceLemmas::slice_size))]
     fn root(&self) -> Hash<D>
         ensures { result ≡ root_of D.digest self.now }
     {
@@ -132,13 +132,14 @@ impl<D: SupportedDigest, V: VisitBytes, A: Allocator> LogBuilder<D, V> for VecLo
     {
         let digest = hash_leaf::<D, V>(entry);
         let leaf = Node::leaf(self.count);
-        self.tree.reserve(2)?;
+        let tree = &mut self.tree;
+        tree.reserve(2)?;
         if self.count != 0 {
-            self.tree.push_reserved(self.spacer.copied());
+            tree.push_reserved(self.spacer.copied());
         }
-        self.tree.push_reserved(digest);
+        tree.push_reserved(digest);
         self.count += 1;
-        join_up(&mut self.tree, self.count);
+        join_up(tree, self.count);
         Ok(leaf)
     }
 
