@@ -49,13 +49,22 @@ room_more H tree is some =
     }
 
 -- what a leaf appended to that makes
-pub appended : (H : List ℕ → List ℕ) (ds base : List (List ℕ)) (d : List ℕ) → HasRoom H ds base → length base + 1 < 2 ^ 64 → IsSliceUpTo H (ds ++ d ∷ []) (base ++ d ∷ []) 0
-appended H ds base d room small =
+pub record IsAppended (H : List ℕ → List ℕ) (ds tree : List (List ℕ)) (d : List ℕ) : Type 0 where
+  pub leaves : leaves_in tree ≡ ds ++ d ∷ []
+  pub count : length (leaves_in tree) ≡ length ds + 1
+  pub slice : IsSliceUpTo H (leaves_in tree) tree 0
+
+pub appended : (H : List ℕ → List ℕ) (ds base : List (List ℕ)) (d : List ℕ) → HasRoom H ds base → IsAppended H ds (base ++ d ∷ []) d
+appended H ds base d room =
     let count = length_push ds d in
     let size = length_push base d in
     let number : number_of 0 (length ds) ≡ 2 * length ds = omega arith in
     let leaf = rw number at (own_leaf H (ds ++ d ∷ []) (length ds) (omega arith)) ∙ get_or-append_seam ds d [] [] in
     record {
-      len = omega (arith, size, count, room.len);
-      holds = λ z z_in low. grind (arith, nat_tests, size, count, room.len, get_or-append base (d ∷ []) [] z, get_or-append_seam base d [] [], room.holds z, kept H ds d z, leaf);
+      leaves = room.leaves d;
+      count = rw (room.leaves d) count;
+      slice = rw (room.leaves d) (record {
+        len = omega (arith, size, count, room.len);
+        holds = λ z z_in low. grind (arith, nat_tests, size, count, room.len, get_or-append base (d ∷ []) [] z, get_or-append_seam base d [] [], room.holds z, kept H ds d z, leaf);
+      });
     }

@@ -7,6 +7,7 @@ use Rattle.std.proofs.lemmas.Bool.{le-leb, lt-leb, cases_lt, cases_eq}
 use Rattle.std.proofs.lemmas.List.{get_or_default, get_or-set_same, get_or-set_other, length-set}
 use Rattle.std.proofs.Math.Nat.{pow-suc, pow-le-pow_right}
 use Rattle.std.proofs.lemmas.Nat.{pow_pos, one_shl}
+use Rattle.std.proofs.lemmas.Grind.{pow_more}
 use Rattle.std.proofs.lemmas.List.FromFn.{fill_by_all, length-map-range_with_len, get_or-map-range_with_len}
 use Rattle.std.proofs.Math.ListN.{get_or}
 use Rattle.warg_log.specs.Ranges.{IsAligned}
@@ -14,7 +15,7 @@ use Rattle.warg_log.specs.Nodes.{height_of, place_of, end_of, number_of}
 use Rattle.warg_crypto.specs.Tree.{branch}
 use Rattle.warg_log.specs.Tree.{root_of, root_over, leaves_in, digest_or_spacer, slice_of, own_digest}
 use Rattle.warg_log.specs.Private.Slices.{IsSliceUpTo}
-use Rattle.warg_log.proofs.NodeLemmas.{node_is, over_at, last_root, divides_most}
+use Rattle.warg_log.proofs.NodeLemmas.{node_is, over_at, last_root, smaller_root, divides_most}
 use Rattle.warg_log.proofs.CutLemmas.{root_over-split}
 use Rattle.warg_log.proofs.LawLemmas.{root_over-one}
 
@@ -87,42 +88,54 @@ pub read_low : (H : List ℕ → List ℕ) (ds tree : List (List ℕ)) (h k j x 
 read_low H ds tree h k j x d slice is low inside read =
     read ∙ get_or_default tree x d [] inside ∙ slice.holds x inside (λ _. rw (is, (over_at k j).0) low)
 
--- a step up in a slice, from the second of two nodes of height h to the branch over them, all of which end at the last leaf
-pub joined_up : (H : List ℕ → List ℕ) (ds tree : List (List ℕ)) (n h j w x : ℕ) (digest sibling : List ℕ) → length ds ≡ n → n ≡ (j + 1) * 2 ^ suc h → w ≡ 2 ^ h → x + 2 ^ h + 1 ≡ 2 * n
-    → IsSliceUpTo H ds tree h → digest ≡ digest_or_spacer H ds x → sibling ≡ get_or tree (x - 2 * w) sibling
-    → IsSliceUpTo H ds (set tree (x - w) (branch H sibling digest)) (h + 1) × (branch H sibling digest ≡ digest_or_spacer H ds (x - w))
-    × (leaves_in (set tree (x - w) (branch H sibling digest)) ≡ leaves_in tree)
-joined_up H ds tree n h j w x digest sibling count ends width last slice is_digest read =
-    let p = x - w in
-    let v = branch H sibling digest in
-    let two = pow-suc 2 h in
-    let wide = rw two at ends in
-    let pos = pow_pos h in
-    let xs : x ≡ number_of h (2 * j + 1) = omega arith in
-    let ys : x - 2 * w ≡ number_of h (2 * j) = omega arith in
-    let ps : p ≡ number_of (suc h) j = rw two (omega arith) in
-    let left = read_low H ds tree h h (2 * j) (x - 2 * w) sibling slice ys (omega arith) (omega (arith, slice.len)) read in
-    let root : v ≡ digest_or_spacer H ds p = rw (left, is_digest, ys, ps, xs) (sym (own_branch H ds h j (omega (arith, ends)))) in
-    let odd : p ≡ suc (2 * (p / 2)) = omega arith in (
-      record {
-        len = length-set tree p v ∙ slice.len;
-        holds = λ z z_in low. ⊎_elim
-            (λ same. rw same (get_or-set_same tree p v [] (omega (arith, slice.len)) ∙ root))
-            (λ other. get_or-set_other tree p z v [] other ∙ slice.holds z (rw length-set at z_in) (λ at_last. ⊎_elim
-            (λ tall. let top : height_of z ≡ suc h = omega (arith, low at_last) in absurd (other (omega (arith, node_is z, at_last, ap (λ k. 2 ^ k) top))))
-            (λ le. le) (cases_lt h (height_of z))))
-            (cases_eq z p);
-      },
-      root,
-      ap (λ i. leaves_in (set tree i v)) odd ∙ leaves_in-set tree (p / 2) v,
-    )
+-- on the way up from the last of n leaves: the node x of height h that ends there has its digest, and so has each lower one
+pub record IsUpTo (H : List ℕ → List ℕ) (ds tree : List (List ℕ)) (n h x : ℕ) (digest : List ℕ) : Type 0 where
+  pub last : x + 2 ^ h + 1 ≡ 2 * n
+  pub slice : IsSliceUpTo H ds tree h
+  pub is : digest ≡ digest_or_spacer H ds x
+  pub leaves : leaves_in tree ≡ ds
 
--- no node that ends at the last leaf is above the last balanced root
-pub finished : (H : List ℕ → List ℕ) (ds tree : List (List ℕ)) (n h : ℕ) → 0 < n → n < 2 ^ 64 → length ds ≡ n → trailing_zeros w64 n ≤ h → IsSliceUpTo H ds tree h → tree ≡ slice_of H ds
-finished H ds tree n h some fits count top slice = slice_is H ds tree (record {
-  len = slice.len;
-  holds = λ z z_in. slice.holds z z_in (λ ends. omega (arith, divides_most n (height_of z) (place_of z + 1) some fits (sym count ∙ sym ends), top));
-})
+module _ (H : List ℕ → List ℕ) (ds : List (List ℕ)) (n : ℕ) (some : 0 < n) (fits : n < 2 ^ 64) (count : length ds ≡ n) where
+  -- from the second of two nodes to the branch over them
+  pub joined_up : (tree : List (List ℕ)) (h w x : ℕ) (digest sibling : List ℕ) → h < trailing_zeros w64 n → w ≡ 1 * 2 ^ h % 2 ^ 64 → IsUpTo H ds tree n h x digest → sibling ≡ get_or tree (x - 2 * w) sibling
+      → IsUpTo H ds (set tree (x - w) (branch H sibling digest)) n (h + 1) (x - w) (branch H sibling digest)
+  joined_up tree h w x digest sibling low is up read =
+      let at = smaller_root n h some fits low in
+      let j = at.0 in
+      let p = x - w in
+      let v = branch H sibling digest in
+      let two = pow-suc 2 h in
+      let wide = rw two at at.1 in
+      let pos = pow_pos h in
+      let width : w ≡ 2 ^ h = is ∙ at.2 in
+      let len = up.slice.len in
+      let xs : x ≡ number_of h (2 * j + 1) = omega (arith, up.last) in
+      let ys : x - 2 * w ≡ number_of h (2 * j) = omega arith in
+      let ps : p ≡ number_of (suc h) j = rw two (omega arith) in
+      let left = read_low H ds tree h h (2 * j) (x - 2 * w) sibling up.slice ys (omega arith) (omega arith) read in
+      let root : v ≡ digest_or_spacer H ds p = rw (left, up.is, ys, ps, xs) (sym (own_branch H ds h j (omega (arith, at.1)))) in
+      let odd : p ≡ suc (2 * (p / 2)) = omega arith in
+      record {
+        last = omega (arith, up.last, pow_more 2 h);
+        slice = record {
+          len = length-set tree p v ∙ len;
+          holds = λ z z_in lower. ⊎_elim
+              (λ same. rw same (get_or-set_same tree p v [] (omega arith) ∙ root))
+              (λ other. get_or-set_other tree p z v [] other ∙ up.slice.holds z (rw length-set at z_in) (λ at_last. ⊎_elim
+              (λ tall. let top : height_of z ≡ suc h = omega (arith, lower at_last) in absurd (other (omega (arith, node_is z, at_last, ap (λ k. 2 ^ k) top))))
+              (λ le. le) (cases_lt h (height_of z))))
+              (cases_eq z p);
+        };
+        is = root;
+        leaves = ap (λ i. leaves_in (set tree i v)) odd ∙ leaves_in-set tree (p / 2) v ∙ up.leaves;
+      }
+
+  -- no node that ends at the last leaf is above the last balanced root
+  pub all_up : (tree : List (List ℕ)) (h : ℕ) → trailing_zeros w64 n ≤ h → IsSliceUpTo H ds tree h → tree ≡ slice_of H ds
+  all_up tree h top slice = slice_is H ds tree (record {
+    len = slice.len;
+    holds = λ z z_in. slice.holds z z_in (λ ends. omega (arith, divides_most n (height_of z) (place_of z + 1) some fits (sym count ∙ sym ends), top));
+  })
 
 -- the root so far, of the leaves from e on, if there are any: they are at most as many as a power of two that divides e
 pub record IsRootFrom (H : List ℕ → List ℕ) (ds : List (List ℕ)) (e : ℕ) (root : Option (List ℕ)) : Type 0 where

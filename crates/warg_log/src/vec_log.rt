@@ -70,7 +70,7 @@ impl<D: SupportedDigest, V: VisitBytes, A: Allocator> VecLog<D, V, A> {
 
     /// The root of the tree over the entries, as in the [`checkpoint`](LogBuilder::checkpoint): for no entries the digest of
     /// no bytes (RFC 6962, section 2.1). It hashes the branches over the balanced roots, which the log doesn't keep.
-    #[tactic(auto, using(crate::proofs::NodeLemmas::last_width))]
+    #[tactic(auto, using(crate::proofs::NodeLemmas::last_width, crate::proofs::SliceLemmas::slice_size))]
     pub fn root(&self) -> Hash<D>
         ensures { result ≡ root_of D.digest self.now }
     {
@@ -133,13 +133,14 @@ impl<D: SupportedDigest, V: VisitBytes, A: Allocator> LogBuilder<D, V> for VecLo
     {
         let digest = hash_leaf::<D, V>(entry);
         let leaf = Node::leaf(self.count);
-        self.tree.reserve(2)?;
+        let tree = &mut self.tree;
+        tree.reserve(2)?;
         if self.count != 0 {
-            self.tree.push_reserved(self.spacer.copied());
+            tree.push_reserved(self.spacer.copied());
         }
-        self.tree.push_reserved(digest);
+        tree.push_reserved(digest);
         self.count += 1;
-        join_up(&mut self.tree, self.count);
+        join_up(tree, self.count);
         Ok(leaf)
     }
 

@@ -1,14 +1,10 @@
 use Rattle.std.proofs.Common.{◌≡◌, refl, ◌∙◌, arith}
-use Rattle.warg_log.proofs.NodeLemmas.{last_width}
-use Rattle.warg_log.proofs.SliceLemmas.{slice_size, no_root, whole_root, next_root}
+use Rattle.warg_log.proofs.SliceLemmas.{no_root, whole_root, next_root}
 use Rattle.warg_log.proofs.vec_log.VecLog.root.Goals as goal
 use Rattle.warg_log.proofs.vec_log.VecLog.root.Goals.{in-Some, in-None}
 
 pub roots-init : goal.roots-init
 roots-init g c = no_root _ _ _ c.self.invariant.0
-
-pub index-left-requires : goal.index-left-requires
-index-left-requires g c = omega (arith, slice_size g.D.SupportedDigest.digest _ _ c.self.invariant.1, c.roots.invariant.within, last_width c.roots.end c.roots-test.true (omega arith))
 
 pub roots-preserved : goal.roots-preserved
 roots-preserved g c =
