@@ -2,15 +2,11 @@
 use Rattle.std.proofs.Common.{◌≡◌, ℕ, Bool, true, false, cond, List, length, Option, Some, None, inl, inr, refl, sym, ◌∙◌}
 use Rattle.warg_crypto.proofs.ForCallers.{branch_parts, same_or_not}
 use Rattle.warg_crypto.specs.Collisions.{Collides}
-use Rattle.warg_crypto.specs.Tree.{branch_input, input_beside}
+use Rattle.warg_crypto.specs.Tree.{input_beside}
 use Rattle.warg_log.specs.Cut.{joined}
 use Rattle.warg_witness.specs.Private.Climbs.{DivergesUp, IsUp}
 use Rattle.warg_witness.specs.declared.climb.Divergence.{Divergence}
 use Rattle.warg_witness.specs.declared.climb.Divergence.TheVariants.{Branch}
-
--- the inputs of two branches differ where one part does
-pub inputs_differ : (a b c d : List ℕ) → length a ≡ length c → ((a ≡ c) × (b ≡ d) → ⊥) → branch_input a b ≡ branch_input c d → ⊥
-inputs_differ a b c d len other e = other (branch_parts a b c d len e)
 
 module _ {D : Type 0} {H : List ℕ → List ℕ} (b : Bool) {x u y v : List ℕ} {p : Divergence D} where
   -- a step with equal parts, and one with different ones
@@ -23,7 +19,7 @@ module _ {D : Type 0} {H : List ℕ → List ℕ} (b : Bool) {x u y v : List ℕ
 
   pub up_differs : length (cond b u x) ≡ length (cond b v y) → ((cond b u x ≡ cond b v y) × (cond b x u ≡ cond b y v) → ⊥)
       → IsUp H b x u y v p (H (input_beside b u x)) (H (input_beside b v y)) (Branch (cond b u x) (cond b x u) (cond b v y) (cond b y v))
-  up_differs sizes differ = record { first_is = refl; second_is = refl; diverges = inr (inputs_differ _ _ _ _ sizes differ, refl) }
+  up_differs sizes differ = record { first_is = refl; second_is = refl; diverges = inr ((λ e. differ (branch_parts _ _ _ _ sizes e)), refl) }
 
 -- a step from digests of one length, with digests of one length beside them
 pub up_somewhere : {D : Type 0} {H : List ℕ → List ℕ} (b : Bool) {x u y v : List ℕ} (p : Divergence D) → length x ≡ length y → length u ≡ length v

@@ -1,30 +1,33 @@
 -- The way down a consistency path and the trees over the old and the new entries.
-use Rattle.std.proofs.Common.{◌≡◌, ℕ, ◌+◌, ◌-◌, ◌<◌, ◌≤◌, ◌==◌, ◌&&◌, ◌↔◌, true, false, nat_lt, nat_le, List, [], ◌∷◌, length, map, reverse, get_or, Option, Some, None, inl, inr, refl, sym, ap, ◌∙◌, arith}
+use Rattle.std.proofs.Common.{◌≡◌, ℕ, Bool, ◌+◌, ◌-◌, ◌<◌, ◌≤◌, ◌==◌, ◌&&◌, ◌↔◌, true, false, nat_lt, nat_le, List, [], ◌∷◌, length, map, reverse, get_or, Option, Some, None, inl, inr, refl, sym, ap, ◌∙◌, arith}
 use Rattle.std.specs.Option.{is_some}
 use Rattle.std.proofs.lemmas.Nat.{pow_pos}
 use Rattle.std.proofs.lemmas.List.{length-map}
 use Rattle.std.proofs.lemmas.Bool.{lt-leb, le-leb, lt-ltb, le-ltb, ne_eqb, cases_lt, cases_Bool}
-use Rattle.warg_crypto.specs.Tree.{branch}
+use Rattle.warg_crypto.specs.Tree.{branch_input, input_beside}
 use Rattle.warg_log.specs.Tree.{front_of, leaves_of, root_of, root_over, own_digest}
-use Rattle.warg_log.proofs.ForCallers.{front_is_greatest, front_of_is}
+use Rattle.warg_log.proofs.ForCallers.{front_is_greatest, front_of_is, root_over_parts}
 use Rattle.warg_paths.specs.Paths.{roots_down, consistency_roots, subproof_roots, one_root, twice, grown, both_over}
-use Rattle.warg_paths.proofs.ForCallers.{both_one, both_short}
-use Rattle.warg_witness.specs.Ranges.{IsPart}
+use Rattle.warg_paths.proofs.ForCallers.{both_one}
+use Rattle.warg_witness.specs.Ranges.{IsPart, IsAround}
 use Rattle.warg_witness.specs.Ranges.IsPart.{whole as part_whole, front as part_front, rest as part_rest}
 use Rattle.warg_witness.specs.Inputs.{plain_input}
 use Rattle.warg_witness.specs.PathClaims.{IsTreeMet}
-use Rattle.warg_witness.specs.TreePlaced.{IsOnGrowth}
+use Rattle.warg_crypto.specs.Collisions.{Collides}
+use Rattle.warg_witness.specs.TreePlaced.{IsOnGrowth, old_turn_input, new_turn_input}
 use Rattle.warg_witness.specs.TreePlaced.IsOnGrowth.{whole, front, rest}
 use Rattle.warg_witness.specs.Private.Compared.{DiffersFirst}
 use Rattle.warg_witness.specs.Private.Divergence.{IsDivergence, inputs_of}
-use Rattle.warg_witness.specs.Private.PathDivergence.{tree_input, IsBranchDivergence}
-use Rattle.warg_witness.specs.Private.TreeDivergence.{IsTreeMeeting, LeadsOver, IsTurnDivergence, IsOnWayOver, IsTreeShown, IsTreeDivergence}
+use Rattle.warg_witness.specs.Private.PathDivergence.{tree_input}
+use Rattle.warg_witness.specs.Private.Climbs.{IsUp}
+use Rattle.warg_witness.specs.Private.TreeDivergence.{IsTreeMeeting, LeadsOver, IsOnWayOver, IsTreeShown, IsTreeDivergence, PartsOnGrowth, IsGrowth}
 use Rattle.warg_witness.specs.declared.climb.Divergence.{Divergence}
 use Rattle.warg_witness.specs.declared.climb.Divergence.TheVariants.{Target, Branch}
-use Rattle.warg_witness.proofs.RangeLemmas.{Digest}
+use Rattle.warg_witness.proofs.ClimbLemmas.{up_diverges}
+use Rattle.warg_witness.proofs.RangeLemmas.{Digest, IsPart-trans}
 use Rattle.warg_witness.proofs.ShownLemmas.{shown}
 use Rattle.warg_witness.proofs.ConsistencyLemmas.{entry_at}
-use Rattle.warg_witness.proofs.RecordLemmas.{branch_collides, whole_root}
+use Rattle.warg_witness.proofs.RecordLemmas.{whole_root}
 use Rattle.warg_witness.proofs.BothLemmas.{both_placed, both_meet}
 
 -- two roots are the same one by one
@@ -120,20 +123,37 @@ growth_parts (rest known m a n top below outer more high) some =
     (rw (same_front m n wide high (omega arith)) at old_part, part_rest a n parts.1 wide)
 
 -- where both lengths are one, so are the roots to which a path leads
-pub end_same : (H : Digest) (old_tree new_tree : List (List ℕ)) (known : Option (List ℕ)) (m a n : ℕ) (path : List (List ℕ)) → m ≡ n → LeadsOver H old_tree new_tree known m a n (reverse path)
-    → root_over H old_tree a n ≡ root_over H new_tree a n
-end_same H old_tree new_tree known m a n path same leads = one (one_root known path) (sym (both_one H known n path) ∙ rw same at leads)
+both_same : (H : Digest) (known : Option (List ℕ)) (n : ℕ) (path : List (List ℕ)) (r r' : List ℕ) → roots_down H known n n (reverse path) ≡ Some (r, r') → r ≡ r'
+both_same H known n path r r' leads = one (one_root known path) (sym (both_one H known n path) ∙ leads)
   where
-    one : (root : Option (List ℕ)) → twice root ≡ Some (root_over H old_tree a n, root_over H new_tree a n) → root_over H old_tree a n ≡ root_over H new_tree a n
+    one : (root : Option (List ℕ)) → twice root ≡ Some (r, r') → r ≡ r'
     one None is = absurd (nothing is)
     one (Some root) is = let both = pair_parts _ _ is in sym both.0 ∙ both.1
 
--- other lengths need a digest
-pub no_digests : (H : Digest) (old_tree new_tree : List (List ℕ)) (known : Option (List ℕ)) (m a n : ℕ) (path : List (List ℕ)) → m < n → length path ≡ 0 → LeadsOver H old_tree new_tree known m a n (reverse path) → ⊥
-no_digests H old_tree new_tree known m a n path more empty leads = nothing (sym (both_short H known m n path more empty) ∙ leads)
+-- the plain input at more than one leaf is the tree's
+plain_is : (H : Digest) (entries tree : List (List ℕ)) (a n : ℕ) → tree ≡ leaves_of H entries → 1 < n → tree_input H tree a n ≡ plain_input H entries a n
+plain_is H entries tree a n is more = rw (lt-leb n 1 more, is) refl
+
+-- at a range, all of whose leaves are old, both roots are that of a range which both trees share
+pub growth_starts : {D : Type 0} (H : Digest) (old_tree new_tree : List (List ℕ)) (place : ℕ) (known : Option (List ℕ)) (m a n : ℕ) (path : List (List ℕ)) {b k : ℕ} {r r' o o' v v' : List ℕ} {p q : Divergence D} → m ≡ n
+    → IsAround place 1 a m → roots_down H known m n (reverse path) ≡ Some (r, r') → (b ≡ a) × (k ≡ n) → (o ≡ r) × (v ≡ r) → o' ≡ root_over H old_tree a n → v' ≡ root_over H new_tree a n
+    → (p ≡ Target) × (q ≡ Target) → IsGrowth H old_tree new_tree place known m a n (reverse path) b k o o' p v v' q
+growth_starts H old_tree new_tree place known m a n path {r = r} {r' = r'} all around leads range first old_is new_is targets =
+    let same : r ≡ r' = both_same H known n path r r' (rw all at leads) in
+    rw (range.0, range.1, first.0, first.1, targets.0, targets.1, all) (record {
+      roots = rw all at leads ∙ ap (λ z. Some (r, z)) (sym same);
+      old_is = old_is;
+      new_is = new_is;
+      around = rw all at around;
+      old_part = part_whole;
+      new_part = part_whole;
+      digest = r;
+      old_parts = λ e. e ∙ old_is;
+      new_parts = λ e. e ∙ new_is;
+    })
 
 -- at a range, not all of whose leaves are old
-module _ (H : Digest) (old_tree new_tree : List (List ℕ)) (known : Option (List ℕ)) (m a n : ℕ) (top : List ℕ) (below : List (List ℕ)) (some : 0 < m) (more : m < n) where
+module _ (H : Digest) (known : Option (List ℕ)) (m n : ℕ) (top : List ℕ) (below : List (List ℕ)) (more : m < n) where
   front_turn : m ≤ front_of n → roots_down H known m n (top ∷ below) ≡ grown H (roots_down H known m (front_of n) below) top
   unfolding roots_down
   front_turn low = rw (ne_eqb m n (λ e. omega arith), le-leb m (front_of n) low) refl
@@ -142,83 +162,27 @@ module _ (H : Digest) (old_tree new_tree : List (List ℕ)) (known : Option (Lis
   unfolding roots_down
   rest_turn high = rw (ne_eqb m n (λ e. omega arith), lt-leb m (front_of n) high) refl
 
-  module _ (leads : LeadsOver H old_tree new_tree known m a n (top ∷ below)) where
-    -- what is left below leads somewhere, and the branches over its roots are the trees' roots
-    pub front_there : m ≤ front_of n → roots_down H known m (front_of n) below ≡ None → ⊥
-    front_there low none = nothing (rw (front_turn low, none) at leads)
+  -- where the digests below lead nowhere, so do all
+  pub front_none : m ≤ front_of n → roots_down H known m (front_of n) below ≡ None → roots_down H known m n (top ∷ below) ≡ None
+  front_none low none = rw (front_turn low, none) refl
 
-    pub rest_there : front_of n < m → roots_down H None (m - front_of n) (n - front_of n) below ≡ None → ⊥
-    rest_there high none = nothing (rw (rest_turn high, none) at leads)
+  pub rest_none : front_of n < m → roots_down H None (m - front_of n) (n - front_of n) below ≡ None → roots_down H known m n (top ∷ below) ≡ None
+  rest_none high none = rw (rest_turn high, none) refl
 
-    front_led : (o v : List ℕ) → m ≤ front_of n → roots_down H known m (front_of n) below ≡ Some (o, v) → (o ≡ root_over H old_tree a m) × (branch H v top ≡ root_over H new_tree a n)
-    front_led o v low led = pair_parts _ _ (rw (front_turn low, led) at leads)
+module _ (H : Digest) (old_tree new_tree : List (List ℕ)) (place : ℕ) (known : Option (List ℕ)) (m a n : ℕ) (top : List ℕ) (below : List (List ℕ)) (some : 0 < m) (more : m < n) where
+  -- what parts below parts here
+  widened : {D : Type 0} {known' : Option (List ℕ)} {m' a' n' : ℕ} (x y : List ℕ) (p : Divergence D)
+      → ((known₀ : Option (List ℕ)) (m₀ n₀ : ℕ) (ds₀ : List (List ℕ)) → IsOnGrowth known₀ m₀ n₀ ds₀ known m a n (top ∷ below) → IsOnGrowth known₀ m₀ n₀ ds₀ known' m' a' n' below)
+      → PartsOnGrowth H old_tree new_tree place known' m' a' n' below x y p → PartsOnGrowth H old_tree new_tree place known m a n (top ∷ below) x y p
+  widened x y Target down is = is
+  widened x y (Branch l r l' r') down is = λ path old new way. is path old new (record { old_is = way.old_is; new_is = way.new_is; differ = way.differ; on_way = down _ _ _ _ way.on_way })
 
-    rest_led : (o v : List ℕ) → front_of n < m → roots_down H None (m - front_of n) (n - front_of n) below ≡ Some (o, v)
-        → (branch H top o ≡ root_over H old_tree a m) × (branch H top v ≡ root_over H new_tree a n)
-    rest_led o v high led = pair_parts _ _ (rw (rest_turn high, led) at leads)
-
-    module _ {D : Type 0} (p : Divergence D) (o v : List ℕ) where
-      -- what a divergence from the new tree at the range is, and one from the old tree
-      pub front_turned : a + n ≤ length new_tree → m ≤ front_of n → roots_down H known m (front_of n) below ≡ Some (o, v) → IsBranchDivergence H v top new_tree a n p
-          → IsTurnDivergence H old_tree new_tree known m a n top below p
-      front_turned in_new low led here = at p (front_led o v low led) here
-        where
-          at : (p : Divergence D) → (o ≡ root_over H old_tree a m) × (branch H v top ≡ root_over H new_tree a n) → IsBranchDivergence H v top new_tree a n p → IsTurnDivergence H old_tree new_tree known m a n top below p
-          at Target is here =
-              record { front = λ _. led ∙ ap (λ z. Some (z, v)) is.0 ∙ ap (λ w. Some (root_over H old_tree a m, w)) here.0; rest = λ high. absurd (omega arith); both = λ high. absurd (omega arith) }
-          at (Branch l r l' r') is here = (
-            branch_collides H v top new_tree a n l r l' r' (omega arith) in_new is.1 here,
-            inr (record { evaluation = rw (le-leb m (front_of n) low, led) (ap Some (sym here.0)); plain = here.1 }),
-          )
-
-      pub old_turned : a + m ≤ length old_tree → front_of n < m → roots_down H None (m - front_of n) (n - front_of n) below ≡ Some (o, v) → (p ≡ Target → ⊥) → IsBranchDivergence H top o old_tree a m p
-          → IsTurnDivergence H old_tree new_tree known m a n top below p
-      old_turned in_old high led other here = at p other (rest_led o v high led) here
-        where
-          at : (p : Divergence D) → (p ≡ Target → ⊥) → (branch H top o ≡ root_over H old_tree a m) × (branch H top v ≡ root_over H new_tree a n) → IsBranchDivergence H top o old_tree a m p
-              → IsTurnDivergence H old_tree new_tree known m a n top below p
-          at Target other is here = absurd (other refl)
-          at (Branch l r l' r') other is here =
-              let split = front_some n (omega arith) in (
-                branch_collides H top o old_tree a m l r l' r' (omega arith) in_old is.0 here,
-                inl (record { in_rest = high; evaluation = rw led (ap Some (sym here.0)); plain = here.1 }),
-              )
-
-      pub rest_turned : a + n ≤ length new_tree → front_of n < m → roots_down H None (m - front_of n) (n - front_of n) below ≡ Some (o, v)
-          → (top ≡ root_over H old_tree a (front_of m)) × (o ≡ root_over H old_tree (a + front_of m) (m - front_of m)) → IsBranchDivergence H top v new_tree a n p
-          → IsTurnDivergence H old_tree new_tree known m a n top below p
-      rest_turned in_new high led old here = at p (rest_led o v high led) here
-        where
-          same : front_of m ≡ front_of n
-          same = same_front m n (omega arith) high (omega arith)
-
-          at : (p : Divergence D) → (branch H top o ≡ root_over H old_tree a m) × (branch H top v ≡ root_over H new_tree a n) → IsBranchDivergence H top v new_tree a n p
-              → IsTurnDivergence H old_tree new_tree known m a n top below p
-          at Target is here =
-              let left = rw same at old.0 in
-              let right = rw same at old.1 in record {
-                front = λ low. absurd (omega arith);
-                rest = λ _. led ∙ ap (λ z. Some (z, v)) right ∙ ap (λ w. Some (root_over H old_tree (a + front_of n) (m - front_of n), w)) here.1;
-                both = λ _. sym left ∙ here.0;
-              }
-          at (Branch l r l' r') is here = (
-            branch_collides H top v new_tree a n l r l' r' (omega arith) in_new is.1 here,
-            inr (record { evaluation = rw (lt-leb m (front_of n) high, led) (ap Some (sym here.0)); plain = here.1 }),
-          )
-
--- the plain input at more than one leaf is the tree's
-plain_is : (H : Digest) (entries tree : List (List ℕ)) (a n : ℕ) → tree ≡ leaves_of H entries → 1 < n → tree_input H tree a n ≡ plain_input H entries a n
-plain_is H entries tree a n is more = rw (lt-leb n 1 more, is) refl
-
--- what a divergence at a range shows
-pub turn_shown : {D : Type 0} (H : Digest) (path old new old_tree new_tree : List (List ℕ)) (place : ℕ) (known : Option (List ℕ)) (m a n : ℕ) (top : List ℕ) (below : List (List ℕ)) (p : Divergence D)
-    (first second : List ℕ) → 0 < m → m < n → (p ≡ Target → ⊥) → IsTurnDivergence H old_tree new_tree known m a n top below p → IsOnWayOver H path old new old_tree new_tree place known m a n (top ∷ below)
-    → IsTreeShown H path old new (inputs_of p first second)
-turn_shown H path old new old_tree new_tree place known m a n top below Target first second some more other is way = absurd (other refl)
-turn_shown H path old new old_tree new_tree place known m a n top below (Branch l r l' r') first second some more other is way = record {
-  collides = is.0;
-  placed = elim is.1 [
-    | inl at ↦ inl (record {
+  -- what inputs of the evaluation and of a tree at the range show, where they collide
+  old_here : {i j : List ℕ} → front_of n < m → old_turn_input H m n top below ≡ Some i → j ≡ tree_input H old_tree a m → Collides H (i, j) → (path old new : List (List ℕ))
+      → IsOnWayOver H path old new old_tree new_tree place known m a n (top ∷ below) → IsTreeShown H path old new (i, j)
+  old_here high evaluation plain collides path old new way = record {
+    collides = collides;
+    placed = inl (record {
       known = known;
       old_count = m;
       from = a;
@@ -226,11 +190,17 @@ turn_shown H path old new old_tree new_tree place known m a n top below (Branch 
       top = top;
       below = below;
       turn = record { on_way = way.on_way; more = more };
-      in_rest = at.in_rest;
-      evaluation = at.evaluation;
-      plain = let split = front_some n (omega arith) in let in_rest = at.in_rest in at.plain ∙ plain_is H old old_tree a m way.old_is (omega arith);
-    })
-    | inr at ↦ inr (inl (record {
+      in_rest = high;
+      evaluation = evaluation;
+      plain = let split = front_some n (omega arith) in plain ∙ plain_is H old old_tree a m way.old_is (omega arith);
+    });
+  }
+
+  new_here : {i j : List ℕ} → new_turn_input H known m n top below ≡ Some i → j ≡ tree_input H new_tree a n → Collides H (i, j) → (path old new : List (List ℕ))
+      → IsOnWayOver H path old new old_tree new_tree place known m a n (top ∷ below) → IsTreeShown H path old new (i, j)
+  new_here evaluation plain collides path old new way = record {
+    collides = collides;
+    placed = inr (inl (record {
       known = known;
       old_count = m;
       from = a;
@@ -238,19 +208,84 @@ turn_shown H path old new old_tree new_tree place known m a n top below (Branch 
       top = top;
       below = below;
       turn = record { on_way = way.on_way; more = more };
-      evaluation = at.evaluation;
-      plain = at.plain ∙ plain_is H new new_tree a n way.new_is (omega arith);
-    }))
-  ];
-}
+      evaluation = evaluation;
+      plain = plain ∙ plain_is H new new_tree a n way.new_is (omega arith);
+    }));
+  }
 
--- what a divergence of both trees below a part of both shows
-pub both_shown : {D : Type 0} (H : Digest) (path old new old_tree new_tree : List (List ℕ)) (place a n : ℕ) (p : Divergence D) → old_tree ≡ leaves_of H old → new_tree ≡ leaves_of H new
-    → (get_or old place [] ≡ get_or new place [] → ⊥) → IsPart 0 (length old) a n → IsPart 0 (length new) a n
-    → IsDivergence H (own_digest H old_tree) (root_over H old_tree place 1) (own_digest H new_tree) (root_over H new_tree place 1) place 1 a n p
-    → IsTreeShown H path old new (inputs_of p (0 ∷ get_or old place []) (0 ∷ get_or new place []))
-both_shown H path old new old_tree new_tree place a n p old_is new_is differ in_old in_new diverges =
-    let pair = shown p _ _ (both_placed H old new place a n in_old in_new) (λ _ meets. both_meet H old new place a n in_old in_new meets differ) (rw (old_is, new_is) at diverges) in
+  module _ (in_old : a + m ≤ length old_tree) (in_new : a + n ≤ length new_tree) where
+    -- up from the first part
+    pub front_up : {D : Type 0} {b k : ℕ} {o o' v v' z w w' : List ℕ} {p q q' : Divergence D} → m ≤ front_of n → IsGrowth H old_tree new_tree place known m a (front_of n) below b k o o' p v v' q → z ≡ root_over H new_tree (a + front_of n) (n - front_of n)
+        → IsUp H false v top v' z q w w' q' → IsGrowth H old_tree new_tree place known m a n (top ∷ below) b k o o' p w w' q'
+    front_up {b = b} {k = k} {v' = v'} {z = z} {p = p} {q = q} low growth z_is up =
+        let plain : input_beside false z v' ≡ tree_input H new_tree a n = rw (z_is, growth.new_is) refl in record {
+          roots = front_turn H known m n top below more low ∙ ap (λ roots. grown H roots top) growth.roots ∙ rw up.first_is refl;
+          old_is = growth.old_is;
+          new_is = up.second_is ∙ ap H plain ∙ sym (root_over_parts H new_tree a n (omega arith) in_new);
+          around = growth.around;
+          old_part = growth.old_part;
+          new_part = IsPart-trans (part_front a n part_whole (omega arith)) growth.new_part;
+          digest = growth.digest;
+          old_parts = λ e. widened _ _ p (λ _ _ _ _ way. front _ _ _ _ _ _ way more low) (growth.old_parts e);
+          new_parts = up_diverges (PartsOnGrowth H old_tree new_tree place known m a n (top ∷ below) growth.digest (root_over H new_tree b k)) up
+              (λ same _. widened _ _ q (λ _ _ _ _ way. front _ _ _ _ _ _ way more low) (growth.new_parts same)) (new_here (rw (le-leb m (front_of n) low, growth.roots) refl) plain);
+        }
+
+    -- up where the old leaves end in the rest, with the roots there
+    module _ (high : front_of n < m) {o v : List ℕ} (led : roots_down H None (m - front_of n) (n - front_of n) below ≡ Some (o, v)) where
+      split : front_of m ≡ front_of n
+      split = same_front m n (omega arith) high (omega arith)
+
+      old_wide : 1 < m
+      old_wide = let f = front_some n (omega arith) in omega arith
+
+      over : {D : Type 0} {b k : ℕ} {x f y g x' f' y' g' : List ℕ} {bit : Bool} {u u' w w' : List ℕ} {p p' q q' : Divergence D} (digest : List ℕ) → IsAround place 1 b k → IsPart a m b k → IsPart a n b k
+          → IsUp H bit x f y g p u u' p' → input_beside bit f x ≡ branch_input top o → input_beside bit g y ≡ tree_input H old_tree a m
+          → (x ≡ y → PartsOnGrowth H old_tree new_tree place known m a n (top ∷ below) digest (root_over H old_tree b k) p)
+          → IsUp H bit x' f' y' g' q w w' q' → input_beside bit f' x' ≡ branch_input top v → input_beside bit g' y' ≡ tree_input H new_tree a n
+          → (x' ≡ y' → PartsOnGrowth H old_tree new_tree place known m a n (top ∷ below) digest (root_over H new_tree b k) q)
+          → IsGrowth H old_tree new_tree place known m a n (top ∷ below) b k u u' p' w w' q'
+      over {b = b} {k = k} digest around old_part new_part old_up old_first old_second old_parts new_up new_first new_second new_parts = record {
+        roots = rest_turn H known m n top below more high ∙ ap (both_over H top) led ∙ rw (old_up.first_is, new_up.first_is, old_first, new_first) refl;
+        old_is = old_up.second_is ∙ ap H old_second ∙ sym (root_over_parts H old_tree a m old_wide in_old);
+        new_is = new_up.second_is ∙ ap H new_second ∙ sym (root_over_parts H new_tree a n (omega arith) in_new);
+        around = around;
+        old_part = old_part;
+        new_part = new_part;
+        digest = digest;
+        old_parts = up_diverges (PartsOnGrowth H old_tree new_tree place known m a n (top ∷ below) digest (root_over H old_tree b k)) old_up (λ same _. old_parts same)
+            (old_here high (rw led (ap Some (sym old_first))) old_second);
+        new_parts = up_diverges (PartsOnGrowth H old_tree new_tree place known m a n (top ∷ below) digest (root_over H new_tree b k)) new_up (λ same _. new_parts same)
+            (new_here (rw (lt-leb m (front_of n) high, led) (ap Some (sym new_first))) new_second);
+      }
+
+    -- from there
+    pub rest_up : {D : Type 0} {b k : ℕ} {o o' v v' y z u u' w w' : List ℕ} {p p' q q' : Divergence D} (high : front_of n < m)
+        → IsGrowth H old_tree new_tree place None (m - front_of n) (a + front_of n) (n - front_of n) below b k o o' p v v' q → y ≡ root_over H old_tree a (front_of n) → z ≡ root_over H new_tree a (front_of n)
+        → IsUp H true o top o' y p u u' p' → IsUp H true v top v' z q w w' q' → IsGrowth H old_tree new_tree place known m a n (top ∷ below) b k u u' p' w w' q'
+    rest_up {p = p} {q = q} high growth y_is z_is old_up new_up =
+        let split = split high growth.roots in
+        over high growth.roots growth.digest growth.around (IsPart-trans (rw split at (part_rest a m part_whole (old_wide high growth.roots))) growth.old_part) (IsPart-trans (part_rest a n part_whole (omega arith)) growth.new_part)
+        old_up refl (rw (y_is, growth.old_is, split) refl) (λ same. widened _ _ p (λ _ _ _ _ way. rest _ _ _ _ _ _ way more high) (growth.old_parts same))
+        new_up refl (rw (z_is, growth.new_is) refl) (λ same. widened _ _ q (λ _ _ _ _ way. rest _ _ _ _ _ _ way more high) (growth.new_parts same))
+
+    -- from the first part, which both trees share
+    pub shared_up : {D : Type 0} {o v y z u u' w w' : List ℕ} {p' q' : Divergence D} (high : front_of n < m) (led : roots_down H None (m - front_of n) (n - front_of n) below ≡ Some (o, v)) → IsAround place 1 a (front_of n)
+        → y ≡ root_over H old_tree (a + front_of n) (m - front_of n) → z ≡ root_over H new_tree (a + front_of n) (n - front_of n)
+        → IsUp H false top o (root_over H old_tree a (front_of n)) y Target u u' p' → IsUp H false top v (root_over H new_tree a (front_of n)) z Target w w' q' → IsGrowth H old_tree new_tree place known m a n (top ∷ below) a (front_of n) u u' p' w w' q'
+    shared_up high led around y_is z_is old_up new_up =
+        let split = split high led in
+        over high led top around (rw split at (part_front a m part_whole (old_wide high led))) (part_front a n part_whole (omega arith)) old_up refl (rw (y_is, split) refl) (λ same. same) new_up refl (rw z_is refl) (λ same. same)
+
+-- what a divergence of both trees below a shared range shows
+pub shared_shown : {D E : Type 0} {H : Digest} {old_tree new_tree : List (List ℕ)} {place : ℕ} {known : Option (List ℕ)} {m a n : ℕ} {ds : List (List ℕ)} {b k : ℕ} {o o' v v' : List ℕ} {p q : Divergence D}
+    → IsGrowth H old_tree new_tree place known m a n ds b k o o' p v v' q → 0 < m → (r : Divergence E)
+    → IsDivergence H (own_digest H old_tree) (root_over H old_tree place 1) (own_digest H new_tree) (root_over H new_tree place 1) place 1 b k r → IsTreeDivergence H old_tree new_tree place known m a n ds r
+shared_shown {H = H} {place = place} {b = b} {k = k} growth some r diverges = λ path old new way.
+    let parts = growth_parts way.on_way some in
+    let in_old = IsPart-trans parts.0 growth.old_part in
+    let in_new = IsPart-trans parts.1 growth.new_part in
+    let pair = shown r _ _ (both_placed H old new place b k in_old in_new) (λ _ meets. both_meet H old new place b k in_old in_new meets way.differ) (rw (way.old_is, way.new_is) at diverges) in
     record { collides = pair.0; placed = inr (inr pair.1) }
 
 -- a path that leads to the roots of the trees over entries leads to them over all leaves, and what a divergence from there shows, of entries that are read

@@ -103,8 +103,11 @@ side_around {s} {w} {a} {n} node aligned around other =
       | inr right ↦ (true, a + front_of n, n - front_of n, a, front_of n, record { start = refl; count = refl; other_start = refl; other_count = refl }, omega arith, omega arith)
     ]
 
--- the parts of a whole log lie within it and are aligned
+-- the parts of an aligned range lie within it and are aligned, and so are those of a whole log
+pub part_within : {a n b m : ℕ} → IsAligned a n → IsPart a n b m → (b + m ≤ a + n) × IsAligned b m
+part_within {a} {n} aligned whole = (omega arith, aligned)
+part_within aligned (front b k part more) = let at = part_within aligned part in (grind (arith, front_is_greatest k more), side_aligned b (front_of k) at.1 more (inl (refl, refl)))
+part_within aligned (rest b k part more) = let at = part_within aligned part in (grind (arith, front_is_greatest k more), side_aligned (b + front_of k) (k - front_of k) at.1 more (inr (refl, refl)))
+
 pub part_in : {n b m : ℕ} → IsPart 0 n b m → (b + m ≤ n) × IsAligned b m
-part_in {n} whole = (omega arith, whole_aligned n)
-part_in (front a k part more) = (grind (arith, front_is_greatest k more, part_in part), side_aligned a (front_of k) (part_in part).1 more (inl (refl, refl)))
-part_in (rest a k part more) = (grind (arith, front_is_greatest k more, part_in part), side_aligned (a + front_of k) (k - front_of k) (part_in part).1 more (inr (refl, refl)))
+part_in {n} part = let at = part_within (whole_aligned n) part in (omega arith, at.1)

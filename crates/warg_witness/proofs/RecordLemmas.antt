@@ -1,17 +1,14 @@
 -- Where a path leads, and the tree over given entries.
-use Rattle.std.proofs.Common.{◌≡◌, ℕ, ◌+◌, ◌-◌, ◌^◌, ◌<◌, ◌≤◌, List, [], ◌∷◌, ◌++◌, length, map, reverse, get_or, Some, None, inl, inr, refl, sym, ap, ◌∙◌}
+use Rattle.std.proofs.Common.{◌≡◌, ℕ, ◌-◌, ◌^◌, ◌<◌, ◌≤◌, List, [], ◌∷◌, ◌++◌, length, map, reverse, get_or, Some, None, inl, inr, refl, sym, ap, ◌∙◌}
 use Rattle.std.proofs.lemmas.Bool.{lt-leb, lt-ltb, le-ltb, cases_lt}
 use Rattle.std.proofs.lemmas.List.{reverse-append, length-map}
 use Rattle.std.proofs.Math.Seq.{take-length}
 use Rattle.warg_log.specs.Tree.{front_of, leaves_of, root_of, root_over}
 use Rattle.warg_log.specs.Cut.{joined}
-use Rattle.warg_log.proofs.ForCallers.{root_over_parts}
 use Rattle.warg_paths.specs.Paths.{inclusion_root, root_down}
 use Rattle.warg_paths.proofs.ForCallers.{root_short}
-use Rattle.warg_crypto.specs.Tree.{branch_input}
 use Rattle.warg_witness.specs.PathClaims.{IsRecord}
-use Rattle.warg_crypto.specs.Collisions.{Collides}
-use Rattle.warg_witness.specs.Private.PathDivergence.{IsPathMeeting, tree_input}
+use Rattle.warg_witness.specs.Private.PathDivergence.{IsPathMeeting}
 use Rattle.warg_witness.proofs.RangeLemmas.{Digest}
 use Rattle.warg_witness.proofs.CutLemmas.{length-leaves}
 use Rattle.warg_witness.proofs.ConsistencyLemmas.{entry_at}
@@ -29,12 +26,6 @@ leads_inside H m n x root path is = elim (cases_lt m n) [
 pub inside_leads : (H : Digest) (m n : ℕ) (x : List ℕ) (path : List (List ℕ)) → m < n → inclusion_root H m n x path ≡ root_down H m n x (reverse path)
 inside_leads H m n x path lt = rw (lt-ltb m n lt) refl
 
--- no digests lead to one leaf alone
-pub one_leads : (H : Digest) (m : ℕ) (x root : List ℕ) (ds : List (List ℕ)) → root_down H m 1 x ds ≡ Some root → (ds ≡ []) × (x ≡ root)
-unfolding root_down
-one_leads H m x root [] is = (refl, cc)
-one_leads H m x root (top ∷ below) is = absurd (cc)
-
 -- of more leaves, no digests lead nowhere
 pub none_leads : (H : Digest) (m n : ℕ) (x root : List ℕ) (path : List (List ℕ)) → 1 < n → length path ≡ 0 → root_down H m n x (reverse path) ≡ Some root → ⊥
 none_leads H m n x root path more none is = let nowhere = root_short H m n x path more none in cc
@@ -51,11 +42,6 @@ front_leads H m n x top below more lt = rw (lt-leb n 1 more, lt-ltb m (front_of 
 pub rest_leads : (H : Digest) (m n : ℕ) (x top : List ℕ) (below : List (List ℕ)) → 1 < n → front_of n ≤ m → root_down H m n x (top ∷ below) ≡ joined H (Some top) (root_down H (m - front_of n) (n - front_of n) x below)
 unfolding root_down
 rest_leads H m n x top below more le = rw (lt-leb n 1 more, le-ltb m (front_of n) le) refl
-
--- two digests whose branch has the digest of a tree's range, and that diverge there, collide
-pub branch_collides : (H : Digest) (left right : List ℕ) (tree : List (List ℕ)) (a n : ℕ) (l r l' r' : List ℕ) → 1 < n → a + n ≤ length tree → H (branch_input left right) ≡ root_over H tree a n
-    → (branch_input l r ≡ branch_input left right) × (branch_input l' r' ≡ tree_input H tree a n) × (branch_input l r ≡ branch_input l' r' → ⊥) → Collides H (branch_input l r, branch_input l' r')
-branch_collides H left right tree a n l r l' r' more within is here = record { differ = here.2; same = ap H here.0 ∙ is ∙ root_over_parts H tree a n more within ∙ ap H (sym here.1) }
 
 -- a path that leads to the root of the tree over the entries leads to the root over all leaves
 pub whole_root : (H : Digest) (entries : List (List ℕ)) → root_of H (leaves_of H entries) ≡ root_over H (leaves_of H entries) 0 (length entries)

@@ -13,6 +13,7 @@ ghost use Rattle.warg_witness.specs.Private.PathClimbs.{DivergesFromTree};
 
 mod agreement;
 mod climbing;
+mod growth;
 mod tree;
 
 use crate::climb::Divergence;

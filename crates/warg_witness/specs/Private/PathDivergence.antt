@@ -4,8 +4,6 @@ use Rattle.std.specs.Prelude.{◌≡◌, ℕ, ◌+◌, ◌-◌, ◌<◌, ◌≤�
 use Rattle.warg_log.specs.Tree.{front_of, leaves_of, root_of, root_over}
 use Rattle.warg_paths.specs.Paths.{inclusion_root}
 use Rattle.warg_crypto.specs.Tree.{branch_input}
-use Rattle.warg_witness.specs.declared.climb.Divergence.{Divergence}
-use Rattle.warg_witness.specs.declared.climb.Divergence.TheVariants.{Target, Branch}
 
 -- The path leads from the leaf digest x to the root of the tree over the entries, which can be numbered.
 pub record IsPathMeeting (H : List ℕ → List ℕ) (index : ℕ) (path : List (List ℕ)) (x : List ℕ) (entries tree : List (List ℕ)) : Type 0 where
@@ -17,9 +15,3 @@ pub record IsPathMeeting (H : List ℕ → List ℕ) (index : ℕ) (path : List 
 -- A tree's input at the branch over n leaves from a on.
 abbrev pub tree_input : (List ℕ → List ℕ) → List (List ℕ) → ℕ → ℕ → List ℕ
 tree_input H tree a n = branch_input (root_over H tree a (front_of n)) (root_over H tree (a + front_of n) (n - front_of n))
-
--- Two digests are those of the two parts of a tree's range, or the branch's inputs are theirs and the tree's, which
--- differ.
-abbrev pub IsBranchDivergence : {D : _} → (List ℕ → List ℕ) → List ℕ → List ℕ → List (List ℕ) → ℕ → ℕ → Divergence D → Type 0
-IsBranchDivergence H left right tree a n Target = (left ≡ root_over H tree a (front_of n)) × (right ≡ root_over H tree (a + front_of n) (n - front_of n))
-IsBranchDivergence H left right tree a n (Branch l r l' r') = (branch_input l r ≡ branch_input left right) × (branch_input l' r' ≡ tree_input H tree a n) × (branch_input l r ≡ branch_input l' r' → ⊥)

@@ -1,27 +1,24 @@
 //! The witness for consistency paths.
 
-ghost use Rattle.std.specs.Prelude.{◌≡◌, ℕ, ◌+◌, ◌-◌, ◌^◌, ◌<◌, ◌≤◌, ◌↔◌, List, [], ◌∷◌, length, map, reverse, None, Some, Ok, IfOk, IsTrue, MatchOption, false};
-ghost use Rattle.warg_log.specs.Tree.{leaves_of, root_of, root_over};
+ghost use Rattle.std.specs.Prelude.{◌≡◌, ℕ, ◌<◌, ◌≤◌, ◌↔◌, List, length, map, None, Ok, IfOk, IsTrue, MatchOption, false};
+ghost use Rattle.warg_log.specs.Tree.{leaves_of, root_of};
 ghost use Rattle.warg_paths.specs.Paths.{consistency_roots};
 ghost use Rattle.warg_witness.specs.Findings.{Finds};
 ghost use Rattle.warg_witness.specs.Claims.{Begins};
 ghost use Rattle.warg_witness.specs.PathClaims.{IsTreeMet};
 ghost use Rattle.warg_witness.specs.TreePlaced.{IsTreePlaced};
-ghost use Rattle.warg_witness.specs.Ranges.{IsAround};
-ghost use Rattle.warg_log.specs.Ranges.{IsAligned};
-ghost use Rattle.warg_witness.specs.Private.PathDivergence.{IsBranchDivergence};
-ghost use Rattle.warg_witness.specs.Private.TreeDivergence.{IsTreeMeeting, LeadsOver, IsTurnDivergence, IsTreeDivergence};
+ghost use Rattle.warg_witness.specs.Private.TreeDivergence.{IsTreeMeeting};
 
 use super::MOST_LEAVES;
-use crate::climb::Divergence;
+use super::growth::growth_divergence;
 use crate::collide::collide_values;
 use crate::collision::Finding;
 use crate::plain::{plain_digest, plain_tree};
-use crate::trees::{Trees, divergence_below, first_difference};
+use crate::trees::{Trees, first_difference};
 use std::alloc::{AllocError, Allocator};
 use warg_crypto::{Hash, SupportedDigest, VisitBytes};
-use warg_log::{LeafRange, VecLog};
-use warg_paths::{roots_of_consistency, roots_of_subproof};
+use warg_log::LeafRange;
+use warg_paths::roots_of_consistency;
 
 // Whether the path leads from a root of `old_length` entries to some root of `new_length`, whichever the old root is.
 fn leads<D: SupportedDigest>(path: &[Hash<D>], old_length: usize, new_length: usize) -> bool
@@ -77,126 +74,6 @@ fn meet_trees<D: SupportedDigest, V: VisitBytes, A: Allocator + Copy>(
     }))
 }
 
-// Where the branch over two digests and a tree's branch over a range diverge.
-fn branch_divergence<D: SupportedDigest, V: VisitBytes, A: Allocator>(
-    left: &Hash<D>,
-    right: &Hash<D>,
-    tree: &VecLog<D, V, A>,
-    range: &LeafRange,
-) -> Divergence<D>
-    requires more { 1 < range.now.count }
-    requires aligned { IsAligned range.now.start range.now.count }
-    requires within { range.now.start + range.now.count ≤ length tree.now }
-    ensures { IsBranchDivergence D.digest left.now right.now tree.now range.now.start
-        range.now.count result }
-{
-    let (front, rest) = range.split();
-    let second_left = plain_digest(tree, &front);
-    let second_right = plain_digest(tree, &rest);
-    prove_eq!(left.len(), second_left.len());
-    if left != &second_left || right != &second_right {
-        return Divergence::Branch {
-            first_left: left.copied(),
-            first_right: right.copied(),
-            second_left,
-            second_right,
-        };
-    }
-    Divergence::Target
-}
-
-// Where the evaluation and the trees diverge at a range, of which not all leaves are old, by the topmost digest of a
-// path and those below it.
-fn turn_divergence<D: SupportedDigest, V: VisitBytes, A: Allocator>(
-    trees: &Trees<D, V, A>,
-    old_root: Option<Hash<D>>,
-    old_length: usize,
-    range: &LeafRange,
-    top: &Hash<D>,
-    below: &[Hash<D>],
-) -> Divergence<D>
-    requires some { 0 < old_length }
-    requires more { old_length < range.now.count }
-    requires aligned { IsAligned range.now.start range.now.count }
-    requires in_old { range.now.start + old_length ≤ length trees.now.old }
-    requires in_new { range.now.start + range.now.count ≤ length trees.now.new }
-    requires leads { LeadsOver D.digest trees.now.old trees.now.new old_root old_length
-        range.now.start range.now.count (top.now ∷ reverse below.now) }
-    ensures { IsTurnDivergence D.digest trees.now.old trees.now.new old_root old_length
-        range.now.start range.now.count top.now (reverse below.now) result }
-{
-    let (front, rest) = range.split();
-    if old_length <= front.count {
-        return match roots_of_subproof(old_root, old_length, front.count, below) {
-            Some((_, new)) => branch_divergence(&new, top, &trees.new, range),
-            None => unreachable!(),
-        };
-    }
-    let Some((old, new)) = roots_of_subproof(None, old_length - front.count, rest.count, below)
-    else {
-        unreachable!()
-    };
-    let from_old = branch_divergence(
-        top,
-        &old,
-        &trees.old,
-        &LeafRange::new(range.start, old_length),
-    );
-    if !from_old.is_target() {
-        return from_old;
-    }
-    branch_divergence(top, &new, &trees.new, range)
-}
-
-fn copied_root<D>(root: &Option<Hash<D>>) -> Option<Hash<D>>
-    ensures { result ≡ root.now }
-{
-    match root {
-        Some(root) => Some(root.copied()),
-        None => None,
-    }
-}
-
-// Goes down from a range at which the evaluation has the digests of both trees towards the leaf at `place`, and answers
-// where two inputs differ first.
-fn descend_growth<D: SupportedDigest, V: VisitBytes, A: Allocator>(
-    trees: &Trees<D, V, A>,
-    place: usize,
-    old_root: Option<Hash<D>>,
-    old_length: usize,
-    range: &LeafRange,
-    path: &[Hash<D>],
-) -> Divergence<D>
-    requires order { old_length ≤ range.now.count }
-    requires around { IsAround place 1 range.now.start old_length }
-    requires aligned { IsAligned range.now.start range.now.count }
-    requires in_old { range.now.start + old_length ≤ length trees.now.old }
-    requires in_new { range.now.start + range.now.count ≤ length trees.now.new }
-    requires leads { LeadsOver D.digest trees.now.old trees.now.new old_root old_length
-        range.now.start range.now.count (reverse path.now) }
-    ensures { IsTreeDivergence D.digest trees.now.old trees.now.new place old_root old_length
-        range.now.start range.now.count (reverse path.now) result }
-{
-    if old_length == range.count {
-        return divergence_below(trees, range, place);
-    }
-    let Some((top, below)) = path.split_last() else {
-        unreachable!()
-    };
-    let here = turn_divergence(trees, copied_root(&old_root), old_length, range, top, below);
-    if !here.is_target() {
-        return here;
-    }
-    let (front, rest) = range.split();
-    if old_length <= front.count {
-        return descend_growth(trees, place, old_root, old_length, &front, below);
-    }
-    if place < rest.start {
-        return divergence_below(trees, &front, place);
-    }
-    descend_growth(trees, place, None, old_length - front.count, &rest, below)
-}
-
 /// Whether a consistency path's claim is true of the entries: the new entries begin with the old ones, byte by byte.
 ///
 /// `NotMet` exactly if the path doesn't lead from the root of the tree over the old entries to this root and that of
@@ -207,9 +84,10 @@ fn descend_growth<D: SupportedDigest, V: VisitBytes, A: Allocator>(
 /// tree over the new entries, at one range on the way to the old length's end; what it takes in the old tree (first) and
 /// in the new one (second) at one range of both.
 ///
-/// It hashes each leaf and branch of both trees once, and beside them at most as many branches as three times the square
-/// of the path's length. Out of memory is the only error. An entry of more than `usize::MAX` bytes counts as that, and so
-/// do more than 2^63 entries.
+/// It hashes each leaf and branch of both trees once; besides, at most three times each branch of the path's evaluation,
+/// and at most twice more each branch of both trees on the way from the first entry that differs up to the roots, or
+/// beside that way. Out of memory is the only error. An entry of more than `usize::MAX` bytes counts as that, and so do
+/// more than 2^63 entries.
 pub fn witness_tree<D: SupportedDigest, V: VisitBytes, A: Allocator + Copy>(
     alloc: A,
     path: &[Hash<D>],
@@ -233,7 +111,7 @@ pub fn witness_tree<D: SupportedDigest, V: VisitBytes, A: Allocator + Copy>(
     };
     let old_root = plain_digest(&trees.old, &LeafRange::new(0, old.len()));
     let whole = LeafRange::new(0, new.len());
-    let divergence = descend_growth(&trees, place, Some(old_root), old.len(), &whole, path);
+    let divergence = growth_divergence(&trees, place, Some(old_root), old.len(), &whole, path);
     let pair = collide_values(alloc, &divergence, &old[place], &new[place])?;
     Ok(Finding::Collision(pair))
 }

@@ -1,0 +1,142 @@
+//! The evaluation of a consistency path and the trees over the old and the new entries, side by side.
+
+ghost use Rattle.std.specs.Prelude.{◌≡◌, ℕ, ◌+◌, ◌-◌, ◌<◌, ◌≤◌, length, reverse, None, MatchOption};
+ghost use Rattle.warg_log.specs.Ranges.{IsAligned};
+ghost use Rattle.warg_log.specs.Tree.{root_over};
+ghost use Rattle.warg_paths.specs.Paths.{roots_down};
+ghost use Rattle.warg_witness.specs.Ranges.{IsAround};
+ghost use Rattle.warg_witness.specs.Private.TreeDivergence.{LeadsOver, IsGrowth, IsTreeDivergence};
+
+use crate::climb::{Climb, Divergence};
+use crate::plain::plain_digest;
+use crate::trees::{Trees, divergence_below};
+use std::alloc::Allocator;
+use warg_crypto::{Hash, SupportedDigest, VisitBytes};
+use warg_log::LeafRange;
+use warg_paths::roots_of_subproof;
+
+// The evaluation of a path beside both trees, as far as it has come up from a range for which the path has one digest.
+#[derive(Drop)]
+struct Growth<D> {
+    shared: LeafRange,
+    // The old root and the old tree's, and the new root and the new tree's.
+    old: Climb<D>,
+    new: Climb<D>,
+}
+
+// Both evaluations at the shared range, from its digest in the path.
+fn growth_at<D: SupportedDigest, V: VisitBytes, A: Allocator>(
+    trees: &Trees<D, V, A>,
+    shared: &LeafRange,
+    digest: &Hash<D>,
+) -> Growth<D>
+    requires aligned { IsAligned shared.now.start shared.now.count }
+    requires in_old { shared.now.start + shared.now.count ≤ length trees.now.old }
+    requires in_new { shared.now.start + shared.now.count ≤ length trees.now.new }
+    ensures shared { (result.shared.start ≡ shared.now.start)
+        × (result.shared.count ≡ shared.now.count) }
+    ensures first { (result.old.first ≡ digest.now) × (result.new.first ≡ digest.now) }
+    ensures old { result.old.second
+        ≡ root_over D.digest trees.now.old shared.now.start shared.now.count }
+    ensures new { result.new.second
+        ≡ root_over D.digest trees.now.new shared.now.start shared.now.count }
+    ensures targets { (result.old.divergence ≡ Divergence.Target)
+        × (result.new.divergence ≡ Divergence.Target) }
+{
+    Growth {
+        shared: *shared,
+        old: Climb::new(digest.copied(), plain_digest(&trees.old, shared)),
+        new: Climb::new(digest.copied(), plain_digest(&trees.new, shared)),
+    }
+}
+
+// The evaluation and both trees up to a range, from the part that has the leaf at `place` and one digest in the path.
+// None where the path leads to no roots over the range.
+fn climb_growth<D: SupportedDigest, V: VisitBytes, A: Allocator>(
+    trees: &Trees<D, V, A>,
+    place: usize,
+    old_root: Option<Hash<D>>,
+    old_length: usize,
+    range: &LeafRange,
+    path: &[Hash<D>],
+) -> Option<Growth<D>>
+    requires order { old_length ≤ range.now.count }
+    requires around { IsAround place 1 range.now.start old_length }
+    requires aligned { IsAligned range.now.start range.now.count }
+    requires in_old { range.now.start + old_length ≤ length trees.now.old }
+    requires in_new { range.now.start + range.now.count ≤ length trees.now.new }
+    ensures { MatchOption result
+        (roots_down D.digest old_root old_length range.now.count (reverse path.now) ≡ None)
+        (λ growth. IsGrowth D.digest trees.now.old trees.now.new place old_root old_length
+        range.now.start range.now.count (reverse path.now) growth.shared.start growth.shared.count
+        growth.old.first growth.old.second growth.old.divergence
+        growth.new.first growth.new.second growth.new.divergence) }
+{
+    if old_length == range.count {
+        let (root, _) = roots_of_subproof(old_root, old_length, range.count, path)?;
+        return Some(growth_at(trees, range, &root));
+    }
+    let (top, below) = path.split_last()?;
+    let (front, rest) = range.split();
+    if old_length <= front.count {
+        let growth = climb_growth(trees, place, old_root, old_length, &front, below)?;
+        let new_rest = plain_digest(&trees.new, &rest);
+        return Some(Growth {
+            shared: growth.shared,
+            old: growth.old,
+            new: growth.new.up(false, top, &new_rest),
+        });
+    }
+    let old_rest = LeafRange::new(rest.start, old_length - front.count);
+    if place < rest.start {
+        let (old, new) = roots_of_subproof(None, old_rest.count, rest.count, below)?;
+        let growth = growth_at(trees, &front, top);
+        return Some(Growth {
+            shared: front,
+            old: growth
+                .old
+                .up(false, &old, &plain_digest(&trees.old, &old_rest)),
+            new: growth.new.up(false, &new, &plain_digest(&trees.new, &rest)),
+        });
+    }
+    let growth = climb_growth(trees, place, None, old_rest.count, &rest, below)?;
+    Some(Growth {
+        shared: growth.shared,
+        old: growth.old.up(true, top, &plain_digest(&trees.old, &front)),
+        new: growth.new.up(true, top, &plain_digest(&trees.new, &front)),
+    })
+}
+
+/// Where the evaluation of a path that leads to the roots of both trees diverges from one of them, or else both trees
+/// diverge on the way to the leaf at `place`. It hashes each branch of the evaluation once, and each of the trees' beside
+/// it.
+pub(super) fn growth_divergence<D: SupportedDigest, V: VisitBytes, A: Allocator>(
+    trees: &Trees<D, V, A>,
+    place: usize,
+    old_root: Option<Hash<D>>,
+    old_length: usize,
+    range: &LeafRange,
+    path: &[Hash<D>],
+) -> Divergence<D>
+    requires order { old_length ≤ range.now.count }
+    requires around { IsAround place 1 range.now.start old_length }
+    requires aligned { IsAligned range.now.start range.now.count }
+    requires in_old { range.now.start + old_length ≤ length trees.now.old }
+    requires in_new { range.now.start + range.now.count ≤ length trees.now.new }
+    requires leads { LeadsOver D.digest trees.now.old trees.now.new old_root old_length
+        range.now.start range.now.count (reverse path.now) }
+    ensures { IsTreeDivergence D.digest trees.now.old trees.now.new place old_root old_length
+        range.now.start range.now.count (reverse path.now) result }
+{
+    let growth = climb_growth(trees, place, old_root, old_length, range, path);
+    let Some(Growth { shared, old, new }) = growth else {
+        unreachable!()
+    };
+    if !old.divergence.is_target() {
+        return old.divergence;
+    }
+    if !new.divergence.is_target() {
+        return new.divergence;
+    }
+    divergence_below(trees, &shared, place)
+}
