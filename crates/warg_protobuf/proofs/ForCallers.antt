@@ -7,16 +7,16 @@ use Rattle.std.proofs.lemmas.List.{take_more, take_all, drop_more, drop_all, map
 use Rattle.warg_protobuf.specs.declared.value_error.DecodeError.{DecodeError}
 use Rattle.warg_protobuf.specs.declared.value_error.DecodeError.TheVariants.{HashLength}
 use Rattle.warg_protobuf.specs.Decoding.{unless, earlier, first_fault, digest_fault}
-use Rattle.warg_protobuf.proofs.Packed as packed
-use Rattle.warg_protobuf.proofs.Writing as writing
 
 -- what holds of each element of two lists holds of each element of both in a row
 pub all_append : {X : Type 0} (P : X → Type 0) (xs ys : List X) → AllByRecursion P xs → AllByRecursion P ys → AllByRecursion P (xs ++ ys)
-all_append = writing.all_append
+all_append P [] ys p q = q
+all_append P (x ∷ xs) ys p q = (p.0, all_append P xs ys p.1 q)
 
 -- what follows from what holds of each element holds of each
 pub all_weaken : {X : Type 0} (P Q : X → Type 0) → ((x : X) → P x → Q x) → (xs : List X) → AllByRecursion P xs → AllByRecursion Q xs
-all_weaken = packed.all_into
+all_weaken P Q into [] all = tt
+all_weaken P Q into (x ∷ xs) all = (into x all.0, all_weaken P Q into xs all.1)
 
 -- and of one element more
 pub all_push : {X : Type 0} (P : X → Type 0) (xs : List X) (x : X) → AllByRecursion P xs → P x → AllByRecursion P (xs ++ x ∷ [])

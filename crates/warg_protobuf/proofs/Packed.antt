@@ -1,6 +1,5 @@
 -- Packed numbers: reading gives the numbers that are spelled, or the first fault that stands there.
-use Rattle.std.proofs.Common.{◌≡◌, ℕ, ◌^◌, ◌<◌, ◌≤◌, List, [], ◌∷◌, Ok, Err, refl, subst, inl, inr}
-use Rattle.std.specs.List.{AllByRecursion}
+use Rattle.std.proofs.Common.{◌≡◌, ℕ, ◌^◌, ◌<◌, ◌≤◌, List, Ok, Err, refl, subst, inl, inr}
 use Rattle.std.proofs.lemmas.Bool.{cases_lt, lt-ltb, le-ltb}
 use Rattle.std.proofs.lemmas.List.Elements.{All-from_recursion, recursion_from_All}
 use Rattle.warg_protobuf.specs.declared.error.WireError.{WireError}
@@ -9,6 +8,7 @@ use Rattle.warg_protobuf.specs.Varint.{IsVarint, varint_at}
 use Rattle.warg_protobuf.specs.Schema.{is_uint32, packed_uint32s}
 use Rattle.warg_protobuf.specs.Faults.{IsPacked, NumberFault, PackedFault}
 use Rattle.warg_protobuf.specs.Faults.NumberFault.{in_number, too_large}
+use Rattle.warg_protobuf.proofs.ForCallers.{all_weaken}
 use Rattle.warg_protobuf.proofs.Faults.{varint_fault, fault_varint, begins_varint, varint_begins}
 use Rattle.warg_protobuf.proofs.Sequences.{varints, all_takes, all_again, FaultHere, FirstFault, fault_found, fault_met}
 
@@ -31,11 +31,6 @@ failed_high n e h =
       | inr le ↦ (le, let bad = high_fails n le in cc)
     ]
 
-pub all_into : {X : Type 0} (P Q : X → Type 0) → ((x : X) → P x → Q x) → (xs : List X) → AllByRecursion P xs
-    → AllByRecursion Q xs
-all_into P Q into [] all = tt
-all_into P Q into (x ∷ xs) all = (into x all.0, all_into P Q into xs all.1)
-
 abbrev IsLow : ℕ → Type 0
 IsLow n = n < 2 ^ 32
 
@@ -48,12 +43,12 @@ pub packed_read : (bytes ns : List ℕ) → packed_uint32s bytes ≡ Ok ns → I
 unfolding packed_uint32s
 packed_read bytes ns h =
     let t = all_takes varint_at IsVarint is_uint32 varints bytes ns h in
-    record { spelled = t.0; fit = All-from_recursion IsLow ns (all_into Checks IsLow checked_low ns t.1) }
+    record { spelled = t.0; fit = All-from_recursion IsLow ns (all_weaken Checks IsLow checked_low ns t.1) }
 
 pub read_packed : (bytes ns : List ℕ) → IsPacked bytes ns → packed_uint32s bytes ≡ Ok ns
 unfolding packed_uint32s
 read_packed bytes ns p =
-    all_again varint_at IsVarint is_uint32 varints bytes ns p.spelled (all_into IsLow Checks low_checks ns (recursion_from_All IsLow ns p.fit))
+    all_again varint_at IsVarint is_uint32 varints bytes ns p.spelled (all_weaken IsLow Checks low_checks ns (recursion_from_All IsLow ns p.fit))
 
 number_fault : (bytes : List ℕ) (e : WireError) → FaultHere varint_at is_uint32 bytes e → NumberFault bytes e
 number_fault bytes e (inl cut) = in_number e (varint_fault bytes e cut)
@@ -74,7 +69,7 @@ packed_fault bytes e h =
       front = f.front;
       rest = f.rest;
       parts = f.parts;
-      packed = record { spelled = f.there.0; fit = All-from_recursion IsLow f.taken (all_into Checks IsLow checked_low f.taken f.there.1) };
+      packed = record { spelled = f.there.0; fit = All-from_recursion IsLow f.taken (all_weaken Checks IsLow checked_low f.taken f.there.1) };
       left = f.left;
       why = number_fault f.rest e f.why;
     }
@@ -88,7 +83,7 @@ fault_packed bytes e p =
       front = p.front;
       rest = p.rest;
       parts = p.parts;
-      there = (p.packed.spelled, all_into IsLow Checks low_checks p.numbers (recursion_from_All IsLow p.numbers p.packed.fit));
+      there = (p.packed.spelled, all_weaken IsLow Checks low_checks p.numbers (recursion_from_All IsLow p.numbers p.packed.fit));
       left = p.left;
       why = fault_number p.rest e p.why;
     } in
