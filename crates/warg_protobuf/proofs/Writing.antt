@@ -16,9 +16,9 @@ use Rattle.warg_protobuf.specs.Spelled.{IsSpelled, IsEncoded}
 use Rattle.warg_protobuf.specs.Written.{payload_bytes, field_bytes, fields_bytes, varint_field, delimited_field, uint32_fields, bytes_fields, packed_fields, repeated_fields, message_fields}
 use Rattle.warg_protobuf.proofs.Varints.{varint_bytes_is}
 use Rattle.warg_protobuf.proofs.Fields.{wire_type_small}
-use Rattle.warg_protobuf.proofs.Packed.{read_packed}
+use Rattle.warg_protobuf.proofs.Packed.{packed_is}
 use Rattle.warg_protobuf.proofs.ForCallers.{all_weaken}
-use Rattle.warg_protobuf.proofs.Decoders.{spelled_read}
+use Rattle.warg_protobuf.proofs.Decoders.{message_met}
 
 -- ---- fields that are written are spelled so
 
@@ -131,7 +131,7 @@ packed_spelled (n ∷ ns) fit =
     (varint_bytes n, flat_map varint_bytes ns, varint_bytes_is n (omega arith), packed_spelled ns (All-tail (λ k. k < 2 ^ 32) n ns fit), refl)
 
 packed_again : (ns : List ℕ) → All (λ n. n < 2 ^ 32) ns → packed_uint32s (flat_map varint_bytes ns) ≡ Ok ns
-packed_again ns fit = read_packed (flat_map varint_bytes ns) ns (record { spelled = packed_spelled ns fit; fit = fit })
+packed_again ns fit = (packed_is (flat_map varint_bytes ns) (Ok ns)).0 (record { spelled = packed_spelled ns fit; fit = fit })
 
 pub packed_written : {M : Type 0} (schema : Schema M) (k : ℕ) (ns : List ℕ) → HasField schema k uint32s
     → All (λ n. n < 2 ^ 32) ns → AreWritten schema (packed_fields k ns)
@@ -207,7 +207,7 @@ all_read schema fields Fits again k [] fits short = tt
 all_read schema fields Fits again k (m ∷ ms) fits short =
     let lengths = simp length-append at short in
     let spelled = again m (All-head Fits m ms fits) (omega arith) in
-    (spelled_read schema (fields_bytes (fields m)) m spelled, all_read schema fields Fits again k ms (All-tail Fits m ms fits) (omega arith))
+    (message_met schema (fields_bytes (fields m)) (Ok m) spelled, all_read schema fields Fits again k ms (All-tail Fits m ms fits) (omega arith))
 
 pub nested_written : {O M : Type 0} (outer : Schema O) (schema : Schema M) (fields : M → List Field) (k : ℕ)
     → HasField outer k (message schema) → (ms : List M) → AllRead schema fields ms
@@ -236,5 +236,5 @@ encoded schema fields Fits again m (Ok v) is fits short =
     let P : List ℕ → Type 0 = λ l. length l < 2 ^ 64 in
     let Q : List ℕ → Type 0 = λ l. IsSpelled schema l m in
     let spells = subst Q (sym is) (again m fits (subst P is short)) in
-    record { written = is; spelled = spells; again = spelled_read schema v.items m spells }
+    record { written = is; spelled = spells; again = message_met schema v.items (Ok m) spells }
 encoded schema fields Fits again m (Err e) is fits short = tt
