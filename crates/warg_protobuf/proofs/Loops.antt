@@ -1,22 +1,15 @@
--- Loops that take one thing after the other in, or write one after the other.
-use Rattle.std.proofs.Common.{◌≡◌, ℕ, ◌+◌, ◌^◌, ◌<◌, ◌≤◌, List, [], ◌∷◌, ◌++◌, length, map, take, get_or, subst, eqb, Bool, true, false, Ok, Err, refl, sym, ap, ◌∙◌, append_assoc, arith, inl, inr}
+-- A loop that takes one thing after the other in.
+use Rattle.std.proofs.Common.{◌≡◌, ℕ, ◌^◌, ◌<◌, List, [], ◌∷◌, ◌++◌, length, subst, eqb, Bool, true, false, Ok, Err, refl, sym, ap, ◌∙◌, append_assoc, arith, inl, inr}
 use Rattle.std.proofs.lemmas.Bool.{eqb-true, eqb-false, cases_lt, lt-ltb, le-ltb}
-use Rattle.std.specs.List.{All, AllByRecursion, flat_map}
-use Rattle.std.proofs.lemmas.List.{append-nil, take_more, take_all, map-append, nil_from_length}
-use Rattle.std.proofs.lemmas.List.Elements.{All-from_recursion}
-use Rattle.std.proofs.lemmas.List.Concat.{flat_map-cons}
-use Rattle.std.proofs.lemmas.Grind.{flat_map-append}
+use Rattle.std.proofs.lemmas.List.{append-nil, nil_from_length}
 use Rattle.warg_protobuf.specs.declared.error.WireError.{WireError}
 use Rattle.warg_protobuf.specs.Reading.{◌>>=◌, Fails, all_of, Reader, Check}
-use Rattle.warg_protobuf.specs.Field.{Field, SpellsAll}
+use Rattle.warg_protobuf.specs.Field.{SpellsAll}
 use Rattle.warg_protobuf.specs.Schema.{as_uint32}
 use Rattle.warg_protobuf.specs.Private.Taking.{Adds}
-use Rattle.warg_protobuf.specs.Written.{field_bytes, fields_bytes, delimited_field, repeated_fields, message_fields}
 use Rattle.warg_protobuf.proofs.Readers.{IsReader, read_on, found, parts_joined}
 use Rattle.warg_protobuf.proofs.Sequences.{AreThere, FaultHere, all_met}
 use Rattle.warg_protobuf.proofs.ForCallers.{all_push}
-
--- ---- loops that read
 
 -- The loop stands before rest, behind things that check, and its state is what message makes of these.
 pub record Collects {X M : Type 0} (Spells : List ℕ → X → Type 0) (check : Check X) (message : List X → M) (bytes rest : List ℕ) (state : M) : Type 0 where
@@ -80,55 +73,3 @@ uint32_is n m e =
       | inl lt ↦ let is = lt-ltb n (2 ^ 32) lt in (let same : n ≡ m = (let r = rw is at e in cc) in sym same)
       | inr le ↦ absurd (let is = le-ltb n (2 ^ 32) le in let r = rw is at e in cc)
     ]
-
--- ---- loops that write
-
--- a loop that writes one element after the other: one more is written, and all are
-pub written_more : {X A : Type 0} (f : X → List A) (xs : List X) (i : ℕ) (d : X) (old new : List A) → i < length xs
-    → old ≡ flat_map f (take i xs) → new ≡ old ++ f (get_or xs i d) → new ≡ flat_map f (take (i + 1) xs)
-written_more f xs i d old new lt was now =
-    let x = get_or xs i d in
-    let one = flat_map-cons f x [] ∙ append-nil (f x) in
-    now ∙ ap (λ t. t ++ f x) was ∙ ap (λ t. flat_map f (take i xs) ++ t) (sym one)
-    ∙ sym (flat_map-append f (take i xs) (x ∷ [])) ∙ ap (flat_map f) (sym (take_more xs i d lt))
-
-pub written_all : {X A : Type 0} (f : X → List A) (xs : List X) (i : ℕ) (out : List A) → out ≡ flat_map f (take i xs)
-    → length xs ≤ i → out ≡ flat_map f xs
-written_all f xs i out was all = was ∙ ap (flat_map f) (take_all i xs all)
-
--- the same behind what stood before, by what is written of a list
-pub written_next : {X A : Type 0} (h : List X → List A) → ((xs ys : List X) → h (xs ++ ys) ≡ h xs ++ h ys) → (xs : List X) (i : ℕ) (x : X)
-    (before old new : List A) → i < length xs → x ≡ get_or xs i x → old ≡ before ++ h (take i xs) → new ≡ old ++ h (x ∷ [])
-    → new ≡ before ++ h (take (i + 1) xs)
-written_next h joins xs i x before old new lt at was now =
-    now ∙ ap (λ t. t ++ h (x ∷ [])) was ∙ append_assoc before (h (take i xs)) (h (x ∷ []))
-    ∙ ap (λ t. before ++ t) (sym (joins (take i xs) (x ∷ [])) ∙ ap (λ y. h (take i xs ++ y ∷ [])) at ∙ ap h (sym (take_more xs i x lt)))
-
-pub written_whole : {X A : Type 0} (h : List X → List A) (xs : List X) (i : ℕ) (before out : List A) → out ≡ before ++ h (take i xs)
-    → length xs ≤ i → out ≡ before ++ h xs
-written_whole h xs i before out was all = was ∙ ap (λ l. before ++ h l) (take_all i xs all)
-
-pub repeated-append : (k : ℕ) (xs ys : List (List ℕ))
-    → fields_bytes (repeated_fields k (xs ++ ys)) ≡ fields_bytes (repeated_fields k xs) ++ fields_bytes (repeated_fields k ys)
-repeated-append k xs ys = simp (map-append, flat_map-append)
-
-pub one_repeated : (k : ℕ) (inner : List ℕ) → field_bytes (delimited_field k inner) ≡ fields_bytes (repeated_fields k (inner ∷ []))
-one_repeated k inner = sym (flat_map-cons field_bytes (delimited_field k inner) [] ∙ append-nil (field_bytes (delimited_field k inner)))
-
-pub messages-append : {X M : Type 0} (k : ℕ) (fields : M → List Field) (view : X → M) (xs ys : List X)
-    → fields_bytes (message_fields k fields (map view (xs ++ ys))) ≡ fields_bytes (message_fields k fields (map view xs)) ++ fields_bytes (message_fields k fields (map view ys))
-messages-append k fields view xs ys = simp (map-append, flat_map-append)
-
--- one more element of a kind
-pub all_of_more : {X M : Type 0} (P : M → Type 0) (view : X → M) (xs : List X) (i : ℕ) (x : X) → i < length xs → x ≡ get_or xs i x
-    → AllByRecursion P (map view (take i xs)) → P (view x) → AllByRecursion P (map view (take (i + 1) xs))
-all_of_more {M} P view xs i x lt at all here =
-    subst (AllByRecursion P) (sym (ap (map view) (take_more xs i x lt ∙ ap (λ y. take i xs ++ y ∷ []) (sym at)) ∙ map-append view (take i xs) (x ∷ []))) (behind (map view (take i xs)) all)
-  where
-    behind : (ys : List M) → AllByRecursion P ys → AllByRecursion P (ys ++ view x ∷ [])
-    behind [] all = (here, tt)
-    behind (y ∷ ys) all = (all.0, behind ys all.1)
-
-pub all_of_whole : {X M : Type 0} (P : M → Type 0) (view : X → M) (xs : List X) (i : ℕ) → AllByRecursion P (map view (take i xs)) → length xs ≤ i
-    → All P (map view xs)
-all_of_whole P view xs i all le = All-from_recursion P (map view xs) (subst (λ (l : List _). AllByRecursion P (map view l)) (take_all i xs le) all)
