@@ -1,10 +1,10 @@
 -- Messages: what reading their bytes gives stands there, and what stands there is read.
-use Rattle.std.proofs.Common.{◌≡◌, ◌≢◌, ℕ, List, Result, Ok, Err, refl, subst, inl, inr}
+use Rattle.std.proofs.Common.{◌≡◌, ◌≢◌, ℕ, List, Result, Ok, Err, refl, subst, arith, inl, inr}
 use Rattle.std.specs.Prelude.{◌↔◌}
 use Rattle.warg_protobuf.specs.declared.error.WireError.{WireError}
 use Rattle.warg_protobuf.specs.declared.error.WireError.TheVariants as errors
 use Rattle.warg_protobuf.specs.Reading.{◌>>=◌, Gives}
-use Rattle.warg_protobuf.specs.Field.{Payload, varint, fixed64, delimited, fixed32, Field, wire_type, SpellsField}
+use Rattle.warg_protobuf.specs.Field.{Payload, Field, wire_type, SpellsField}
 use Rattle.warg_protobuf.specs.Faults.{FieldFault}
 use Rattle.warg_protobuf.specs.Schema.{Schema, check_by, fields_of, message_of, message_in}
 use Rattle.warg_protobuf.specs.Spelled.{IsSpelled, FaultStands, Decodes}
@@ -18,9 +18,7 @@ MessageStands schema bytes (Err e) = FaultStands schema bytes e
 
 said : {M : Type 0} (schema : Schema M) (bytes : List ℕ) (r : Result (List Field) WireError)
     → AllStand SpellsField FieldFault (check_by schema.table) bytes r → MessageStands schema bytes (r >>= λ fs. Ok (schema.message fs))
-said schema bytes (Ok fs) there = record { fields = fs; spelled = there.0; checked = there.1; is = refl }
-said schema bytes (Err e) f =
-    record { taken = f.taken; front = f.front; rest = f.rest; parts = f.parts; spelled = f.there.0; checked = f.there.1; left = f.left; why = f.why }
+said schema bytes r stands = grind arith
 
 -- reading gives what stands in the bytes
 pub message_met : {M : Type 0} (schema : Schema M) (bytes : List ℕ) (r : Result M WireError) → MessageStands schema bytes r
@@ -44,10 +42,7 @@ message_is schema bytes r = (
 pub other_type : {M : Type 0} (schema : Schema M) (p : Payload) → wire_type p ≢ 2
     → message_in schema p ≡ Err errors.WrongWireType
 unfolding message_in
-other_type schema (varint n) ne = refl
-other_type schema (fixed64 bytes) ne = refl
-other_type schema (delimited bytes) ne = absurd (ne refl)
-other_type schema (fixed32 bytes) ne = refl
+other_type schema p ne = grind arith
 
 -- what a decoder promises, from what it gives
 pub decodes : {V M : Type 0} (view : V → M) (schema : Schema M) (bytes : List ℕ) (r : Result V WireError)

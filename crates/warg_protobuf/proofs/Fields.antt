@@ -1,7 +1,8 @@
 -- Fields: what stands at the front is read, and what is read stands there.
-use Rattle.std.proofs.Common.{◌≡◌, ◌≢◌, ℕ, zero, suc, ◌+◌, ◌*◌, ◌/◌, ◌%◌, ◌^◌, ◌<◌, ◌≤◌, leb, eqb, true, false, cond, List, ◌++◌, ◌||◌, length, take, drop, Ok, Err, refl, sym, subst, append_assoc, arith, Result, inl, inr, ◌⊎◌}
-use Rattle.std.proofs.lemmas.Bool.{cases_lt, cases_eq, lt-ltb, le-ltb, le-leb, lt-leb, eq-eqb, ne_eqb, or_left, or_right}
-use Rattle.std.proofs.lemmas.List.{length-append, length-take, take-append-drop, take_at, drop_at}
+use Rattle.std.proofs.Common.{◌≡◌, ℕ, zero, suc, ◌+◌, ◌*◌, ◌/◌, ◌%◌, ◌^◌, ◌<◌, ◌≤◌, leb, eqb, true, false, cond, List, ◌++◌, ◌||◌, length, take, drop, Ok, Err, refl, sym, subst, append_assoc, arith, Result, inl, inr, ◌⊎◌}
+use Rattle.std.proofs.lemmas.Grind.{common_steps}
+use Rattle.std.proofs.lemmas.Bool.{cases_lt, lt-ltb, le-ltb}
+use Rattle.std.proofs.lemmas.List.{length-append, length-take, take-append-drop}
 use Rattle.warg_protobuf.specs.declared.error.WireError.{WireError}
 use Rattle.warg_protobuf.specs.declared.error.WireError.TheVariants as errors
 use Rattle.warg_protobuf.specs.Reading.{◌>>=◌}
@@ -27,9 +28,7 @@ bytes_on P len bytes f ok short =
     ]
 
 bytes_again : (len : ℕ) (bytes rest : List ℕ) → length bytes ≡ len → bytes_at len (bytes ++ rest) ≡ Ok (bytes, rest)
-bytes_again len bytes rest e =
-    let long : len ≤ length (bytes ++ rest) = omega (arith, length-append bytes rest) in
-    rw (le-ltb (length (bytes ++ rest)) len long, take_at bytes rest len e, drop_at bytes rest len e) refl
+bytes_again len bytes rest e = grind (arith, common_steps)
 
 too_short : (len : ℕ) (bytes : List ℕ) → length bytes < len → bytes_at len bytes ≡ Err errors.Truncated
 too_short len bytes lt = rw (lt-ltb (length bytes) len lt) refl
@@ -39,14 +38,7 @@ too_short len bytes lt = rw (lt-ltb (length bytes) len lt) refl
 -- no payload has such a kind
 bad_kind : (kind : ℕ) (bytes : List ℕ) → 6 ≤ kind → payload_at kind bytes ≡ Err errors.BadWireType
 unfolding payload_at
-bad_kind kind bytes le =
-    let a : kind ≢ 0 = omega arith in
-    let b : kind ≢ 1 = omega arith in
-    let c : kind ≢ 2 = omega arith in
-    let d : kind ≢ 3 = omega arith in
-    let e : kind ≢ 4 = omega arith in
-    let f : kind ≢ 5 = omega arith in
-    simp ne_eqb
+bad_kind kind bytes le = grind arith
 
 -- a payload of a kind
 abbrev SpellsKind : ℕ → List ℕ → Payload → Type 0
@@ -104,18 +96,13 @@ fault_payload kind bytes e (no_type k le) = bad_kind k bytes le
 -- ---- fields
 
 tag_cases : (tag : ℕ) → ((2 ^ 32 ≤ tag) ⊎ (tag / 8 ≡ 0)) ⊎ ((tag < 2 ^ 32) × (0 < tag / 8))
-tag_cases tag =
-    elim (cases_lt tag (2 ^ 32)) [
-      | inl lt ↦ elim (cases_eq (tag / 8) 0) [ inl e ↦ inl (inr e) | inr ne ↦ inr (lt, omega arith) ]
-      | inr le ↦ inl (inl le)
-    ]
+tag_cases tag = grind arith
 
 tag_out : (tag : ℕ) → (2 ^ 32 ≤ tag) ⊎ (tag / 8 ≡ 0) → (leb (2 ^ 32) tag || eqb (tag / 8) 0) ≡ true
-tag_out tag (inl le) = or_left _ _ (le-leb (2 ^ 32) tag le)
-tag_out tag (inr e) = or_right _ _ (eq-eqb (tag / 8) 0 e)
+tag_out tag out = grind arith
 
 tag_in : (tag : ℕ) → tag < 2 ^ 32 → 0 < tag / 8 → (leb (2 ^ 32) tag || eqb (tag / 8) 0) ≡ false
-tag_in tag low has = let ne : tag / 8 ≢ 0 = omega arith in rw (lt-leb (2 ^ 32) tag low, ne_eqb (tag / 8) 0 ne) refl
+tag_in tag low has = grind arith
 
 -- a field whose number stands in the tag, with the payload behind the tag
 abbrev with_payload : ℕ × List ℕ → Result (Field × List ℕ) WireError
@@ -124,17 +111,7 @@ with_payload tag =
 
 field_spelled : (tag text : List ℕ) (n : ℕ) (p : Payload) → IsVarint tag n → n < 2 ^ 32 → 0 < n / 8
     → SpellsPayload text p → wire_type p ≡ n % 8 → SpellsField (tag ++ text) (record { number = n / 8; payload = p })
-field_spelled tag text n p tag_spelled low has spelled kind =
-    let is : n ≡ n / 8 * 8 + wire_type p = omega arith in
-    record {
-      tag = tag;
-      payload = text;
-      tag_spelled = subst (IsVarint tag) is tag_spelled;
-      payload_spelled = spelled;
-      has_number = has;
-      in_range = omega arith;
-      joined = refl;
-    }
+field_spelled tag text n p tag_spelled low has spelled kind = grind arith
 
 abbrev FieldStands : List ℕ → Result (Field × List ℕ) WireError → Type 0
 FieldStands bytes r = Stands SpellsField FieldFault bytes r
@@ -155,10 +132,7 @@ field_stands bytes =
     ]) in_tag
 
 pub wire_type_small : (c : Payload) → wire_type c < 8
-wire_type_small (varint n) = omega arith
-wire_type_small (fixed64 bytes) = omega arith
-wire_type_small (delimited bytes) = omega arith
-wire_type_small (fixed32 bytes) = omega arith
+wire_type_small c = grind arith
 
 field_again : (bytes : List ℕ) (f : Field) (rest : List ℕ) → SpellsField bytes f → field_at (bytes ++ rest) ≡ Ok (f, rest)
 unfolding field_at

@@ -1,6 +1,6 @@
 -- A loop that takes one thing after the other in.
-use Rattle.std.proofs.Common.{◌≡◌, ℕ, ◌^◌, ◌<◌, List, [], ◌∷◌, ◌++◌, length, subst, eqb, Bool, true, false, Ok, Err, refl, sym, ap, ◌∙◌, append_assoc, arith, inl, inr}
-use Rattle.std.proofs.lemmas.Bool.{eqb-true, eqb-false, cases_lt, lt-ltb, le-ltb}
+use Rattle.std.proofs.Common.{◌≡◌, ℕ, ◌<◌, List, [], ◌∷◌, ◌++◌, length, subst, eqb, Bool, true, false, Ok, Err, refl, sym, ap, ◌∙◌, append_assoc, arith, inl, inr}
+use Rattle.std.proofs.lemmas.Bool.{eqb-true, eqb-false}
 use Rattle.std.proofs.lemmas.List.{append-nil, nil_from_length}
 use Rattle.warg_protobuf.specs.declared.error.WireError.{WireError}
 use Rattle.warg_protobuf.specs.Reading.{◌>>=◌, Fails, all_of, Reader, Check}
@@ -68,8 +68,4 @@ pub numbers_add : (old : List ℕ) → Adds (λ (ns : List ℕ). old ++ ns) (λ 
 numbers_add old = record { push = λ ns n. sym (append_assoc old ns (n ∷ [])) }
 
 pub uint32_is : (n m : ℕ) → as_uint32 n ≡ Ok m → m ≡ n
-uint32_is n m e =
-    elim (cases_lt n (2 ^ 32)) [
-      | inl lt ↦ let is = lt-ltb n (2 ^ 32) lt in (let same : n ≡ m = (let r = rw is at e in cc) in sym same)
-      | inr le ↦ absurd (let is = le-ltb n (2 ^ 32) le in let r = rw is at e in cc)
-    ]
+uint32_is n m e = grind arith

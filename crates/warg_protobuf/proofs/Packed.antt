@@ -1,7 +1,7 @@
 -- Packed numbers: what reading their bytes gives stands there, and what stands there is read.
-use Rattle.std.proofs.Common.{◌≡◌, ℕ, ◌^◌, ◌<◌, ◌≤◌, List, Result, Ok, Err, refl, subst, inl, inr}
+use Rattle.std.proofs.Common.{◌≡◌, ℕ, ◌^◌, ◌<◌, ◌≤◌, List, Result, Ok, Err, subst, arith, inl, inr}
 use Rattle.std.specs.Prelude.{◌↔◌}
-use Rattle.std.proofs.lemmas.Bool.{cases_lt, lt-ltb, le-ltb}
+use Rattle.std.proofs.lemmas.Bool.{cases_lt}
 use Rattle.std.proofs.lemmas.List.Elements.{All-from_recursion, recursion_from_All}
 use Rattle.warg_protobuf.specs.declared.error.WireError.{WireError}
 use Rattle.warg_protobuf.specs.declared.error.WireError.TheVariants as errors
@@ -16,14 +16,13 @@ use Rattle.warg_protobuf.proofs.Sequences.{AreThere, FaultHere, AllStand, all_st
 -- ---- numbers that are uint32s
 
 low_checks : (n : ℕ) → n < 2 ^ 32 → is_uint32 n ≡ Ok tt
-low_checks n lt = rw (lt-ltb n (2 ^ 32) lt) refl
+low_checks n lt = grind arith
 
 high_fails : (n : ℕ) → 2 ^ 32 ≤ n → is_uint32 n ≡ Err errors.NumberTooLarge
-high_fails n le = rw (le-ltb n (2 ^ 32) le) refl
+high_fails n le = grind arith
 
 checked_low : (n : ℕ) → is_uint32 n ≡ Ok tt → n < 2 ^ 32
-checked_low n h =
-    elim (cases_lt n (2 ^ 32)) [ inl lt ↦ lt | inr le ↦ absurd (let bad = high_fails n le in cc) ]
+checked_low n h = grind arith
 
 abbrev IsLow : ℕ → Type 0
 IsLow n = n < 2 ^ 32

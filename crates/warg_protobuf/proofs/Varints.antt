@@ -8,7 +8,7 @@ use Rattle.warg_protobuf.specs.Reading.{Fails}
 use Rattle.warg_protobuf.specs.Varint.{IsGroups, IsVarint, varint_in, varint_at, varint_bytes_in, varint_bytes}
 use Rattle.warg_protobuf.specs.Faults.{BeginsWith, AllGoOn, VarintFault}
 use Rattle.warg_protobuf.specs.Faults.VarintFault.{ends, tenth}
-use Rattle.warg_protobuf.proofs.Readers.{Stands, IsReader, read_on, Fails-then}
+use Rattle.warg_protobuf.proofs.Readers.{Stands, IsReader, read_on}
 
 -- ---- the recursion that reads
 
@@ -28,11 +28,7 @@ high_fits (suc more) high ne lt below =
 pub high_fails : (e : WireError) (more : ℕ) (bytes : List ℕ) → more ≢ 0 → 1 ≤ length bytes → 128 ≤ get_or bytes 0 0
     → Fails e (varint_in (more - 1) (drop 1 bytes)) → Fails e (varint_in more bytes)
 unfolding varint_in
-high_fails e more [] ne long le h = absurd (omega arith)
-high_fails e zero (b ∷ bytes) ne long le h = absurd (ne refl)
-high_fails e (suc more) (b ∷ bytes) ne long le h =
-    let k : suc more - 1 ≡ more = omega arith in
-    rw (le-ltb b 128 le) (Fails-then e (varint_in more bytes) (λ high. Ok (b % 128 + 128 * high.0, high.1)) (rw k at h))
+high_fails e more bytes ne long le h = grind arith
 
 pub low_fits : (more : ℕ) → more ≢ 0 → 128 ≤ 128 ^ more
 low_fits zero ne = absurd (ne refl)
@@ -66,8 +62,7 @@ writes_last out left total lt (suc more, below, so_far) = rw (lt-ltb left 128 lt
 
 groups_more : (b : ℕ) (text : List ℕ) (n high : ℕ) → 128 ≤ b → n ≡ b % 128 + 128 * high → IsGroups text high
     → IsGroups (b ∷ text) n
-groups_more b [] n high le eq g = absurd g
-groups_more b (c ∷ text) n high le eq g = (le, high, eq, g)
+groups_more b text n high le eq g = grind arith
 
 -- The bytes spell the number, in at most `1 + more` bytes.
 record IsNumberIn (more : ℕ) (bytes : List ℕ) (n : ℕ) : Type 0 where

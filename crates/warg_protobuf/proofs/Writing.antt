@@ -1,9 +1,10 @@
 -- What is written spells its fields, and they say what was written.
-use Rattle.std.proofs.Common.{◌≡◌, ℕ, ◌+◌, ◌*◌, ◌^◌, ◌<◌, Bool, true, false, cond, eqb, List, [], ◌∷◌, ◌++◌, length, Result, Ok, Err, refl, sym, ap, ◌∙◌, subst, arith, inl, inr}
+use Rattle.std.proofs.Common.{◌≡◌, ℕ, ◌+◌, ◌*◌, ◌^◌, ◌<◌, Bool, false, cond, eqb, List, [], ◌∷◌, ◌++◌, length, Result, Ok, Err, refl, sym, ap, subst, arith, inl, inr}
 use Rattle.std.specs.Prelude.{All, IfOk, OnOk, Vec, IsTrue, nat_lt, ◌&&◌}
 use Rattle.std.specs.declared.alloc.AllocError.{AllocError}
 use Rattle.std.specs.List.{flat_map, AllByRecursion}
-use Rattle.std.proofs.lemmas.Bool.{lt-ltb, ltb-true, eqb-true, eq-eqb, cases_Bool, and_parts}
+use Rattle.std.proofs.lemmas.Grind.{common_steps}
+use Rattle.std.proofs.lemmas.Bool.{eqb-true, eq-eqb, cases_Bool}
 use Rattle.std.proofs.lemmas.List.{append-nil, length-append, nil_from_length}
 use Rattle.std.proofs.lemmas.List.Concat.{flat_map-append}
 use Rattle.std.proofs.lemmas.List.Elements.{All-head, All-tail}
@@ -13,7 +14,7 @@ use Rattle.warg_protobuf.specs.Varint.{IsVarint, varint_bytes}
 use Rattle.warg_protobuf.specs.Field.{Payload, varint, fixed64, delimited, fixed32, Field, wire_type, SpellsPayload, SpellsField, SpellsAll}
 use Rattle.warg_protobuf.specs.Schema.{Schema, check_by, as_uint32, packed_uint32s, uint32_in, bytes_in, uint32s_in, uint32, bytes, uint32s, message, message_of, message_in, each, value, values, last_of}
 use Rattle.warg_protobuf.specs.Spelled.{IsSpelled, IsEncoded}
-use Rattle.warg_protobuf.specs.Written.{payload_bytes, field_bytes, fields_bytes, varint_field, delimited_field, uint32_fields, bytes_fields, packed_fields, repeated_fields, message_fields}
+use Rattle.warg_protobuf.specs.Written.{payload_bytes, field_bytes, fields_bytes, delimited_field, uint32_fields, bytes_fields, packed_fields, repeated_fields, message_fields}
 use Rattle.warg_protobuf.proofs.Varints.{varint_bytes_is}
 use Rattle.warg_protobuf.proofs.Fields.{wire_type_small}
 use Rattle.warg_protobuf.proofs.Packed.{packed_is}
@@ -88,34 +89,24 @@ HasField schema k check =
 
 pub field_written : {M : Type 0} (schema : Schema M) (k : ℕ) (check : Check Payload) → HasField schema k check
     → (p : Payload) → PayloadFits p → check p ≡ Ok tt → IsWritten schema (record { number = k; payload = p })
-field_written schema k check has p fits good =
-    let number = and_parts _ _ has.0 in
-    record {
-      not_zero = ltb-true 0 k number.0;
-      in_range = ltb-true k (2 ^ 29) number.1;
-      fits = fits;
-      checks = has.1 p ∙ good;
-    }
+field_written schema k check has p fits good = grind arith
 
 -- a field that is there or not
 optional : {X : Type 0} (P : X → Type 0) (b : Bool) (x : X) → P x → AllByRecursion P (cond b [] (x ∷ []))
-optional P true x p = tt
-optional P false x p = (p, tt)
+optional P b x p = grind arith
 
 uint32_ok : (n : ℕ) → n < 2 ^ 32 → as_uint32 n ≡ Ok n
-uint32_ok n lt = rw (lt-ltb n (2 ^ 32) lt) refl
+uint32_ok n lt = grind arith
 
 pub uint32_written : {M : Type 0} (schema : Schema M) (k n : ℕ) → HasField schema k uint32 → n < 2 ^ 32
     → AreWritten schema (uint32_fields k n)
 unfolding uint32_in
-uint32_written schema k n has lt =
-    optional (IsWritten schema) (eqb n 0) (varint_field k n) (field_written schema k uint32 has (varint n) (omega arith) (rw (uint32_ok n lt) refl))
+uint32_written schema k n has lt = grind arith
 
 pub bytes_written : {M : Type 0} (schema : Schema M) (k : ℕ) (inner : List ℕ) → HasField schema k bytes
     → AreWritten schema (bytes_fields k inner)
 unfolding bytes_in
-bytes_written schema k inner has =
-    optional (IsWritten schema) (eqb (length inner) 0) (delimited_field k inner) (field_written schema k bytes has (delimited inner) tt refl)
+bytes_written schema k inner has = grind arith
 
 pub repeated_written : {M : Type 0} (schema : Schema M) (k : ℕ) (inners : List (List ℕ)) → HasField schema k bytes
     → AreWritten schema (repeated_fields k inners)
@@ -146,8 +137,7 @@ packed_written schema k ns has fit =
 pub other_one : {A : Type 0} (k : ℕ) (read : Payload → Result (List A) WireError) (b : Bool) (f : Field)
     → eqb f.number k ≡ false → values k read (cond b [] (f ∷ [])) ≡ []
 unfolding values
-other_one k read true f ne = refl
-other_one k read false f ne = rw ne refl
+other_one k read b f ne = grind arith
 
 pub other_repeated : {A : Type 0} (k j : ℕ) (read : Payload → Result (List A) WireError) (inners : List (List ℕ))
     → eqb j k ≡ false → values k read (repeated_fields j inners) ≡ []
@@ -162,19 +152,11 @@ values-append k read fs gs = flat_map-append (value k read) fs gs
 
 pub uint32_value : (k n : ℕ) → n < 2 ^ 32 → last_of 0 (values k (each uint32_in) (uint32_fields k n)) ≡ n
 unfolding values last_of uint32_in
-uint32_value k n lt =
-    elim (cases_Bool (eqb n 0)) [
-      | inl is ↦ rw is (sym (eqb-true n 0 is))
-      | inr not ↦ rw (not, eq-eqb k k refl, uint32_ok n lt) refl
-    ]
+uint32_value k n lt = grind arith
 
 pub bytes_value : (k : ℕ) (inner : List ℕ) → last_of [] (values k (each bytes_in) (bytes_fields k inner)) ≡ inner
 unfolding values last_of bytes_in
-bytes_value k inner =
-    elim (cases_Bool (eqb (length inner) 0)) [
-      | inl is ↦ rw is (sym (nil_from_length inner (eqb-true (length inner) 0 is)))
-      | inr not ↦ rw (not, eq-eqb k k refl) refl
-    ]
+bytes_value k inner = grind (arith, common_steps)
 
 pub packed_value : (k : ℕ) (ns : List ℕ) → All (λ n. n < 2 ^ 32) ns → values k uint32s_in (packed_fields k ns) ≡ ns
 unfolding values uint32s_in
