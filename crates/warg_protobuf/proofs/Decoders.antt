@@ -1,5 +1,5 @@
 -- Messages: what reading their bytes gives stands there, and what stands there is read.
-use Rattle.std.proofs.Common.{◌≡◌, ◌≢◌, ℕ, List, Result, Ok, Err, refl, subst, arith, inl, inr}
+use Rattle.std.proofs.Common.{◌≡◌, ◌≢◌, ℕ, List, Result, Ok, Err, refl, subst, arith}
 use Rattle.std.specs.Prelude.{◌↔◌}
 use Rattle.warg_protobuf.specs.declared.error.WireError.{WireError}
 use Rattle.warg_protobuf.specs.declared.error.WireError.TheVariants as errors
@@ -26,8 +26,7 @@ pub message_met : {M : Type 0} (schema : Schema M) (bytes : List ℕ) (r : Resul
 unfolding message_of
 message_met schema bytes (Ok m) s = rw (all_met (check_by schema.table) fields bytes (Ok s.fields) (s.spelled, s.checked), s.is) refl
 message_met schema bytes (Err e) f =
-    let first : AllStand SpellsField FieldFault (check_by schema.table) bytes (Err e) =
-    record { taken = f.taken; front = f.front; rest = f.rest; parts = f.parts; there = (f.spelled, f.checked); left = f.left; why = f.why } in
+    let first : AllStand SpellsField FieldFault (check_by schema.table) bytes (Err e) = grind arith in
     rw (all_met (check_by schema.table) fields bytes (Err e) first) refl
 
 -- and only that
@@ -47,17 +46,13 @@ other_type schema p ne = grind arith
 -- what a decoder promises, from what it gives
 pub decodes : {V M : Type 0} (view : V → M) (schema : Schema M) (bytes : List ℕ) (r : Result V WireError)
     → Gives view r (message_of schema bytes) → Decodes schema view bytes r
-decodes view schema bytes (Ok v) g = record {
-  found = (message_is schema bytes (Ok (view v))).1 g;
-  only = λ m s. subst (Gives view (Ok v)) (message_met schema bytes (Ok m) s) g;
-  fault = tt;
-  faulty = λ e f. subst (Gives view (Ok v)) (message_met schema bytes (Err e) f) g;
-  exact = g;
-}
-decodes view schema bytes (Err d) g = record {
-  found = tt;
-  only = λ m s. subst (Gives view (Err d)) (message_met schema bytes (Ok m) s) g;
-  fault = elim g [ inl memory ↦ inl memory | inr met ↦ inr ((message_is schema bytes (Err d)).1 met) ];
-  faulty = λ e f. subst (Gives view (Err d)) (message_met schema bytes (Err e) f) g;
-  exact = g;
-}
+decodes {V} {M} view schema bytes r g =
+    let read = λ (m : M). (message_is schema bytes (Ok m)).1 in
+    let met = λ (e : WireError). (message_is schema bytes (Err e)).1 in
+    record {
+      found = grind (arith, read);
+      only = λ m s. subst (Gives view r) (message_met schema bytes (Ok m) s) g;
+      fault = grind (arith, met);
+      faulty = λ e f. subst (Gives view r) (message_met schema bytes (Err e) f) g;
+      exact = g;
+    }

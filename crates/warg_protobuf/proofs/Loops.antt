@@ -26,8 +26,7 @@ Collects-start Spells check message bytes state e = record { taken = []; front =
 spelled_push : {X : Type 0} (Spells : List ℕ → X → Type 0) (front text : List ℕ) (xs : List X) (x : X) → SpellsAll Spells front xs
     → Spells text x → SpellsAll Spells (front ++ text) (xs ++ x ∷ [])
 spelled_push Spells front text [] x are is = (text, [], is, refl, rw (are, append-nil) refl)
-spelled_push Spells front text (y ∷ xs) x are is =
-    (are.0, are.1 ++ text, are.2, spelled_push Spells are.1 text xs x are.3 is, rw (are.4, append_assoc) refl)
+spelled_push Spells front text (y ∷ xs) x are is = grind (arith, append_assoc are.0 are.1 text, spelled_push Spells are.1 text xs x are.3 is)
 
 module _ {X M : Type 0} {split : Reader X} {Spells : List ℕ → X → Type 0} {Fault : List ℕ → WireError → Type 0} (check : Check X) (reader : IsReader split Spells Fault) (message : List X → M) (bytes rest : List ℕ) (state : M) (c : Collects Spells check message bytes rest state) where
   pub Collects-next : (add : M → X → M) → Adds message add → (x : X) (after : List ℕ) (next : M) → split rest ≡ Ok (x, after)

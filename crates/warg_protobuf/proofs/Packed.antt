@@ -53,21 +53,16 @@ fault_number bytes e (in_number fault v) = inl v
 fault_number bytes e (too_large n rest b le) = inr (n, rest, b, high_fails n le)
 
 numbers_packed : (bytes ns : List ℕ) → AreThere IsVarint is_uint32 bytes ns → IsPacked bytes ns
-numbers_packed bytes ns there =
-    record { spelled = there.0; fit = All-from_recursion IsLow ns (all_weaken Checks IsLow checked_low ns there.1) }
+numbers_packed bytes ns there = grind (arith, All-from_recursion IsLow ns (all_weaken Checks IsLow checked_low ns there.1))
 
 packed_numbers : (bytes ns : List ℕ) → IsPacked bytes ns → AreThere IsVarint is_uint32 bytes ns
 packed_numbers bytes ns p = (p.spelled, all_weaken IsLow Checks low_checks ns (recursion_from_All IsLow ns p.fit))
 
 packed : (bytes : List ℕ) (r : Result (List ℕ) WireError) → AllStand IsVarint VarintFault is_uint32 bytes r → PackedStands bytes r
-packed bytes (Ok ns) there = numbers_packed bytes ns there
-packed bytes (Err e) f =
-    record { numbers = f.taken; front = f.front; rest = f.rest; parts = f.parts; packed = numbers_packed f.front f.taken f.there; left = f.left; why = number_fault f.rest e f.why }
+packed bytes r stands = grind (arith, numbers_packed, number_fault)
 
 unpacked : (bytes : List ℕ) (r : Result (List ℕ) WireError) → PackedStands bytes r → AllStand IsVarint VarintFault is_uint32 bytes r
-unpacked bytes (Ok ns) p = packed_numbers bytes ns p
-unpacked bytes (Err e) p =
-    record { taken = p.numbers; front = p.front; rest = p.rest; parts = p.parts; there = packed_numbers p.front p.numbers p.packed; left = p.left; why = fault_number p.rest e p.why }
+unpacked bytes r stands = grind (arith, packed_numbers, fault_number)
 
 pub packed_is : (bytes : List ℕ) (r : Result (List ℕ) WireError) → PackedStands bytes r ↔ (packed_uint32s bytes ≡ r)
 unfolding packed_uint32s

@@ -50,8 +50,7 @@ module _ {X : Type 0} {split : Reader X} {Spells : List ℕ → X → Type 0} {F
 
   fault_here : (b : ℕ) (bytes : List ℕ) (e : WireError) → FaultHere Spells Fault check (b ∷ bytes) e
       → FirstFault Spells Fault check (b ∷ bytes) e
-  fault_here b bytes e why =
-      record { taken = []; front = []; rest = b ∷ bytes; parts = refl; there = (refl, tt); left = omega arith; why = why }
+  fault_here b bytes e why = grind arith
 
   all_stand_in : (more : ℕ) (bytes : List ℕ) → length bytes ≤ more → AllStand Spells Fault check bytes (all_in split check more bytes)
   unfolding all_in

@@ -1,5 +1,5 @@
 -- Varints: the recursion that reads them, the loop that writes them, and that both agree.
-use Rattle.std.proofs.Common.{◌≡◌, ◌≢◌, ℕ, zero, suc, ◌+◌, ◌-◌, ◌*◌, ◌/◌, ◌%◌, ◌^◌, ◌<◌, ◌≤◌, List, [], ◌∷◌, ◌++◌, length, get_or, drop, Result, Ok, Err, refl, sym, ap, ◌∙◌, append_assoc, sub-one, arith, inl, inr}
+use Rattle.std.proofs.Common.{◌≡◌, ◌≢◌, ℕ, zero, suc, ◌+◌, ◌-◌, ◌*◌, ◌/◌, ◌%◌, ◌^◌, ◌<◌, ◌≤◌, List, [], ◌∷◌, ◌++◌, length, get_or, drop, Result, Ok, Err, refl, ap, ◌∙◌, append_assoc, sub-one, arith, inl, inr}
 use Rattle.std.proofs.lemmas.Bool.{cases_lt, lt-ltb, le-ltb}
 use Rattle.std.proofs.Math.Nat.{pow-le-pow_right, pow-succ', one-le-pow}
 use Rattle.warg_protobuf.specs.declared.error.WireError.{WireError}
@@ -86,8 +86,7 @@ one_byte more b rest last below =
 goes_on : (more b : ℕ) (bytes : List ℕ) (e : WireError) → 128 ≤ b → VarintFaultIn more bytes e
     → VarintFaultIn (suc more) (b ∷ bytes) e
 goes_on more b bytes e le (ends_in short on) = ends_in (omega arith) (le, on)
-goes_on more b bytes e le (last_in front rest last long on above parts) =
-    last_in (b ∷ front) rest last (omega arith) (le, on) above (ap (λ (l : List ℕ). b ∷ l) parts)
+goes_on more b bytes e le (last_in front rest last long on above parts) = last_in (b ∷ front) rest last (omega arith) (le, on) above cc
 
 varint_stands_in : (more : ℕ) (bytes : List ℕ) → StandsIn more bytes (varint_in more bytes)
 unfolding varint_in
@@ -127,15 +126,10 @@ varint_again_in : (more : ℕ) (text : List ℕ) (n : ℕ) (rest : List ℕ) →
     → n < 2 * 128 ^ more → varint_in more (text ++ rest) ≡ Ok (n, rest)
 unfolding varint_in
 varint_again_in more [] n rest g short below = absurd g
-varint_again_in zero (b ∷ []) n rest g short below =
-    let lt : b < 2 = omega arith in
-    rw (lt-ltb b 2 lt) (ap (λ (k : ℕ). Ok (k, rest)) (sym g.1))
+varint_again_in zero (b ∷ []) n rest g short below = grind arith
 varint_again_in zero (b ∷ c ∷ text) n rest g short below = absurd (omega arith)
-varint_again_in (suc more) (b ∷ []) n rest g short below = rw (lt-ltb b 128 g.0) (ap (λ (k : ℕ). Ok (k, rest)) (sym g.1))
-varint_again_in (suc more) (b ∷ c ∷ text) n rest g short below =
-    let y = pow-succ' 128 more in
-    let again = varint_again_in more (c ∷ text) g.1 rest g.3 (omega arith) (omega (arith, g.2)) in
-    rw (le-ltb b 128 g.0, again) (ap (λ (k : ℕ). Ok (k, rest)) (sym g.2))
+varint_again_in (suc more) (b ∷ []) n rest g short below = grind arith
+varint_again_in (suc more) (b ∷ c ∷ text) n rest g short below = grind (arith, pow-succ' 128 more, varint_again_in more (c ∷ text) g.1 rest g.3)
 
 ends_read : (more : ℕ) (bytes : List ℕ) → length bytes < suc more → AllGoOn bytes → varint_in more bytes ≡ Err errors.Truncated
 unfolding varint_in
@@ -147,11 +141,10 @@ ends_read (suc more) (b ∷ bytes) short on = rw (le-ltb b 128 on.0, ends_read m
 last_read : (more : ℕ) (front rest : List ℕ) (b : ℕ) → length front ≡ more → AllGoOn front → 2 ≤ b
     → varint_in more (front ++ b ∷ rest) ≡ Err errors.BadVarint
 unfolding varint_in
-last_read zero [] rest b long on above = rw (le-ltb b 2 above) refl
-last_read (suc more) [] rest b long on above = absurd (omega arith)
-last_read zero (c ∷ front) rest b long on above = absurd (omega arith)
-last_read (suc more) (c ∷ front) rest b long on above =
-    rw (le-ltb c 128 on.0, last_read more front rest b (omega arith) on.1 above) refl
+last_read zero [] rest b long on above = grind arith
+last_read (suc more) [] rest b long on above = grind arith
+last_read zero (c ∷ front) rest b long on above = grind arith
+last_read (suc more) (c ∷ front) rest b long on above = grind (arith, last_read more front rest b)
 
 fault_varint : (bytes : List ℕ) (e : WireError) → VarintFault bytes e → varint_at bytes ≡ Err e
 unfolding varint_at
@@ -177,16 +170,7 @@ varint_bytes_is_in : (more n : ℕ) → n < 2 * 128 ^ more
     → IsGroups (varint_bytes_in more n) n × (length (varint_bytes_in more n) ≤ suc more)
 unfolding varint_bytes_in
 varint_bytes_is_in zero n below = ((omega arith, refl), omega arith)
-varint_bytes_is_in (suc more) n below =
-    let y = pow-succ' 128 more in
-    elim (cases_lt n 128) [
-      | inl lt ↦ rw (lt-ltb n 128 lt) ((lt, refl), omega arith)
-      | inr le ↦
-          let h = varint_bytes_is_in more (n / 128) (omega arith) in
-          let last = varint_bytes_in more (n / 128) in
-          let groups = groups_more (n % 128 + 128) last n (n / 128) (omega arith) (omega arith) h.0 in
-          rw (le-ltb n 128 le) (groups, omega (arith, h.1))
-    ]
+varint_bytes_is_in (suc more) n below = grind (arith, pow-succ' 128 more, varint_bytes_is_in more (n / 128), groups_more)
 
 pub varint_bytes_is : (n : ℕ) → n < 2 ^ 64 → IsVarint (varint_bytes n) n
 unfolding varint_bytes
@@ -197,18 +181,8 @@ varint_shortest_in : (more n : ℕ) (other : List ℕ) → n < 2 * 128 ^ more �
 unfolding varint_bytes_in
 varint_shortest_in more n [] below g = absurd g
 varint_shortest_in zero n (b ∷ other) below g = omega arith
-varint_shortest_in (suc more) n (b ∷ []) below g =
-    let lt : n < 128 = omega (arith, g.0, g.1) in
-    rw (lt-ltb n 128 lt) (omega arith)
-varint_shortest_in (suc more) n (b ∷ c ∷ other) below g =
-    let y = pow-succ' 128 more in
-    elim (cases_lt n 128) [
-      | inl lt ↦ rw (lt-ltb n 128 lt) (omega arith)
-      | inr le ↦
-          let is : n / 128 ≡ g.1 = omega (arith, g.2) in
-          let h = varint_shortest_in more g.1 (c ∷ other) (omega (arith, g.2)) g.3 in
-          rw (le-ltb n 128 le, is) (omega (arith, h))
-    ]
+varint_shortest_in (suc more) n (b ∷ []) below g = grind arith
+varint_shortest_in (suc more) n (b ∷ c ∷ other) below g = grind (arith, pow-succ' 128 more, varint_shortest_in more g.1 (c ∷ other), g.2, g.3)
 
 pub varint_shortest : (n : ℕ) (other : List ℕ) → IsVarint other n → length (varint_bytes n) ≤ length other
 unfolding varint_bytes

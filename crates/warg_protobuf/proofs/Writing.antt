@@ -1,11 +1,10 @@
 -- What is written spells its fields, and they say what was written.
-use Rattle.std.proofs.Common.{◌≡◌, ℕ, ◌+◌, ◌*◌, ◌^◌, ◌<◌, Bool, false, cond, eqb, List, [], ◌∷◌, ◌++◌, length, Result, Ok, Err, refl, sym, ap, subst, arith, inl, inr}
+use Rattle.std.proofs.Common.{◌≡◌, ℕ, ◌+◌, ◌*◌, ◌^◌, ◌<◌, Bool, false, cond, eqb, List, [], ◌∷◌, ◌++◌, length, Result, Ok, Err, refl, sym, subst, arith}
 use Rattle.std.specs.Prelude.{All, IfOk, OnOk, Vec, IsTrue, nat_lt, ◌&&◌}
 use Rattle.std.specs.declared.alloc.AllocError.{AllocError}
 use Rattle.std.specs.List.{flat_map, AllByRecursion}
 use Rattle.std.proofs.lemmas.Grind.{common_steps}
-use Rattle.std.proofs.lemmas.Bool.{eqb-true, eq-eqb, cases_Bool}
-use Rattle.std.proofs.lemmas.List.{append-nil, length-append, nil_from_length}
+use Rattle.std.proofs.lemmas.List.{length-append}
 use Rattle.std.proofs.lemmas.List.Concat.{flat_map-append}
 use Rattle.std.proofs.lemmas.List.Elements.{All-head, All-tail}
 use Rattle.warg_protobuf.specs.declared.error.WireError.{WireError}
@@ -14,7 +13,7 @@ use Rattle.warg_protobuf.specs.Varint.{IsVarint, varint_bytes}
 use Rattle.warg_protobuf.specs.Field.{Payload, varint, fixed64, delimited, fixed32, Field, wire_type, SpellsPayload, SpellsField, SpellsAll}
 use Rattle.warg_protobuf.specs.Schema.{Schema, check_by, as_uint32, packed_uint32s, uint32_in, bytes_in, uint32s_in, uint32, bytes, uint32s, message, message_of, message_in, each, value, values, last_of}
 use Rattle.warg_protobuf.specs.Spelled.{IsSpelled, IsEncoded}
-use Rattle.warg_protobuf.specs.Written.{payload_bytes, field_bytes, fields_bytes, delimited_field, uint32_fields, bytes_fields, packed_fields, repeated_fields, message_fields}
+use Rattle.warg_protobuf.specs.Written.{payload_bytes, field_bytes, fields_bytes, uint32_fields, bytes_fields, packed_fields, repeated_fields, message_fields}
 use Rattle.warg_protobuf.proofs.Varints.{varint_bytes_is}
 use Rattle.warg_protobuf.proofs.Fields.{wire_type_small}
 use Rattle.warg_protobuf.proofs.Packed.{packed_is}
@@ -50,25 +49,12 @@ payload_spelled (fixed32 inner) fits short = (refl, fits)
 
 field_spelled : {M : Type 0} (schema : Schema M) (f : Field) → IsWritten schema f → length (field_bytes f) < 2 ^ 64
     → SpellsField (field_bytes f) f
-field_spelled schema f is short =
-    let small_type = wire_type_small f.payload in
-    let l = length-append (varint_bytes (f.number * 8 + wire_type f.payload)) (payload_bytes f.payload) in
-    record {
-      tag = varint_bytes (f.number * 8 + wire_type f.payload);
-      payload = payload_bytes f.payload;
-      tag_spelled = varint_bytes_is (f.number * 8 + wire_type f.payload) (omega (arith, is.in_range));
-      payload_spelled = payload_spelled f.payload is.fits (omega arith);
-      has_number = is.not_zero;
-      in_range = is.in_range;
-      joined = refl;
-    }
+field_spelled schema f is short = grind (arith, common_steps, wire_type_small f.payload, payload_spelled f.payload is.fits, varint_bytes_is (f.number * 8 + wire_type f.payload))
 
 fields_spelled : {M : Type 0} (schema : Schema M) (fs : List Field) → AreWritten schema fs
     → length (fields_bytes fs) < 2 ^ 64 → SpellsAll SpellsField (fields_bytes fs) fs
 fields_spelled schema [] are short = refl
-fields_spelled schema (f ∷ fs) are short =
-    let l = length-append (field_bytes f) (fields_bytes fs) in
-    (field_bytes f, fields_bytes fs, field_spelled schema f are.0 (omega arith), fields_spelled schema fs are.1 (omega arith), refl)
+fields_spelled schema (f ∷ fs) are short = grind (arith, common_steps, field_spelled schema f are.0, fields_spelled schema fs are.1)
 
 -- the written form of fields spells what they say
 pub written_spelled : {M : Type 0} (schema : Schema M) (fs : List Field) (m : M) → AreWritten schema fs
@@ -91,10 +77,6 @@ pub field_written : {M : Type 0} (schema : Schema M) (k : ℕ) (check : Check Pa
     → (p : Payload) → PayloadFits p → check p ≡ Ok tt → IsWritten schema (record { number = k; payload = p })
 field_written schema k check has p fits good = grind arith
 
--- a field that is there or not
-optional : {X : Type 0} (P : X → Type 0) (b : Bool) (x : X) → P x → AllByRecursion P (cond b [] (x ∷ []))
-optional P b x p = grind arith
-
 uint32_ok : (n : ℕ) → n < 2 ^ 32 → as_uint32 n ≡ Ok n
 uint32_ok n lt = grind arith
 
@@ -112,8 +94,7 @@ pub repeated_written : {M : Type 0} (schema : Schema M) (k : ℕ) (inners : List
     → AreWritten schema (repeated_fields k inners)
 unfolding bytes_in
 repeated_written schema k [] has = tt
-repeated_written schema k (inner ∷ inners) has =
-    (field_written schema k bytes has (delimited inner) tt refl, repeated_written schema k inners has)
+repeated_written schema k (inner ∷ inners) has = grind (arith, repeated_written schema k inners has)
 
 packed_spelled : (ns : List ℕ) → All (λ n. n < 2 ^ 32) ns → SpellsAll IsVarint (flat_map varint_bytes ns) ns
 packed_spelled [] fit = refl
@@ -127,9 +108,7 @@ packed_again ns fit = (packed_is (flat_map varint_bytes ns) (Ok ns)).0 (record {
 pub packed_written : {M : Type 0} (schema : Schema M) (k : ℕ) (ns : List ℕ) → HasField schema k uint32s
     → All (λ n. n < 2 ^ 32) ns → AreWritten schema (packed_fields k ns)
 unfolding uint32s_in
-packed_written schema k ns has fit =
-    let packed = flat_map varint_bytes ns in
-    optional (IsWritten schema) (eqb (length ns) 0) (delimited_field k packed) (field_written schema k uint32s has (delimited packed) tt (rw (packed_again ns fit) refl))
+packed_written schema k ns has fit = grind (arith, packed_again ns fit)
 
 -- ---- values of fields
 
@@ -143,7 +122,7 @@ pub other_repeated : {A : Type 0} (k j : ℕ) (read : Payload → Result (List A
     → eqb j k ≡ false → values k read (repeated_fields j inners) ≡ []
 unfolding values
 other_repeated k j read [] ne = refl
-other_repeated k j read (inner ∷ inners) ne = rw ne (other_repeated k j read inners ne)
+other_repeated k j read (inner ∷ inners) ne = grind (arith, other_repeated k j read inners ne)
 
 pub values-append : {A : Type 0} (k : ℕ) (read : Payload → Result (List A) WireError) (fs gs : List Field)
     → values k read (fs ++ gs) ≡ values k read fs ++ values k read gs
@@ -160,16 +139,12 @@ bytes_value k inner = grind (arith, common_steps)
 
 pub packed_value : (k : ℕ) (ns : List ℕ) → All (λ n. n < 2 ^ 32) ns → values k uint32s_in (packed_fields k ns) ≡ ns
 unfolding values uint32s_in
-packed_value k ns fit =
-    elim (cases_Bool (eqb (length ns) 0)) [
-      | inl is ↦ rw is (sym (nil_from_length ns (eqb-true (length ns) 0 is)))
-      | inr not ↦ rw (not, eq-eqb k k refl, packed_again ns fit) (append-nil ns)
-    ]
+packed_value k ns fit = grind (arith, common_steps, packed_again ns fit)
 
 pub repeated_value : (k : ℕ) (inners : List (List ℕ)) → values k (each bytes_in) (repeated_fields k inners) ≡ inners
 unfolding values bytes_in
 repeated_value k [] = refl
-repeated_value k (inner ∷ inners) = rw (eq-eqb k k refl) (ap (λ (l : List (List ℕ)). inner ∷ l) (repeated_value k inners))
+repeated_value k (inner ∷ inners) = grind (arith, repeated_value k inners)
 
 -- ---- messages in a message
 
@@ -196,17 +171,13 @@ pub nested_written : {O M : Type 0} (outer : Schema O) (schema : Schema M) (fiel
     → AreWritten outer (message_fields k fields ms)
 unfolding message_in
 nested_written outer schema fields k has [] read = tt
-nested_written outer schema fields k has (m ∷ ms) read = (
-  field_written outer k (message schema) has (delimited (fields_bytes (fields m))) tt (rw read.0 refl),
-  nested_written outer schema fields k has ms read.1,
-)
+nested_written outer schema fields k has (m ∷ ms) read = grind (arith, nested_written outer schema fields k has ms read.1)
 
 pub nested_value : {M : Type 0} (schema : Schema M) (fields : M → List Field) (k : ℕ) (ms : List M)
     → AllRead schema fields ms → values k (each (message_in schema)) (message_fields k fields ms) ≡ ms
 unfolding values message_in
 nested_value schema fields k [] read = refl
-nested_value {M} schema fields k (m ∷ ms) read =
-    rw (eq-eqb k k refl, read.0) (ap (λ (l : List M). m ∷ l) (nested_value schema fields k ms read.1))
+nested_value schema fields k (m ∷ ms) read = grind (arith, nested_value schema fields k ms read.1)
 
 -- ---- what an encoder returns
 
