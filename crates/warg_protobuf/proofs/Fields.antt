@@ -2,7 +2,7 @@
 use Rattle.std.proofs.Common.{◌≡◌, ℕ, zero, suc, ◌+◌, ◌*◌, ◌/◌, ◌%◌, ◌^◌, ◌<◌, ◌≤◌, leb, eqb, true, false, cond, List, ◌++◌, ◌||◌, length, take, drop, Ok, Err, refl, sym, subst, append_assoc, arith, Result, inl, inr, ◌⊎◌}
 use Rattle.std.proofs.lemmas.Grind.{common_steps}
 use Rattle.std.proofs.lemmas.Bool.{cases_lt, lt-ltb, le-ltb}
-use Rattle.std.proofs.lemmas.List.{length-append, length-take, take-append-drop}
+use Rattle.std.proofs.lemmas.List.{length-take, take-append-drop}
 use Rattle.warg_protobuf.specs.declared.error.WireError.{WireError}
 use Rattle.warg_protobuf.specs.declared.error.WireError.TheVariants as errors
 use Rattle.warg_protobuf.specs.Reading.{◌>>=◌}
@@ -137,23 +137,18 @@ wire_type_small c = grind arith
 field_again : (bytes : List ℕ) (f : Field) (rest : List ℕ) → SpellsField bytes f → field_at (bytes ++ rest) ≡ Ok (f, rest)
 unfolding field_at
 field_again bytes f rest h =
-    let k = wire_type_small f.payload in
     let tag : ℕ = f.number * 8 + wire_type f.payload in
-    let number : tag / 8 ≡ f.number = omega arith in
-    let kind : tag % 8 ≡ wire_type f.payload = omega arith in
-    let inside = tag_in tag (omega (arith, h.in_range)) (omega (arith, h.has_number)) in
-    rw (h.joined, append_assoc, varints.again h.tag tag (h.payload ++ rest) h.tag_spelled, inside, number, kind, payload_again h.payload f.payload rest h.payload_spelled) refl
+    let tag_read = varints.again h.tag tag (h.payload ++ rest) h.tag_spelled in
+    grind (arith, append_assoc h.tag h.payload rest, wire_type_small f.payload, tag_read, payload_again h.payload f.payload rest h.payload_spelled)
 
 fault_field : (bytes : List ℕ) (e : WireError) → FieldFault bytes e → field_at bytes ≡ Err e
 unfolding field_at
-fault_field bytes e (in_tag fault v) = rw (varints.fails bytes fault v) refl
-fault_field bytes e (bad_tag tag rest b out) =
-    rw (begins varints bytes tag rest b, tag_out tag out) refl
-fault_field bytes e (in_payload tag rest fault b low has p) =
-    rw (begins varints bytes tag rest b, tag_in tag low has, fault_payload (tag % 8) rest fault p) refl
+fault_field bytes e (in_tag fault v) = grind (arith, varints.fails)
+fault_field bytes e (bad_tag tag rest b out) = grind (arith, begins varints bytes tag rest b)
+fault_field bytes e (in_payload tag rest fault b low has p) = grind (arith, begins varints bytes tag rest b, fault_payload)
 
 field_not_empty : (bytes : List ℕ) (f : Field) → SpellsField bytes f → 0 < length bytes
-field_not_empty bytes f h = rw h.joined (omega (arith, length-append h.tag h.payload, varint_not_empty h.tag _ h.tag_spelled))
+field_not_empty bytes f h = grind (arith, common_steps, varint_not_empty)
 
 pub fields : IsReader field_at SpellsField FieldFault
 fields = record { reads = field_stands; again = field_again; fails = fault_field; not_empty = field_not_empty }

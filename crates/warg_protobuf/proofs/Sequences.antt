@@ -1,5 +1,5 @@
 -- Things one after the other, up to the first fault: what reading gives stands there, and what stands there is read.
-use Rattle.std.proofs.Common.{◌≡◌, ℕ, zero, suc, ◌+◌, ◌<◌, ◌≤◌, List, [], ◌∷◌, ◌++◌, length, Result, Ok, Err, refl, ap, ◌∙◌, append_assoc, arith, inl, inr, ◌⊎◌}
+use Rattle.std.proofs.Common.{◌≡◌, ℕ, zero, suc, ◌+◌, ◌<◌, ◌≤◌, List, [], ◌∷◌, ◌++◌, length, Result, Ok, Err, refl, append_assoc, arith, inl, inr, ◌⊎◌}
 use Rattle.std.proofs.lemmas.List.{length-append, nil_from_length}
 use Rattle.warg_protobuf.specs.declared.error.WireError.{WireError}
 use Rattle.warg_protobuf.specs.Reading.{◌>>=◌, all_in, all_of, Reader, Check}
@@ -74,38 +74,32 @@ module _ {X : Type 0} {split : Reader X} {Spells : List ℕ → X → Type 0} {F
   in_more : (more : ℕ) (bytes : List ℕ) → 0 < length bytes
       → all_in split check (suc more) bytes ≡ (split bytes >>= λ x. check x.0 >>= λ _. all_in split check more x.1 >>= λ xs. Ok (x.0 ∷ xs))
   unfolding all_in
-  in_more more [] long = absurd (omega arith)
-  in_more more (b ∷ bytes) long = refl
+  in_more more bytes long = grind arith
 
   one_read : (more : ℕ) (first rest : List ℕ) (x : X) → Spells first x → check x ≡ Ok tt
       → all_in split check (suc more) (first ++ rest) ≡ (all_in split check more rest >>= λ xs. Ok (x ∷ xs))
-  one_read more first rest x s good =
-      let long : 0 < length (first ++ rest) = omega (arith, length-append first rest, reader.not_empty first x s) in
-      in_more more (first ++ rest) long ∙ rw (reader.again first x rest s, good) refl
+  one_read more first rest x s good = grind (arith, length-append first rest, reader.not_empty first x s, in_more more (first ++ rest), reader.again first x rest s)
 
   all_read_in : (more : ℕ) (bytes : List ℕ) (xs : List X) → SpellsAll Spells bytes xs → AllCheck check xs → length bytes ≤ more
       → all_in split check more bytes ≡ Ok xs
   unfolding all_in
   all_read_in zero bytes [] s good le = refl
   all_read_in (suc more) bytes [] s good le = rw s refl
-  all_read_in zero bytes (x ∷ xs) s good le = absurd (omega (arith, ap length s.4, length-append s.0 s.1, reader.not_empty s.0 x s.2))
+  all_read_in zero bytes (x ∷ xs) s good le = grind (arith, length-append s.0 s.1, reader.not_empty s.0 x s.2)
   all_read_in (suc more) bytes (x ∷ xs) s good le =
-      let lt : length s.1 ≤ more = omega (arith, ap length s.4, length-append s.0 s.1, reader.not_empty s.0 x s.2) in
-      rw (s.4, one_read more s.0 s.1 x s.2 good.0, all_read_in more s.1 xs s.3 good.1 lt) refl
+      grind (arith, length-append s.0 s.1, reader.not_empty s.0 x s.2, one_read more s.0 s.1 x s.2 good.0, all_read_in more s.1 xs s.3 good.1)
 
   fault_met_in : (more : ℕ) (xs : List X) (front rest : List ℕ) (e : WireError) → SpellsAll Spells front xs → AllCheck check xs
       → 0 < length rest → FaultHere Spells Fault check rest e → length front + length rest ≤ more → all_in split check more (front ++ rest) ≡ Err e
   fault_met_in zero xs front rest e s good left why le = absurd (omega arith)
-  fault_met_in (suc more) [] front rest e s good left why le =
-      rw (s, in_more more rest left) (elim why [ inl cut ↦ rw (reader.fails rest e cut) refl | inr a ↦ rw (begins reader rest a.0 a.1 a.2, a.3) refl ])
+  fault_met_in (suc more) [] front rest e s good left why le = grind (arith, in_more more rest left, reader.fails rest e, begins reader rest)
   fault_met_in (suc more) (x ∷ xs) front rest e s good left why le =
-      let lt : length s.1 + length rest ≤ more = omega (arith, ap length s.4, length-append s.0 s.1, reader.not_empty s.0 x s.2) in
-      rw (s.4, append_assoc, one_read more s.0 (s.1 ++ rest) x s.2 good.0, fault_met_in more xs s.1 rest e s.3 good.1 left why lt) refl
+      grind (arith, append_assoc s.0 s.1 rest, length-append s.0 s.1, reader.not_empty s.0 x s.2, one_read more s.0 (s.1 ++ rest) x s.2 good.0, fault_met_in more xs s.1 rest e s.3 good.1 left why)
 
   -- reading gives what stands in the bytes
   pub all_met : (bytes : List ℕ) (r : Result (List X) WireError) → AllStand Spells Fault check bytes r → all_of split check bytes ≡ r
   unfolding all_of
   all_met bytes (Ok xs) there = all_read_in (length bytes) bytes xs there.0 there.1 (omega arith)
   all_met bytes (Err e) f =
-      ap (all_of split check) f.parts ∙
-      fault_met_in (length (f.front ++ f.rest)) f.taken f.front f.rest e f.there.0 f.there.1 f.left f.why (omega (arith, length-append f.front f.rest))
+      let met = fault_met_in (length bytes) f.taken f.front f.rest e f.there.0 f.there.1 f.left f.why in
+      grind (arith, f.parts, length-append f.front f.rest, met)

@@ -21,9 +21,7 @@ high_fits zero high ne lt below = absurd (ne refl)
 high_fits (suc more) high ne lt below =
     let le : more ≤ 8 = omega arith in
     let top : 128 ^ more ≤ 2 ^ 56 = pow-le-pow_right {n = 128} (omega arith) le in
-    let low : high < 2 * 128 ^ more = rw sub-one at below in
-    let x = pow-succ' 128 more in
-    (omega arith, omega arith)
+    grind (arith, pow-succ' 128 more, sub-one)
 
 pub high_fails : (e : WireError) (more : ℕ) (bytes : List ℕ) → more ≢ 0 → 1 ≤ length bytes → 128 ≤ get_or bytes 0 0
     → Fails e (varint_in (more - 1) (drop 1 bytes)) → Fails e (varint_in more bytes)
@@ -40,10 +38,6 @@ low_fits (suc more) ne = omega (arith, pow-succ' 128 more, one_le more)
 abbrev pub Writes : List ℕ → ℕ → List ℕ → Type 0
 Writes out left total = (more : ℕ) × (left < 128 * 128 ^ more) × (out ++ varint_bytes_in more left ≡ total)
 
-pub starts : (out : List ℕ) (n : ℕ) → n < 2 ^ 64 → Writes out n (out ++ varint_bytes n)
-unfolding varint_bytes
-starts out n lt = (9, omega arith, refl)
-
 pub writes_more : (out : List ℕ) (left : ℕ) (total : List ℕ) → 128 ≤ left → Writes out left total
     → Writes (out ++ (left % 128 + 128) ∷ []) (left / 128) total
 unfolding varint_bytes_in
@@ -51,12 +45,6 @@ writes_more out left total le (zero, below, so_far) = absurd (omega arith)
 writes_more out left total le (suc more, below, so_far) =
     let x = pow-succ' 128 more in
     (more, omega arith, rw append_assoc (rw (le-ltb left 128 le) at so_far))
-
-pub writes_last : (out : List ℕ) (left : ℕ) (total : List ℕ) → left < 128 → Writes out left total
-    → out ++ left ∷ [] ≡ total
-unfolding varint_bytes_in
-writes_last out left total lt (zero, below, so_far) = so_far
-writes_last out left total lt (suc more, below, so_far) = rw (lt-ltb left 128 lt) at so_far
 
 -- ---- what stands at the front
 
