@@ -1,22 +1,21 @@
 -- Lemmas for the proofs of the crates above, over public definitions alone.
-use Rattle.std.proofs.Common.{◌≡◌, ℕ, zero, suc, ◌+◌, ◌<◌, ◌≤◌, List, [], ◌∷◌, ◌++◌, length, map, take, drop, get_or, cond, Option, Some, None, Ok, refl, sym, ap, ◌∙◌, subst, add-one, append_assoc, arith}
-use Rattle.std.proofs.Math.Seq.{drop-cons}
+use Rattle.std.proofs.Common.{◌≡◌, ℕ, zero, suc, ◌+◌, ◌<◌, ◌≤◌, List, [], ◌∷◌, ◌++◌, length, map, take, drop, get_or, Option, Some, None, Ok, refl, sym, ap, ◌∙◌, subst, append_assoc, arith}
 use Rattle.std.specs.List.{AllByRecursion, flat_map}
-use Rattle.std.proofs.lemmas.Bool.{eq-eqb, ne_eqb}
-use Rattle.std.proofs.lemmas.List.{take_more, take_all, drop_more, drop_all, map-append}
+use Rattle.std.proofs.lemmas.Grind.{common_steps}
+use Rattle.std.proofs.lemmas.List.{take_more, take_all, drop_all, map-append}
 use Rattle.warg_protobuf.specs.declared.value_error.DecodeError.{DecodeError}
 use Rattle.warg_protobuf.specs.declared.value_error.DecodeError.TheVariants.{HashLength}
 use Rattle.warg_protobuf.specs.Decoding.{unless, earlier, first_fault, digest_fault}
-use Rattle.warg_protobuf.proofs.Packed as packed
-use Rattle.warg_protobuf.proofs.Writing as writing
 
 -- what holds of each element of two lists holds of each element of both in a row
 pub all_append : {X : Type 0} (P : X → Type 0) (xs ys : List X) → AllByRecursion P xs → AllByRecursion P ys → AllByRecursion P (xs ++ ys)
-all_append = writing.all_append
+all_append P [] ys p q = q
+all_append P (x ∷ xs) ys p q = (p.0, all_append P xs ys p.1 q)
 
 -- what follows from what holds of each element holds of each
 pub all_weaken : {X : Type 0} (P Q : X → Type 0) → ((x : X) → P x → Q x) → (xs : List X) → AllByRecursion P xs → AllByRecursion Q xs
-all_weaken = packed.all_into
+all_weaken P Q into [] all = tt
+all_weaken P Q into (x ∷ xs) all = (into x all.0, all_weaken P Q into xs all.1)
 
 -- and of one element more
 pub all_push : {X : Type 0} (P : X → Type 0) (xs : List X) (x : X) → AllByRecursion P xs → P x → AllByRecursion P (xs ++ x ∷ [])
@@ -36,8 +35,7 @@ all_flat P f Q step (x ∷ xs) all = let p = all_parts P (f x) _ all in (step x 
 
 -- of two faults there is none
 pub both_none : {E : Type 0} (first second : Option E) → earlier first second ≡ None → (first ≡ None) × (second ≡ None)
-both_none None second none = (refl, none)
-both_none (Some e) second none = absurd (cc)
+both_none first second none = grind arith
 
 -- what the absence of a fault says of an element holds of each
 pub all_without : {X E : Type 0} (fault_of : X → Option E) (P : X → Type 0) → ((x : X) → fault_of x ≡ None → P x) → (xs : List X) → first_fault fault_of xs ≡ None → AllByRecursion P xs
@@ -46,14 +44,12 @@ all_without fault_of P says (x ∷ xs) none = let p = both_none (fault_of x) (fi
 
 -- a value that stands where no fault is
 pub no_fault : {X E : Type 0} (fault : Option E) (x y : X) → unless fault x ≡ Ok y → (fault ≡ None) × (x ≡ y)
-no_fault None x y is = (refl, cc)
-no_fault (Some e) x y is = absurd (cc)
+no_fault fault x y is = grind arith
 
 -- the first fault of what is left, behind an element without one
 pub fault_after : {X : Type 0} (fault_of : X → Option DecodeError) (xs : List X) (i : ℕ) (x : X) → i < length xs → x ≡ get_or xs i x → fault_of x ≡ None
     → first_fault fault_of (drop i xs) ≡ first_fault fault_of (drop (i + 1) xs)
-fault_after fault_of xs i x lt is good =
-    ap (first_fault fault_of) (drop-cons xs i x lt ∙ ap (λ y. y ∷ drop (suc i) xs) (sym is)) ∙ rw good (rw add-one refl)
+fault_after fault_of xs i x lt is good = grind (arith, common_steps)
 
 -- the same of messages, of which the front one is read
 pub fault_behind : {X Y : Type 0} (fault_of : X → Option DecodeError) (f : Y → X) (ys rest : List Y) (y : Y) → ys ≡ y ∷ rest → fault_of (f y) ≡ None
@@ -68,8 +64,7 @@ read_more f ys rest y xs more whole is read before = rw (read, append_assoc) (ap
 -- messages written one after the other
 pub written_more : {X Y : Type 0} (f : Y → X) (xs : List X) (i : ℕ) (old : List Y) (y : Y) (new : List Y) (x : X) → i < length xs → x ≡ get_or xs i x → f y ≡ x → new ≡ old ++ y ∷ []
     → map f old ≡ take i xs → map f new ≡ take (i + 1) xs
-written_more f xs i old y new x lt at is now was =
-    ap (map f) now ∙ map-append f old (y ∷ []) ∙ ap (λ t. t ++ f y ∷ []) was ∙ ap (λ z. take i xs ++ z ∷ []) (is ∙ at) ∙ sym (take_more xs i x lt)
+written_more f xs i old y new x lt at is now was = grind (arith, common_steps)
 
 pub written_all : {X Y : Type 0} (f : Y → X) (xs : List X) (i : ℕ) (out : List Y) → map f out ≡ take i xs → length xs ≤ i → map f out ≡ xs
 written_all f xs i out was all = was ∙ take_all i xs all
@@ -98,8 +93,7 @@ all_whole P xs i all le = subst (AllByRecursion P) (take_all i xs le) all
 -- the same of what is made of each element
 pub mapped_more : {X Y : Type 0} (f : X → Y) (xs : List X) (i : ℕ) (x : X) (old new : List Y) (y : Y) → i < length xs → x ≡ get_or xs i x
     → old ≡ map f (take i xs) → new ≡ old ++ y ∷ [] → y ≡ f x → new ≡ map f (take (i + 1) xs)
-mapped_more f xs i x old new y lt is was now here =
-    now ∙ ap (λ z. old ++ z ∷ []) here ∙ ap (λ l. l ++ f x ∷ []) was ∙ sym (map-append f (take i xs) (x ∷ [])) ∙ ap (map f) (sym (one_taken xs i x lt is))
+mapped_more f xs i x old new y lt is was now here = grind (arith, common_steps)
 
 pub mapped_whole : {X Y : Type 0} (f : X → Y) (xs : List X) (i : ℕ) (out : List Y) → out ≡ map f (take i xs) → length xs ≤ i → out ≡ map f xs
 mapped_whole f xs i out was le = was ∙ ap (map f) (take_all i xs le)
@@ -110,35 +104,20 @@ pushed_view f old new x now = ap (map f) now ∙ map-append f old (x ∷ [])
 abbrev found : DecodeError → Option DecodeError
 found e = Some e
 
--- the first fault of digests: behind one of 32 bytes, at one of another length, and where none is left
-digests_left : {X : Type 0} (f : X → List ℕ) (xs : List X) (i : ℕ) (x : X) (whole : Option DecodeError) → i < length xs → x ≡ get_or xs i x
-    → whole ≡ first_fault digest_fault (map f (drop i xs)) → whole ≡ earlier (digest_fault (f x)) (first_fault digest_fault (map f (drop (i + 1) xs)))
-digests_left f xs i x whole lt is was =
-    was ∙ ap (λ l. first_fault digest_fault (map f l)) (drop_more xs i x lt ∙ ap (λ y. y ∷ drop (i + 1) xs) (sym is))
-
 pub digest_passed : {X : Type 0} (f : X → List ℕ) (xs : List X) (i : ℕ) (x : X) (whole : Option DecodeError) (bytes : List ℕ) → i < length xs → x ≡ get_or xs i x
     → bytes ≡ f x → length bytes ≡ 32 → whole ≡ first_fault digest_fault (map f (drop i xs)) → whole ≡ first_fault digest_fault (map f (drop (i + 1) xs))
-digest_passed f xs i x whole bytes lt is here long was =
-    digests_left f xs i x whole lt is was
-    ∙ ap (λ b. earlier (cond b None (Some HashLength)) (first_fault digest_fault (map f (drop (i + 1) xs)))) (eq-eqb (length (f x)) 32 (ap length (sym here) ∙ long))
+digest_passed f xs i x whole bytes lt is here long was = grind (arith, common_steps)
 
 pub digest_met : {X : Type 0} (f : X → List ℕ) (xs : List X) (i : ℕ) (x : X) (whole : Option DecodeError) (bytes : List ℕ) (e : DecodeError) → i < length xs → x ≡ get_or xs i x
     → bytes ≡ f x → whole ≡ first_fault digest_fault (map f (drop i xs)) → (e ≡ HashLength) × (length bytes ≡ 32 → ⊥) → (e ≡ HashLength) × (whole ≡ Some e)
-digest_met f xs i x whole bytes e lt is here was why = (
-  why.0,
-  digests_left f xs i x whole lt is was
-      ∙ ap (λ b. earlier (cond b None (Some HashLength)) (first_fault digest_fault (map f (drop (i + 1) xs)))) (ne_eqb (length (f x)) 32 (λ long. why.1 (ap length here ∙ long)))
-      ∙ ap found (sym why.0),
-)
+digest_met f xs i x whole bytes e lt is here was why = grind (arith, common_steps)
 
 pub no_digest_left : {X : Type 0} (f : X → List ℕ) (xs : List X) (i : ℕ) (whole : Option DecodeError) → whole ≡ first_fault digest_fault (map f (drop i xs)) → length xs ≤ i → whole ≡ None
 no_digest_left f xs i whole was le = was ∙ ap (λ l. first_fault digest_fault (map f l)) (drop_all i xs le)
 
 pub mapped_twice_more : {X Y Z : Type 0} (f : X → Y) (g : Y → Z) (xs : List X) (i : ℕ) (x : X) (old new : List Z) (z : Z) → i < length xs → x ≡ get_or xs i x
     → old ≡ map g (map f (take i xs)) → new ≡ old ++ z ∷ [] → z ≡ g (f x) → new ≡ map g (map f (take (i + 1) xs))
-mapped_twice_more f g xs i x old new z lt is was now here =
-    now ∙ ap (λ y. old ++ y ∷ []) here ∙ ap (λ l. l ++ g (f x) ∷ []) was
-    ∙ sym (map-append g (map f (take i xs)) (f x ∷ [])) ∙ ap (map g) (sym (map-append f (take i xs) (x ∷ [])) ∙ ap (map f) (sym (one_taken xs i x lt is)))
+mapped_twice_more f g xs i x old new z lt is was now here = grind (arith, common_steps)
 
 pub mapped_twice_whole : {X Y Z : Type 0} (f : X → Y) (g : Y → Z) (xs : List X) (i : ℕ) (out : List Z) → out ≡ map g (map f (take i xs)) → length xs ≤ i → out ≡ map g (map f xs)
 mapped_twice_whole f g xs i out was le = was ∙ ap (λ l. map g (map f l)) (take_all i xs le)

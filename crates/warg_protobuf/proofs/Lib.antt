@@ -1,7 +1,6 @@
-pub mod Steps
+pub mod Readers
 pub mod Varints
 pub mod Fields
-pub mod Faults
 pub mod Sequences
 pub mod Packed
 pub mod Loops

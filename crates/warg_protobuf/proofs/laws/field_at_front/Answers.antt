@@ -1,10 +1,9 @@
-use Rattle.std.proofs.Common.{ap, ◌∙◌}
-use Rattle.warg_protobuf.specs.Field.{field_at}
-use Rattle.warg_protobuf.proofs.Fields.{field_takes, field_again}
+use Rattle.warg_protobuf.proofs.Readers.{found, begins}
+use Rattle.warg_protobuf.proofs.Fields.{fields}
 use Rattle.warg_protobuf.proofs.laws.field_at_front.Goals as goal
 
 pub returns : goal.returns
 returns c bytes rest f = (
-  λ e. let t = field_takes bytes (f, rest) e in (t.text, t.spelled, t.parts),
-  λ h. ap field_at h.2 ∙ field_again h.0 f rest h.1,
+  λ e. let b = found fields bytes f rest e in (b.front, b.spelled, b.parts),
+  λ h. begins fields bytes f rest (record { front = h.0; spelled = h.1; parts = h.2 }),
 )

@@ -1,5 +1,6 @@
-use Rattle.warg_protobuf.proofs.Faults.{field_fault, fault_field}
+use Rattle.warg_protobuf.proofs.Readers.{fault_found}
+use Rattle.warg_protobuf.proofs.Fields.{fields}
 use Rattle.warg_protobuf.proofs.laws.field_fault_at_front.Goals as goal
 
 pub returns : goal.returns
-returns c bytes e = (field_fault bytes e, fault_field bytes e)
+returns c bytes e = (fault_found fields bytes e, fields.fails bytes e)

@@ -1,14 +1,12 @@
-use Rattle.warg_protobuf.specs.HashEntry.{entry_schema}
-use Rattle.warg_protobuf.specs.MapInclusionProof.{proof_schema}
-use Rattle.warg_protobuf.specs.OptionalHash.{hash_schema}
-use Rattle.warg_protobuf.proofs.Decoders.{fault_inner, inner_fault}
+use Rattle.std.proofs.Common.{Err}
+use Rattle.warg_protobuf.specs.Schema.{message_in}
+use Rattle.warg_protobuf.proofs.Decoders.{message_is}
 use Rattle.warg_protobuf.proofs.laws.inner_fault_is_met.Goals as goal
 
-pub returns-clause-hash_entry : goal.returns-clause-hash_entry
-returns-clause-hash_entry c bytes e = (fault_inner entry_schema bytes e, inner_fault entry_schema bytes e)
-
-pub returns-clause-map_proof : goal.returns-clause-map_proof
-returns-clause-map_proof c bytes e = (fault_inner proof_schema bytes e, inner_fault proof_schema bytes e)
-
-pub returns-clause-optional_hash : goal.returns-clause-optional_hash
-returns-clause-optional_hash c bytes e = (fault_inner hash_schema bytes e, inner_fault hash_schema bytes e)
+pub returns : goal.returns
+unfolding message_in
+returns c = record {
+  hash_entry = λ bytes e. message_is _ bytes (Err e);
+  map_proof = λ bytes e. message_is _ bytes (Err e);
+  optional_hash = λ bytes e. message_is _ bytes (Err e);
+}

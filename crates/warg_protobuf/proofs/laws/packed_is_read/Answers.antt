@@ -1,8 +1,6 @@
-use Rattle.warg_protobuf.proofs.Packed.{packed_read, read_packed, packed_fault, fault_packed}
+use Rattle.std.proofs.Common.{Ok, Err}
+use Rattle.warg_protobuf.proofs.Packed.{packed_is}
 use Rattle.warg_protobuf.proofs.laws.packed_is_read.Goals as goal
 
-pub returns-clause-numbers : goal.returns-clause-numbers
-returns-clause-numbers c bytes ns = (read_packed bytes ns, packed_read bytes ns)
-
-pub returns-clause-fault : goal.returns-clause-fault
-returns-clause-fault c bytes e = (fault_packed bytes e, packed_fault bytes e)
+pub returns : goal.returns
+returns c = record { numbers = λ bytes ns. packed_is bytes (Ok ns); fault = λ bytes e. packed_is bytes (Err e) }

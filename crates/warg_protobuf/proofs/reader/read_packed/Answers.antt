@@ -1,24 +1,37 @@
-use Rattle.std.proofs.Common.{arith}
+use Rattle.std.proofs.Common.{ℕ, [], ◌∷◌, ◌++◌, refl, ap}
 use Rattle.std.proofs.lemmas.Result.{err_from_is_err_and}
-use Rattle.warg_protobuf.proofs.Sequences.{varints_shrink}
-use Rattle.warg_protobuf.proofs.Loops.{numbers_done, numbers_unsplit, numbers_unchecked, numbers_next, not_empty, is_empty}
+use Rattle.warg_protobuf.specs.Schema.{is_uint32, packed_uint32s}
+use Rattle.warg_protobuf.proofs.Readers.{found, shorter, Fails-then, Fails-outcome}
+use Rattle.warg_protobuf.proofs.Varints.{varints}
+use Rattle.warg_protobuf.proofs.Loops.{Collects-next, Collects-fails, Collects-done, numbers_add, uint32_is, not_empty, is_empty}
 use Rattle.warg_protobuf.proofs.reader.read_packed.Goals as goal
 
 pub returns-in_err-number : goal.returns-in_err-number
+unfolding packed_uint32s
 returns-in_err-number g c =
     let p = err_from_is_err_and c.from_residual.result c.from_residual.ensures.1 in
-    rw (p.1, p.2) (numbers_unsplit c.args.numbers.now.items c.args.bytes.now c.loop-rest.rest.now c.loop-rest.numbers.items c.in_err-number.field-0.0 (not_empty c.is_empty.result _ c.is_empty.ensures c.loop-rest-test.true) c.in_err-number.ensures c.loop-rest.invariant)
+    let left = not_empty c.is_empty.result _ c.is_empty.ensures c.loop-rest-test.true in
+    let met = Fails-then _ _ (λ x. is_uint32 x.0) c.in_err-number.ensures in
+    rw (p.1, p.2) (Fails-outcome _ _ (Collects-fails is_uint32 varints _ _ _ _ c.loop-rest.invariant _ left met))
 
 pub returns-in_err-as_uint32 : goal.returns-in_err-as_uint32
+unfolding packed_uint32s
 returns-in_err-as_uint32 g c =
     let p = err_from_is_err_and c.from_residual-in_err-as_uint32.result c.from_residual-in_err-as_uint32.ensures.1 in
-    rw (p.1, p.2) (numbers_unchecked c.args.numbers.now.items c.args.bytes.now c.loop-rest.rest.now c.loop-rest.numbers.items c.in_ok-number.number c.in_ok-number.after.now c.in_err-as_uint32.field-0.0 (not_empty c.is_empty.result _ c.is_empty.ensures c.loop-rest-test.true) c.in_ok-number.ensures c.in_err-as_uint32.ensures c.loop-rest.invariant)
+    let left = not_empty c.is_empty.result _ c.is_empty.ensures c.loop-rest-test.true in
+    let met = Fails-outcome _ _ c.in_err-as_uint32.ensures in
+    rw (p.1, p.2) (Fails-outcome _ _ (Collects-fails is_uint32 varints _ _ _ _ c.loop-rest.invariant _ left (rw c.in_ok-number.ensures met)))
 
 pub loop-rest-smaller : goal.loop-rest-smaller
-loop-rest-smaller g c = omega (arith, varints_shrink.shrinks c.loop-rest.rest.now (c.in_ok-number.number, c.in_ok-number.after.now) c.in_ok-number.ensures)
+loop-rest-smaller g c = shorter varints _ _ _ (found varints c.loop-rest.rest.now c.in_ok-number.number c.in_ok-number.after.now c.in_ok-number.ensures)
 
 pub loop-rest-preserved : goal.loop-rest-preserved
-loop-rest-preserved g c = rw c.in_ok-push.ensures.items (numbers_next c.args.numbers.now.items c.args.bytes.now c.loop-rest.rest.now c.loop-rest.numbers.items c.in_ok-number.number c.in_ok-as_uint32.field-0 c.in_ok-number.after.now (not_empty c.is_empty.result _ c.is_empty.ensures c.loop-rest-test.true) c.in_ok-number.ensures c.in_ok-as_uint32.ensures c.loop-rest.invariant)
+loop-rest-preserved g c =
+    let pushed = ap (λ (k : ℕ). c.loop-rest.numbers.items ++ k ∷ []) (uint32_is _ _ c.in_ok-as_uint32.ensures) in
+    rw c.in_ok-push.ensures.items (Collects-next is_uint32 varints _ _ _ _ c.loop-rest.invariant _ (numbers_add c.args.numbers.now.items) c.in_ok-number.number c.in_ok-number.after.now _ c.in_ok-number.ensures (rw c.in_ok-as_uint32.ensures refl, pushed))
 
 pub returns : goal.returns
-returns g c = numbers_done c.args.numbers.now.items c.args.bytes.now c.loop-rest.rest.now c.loop-rest.numbers.items (is_empty c.is_empty.result _ c.is_empty.ensures c.loop-rest-test.false) c.loop-rest.invariant
+unfolding packed_uint32s
+returns g c =
+    let d = Collects-done is_uint32 varints _ _ _ _ c.loop-rest.invariant (is_empty c.is_empty.result _ c.is_empty.ensures c.loop-rest-test.false) in
+    (rw d.1 refl, rw d.1 d.2)

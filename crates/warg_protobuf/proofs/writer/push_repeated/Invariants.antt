@@ -1,6 +1,7 @@
 use Rattle.std.proofs.Common.{◌≡◌, ◌++◌, take}
-use Rattle.warg_protobuf.specs.Written.{fields_bytes, repeated_fields}
+use Rattle.std.specs.List.{flat_map}
+use Rattle.warg_protobuf.specs.Written.{field_bytes, delimited_field}
 use Rattle.warg_protobuf.proofs.writer.push_repeated.Given as goal
 
 abbrev pub invariant-loop-digest : goal.invariant-loop-digest
-invariant-loop-digest g l = l.out.items ≡ l.fn.out.items ++ fields_bytes (repeated_fields l.field (take l.digest-index l.digests))
+invariant-loop-digest g l = l.out.items ≡ l.fn.out.items ++ flat_map (λ digest. field_bytes (delimited_field l.field digest)) (take l.digest-index l.digests)
