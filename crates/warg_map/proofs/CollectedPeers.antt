@@ -16,10 +16,10 @@ use Rattle.warg_map.specs.Private.Under.{join_at, under, HoldsKey}
 use Rattle.warg_map.specs.Private.Seen.{tree_height, held_by, seen, IsWellFormed, IsBelow}
 use Rattle.warg_map.specs.Private.Walk.{answer_of, empty_half, empty_halves, Reaches, lone_count, Collects}
 use Rattle.warg_map.specs.Peers.{IsPeer, IsPeers, IsPeerCount, Proves, ProvesAbsent, ProvesEmpty, shared}
-use Rattle.warg_map.proofs.SparseTree.{get-join_at, get-join_far, length-bits_from, length-last_bits, last_bits-first, tail_same}
+use Rattle.warg_map.proofs.SparseTree.{tied, get-join_at, get-join_far, length-bits_from, length-last_bits, last_bits-first, head_differs}
 use Rattle.warg_map.proofs.BitsInFront.{bits_left-split, join_at-other, get-under, get-under_head, under-append, holds-under, only-under, no_some, lone-under, last_bits-at}
 use Rattle.warg_map.proofs.TreeForm.{lone_tied, stem_holds}
-use Rattle.warg_map.proofs.FoundInNode.{tied, get-lone_other, IsRun, run_apart}
+use Rattle.warg_map.proofs.FoundInNode.{get-lone_other, IsRun, run_apart}
 
 -- an answer says whether a leaf digest is held
 only_some : (b x held : Bool) → Some held ≡ then_some b x → x ≡ held
@@ -93,12 +93,8 @@ peers_up H half b near far p ps x e h = rw (reverse-append ps (x ∷ [])) (
 )
 
 reaches_up : (lone : ℕ) (b : Bool) (near far : SparseMap) (p : List Bool) (n : ℕ) → HoldsKey far → Reaches 0 near p n → Reaches lone (join_at b near far) (b ∷ p) (n + 1)
-reaches_up lone b near far p n o (inl w) = inr (not b ∷ o.0, ap is_some (get-join_far b near far o.0) ∙ o.1, other_head b p o.0, (let e = shared_other b p o.0 in omega (arith, e, w.0)))
-  where
-    other_head : (b : Bool) (p q : List Bool) → ¬ (not b ∷ q ≡ b ∷ p)
-    other_head true p q e = cc
-    other_head false p q e = cc
-reaches_up lone b near far p n o (inr w) = inr (b ∷ w.0, ap is_some (get-join_at b near far w.0) ∙ w.1, (λ e. w.2 (tail_same b b _ _ e)), (let e = shared-append (b ∷ []) p w.0 in omega (arith, e, w.3)))
+reaches_up lone b near far p n o (inl w) = inr (not b ∷ o.0, ap is_some (get-join_far b near far o.0) ∙ o.1, head_differs b p o.0, (let e = shared_other b p o.0 in omega (arith, e, w.0)))
+reaches_up lone b near far p n o (inr w) = inr (b ∷ w.0, ap is_some (get-join_at b near far w.0) ∙ w.1, (λ e. w.2 (cc)), (let e = shared-append (b ∷ []) p w.0 in omega (arith, e, w.3)))
 
 collects_up : (H : List ℕ → List ℕ) (held : Bool) (h k : ℕ) (b : Bool) (near far : SparseMap) (p : List Bool) (ps : List (Option (List ℕ))) (d : List ℕ) → lone_count held k ≡ 0 → HoldsKey far → d ≡ sparse_root H (length p) far → Collects H held k near p ps → Collects H held h (join_at b near far) (b ∷ p) (ps ++ Some d ∷ [])
 collects_up H held h k b near far p ps d low o e c = record {

@@ -2,6 +2,7 @@
 use Rattle.std.proofs.Common.{◌≡◌, ℕ, zero, suc, ◌+◌, ◌-◌, ◌*◌, ◌/◌, ◌%◌, ◌^◌, ◌<◌, ◌≤◌, Bool, true, false, nat_eq, List, [], ◌∷◌, ◌++◌, length, slice_index, refl, sym, ap, ◌∙◌, arith, ⊎_elim}
 use Rattle.std.proofs.Math.Nat.{pow-succ', mul-le-mul_left, div-eq_of_lt}
 use Rattle.std.proofs.lemmas.Nat.{pow_pos}
+use Rattle.std.proofs.lemmas.Cmp.{tied_itself}
 use Rattle.std.proofs.lemmas.Bool.{lt-ltb, le-ltb, eq-eqb, ne_eqb, eqb-true, eqb-false, cases_Bool, cases_lt}
 use Rattle.std.proofs.lemmas.List.Elements.{All-head, All-tail}
 use Rattle.std.specs.List.{All}
@@ -13,6 +14,7 @@ use Rattle.std.specs.declared.cmp.Ordering.TheVariants.{Less, Equal, Greater}
 use Rattle.warg_crypto.specs.Digests.{IsByte, IsDigest}
 use Rattle.warg_map.specs.Bits.{bit_at, bits_from, last_bits}
 use Rattle.warg_map.specs.Sparse.{bits_cmp}
+use Rattle.warg_map.proofs.SparseTree.{bits_total}
 
 -- the k low bits of a number, the greatest first
 unfoldable low_bits : ℕ → ℕ → List Bool
@@ -152,12 +154,7 @@ bits-order a b f g =
     ap (bits_cmp (last_bits a 256)) (digest_bits b g) ∙ ap (λ p. bits_cmp p (all_bits b)) (digest_bits a f)
     ∙ all_bits-order a b (f.has_32 ∙ sym g.has_32) f.are_bytes g.are_bytes
 
-pub itself : (p : List Bool) → bits_cmp p p ≡ Equal
-itself [] = refl
-itself (true ∷ p) = itself p
-itself (false ∷ p) = itself p
-
 -- digests of the same bits are the same
 pub same_bits_same_digest : (a b : List ℕ) → IsDigest a → IsDigest b → last_bits a 256 ≡ last_bits b 256 → a ≡ b
 same_bits_same_digest a b f g e =
-    slice_cmp-IsAntisymmetric nat_cmp-IsAntisymmetric a b (sym (bits-order a b f g) ∙ ap (λ p. bits_cmp p (last_bits b 256)) e ∙ itself (last_bits b 256))
+    slice_cmp-IsAntisymmetric nat_cmp-IsAntisymmetric a b (sym (bits-order a b f g) ∙ ap (λ p. bits_cmp p (last_bits b 256)) e ∙ tied_itself bits_total (last_bits b 256))

@@ -3,9 +3,7 @@ use Rattle.std.proofs.Common.{◌≡◌, ℕ, Bool, true, false, List, IsTrue, i
 use Rattle.std.specs.FinMap.{insert, empty, contains_key}
 use Rattle.std.specs.Ordering.{eq_by_cmp}
 use Rattle.warg_map.specs.Sparse.{SparseMap, HasLevels, bits_cmp}
-use Rattle.warg_map.proofs.SparseTree.{contains_key-empty, tied_itself_bits}
-use Rattle.warg_map.proofs.FoundInNode.{tied}
-use Rattle.warg_map.proofs.HonestProofs.{get-insert_other}
+use Rattle.warg_map.proofs.SparseTree.{contains_key-empty, tied, tied_itself_bits, get-insert_other}
 
 pub levels-empty : HasLevels 256 empty
 levels-empty bits h = absurd (let e : contains_key empty bits ≡ false = contains_key-empty bits in cc)

@@ -11,9 +11,7 @@ use Rattle.warg_crypto.specs.Tree.{leaf_digest}
 use Rattle.warg_map.specs.Sparse.{SparseMap, bits_cmp, inserted, pair_bytes, HasDistinctKeys}
 use Rattle.std.proofs.lemmas.List.{get_or_default}
 use Rattle.std.proofs.lemmas.Bool.{ltb-true, ltb-false}
-use Rattle.warg_map.proofs.SparseTree.{same_sparse, tied_itself_bits}
-use Rattle.warg_map.proofs.FoundInNode.{tied}
-use Rattle.warg_map.proofs.HonestProofs.{get-insert_other, get-insert_same}
+use Rattle.warg_map.proofs.SparseTree.{same_sparse, tied, tied_itself_bits, get-insert_same, get-insert_other}
 
 -- one insertion more
 pub inserted-none : (H : List ℕ → List ℕ) (m : SparseMap) → inserted H m [] ≡ m

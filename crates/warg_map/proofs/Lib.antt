@@ -16,7 +16,6 @@ pub mod InsertedPairs
 pub mod UniqueRootsAndProofs
 pub mod ProofMessages
 pub mod LastInserted
-pub mod RootsAtPrefixes
 pub mod DigestBits
 pub mod ProofEquality
 pub mod ForCallers

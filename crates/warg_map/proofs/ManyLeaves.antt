@@ -11,7 +11,7 @@ use Rattle.warg_map.specs.Sparse.{SparseMap, HasLevels, bits_cmp}
 use Rattle.warg_map.specs.Private.Under.{join_at, under, HoldsKey, Splits}
 use Rattle.warg_map.specs.Private.Grown.{with_leaves, ShareBits, is_bit, on_side}
 use Rattle.warg_map.proofs.HeldKeys.{levels-insert}
-use Rattle.warg_map.proofs.SparseTree.{bits_total, length-last_bits, insert-join_at, insert-join_far, insert-again, last_bits-step, contains_key-insert_same, empty-is_join_at, head_same, tail_same}
+use Rattle.warg_map.proofs.SparseTree.{bits_total, length-last_bits, insert-join_at, insert-join_far, insert-again, last_bits-step, contains_key-insert_same, empty-is_join_at}
 use Rattle.warg_map.proofs.BitsInFront.{bits_left-split, insert-under}
 use Rattle.warg_map.proofs.TreeForm.{held_after}
 
@@ -21,8 +21,8 @@ unfolding bits_from
 bits_from-fewer a b i zero n le e = refl
 bits_from-fewer a b i (suc m) zero le e = absurd (omega arith)
 bits_from-fewer a b i (suc m) (suc n) le e =
-    let t = bits_from-fewer a b (i + 1) m n (omega arith) (tail_same _ _ _ _ e) in
-    ap (λ x. x ∷ bits_from a (i + 1) m) (head_same _ _ _ _ e) ∙ ap (λ q. bit_at b i ∷ q) t
+    let t = bits_from-fewer a b (i + 1) m n (omega arith) (cc) in
+    ap (λ x. x ∷ bits_from a (i + 1) m) (cc) ∙ ap (λ q. bit_at b i ∷ q) t
 
 -- sides
 side_of : (b x : Bool) → ((is_bit b x ≡ true) × (is_bit (not b) x ≡ false) × (x ≡ b)) ⊎ ((is_bit b x ≡ false) × (is_bit (not b) x ≡ true) × (x ≡ not b))
