@@ -16,9 +16,9 @@ use Rattle.warg_map.specs.Private.Under.{join_at, under, HoldsKey}
 use Rattle.warg_map.specs.Private.Seen.{tree_height, held_by, seen, IsWellFormed, IsBelow}
 use Rattle.warg_map.specs.Private.Walk.{answer_of, empty_half, empty_halves, Reaches, lone_count, Collects}
 use Rattle.warg_map.specs.Peers.{IsPeer, IsPeers, IsPeerCount, Proves, ProvesAbsent, ProvesEmpty, shared}
-use Rattle.warg_map.proofs.SparseTree.{tied, get-join_at, get-join_far, length-bits_from, length-last_bits, last_bits-first, head_differs}
+use Rattle.warg_map.proofs.SparseTree.{get-join_at, get-join_far, length-bits_from, length-last_bits, last_bits-first, head_differs}
 use Rattle.warg_map.proofs.BitsInFront.{bits_left-split, join_at-other, get-under, get-under_head, under-append, holds-under, only-under, no_some, lone-under, last_bits-at}
-use Rattle.warg_map.proofs.TreeForm.{lone_tied, stem_holds}
+use Rattle.warg_map.proofs.TreeForm.{lone_only, stem_holds}
 use Rattle.warg_map.proofs.FoundInNode.{get-lone_other, IsRun, run_apart}
 
 -- an answer says whether a leaf digest is held
@@ -141,7 +141,7 @@ not_lone m p o none only = let e : true ≡ false = sym o.1 ∙ ap (contains_key
 lone_below : (held : Bool) (len k : ℕ) (m : SparseMap) (p : List Bool) (n : ℕ) → IsBelow len (k, m) → contains_key m p ≡ held → n ≡ lone_count held k → ((q : List Bool) → IsTrue (contains_key m q) → q ≡ p) → n + len ≡ lone_count held (k + len)
 lone_below held len k m p n (inl s) is e only = absurd (let x = only (false ∷ s.0.0) s.0.1 ∙ sym (only (true ∷ s.1.0) s.1.1) in cc)
 lone_below true len k m p n (inr o) is e only = rw (e, o.0, o.1)
-lone_below false len k m p n (inr o) is e only = absurd (not_lone m p (stem_holds len k m (inr o)) is only)
+lone_below false len k m p n (inr o) is e only = absurd (not_lone m p (stem_holds len (k, m) (inr o)) is only)
 
 pub collects_below : (H : List ℕ → List ℕ) (held : Bool) (whole : SparseMap) (below child : ℕ × SparseMap) (height : ℕ) (one key : List ℕ) (from len : ℕ) (ps new : List (Option (List ℕ))) → IsRun whole height one from len below.0 below.1 → IsBelow len below → child ≡ below
     → bits_from one from len ≡ bits_from key from len → contains_key child.1 (last_bits key (256 - (from + len))) ≡ held
@@ -168,7 +168,7 @@ collects_lone : (H : List ℕ → List ℕ) (h : ℕ) (p : List Bool) (v : List 
 unfolding IsPeers
 collects_lone H h p v lt = record {
   peers_from_top = get-lone_other p v;
-  reaches = inl (sym (lone_low true h lt), λ q c. tied q p (lone_tied p q v c));
+  reaches = inl (sym (lone_low true h lt), λ q c. lone_only p q v c);
 }
 
 collects_nothing : (H : List ℕ → List ℕ) (h : ℕ) (p : List Bool) → Collects H false h empty p []

@@ -57,7 +57,7 @@ run_of_stem old s from is w height =
         held_is = ap (λ i. under (bits_from s.value.key i s.value.len) s.value.below.1) at;
         height_is = refl;
         whole = omega (arith, h);
-        holds = stem_holds s.value.len s.value.below.0 s.value.below.1 ws.formed.1;
+        holds = stem_holds s.value.len s.value.below ws.formed.1;
       },
     )
 

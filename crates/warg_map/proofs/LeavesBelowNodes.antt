@@ -98,7 +98,7 @@ rest_run len_ from at below key b sum low high = record {
   held_is = refl;
   height_is = omega (arith, sum, low, high);
   whole = omega (arith, sum, low, high);
-  holds = stem_holds len_ below.0 below.1 b;
+  holds = stem_holds len_ below b;
 }
 
 pub cut_at : (key : List ℕ) (at n : ℕ) (m : SparseMap) → under (bits_from key at (n + 1)) m ≡ join_at (bit_at key at) (under (bits_from key (at + 1) n) m) empty

@@ -8,7 +8,8 @@ use Rattle.warg_map.specs.Sparse.{bits_cmp}
 use Rattle.warg_map.specs.Private.Under.{join_at, under, HoldsKey}
 use Rattle.warg_map.specs.Private.Grown.{with_leaves, ShareBits}
 use Rattle.warg_map.specs.Private.Seen.{held_by}
-use Rattle.warg_map.proofs.TreeForm.{is_fork, is_lone, is_stem}
+use Rattle.warg_map.specs.declared.node.Node.TheVariants.{Fork, Singleton, Stem}
+use Rattle.warg_map.proofs.TreeForm.{of_content}
 use Rattle.warg_map.proofs.NodeCounts.{len-join_at, len-under}
 use Rattle.warg_map.proofs.FoundInNode.{run_of_link}
 use Rattle.warg_map.proofs.BitsInFront.{holds-under}
@@ -30,7 +31,7 @@ same_lone g t c =
     λ i. record { key = c.with_height.ensures.key i; value = c.with_height.ensures.value i; height = (c.with_height.ensures.height ∙ height) i }
 
 lone : (g : _) (t : _) (c : spread-In_ok-link-in-Singleton g t) → (c.in_ok-link-in-Singleton.link ≡ (c.args.link.now.0, with_leaves c.args.link.now.0 c.args.link.now.1 c.args.leaves.items)) × (len c.args.link.now.1 ≡ 1)
-lone g t c = put_beside_lone c.node.result.now _ c.args.link.now c.in_ok-link-in-Singleton.link c.args.depth c.args.leaves.items c.insert.new.self.items c.node.ensures.seen (is_lone c.in-Singleton.is (same_lone g t (goal.at.spread-In_ok-link-in-Singleton g t c).After-with_height ∙ c.as_ref.ensures)) c.requires c.in_ok-insert-in-Singleton.ensures.items c.in_ok-link-in-Singleton.ensures.seen
+lone g t c = put_beside_lone c.node.result.now _ c.args.link.now c.in_ok-link-in-Singleton.link c.args.depth c.args.leaves.items c.insert.new.self.items c.node.ensures.seen (of_content Singleton c.in-Singleton.is (same_lone g t (goal.at.spread-In_ok-link-in-Singleton g t c).After-with_height ∙ c.as_ref.ensures)) c.requires c.in_ok-insert-in-Singleton.ensures.items c.in_ok-link-in-Singleton.ensures.seen
 
 some_key : (g : _) (t : _) (c : spread-In_ok-link-in-Singleton g t) → 1 ≤ c.in_ok-link-in-Singleton.count
 some_key g t c =
@@ -51,7 +52,7 @@ spread-returns-in_ok-link-in-Singleton-clause-count g t c = omega (arith, (lone 
 -- the sides of a fork
 at_fork : (g : _) (t : _) (c : spread-In_ok-right-in-Fork g t) → let f = c.as_ref-fork.result.now in
     (c.args.link.now ≡ (256 - c.args.depth, join_at false f.left.1 f.right.1)) × (f.left.0 + (c.args.depth + 1) ≡ 256) × (f.right.0 + (c.args.depth + 1) ≡ 256) × HoldsKey f.left.1 × HoldsKey f.right.1
-at_fork g t c = in_fork c.node.result.now _ c.args.link.now c.args.depth c.node.ensures.seen (is_fork c.in-Fork.is c.as_ref-fork.ensures) c.node.ensures.well_formed c.requires
+at_fork g t c = in_fork c.node.result.now _ c.args.link.now c.args.depth c.node.ensures.seen (of_content Fork c.in-Fork.is c.as_ref-fork.ensures) c.node.ensures.well_formed c.requires
 
 put : (g : _) (t : _) (c : spread-In_ok-right-in-Fork g t) → IsPutBeside false c.args.depth c.as_ref-fork.result.now.left c.as_ref-fork.result.now.right c.in_ok-left-in-Fork.left c.in_ok-right-in-Fork.right c.args.leaves.items
 put g t c =
@@ -88,7 +89,7 @@ spread-returns-in-Empty-clause-count g t c =
 
 pub spread-returns-in-Stem-clause-count : goal.spread-returns-in-Stem-clause-count
 spread-returns-in-Stem-clause-count g t c =
-    let run = run_of_link c.node.result.now _ c.args.link.now c.args.depth c.node.ensures.seen (is_stem c.in-Stem.is c.as_ref-in-Stem.ensures) c.node.ensures.well_formed c.requires in
+    let run = run_of_link c.node.result.now _ c.args.link.now c.args.depth c.node.ensures.seen (of_content Stem c.in-Stem.is c.as_ref-in-Stem.ensures) c.node.ensures.well_formed c.requires in
     IfOk-weaker c.spread_stem.result _ _ (λ p e. rw (run.1.held_is, len-under (bits_from _ c.args.depth _) _) e) c.spread_stem.ensures.count
 
 -- a stem, from a bit on
