@@ -22,13 +22,8 @@ use Rattle.warg_map.proofs.TreeForm.{lone_only, stem_holds}
 use Rattle.warg_map.proofs.FoundInNode.{get-lone_other, IsRun, run_apart}
 
 -- an answer says whether a leaf digest is held
-only_some : (b x held : Bool) → Some held ≡ then_some b x → x ≡ held
-only_some true x held e = cc
-only_some false x held e = cc
-
 pub answered : (H : List ℕ → List ℕ) (asked : Asked) (leaf : Option (List ℕ)) (held : Bool) → Some held ≡ answer_of H asked leaf → is_some leaf ≡ held
-answered H asked None held e = only_some _ false held e
-answered H asked (Some x) held e = only_some _ true held e
+answered H asked leaf held e = grind arith
 
 -- bits that part at once, and later
 shared_other : (b : Bool) (p q : List Bool) → shared (b ∷ p) (not b ∷ q) ≡ 0
@@ -56,10 +51,10 @@ unfolding IsPeers
 shares_fewer H half held bits [] h q s n = absurd (no_some _ (h q n) s)
 shares_fewer H half held [] (o ∷ os) h q s n = absurd h
 shares_fewer H half held (b ∷ bits) (o ∷ os) h [] s n = omega arith
-shares_fewer H half held (true ∷ bits) (o ∷ os) h (true ∷ q) s n = let e = shares_fewer H half (λ r. held (true ∷ r)) bits os h.1 q s (λ x. n (ap (λ t. true ∷ t) x)) in omega (arith, e)
+shares_fewer H half held (true ∷ bits) (o ∷ os) h (true ∷ q) s n = let e = shares_fewer H half (λ r. held (true ∷ r)) bits os h.1 q s (λ x. n (cc)) in omega (arith, e)
 shares_fewer H half held (true ∷ bits) (o ∷ os) h (false ∷ q) s n = omega arith
 shares_fewer H half held (false ∷ bits) (o ∷ os) h (true ∷ q) s n = omega arith
-shares_fewer H half held (false ∷ bits) (o ∷ os) h (false ∷ q) s n = let e = shares_fewer H half (λ r. held (false ∷ r)) bits os h.1 q s (λ x. n (ap (λ t. false ∷ t) x)) in omega (arith, e)
+shares_fewer H half held (false ∷ bits) (o ∷ os) h (false ∷ q) s n = let e = shares_fewer H half (λ r. held (false ∷ r)) bits os h.1 q s (λ x. n (cc)) in omega (arith, e)
 
 collected_count : (H : List ℕ → List ℕ) (held : Bool) (height : ℕ) (m : SparseMap) (bits : List Bool) (peers : List (Option (List ℕ))) → Collects H held height m bits peers → IsPeerCount (lone_count held height) m bits (length peers)
 collected_count H held height m bits peers c = record {
@@ -68,21 +63,17 @@ collected_count H held height m bits peers c = record {
 }
 
 -- what is collected in the whole tree proves what is held there
-proves_found : (H : List ℕ → List ℕ) (held : Bool) (m : SparseMap) (bits : List Bool) (peers : List (Option (List ℕ))) (o : Option (List ℕ)) → get m bits ≡ o → is_some o ≡ held → Collects H held 256 m bits peers → MatchOption o (ProvesAbsent H m bits peers) (λ _. Proves H 256 m bits peers)
-proves_found H true m bits peers None e is c = absurd (cc is)
-proves_found H true m bits peers (Some v) e is c = record { held = ap is_some e; peers_from_top = c.peers_from_top; count = collected_count H true 256 m bits peers c }
-proves_found H false m bits peers None e is c = record { absent = ap is_some e; peers_from_top = c.peers_from_top; count = collected_count H false 256 m bits peers c }
-proves_found H false m bits peers (Some v) e is c = absurd (cc is)
+proves_found : (H : List ℕ → List ℕ) (m : SparseMap) (bits : List Bool) (peers : List (Option (List ℕ))) (o : Option (List ℕ)) → get m bits ≡ o → Collects H (is_some o) 256 m bits peers → MatchOption o (ProvesAbsent H m bits peers) (λ _. Proves H 256 m bits peers)
+proves_found H m bits peers None e c = record { absent = ap is_some e; peers_from_top = c.peers_from_top; count = collected_count H false 256 m bits peers c }
+proves_found H m bits peers (Some v) e c = record { held = ap is_some e; peers_from_top = c.peers_from_top; count = collected_count H true 256 m bits peers c }
 
-proves_whole : (H : List ℕ → List ℕ) (asked : Asked) (o : Option Bool) (m : SparseMap) (bits : List Bool) (peers : List (Option (List ℕ))) → length bits ≡ 256 → o ≡ answer_of H asked (get m bits) → MatchOption o (peers ≡ []) (λ held. Collects H held 256 m bits peers) → (length peers ≤ 256) × (IsSome o → ProvesEmpty H m bits peers)
-proves_whole H asked None m bits peers n e c = (rw c (omega arith), λ is. absurd (cc is))
-proves_whole H asked (Some held) m bits peers n e c = (few_collected H _ (get m) bits peers c.peers_from_top n, λ _. proves_found H held m bits peers (get m bits) refl (answered H asked (get m bits) held e) c)
-
-pub proves_asked : (H : List ℕ → List ℕ) (asked : Asked) (o : Option Bool) (child link : ℕ × SparseMap) (m : SparseMap) (bits : List Bool) (peers : List (Option (List ℕ))) → child ≡ link → link.0 ≡ 256 → link.1 ≡ m → length bits ≡ 256
+pub proves_asked : (H : List ℕ → List ℕ) (asked : Asked) (o : Option Bool) (child : ℕ × SparseMap) (m : SparseMap) (bits : List Bool) (peers : List (Option (List ℕ))) → child ≡ (256, m) → length bits ≡ 256
     → o ≡ answer_of H asked (get child.1 bits) → MatchOption o (peers ≡ []) (λ held. Collects H held child.0 child.1 bits peers) → (length peers ≤ 256) × (IsSome o → ProvesEmpty H m bits peers)
-proves_asked H asked o child link m bits peers e top view n a c =
-    let at : child ≡ (256, m) = e ∙ (λ i. (top i, view i)) in
-    proves_whole H asked o m bits peers n (rw at at a) (rw at at c)
+proves_asked H asked None child m bits peers at n e c = (rw c (omega arith), λ is. absurd (cc is))
+proves_asked H asked (Some held) child m bits peers at n e c =
+    let all : Collects H held 256 m bits peers = rw at at c in
+    let same : held ≡ is_some (get m bits) = sym (answered H asked (get m bits) held (rw at at e)) in
+    (few_collected H _ (get m) bits peers all.peers_from_top n, λ _. proves_found H m bits peers (get m bits) refl (rw same at all))
 
 -- one bit up
 peers_up : (H : List ℕ → List ℕ) (half : ℕ → Option (List ℕ)) (b : Bool) (near far : SparseMap) (p : List Bool) (ps : List (Option (List ℕ))) (x : Option (List ℕ)) → IsPeer H (half (length p)) (length p) (get far) x → IsPeers H half (get near) p (reverse ps) → IsPeers H half (get (join_at b near far)) (b ∷ p) (reverse (ps ++ x ∷ []))
@@ -114,7 +105,7 @@ halves-more half k n ps = append_assoc ps (empty_halves half k n) _ ∙ ap (λ j
 length-empty_halves : (half : ℕ → Option (List ℕ)) (k n : ℕ) → length (empty_halves half k n) ≡ n
 unfolding empty_halves
 length-empty_halves half k zero = refl
-length-empty_halves half k (suc n) = length_push (empty_halves half k n) _ ∙ ap (λ j. j + 1) (length-empty_halves half k n) ∙ add-one n
+length-empty_halves half k (suc n) = rw (length_push, length-empty_halves half k n, add-one)
 
 peers_below : (H : List ℕ → List ℕ) (half : ℕ → Option (List ℕ)) (a p : List Bool) (m : SparseMap) (ps : List (Option (List ℕ))) → IsPeers H half (get m) p (reverse ps) → IsPeers H half (get (under a m)) (a ++ p) (reverse (ps ++ empty_halves half (length p) (length a)))
 unfolding under empty_halves
@@ -232,8 +223,3 @@ collects_fork H (Some held) old child f key b depth ps new d x is wf height e ce
     let h : f.value.left.0 + 1 + depth ≡ 256 = rw is at height in
     let len : length (last_bits key (256 - (depth + 1))) ≡ f.value.left.0 = (let l = length-last_bits key (256 - (depth + 1)) in omega (arith, l, h)) in
     rw (is, n, last_bits-first key depth (omega (arith, h)), ← e) (in_fork H held f b (last_bits key (256 - (depth + 1))) ps d (seen child) x (rw is at wf) len ce xe de c)
-
--- how an empty half is written, and the one above it
-pub no_half : (held : Bool) (x y : List ℕ) → cond held (Some x) None ≡ None → None ≡ cond held (Some y) None
-no_half true x y e = cc
-no_half false x y e = refl

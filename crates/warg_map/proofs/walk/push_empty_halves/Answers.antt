@@ -1,7 +1,7 @@
 use Rattle.std.proofs.Common.{◌≡◌, ◌+◌, ◌-◌, ◌∷◌, ◌++◌, [], Some, sym, ap, ◌∙◌, arith}
 use Rattle.std.proofs.lemmas.Option.{cond_some}
 use Rattle.warg_map.specs.Private.Walk.{empty_half}
-use Rattle.warg_map.proofs.CollectedPeers.{halves-none, halves-more, no_half}
+use Rattle.warg_map.proofs.CollectedPeers.{halves-none, halves-more}
 use Rattle.warg_map.proofs.walk.push_empty_halves.Goals as goal
 use Rattle.warg_map.proofs.walk.push_empty_halves.Goals.{then-held, else-held, in-Some, in-None}
 
@@ -25,6 +25,6 @@ loop-height-preserved g c =
           ∙ ap (λ t. t ++ half (c.args.from + (c.loop-height.height - c.args.from)) ∷ []) c.loop-height.invariant.peers ∙ halves-more half c.args.from (c.loop-height.height - c.args.from) c.args.peers.now.items);
       half = c.replace.ensures.after ∙ elim c.match-half.branch [
         | in-Some w ↦ (let yes = cond_some c.args.held _ _ (sym c.loop-height.invariant.half ∙ w.in-Some.is) in w.above-is ∙ rw yes.0 (ap Some w.empty_above.ensures))
-        | in-None w ↦ w.above-is ∙ no_half c.args.held _ _ (sym c.loop-height.invariant.half ∙ w.in-None.is)
+        | in-None w ↦ grind (arith, w.above-is, c.loop-height.invariant.half, w.in-None.is)
       ];
     }
