@@ -16,10 +16,11 @@ use Rattle.warg_map.specs.Private.Under.{join_at, under, HoldsKey}
 use Rattle.warg_map.specs.Private.Seen.{tree_height, held_by, seen, IsWellFormed, IsBelow}
 use Rattle.warg_map.specs.Private.Walk.{answer_of, empty_half, empty_halves, Reaches, lone_count, Collects}
 use Rattle.warg_map.specs.Peers.{IsPeer, IsPeers, IsPeerCount, Proves, ProvesAbsent, ProvesEmpty, shared}
-use Rattle.warg_map.proofs.SparseTree.{get-join_at, get-join_far, length-bits_from, length-last_bits, last_bits-first, head_differs}
-use Rattle.warg_map.proofs.BitsInFront.{bits_left-split, join_at-other, get-under, get-under_head, under-append, holds-under, only-under, no_some, lone-under, last_bits-at}
+use Rattle.warg_map.proofs.SparseTree.{get-join_at, get-join_far, head_differs}
+use Rattle.warg_map.proofs.BitsInFront.{join_at-other, get-under, get-under_head, under-append, holds-under, only-under, no_some, lone-under}
 use Rattle.warg_map.proofs.TreeForm.{lone_only, stem_holds}
 use Rattle.warg_map.proofs.FoundInNode.{get-lone_other, IsRun, run_apart}
+use Rattle.warg_map.proofs.KeyBits.{length-bits_from, length-last_bits, last_bits-first, bits_left-split, last_bits-at}
 
 -- an answer says whether a leaf digest is held
 pub answered : (H : List ℕ → List ℕ) (asked : Asked) (leaf : Option (List ℕ)) (held : Bool) → Some held ≡ answer_of H asked leaf → is_some leaf ≡ held

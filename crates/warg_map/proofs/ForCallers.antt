@@ -17,6 +17,7 @@ use Rattle.warg_map.specs.ProofValue.{proof_value}
 use Rattle.warg_map.specs.Peers.{Proves, ProvesAbsent, ProvesEmpty}
 use Rattle.warg_map.specs.Messages.{Peers, same_peers}
 use Rattle.warg_map.proofs.ProofEquality as equal
+use Rattle.warg_map.proofs.KeyBits as keys
 use Rattle.warg_map.proofs.SparseTree as tree
 use Rattle.warg_map.proofs.DigestBits as bits
 use Rattle.warg_map.proofs.LastInserted as last
@@ -24,25 +25,25 @@ use Rattle.warg_map.proofs.HonestProofs as honest
 
 -- the last bits of a digest are as many as are asked for, and a key has 256
 pub length-last_bits : (key : List ℕ) (n : ℕ) → length (last_bits key n) ≡ n
-length-last_bits = tree.length-last_bits
+length-last_bits = keys.length-last_bits
 
 pub all_bits : (H : List ℕ → List ℕ) (key : List ℕ) → length (key_bits H key) ≡ 256
-all_bits H key = tree.length-last_bits (H key) 256
+all_bits H key = keys.length-last_bits (H key) 256
 
 -- no bit is left
 pub last_bits-none : (key : List ℕ) → last_bits key 0 ≡ []
-last_bits-none = tree.last_bits-zero
+last_bits-none key = keys.bits_from-none key 256
 
 -- one bit more, from the bottom
 pub last_bits-more : (key : List ℕ) (n : ℕ) → n < 256 → last_bits key (n + 1) ≡ bit_at key (255 - n) ∷ last_bits key n
-last_bits-more = tree.last_bits-step
+last_bits-more = keys.last_bits-step
 
 -- the bits that are left at a depth
 pub bits_left-more : (key : List ℕ) (depth : ℕ) → depth < 256 → last_bits key (256 - depth) ≡ bit_at key depth ∷ last_bits key (256 - (depth + 1))
-bits_left-more = tree.last_bits-first
+bits_left-more = keys.last_bits-first
 
 pub bits_left-none : (key : List ℕ) (depth : ℕ) → depth ≡ 256 → last_bits key (256 - depth) ≡ []
-bits_left-none = tree.last_bits-end
+bits_left-none key depth h = rw h (keys.bits_from-none key 256)
 
 -- bits are equal to themselves, by their order and by the test
 pub bits_cmp-itself : (q : List Bool) → bits_cmp q q ≡ Equal

@@ -12,9 +12,10 @@ use Rattle.warg_map.specs.Bits.{bit_at, bits_from, last_bits}
 use Rattle.warg_map.specs.Sparse.{SparseMap, bits_cmp}
 use Rattle.warg_map.specs.Private.Under.{under, HoldsKey}
 use Rattle.warg_map.specs.Private.Seen.{seen, tree_height, held_by, IsWellFormed}
-use Rattle.warg_map.proofs.SparseTree.{get-insert_same, get-insert_other, get-join_true, get-join_false, contains_key-insert_same, last_bits-first, last_bits-end}
+use Rattle.warg_map.proofs.SparseTree.{get-insert_same, get-insert_other, get-join_true, get-join_false, contains_key-insert_same}
 use Rattle.warg_map.proofs.TreeForm.{stem_holds}
-use Rattle.warg_map.proofs.BitsInFront.{get-under, get-under_apart, lone-under, bits_from-part, bits_left-split, last_bits-at}
+use Rattle.warg_map.proofs.BitsInFront.{get-under, get-under_apart, lone-under}
+use Rattle.warg_map.proofs.KeyBits.{bits_from-none, last_bits-first, bits_from-part, bits_left-split, last_bits-at}
 
 -- a lone key holds nothing else
 pub get-lone_other : (p : List Bool) (v : List ℕ) (q : List Bool) → ¬ (q ≡ p) → get (insert (empty {K = List Bool} {X = List ℕ} {R = bits_cmp}) p v) q ≡ None
@@ -82,7 +83,7 @@ found_lone held height one key v from len j run most least same =
     let below = found_below held height one key from len 0 j (insert empty [] v) run most least same in
     let end : from + len ≡ 256 = omega (arith, run.whole) in
     let le : from + len ≤ 256 = omega (arith, end) in
-    let none = last_bits-end key (from + len) end in
+    let none : last_bits key (256 - (from + len)) ≡ [] = rw end (bits_from-none key 256) in
     (bits_left-split key from len le ∙ ap (λ t. bits_from key from len ++ t) none ∙ append-nil _ ∙ sym below.0, sym (ap (get (insert empty [] v)) none ∙ get-insert_same empty [] v) ∙ below.1)
 
 -- the key's bits part from the run's after j bits

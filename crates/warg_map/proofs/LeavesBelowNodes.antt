@@ -11,11 +11,12 @@ use Rattle.warg_map.specs.Private.Lone.{Lone}
 use Rattle.warg_map.specs.Private.Under.{join_at, under, HoldsKey, Splits}
 use Rattle.warg_map.specs.Private.Grown.{with_leaves, ShareBits, on_side}
 use Rattle.warg_map.specs.Private.Seen.{seen, IsWellFormed, IsBelow}
-use Rattle.warg_map.proofs.BitsInFront.{bits_from-append, bits_from-first, bits_from-none, under-append, under-none}
+use Rattle.warg_map.proofs.BitsInFront.{under-append, under-none}
 use Rattle.warg_map.proofs.NodeCounts.{len-join_at, len-lone}
 use Rattle.warg_map.proofs.TreeForm.{splits_join, stem_holds}
 use Rattle.warg_map.proofs.FoundInNode.{IsRun}
 use Rattle.warg_map.proofs.ManyLeaves.{with_leaves-join_at, with_leaves-under, under-empty, put_in_front, still_splits, with_leaves-holds}
+use Rattle.warg_map.proofs.KeyBits.{bits_from-append, bits_from-first, bits_from-none}
 
 -- on both sides of a bit
 pub record IsPutBeside (b : Bool) (at : ℕ) (p q near far : ℕ × SparseMap) (es : List Lone) : Type 0 where

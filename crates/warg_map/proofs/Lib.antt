@@ -1,3 +1,4 @@
+pub mod KeyBits
 pub mod SparseTree
 pub mod BitsInFront
 pub mod SideBits

@@ -14,7 +14,8 @@ use Rattle.warg_map.specs.Private.Under.{join, join_at, under, HoldsKey, Splits}
 use Rattle.warg_map.specs.Private.Seen.{seen, tree_height, held_by, IsWellFormed, IsBelow, counted}
 use Rattle.warg_map.specs.Count.{stripped, half_after, nodes}
 use Rattle.warg_map.proofs.TreeForm.{stem_holds, stem_no_split}
-use Rattle.warg_map.proofs.SparseTree.{bits_total, same_sparse, get-join_at, get-join_far, insert-join_at, empty-is_join_at, contains_key-empty, length-bits_from}
+use Rattle.warg_map.proofs.SparseTree.{bits_total, same_sparse, get-join_at, get-join_far, insert-join_at, empty-is_join_at, contains_key-empty}
+use Rattle.warg_map.proofs.KeyBits.{length-bits_from}
 
 -- what a map holds after a bit
 find-stripped : (b : Bool) (q : List Bool) (es : List (List Bool × List ℕ)) → find bits_cmp q (stripped b es) ≡ find bits_cmp (b ∷ q) es

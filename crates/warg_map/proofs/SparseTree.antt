@@ -1,12 +1,11 @@
 -- Laws of the plain sparse tree.
-use Rattle.std.proofs.Common.{◌≡◌, ℕ, zero, suc, length, ◌+◌, ◌-◌, ◌<◌, Bool, true, false, cond, not, List, [], ◌∷◌, ◌++◌, map, Option, Some, None, is_some, unwrap_or, refl, sym, ap, ◌∙◌, arith, add-one}
+use Rattle.std.proofs.Common.{◌≡◌, ℕ, zero, suc, ◌+◌, Bool, true, false, cond, not, List, [], ◌∷◌, ◌++◌, map, Option, Some, None, is_some, refl, sym, ap, ◌∙◌, add-one}
 use Rattle.std.specs.FinMap.{entries, get, insert, empty, find, get-empty, get-insert, get-entries, get-from_entries, same_map, IsAntisymmetric, slice_cmp-IsAntisymmetric, contains_key}
 use Rattle.std.specs.Ordering.{bool_cmp, eq_by_cmp}
 use Rattle.std.specs.Cmp.{IsTotalOrder, bool_cmp_total, Equal-is, eq_by_cmp_equiv}
 use Rattle.std.proofs.lemmas.Bool.{cond-true, cond-false, false_from_ne_true}
 use Rattle.std.specs.Cmp.Lexicographic.{lists_total}
 use Rattle.warg_crypto.specs.EmptyTrees.{empty_root}
-use Rattle.warg_map.specs.Bits.{bit_at, bits_from, last_bits}
 use Rattle.warg_map.specs.Sparse.{SparseMap, bits_cmp, root_of_levels, sparse_root}
 use Rattle.warg_map.specs.Private.Under.{join, join_at}
 
@@ -127,44 +126,11 @@ sparse_root-empty H k = root-same H k _ _ (get-empty bits_cmp) ∙ root-nothing 
 pub sparse_root-join : (H : List ℕ → List ℕ) (k : ℕ) (l r : SparseMap) → sparse_root H (k + 1) (join l r) ≡ H (1 ∷ (sparse_root H k l ++ sparse_root H k r))
 unfolding root_of_levels
 sparse_root-join H k l r =
-    ap (λ j. root_of_levels H j (get (join l r))) (add-one k)
-    ∙ ap (λ a. H (1 ∷ (a ++ root_of_levels H k (λ q. get (join l r) (true ∷ q))))) (root-same H k _ _ (get-join_false l r))
-    ∙ ap (λ b. H (1 ∷ (sparse_root H k l ++ b))) (root-same H k _ _ (get-join_true l r))
+    rw (add-one k, root-same H k _ _ (get-join_false l r), root-same H k _ _ (get-join_true l r))
 
 pub sparse_root-leaf : (H : List ℕ → List ℕ) (v : List ℕ) → sparse_root H 0 (insert empty [] v) ≡ v
 unfolding root_of_levels
-sparse_root-leaf H v = ap (λ o. unwrap_or o (empty_root H 0)) (get-insert bits_total empty [] v [])
-
--- the bits of a digest
-pub last_bits-step : (key : List ℕ) (n : ℕ) → n < 256 → last_bits key (n + 1) ≡ bit_at key (255 - n) ∷ last_bits key n
-unfolding bits_from
-last_bits-step key n h =
-    ap (λ k. bits_from key (256 - k) k) (add-one n)
-    ∙ ap (λ i. bits_from key i (suc n)) (let e : 256 - suc n ≡ 255 - n = omega arith in e)
-    ∙ ap (λ i. bit_at key (255 - n) ∷ bits_from key i n) (let e : 255 - n + 1 ≡ 256 - n = omega arith in e)
-
-pub last_bits-zero : (key : List ℕ) → last_bits key 0 ≡ []
-unfolding bits_from
-last_bits-zero key = refl
-
-pub length-bits_from : (key : List ℕ) (i n : ℕ) → length (bits_from key i n) ≡ n
-unfolding bits_from
-length-bits_from key i zero = refl
-length-bits_from key i (suc n) = ap suc (length-bits_from key (i + 1) n)
-
-pub length-last_bits : (key : List ℕ) (n : ℕ) → length (last_bits key n) ≡ n
-length-last_bits key n = length-bits_from key (256 - n) n
-
--- the first of the bits from i on
-pub last_bits-first : (key : List ℕ) (i : ℕ) → i < 256 → last_bits key (256 - i) ≡ bit_at key i ∷ last_bits key (256 - (i + 1))
-last_bits-first key i h =
-    ap (last_bits key) (let e : 256 - i ≡ (255 - i) + 1 = omega arith in e)
-    ∙ last_bits-step key (255 - i) (omega arith)
-    ∙ ap (λ j. bit_at key j ∷ last_bits key (255 - i)) (let e : 255 - (255 - i) ≡ i = omega arith in e)
-    ∙ ap (λ j. bit_at key i ∷ last_bits key j) (let e : 255 - i ≡ 256 - (i + 1) = omega arith in e)
-
-pub last_bits-end : (key : List ℕ) (i : ℕ) → i ≡ 256 → last_bits key (256 - i) ≡ []
-last_bits-end key i h = ap (λ j. last_bits key (256 - j)) h ∙ last_bits-zero key
+sparse_root-leaf H v = rw (get-insert_same empty [] v)
 
 pub head_differs : (b : Bool) (p q : List Bool) → ¬ (not b ∷ q ≡ b ∷ p)
 head_differs true p q e = cc

@@ -9,8 +9,9 @@ use Rattle.warg_map.specs.Bits.{bits_from, last_bits}
 use Rattle.warg_map.specs.Sparse.{SparseMap, bits_cmp}
 use Rattle.warg_map.specs.Private.Under.{join, under, HoldsKey, Splits}
 use Rattle.warg_map.specs.Private.Seen.{seen, IsWellFormed, IsSeen, IsBelow}
-use Rattle.warg_map.proofs.SparseTree.{bits_total, tied, get-join_true, get-join_false, contains_key-insert_same, length-bits_from}
-use Rattle.warg_map.proofs.BitsInFront.{under-append, under-none, bits_from-none, bits_from-append, bits_left-split, last_bits-at, under_same, lone-append, get-under_head, no_some}
+use Rattle.warg_map.proofs.SparseTree.{bits_total, tied, get-join_true, get-join_false, contains_key-insert_same}
+use Rattle.warg_map.proofs.BitsInFront.{under-append, under-none, under_same, lone-append, get-under_head, no_some}
+use Rattle.warg_map.proofs.KeyBits.{length-bits_from, bits_from-none, bits_from-append, bits_left-split, last_bits-at}
 
 -- a node by what was read out of its variant
 pub of_content : {X A N : Type 0} (variant : Rc X A → N) {n : N} {rc : Rc X A} {x : X} → n ≡ variant rc → x ≡ rc.value → n ≡ variant (record rc { value = x })

@@ -2,8 +2,8 @@ use Rattle.std.proofs.Common.{◌≤◌, length, ◌∙◌}
 use Rattle.std.specs.Prelude.{IsSome}
 use Rattle.warg_map.specs.Bits.{last_bits}
 use Rattle.warg_map.specs.Peers.{ProvesEmpty}
-use Rattle.warg_map.proofs.SparseTree.{length-last_bits}
 use Rattle.warg_map.proofs.CollectedPeers.{proves_asked}
+use Rattle.warg_map.proofs.KeyBits.{length-last_bits}
 use Rattle.warg_map.proofs.map.Map.proof_of.Goals as goal
 use Rattle.warg_map.proofs.map.Map.proof_of.Goals.{In_ok-collect}
 
