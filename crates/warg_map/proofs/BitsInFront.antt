@@ -7,7 +7,7 @@ use Rattle.warg_crypto.specs.Tree.{input_beside}
 use Rattle.warg_map.specs.Bits.{bit_at, bits_from}
 use Rattle.warg_map.specs.Sparse.{SparseMap, bits_cmp, sparse_root}
 use Rattle.warg_map.specs.Private.Under.{join_at, under, stem_root, HoldsKey}
-use Rattle.warg_map.proofs.SparseTree.{insert-join_at, get-join_at, get-join_far, insert-empty_at, get-join_nil, sparse_root-join, sparse_root-empty}
+use Rattle.warg_map.proofs.SparseTree.{insert-join_at, get-join_at, get-join_far, empty-is_join_at, get-join_nil, sparse_root-join, sparse_root-empty}
 use Rattle.warg_map.proofs.KeyBits.{length-bits_from, bits_from-first}
 
 -- a map on one side
@@ -46,14 +46,11 @@ pub get-under_head : (b c : Bool) (cs p : List Bool) (m : SparseMap) → ¬ (c �
 unfolding under
 get-under_head b c cs p m h = rw (join_at-other b c (under cs m) empty h) (get-join_at b empty (under cs m) p ∙ get-empty bits_cmp p)
 
-pub get-under_apart : (a : List Bool) (b c : Bool) (cs p : List Bool) (m : SparseMap) → ¬ (c ≡ b) → get (under (a ++ c ∷ cs) m) (a ++ b ∷ p) ≡ None
-get-under_apart a b c cs p m h = rw (under-append a (c ∷ cs) m, get-under a (b ∷ p) (under (c ∷ cs) m)) (get-under_head b c cs p m h)
-
 -- one key is bits in front of a leaf
 pub lone-under : (bs : List Bool) (v : List ℕ) → insert empty bs v ≡ under bs (insert empty [] v)
 unfolding under
 lone-under [] v = refl
-lone-under (b ∷ bs) v = insert-empty_at b bs v ∙ ap (λ t. join_at b t empty) (lone-under bs v)
+lone-under (b ∷ bs) v = rw (← lone-under bs v, ← insert-join_at b empty empty bs v, ← empty-is_join_at b)
 
 pub lone-append : (a bs : List Bool) (v : List ℕ) → insert empty (a ++ bs) v ≡ under a (insert empty bs v)
 lone-append a bs v = lone-under (a ++ bs) v ∙ under-append a bs (insert empty [] v) ∙ ap (under a) (sym (lone-under bs v))

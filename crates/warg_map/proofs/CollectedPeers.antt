@@ -95,14 +95,6 @@ collects_up H held h k b near far p ps d low o e c = record {
 }
 
 -- a run of bits up
-pub halves-none : (half : ℕ → Option (List ℕ)) (k : ℕ) (ps : List (Option (List ℕ))) → ps ++ empty_halves half k 0 ≡ ps
-unfolding empty_halves
-halves-none half k ps = append-nil ps
-
-pub halves-more : (half : ℕ → Option (List ℕ)) (k n : ℕ) (ps : List (Option (List ℕ))) → (ps ++ empty_halves half k n) ++ half (k + n) ∷ [] ≡ ps ++ empty_halves half k (n + 1)
-unfolding empty_halves
-halves-more half k n ps = append_assoc ps (empty_halves half k n) _ ∙ ap (λ j. ps ++ empty_halves half k j) (sym (add-one n))
-
 length-empty_halves : (half : ℕ → Option (List ℕ)) (k n : ℕ) → length (empty_halves half k n) ≡ n
 unfolding empty_halves
 length-empty_halves half k zero = refl

@@ -1,5 +1,5 @@
 -- What is found in a node.
-use Rattle.std.proofs.Common.{◌≡◌, ℕ, ◌+◌, ◌-◌, ◌<◌, ◌≤◌, Bool, true, false, cond, List, [], ◌∷◌, ◌++◌, Some, None, refl, sym, ap, ◌∙◌, subst, arith}
+use Rattle.std.proofs.Common.{◌≡◌, ℕ, ◌+◌, ◌-◌, ◌<◌, ◌≤◌, Bool, true, false, cond, List, [], ◌∷◌, ◌++◌, Some, None, refl, sym, ap, ◌∙◌, arith}
 use Rattle.std.proofs.lemmas.List.{append-nil}
 use Rattle.std.specs.FinMap.{insert, empty, get, get-empty}
 use Rattle.std.specs.declared.rc.Rc.{Rc}
@@ -14,7 +14,7 @@ use Rattle.warg_map.specs.Private.Under.{under, HoldsKey}
 use Rattle.warg_map.specs.Private.Seen.{seen, tree_height, held_by, IsWellFormed}
 use Rattle.warg_map.proofs.SparseTree.{get-insert_same, get-insert_other, get-join_true, get-join_false, contains_key-insert_same}
 use Rattle.warg_map.proofs.TreeForm.{stem_holds}
-use Rattle.warg_map.proofs.BitsInFront.{get-under, get-under_apart, lone-under}
+use Rattle.warg_map.proofs.BitsInFront.{get-under, get-under_head, under-append, lone-under}
 use Rattle.warg_map.proofs.KeyBits.{bits_from-none, last_bits-first, bits_from-part, bits_left-split, last_bits-at}
 
 -- a lone key holds nothing else
@@ -62,12 +62,6 @@ run_of_stem old s from is w height =
       },
     )
 
-pub run_of_link : {D A : _} (old : Node D A) (s : Rc (Stem' D A) A) (link : ℕ × SparseMap) (from : ℕ) → seen old ≡ link → old ≡ Stem s → IsWellFormed old → link.0 + from ≡ 256
-    → (s.value.from ≡ from) × IsRun link.1 link.0 s.value.key from s.value.len s.value.below.0 s.value.below.1
-run_of_link old s link from sn is w height =
-    let run = run_of_stem old s from is w (subst (λ (d : ℕ × SparseMap). d.0 + from ≡ 256) (sym sn) height) in
-    (run.0, subst (λ (d : ℕ × SparseMap). IsRun d.1 d.0 s.value.key from s.value.len s.value.below.0 s.value.below.1) sn run.1)
-
 -- all bits of the run are the key's
 pub found_below : (held : SparseMap) (height : ℕ) (one key : List ℕ) (from len k j : ℕ) (m : SparseMap) → IsRun held height one from len k m → j ≤ len → len ≤ j → bits_from one from j ≡ bits_from key from j
     → (bits_from one from len ≡ bits_from key from len) × (get m (last_bits key (256 - (from + len))) ≡ get held (last_bits key (256 - from)))
@@ -102,4 +96,4 @@ pub found_apart : (held : SparseMap) (height : ℕ) (one key : List ℕ) (from l
     → ¬ (bit_at one (from + j) ≡ bit_at key (from + j)) → get held (last_bits key (256 - from)) ≡ None
 found_apart held height one key from len k j m run less same apart =
     let a = run_apart held height one key from len k j m run less same apart in
-    rw (a.held_is, a.bits_are) (get-under_apart (bits_from key from j) _ _ _ _ m apart)
+    rw (a.held_is, a.bits_are, under-append, get-under) (get-under_head _ _ _ _ m apart)

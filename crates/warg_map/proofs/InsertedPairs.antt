@@ -5,15 +5,6 @@ use Rattle.warg_map.specs.Bits.{key_bits}
 use Rattle.warg_crypto.specs.Tree.{leaf_digest}
 use Rattle.warg_map.specs.Sparse.{SparseMap, inserted, pair_bytes}
 
--- one insertion more
-pub inserted-none : (H : List ℕ → List ℕ) (m : SparseMap) → inserted H m [] ≡ m
-unfolding inserted
-inserted-none H m = refl
-
-pub inserted-first : {K V : Type 0} (H : List ℕ → List ℕ) (kb : K → List ℕ) (vb : V → List ℕ) (m : SparseMap) (e : K × V) (es : List (K × V)) → inserted H m (pair_bytes kb vb (e ∷ es)) ≡ inserted H (insert m (key_bits H (kb e.0)) (leaf_digest H (vb e.1))) (pair_bytes kb vb es)
-unfolding inserted
-inserted-first H kb vb m e es = refl
-
 pub inserted-push : (H : List ℕ → List ℕ) (m : SparseMap) (es : List (List ℕ × List ℕ)) (e : List ℕ × List ℕ) → inserted H m (es ++ e ∷ []) ≡ insert (inserted H m es) (key_bits H e.0) (leaf_digest H e.1)
 unfolding inserted
 inserted-push H m [] e = refl

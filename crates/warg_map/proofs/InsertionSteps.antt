@@ -1,6 +1,6 @@
 -- The proof of a key in the map after an insertion, as the proof of the step.
-use Rattle.std.proofs.Common.{◌≡◌, ℕ, Bool, true, false, cond, List, length, Option, unwrap_or, ◌+◌, not, nat_lt, refl, ap, arith}
-use Rattle.std.proofs.lemmas.Bool.{lt-ltb, le-ltb}
+use Rattle.std.proofs.Common.{◌≡◌, ℕ, Bool, List, length, Option, unwrap_or, not, nat_lt, refl, ap, arith}
+use Rattle.std.proofs.lemmas.Bool.Decides.{nat_tests}
 use Rattle.std.specs.FinMap.{insert, contains_key, len, len-insert}
 use Rattle.warg_crypto.specs.EmptyTrees.{empty_root}
 use Rattle.warg_map.specs.Sparse.{SparseMap, sparse_root, leaf_at}
@@ -21,8 +21,4 @@ root_after H m bits x peers n p = honest_root H (insert m bits x) bits peers x n
 
 -- a new key makes the map longer
 pub grows : (m n : SparseMap) (bits : List Bool) (v : List ℕ) → n ≡ insert m bits v → nat_lt (len m) (len n) ≡ not (contains_key m bits)
-grows m n bits v e = rw (e, len-insert bits_total m bits v) (by (contains_key m bits) (len m))
-  where
-    by : (held : Bool) (k : ℕ) → nat_lt k (cond held k (k + 1)) ≡ not held
-    by true k = le-ltb k k (omega arith)
-    by false k = lt-ltb k (k + 1) (omega arith)
+grows m n bits v e = rw (e, len-insert bits_total m bits v) (grind (arith, nat_tests))

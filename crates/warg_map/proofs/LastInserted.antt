@@ -15,16 +15,10 @@ use Rattle.warg_map.specs.Sparse.{SparseMap, bits_cmp, inserted, map_of, HasDist
 use Rattle.warg_map.specs.Last.{last_with, same_bits, last_under}
 use Rattle.warg_map.proofs.SparseTree.{bits_total, same_sparse, tied}
 
-or_none : (o : Option (List ℕ)) → option_or o None ≡ o
-or_none None = refl
-or_none (Some x) = refl
-
 -- an insertion before the last one, and one that is the last
 either : (f : List ℕ × List ℕ → List ℕ) (later : Option (List ℕ × List ℕ)) (is : Bool) (e : List ℕ × List ℕ) (before : Option (List ℕ))
     → option_or (option_map f later) (cond is (Some (f e)) before) ≡ option_or (option_map f (option_or later (cond is (Some e) None))) before
-either f None true e before = refl
-either f None false e before = refl
-either f (Some l) is e before = refl
+either f later is e before = grind arith
 
 get-inserted : (H : List ℕ → List ℕ) (bits : List Bool) (m : SparseMap) (es : List (List ℕ × List ℕ))
     → get (inserted H m es) bits ≡ option_or (option_map (λ e. leaf_digest H e.1) (last_under H bits es)) (get m bits)
@@ -37,9 +31,7 @@ get-inserted H bits m (e ∷ es) =
 
 pub get-map_of : (H : List ℕ → List ℕ) (bits : List Bool) (es : List (List ℕ × List ℕ)) → get (map_of H es) bits ≡ option_map (λ e. leaf_digest H e.1) (last_under H bits es)
 get-map_of H bits es =
-    get-inserted H bits empty es
-    ∙ ap (option_or (option_map (λ (f : List ℕ × List ℕ). leaf_digest H f.1) (last_under H bits es))) (get-empty bits_cmp bits)
-    ∙ or_none (option_map (λ e. leaf_digest H e.1) (last_under H bits es))
+    rw (get-inserted H bits empty es, get-empty bits_cmp bits) (grind arith)
 
 -- the last element that passes a test is one of the list's, and where there is none, no element passes
 abbrev IsLast : {X : Type 0} → (X → Bool) → List X → Option X → Type 0

@@ -8,7 +8,7 @@ use Rattle.warg_protobuf.proofs.ForCallers.{all_parts}
 use Rattle.warg_map.specs.Private.Lone.{Lone}
 use Rattle.warg_map.specs.Bits.{bit_at, bits_from, last_bits}
 use Rattle.warg_map.specs.Sparse.{SparseMap, HasLevels, bits_cmp}
-use Rattle.warg_map.specs.Private.Under.{join_at, under, HoldsKey, Splits}
+use Rattle.warg_map.specs.Private.Under.{join_at, under, HoldsKey}
 use Rattle.warg_map.specs.Private.Grown.{with_leaves, ShareBits, is_bit, on_side}
 use Rattle.warg_map.proofs.HeldKeys.{levels-insert}
 use Rattle.warg_map.proofs.SparseTree.{bits_total, insert-join_at, insert-join_far, insert-again, contains_key-insert_same, empty-is_join_at}
@@ -22,10 +22,6 @@ side_of true true = inl (refl, refl, refl)
 side_of true false = inr (refl, refl, refl)
 side_of false true = inr (refl, refl, refl)
 side_of false false = inl (refl, refl, refl)
-
-pub on_side-none : (at : ℕ) (b : Bool) → on_side at b [] ≡ []
-unfolding on_side
-on_side-none at b = refl
 
 pub on_side-push : (at : ℕ) (b : Bool) (es : List Lone) (e : Lone) → on_side at b (es ++ e ∷ []) ≡ on_side at b es ++ cond (is_bit b (bit_at e.key at)) (e ∷ []) []
 unfolding on_side
@@ -84,9 +80,6 @@ one_key es fs e depth is le s =
     let share : ShareBits e.key (256 - (256 - depth)) (256 - depth) (fs ++ e ∷ []) = subst (λ i. ShareBits e.key i (256 - depth) (fs ++ e ∷ [])) k (rw is at s) in
     rw (is, with_leaves-push (256 - depth) empty fs e) (with_leaves-again (256 - depth) e.key empty fs e.value (all_parts _ fs (e ∷ []) share).0)
 
-pub share-last : (key : List ℕ) (i n : ℕ) (fs : List Lone) (e : Lone) → ShareBits key i n (fs ++ e ∷ []) → bits_from e.key i n ≡ bits_from key i n
-share-last key i n fs e s = (all_parts (λ (x : Lone). bits_from x.key i n ≡ bits_from key i n) fs (e ∷ []) s).1.0
-
 -- keys that are held
 pub with_leaves-held : (k : ℕ) (m : SparseMap) (es : List Lone) (q : List Bool) → contains_key m q ≡ true → contains_key (with_leaves k m es) q ≡ true
 unfolding with_leaves
@@ -101,9 +94,6 @@ with_leaves-holds k m (e ∷ es) (inr h) = (last_bits e.key k, with_leaves-held 
 
 pub has_last : (k : ℕ) (m : SparseMap) (l : ℕ × SparseMap) (es fs : List Lone) (e : Lone) (key : List ℕ) → l ≡ (k, with_leaves k m es) → es ≡ fs ++ e ∷ [] → key ≡ e.key → contains_key l.1 (last_bits key l.0) ≡ true
 has_last k m l es fs e key h is ek = rw (h, is, ek, with_leaves-push k m fs e) (contains_key-insert_same (with_leaves k m fs) (last_bits e.key k) e.value)
-
-pub still_splits : (k : ℕ) (m : SparseMap) (es : List Lone) → Splits m → Splits (with_leaves k m es)
-still_splits k m es s = ((s.0.0, with_leaves-held k m es _ s.0.1), (s.1.0, with_leaves-held k m es _ s.1.1))
 
 -- how many keys are held
 pub len-with_leaves : (k : ℕ) (m : SparseMap) (es : List Lone) → (len m ≤ len (with_leaves k m es)) × (len (with_leaves k m es) ≤ len m + length es)
@@ -144,15 +134,7 @@ unfolding with_leaves
 levels-with_leaves m [] h = h
 levels-with_leaves m (e ∷ es) h = levels-with_leaves (insert m (last_bits e.key 256) e.value) es (levels-insert m (last_bits e.key 256) e.value (length-last_bits e.key 256) h)
 
--- no leaf, one in front, and one alone
-pub with_leaves-none : (k : ℕ) (m : SparseMap) → with_leaves k m [] ≡ m
-unfolding with_leaves
-with_leaves-none k m = refl
-
-pub put_in_front : (k : ℕ) (s : Lone) (es : List Lone) → with_leaves k empty (s ∷ es) ≡ with_leaves k (insert empty (last_bits s.key k) s.value) es
-unfolding with_leaves
-put_in_front k s es = refl
-
+-- one leaf alone
 pub one_leaf_put : (m : SparseMap) (es : List Lone) (e : Lone) (key v : List ℕ) → es ≡ e ∷ [] → e.key ≡ key → e.value ≡ v → with_leaves 256 m es ≡ insert m (last_bits key 256) v
 unfolding with_leaves
 one_leaf_put m es e key v is k x = rw (is, ← k, ← x)

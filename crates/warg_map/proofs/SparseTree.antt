@@ -99,10 +99,6 @@ pub insert-join_far : (b : Bool) (near far : SparseMap) (p : List Bool) (v : Lis
 insert-join_far true near far p v = insert-join_at false far near p v
 insert-join_far false near far p v = insert-join_at true far near p v
 
--- one key, by its first bit
-pub insert-empty_at : (b : Bool) (q : List Bool) (w : List ℕ) → insert empty (b ∷ q) w ≡ join_at b (insert empty q w) empty
-insert-empty_at b q w = rw (← insert-join_at b empty empty q w, ← empty-is_join_at b)
-
 -- the value inserted last counts
 pub insert-again : (m : SparseMap) (p : List Bool) (v w : List ℕ) → insert (insert m p v) p w ≡ insert m p w
 insert-again m p v w = same_sparse _ _ (λ q. simp (get-insert, bits_total) (again (eq_by_cmp bits_cmp q p) (Some w) (Some v) (get m q)))
@@ -127,10 +123,6 @@ pub sparse_root-join : (H : List ℕ → List ℕ) (k : ℕ) (l r : SparseMap) �
 unfolding root_of_levels
 sparse_root-join H k l r =
     rw (add-one k, root-same H k _ _ (get-join_false l r), root-same H k _ _ (get-join_true l r))
-
-pub sparse_root-leaf : (H : List ℕ → List ℕ) (v : List ℕ) → sparse_root H 0 (insert empty [] v) ≡ v
-unfolding root_of_levels
-sparse_root-leaf H v = rw (get-insert_same empty [] v)
 
 pub head_differs : (b : Bool) (p q : List Bool) → ¬ (not b ∷ q ≡ b ∷ p)
 head_differs true p q e = cc

@@ -7,7 +7,7 @@ use Rattle.warg_map.specs.declared.node.Node.TheVariants.{Fork, Singleton, Stem,
 use Rattle.warg_map.specs.declared.node.Stem.{Stem as Stem'}
 use Rattle.warg_map.specs.Bits.{bits_from, last_bits}
 use Rattle.warg_map.specs.Sparse.{SparseMap, bits_cmp}
-use Rattle.warg_map.specs.Private.Under.{join, under, HoldsKey, Splits}
+use Rattle.warg_map.specs.Private.Under.{join_at, under, HoldsKey, Splits}
 use Rattle.warg_map.specs.Private.Seen.{seen, IsWellFormed, IsSeen, IsBelow}
 use Rattle.warg_map.proofs.SparseTree.{bits_total, tied, get-join_true, get-join_false, contains_key-insert_same}
 use Rattle.warg_map.proofs.BitsInFront.{under-append, under-none, under_same, lone-append, get-under_head, no_some}
@@ -25,8 +25,9 @@ pub lone_only : (p q : List Bool) (v : List ℕ) → contains_key (insert (empty
 lone_only p q v h = grind (arith, get-insert bits_total empty p v q, get-empty {X = List ℕ} bits_cmp q, tied q p)
 
 -- what splits
-pub splits_join : (l r : SparseMap) → HoldsKey l → HoldsKey r → Splits (join l r)
-splits_join l r hl hr = ((hl.0, rw get-join_false hl.1), (hr.0, rw get-join_true hr.1))
+pub splits_join : (b : Bool) (near far : SparseMap) → HoldsKey near → HoldsKey far → Splits (join_at b near far)
+splits_join true near far n f = ((f.0, rw get-join_false f.1), (n.0, rw get-join_true n.1))
+splits_join false near far n f = ((n.0, rw get-join_false n.1), (f.0, rw get-join_true f.1))
 
 pub lone_no_split : (p : List Bool) (v : List ℕ) → ¬ Splits (insert empty p v)
 lone_no_split p v s = let l = lone_only p _ v s.0.1 in let r = lone_only p _ v s.1.1 in cc
@@ -45,7 +46,7 @@ abbrev MayCarry : List ℕ → ℕ × SparseMap → Type 0
 MayCarry key link = Splits link.1 ⊎ ((link.0 ≡ 255) × (contains_key link.1 (last_bits key 255) ≡ true))
 
 stands_below : {D A : _} (node : Node D A) (key : List ℕ) (from len : ℕ) → IsWellFormed node → ((s : Rc (Stem' D A) A) → node ≡ Stem s → ⊥) → ¬ (len ≡ 0) → from + len + (seen node).0 ≡ 256 → MayCarry key (seen node) → IsBelow len (seen node)
-stands_below (Fork f) key from len w n z h b = inl (splits_join f.value.left.1 f.value.right.1 w.formed.0 w.formed.1)
+stands_below (Fork f) key from len w n z h b = inl (splits_join false f.value.left.1 f.value.right.1 w.formed.0 w.formed.1)
 stands_below (Singleton s) key from len w n z h (inl t) = absurd (lone_no_split _ _ t)
 stands_below (Singleton s) key from len w n z h (inr o) = inr (omega (arith, o.0, h, z), o.0, (_, _, refl))
 stands_below (Stem s) key from len w n z h b = absurd (n s refl)

@@ -5,7 +5,7 @@ use Rattle.std.specs.Prelude.{reverse}
 use Rattle.std.specs.FinMap.{get}
 use Rattle.warg_crypto.specs.EmptyTrees.{empty_root}
 use Rattle.warg_map.specs.Sparse.{SparseMap, root_of_levels}
-use Rattle.warg_map.specs.Peers.{IsPeer, IsPeers, IsPeerCount, Proves, ProvesAbsent}
+use Rattle.warg_map.specs.Peers.{IsPeer, IsPeers, IsPeerCount}
 use Rattle.warg_map.proofs.BitsInFront.{no_some}
 
 -- the leaf digests decide the root
@@ -43,13 +43,7 @@ same_peers H half [] m (p ∷ ps) (q ∷ qs) n g h = absurd g
 same_peers H half (b ∷ bits) m (p ∷ ps) (q ∷ qs) n g h =
     ap (λ x. x ∷ ps) (same_peer H (half (length bits)) (length bits) (λ r. m (not b ∷ r)) p q g.0 h.0) ∙ ap (λ t. q ∷ t) (same_peers H half bits (λ r. m (b ∷ r)) ps qs (omega (arith, n)) g.1 h.1)
 
-one_list : (H : List ℕ → List ℕ) (half : ℕ → Option (List ℕ)) (lone : ℕ) (m : SparseMap) (bits : List Bool) (ps qs : List (Option (List ℕ))) → IsPeers H half (get m) bits (reverse ps) → IsPeers H half (get m) bits (reverse qs) → IsPeerCount lone m bits (length ps) → IsPeerCount lone m bits (length qs) → ps ≡ qs
-one_list H half lone m bits ps qs g h i j =
+pub same_proof : (H : List ℕ → List ℕ) (half : ℕ → Option (List ℕ)) (lone : ℕ) (m : SparseMap) (bits : List Bool) (ps qs : List (Option (List ℕ))) → IsPeers H half (get m) bits (reverse ps) → IsPeers H half (get m) bits (reverse qs) → IsPeerCount lone m bits (length ps) → IsPeerCount lone m bits (length qs) → ps ≡ qs
+same_proof H half lone m bits ps qs g h i j =
     let same = same_peers H half bits (get m) (reverse ps) (reverse qs) (length-reverse ps ∙ same_count lone m bits (length ps) (length qs) i j ∙ sym (length-reverse qs)) g h in
     sym (reverse-reverse ps) ∙ ap reverse same ∙ reverse-reverse qs
-
-pub same_proof : (H : List ℕ → List ℕ) (height : ℕ) (m : SparseMap) (bits : List Bool) (ps qs : List (Option (List ℕ))) → Proves H height m bits ps → Proves H height m bits qs → ps ≡ qs
-same_proof H height m bits ps qs g h = one_list H _ _ m bits ps qs g.peers_from_top h.peers_from_top g.count h.count
-
-pub same_absence : (H : List ℕ → List ℕ) (m : SparseMap) (bits : List Bool) (ps qs : List (Option (List ℕ))) → ProvesAbsent H m bits ps → ProvesAbsent H m bits qs → ps ≡ qs
-same_absence H m bits ps qs g h = one_list H _ _ m bits ps qs g.peers_from_top h.peers_from_top g.count h.count

@@ -1,12 +1,14 @@
 use Rattle.std.proofs.Common.{◌≡◌, ◌++◌, ◌∷◌, [], not, sym, ap, ◌∙◌}
 use Rattle.warg_crypto.specs.Sides.{side_bit}
 use Rattle.warg_map.specs.Bits.{bit_at}
+use Rattle.warg_map.specs.Private.Grown.{on_side}
 use Rattle.warg_map.proofs.SideBits.{same_bit, other_bit}
-use Rattle.warg_map.proofs.ManyLeaves.{on_side-none, push_near, push_far}
+use Rattle.warg_map.proofs.ManyLeaves.{push_near, push_far}
 use Rattle.warg_map.proofs.grown.parted.Goals as goal
 
 pub loop-leaf-init : goal.loop-leaf-init
-loop-leaf-init g c = (c.new-near.ensures.items ∙ sym (on_side-none c.args.at (side_bit c.args.side)), c.new-far.ensures.items ∙ sym (on_side-none c.args.at (not (side_bit c.args.side))))
+unfolding on_side
+loop-leaf-init g c = (c.new-near.ensures.items, c.new-far.ensures.items)
 
 pub loop-leaf-preserved-in-Continue-1 : goal.loop-leaf-preserved-in-Continue-1
 loop-leaf-preserved-in-Continue-1 g c =

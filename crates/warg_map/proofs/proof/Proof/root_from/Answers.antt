@@ -1,9 +1,12 @@
-use Rattle.std.proofs.Common.{◌<◌, sym, arith}
-use Rattle.warg_map.proofs.ProofValue.{proof_value-none, proof_value-more}
+use Rattle.std.proofs.Common.{◌<◌, refl, arith}
+use Rattle.warg_map.specs.Bits.{bits_from}
+use Rattle.warg_map.specs.ProofValue.{proof_value}
+use Rattle.warg_map.proofs.ProofValue.{proof_value-more}
 use Rattle.warg_map.proofs.proof.Proof.root_from.Goals as goal
 
 pub loop-height-init : goal.loop-height-init
-loop-height-init g c = (sym (proof_value-none g.D.SupportedDigest.digest c.args.self.now c.args.leaf c.args.key.now), c.empty_tree-empty.ensures)
+unfolding proof_value bits_from
+loop-height-init g c = (refl, c.empty_tree-empty.ensures)
 
 pub loop-height-preserved : goal.loop-height-preserved
 loop-height-preserved g c =
