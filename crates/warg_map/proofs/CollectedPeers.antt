@@ -147,14 +147,7 @@ lone_low : (held : Bool) (k : ℕ) → k < 256 → lone_count held k ≡ 0
 lone_low true k lt = rw (ne_eqb k 256 (λ e. omega (arith, lt, e)))
 lone_low false k lt = refl
 
--- at a lone key, and where nothing is held
-collects_lone : (H : List ℕ → List ℕ) (h : ℕ) (p : List Bool) (v : List ℕ) → h < 256 → Collects H true h (insert empty p v) p []
-unfolding IsPeers
-collects_lone H h p v lt = record {
-  peers_from_top = get-lone_other p v;
-  reaches = inl (sym (lone_low true h lt), λ q c. lone_only p q v c);
-}
-
+-- where nothing is held
 collects_nothing : (H : List ℕ → List ℕ) (h : ℕ) (p : List Bool) → Collects H false h empty p []
 unfolding IsPeers
 collects_nothing H h p = record { peers_from_top = λ q _. get-empty bits_cmp q; reaches = inl (refl, λ q c. absurd (no_some _ (get-empty bits_cmp q) c)) }
@@ -195,10 +188,16 @@ lone_far H one v d from len j low sum less e de =
     let place : from + (j + 1) + low ≡ 256 = omega (arith, sum, less, e) in
     rw (z, ← e, ← lone-under (bits_from one (from + (j + 1)) low) v, ← last_bits-at one (from + (j + 1)) low place) de
 
+-- at a lone key
 pub collects_at_lone : (H : List ℕ → List ℕ) (whole : SparseMap) (height : ℕ) (one key v : List ℕ) (from len : ℕ) (new : List (Option (List ℕ))) → IsRun whole height one from len 0 (insert empty [] v) → height < 256
     → last_bits key (256 - from) ≡ bits_from one from len → new ≡ [] → Collects H true height whole (last_bits key (256 - from)) new
+unfolding IsPeers
 collects_at_lone H whole height one key v from len new run lt at n =
-    rw (n, run.held_is, at, ← lone-under (bits_from one from len) v) (collects_lone H height (bits_from one from len) v lt)
+    let p = bits_from one from len in
+    rw (n, run.held_is, at, ← lone-under p v) (record {
+      peers_from_top = get-lone_other p v;
+      reaches = inl (sym (lone_low true height lt), λ q c. lone_only p q v c);
+    })
 
 -- in a fork
 in_fork : {D A : _} (H : List ℕ → List ℕ) (held : Bool) (f : Rc (Fork' D A) A) (b : Bool) (p : List Bool) (ps : List (Option (List ℕ))) (d : List ℕ) (child x : ℕ × SparseMap) → IsWellFormed (Fork f) → length p ≡ f.value.left.0

@@ -133,8 +133,3 @@ pub levels-with_leaves : (m : SparseMap) (es : List Lone) → HasLevels 256 m �
 unfolding with_leaves
 levels-with_leaves m [] h = h
 levels-with_leaves m (e ∷ es) h = levels-with_leaves (insert m (last_bits e.key 256) e.value) es (levels-insert m (last_bits e.key 256) e.value (length-last_bits e.key 256) h)
-
--- one leaf alone
-pub one_leaf_put : (m : SparseMap) (es : List Lone) (e : Lone) (key v : List ℕ) → es ≡ e ∷ [] → e.key ≡ key → e.value ≡ v → with_leaves 256 m es ≡ insert m (last_bits key 256) v
-unfolding with_leaves
-one_leaf_put m es e key v is k x = rw (is, ← k, ← x)

@@ -61,11 +61,8 @@ put g t c =
     let i = at_fork g t c in
     put_beside false c.args.depth _ _ _ _ c.args.leaves.items _ _ i.1 i.2 c.in_ok-left-in-Fork.ensures.seen c.in_ok-right-in-Fork.ensures.seen c.in_ok-near-in-Fork.ensures.0 c.in_ok-near-in-Fork.ensures.1 (inl i.3) (inl i.4)
 
-pub spread-beside-requires-clause-heights : goal.spread-beside-requires-clause-heights
-spread-beside-requires-clause-heights g t c = (put g t (goal.at.spread-beside-requires-clause-heights g t c).In_ok-right-in-Fork).heights
-
-pub spread-beside-requires-clause-hold : goal.spread-beside-requires-clause-hold
-spread-beside-requires-clause-hold g t c = (put g t (goal.at.spread-beside-requires-clause-hold g t c).In_ok-right-in-Fork).hold
+pub spread-beside-requires : goal.spread-beside-requires
+spread-beside-requires g t c = let p = put g t (goal.at.spread-beside-requires g t c).In_ok-right-in-Fork in record { heights = p.heights; hold = p.hold }
 
 pub spread-overflow_add-result : goal.spread-overflow_add-result
 spread-overflow_add-result g t c =
