@@ -16,19 +16,15 @@ use Rattle.warg_map.specs.Private.Under.{join_at, under, HoldsKey}
 use Rattle.warg_map.specs.Private.Seen.{tree_height, held_by, seen, IsWellFormed, IsBelow}
 use Rattle.warg_map.specs.Private.Walk.{answer_of, empty_half, empty_halves, Reaches, lone_count, Collects}
 use Rattle.warg_map.specs.Peers.{IsPeer, IsPeers, IsPeerCount, Proves, ProvesAbsent, ProvesEmpty, shared}
-use Rattle.warg_map.proofs.SparseTree.{get-join_at, get-join_far, length-bits_from, length-last_bits, last_bits-first, tail_same}
-use Rattle.warg_map.proofs.BitsInFront.{bits_left-split, join_at-other, get-under, get-under_head, under-append, holds-under, only-under, no_some, lone-under, last_bits-at}
-use Rattle.warg_map.proofs.TreeForm.{lone_tied, stem_holds}
-use Rattle.warg_map.proofs.FoundInNode.{tied, get-lone_other, IsRun, run_apart}
+use Rattle.warg_map.proofs.SparseTree.{get-join_at, get-join_far, head_differs}
+use Rattle.warg_map.proofs.BitsInFront.{join_at-other, get-under, get-under_head, under-append, holds-under, only-under, no_some, lone-under}
+use Rattle.warg_map.proofs.TreeForm.{lone_only, stem_holds}
+use Rattle.warg_map.proofs.FoundInNode.{get-lone_other, IsRun, run_apart}
+use Rattle.warg_map.proofs.KeyBits.{length-bits_from, length-last_bits, last_bits-first, bits_left-split, last_bits-at}
 
 -- an answer says whether a leaf digest is held
-only_some : (b x held : Bool) → Some held ≡ then_some b x → x ≡ held
-only_some true x held e = cc
-only_some false x held e = cc
-
 pub answered : (H : List ℕ → List ℕ) (asked : Asked) (leaf : Option (List ℕ)) (held : Bool) → Some held ≡ answer_of H asked leaf → is_some leaf ≡ held
-answered H asked None held e = only_some _ false held e
-answered H asked (Some x) held e = only_some _ true held e
+answered H asked leaf held e = grind arith
 
 -- bits that part at once, and later
 shared_other : (b : Bool) (p q : List Bool) → shared (b ∷ p) (not b ∷ q) ≡ 0
@@ -56,10 +52,10 @@ unfolding IsPeers
 shares_fewer H half held bits [] h q s n = absurd (no_some _ (h q n) s)
 shares_fewer H half held [] (o ∷ os) h q s n = absurd h
 shares_fewer H half held (b ∷ bits) (o ∷ os) h [] s n = omega arith
-shares_fewer H half held (true ∷ bits) (o ∷ os) h (true ∷ q) s n = let e = shares_fewer H half (λ r. held (true ∷ r)) bits os h.1 q s (λ x. n (ap (λ t. true ∷ t) x)) in omega (arith, e)
+shares_fewer H half held (true ∷ bits) (o ∷ os) h (true ∷ q) s n = let e = shares_fewer H half (λ r. held (true ∷ r)) bits os h.1 q s (λ x. n (cc)) in omega (arith, e)
 shares_fewer H half held (true ∷ bits) (o ∷ os) h (false ∷ q) s n = omega arith
 shares_fewer H half held (false ∷ bits) (o ∷ os) h (true ∷ q) s n = omega arith
-shares_fewer H half held (false ∷ bits) (o ∷ os) h (false ∷ q) s n = let e = shares_fewer H half (λ r. held (false ∷ r)) bits os h.1 q s (λ x. n (ap (λ t. false ∷ t) x)) in omega (arith, e)
+shares_fewer H half held (false ∷ bits) (o ∷ os) h (false ∷ q) s n = let e = shares_fewer H half (λ r. held (false ∷ r)) bits os h.1 q s (λ x. n (cc)) in omega (arith, e)
 
 collected_count : (H : List ℕ → List ℕ) (held : Bool) (height : ℕ) (m : SparseMap) (bits : List Bool) (peers : List (Option (List ℕ))) → Collects H held height m bits peers → IsPeerCount (lone_count held height) m bits (length peers)
 collected_count H held height m bits peers c = record {
@@ -68,21 +64,17 @@ collected_count H held height m bits peers c = record {
 }
 
 -- what is collected in the whole tree proves what is held there
-proves_found : (H : List ℕ → List ℕ) (held : Bool) (m : SparseMap) (bits : List Bool) (peers : List (Option (List ℕ))) (o : Option (List ℕ)) → get m bits ≡ o → is_some o ≡ held → Collects H held 256 m bits peers → MatchOption o (ProvesAbsent H m bits peers) (λ _. Proves H 256 m bits peers)
-proves_found H true m bits peers None e is c = absurd (cc is)
-proves_found H true m bits peers (Some v) e is c = record { held = ap is_some e; peers_from_top = c.peers_from_top; count = collected_count H true 256 m bits peers c }
-proves_found H false m bits peers None e is c = record { absent = ap is_some e; peers_from_top = c.peers_from_top; count = collected_count H false 256 m bits peers c }
-proves_found H false m bits peers (Some v) e is c = absurd (cc is)
+proves_found : (H : List ℕ → List ℕ) (m : SparseMap) (bits : List Bool) (peers : List (Option (List ℕ))) (o : Option (List ℕ)) → get m bits ≡ o → Collects H (is_some o) 256 m bits peers → MatchOption o (ProvesAbsent H m bits peers) (λ _. Proves H 256 m bits peers)
+proves_found H m bits peers None e c = record { absent = ap is_some e; peers_from_top = c.peers_from_top; count = collected_count H false 256 m bits peers c }
+proves_found H m bits peers (Some v) e c = record { held = ap is_some e; peers_from_top = c.peers_from_top; count = collected_count H true 256 m bits peers c }
 
-proves_whole : (H : List ℕ → List ℕ) (asked : Asked) (o : Option Bool) (m : SparseMap) (bits : List Bool) (peers : List (Option (List ℕ))) → length bits ≡ 256 → o ≡ answer_of H asked (get m bits) → MatchOption o (peers ≡ []) (λ held. Collects H held 256 m bits peers) → (length peers ≤ 256) × (IsSome o → ProvesEmpty H m bits peers)
-proves_whole H asked None m bits peers n e c = (rw c (omega arith), λ is. absurd (cc is))
-proves_whole H asked (Some held) m bits peers n e c = (few_collected H _ (get m) bits peers c.peers_from_top n, λ _. proves_found H held m bits peers (get m bits) refl (answered H asked (get m bits) held e) c)
-
-pub proves_asked : (H : List ℕ → List ℕ) (asked : Asked) (o : Option Bool) (child link : ℕ × SparseMap) (m : SparseMap) (bits : List Bool) (peers : List (Option (List ℕ))) → child ≡ link → link.0 ≡ 256 → link.1 ≡ m → length bits ≡ 256
+pub proves_asked : (H : List ℕ → List ℕ) (asked : Asked) (o : Option Bool) (child : ℕ × SparseMap) (m : SparseMap) (bits : List Bool) (peers : List (Option (List ℕ))) → child ≡ (256, m) → length bits ≡ 256
     → o ≡ answer_of H asked (get child.1 bits) → MatchOption o (peers ≡ []) (λ held. Collects H held child.0 child.1 bits peers) → (length peers ≤ 256) × (IsSome o → ProvesEmpty H m bits peers)
-proves_asked H asked o child link m bits peers e top view n a c =
-    let at : child ≡ (256, m) = e ∙ (λ i. (top i, view i)) in
-    proves_whole H asked o m bits peers n (rw at at a) (rw at at c)
+proves_asked H asked None child m bits peers at n e c = (rw c (omega arith), λ is. absurd (cc is))
+proves_asked H asked (Some held) child m bits peers at n e c =
+    let all : Collects H held 256 m bits peers = rw at at c in
+    let same : held ≡ is_some (get m bits) = sym (answered H asked (get m bits) held (rw at at e)) in
+    (few_collected H _ (get m) bits peers all.peers_from_top n, λ _. proves_found H m bits peers (get m bits) refl (rw same at all))
 
 -- one bit up
 peers_up : (H : List ℕ → List ℕ) (half : ℕ → Option (List ℕ)) (b : Bool) (near far : SparseMap) (p : List Bool) (ps : List (Option (List ℕ))) (x : Option (List ℕ)) → IsPeer H (half (length p)) (length p) (get far) x → IsPeers H half (get near) p (reverse ps) → IsPeers H half (get (join_at b near far)) (b ∷ p) (reverse (ps ++ x ∷ []))
@@ -93,12 +85,8 @@ peers_up H half b near far p ps x e h = rw (reverse-append ps (x ∷ [])) (
 )
 
 reaches_up : (lone : ℕ) (b : Bool) (near far : SparseMap) (p : List Bool) (n : ℕ) → HoldsKey far → Reaches 0 near p n → Reaches lone (join_at b near far) (b ∷ p) (n + 1)
-reaches_up lone b near far p n o (inl w) = inr (not b ∷ o.0, ap is_some (get-join_far b near far o.0) ∙ o.1, other_head b p o.0, (let e = shared_other b p o.0 in omega (arith, e, w.0)))
-  where
-    other_head : (b : Bool) (p q : List Bool) → ¬ (not b ∷ q ≡ b ∷ p)
-    other_head true p q e = cc
-    other_head false p q e = cc
-reaches_up lone b near far p n o (inr w) = inr (b ∷ w.0, ap is_some (get-join_at b near far w.0) ∙ w.1, (λ e. w.2 (tail_same b b _ _ e)), (let e = shared-append (b ∷ []) p w.0 in omega (arith, e, w.3)))
+reaches_up lone b near far p n o (inl w) = inr (not b ∷ o.0, ap is_some (get-join_far b near far o.0) ∙ o.1, head_differs b p o.0, (let e = shared_other b p o.0 in omega (arith, e, w.0)))
+reaches_up lone b near far p n o (inr w) = inr (b ∷ w.0, ap is_some (get-join_at b near far w.0) ∙ w.1, (λ e. w.2 (cc)), (let e = shared-append (b ∷ []) p w.0 in omega (arith, e, w.3)))
 
 collects_up : (H : List ℕ → List ℕ) (held : Bool) (h k : ℕ) (b : Bool) (near far : SparseMap) (p : List Bool) (ps : List (Option (List ℕ))) (d : List ℕ) → lone_count held k ≡ 0 → HoldsKey far → d ≡ sparse_root H (length p) far → Collects H held k near p ps → Collects H held h (join_at b near far) (b ∷ p) (ps ++ Some d ∷ [])
 collects_up H held h k b near far p ps d low o e c = record {
@@ -107,18 +95,10 @@ collects_up H held h k b near far p ps d low o e c = record {
 }
 
 -- a run of bits up
-pub halves-none : (half : ℕ → Option (List ℕ)) (k : ℕ) (ps : List (Option (List ℕ))) → ps ++ empty_halves half k 0 ≡ ps
-unfolding empty_halves
-halves-none half k ps = append-nil ps
-
-pub halves-more : (half : ℕ → Option (List ℕ)) (k n : ℕ) (ps : List (Option (List ℕ))) → (ps ++ empty_halves half k n) ++ half (k + n) ∷ [] ≡ ps ++ empty_halves half k (n + 1)
-unfolding empty_halves
-halves-more half k n ps = append_assoc ps (empty_halves half k n) _ ∙ ap (λ j. ps ++ empty_halves half k j) (sym (add-one n))
-
 length-empty_halves : (half : ℕ → Option (List ℕ)) (k n : ℕ) → length (empty_halves half k n) ≡ n
 unfolding empty_halves
 length-empty_halves half k zero = refl
-length-empty_halves half k (suc n) = length_push (empty_halves half k n) _ ∙ ap (λ j. j + 1) (length-empty_halves half k n) ∙ add-one n
+length-empty_halves half k (suc n) = rw (length_push, length-empty_halves half k n, add-one)
 
 peers_below : (H : List ℕ → List ℕ) (half : ℕ → Option (List ℕ)) (a p : List Bool) (m : SparseMap) (ps : List (Option (List ℕ))) → IsPeers H half (get m) p (reverse ps) → IsPeers H half (get (under a m)) (a ++ p) (reverse (ps ++ empty_halves half (length p) (length a)))
 unfolding under empty_halves
@@ -145,7 +125,7 @@ not_lone m p o none only = let e : true ≡ false = sym o.1 ∙ ap (contains_key
 lone_below : (held : Bool) (len k : ℕ) (m : SparseMap) (p : List Bool) (n : ℕ) → IsBelow len (k, m) → contains_key m p ≡ held → n ≡ lone_count held k → ((q : List Bool) → IsTrue (contains_key m q) → q ≡ p) → n + len ≡ lone_count held (k + len)
 lone_below held len k m p n (inl s) is e only = absurd (let x = only (false ∷ s.0.0) s.0.1 ∙ sym (only (true ∷ s.1.0) s.1.1) in cc)
 lone_below true len k m p n (inr o) is e only = rw (e, o.0, o.1)
-lone_below false len k m p n (inr o) is e only = absurd (not_lone m p (stem_holds len k m (inr o)) is only)
+lone_below false len k m p n (inr o) is e only = absurd (not_lone m p (stem_holds len (k, m) (inr o)) is only)
 
 pub collects_below : (H : List ℕ → List ℕ) (held : Bool) (whole : SparseMap) (below child : ℕ × SparseMap) (height : ℕ) (one key : List ℕ) (from len : ℕ) (ps new : List (Option (List ℕ))) → IsRun whole height one from len below.0 below.1 → IsBelow len below → child ≡ below
     → bits_from one from len ≡ bits_from key from len → contains_key child.1 (last_bits key (256 - (from + len))) ≡ held
@@ -167,14 +147,7 @@ lone_low : (held : Bool) (k : ℕ) → k < 256 → lone_count held k ≡ 0
 lone_low true k lt = rw (ne_eqb k 256 (λ e. omega (arith, lt, e)))
 lone_low false k lt = refl
 
--- at a lone key, and where nothing is held
-collects_lone : (H : List ℕ → List ℕ) (h : ℕ) (p : List Bool) (v : List ℕ) → h < 256 → Collects H true h (insert empty p v) p []
-unfolding IsPeers
-collects_lone H h p v lt = record {
-  peers_from_top = get-lone_other p v;
-  reaches = inl (sym (lone_low true h lt), λ q c. tied q p (lone_tied p q v c));
-}
-
+-- where nothing is held
 collects_nothing : (H : List ℕ → List ℕ) (h : ℕ) (p : List Bool) → Collects H false h empty p []
 unfolding IsPeers
 collects_nothing H h p = record { peers_from_top = λ q _. get-empty bits_cmp q; reaches = inl (refl, λ q c. absurd (no_some _ (get-empty bits_cmp q) c)) }
@@ -215,10 +188,16 @@ lone_far H one v d from len j low sum less e de =
     let place : from + (j + 1) + low ≡ 256 = omega (arith, sum, less, e) in
     rw (z, ← e, ← lone-under (bits_from one (from + (j + 1)) low) v, ← last_bits-at one (from + (j + 1)) low place) de
 
+-- at a lone key
 pub collects_at_lone : (H : List ℕ → List ℕ) (whole : SparseMap) (height : ℕ) (one key v : List ℕ) (from len : ℕ) (new : List (Option (List ℕ))) → IsRun whole height one from len 0 (insert empty [] v) → height < 256
     → last_bits key (256 - from) ≡ bits_from one from len → new ≡ [] → Collects H true height whole (last_bits key (256 - from)) new
+unfolding IsPeers
 collects_at_lone H whole height one key v from len new run lt at n =
-    rw (n, run.held_is, at, ← lone-under (bits_from one from len) v) (collects_lone H height (bits_from one from len) v lt)
+    let p = bits_from one from len in
+    rw (n, run.held_is, at, ← lone-under p v) (record {
+      peers_from_top = get-lone_other p v;
+      reaches = inl (sym (lone_low true height lt), λ q c. lone_only p q v c);
+    })
 
 -- in a fork
 in_fork : {D A : _} (H : List ℕ → List ℕ) (held : Bool) (f : Rc (Fork' D A) A) (b : Bool) (p : List Bool) (ps : List (Option (List ℕ))) (d : List ℕ) (child x : ℕ × SparseMap) → IsWellFormed (Fork f) → length p ≡ f.value.left.0
@@ -236,8 +215,3 @@ collects_fork H (Some held) old child f key b depth ps new d x is wf height e ce
     let h : f.value.left.0 + 1 + depth ≡ 256 = rw is at height in
     let len : length (last_bits key (256 - (depth + 1))) ≡ f.value.left.0 = (let l = length-last_bits key (256 - (depth + 1)) in omega (arith, l, h)) in
     rw (is, n, last_bits-first key depth (omega (arith, h)), ← e) (in_fork H held f b (last_bits key (256 - (depth + 1))) ps d (seen child) x (rw is at wf) len ce xe de c)
-
--- how an empty half is written, and the one above it
-pub no_half : (held : Bool) (x y : List ℕ) → cond held (Some x) None ≡ None → None ≡ cond held (Some y) None
-no_half true x y e = cc
-no_half false x y e = refl

@@ -1,6 +1,7 @@
 -- Lemmas for the proofs of the crates above, over public definitions alone.
-use Rattle.std.proofs.Common.{◌≡◌, ℕ, ◌+◌, ◌-◌, ◌<◌, ◌≤◌, Bool, true, List, [], ◌∷◌, ◌++◌, length, Option, Some, None}
+use Rattle.std.proofs.Common.{◌≡◌, ℕ, ◌+◌, ◌-◌, ◌<◌, ◌≤◌, Bool, true, List, [], ◌∷◌, ◌++◌, length, Option, Some, None, unwrap_or, ap}
 use Rattle.std.specs.Ordering.{nat_cmp}
+use Rattle.std.proofs.lemmas.Cmp.{tied_itself}
 use Rattle.std.specs.Option.{option_map}
 use Rattle.std.specs.Bool.{Decides}
 use Rattle.std.specs.FinMap.{get, insert}
@@ -16,45 +17,44 @@ use Rattle.warg_map.specs.ProofValue.{proof_value}
 use Rattle.warg_map.specs.Peers.{Proves, ProvesAbsent, ProvesEmpty}
 use Rattle.warg_map.specs.Messages.{Peers, same_peers}
 use Rattle.warg_map.proofs.ProofEquality as equal
+use Rattle.warg_map.proofs.KeyBits as keys
 use Rattle.warg_map.proofs.SparseTree as tree
-use Rattle.warg_map.proofs.FoundInNode as found
 use Rattle.warg_map.proofs.DigestBits as bits
 use Rattle.warg_map.proofs.LastInserted as last
-use Rattle.warg_map.proofs.RootsAtPrefixes as prefixes
 use Rattle.warg_map.proofs.HonestProofs as honest
 
 -- the last bits of a digest are as many as are asked for, and a key has 256
 pub length-last_bits : (key : List ℕ) (n : ℕ) → length (last_bits key n) ≡ n
-length-last_bits = tree.length-last_bits
+length-last_bits = keys.length-last_bits
 
 pub all_bits : (H : List ℕ → List ℕ) (key : List ℕ) → length (key_bits H key) ≡ 256
-all_bits H key = tree.length-last_bits (H key) 256
+all_bits H key = keys.length-last_bits (H key) 256
 
 -- no bit is left
 pub last_bits-none : (key : List ℕ) → last_bits key 0 ≡ []
-last_bits-none = tree.last_bits-zero
+last_bits-none key = keys.bits_from-none key 256
 
 -- one bit more, from the bottom
 pub last_bits-more : (key : List ℕ) (n : ℕ) → n < 256 → last_bits key (n + 1) ≡ bit_at key (255 - n) ∷ last_bits key n
-last_bits-more = tree.last_bits-step
+last_bits-more = keys.last_bits-step
 
 -- the bits that are left at a depth
 pub bits_left-more : (key : List ℕ) (depth : ℕ) → depth < 256 → last_bits key (256 - depth) ≡ bit_at key depth ∷ last_bits key (256 - (depth + 1))
-bits_left-more = tree.last_bits-first
+bits_left-more = keys.last_bits-first
 
 pub bits_left-none : (key : List ℕ) (depth : ℕ) → depth ≡ 256 → last_bits key (256 - depth) ≡ []
-bits_left-none = tree.last_bits-end
+bits_left-none key depth h = rw h (keys.bits_from-none key 256)
 
 -- bits are equal to themselves, by their order and by the test
 pub bits_cmp-itself : (q : List Bool) → bits_cmp q q ≡ Equal
-bits_cmp-itself = bits.itself
+bits_cmp-itself = tied_itself tree.bits_total
 
 pub same_bits-itself : (q : List Bool) → same_bits q q ≡ true
 same_bits-itself = tree.tied_itself_bits
 
 -- bits that the test calls the same are the same
 pub same_bits-true : (q p : List Bool) → same_bits q p ≡ true → q ≡ p
-same_bits-true = found.tied
+same_bits-true = tree.tied
 
 -- keys of the same bits have the same digest
 pub same_digest : (H : List ℕ → List ℕ) (key other : List ℕ) → IsDigest (H key) → IsDigest (H other) → key_bits H key ≡ key_bits H other → H key ≡ H other
@@ -79,21 +79,21 @@ root-same = tree.root-same
 -- the proof of held bits leads to the plain root at each prefix of them
 pub root_at_prefix : (H : List ℕ → List ℕ) (m : SparseMap) (prefix rest : List Bool) (peers : List (Option (List ℕ))) (x : List ℕ) → length prefix + length rest ≡ 256 → length peers ≤ 256
     → Proves H 256 m (prefix ++ rest) peers → get m (prefix ++ rest) ≡ Some x → proof_value H peers x rest ≡ root_of_levels H (length rest) (λ q. get m (prefix ++ q))
-root_at_prefix = prefixes.held_after
+root_at_prefix H m prefix rest peers x n few p held = honest.honest_prefix H m prefix rest peers x n (honest.honest_held H 256 m _ peers p) (ap (λ o. unwrap_or o (empty_root H 0)) held)
 
 -- from any leaf digest the proofs of a map lead to the root of the map that holds it
 pub replaced_root : (H : List ℕ → List ℕ) (m : SparseMap) (bits : List Bool) (peers : List (Option (List ℕ))) (x : List ℕ) → length bits ≡ 256 → length peers ≤ 256
     → Proves H 256 m bits peers → proof_value H peers x bits ≡ sparse_root H 256 (insert m bits x)
-replaced_root H m bits peers x n few = honest.honest_replaced H 256 bits m peers x n
+replaced_root H m bits peers x n few p = honest.honest_replaced H m bits peers x n (honest.honest_held H 256 m bits peers p)
 
 pub absent_replaced_root : (H : List ℕ → List ℕ) (m : SparseMap) (bits : List Bool) (peers : List (Option (List ℕ))) (x : List ℕ) → length bits ≡ 256 → length peers ≤ 256
     → ProvesAbsent H m bits peers → proof_value H peers x bits ≡ sparse_root H 256 (insert m bits x)
-absent_replaced_root H m bits peers x n few = honest.absent_replaced H bits m peers x n
+absent_replaced_root H m bits peers x n few p = honest.honest_replaced H m bits peers x n (honest.honest_absent H m bits peers p)
 
 -- from an empty leaf the proof of an absence leads to the root
 pub absent_root : (H : List ℕ → List ℕ) (m : SparseMap) (bits : List Bool) (peers : List (Option (List ℕ))) → length bits ≡ 256 → length peers ≤ 256
     → ProvesAbsent H m bits peers → proof_value H peers (empty_root H 0) bits ≡ sparse_root H 256 m
-absent_root H m bits peers n few = honest.honest_absent H bits m peers n
+absent_root H m bits peers n few p = honest.honest_root H m bits peers _ n (honest.honest_absent H m bits peers p) (honest.leaf_absent (get m bits) _ p.absent)
 
 -- proofs are compared by their peers
 pub peers_decide : (ps qs : Peers) → Decides (same_peers ps qs) (ps ≡ qs)
@@ -102,4 +102,4 @@ peers_decide = equal.peers_decide
 -- where the leaf digest of bits is that of an empty leaf, the proof of that leads from it to the root
 pub empty_root_held : (H : List ℕ → List ℕ) (m : SparseMap) (bits : List Bool) (peers : Peers) → length bits ≡ 256
     → ProvesEmpty H m bits peers → leaf_at H m bits ≡ empty_root H 0 → proof_value H peers (empty_root H 0) bits ≡ sparse_root H 256 m
-empty_root_held H m bits peers n proves = honest.empty_held H bits m peers n proves
+empty_root_held H m bits peers n p = honest.honest_root H m bits peers _ n (honest.honest_empty H m bits peers (get m bits) p)

@@ -1,8 +1,7 @@
 -- What is found in a node.
-use Rattle.std.proofs.Common.{◌≡◌, ℕ, ◌+◌, ◌-◌, ◌<◌, ◌≤◌, Bool, true, false, cond, List, [], ◌∷◌, ◌++◌, Option, Some, None, refl, sym, ap, ◌∙◌, subst, arith}
+use Rattle.std.proofs.Common.{◌≡◌, ℕ, ◌+◌, ◌-◌, ◌<◌, ◌≤◌, Bool, true, false, cond, List, [], ◌∷◌, ◌++◌, Some, None, refl, sym, ap, ◌∙◌, arith}
 use Rattle.std.proofs.lemmas.List.{append-nil}
-use Rattle.std.specs.FinMap.{insert, empty, get, get-insert, get-empty}
-use Rattle.std.specs.Ordering.{eq_by_cmp}
+use Rattle.std.specs.FinMap.{insert, empty, get, get-empty}
 use Rattle.std.specs.declared.rc.Rc.{Rc}
 use Rattle.warg_map.specs.declared.node.Node.{Node}
 use Rattle.warg_map.specs.declared.node.Node.TheVariants.{Fork, Stem}
@@ -13,33 +12,14 @@ use Rattle.warg_map.specs.Bits.{bit_at, bits_from, last_bits}
 use Rattle.warg_map.specs.Sparse.{SparseMap, bits_cmp}
 use Rattle.warg_map.specs.Private.Under.{under, HoldsKey}
 use Rattle.warg_map.specs.Private.Seen.{seen, tree_height, held_by, IsWellFormed}
-use Rattle.warg_map.proofs.SparseTree.{bits_total, get-join_true, get-join_false, tied_itself_bits, contains_key-insert_same, last_bits-first, last_bits-end}
+use Rattle.warg_map.proofs.SparseTree.{get-insert_same, get-insert_other, get-join_true, get-join_false, contains_key-insert_same}
 use Rattle.warg_map.proofs.TreeForm.{stem_holds}
-use Rattle.warg_map.proofs.BitsInFront.{get-under, get-under_apart, lone-under, bits_from-part, bits_left-split, last_bits-at}
-
-pub tied : (q p : List Bool) → eq_by_cmp bits_cmp q p ≡ true → q ≡ p
-tied [] [] e = refl
-tied [] (x ∷ p) e = cc
-tied (x ∷ q) [] e = cc
-tied (true ∷ q) (true ∷ p) e = ap (λ t. true ∷ t) (tied q p e)
-tied (true ∷ q) (false ∷ p) e = cc
-tied (false ∷ q) (true ∷ p) e = cc
-tied (false ∷ q) (false ∷ p) e = ap (λ t. false ∷ t) (tied q p e)
-
-some_first : (b : Bool) (v : List ℕ) (o : Option (List ℕ)) → b ≡ true → cond b (Some v) o ≡ Some v
-some_first true v o e = refl
-some_first false v o e = cc
-
-pub get-lone : (q : List Bool) (v : List ℕ) → get (insert (empty {K = List Bool} {X = List ℕ} {R = bits_cmp}) q v) q ≡ Some v
-get-lone q v = get-insert bits_total empty q v q ∙ some_first (eq_by_cmp bits_cmp q q) v _ (tied_itself_bits q)
-
-other_none : (b : Bool) (p q : List Bool) (v : List ℕ) → (b ≡ true → q ≡ p) → ¬ (q ≡ p) → cond b (Some v) None ≡ None
-other_none true p q v h n = absurd (n (h refl))
-other_none false p q v h n = refl
+use Rattle.warg_map.proofs.BitsInFront.{get-under, get-under_head, under-append, lone-under}
+use Rattle.warg_map.proofs.KeyBits.{bits_from-none, last_bits-first, bits_from-part, bits_left-split, last_bits-at}
 
 -- a lone key holds nothing else
 pub get-lone_other : (p : List Bool) (v : List ℕ) (q : List Bool) → ¬ (q ≡ p) → get (insert (empty {K = List Bool} {X = List ℕ} {R = bits_cmp}) p v) q ≡ None
-get-lone_other p v q n = get-insert bits_total empty p v q ∙ ap (cond (eq_by_cmp bits_cmp q p) (Some v)) (get-empty bits_cmp q) ∙ other_none (eq_by_cmp bits_cmp q p) p q v (tied q p) n
+get-lone_other p v q n = get-insert_other empty p q v n ∙ get-empty bits_cmp q
 
 -- in a fork
 fork_finds : {D A : _} (f : Rc (Fork' D A) A) (b : Bool) (p : List Bool) (d : ℕ × SparseMap) → d ≡ (cond b f.value.right f.value.left) → get d.1 p ≡ get (held_by (Fork f)) (b ∷ p)
@@ -78,15 +58,9 @@ run_of_stem old s from is w height =
         held_is = ap (λ i. under (bits_from s.value.key i s.value.len) s.value.below.1) at;
         height_is = refl;
         whole = omega (arith, h);
-        holds = stem_holds s.value.len s.value.below.0 s.value.below.1 ws.formed.1;
+        holds = stem_holds s.value.len s.value.below ws.formed.1;
       },
     )
-
-pub run_of_link : {D A : _} (old : Node D A) (s : Rc (Stem' D A) A) (link : ℕ × SparseMap) (from : ℕ) → seen old ≡ link → old ≡ Stem s → IsWellFormed old → link.0 + from ≡ 256
-    → (s.value.from ≡ from) × IsRun link.1 link.0 s.value.key from s.value.len s.value.below.0 s.value.below.1
-run_of_link old s link from sn is w height =
-    let run = run_of_stem old s from is w (subst (λ (d : ℕ × SparseMap). d.0 + from ≡ 256) (sym sn) height) in
-    (run.0, subst (λ (d : ℕ × SparseMap). IsRun d.1 d.0 s.value.key from s.value.len s.value.below.0 s.value.below.1) sn run.1)
 
 -- all bits of the run are the key's
 pub found_below : (held : SparseMap) (height : ℕ) (one key : List ℕ) (from len k j : ℕ) (m : SparseMap) → IsRun held height one from len k m → j ≤ len → len ≤ j → bits_from one from j ≡ bits_from key from j
@@ -103,8 +77,8 @@ found_lone held height one key v from len j run most least same =
     let below = found_below held height one key from len 0 j (insert empty [] v) run most least same in
     let end : from + len ≡ 256 = omega (arith, run.whole) in
     let le : from + len ≤ 256 = omega (arith, end) in
-    let none = last_bits-end key (from + len) end in
-    (bits_left-split key from len le ∙ ap (λ t. bits_from key from len ++ t) none ∙ append-nil _ ∙ sym below.0, sym (ap (get (insert empty [] v)) none ∙ get-lone [] v) ∙ below.1)
+    let none : last_bits key (256 - (from + len)) ≡ [] = rw end (bits_from-none key 256) in
+    (bits_left-split key from len le ∙ ap (λ t. bits_from key from len ++ t) none ∙ append-nil _ ∙ sym below.0, sym (ap (get (insert empty [] v)) none ∙ get-insert_same empty [] v) ∙ below.1)
 
 -- the key's bits part from the run's after j bits
 pub record IsApart (held : SparseMap) (one key : List ℕ) (from j rest low : ℕ) (m : SparseMap) : Type 0 where
@@ -122,4 +96,4 @@ pub found_apart : (held : SparseMap) (height : ℕ) (one key : List ℕ) (from l
     → ¬ (bit_at one (from + j) ≡ bit_at key (from + j)) → get held (last_bits key (256 - from)) ≡ None
 found_apart held height one key from len k j m run less same apart =
     let a = run_apart held height one key from len k j m run less same apart in
-    rw (a.held_is, a.bits_are) (get-under_apart (bits_from key from j) _ _ _ _ m apart)
+    rw (a.held_is, a.bits_are, under-append, get-under) (get-under_head _ _ _ _ m apart)

@@ -1,21 +1,22 @@
 -- Leaves that are put below a node.
-use Rattle.std.proofs.Common.{◌≡◌, ℕ, length, ◌+◌, ◌-◌, ◌<◌, ◌≤◌, Bool, false, true, not, List, ◌∷◌, refl, sym, ap, ◌∙◌, arith, ◌⊎◌, inl, inr}
+use Rattle.std.proofs.Common.{◌≡◌, ℕ, length, ◌+◌, ◌-◌, ◌<◌, ◌≤◌, Bool, false, not, List, ◌∷◌, refl, sym, ap, ◌∙◌, arith, ◌⊎◌, inl, inr}
 use Rattle.std.specs.FinMap.{empty, len}
 use Rattle.std.specs.declared.rc.Rc.{Rc}
 use Rattle.warg_map.specs.declared.node.Node.{Node}
 use Rattle.warg_map.specs.declared.node.Node.TheVariants.{Fork, Singleton}
 use Rattle.warg_map.specs.declared.node.Fork.{Fork as Fork'}
-use Rattle.warg_map.specs.Bits.{bit_at, bits_from, last_bits}
+use Rattle.warg_map.specs.Bits.{bits_from, last_bits}
 use Rattle.warg_map.specs.Sparse.{SparseMap}
 use Rattle.warg_map.specs.Private.Lone.{Lone}
 use Rattle.warg_map.specs.Private.Under.{join_at, under, HoldsKey, Splits}
 use Rattle.warg_map.specs.Private.Grown.{with_leaves, ShareBits, on_side}
 use Rattle.warg_map.specs.Private.Seen.{seen, IsWellFormed, IsBelow}
-use Rattle.warg_map.proofs.BitsInFront.{bits_from-append, bits_from-first, bits_from-none, under-append, under-none}
+use Rattle.warg_map.proofs.BitsInFront.{under-append, under-none}
 use Rattle.warg_map.proofs.NodeCounts.{len-join_at, len-lone}
 use Rattle.warg_map.proofs.TreeForm.{splits_join, stem_holds}
 use Rattle.warg_map.proofs.FoundInNode.{IsRun}
-use Rattle.warg_map.proofs.ManyLeaves.{with_leaves-join_at, with_leaves-under, under-empty, put_in_front, still_splits, with_leaves-holds}
+use Rattle.warg_map.proofs.ManyLeaves.{with_leaves-join_at, with_leaves-under, under-empty, with_leaves-held, with_leaves-holds}
+use Rattle.warg_map.proofs.KeyBits.{bits_from-append, bits_from-none}
 
 -- on both sides of a bit
 pub record IsPutBeside (b : Bool) (at : ℕ) (p q near far : ℕ × SparseMap) (es : List Lone) : Type 0 where
@@ -24,10 +25,6 @@ pub record IsPutBeside (b : Bool) (at : ℕ) (p q near far : ℕ × SparseMap) (
   pub splits : Splits (join_at b near.1 far.1)
   pub is : ◌≡◌ {A = ℕ × SparseMap} (near.0 + 1, join_at b near.1 far.1) (256 - at, with_leaves (256 - at) (join_at b p.1 q.1) es)
   pub size_is : len (join_at b near.1 far.1) ≡ len near.1 + len far.1
-
-splits_at : (b : Bool) (near far : SparseMap) → HoldsKey near → HoldsKey far → Splits (join_at b near far)
-splits_at true near far n f = splits_join far near f n
-splits_at false near far n f = splits_join near far n f
 
 pub put_beside : (b : Bool) (at : ℕ) (p q near far : ℕ × SparseMap) (es zs os : List Lone) → p.0 + (at + 1) ≡ 256 → q.0 + (at + 1) ≡ 256 → near ≡ (p.0, with_leaves p.0 p.1 zs) → far ≡ (q.0, with_leaves q.0 q.1 os)
     → zs ≡ on_side at b es → os ≡ on_side at (not b) es → HoldsKey p.1 ⊎ (0 < length zs) → HoldsKey q.1 ⊎ (0 < length os) → IsPutBeside b at p q near far es
@@ -41,7 +38,7 @@ put_beside b at p q near far es zs os ph qh n f z o hz ho =
     rw (n, f) (record {
       heights = (omega (arith, ph, qh), omega (arith, ph));
       hold = (x, y);
-      splits = splits_at b _ _ x y;
+      splits = splits_join b _ _ x y;
       is = rw (pk, qk, top, z, o, with_leaves-join_at b at k (omega (arith, ph)) p.1 q.1 es);
       size_is = len-join_at b _ _;
     })
@@ -65,11 +62,12 @@ in_fork old f link depth sn is wf sum =
 -- beside a lone key
 pub put_beside_lone : {D A : _} (old : Node D A) (s : Rc Lone A) (link l : ℕ × SparseMap) (depth : ℕ) (es all : List Lone) → seen old ≡ link → old ≡ Singleton s → link.0 + depth ≡ 256 → all ≡ s.value ∷ es → l ≡ (256 - depth, with_leaves (256 - depth) empty all)
     → (l ≡ (link.0, with_leaves link.0 link.1 es)) × (len link.1 ≡ 1)
+unfolding with_leaves
 put_beside_lone old s link l depth es all sn is sum a e =
     let top = sym (ap seen is) ∙ sn in
     let h : s.value.height ≡ link.0 = ap (λ d. d.0) top in
     let k : 256 - depth ≡ s.value.height = omega (arith, h, sum) in
-    rw (e, k, a, put_in_front s.value.height s.value es, ← top) (refl, len-lone (last_bits s.value.key s.value.height) s.value.value)
+    rw (e, k, a, ← top) (refl, len-lone (last_bits s.value.key s.value.height) s.value.value)
 
 -- below a stem
 pub put_below_stem : (link below l : ℕ × SparseMap) (one key : List ℕ) (depth shared len_ k rest : ℕ) (m : SparseMap) (es : List Lone) → IsRun link.1 link.0 one depth len_ k m → rest ≡ len_ - shared → shared ≤ len_
@@ -84,7 +82,7 @@ put_below_stem link below l one key depth shared len_ k rest m es run left le sh
 
 -- what stands below a stem
 pub below_stands : (len_ : ℕ) (below l : ℕ × SparseMap) (es : List Lone) → IsBelow len_ below → l ≡ (below.0, with_leaves below.0 below.1 es) → Splits l.1 ⊎ (l.0 ≡ 255)
-below_stands len_ below l es (inl s) e = inl (rw e (still_splits below.0 below.1 es s))
+below_stands len_ below l es (inl s) e = inl (rw e ((s.0.0, with_leaves-held below.0 below.1 es _ s.0.1), (s.1.0, with_leaves-held below.0 below.1 es _ s.1.1)))
 below_stands len_ below l es (inr o) e = inr (rw e o.1)
 
 -- at its end
@@ -98,9 +96,5 @@ rest_run len_ from at below key b sum low high = record {
   held_is = refl;
   height_is = omega (arith, sum, low, high);
   whole = omega (arith, sum, low, high);
-  holds = stem_holds len_ below.0 below.1 b;
+  holds = stem_holds len_ below b;
 }
-
-pub cut_at : (key : List ℕ) (at n : ℕ) (m : SparseMap) → under (bits_from key at (n + 1)) m ≡ join_at (bit_at key at) (under (bits_from key (at + 1) n) m) empty
-unfolding under
-cut_at key at n m = rw (bits_from-first key at n) refl

@@ -1,3 +1,4 @@
+pub mod KeyBits
 pub mod SparseTree
 pub mod BitsInFront
 pub mod SideBits
@@ -16,7 +17,6 @@ pub mod InsertedPairs
 pub mod UniqueRootsAndProofs
 pub mod ProofMessages
 pub mod LastInserted
-pub mod RootsAtPrefixes
 pub mod DigestBits
 pub mod ProofEquality
 pub mod ForCallers

@@ -1,5 +1,5 @@
 -- Laws of leaves that are put into a tree.
-use Rattle.std.proofs.Common.{◌≡◌, ℕ, zero, suc, length, ◌+◌, ◌-◌, ◌<◌, ◌≤◌, Bool, true, false, cond, not, List, [], ◌∷◌, ◌++◌, refl, sym, ap, ◌∙◌, subst, arith, take, get_or, ◌⊎◌, inl, inr, ⊎_elim, length-append}
+use Rattle.std.proofs.Common.{◌≡◌, ℕ, length, ◌+◌, ◌-◌, ◌<◌, ◌≤◌, Bool, true, false, cond, not, List, [], ◌∷◌, ◌++◌, refl, sym, ap, ◌∙◌, subst, arith, take, get_or, ◌⊎◌, inl, inr, ⊎_elim, length-append}
 use Rattle.std.specs.FinMap.{insert, empty, contains_key, len, len-empty, len-insert}
 use Rattle.std.proofs.lemmas.List.{take_more, take_all, append-nil, length_push}
 use Rattle.std.proofs.lemmas.List.Elements.{filter-append}
@@ -8,21 +8,13 @@ use Rattle.warg_protobuf.proofs.ForCallers.{all_parts}
 use Rattle.warg_map.specs.Private.Lone.{Lone}
 use Rattle.warg_map.specs.Bits.{bit_at, bits_from, last_bits}
 use Rattle.warg_map.specs.Sparse.{SparseMap, HasLevels, bits_cmp}
-use Rattle.warg_map.specs.Private.Under.{join_at, under, HoldsKey, Splits}
+use Rattle.warg_map.specs.Private.Under.{join_at, under, HoldsKey}
 use Rattle.warg_map.specs.Private.Grown.{with_leaves, ShareBits, is_bit, on_side}
 use Rattle.warg_map.proofs.HeldKeys.{levels-insert}
-use Rattle.warg_map.proofs.SparseTree.{bits_total, length-last_bits, insert-join_at, insert-join_far, insert-again, last_bits-step, contains_key-insert_same, empty-is_join_at, head_same, tail_same}
-use Rattle.warg_map.proofs.BitsInFront.{bits_left-split, insert-under}
+use Rattle.warg_map.proofs.SparseTree.{bits_total, insert-join_at, insert-join_far, insert-again, contains_key-insert_same, empty-is_join_at}
+use Rattle.warg_map.proofs.BitsInFront.{insert-under}
 use Rattle.warg_map.proofs.TreeForm.{held_after}
-
--- fewer bits
-pub bits_from-fewer : (a b : List ℕ) (i m n : ℕ) → m ≤ n → bits_from a i n ≡ bits_from b i n → bits_from a i m ≡ bits_from b i m
-unfolding bits_from
-bits_from-fewer a b i zero n le e = refl
-bits_from-fewer a b i (suc m) zero le e = absurd (omega arith)
-bits_from-fewer a b i (suc m) (suc n) le e =
-    let t = bits_from-fewer a b (i + 1) m n (omega arith) (tail_same _ _ _ _ e) in
-    ap (λ x. x ∷ bits_from a (i + 1) m) (head_same _ _ _ _ e) ∙ ap (λ q. bit_at b i ∷ q) t
+use Rattle.warg_map.proofs.KeyBits.{length-last_bits, last_bits-step, bits_left-split}
 
 -- sides
 side_of : (b x : Bool) → ((is_bit b x ≡ true) × (is_bit (not b) x ≡ false) × (x ≡ b)) ⊎ ((is_bit b x ≡ false) × (is_bit (not b) x ≡ true) × (x ≡ not b))
@@ -31,29 +23,15 @@ side_of true false = inr (refl, refl, refl)
 side_of false true = inr (refl, refl, refl)
 side_of false false = inl (refl, refl, refl)
 
-not_same : (b x : Bool) → x ≡ b → x ≡ not b → ⊥
-not_same true x e f = cc
-not_same false x e f = cc
-
-pub on_side-none : (at : ℕ) (b : Bool) → on_side at b [] ≡ []
-unfolding on_side
-on_side-none at b = refl
-
 pub on_side-push : (at : ℕ) (b : Bool) (es : List Lone) (e : Lone) → on_side at b (es ++ e ∷ []) ≡ on_side at b es ++ cond (is_bit b (bit_at e.key at)) (e ∷ []) []
 unfolding on_side
 on_side-push at b es e = filter-append (λ x. is_bit b (bit_at x.key at)) es (e ∷ [])
 
 pub push_near : (at : ℕ) (b : Bool) (es : List Lone) (e : Lone) → bit_at e.key at ≡ b → (on_side at b (es ++ e ∷ []) ≡ on_side at b es ++ e ∷ []) × (on_side at (not b) (es ++ e ∷ []) ≡ on_side at (not b) es)
-push_near at b es e h = rw (on_side-push at b es e, on_side-push at (not b) es e) (elim (side_of b (bit_at e.key at)) [
-  | inl w ↦ rw (w.0, w.1) (refl, append-nil _)
-  | inr w ↦ absurd (not_same b _ h w.2)
-])
+push_near at b es e h = grind (arith, on_side-push at b es e, on_side-push at (not b) es e, append-nil (on_side at (not b) es))
 
 pub push_far : (at : ℕ) (b : Bool) (es : List Lone) (e : Lone) → ¬ (bit_at e.key at ≡ b) → (on_side at b (es ++ e ∷ []) ≡ on_side at b es) × (on_side at (not b) (es ++ e ∷ []) ≡ on_side at (not b) es ++ e ∷ [])
-push_far at b es e h = rw (on_side-push at b es e, on_side-push at (not b) es e) (elim (side_of b (bit_at e.key at)) [
-  | inl w ↦ absurd (h w.2)
-  | inr w ↦ rw (w.0, w.1) (append-nil _, refl)
-])
+push_far at b es e h = grind (arith, on_side-push at b es e, on_side-push at (not b) es e, append-nil (on_side at b es))
 
 -- leaves of both sides of a bit
 pub with_leaves-join_at : (b : Bool) (at k : ℕ) → at + 1 + k ≡ 256 → (x y : SparseMap) (es : List Lone) → with_leaves (k + 1) (join_at b x y) es ≡ join_at b (with_leaves k x (on_side at b es)) (with_leaves k y (on_side at (not b) es))
@@ -61,7 +39,8 @@ unfolding with_leaves on_side
 with_leaves-join_at b at k sum x y [] = refl
 with_leaves-join_at b at k sum x y (e ∷ es) =
     let q = last_bits e.key k in
-    let first : last_bits e.key (k + 1) ≡ bit_at e.key at ∷ last_bits e.key k = (let p : 255 - k ≡ at = omega (arith, sum) in rw p at (last_bits-step e.key k (omega (arith, sum)))) in
+    let place : 255 - k ≡ at = omega (arith, sum) in
+    let first : last_bits e.key (k + 1) ≡ bit_at e.key at ∷ last_bits e.key k = rw place at (last_bits-step e.key k (omega (arith, sum))) in
     elim (side_of b (bit_at e.key at)) [
       | inl w ↦ rw (w.0, w.1, first, w.2, insert-join_at b x y q e.value) (with_leaves-join_at b at k sum (insert x q e.value) y es)
       | inr w ↦ rw (w.0, w.1, first, w.2, insert-join_far b x y q e.value) (with_leaves-join_at b at k sum x (insert y q e.value) es)
@@ -101,9 +80,6 @@ one_key es fs e depth is le s =
     let share : ShareBits e.key (256 - (256 - depth)) (256 - depth) (fs ++ e ∷ []) = subst (λ i. ShareBits e.key i (256 - depth) (fs ++ e ∷ [])) k (rw is at s) in
     rw (is, with_leaves-push (256 - depth) empty fs e) (with_leaves-again (256 - depth) e.key empty fs e.value (all_parts _ fs (e ∷ []) share).0)
 
-pub share-last : (key : List ℕ) (i n : ℕ) (fs : List Lone) (e : Lone) → ShareBits key i n (fs ++ e ∷ []) → bits_from e.key i n ≡ bits_from key i n
-share-last key i n fs e s = (all_parts (λ (x : Lone). bits_from x.key i n ≡ bits_from key i n) fs (e ∷ []) s).1.0
-
 -- keys that are held
 pub with_leaves-held : (k : ℕ) (m : SparseMap) (es : List Lone) (q : List Bool) → contains_key m q ≡ true → contains_key (with_leaves k m es) q ≡ true
 unfolding with_leaves
@@ -119,21 +95,14 @@ with_leaves-holds k m (e ∷ es) (inr h) = (last_bits e.key k, with_leaves-held 
 pub has_last : (k : ℕ) (m : SparseMap) (l : ℕ × SparseMap) (es fs : List Lone) (e : Lone) (key : List ℕ) → l ≡ (k, with_leaves k m es) → es ≡ fs ++ e ∷ [] → key ≡ e.key → contains_key l.1 (last_bits key l.0) ≡ true
 has_last k m l es fs e key h is ek = rw (h, is, ek, with_leaves-push k m fs e) (contains_key-insert_same (with_leaves k m fs) (last_bits e.key k) e.value)
 
-pub still_splits : (k : ℕ) (m : SparseMap) (es : List Lone) → Splits m → Splits (with_leaves k m es)
-still_splits k m es s = ((s.0.0, with_leaves-held k m es _ s.0.1), (s.1.0, with_leaves-held k m es _ s.1.1))
-
 -- how many keys are held
-step : (held : Bool) (n : ℕ) → (n ≤ cond held n (n + 1)) × (cond held n (n + 1) ≤ n + 1)
-step true n = (omega arith, omega arith)
-step false n = (omega arith, omega arith)
-
 pub len-with_leaves : (k : ℕ) (m : SparseMap) (es : List Lone) → (len m ≤ len (with_leaves k m es)) × (len (with_leaves k m es) ≤ len m + length es)
 unfolding with_leaves
 len-with_leaves k m [] = (omega arith, omega arith)
 len-with_leaves k m (e ∷ es) =
     let h = len-with_leaves k (insert m (last_bits e.key k) e.value) es in
-    let one = rw (← len-insert bits_total m (last_bits e.key k) e.value) at (step (contains_key m (last_bits e.key k)) (len m)) in
-    (omega (arith, h.0, one.0), omega (arith, h.1, one.1))
+    let one = len-insert bits_total m (last_bits e.key k) e.value in
+    (grind (arith, h.0, one), grind (arith, h.1, one))
 
 pub few_new : (k n : ℕ) (m : SparseMap) (link : ℕ × SparseMap) (es : List Lone) → link ≡ (k, with_leaves k m es) → len m + n ≡ len link.1 → n ≤ length es
 few_new k n m link es l c = let most = len-with_leaves k m es in let is = rw l at c in omega (arith, most.1, is)
@@ -164,16 +133,3 @@ pub levels-with_leaves : (m : SparseMap) (es : List Lone) → HasLevels 256 m �
 unfolding with_leaves
 levels-with_leaves m [] h = h
 levels-with_leaves m (e ∷ es) h = levels-with_leaves (insert m (last_bits e.key 256) e.value) es (levels-insert m (last_bits e.key 256) e.value (length-last_bits e.key 256) h)
-
--- no leaf, one in front, and one alone
-pub with_leaves-none : (k : ℕ) (m : SparseMap) → with_leaves k m [] ≡ m
-unfolding with_leaves
-with_leaves-none k m = refl
-
-pub put_in_front : (k : ℕ) (s : Lone) (es : List Lone) → with_leaves k empty (s ∷ es) ≡ with_leaves k (insert empty (last_bits s.key k) s.value) es
-unfolding with_leaves
-put_in_front k s es = refl
-
-pub one_leaf_put : (m : SparseMap) (es : List Lone) (e : Lone) (key v : List ℕ) → es ≡ e ∷ [] → e.key ≡ key → e.value ≡ v → with_leaves 256 m es ≡ insert m (last_bits key 256) v
-unfolding with_leaves
-one_leaf_put m es e key v is k x = rw (is, ← k, ← x)

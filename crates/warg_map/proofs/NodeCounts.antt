@@ -1,5 +1,5 @@
 -- The number of nodes.
-use Rattle.std.proofs.Common.{◌≡◌, ℕ, zero, suc, length, ◌+◌, ◌<◌, Bool, true, false, cond, not, List, [], ◌∷◌, Some, is_some, refl, sym, ap, ◌∙◌, subst, arith, add-one, ◌⊎◌, inl, inr}
+use Rattle.std.proofs.Common.{◌≡◌, ℕ, zero, suc, length, ◌+◌, ◌<◌, Bool, true, false, cond, not, List, [], ◌∷◌, Some, is_some, refl, sym, ap, ◌∙◌, arith, add-one, ◌⊎◌, inl, inr}
 use Rattle.std.proofs.lemmas.Bool.Decides.{nat_tests}
 use Rattle.std.specs.FinMap.{from_entries, entries, find, get, insert, empty, len, contains_key, get-entries, get-from_entries, len-insert, len-empty, len-remove, get-remove, remove, empty_of_len}
 use Rattle.std.specs.Ordering.{eq_by_cmp}
@@ -8,14 +8,14 @@ use Rattle.warg_map.specs.declared.node.Node.{Node}
 use Rattle.warg_map.specs.declared.node.Node.TheVariants.{Fork, Stem}
 use Rattle.warg_map.specs.declared.node.Fork.{Fork as Fork'}
 use Rattle.warg_map.specs.declared.node.Stem.{Stem as Stem'}
-use Rattle.warg_map.specs.Bits.{bits_from, last_bits}
+use Rattle.warg_map.specs.Bits.{bits_from}
 use Rattle.warg_map.specs.Sparse.{SparseMap, bits_cmp}
 use Rattle.warg_map.specs.Private.Under.{join, join_at, under, HoldsKey, Splits}
 use Rattle.warg_map.specs.Private.Seen.{seen, tree_height, held_by, IsWellFormed, IsBelow, counted}
 use Rattle.warg_map.specs.Count.{stripped, half_after, nodes}
-use Rattle.warg_map.proofs.TreeForm.{stem_holds}
-use Rattle.warg_map.proofs.BitsInFront.{get-under_head, no_some}
-use Rattle.warg_map.proofs.SparseTree.{bits_total, same_sparse, get-join_at, get-join_far, insert-join_at, empty-is_join_at, contains_key-empty, length-bits_from}
+use Rattle.warg_map.proofs.TreeForm.{stem_holds, stem_no_split}
+use Rattle.warg_map.proofs.SparseTree.{bits_total, same_sparse, get-join_at, get-join_far, insert-join_at, empty-is_join_at, contains_key-empty}
+use Rattle.warg_map.proofs.KeyBits.{length-bits_from}
 
 -- what a map holds after a bit
 find-stripped : (b : Bool) (q : List Bool) (es : List (List Bool × List ℕ)) → find bits_cmp q (stripped b es) ≡ find bits_cmp (b ∷ q) es
@@ -168,11 +168,6 @@ stem_splits n k m (inl s) more = s
 stem_splits n k m (inr o) (inl low) = absurd (omega (arith, low, o.0, o.1))
 stem_splits n k m (inr o) (inr more) = absurd (let one = ap len o.2.2 ∙ len-lone o.2.0 o.2.1 in omega (arith, more, one))
 
-stem_runs : (bs : List Bool) (m : SparseMap) → 0 < length bs → ¬ Splits (under bs m)
-stem_runs [] m h s = omega (arith, h)
-stem_runs (true ∷ bs) m h s = no_some _ (get-under_head false true bs s.0.0 m (λ e. cc)) s.0.1
-stem_runs (false ∷ bs) m h s = no_some _ (get-under_head true false bs s.1.0 m (λ e. cc)) s.1.1
-
 pub stem_count : {D A : _} (old : Node D A) (s : Rc (Stem' D A) A) (b : ℕ × SparseMap) → old ≡ Stem s → IsWellFormed old → b ≡ s.value.below → IsStemCount (seen old) b
 stem_count old s b is w be =
     let ws : IsWellFormed (Stem s) = rw is at w in
@@ -182,13 +177,8 @@ stem_count old s b is w be =
     rw (is, be) (record {
       exact = stem_exact s.value.len s.value.below.0 a s.value.below.1 ws.formed.1 la ws.formed.0;
       size_is = size;
-      some = some_held s.value.below.1 (stem_holds s.value.len s.value.below.0 s.value.below.1 ws.formed.1);
+      some = some_held s.value.below.1 (stem_holds s.value.len s.value.below ws.formed.1);
       low = omega (arith, ws.level, ws.formed.0);
       splits = λ more. stem_splits s.value.len s.value.below.0 s.value.below.1 ws.formed.1 (rw size at more);
-      runs = stem_runs a s.value.below.1 (omega (arith, la, ws.formed.0));
+      runs = stem_no_split a s.value.below.1 (omega (arith, la, ws.formed.0));
     })
-
--- a stem that may stand below other bits holds the key
-pub has_lower : {D A : _} (node : Node D A) (lower : Rc (Stem' D A) A) (link : ℕ × SparseMap) (key : List ℕ) → node ≡ Stem lower → IsWellFormed node → seen node ≡ link → Splits link.1 ⊎ ((link.0 ≡ 255) × (contains_key link.1 (last_bits key 255) ≡ true)) → contains_key link.1 (last_bits key link.0) ≡ true
-has_lower node lower link key is w e (inl s) = absurd ((stem_count node lower _ is w refl).runs (subst (λ (d : ℕ × SparseMap). Splits d.1) (sym e) s))
-has_lower node lower link key is w e (inr o) = rw o.0 o.1

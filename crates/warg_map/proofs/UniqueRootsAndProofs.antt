@@ -1,29 +1,21 @@
 -- A map has one root, and one proof of each key.
-use Rattle.std.proofs.Common.{◌≡◌, ℕ, zero, suc, Bool, true, false, not, List, [], ◌∷◌, ◌++◌, length, Option, unwrap_or, refl, sym, ap, ◌∙◌, arith, inl, inr}
+use Rattle.std.proofs.Common.{◌≡◌, ℕ, zero, suc, Bool, true, false, not, List, [], ◌∷◌, length, Option, unwrap_or, refl, sym, ap, ◌∙◌, arith, inl, inr}
 use Rattle.std.proofs.lemmas.List.{length-reverse, reverse-reverse}
 use Rattle.std.specs.Prelude.{reverse}
 use Rattle.std.specs.FinMap.{get}
 use Rattle.warg_crypto.specs.EmptyTrees.{empty_root}
-use Rattle.warg_map.specs.Sparse.{SparseMap, root_of_levels, sparse_root, leaf_at}
-use Rattle.warg_map.specs.Peers.{IsPeer, IsPeers, IsPeerCount, Proves, ProvesAbsent}
+use Rattle.warg_map.specs.Sparse.{SparseMap, root_of_levels}
+use Rattle.warg_map.specs.Peers.{IsPeer, IsPeers, IsPeerCount}
 use Rattle.warg_map.proofs.BitsInFront.{no_some}
 
 -- the leaf digests decide the root
-root-leaves : (H : List ℕ → List ℕ) (k : ℕ) (m n : List Bool → Option (List ℕ)) → ((bits : List Bool) → length bits ≡ k → unwrap_or (m bits) (empty_root H 0) ≡ unwrap_or (n bits) (empty_root H 0)) → root_of_levels H k m ≡ root_of_levels H k n
+pub root-leaves : (H : List ℕ → List ℕ) (k : ℕ) (m n : List Bool → Option (List ℕ)) → ((bits : List Bool) → length bits ≡ k → unwrap_or (m bits) (empty_root H 0) ≡ unwrap_or (n bits) (empty_root H 0)) → root_of_levels H k m ≡ root_of_levels H k n
 unfolding root_of_levels
 root-leaves H zero m n h = h [] refl
 root-leaves H (suc k) m n h =
-    ap (λ l. H (1 ∷ (l ++ root_of_levels H k (λ bits. m (true ∷ bits))))) (root-leaves H k (λ bits. m (false ∷ bits)) (λ bits. n (false ∷ bits)) (λ bits e. h (false ∷ bits) (ap suc e)))
-    ∙ ap (λ r. H (1 ∷ (root_of_levels H k (λ bits. n (false ∷ bits)) ++ r))) (root-leaves H k (λ bits. m (true ∷ bits)) (λ bits. n (true ∷ bits)) (λ bits e. h (true ∷ bits) (ap suc e)))
-
-pub same_root : (H : List ℕ → List ℕ) (m n : SparseMap) → ((bits : List Bool) → length bits ≡ 256 → leaf_at H m bits ≡ leaf_at H n bits) → sparse_root H 256 m ≡ sparse_root H 256 n
-same_root H m n h = root-leaves H 256 (get m) (get n) h
-
-turned : (ps qs : List (Option (List ℕ))) → reverse ps ≡ reverse qs → ps ≡ qs
-turned ps qs e = sym (reverse-reverse ps) ∙ ap reverse e ∙ reverse-reverse qs
-
-turned_lengths : (ps qs : List (Option (List ℕ))) → length ps ≡ length qs → length (reverse ps) ≡ length (reverse qs)
-turned_lengths ps qs e = length-reverse ps ∙ e ∙ sym (length-reverse qs)
+    let left = root-leaves H k (λ q. m (false ∷ q)) (λ q. n (false ∷ q)) (λ q e. h (false ∷ q) (ap suc e)) in
+    let right = root-leaves H k (λ q. m (true ∷ q)) (λ q. n (true ∷ q)) (λ q e. h (true ∷ q) (ap suc e)) in
+    rw (left, right)
 
 -- proofs
 same_count : (lone : ℕ) (m : SparseMap) (bits : List Bool) (n k : ℕ) → IsPeerCount lone m bits n → IsPeerCount lone m bits k → n ≡ k
@@ -51,12 +43,7 @@ same_peers H half [] m (p ∷ ps) (q ∷ qs) n g h = absurd g
 same_peers H half (b ∷ bits) m (p ∷ ps) (q ∷ qs) n g h =
     ap (λ x. x ∷ ps) (same_peer H (half (length bits)) (length bits) (λ r. m (not b ∷ r)) p q g.0 h.0) ∙ ap (λ t. q ∷ t) (same_peers H half bits (λ r. m (b ∷ r)) ps qs (omega (arith, n)) g.1 h.1)
 
-one_list : (H : List ℕ → List ℕ) (half : ℕ → Option (List ℕ)) (lone : ℕ) (m : SparseMap) (bits : List Bool) (ps qs : List (Option (List ℕ))) → IsPeers H half (get m) bits (reverse ps) → IsPeers H half (get m) bits (reverse qs) → IsPeerCount lone m bits (length ps) → IsPeerCount lone m bits (length qs) → ps ≡ qs
-one_list H half lone m bits ps qs g h i j =
-    turned ps qs (same_peers H half bits (get m) (reverse ps) (reverse qs) (turned_lengths ps qs (same_count lone m bits (length ps) (length qs) i j)) g h)
-
-pub same_proof : (H : List ℕ → List ℕ) (height : ℕ) (m : SparseMap) (bits : List Bool) (ps qs : List (Option (List ℕ))) → Proves H height m bits ps → Proves H height m bits qs → ps ≡ qs
-same_proof H height m bits ps qs g h = one_list H _ _ m bits ps qs g.peers_from_top h.peers_from_top g.count h.count
-
-pub same_absence : (H : List ℕ → List ℕ) (m : SparseMap) (bits : List Bool) (ps qs : List (Option (List ℕ))) → ProvesAbsent H m bits ps → ProvesAbsent H m bits qs → ps ≡ qs
-same_absence H m bits ps qs g h = one_list H _ _ m bits ps qs g.peers_from_top h.peers_from_top g.count h.count
+pub same_proof : (H : List ℕ → List ℕ) (half : ℕ → Option (List ℕ)) (lone : ℕ) (m : SparseMap) (bits : List Bool) (ps qs : List (Option (List ℕ))) → IsPeers H half (get m) bits (reverse ps) → IsPeers H half (get m) bits (reverse qs) → IsPeerCount lone m bits (length ps) → IsPeerCount lone m bits (length qs) → ps ≡ qs
+same_proof H half lone m bits ps qs g h i j =
+    let same = same_peers H half bits (get m) (reverse ps) (reverse qs) (length-reverse ps ∙ same_count lone m bits (length ps) (length qs) i j ∙ sym (length-reverse qs)) g h in
+    sym (reverse-reverse ps) ∙ ap reverse same ∙ reverse-reverse qs

@@ -51,13 +51,6 @@ pub record IsWellFormed {D A : _} (n : Node D A) : Type 0 where
   pub level : IsLevel n
   pub formed : IsFormed n
 
--- What may stand below a stem's bits.
-abbrev pub Carries : {D A : _} → Node D A → Type 0
-Carries (Fork f) = Unit {0}
-Carries (Singleton s) = s.value.height ≡ 255
-Carries (Stem s) = Unit {0}
-Carries Empty = ⊥
-
 -- A node that may stand in a map's tree, with this height and this map.
 pub record IsSeen {D A : _} (n : Node D A) (height : ℕ) (held : SparseMap) : Type 0 where
   pub seen_as : seen n ≡ (height, held)

@@ -1,11 +1,10 @@
-use Rattle.std.proofs.Common.{◌≡◌, ◌+◌, ◌-◌, ◌<◌, length, arith, rules, ap, sym, ◌∙◌, inl, inr}
+use Rattle.std.proofs.Common.{◌≡◌, ◌+◌, ◌-◌, ◌<◌, length, arith, rules, refl, sym, ◌∙◌, inl, inr}
 use Rattle.std.specs.FinMap.{empty, insert}
 use Rattle.warg_crypto.specs.Sides.{side_bit}
 use Rattle.warg_map.specs.Bits.{bits_from, last_bits}
 use Rattle.warg_map.specs.Private.Grown.{with_leaves}
-use Rattle.warg_map.specs.Private.Lone.{Lone, held_alone}
-use Rattle.warg_map.proofs.TreeForm.{lone_seen, lone_has, lone_with_stem}
-use Rattle.warg_map.proofs.SparseTree.{empty-is_join_at}
+use Rattle.warg_map.proofs.TreeForm.{lone_with_stem}
+use Rattle.warg_map.proofs.SparseTree.{empty-is_join_at, contains_key-insert_same}
 use Rattle.warg_map.proofs.NodeCounts.{len-lone, len-under}
 use Rattle.warg_map.proofs.ManyLeaves.{split_at_last, one_key, some_near, few_grown}
 use Rattle.warg_map.proofs.LeavesBelowNodes.{IsPutBeside, put_beside, put_below_bits}
@@ -37,12 +36,13 @@ fork_holds g t c = rw (empty-is_join_at (side_bit c.side_at-side.result)) (c.in_
 -- one key alone
 alone : (g : _) (t : _) (c : After-new-link g t) → let k = 256 - c.args.depth - c.saturating_sub-len.result in let leaf = c.index-last.result.now in
     c.new-link.result ≡ (k, insert empty (last_bits leaf.key k) leaf.value)
-alone g t c = c.new-link.ensures ∙ ap (λ (s : Lone). (s.height, held_alone s)) c.in_ok-lone.ensures.ok ∙ lone_seen c.with_height.result _ _ _ c.with_height.ensures.height c.with_height.ensures.key c.with_height.ensures.value
+alone g t c = rw (c.new-link.ensures, c.in_ok-lone.ensures.ok, c.with_height.ensures.height, c.with_height.ensures.key, c.with_height.ensures.value)
 
 pub with_stem-requires-clause-below : goal.with_stem-requires-clause-below
 with_stem-requires-clause-below g t c = λ more.
     let few : c.saturating_sub-len.result ≡ 1 - c.args.depth = c.saturating_sub-len.ensures in
-    inr (rw c.key-then-shared-depth.ensures (lone_has _ _ _ _ (alone g t (goal.at.with_stem-requires-clause-below g t c).After-new-link) (omega (arith, few, more))))
+    let k : 256 - c.args.depth - c.saturating_sub-len.result ≡ 255 = omega (arith, few, more) in
+    rw (c.key-then-shared-depth.ensures, alone g t (goal.at.with_stem-requires-clause-below g t c).After-new-link, k) (inr (refl, contains_key-insert_same empty (last_bits c.index-last.result.now.key 255) _))
 
 lone : (g : _) (t : _) (c : In_ok-with_stem g t) → let leaf = c.index-last.result.now in c.in_ok-with_stem.field-0 ≡ (256 - c.args.depth, insert empty (last_bits leaf.key (256 - c.args.depth)) leaf.value)
 lone g t c =

@@ -1,4 +1,4 @@
-use Rattle.std.proofs.Common.{◌≡◌, ℕ, ◌+◌, ◌-◌, ◌<◌, ◌≤◌, length, List, arith, rules, refl, sym, ap, ◌∙◌, inl, inr, false}
+use Rattle.std.proofs.Common.{◌≡◌, ℕ, ◌+◌, ◌-◌, ◌<◌, ◌≤◌, ◌∷◌, [], length, List, arith, rules, refl, sym, ap, ◌∙◌, inl, inr, false}
 use Rattle.std.specs.FinMap.{len, empty, len-empty}
 use Rattle.std.proofs.lemmas.List.{nil_from_length}
 use Rattle.std.proofs.lemmas.Result.{IfOk-weaker}
@@ -8,19 +8,22 @@ use Rattle.warg_map.specs.Sparse.{bits_cmp}
 use Rattle.warg_map.specs.Private.Under.{join_at, under, HoldsKey}
 use Rattle.warg_map.specs.Private.Grown.{with_leaves, ShareBits}
 use Rattle.warg_map.specs.Private.Seen.{held_by}
-use Rattle.warg_map.proofs.TreeForm.{is_fork, is_lone, is_stem}
+use Rattle.warg_map.specs.declared.node.Node.TheVariants.{Fork, Singleton, Stem}
+use Rattle.warg_map.proofs.TreeForm.{of_content}
 use Rattle.warg_map.proofs.NodeCounts.{len-join_at, len-under}
-use Rattle.warg_map.proofs.FoundInNode.{run_of_link}
 use Rattle.warg_map.proofs.BitsInFront.{holds-under}
-use Rattle.warg_map.proofs.ManyLeaves.{split_at_last, with_leaves-none, few_new, few_grown, share-last, has_last, len-with_leaves}
-use Rattle.warg_map.proofs.LeavesBelowNodes.{IsPutBeside, put_beside, in_fork, put_beside_lone, put_below_stem, below_stands, put_at_end, rest_run, cut_at}
+use Rattle.warg_map.proofs.KeyBits.{bits_from-first}
+use Rattle.warg_protobuf.proofs.ForCallers.{all_parts}
+use Rattle.warg_map.proofs.ManyLeaves.{split_at_last, few_new, few_grown, has_last, len-with_leaves}
+use Rattle.warg_map.proofs.LeavesBelowNodes.{IsPutBeside, put_beside, in_fork, put_beside_lone, put_below_stem, below_stands, put_at_end, rest_run}
 use Rattle.warg_map.proofs.grown.+spread.Goals as goal
 use Rattle.warg_map.proofs.grown.+spread.Goals.{spread-After-with_height, spread-In_ok-right-in-Fork, spread-In_ok-link-in-Singleton, spread_stem-After-shared_by_all-shared, spread_stem-In_ok-far, spread_stem-In_ok-fork}
 
 pub spread-returns-then-is_empty-clause-seen : goal.spread-returns-then-is_empty-clause-seen
+unfolding with_leaves
 spread-returns-then-is_empty-clause-seen g t c =
     let none = nil_from_length c.args.leaves.items (search rules) in
-    rw (c.in_ok-clone.ensures.cases, none, with_leaves-none)
+    rw (c.in_ok-clone.ensures.cases, none)
 
 -- a lone key and the leaves before it
 same_lone : (g : _) (t : _) (c : spread-After-with_height g t) → c.with_height.result ≡ c.as_ref.result.now
@@ -30,7 +33,7 @@ same_lone g t c =
     λ i. record { key = c.with_height.ensures.key i; value = c.with_height.ensures.value i; height = (c.with_height.ensures.height ∙ height) i }
 
 lone : (g : _) (t : _) (c : spread-In_ok-link-in-Singleton g t) → (c.in_ok-link-in-Singleton.link ≡ (c.args.link.now.0, with_leaves c.args.link.now.0 c.args.link.now.1 c.args.leaves.items)) × (len c.args.link.now.1 ≡ 1)
-lone g t c = put_beside_lone c.node.result.now _ c.args.link.now c.in_ok-link-in-Singleton.link c.args.depth c.args.leaves.items c.insert.new.self.items c.node.ensures.seen (is_lone c.in-Singleton.is (same_lone g t (goal.at.spread-In_ok-link-in-Singleton g t c).After-with_height ∙ c.as_ref.ensures)) c.requires c.in_ok-insert-in-Singleton.ensures.items c.in_ok-link-in-Singleton.ensures.seen
+lone g t c = put_beside_lone c.node.result.now _ c.args.link.now c.in_ok-link-in-Singleton.link c.args.depth c.args.leaves.items c.insert.new.self.items c.node.ensures.seen (of_content Singleton c.in-Singleton.is (same_lone g t (goal.at.spread-In_ok-link-in-Singleton g t c).After-with_height ∙ c.as_ref.ensures)) c.requires c.in_ok-insert-in-Singleton.ensures.items c.in_ok-link-in-Singleton.ensures.seen
 
 some_key : (g : _) (t : _) (c : spread-In_ok-link-in-Singleton g t) → 1 ≤ c.in_ok-link-in-Singleton.count
 some_key g t c =
@@ -51,18 +54,15 @@ spread-returns-in_ok-link-in-Singleton-clause-count g t c = omega (arith, (lone 
 -- the sides of a fork
 at_fork : (g : _) (t : _) (c : spread-In_ok-right-in-Fork g t) → let f = c.as_ref-fork.result.now in
     (c.args.link.now ≡ (256 - c.args.depth, join_at false f.left.1 f.right.1)) × (f.left.0 + (c.args.depth + 1) ≡ 256) × (f.right.0 + (c.args.depth + 1) ≡ 256) × HoldsKey f.left.1 × HoldsKey f.right.1
-at_fork g t c = in_fork c.node.result.now _ c.args.link.now c.args.depth c.node.ensures.seen (is_fork c.in-Fork.is c.as_ref-fork.ensures) c.node.ensures.well_formed c.requires
+at_fork g t c = in_fork c.node.result.now _ c.args.link.now c.args.depth c.node.ensures.seen (of_content Fork c.in-Fork.is c.as_ref-fork.ensures) c.node.ensures.well_formed c.requires
 
 put : (g : _) (t : _) (c : spread-In_ok-right-in-Fork g t) → IsPutBeside false c.args.depth c.as_ref-fork.result.now.left c.as_ref-fork.result.now.right c.in_ok-left-in-Fork.left c.in_ok-right-in-Fork.right c.args.leaves.items
 put g t c =
     let i = at_fork g t c in
     put_beside false c.args.depth _ _ _ _ c.args.leaves.items _ _ i.1 i.2 c.in_ok-left-in-Fork.ensures.seen c.in_ok-right-in-Fork.ensures.seen c.in_ok-near-in-Fork.ensures.0 c.in_ok-near-in-Fork.ensures.1 (inl i.3) (inl i.4)
 
-pub spread-beside-requires-clause-heights : goal.spread-beside-requires-clause-heights
-spread-beside-requires-clause-heights g t c = (put g t (goal.at.spread-beside-requires-clause-heights g t c).In_ok-right-in-Fork).heights
-
-pub spread-beside-requires-clause-hold : goal.spread-beside-requires-clause-hold
-spread-beside-requires-clause-hold g t c = (put g t (goal.at.spread-beside-requires-clause-hold g t c).In_ok-right-in-Fork).hold
+pub spread-beside-requires : goal.spread-beside-requires
+spread-beside-requires g t c = let p = put g t (goal.at.spread-beside-requires g t c).In_ok-right-in-Fork in record { heights = p.heights; hold = p.hold }
 
 pub spread-overflow_add-result : goal.spread-overflow_add-result
 spread-overflow_add-result g t c =
@@ -88,15 +88,15 @@ spread-returns-in-Empty-clause-count g t c =
 
 pub spread-returns-in-Stem-clause-count : goal.spread-returns-in-Stem-clause-count
 spread-returns-in-Stem-clause-count g t c =
-    let run = run_of_link c.node.result.now _ c.args.link.now c.args.depth c.node.ensures.seen (is_stem c.in-Stem.is c.as_ref-in-Stem.ensures) c.node.ensures.well_formed c.requires in
-    IfOk-weaker c.spread_stem.result _ _ (λ p e. rw (run.1.held_is, len-under (bits_from _ c.args.depth _) _) e) c.spread_stem.ensures.count
+    IfOk-weaker c.spread_stem.result _ _ (λ p e. rw (← c.node.ensures.seen, of_content Stem c.in-Stem.is c.as_ref-in-Stem.ensures, len-under) e) c.spread_stem.ensures.count
 
 -- a stem, from a bit on
 pub spread_stem-returns-then-is_empty-clause-seen : goal.spread_stem-returns-then-is_empty-clause-seen
+unfolding with_leaves
 spread_stem-returns-then-is_empty-clause-seen g t c =
     let none = nil_from_length c.args.leaves.items (search rules) in
     let high : c.args.stem.now.below.0 + (c.args.stem.now.from + c.args.stem.now.len - c.args.from) ≡ 256 - c.args.from = omega (arith, c.requires.level, c.requires.place.0, c.requires.place.1) in
-    rw (c.in_ok-with_stem.ensures, c.in_ok-below.ensures.cases, none, with_leaves-none, high) refl
+    rw (c.in_ok-with_stem.ensures, c.in_ok-below.ensures.cases, none, high) refl
 
 pub spread_stem-returns-then-is_empty-clause-count : goal.spread_stem-returns-then-is_empty-clause-count
 spread_stem-returns-then-is_empty-clause-count g t c =
@@ -115,7 +115,7 @@ shares g t c =
     let n = c.shared_by_all-shared.result in
     let last = split_at_last c.args.leaves.items c.len.result c.index.result.now (c.len.ensures ∙ c.args.leaves.ok.0) (search rules) c.index.ensures in
     let share = rw c.deref.ensures.value at c.shared_by_all-shared.ensures.same in
-    (share, ap (λ x. bits_from x c.args.from n) (c.copied-key.ensures ∙ c.key.ensures) ∙ share-last _ c.args.from n _ _ (rw last at share))
+    (share, ap (λ x. bits_from x c.args.from n) (c.copied-key.ensures ∙ c.key.ensures) ∙ (all_parts _ _ (c.index.result.now ∷ []) (rw last at share)).1.0)
 
 pub spread_stem-returns-then-shared-len-clause-seen : goal.spread_stem-returns-then-shared-len-clause-seen
 spread_stem-returns-then-shared-len-clause-seen g t c =
@@ -150,13 +150,14 @@ put_below g t c =
 
 fork_holds : (g : _) (t : _) (c : spread_stem-In_ok-fork g t) → let s = c.args.stem.now in let at = c.args.from + c.shared_by_all-shared.result in
     c.in_ok-fork.fork ≡ (256 - at, with_leaves (256 - at) (under (bits_from s.key at (s.from + s.len - c.args.from - c.shared_by_all-shared.result)) s.below.1) c.args.leaves.items)
+unfolding under
 fork_holds g t c =
     let s = c.args.stem.now in
     let at = c.args.from + c.shared_by_all-shared.result in
     let now = (goal.at.spread_stem-In_ok-fork g t c).In_ok-far in
     let lt = place g t now in
     let n : c.args.stem.now.from + c.args.stem.now.len - c.args.from - c.shared_by_all-shared.result ≡ c.args.stem.now.from + c.args.stem.now.len - (c.args.from + c.shared_by_all-shared.result + 1) + 1 = omega (arith, lt) in
-    rw (n, cut_at s.key at (s.from + s.len - (at + 1)) s.below.1, ← c.side_at-side.ensures) (c.in_ok-fork.ensures ∙ (put_below g t now).is)
+    rw (n, bits_from-first s.key at (s.from + s.len - (at + 1)), ← c.side_at-side.ensures) (c.in_ok-fork.ensures ∙ (put_below g t now).is)
 
 pub spread_stem-beside-requires-clause-hold : goal.spread_stem-beside-requires-clause-hold
 spread_stem-beside-requires-clause-hold g t c = (put_below g t (goal.at.spread_stem-beside-requires-clause-hold g t c).In_ok-far).hold

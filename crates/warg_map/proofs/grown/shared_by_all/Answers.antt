@@ -2,7 +2,8 @@ use Rattle.std.proofs.Common.{sym, ap, ◌∙◌, arith}
 use Rattle.std.proofs.lemmas.List.{take_more}
 use Rattle.warg_protobuf.proofs.ForCallers.{all_push, all_weaken}
 use Rattle.warg_map.specs.Bits.{bits_from}
-use Rattle.warg_map.proofs.ManyLeaves.{bits_from-fewer, apart_step}
+use Rattle.warg_map.proofs.ManyLeaves.{apart_step}
+use Rattle.warg_map.proofs.KeyBits.{bits_from-fewer}
 use Rattle.warg_map.proofs.grown.shared_by_all.Goals as goal
 
 pub loop-leaf-init : goal.loop-leaf-init

@@ -1,4 +1,4 @@
-use Rattle.warg_map.proofs.InsertedPairs.{inserted-order}
+use Rattle.warg_map.proofs.LastInserted.{inserted-order}
 use Rattle.warg_map.proofs.laws.any_order.Goals as goal
 
 pub returns : goal.returns

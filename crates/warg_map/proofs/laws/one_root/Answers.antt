@@ -1,5 +1,6 @@
-use Rattle.warg_map.proofs.UniqueRootsAndProofs.{same_root}
+use Rattle.std.specs.FinMap.{get}
+use Rattle.warg_map.proofs.UniqueRootsAndProofs.{root-leaves}
 use Rattle.warg_map.proofs.laws.one_root.Goals as goal
 
 pub returns : goal.returns
-returns c = same_root
+returns c = λ H m n h. root-leaves H 256 (get m) (get n) h

@@ -1,5 +1,6 @@
-use Rattle.warg_map.proofs.HonestProofs.{empty_replaced, empty_held}
+use Rattle.std.specs.FinMap.{get}
+use Rattle.warg_map.proofs.HonestProofs.{honest_empty, honest_root, honest_replaced}
 use Rattle.warg_map.proofs.laws.own_absence.Goals as goal
 
 pub returns : goal.returns
-returns c = λ H m bits peers x n p. (empty_held H bits m peers n p, empty_replaced H bits m peers x n p)
+returns c = λ H m bits peers x n p. let h = honest_empty H m bits peers (get m bits) p in (honest_root H m bits peers _ n h, honest_replaced H m bits peers x n h)

@@ -1,14 +1,15 @@
-use Rattle.std.proofs.Common.{◌≡◌, ◌+◌, ◌-◌, ◌∷◌, ◌++◌, [], Some, sym, ap, ◌∙◌, arith}
+use Rattle.std.proofs.Common.{suc, refl, ◌≡◌, ◌+◌, ◌-◌, Some, sym, ap, ◌∙◌, arith}
 use Rattle.std.proofs.lemmas.Option.{cond_some}
-use Rattle.warg_map.specs.Private.Walk.{empty_half}
-use Rattle.warg_map.proofs.CollectedPeers.{halves-none, halves-more, no_half}
+use Rattle.warg_map.specs.Private.Walk.{empty_halves}
+use Rattle.std.proofs.lemmas.List.{append-nil, append_assoc}
 use Rattle.warg_map.proofs.walk.push_empty_halves.Goals as goal
 use Rattle.warg_map.proofs.walk.push_empty_halves.Goals.{then-held, else-held, in-Some, in-None}
 
 pub loop-height-init : goal.loop-height-init
+unfolding empty_halves
 loop-height-init g c =
     let z : c.args.from - c.args.from ≡ 0 = omega arith in record {
-      peers = rw z (sym (halves-none (empty_half g.D.SupportedDigest.digest c.args.held) c.args.from c.args.peers.now.items));
+      peers = rw (z, append-nil) refl;
       half = elim c.if-held.branch [ then-held w ↦ w.half-is ∙ rw w.if-held.true (ap Some w.empty_tree.ensures) | else-held w ↦ rw w.if-held.false w.half-is ];
     }
 
@@ -16,15 +17,14 @@ pub empty_above-requires-clause-empty : goal.empty_above-requires-clause-empty
 empty_above-requires-clause-empty g c = sym (cond_some c.args.held _ _ (sym c.loop-height.invariant.half ∙ c.in-Some.is)).1
 
 pub loop-height-preserved : goal.loop-height-preserved
+unfolding empty_halves
 loop-height-preserved g c =
     let H = g.D.SupportedDigest.digest in
-    let half = empty_half H c.args.held in
     let at : c.args.from + (c.loop-height.height - c.args.from) ≡ c.loop-height.height = omega arith in
-    let next : c.loop-height.height + 1 - c.args.from ≡ c.loop-height.height - c.args.from + 1 = omega arith in record {
-      peers = rw next (c.in_ok-push.ensures.items ∙ ap (λ x. c.loop-height.peers.items ++ x ∷ []) (c.replace.ensures.value ∙ c.loop-height.invariant.half ∙ ap half (sym at))
-          ∙ ap (λ t. t ++ half (c.args.from + (c.loop-height.height - c.args.from)) ∷ []) c.loop-height.invariant.peers ∙ halves-more half c.args.from (c.loop-height.height - c.args.from) c.args.peers.now.items);
+    let next : c.loop-height.height + 1 - c.args.from ≡ suc (c.loop-height.height - c.args.from) = omega arith in record {
+      peers = rw (next, at, ← append_assoc, c.in_ok-push.ensures.items, c.replace.ensures.value, c.loop-height.invariant.half, c.loop-height.invariant.peers) refl;
       half = c.replace.ensures.after ∙ elim c.match-half.branch [
         | in-Some w ↦ (let yes = cond_some c.args.held _ _ (sym c.loop-height.invariant.half ∙ w.in-Some.is) in w.above-is ∙ rw yes.0 (ap Some w.empty_above.ensures))
-        | in-None w ↦ w.above-is ∙ no_half c.args.held _ _ (sym c.loop-height.invariant.half ∙ w.in-None.is)
+        | in-None w ↦ grind (arith, w.above-is, c.loop-height.invariant.half, w.in-None.is)
       ];
     }

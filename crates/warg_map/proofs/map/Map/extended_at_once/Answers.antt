@@ -1,26 +1,20 @@
-use Rattle.std.proofs.Common.{ap, sym, ◌∙◌, subst, rules}
+use Rattle.std.proofs.Common.{ap, ◌∙◌, subst, rules}
 use Rattle.std.specs.Iterator.{Yields}
 use Rattle.std.proofs.lemmas.Result.{IfOk-weaker}
-use Rattle.std.specs.FinMap.{insert}
-use Rattle.warg_map.specs.Bits.{last_bits}
-use Rattle.warg_crypto.specs.Tree.{leaf_digest}
+use Rattle.warg_map.specs.Sparse.{inserted}
 use Rattle.warg_map.specs.Private.Grown.{with_leaves}
-use Rattle.warg_map.proofs.InsertedPairs.{inserted-none, inserted-pair}
-use Rattle.warg_map.proofs.ManyLeaves.{with_leaves-none, with_leaves-push, len-with_leaves}
+use Rattle.warg_map.proofs.InsertedPairs.{inserted-pair}
+use Rattle.warg_map.proofs.ManyLeaves.{with_leaves-push, len-with_leaves}
 use Rattle.warg_map.proofs.map.Map.extended_at_once.Goals as goal
 
 pub loop-key-init : goal.loop-key-init
-loop-key-init g c = λ m. ap (with_leaves 256 m) c.new-leaves.ensures.items ∙ with_leaves-none 256 m ∙ sym (inserted-none g.D.SupportedDigest.digest m)
+unfolding with_leaves inserted
+loop-key-init g c = λ m. ap (with_leaves 256 m) c.new-leaves.ensures.items
 
 pub loop-key-preserved : goal.loop-key-preserved
 loop-key-preserved g c = λ m.
-    let e = c.leaf.result in
-    let old = c.loop-key.leaves.items in
-    ap (with_leaves 256 m) c.in_ok-push.ensures.items ∙ with_leaves-push 256 m old e
-    ∙ ap (λ k. insert (with_leaves 256 m old) (last_bits k 256) e.value) (c.leaf.ensures.key ∙ c.of.ensures)
-    ∙ ap (λ v. insert (with_leaves 256 m old) (last_bits (g.D.SupportedDigest.digest (g.K.VisitBytes.bytes c.in-Some.key)) 256) v) (c.leaf.ensures.value ∙ c.hash_leaf.ensures)
-    ∙ ap (λ x. insert x (last_bits (g.D.SupportedDigest.digest (g.K.VisitBytes.bytes c.in-Some.key)) 256) (leaf_digest g.D.SupportedDigest.digest (g.V.VisitBytes.bytes c.in-Some.value))) (c.loop-key.invariant m)
-    ∙ sym (inserted-pair g.D.SupportedDigest.digest g.K.VisitBytes.bytes g.V.VisitBytes.bytes m c.loop-key.yielded (c.in-Some.key, c.in-Some.value))
+    let more = inserted-pair g.D.SupportedDigest.digest g.K.VisitBytes.bytes g.V.VisitBytes.bytes m c.loop-key.yielded (c.in-Some.key, c.in-Some.value) in
+    rw (more, ← c.loop-key.invariant m, c.in_ok-push.ensures.items, with_leaves-push 256 m c.loop-key.leaves.items c.leaf.result, c.leaf.ensures.key ∙ c.of.ensures, c.leaf.ensures.value ∙ c.hash_leaf.ensures)
 
 pub with_leaves-requires : goal.with_leaves-requires
 with_leaves-requires g c =

@@ -3,9 +3,9 @@ use Rattle.std.specs.FinMap.{get}
 use Rattle.warg_map.specs.declared.walk.Asked.TheVariants.{Presence}
 use Rattle.warg_map.specs.Bits.{last_bits}
 use Rattle.warg_map.specs.Private.Walk.{answer_of}
-use Rattle.warg_map.proofs.SparseTree.{length-last_bits}
-use Rattle.warg_map.proofs.HonestProofs.{get-insert_same}
+use Rattle.warg_map.proofs.SparseTree.{get-insert_same}
 use Rattle.warg_map.proofs.InsertionSteps.{root_before, root_after, grows}
+use Rattle.warg_map.proofs.KeyBits.{length-last_bits}
 use Rattle.warg_map.proofs.map.Map.insert_with_proof.Goals as goal
 
 pub returns-clause-ok : goal.returns-clause-ok

@@ -3,7 +3,8 @@ use Rattle.std.proofs.lemmas.Result.{on_ok_weaker}
 use Rattle.std.specs.FinMap.{get, get-empty}
 use Rattle.warg_map.specs.Bits.{last_bits}
 use Rattle.warg_map.specs.Private.Seen.{held_by}
-use Rattle.warg_map.proofs.TreeForm.{is_fork, is_stem}
+use Rattle.warg_map.specs.declared.node.Node.TheVariants.{Fork, Stem}
+use Rattle.warg_map.proofs.TreeForm.{of_content}
 use Rattle.warg_map.proofs.FoundInNode.{finds_in_fork, run_of_stem, found_below, found_apart}
 use Rattle.warg_map.proofs.StemRoots.{root-stem}
 use Rattle.warg_map.proofs.CollectedPeers.{answered, collects_fork, collects_none, collects_below, collects_beside}
@@ -13,20 +14,20 @@ use Rattle.warg_map.proofs.node.Node.+collect.Goals.{After-node, After-is_of_abs
 -- the child holds what the fork does
 child : (g : _) (t : _) (c : After-node g t) → get (held_by c.args.self.now) (last_bits c.args.key.now (256 - c.args.depth)) ≡ get (held_by c.node.result.now) (last_bits c.args.key.now (256 - (c.args.depth + 1)))
 child g t c =
-    let is = is_fork c.in-Fork.is c.as_ref-fork.ensures in
+    let is = of_content Fork c.in-Fork.is c.as_ref-fork.ensures in
     let high = rw is at c.requires.height in
     sym (finds_in_fork c.args.self.now c.node.result.now _ c.args.key.now _ c.args.depth is (omega (arith, high)) c.side_at-side.ensures (c.node.ensures.seen ∙ c.index.ensures))
 
 -- the bits part from those of the stem
 apart : (g : _) (t : _) (c : After-is_of_absence-then-shared-stem g t) → get (held_by c.args.self.now) (last_bits c.args.key.now (256 - c.args.depth)) ≡ None
 apart g t c =
-    let run = run_of_stem c.args.self.now _ c.args.depth (is_stem c.in-Stem.is c.as_ref-stem.ensures) c.requires.well_formed c.requires.height in
+    let run = run_of_stem c.args.self.now _ c.args.depth (of_content Stem c.in-Stem.is c.as_ref-stem.ensures) c.requires.well_formed c.requires.height in
     found_apart _ _ _ c.args.key.now c.args.depth _ _ _ _ run.1 c.if-shared-stem.true c.shared_bits-shared.ensures.same (c.shared_bits-shared.ensures.apart c.if-shared-stem.true)
 
 -- the bits are those of the stem, and what stands below it holds what it does
 below : (g : _) (t : _) (c : After-node-in-Stem g t) → get (held_by c.args.self.now) (last_bits c.args.key.now (256 - c.args.depth)) ≡ get (held_by c.node-in-Stem.result.now) (last_bits c.args.key.now (256 - (c.args.depth + c.as_ref-stem.result.now.len)))
 below g t c =
-    let run = run_of_stem c.args.self.now _ c.args.depth (is_stem c.in-Stem.is c.as_ref-stem.ensures) c.requires.well_formed c.requires.height in
+    let run = run_of_stem c.args.self.now _ c.args.depth (of_content Stem c.in-Stem.is c.as_ref-stem.ensures) c.requires.well_formed c.requires.height in
     let found = found_below _ _ _ c.args.key.now _ _ _ _ _ run.1 c.shared_bits-shared.ensures.at_most c.if-shared-stem.false c.shared_bits-shared.ensures.same in
     sym (ap (λ d. get d.1 (last_bits c.args.key.now (256 - (c.args.depth + c.as_ref-stem.result.now.len)))) c.node-in-Stem.ensures.seen ∙ found.1)
 
@@ -50,7 +51,7 @@ returns-in_ok-push-in-Fork-clause-answer g t c = rw (child g t (goal.at.returns-
 
 pub returns-in_ok-push-in-Fork-clause-peers : goal.returns-in_ok-push-in-Fork-clause-peers
 returns-in_ok-push-in-Fork-clause-peers g t c =
-    collects_fork g.D.SupportedDigest.digest c.collect.new.to.held c.args.self.now c.node.result.now _ c.args.key.now _ c.args.depth _ _ _ c.index-then-is_some.result.now (is_fork c.in-Fork.is c.as_ref-fork.ensures) c.requires.well_formed c.requires.height c.side_at-side.ensures
+    collects_fork g.D.SupportedDigest.digest c.collect.new.to.held c.args.self.now c.node.result.now _ c.args.key.now _ c.args.depth _ _ _ c.index-then-is_some.result.now (of_content Fork c.in-Fork.is c.as_ref-fork.ensures) c.requires.well_formed c.requires.height c.side_at-side.ensures
     (c.node.ensures.seen ∙ c.index.ensures) (c.index-then-is_some.ensures ∙ ap (λ b. cond b c.as_ref-fork.result.now.right c.as_ref-fork.result.now.left) c.opposite.ensures) (c.copied.ensures ∙ c.hash.ensures)
     (sym c.is_some.ensures ∙ c.if-is_some.true) c.in_ok-collect-in-Fork.ensures.peers c.in_ok-push-in-Fork.ensures.items
 
@@ -62,7 +63,7 @@ returns-then-shared-stem-clause-answer g t c = rw (apart g t (goal.at.returns-th
 
 pub returns-then-shared-stem-clause-peers : goal.returns-then-shared-stem-clause-peers
 returns-then-shared-stem-clause-peers g t c =
-    let run = run_of_stem c.args.self.now _ c.args.depth (is_stem c.in-Stem.is c.as_ref-stem.ensures) c.requires.well_formed c.requires.height in
+    let run = run_of_stem c.args.self.now _ c.args.depth (of_content Stem c.in-Stem.is c.as_ref-stem.ensures) c.requires.well_formed c.requires.height in
     let less = c.if-shared-stem.true in
     let shared = c.shared_bits-shared.ensures in
     let s = c.as_ref-stem.result.now in
@@ -82,7 +83,7 @@ returns-in-Some-clause-answer g t c = rw (below g t (goal.at.returns-in-Some-cla
 
 pub returns-in-Some-clause-peers : goal.returns-in-Some-clause-peers
 returns-in-Some-clause-peers g t c =
-    let is = is_stem c.in-Stem.is c.as_ref-stem.ensures in
+    let is = of_content Stem c.in-Stem.is c.as_ref-stem.ensures in
     let run = run_of_stem c.args.self.now _ c.args.depth is c.requires.well_formed c.requires.height in
     let same = (found_below _ _ _ c.args.key.now _ _ _ _ _ run.1 c.shared_bits-shared.ensures.at_most c.if-shared-stem.false c.shared_bits-shared.ensures.same).0 in
     let formed = rw is at c.requires.well_formed in

@@ -2,25 +2,26 @@ use Rattle.std.proofs.Common.{ℕ, List, ◌∙◌, refl, arith, rules, inl}
 use Rattle.std.specs.FinMap.{len, len-empty}
 use Rattle.warg_map.specs.Sparse.{bits_cmp}
 use Rattle.warg_map.specs.Private.Seen.{seen, tree_height, held_by, counted}
-use Rattle.warg_map.proofs.TreeForm.{is_fork, is_stem}
+use Rattle.warg_map.specs.declared.node.Node.TheVariants.{Fork, Stem}
+use Rattle.warg_map.proofs.TreeForm.{of_content}
 use Rattle.warg_map.proofs.NodeCounts.{IsForkCount, IsStemCount, fork_count, stem_count, counted_lone, splits_more}
 use Rattle.warg_map.proofs.node.Node.+count.Goals as goal
 use Rattle.warg_map.proofs.node.Node.+count.Goals.{After-count-right, After-count}
 
 fork : (g : _) (t : _) (c : After-count-right g t) → IsForkCount (counted (tree_height c.args.self.now) (held_by c.args.self.now)) (len (held_by c.args.self.now)) (seen c.node.result.now) (seen c.node-in-Fork.result.now)
-fork g t c = fork_count c.args.self.now _ _ _ (is_fork c.in-Fork.is c.as_ref-fork.ensures) c.requires.well_formed (c.node.ensures.seen ∙ c.index.ensures) (c.node-in-Fork.ensures.seen ∙ c.index-in-Fork.ensures)
+fork g t c = fork_count c.args.self.now _ _ _ (of_content Fork c.in-Fork.is c.as_ref-fork.ensures) c.requires.well_formed (c.node.ensures.seen ∙ c.index.ensures) (c.node-in-Fork.ensures.seen ∙ c.index-in-Fork.ensures)
 
 stem : (g : _) (t : _) (c : After-count g t) → IsStemCount (seen c.args.self.now) (seen c.node-in-Stem.result.now)
-stem g t c = stem_count c.args.self.now _ _ (is_stem c.in-Stem.is c.deref.ensures) c.requires.well_formed c.node-in-Stem.ensures.seen
+stem g t c = stem_count c.args.self.now _ _ (of_content Stem c.in-Stem.is c.deref.ensures) c.requires.well_formed c.node-in-Stem.ensures.seen
 
 pub count-left-requires : goal.count-left-requires
 count-left-requires g t c κs within =
-    let f = fork_count c.args.self.now _ _ _ (is_fork c.in-Fork.is c.as_ref-fork.ensures) c.requires.well_formed (c.node.ensures.seen ∙ c.index.ensures) refl in
+    let f = fork_count c.args.self.now _ _ _ (of_content Fork c.in-Fork.is c.as_ref-fork.ensures) c.requires.well_formed (c.node.ensures.seen ∙ c.index.ensures) refl in
     (search rules, (search rules, (search rules, (c.node.ensures.well_formed, omega (arith, f.size_is, c.requires.fits)))))
 
 pub count-right-requires : goal.count-right-requires
 count-right-requires g t c κs within =
-    let f = fork_count c.args.self.now _ _ _ (is_fork c.in-Fork.is c.as_ref-fork.ensures) c.requires.well_formed refl (c.node-in-Fork.ensures.seen ∙ c.index-in-Fork.ensures) in
+    let f = fork_count c.args.self.now _ _ _ (of_content Fork c.in-Fork.is c.as_ref-fork.ensures) c.requires.well_formed refl (c.node-in-Fork.ensures.seen ∙ c.index-in-Fork.ensures) in
     (search rules, (search rules, (search rules, (c.node-in-Fork.ensures.well_formed, omega (arith, f.size_is, c.requires.fits)))))
 
 pub overflow_add-result : goal.overflow_add-result
@@ -32,7 +33,7 @@ overflow_add-result-in-Fork g t c =
 
 pub count-requires : goal.count-requires
 count-requires g t c κs within =
-    let s = stem_count c.args.self.now _ _ (is_stem c.in-Stem.is c.deref.ensures) c.requires.well_formed c.node-in-Stem.ensures.seen in
+    let s = stem_count c.args.self.now _ _ (of_content Stem c.in-Stem.is c.deref.ensures) c.requires.well_formed c.node-in-Stem.ensures.seen in
     (search rules, (search rules, (search rules, (c.node-in-Stem.ensures.well_formed, omega (arith, s.size_is, c.requires.fits)))))
 
 pub overflow_add-result-in-Stem : goal.overflow_add-result-in-Stem

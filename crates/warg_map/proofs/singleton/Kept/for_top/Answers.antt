@@ -1,4 +1,4 @@
-use Rattle.std.proofs.Common.{◌≡◌, ◌≤◌, ◌-◌, ◌+◌, ◌∙◌, arith, rules}
+use Rattle.std.proofs.Common.{◌≤◌, ◌∙◌, arith, rules}
 use Rattle.warg_map.specs.Private.Lone.{IsKept}
 use Rattle.warg_map.proofs.StemRoots.{root-kept}
 use Rattle.warg_map.proofs.singleton.Kept.for_top.Goals as goal
@@ -14,5 +14,4 @@ returns-clause-digest g c = λ value own low.
     ] in
     let up : c.if-self-top.known.now.height ≤ c.max-height.result = search rules in
     let most : c.max-height.result ≤ c.args.top = search (rules, known.0) in
-    let z : 256 - (256 - c.max-height.result + (c.max-height.result - c.if-self-top.known.now.height)) ≡ c.if-self-top.known.now.height = omega (arith, up, most, c.requires.top) in
-    c.stem_digest.ensures ∙ root-kept H _ value key _ c.if-self-top.known.now.height c.max-height.result (omega (arith, most, c.requires.top)) up z known.1
+    c.stem_digest.ensures ∙ root-kept H _ value key c.if-self-top.known.now.height c.max-height.result (omega (arith, most, c.requires.top)) up known.1

@@ -1,4 +1,4 @@
-use Rattle.std.proofs.Common.{◌≡◌, ◌∙◌, ap, ◌-◌, ◌+◌, arith}
+use Rattle.std.proofs.Common.{◌∙◌, ap}
 use Rattle.warg_map.specs.Private.Lone.{Lone, held_alone}
 use Rattle.warg_map.specs.Sparse.{sparse_root}
 use Rattle.warg_map.proofs.StemRoots.{root-kept}
@@ -9,5 +9,4 @@ returns g c =
     let H = g.D.SupportedDigest.digest in
     let s = c.self.inside in
     let k = c.self.invariant in
-    let z : 256 - (256 - c.self.inside.height + (c.self.inside.height - c.self.inside.one_below.height)) ≡ c.self.inside.one_below.height = omega (arith, k.0, k.9) in
-    c.stem_digest.ensures ∙ root-kept H s.one_below.digest s.value s.key _ s.one_below.height s.height k.0 k.9 z k.10 ∙ ap (λ (l : Lone). sparse_root H l.height (held_alone l)) c.self.view_is
+    c.stem_digest.ensures ∙ root-kept H s.one_below.digest s.value s.key s.one_below.height s.height k.0 k.9 k.10 ∙ ap (λ (l : Lone). sparse_root H l.height (held_alone l)) c.self.view_is
