@@ -49,34 +49,25 @@ peer_value : (H : List ℕ → List ℕ) (e : Option (List ℕ)) (k : ℕ) (m : 
 peer_value H e k m o h (inl g) = ap (λ x. unwrap_or x (empty_root H k)) g.0 ∙ h ∙ sym (other_none H k m g.1)
 peer_value H e k m o h (inr g) = ap (λ x. unwrap_or x (empty_root H k)) g.0
 
--- with the peers from the top, of which those before have been used
+-- with the peers from the top, of which those before have been used, at each prefix of the bits
 one_used : (peers before os : List (Option (List ℕ))) (o : Option (List ℕ)) (n : ℕ) → reverse peers ≡ before ++ o ∷ os → length before + suc n ≡ 256 → (reverse peers ≡ (before ++ o ∷ []) ++ os) × (length (before ++ o ∷ []) + n ≡ 256)
 one_used peers before os o n e place = (e ∙ sym (append_assoc before (o ∷ []) os), rw (length-append before (o ∷ [])) (omega (arith, place)))
 
-all_used : (peers before : List (Option (List ℕ))) → reverse peers ≡ before ++ [] → length peers ≡ length before
-all_used peers before e = rw (length-reverse, append-nil) at (ap length e)
-
-honest : (H : List ℕ → List ℕ) (half : ℕ → Option (List ℕ)) (bits : List Bool) (m : List Bool → Option (List ℕ)) (peers before os : List (Option (List ℕ))) (v : List ℕ) → IsEmptyHalf H half → reverse peers ≡ before ++ os → length before + length bits ≡ 256 → length peers ≤ 256 → IsPeers H half m bits os → unwrap_or (m bits) (empty_root H 0) ≡ v → proof_value H peers v bits ≡ root_of_levels H (length bits) m
-unfolding proof_value IsPeers
-honest H half bits m peers before [] v s e place few h u = let n = all_used peers before e in honest_below_last H bits m peers v (omega (arith, n, place)) h u
-honest H half [] m peers before (o ∷ os) v s e place few h u = absurd h
-honest H half (b ∷ bits) m peers before (o ∷ os) v s e place few h u =
-    let used = one_used peers before os o (length bits) e place in
-    branch H b (length bits) m (peer_of H peers (length bits)) (proof_value H peers v bits)
-    (peer_there H peers before os o (length bits) e (omega (arith, place)) few ∙ peer_value H (half (length bits)) (length bits) (λ q. m (not b ∷ q)) o (s (length bits)) h.0)
-    (honest H half bits (λ q. m (b ∷ q)) peers (before ++ o ∷ []) os v s used.0 used.1 few h.1 u)
-
--- at each prefix of the bits
-honest_after : (H : List ℕ → List ℕ) (half : ℕ → Option (List ℕ)) (prefix rest : List Bool) (m : List Bool → Option (List ℕ)) (peers before os : List (Option (List ℕ))) (v : List ℕ) → IsEmptyHalf H half → reverse peers ≡ before ++ os → length before + length (prefix ++ rest) ≡ 256 → length peers ≤ 256
+honest : (H : List ℕ → List ℕ) (half : ℕ → Option (List ℕ)) (prefix rest : List Bool) (m : List Bool → Option (List ℕ)) (peers before os : List (Option (List ℕ))) (v : List ℕ) → IsEmptyHalf H half → reverse peers ≡ before ++ os → length before + length (prefix ++ rest) ≡ 256 → length peers ≤ 256
     → IsPeers H half m (prefix ++ rest) os → unwrap_or (m (prefix ++ rest)) (empty_root H 0) ≡ v → proof_value H peers v rest ≡ root_of_levels H (length rest) (λ q. m (prefix ++ q))
-unfolding IsPeers
-honest_after H half [] rest m peers before os v s e place few h u = honest H half rest m peers before os v s e place few h u
-honest_after H half (b ∷ prefix) rest m peers before [] v s e place few h u =
-    let n = all_used peers before e in
-    honest_below_last H rest (λ q. m (b ∷ (prefix ++ q))) peers v (omega (arith, n, place, length-append prefix rest)) (λ q other. h (b ∷ (prefix ++ q)) (λ x. other (append_cancel_left (b ∷ prefix) q rest x))) u
-honest_after H half (b ∷ prefix) rest m peers before (o ∷ os) v s e place few h u =
+unfolding proof_value IsPeers
+honest H half prefix rest m peers before [] v s e place few h u =
+    let all : length peers ≡ length before = rw (length-reverse, append-nil) at (ap length e) in
+    honest_below_last H rest (λ q. m (prefix ++ q)) peers v (omega (arith, all, place, length-append prefix rest)) (λ q other. h (prefix ++ q) (λ x. other (append_cancel_left prefix q rest x))) u
+honest H half [] [] m peers before (o ∷ os) v s e place few h u = absurd h
+honest H half [] (b ∷ rest) m peers before (o ∷ os) v s e place few h u =
+    let used = one_used peers before os o (length rest) e place in
+    branch H b (length rest) m (peer_of H peers (length rest)) (proof_value H peers v rest)
+    (peer_there H peers before os o (length rest) e (omega (arith, place)) few ∙ peer_value H (half (length rest)) (length rest) (λ q. m (not b ∷ q)) o (s (length rest)) h.0)
+    (honest H half [] rest (λ q. m (b ∷ q)) peers (before ++ o ∷ []) os v s used.0 used.1 few h.1 u)
+honest H half (b ∷ prefix) rest m peers before (o ∷ os) v s e place few h u =
     let used = one_used peers before os o (length (prefix ++ rest)) e place in
-    honest_after H half prefix rest (λ q. m (b ∷ q)) peers (before ++ o ∷ []) os v s used.0 used.1 few h.1 u
+    honest H half prefix rest (λ q. m (b ∷ q)) peers (before ++ o ∷ []) os v s used.0 used.1 few h.1 u
 
 -- the peers of a proof, be it of presence or of absence
 abbrev pub IsHonest : (List ℕ → List ℕ) → SparseMap → List Bool → List (Option (List ℕ)) → Type 0
@@ -113,7 +104,7 @@ honest_beside H m n bits peers same p = (p.0, p.1, peers_alike H p.0 bits (get m
 pub honest_prefix : (H : List ℕ → List ℕ) (m : SparseMap) (prefix rest : List Bool) (peers : List (Option (List ℕ))) (x : List ℕ) → length prefix + length rest ≡ 256 → IsHonest H m (prefix ++ rest) peers → leaf_at H m (prefix ++ rest) ≡ x → proof_value H peers x rest ≡ root_of_levels H (length rest) (λ q. get m (prefix ++ q))
 honest_prefix H m prefix rest peers x n p at =
     let all : length (prefix ++ rest) ≡ 256 = length-append prefix rest ∙ n in
-    honest_after H p.0 prefix rest (get m) peers [] (reverse peers) x p.1 refl (omega (arith, all)) (few_collected H p.0 (get m) (prefix ++ rest) peers p.2 all) p.2 at
+    honest H p.0 prefix rest (get m) peers [] (reverse peers) x p.1 refl (omega (arith, all)) (few_collected H p.0 (get m) (prefix ++ rest) peers p.2 all) p.2 at
 
 pub honest_root : (H : List ℕ → List ℕ) (m : SparseMap) (bits : List Bool) (peers : List (Option (List ℕ))) (x : List ℕ) → length bits ≡ 256 → IsHonest H m bits peers → leaf_at H m bits ≡ x → proof_value H peers x bits ≡ sparse_root H 256 m
 honest_root H m bits peers x n p at = honest_prefix H m [] bits peers x (omega (arith, n)) p at ∙ ap (λ k. sparse_root H k m) n

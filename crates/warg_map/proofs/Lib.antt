@@ -15,7 +15,6 @@ pub mod HonestProofs
 pub mod InsertionSteps
 pub mod InsertedPairs
 pub mod UniqueRootsAndProofs
-pub mod ProofMessages
 pub mod LastInserted
 pub mod DigestBits
 pub mod ProofEquality

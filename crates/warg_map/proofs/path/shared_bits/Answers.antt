@@ -1,16 +1,12 @@
 use Rattle.std.proofs.Common.{refl, sym, ◌∙◌}
 use Rattle.warg_map.specs.Bits.{bits_from}
-use Rattle.warg_map.proofs.SideBits.{same_bit, other_bit}
+use Rattle.warg_map.proofs.SideBits.{same_bit}
 use Rattle.warg_map.proofs.KeyBits.{bits_from-append}
 use Rattle.warg_map.proofs.path.shared_bits.Goals as goal
 
 pub loop-shared-init : goal.loop-shared-init
 unfolding bits_from
 loop-shared-init g c = refl
-
-pub returns-then-ne-clause-apart : goal.returns-then-ne-clause-apart
-returns-then-ne-clause-apart g c =
-    λ _ e. other_bit _ _ (sym c.ne.ensures ∙ c.if-ne.true) (c.side_at.ensures ∙ e ∙ sym c.side_at-in-loop-shared.ensures)
 
 pub loop-shared-preserved : goal.loop-shared-preserved
 unfolding bits_from

@@ -13,9 +13,6 @@ loop-height-init g c =
       half = elim c.if-held.branch [ then-held w ↦ w.half-is ∙ rw w.if-held.true (ap Some w.empty_tree.ensures) | else-held w ↦ rw w.if-held.false w.half-is ];
     }
 
-pub empty_above-requires-clause-empty : goal.empty_above-requires-clause-empty
-empty_above-requires-clause-empty g c = sym (cond_some c.args.held _ _ (sym c.loop-height.invariant.half ∙ c.in-Some.is)).1
-
 pub loop-height-preserved : goal.loop-height-preserved
 unfolding empty_halves
 loop-height-preserved g c =
