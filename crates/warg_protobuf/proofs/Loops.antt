@@ -5,9 +5,8 @@ use Rattle.std.proofs.lemmas.List.{append-nil, nil_from_length}
 use Rattle.warg_protobuf.specs.declared.error.WireError.{WireError}
 use Rattle.warg_protobuf.specs.Reading.{◌>>=◌, Fails, all_of, Reader, Check}
 use Rattle.warg_protobuf.specs.Field.{SpellsAll}
-use Rattle.warg_protobuf.specs.Schema.{as_uint32}
 use Rattle.warg_protobuf.specs.Private.Taking.{Adds}
-use Rattle.warg_protobuf.proofs.Readers.{IsReader, read_on, found, parts_joined}
+use Rattle.warg_protobuf.proofs.Readers.{IsReader, behind, found, parts_joined}
 use Rattle.warg_protobuf.proofs.Sequences.{AreThere, FaultHere, all_met}
 use Rattle.warg_protobuf.proofs.ForCallers.{all_push}
 
@@ -18,10 +17,6 @@ pub record Collects {X M : Type 0} (Spells : List ℕ → X → Type 0) (check :
   pub parts : bytes ≡ front ++ rest
   pub there : AreThere Spells check front taken
   pub state_is : state ≡ message taken
-
-pub Collects-start : {X M : Type 0} (Spells : List ℕ → X → Type 0) (check : Check X) (message : List X → M) (bytes : List ℕ) (state : M)
-    → state ≡ message [] → Collects Spells check message bytes bytes state
-Collects-start Spells check message bytes state e = record { taken = []; front = []; parts = refl; there = (refl, tt); state_is = e }
 
 spelled_push : {X : Type 0} (Spells : List ℕ → X → Type 0) (front text : List ℕ) (xs : List X) (x : X) → SpellsAll Spells front xs
     → Spells text x → SpellsAll Spells (front ++ text) (xs ++ x ∷ [])
@@ -45,7 +40,7 @@ module _ {X M : Type 0} {split : Reader X} {Spells : List ℕ → X → Type 0} 
   pub Collects-fails : (e : WireError) → 0 < length rest → Fails e (split rest >>= λ x. check x.0) → Fails e (all_of split check bytes)
   Collects-fails e left (inl memory) = inl memory
   Collects-fails e left (inr bad) =
-      let here = read_on Spells Fault rest (λ r. r ≡ Err e → FaultHere Spells Fault check rest e) (split rest) (λ x. check x.0) (reader.reads rest)
+      let here = behind reader (λ r. r ≡ Err e → FaultHere Spells Fault check rest e) rest (λ x. check x.0)
       (λ x after b wrong. inr (x, after, b, wrong)) (λ d f same. inl (let is : d ≡ e = cc in subst (Fault rest) is f)) in
       inr (all_met check reader bytes (Err e) (record { taken = c.taken; front = c.front; rest = rest; parts = c.parts; there = c.there; left = left; why = here bad }))
 
@@ -61,10 +56,3 @@ not_empty b n is e = let ne = eqb-false n 0 (sym is ∙ e) in omega (arith, ne)
 
 pub is_empty : (b : Bool) (n : ℕ) → b ≡ eqb n 0 → b ≡ true → n ≡ 0
 is_empty b n is e = eqb-true n 0 (sym is ∙ e)
-
--- packed numbers are put behind the old ones
-pub numbers_add : (old : List ℕ) → Adds (λ (ns : List ℕ). old ++ ns) (λ (m : List ℕ) (n : ℕ). m ++ n ∷ [])
-numbers_add old = record { push = λ ns n. sym (append_assoc old ns (n ∷ [])) }
-
-pub uint32_is : (n m : ℕ) → as_uint32 n ≡ Ok m → m ≡ n
-uint32_is n m e = grind arith

@@ -44,6 +44,11 @@ module _ {X : Type 0} {split : Reader X} {Spells : List ℕ → X → Type 0} {F
   pub fault_found : (bytes : List ℕ) (e : WireError) → split bytes ≡ Err e → Fault bytes e
   fault_found bytes e h = subst (Stands Spells Fault bytes) h (reader.reads bytes)
 
+  -- what holds of reading on, by what stands at the front
+  pub behind : {Y : Type 0} (P : Result Y WireError → Type 0) (bytes : List ℕ) (f : X × List ℕ → Result Y WireError)
+      → ((x : X) (rest : List ℕ) → BeginsWith Spells bytes x rest → P (f (x, rest))) → ((e : WireError) → Fault bytes e → P (Err e)) → P (split bytes >>= f)
+  behind P bytes f ok err = read_on Spells Fault bytes P (split bytes) f (reader.reads bytes) ok err
+
   pub shorter : (bytes : List ℕ) (x : X) (rest : List ℕ) → BeginsWith Spells bytes x rest → length rest < length bytes
   shorter bytes x rest b = omega (arith, ap length b.parts, length-append b.front rest, reader.not_empty b.front x b.spelled)
 

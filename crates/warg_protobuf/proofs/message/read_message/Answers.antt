@@ -1,15 +1,14 @@
-use Rattle.std.proofs.Common.{refl}
+use Rattle.std.proofs.Common.{[], refl}
 use Rattle.std.proofs.lemmas.Result.{err_from_is_err_and}
-use Rattle.warg_protobuf.specs.Field.{SpellsField}
 use Rattle.warg_protobuf.specs.Private.Lent.{field_view}
 use Rattle.warg_protobuf.specs.Schema.{check_by, message_of}
 use Rattle.warg_protobuf.proofs.Readers.{found, shorter, Fails-then}
 use Rattle.warg_protobuf.proofs.Fields.{fields}
-use Rattle.warg_protobuf.proofs.Loops.{Collects-start, Collects-next, Collects-fails, Collects-done, not_empty, is_empty}
+use Rattle.warg_protobuf.proofs.Loops.{Collects-next, Collects-fails, Collects-done, not_empty, is_empty}
 use Rattle.warg_protobuf.proofs.message.read_message.Goals as goal
 
 pub loop-rest-init : goal.loop-rest-init
-loop-rest-init g c = Collects-start SpellsField (check_by g.M.Message.schema.table) g.M.Message.schema.message c.args.bytes.now _ c.empty-message.ensures
+loop-rest-init g c = record { taken = []; front = []; parts = refl; there = (refl, tt); state_is = c.empty-message.ensures }
 
 pub returns-in_err-field : goal.returns-in_err-field
 unfolding message_of

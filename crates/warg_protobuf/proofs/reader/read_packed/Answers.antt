@@ -1,9 +1,10 @@
-use Rattle.std.proofs.Common.{ℕ, [], ◌∷◌, ◌++◌, refl, ap}
+use Rattle.std.proofs.Common.{◌≡◌, ℕ, List, [], ◌∷◌, ◌++◌, refl, ap, append_assoc, arith}
 use Rattle.std.proofs.lemmas.Result.{err_from_is_err_and}
+use Rattle.warg_protobuf.specs.Private.Taking.{Adds}
 use Rattle.warg_protobuf.specs.Schema.{is_uint32, packed_uint32s}
 use Rattle.warg_protobuf.proofs.Readers.{found, shorter, Fails-then, Fails-outcome}
 use Rattle.warg_protobuf.proofs.Varints.{varints}
-use Rattle.warg_protobuf.proofs.Loops.{Collects-next, Collects-fails, Collects-done, numbers_add, uint32_is, not_empty, is_empty}
+use Rattle.warg_protobuf.proofs.Loops.{Collects-next, Collects-fails, Collects-done, not_empty, is_empty}
 use Rattle.warg_protobuf.proofs.reader.read_packed.Goals as goal
 
 pub returns-in_err-number : goal.returns-in_err-number
@@ -27,8 +28,10 @@ loop-rest-smaller g c = shorter varints _ _ _ (found varints c.loop-rest.rest.no
 
 pub loop-rest-preserved : goal.loop-rest-preserved
 loop-rest-preserved g c =
-    let pushed = ap (λ (k : ℕ). c.loop-rest.numbers.items ++ k ∷ []) (uint32_is _ _ c.in_ok-as_uint32.ensures) in
-    rw c.in_ok-push.ensures.items (Collects-next is_uint32 varints _ _ _ _ c.loop-rest.invariant _ (numbers_add c.args.numbers.now.items) c.in_ok-number.number c.in_ok-number.after.now _ c.in_ok-number.ensures (rw c.in_ok-as_uint32.ensures refl, pushed))
+    let adds : Adds (λ (ns : List ℕ). c.args.numbers.now.items ++ ns) (λ ns n. ns ++ n ∷ []) = record { push = λ ns n. simp append_assoc } in
+    let same : c.in_ok-as_uint32.field-0 ≡ c.in_ok-number.number = grind (arith, c.in_ok-as_uint32.ensures) in
+    rw c.in_ok-push.ensures.items (Collects-next is_uint32 varints _ _ _ _ c.loop-rest.invariant _ adds c.in_ok-number.number c.in_ok-number.after.now _ c.in_ok-number.ensures
+    (rw c.in_ok-as_uint32.ensures refl, ap (λ (k : ℕ). c.loop-rest.numbers.items ++ k ∷ []) same))
 
 pub returns : goal.returns
 unfolding packed_uint32s
