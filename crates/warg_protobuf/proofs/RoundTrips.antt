@@ -1,4 +1,5 @@
--- The written form of each message is read as that message.
+-- The written form of each message is read as that message: its parts are written, and `simp` reads each part's values, where
+-- `other` lets it pass over the parts of other numbers.
 use Rattle.std.proofs.Common.{◌≡◌, Some, None, false, refl, arith}
 use Rattle.std.proofs.lemmas.List.{append-nil, length-append}
 use Rattle.std.proofs.lemmas.List.Concat.{flat_map-append}

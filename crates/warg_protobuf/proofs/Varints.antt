@@ -1,5 +1,6 @@
 -- Varints: the recursion that reads them, the loop that writes them, and that both agree.
-use Rattle.std.proofs.Common.{◌≡◌, ◌≢◌, ℕ, zero, suc, ◌+◌, ◌-◌, ◌*◌, ◌/◌, ◌%◌, ◌^◌, ◌<◌, ◌≤◌, List, [], ◌∷◌, ◌++◌, length, get_or, drop, Result, Ok, Err, refl, ap, ◌∙◌, append_assoc, sub-one, arith, inl, inr}
+use Rattle.std.proofs.Common.{◌≡◌, ◌≢◌, ℕ, zero, suc, ◌+◌, ◌-◌, ◌*◌, ◌/◌, ◌%◌, ◌^◌, ◌<◌, ◌≤◌, List, [], ◌∷◌, ◌++◌, length, get_or, drop, Result, Ok, Err, refl, ap, append_assoc, sub-one, arith, inl, inr}
+use Rattle.std.proofs.lemmas.Grind.{common_steps}
 use Rattle.std.proofs.lemmas.Bool.{cases_lt, lt-ltb, le-ltb}
 use Rattle.std.proofs.Math.Nat.{pow-le-pow_right, pow-succ', one-le-pow}
 use Rattle.warg_protobuf.specs.declared.error.WireError.{WireError}
@@ -137,11 +138,10 @@ last_read (suc more) (c ∷ front) rest b long on above = grind (arith, last_rea
 fault_varint : (bytes : List ℕ) (e : WireError) → VarintFault bytes e → varint_at bytes ≡ Err e
 unfolding varint_at
 fault_varint bytes e (ends short on) = ends_read 9 bytes short on
-fault_varint bytes e (tenth nine rest b long on above parts) = ap (varint_in 9) parts ∙ last_read 9 nine rest b long on above
+fault_varint bytes e (tenth nine rest b long on above parts) = rw (parts, last_read 9 nine rest b long on above) refl
 
 pub varint_not_empty : (text : List ℕ) (n : ℕ) → IsVarint text n → 0 < length text
-varint_not_empty [] n v = absurd v.groups
-varint_not_empty (b ∷ text) n v = omega arith
+varint_not_empty text n v = grind (arith, common_steps)
 
 pub varints : IsReader varint_at IsVarint VarintFault
 unfolding varint_at
