@@ -1,6 +1,5 @@
 -- A loop that takes one thing after the other in.
-use Rattle.std.proofs.Common.{◌≡◌, ℕ, ◌<◌, List, [], ◌∷◌, ◌++◌, length, subst, eqb, Bool, true, false, Ok, Err, refl, sym, ap, ◌∙◌, append_assoc, arith, inl, inr}
-use Rattle.std.proofs.lemmas.Bool.{eqb-true, eqb-false}
+use Rattle.std.proofs.Common.{◌≡◌, ℕ, ◌<◌, List, [], ◌∷◌, ◌++◌, length, subst, Ok, Err, refl, sym, ap, ◌∙◌, append_assoc, arith, inl, inr}
 use Rattle.std.proofs.lemmas.List.{append-nil, nil_from_length}
 use Rattle.warg_protobuf.specs.declared.error.WireError.{WireError}
 use Rattle.warg_protobuf.specs.Reading.{◌>>=◌, Fails, all_of, Reader, Check}
@@ -48,11 +47,3 @@ module _ {X M : Type 0} {split : Reader X} {Spells : List ℕ → X → Type 0} 
   Collects-done none =
       let whole : bytes ≡ c.front = rw (c.parts, nil_from_length rest none, append-nil) refl in
       (c.taken, rw whole (all_met check reader c.front (Ok c.taken) c.there), c.state_is)
-
--- whether bytes are left
-
-pub not_empty : (b : Bool) (n : ℕ) → b ≡ eqb n 0 → b ≡ false → 0 < n
-not_empty b n is e = let ne = eqb-false n 0 (sym is ∙ e) in omega (arith, ne)
-
-pub is_empty : (b : Bool) (n : ℕ) → b ≡ eqb n 0 → b ≡ true → n ≡ 0
-is_empty b n is e = eqb-true n 0 (sym is ∙ e)

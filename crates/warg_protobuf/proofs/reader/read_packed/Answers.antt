@@ -1,17 +1,17 @@
-use Rattle.std.proofs.Common.{◌≡◌, ℕ, List, [], ◌∷◌, ◌++◌, refl, ap, append_assoc, arith}
+use Rattle.std.proofs.Common.{◌≡◌, ◌<◌, length, ℕ, List, [], ◌∷◌, ◌++◌, refl, ap, append_assoc, arith}
 use Rattle.std.proofs.lemmas.Result.{err_from_is_err_and}
 use Rattle.warg_protobuf.specs.Private.Taking.{Adds}
 use Rattle.warg_protobuf.specs.Schema.{is_uint32, packed_uint32s}
 use Rattle.warg_protobuf.proofs.Readers.{found, shorter, Fails-then, Fails-outcome}
 use Rattle.warg_protobuf.proofs.Varints.{varints}
-use Rattle.warg_protobuf.proofs.Loops.{Collects-next, Collects-fails, Collects-done, not_empty, is_empty}
+use Rattle.warg_protobuf.proofs.Loops.{Collects-next, Collects-fails, Collects-done}
 use Rattle.warg_protobuf.proofs.reader.read_packed.Goals as goal
 
 pub returns-in_err-number : goal.returns-in_err-number
 unfolding packed_uint32s
 returns-in_err-number g c =
     let p = err_from_is_err_and c.from_residual.result c.from_residual.ensures.1 in
-    let left = not_empty c.is_empty.result _ c.is_empty.ensures c.loop-rest-test.true in
+    let left : 0 < length c.loop-rest.rest.now = grind arith in
     let met = Fails-then _ _ (λ x. is_uint32 x.0) c.in_err-number.ensures in
     rw (p.1, p.2) (Fails-outcome _ _ (Collects-fails is_uint32 varints _ _ _ _ c.loop-rest.invariant _ left met))
 
@@ -19,7 +19,7 @@ pub returns-in_err-as_uint32 : goal.returns-in_err-as_uint32
 unfolding packed_uint32s
 returns-in_err-as_uint32 g c =
     let p = err_from_is_err_and c.from_residual-in_err-as_uint32.result c.from_residual-in_err-as_uint32.ensures.1 in
-    let left = not_empty c.is_empty.result _ c.is_empty.ensures c.loop-rest-test.true in
+    let left : 0 < length c.loop-rest.rest.now = grind arith in
     let met = Fails-outcome _ _ c.in_err-as_uint32.ensures in
     rw (p.1, p.2) (Fails-outcome _ _ (Collects-fails is_uint32 varints _ _ _ _ c.loop-rest.invariant _ left (rw c.in_ok-number.ensures met)))
 
@@ -36,5 +36,6 @@ loop-rest-preserved g c =
 pub returns : goal.returns
 unfolding packed_uint32s
 returns g c =
-    let d = Collects-done is_uint32 varints _ _ _ _ c.loop-rest.invariant (is_empty c.is_empty.result _ c.is_empty.ensures c.loop-rest-test.false) in
+    let none : length c.loop-rest.rest.now ≡ 0 = grind arith in
+    let d = Collects-done is_uint32 varints _ _ _ _ c.loop-rest.invariant none in
     (rw d.1 refl, rw d.1 d.2)
