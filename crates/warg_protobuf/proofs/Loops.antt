@@ -17,6 +17,7 @@ pub record Collects {X M : Type 0} (Spells : List ℕ → X → Type 0) (check :
   pub there : AreThere Spells check front taken
   pub state_is : state ≡ message taken
 
+-- one thing more is spelled behind the others
 spelled_push : {X : Type 0} (Spells : List ℕ → X → Type 0) (front text : List ℕ) (xs : List X) (x : X) → SpellsAll Spells front xs
     → Spells text x → SpellsAll Spells (front ++ text) (xs ++ x ∷ [])
 spelled_push Spells front text [] x are is = (text, [], is, refl, rw (are, append-nil) refl)
@@ -43,6 +44,7 @@ module _ {X M : Type 0} {split : Reader X} {Spells : List ℕ → X → Type 0} 
       (λ x after b wrong. inr (x, after, b, wrong)) (λ d f same. inl (let is : d ≡ e = cc in subst (Fault rest) is f)) in
       inr (all_met check reader bytes (Err e) (record { taken = c.taken; front = c.front; rest = rest; parts = c.parts; there = c.there; left = left; why = here bad }))
 
+  -- behind the last thing, all are read
   pub Collects-done : length rest ≡ 0 → (xs : List X) × (all_of split check bytes ≡ Ok xs) × (state ≡ message xs)
   Collects-done none =
       let whole : bytes ≡ c.front = rw (c.parts, nil_from_length rest none, append-nil) refl in

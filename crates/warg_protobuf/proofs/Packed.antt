@@ -40,6 +40,7 @@ fault_number : (bytes : List ℕ) (e : WireError) → NumberFault bytes e → Nu
 fault_number bytes e (in_number fault v) = inl v
 fault_number bytes e (too_large n rest b le) = inr (n, rest, b, grind arith)
 
+-- numbers that stand there and check are packed numbers, and the other way round
 numbers_packed : (bytes ns : List ℕ) → AreThere IsVarint is_uint32 bytes ns → IsPacked bytes ns
 numbers_packed bytes ns there = grind (arith, All-from_recursion IsLow ns (all_weaken Checks IsLow (λ n h. grind arith) ns there.1))
 

@@ -68,10 +68,12 @@ data VarintFaultIn (more : ℕ) (bytes : List ℕ) : WireError → Type 0 where
 abbrev StandsIn : ℕ → List ℕ → Result (ℕ × List ℕ) WireError → Type 0
 StandsIn more bytes r = Stands (IsNumberIn more) (VarintFaultIn more) bytes r
 
+-- a last byte is a number by itself
 one_byte : (more b : ℕ) (rest : List ℕ) → b < 128 → b < 2 * 128 ^ more → BeginsWith (IsNumberIn more) (b ∷ rest) b rest
 one_byte more b rest last below =
     record { front = b ∷ []; spelled = record { groups = (last, refl); short = omega arith; below = below }; parts = refl }
 
+-- a byte that goes on moves the fault one byte back
 goes_on : (more b : ℕ) (bytes : List ℕ) (e : WireError) → 128 ≤ b → VarintFaultIn more bytes e
     → VarintFaultIn (suc more) (b ∷ bytes) e
 goes_on more b bytes e le (ends_in short on) = ends_in (omega arith) (le, on)
@@ -100,6 +102,7 @@ varint_stands_in (suc more) (b ∷ bytes) =
           }) (λ e f. goes_on more b bytes e le f))
     ]
 
+-- ten bytes at most
 varint_stands : (bytes : List ℕ) (r : Result (ℕ × List ℕ) WireError) → StandsIn 9 bytes r → Stands IsVarint VarintFault bytes r
 varint_stands bytes (Ok x) s = record {
   front = s.front;
@@ -120,6 +123,7 @@ varint_again_in zero (b ∷ c ∷ text) n rest g short below = absurd (omega ari
 varint_again_in (suc more) (b ∷ []) n rest g short below = grind arith
 varint_again_in (suc more) (b ∷ c ∷ text) n rest g short below = grind (arith, pow-succ' 128 more, varint_again_in more (c ∷ text) g.1 rest g.3)
 
+-- each fault is the one that reading names
 ends_read : (more : ℕ) (bytes : List ℕ) → length bytes < suc more → AllGoOn bytes → varint_in more bytes ≡ Err errors.Truncated
 unfolding varint_in
 ends_read zero [] short on = refl

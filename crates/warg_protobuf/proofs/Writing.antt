@@ -97,6 +97,7 @@ packed_spelled : (ns : List ℕ) → All (λ n. n < 2 ^ 32) ns → SpellsAll IsV
 packed_spelled [] fit = refl
 packed_spelled (n ∷ ns) fit = grind (arith, All-head (λ k. k < 2 ^ 32) n ns fit, varint_bytes_is n, packed_spelled ns (All-tail (λ k. k < 2 ^ 32) n ns fit))
 
+-- packed numbers are read from their written form
 packed_again : (ns : List ℕ) → All (λ n. n < 2 ^ 32) ns → packed_uint32s (flat_map varint_bytes ns) ≡ Ok ns
 packed_again ns fit = (packed_is (flat_map varint_bytes ns) (Ok ns)).0 (record { spelled = packed_spelled ns fit; fit = fit })
 
