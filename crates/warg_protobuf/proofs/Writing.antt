@@ -158,7 +158,7 @@ pub all_read : {M : Type 0} (schema : Schema M) (fields : M → List Field) (Fit
     → length (fields_bytes (message_fields k fields ms)) < 2 ^ 64 → AllRead schema fields ms
 all_read schema fields Fits again k [] fits short = tt
 all_read schema fields Fits again k (m ∷ ms) fits short =
-    let lengths = simp length-append at short in
+    let sizes = simp length-append at short in
     let spelled = again m (All-head Fits m ms fits) (omega arith) in
     (message_met schema (fields_bytes (fields m)) (Ok m) spelled, all_read schema fields Fits again k ms (All-tail Fits m ms fits) (omega arith))
 
