@@ -16,6 +16,7 @@ abbrev pub MessageStands : {M : Type 0} → Schema M → List ℕ → Result M W
 MessageStands schema bytes (Ok m) = IsSpelled schema bytes m
 MessageStands schema bytes (Err e) = FaultStands schema bytes e
 
+-- what stands in the bytes, in the words of messages
 said : {M : Type 0} (schema : Schema M) (bytes : List ℕ) (r : Result (List Field) WireError)
     → AllStand SpellsField FieldFault (check_by schema.table) bytes r → MessageStands schema bytes (r >>= λ fs. Ok (schema.message fs))
 said schema bytes r stands = grind arith

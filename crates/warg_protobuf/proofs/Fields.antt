@@ -6,12 +6,12 @@ use Rattle.std.proofs.lemmas.List.{length-take, take-append-drop}
 use Rattle.warg_protobuf.specs.declared.error.WireError.{WireError}
 use Rattle.warg_protobuf.specs.declared.error.WireError.TheVariants as errors
 use Rattle.warg_protobuf.specs.Reading.{◌>>=◌}
-use Rattle.warg_protobuf.specs.Varint.{IsVarint, varint_at}
+use Rattle.warg_protobuf.specs.Varint.{IsVarint}
 use Rattle.warg_protobuf.specs.Field.{Payload, varint, fixed64, delimited, fixed32, Field, wire_type, SpellsPayload, SpellsField, bytes_at, payload_at, field_at}
-use Rattle.warg_protobuf.specs.Faults.{VarintFault, PayloadFault, FieldFault}
+use Rattle.warg_protobuf.specs.Faults.{PayloadFault, FieldFault}
 use Rattle.warg_protobuf.specs.Faults.PayloadFault.{in_varint, below_eight, in_length, below_length, group_start, group_end, below_four, no_type}
 use Rattle.warg_protobuf.specs.Faults.FieldFault.{in_tag, bad_tag, in_payload}
-use Rattle.warg_protobuf.proofs.Readers.{Stands, IsReader, read_on, begins, parts_joined}
+use Rattle.warg_protobuf.proofs.Readers.{Stands, IsReader, read_on, behind, begins, parts_joined}
 use Rattle.warg_protobuf.proofs.Varints.{varints, varint_not_empty}
 
 -- ---- so many bytes
@@ -50,13 +50,13 @@ PayloadStands kind bytes r = Stands (SpellsKind kind) (λ b e. PayloadFault b ki
 payload_stands : (kind : ℕ) (bytes : List ℕ) → PayloadStands kind bytes (payload_at kind bytes)
 unfolding payload_at
 payload_stands zero bytes =
-    read_on IsVarint VarintFault bytes (PayloadStands 0 bytes) (varint_at bytes) (λ n. Ok (varint n.0, n.1)) (varints.reads bytes)
+    behind varints (PayloadStands 0 bytes) bytes (λ n. Ok (varint n.0, n.1))
     (λ n rest b. record { front = b.front; spelled = (b.spelled, refl); parts = b.parts }) in_varint
 payload_stands (suc zero) bytes =
     bytes_on (PayloadStands 1 bytes) 8 bytes (λ x. Ok (fixed64 x.0, x.1))
     (λ inner rest long parts. record { front = inner; spelled = ((refl, long), refl); parts = parts }) below_eight
 payload_stands (suc (suc zero)) bytes =
-    read_on IsVarint VarintFault bytes (PayloadStands 2 bytes) (varint_at bytes) (λ len. bytes_at len.0 len.1 >>= λ x. Ok (delimited x.0, x.1)) (varints.reads bytes)
+    behind varints (PayloadStands 2 bytes) bytes (λ len. bytes_at len.0 len.1 >>= λ x. Ok (delimited x.0, x.1))
     (λ len after b. bytes_on (PayloadStands 2 bytes) len after (λ x. Ok (delimited x.0, x.1)) (λ inner rest long parts. record {
       front = b.front ++ inner;
       spelled = ((b.front, subst (IsVarint b.front) (sym long) b.spelled, refl), refl);
@@ -119,7 +119,7 @@ FieldStands bytes r = Stands SpellsField FieldFault bytes r
 field_stands : (bytes : List ℕ) → FieldStands bytes (field_at bytes)
 unfolding field_at
 field_stands bytes =
-    read_on IsVarint VarintFault bytes (FieldStands bytes) (varint_at bytes) (λ tag. cond (leb (2 ^ 32) tag.0 || eqb (tag.0 / 8) 0) (Err errors.BadTag) (with_payload tag)) (varints.reads bytes)
+    behind varints (FieldStands bytes) bytes (λ tag. cond (leb (2 ^ 32) tag.0 || eqb (tag.0 / 8) 0) (Err errors.BadTag) (with_payload tag))
     (λ n after b. elim (tag_cases n) [
       | inl out ↦ rw (tag_out n out) (bad_tag n after b out)
       | inr ok ↦

@@ -1,6 +1,7 @@
 -- Lemmas for the proofs of the crates above, over public definitions alone.
-use Rattle.std.proofs.Common.{◌≡◌, ℕ, zero, suc, ◌+◌, ◌<◌, ◌≤◌, List, [], ◌∷◌, ◌++◌, length, map, take, drop, get_or, Option, Some, None, Ok, refl, sym, ap, ◌∙◌, subst, append_assoc, arith}
+use Rattle.std.proofs.Common.{◌≡◌, ℕ, ◌+◌, ◌<◌, ◌≤◌, List, [], ◌∷◌, ◌++◌, length, map, take, drop, get_or, Option, Some, None, Ok, refl, sym, ap, ◌∙◌, subst, append_assoc, arith}
 use Rattle.std.specs.List.{AllByRecursion, flat_map}
+use Rattle.std.proofs.lemmas.List.Elements.{All-from_recursion}
 use Rattle.std.proofs.lemmas.Grind.{common_steps}
 use Rattle.std.proofs.lemmas.List.{take_more, take_all, drop_all, map-append}
 use Rattle.warg_protobuf.specs.declared.value_error.DecodeError.{DecodeError}
@@ -75,9 +76,7 @@ no_fault_left fault_of xs i is all = is ∙ ap (first_fault fault_of) (drop_all 
 -- ---- loops over a list: what holds of its elements so far, and what was made of them
 
 pub all_at : {X : Type 0} (P : X → Type 0) (xs : List X) (i : ℕ) (d : X) → AllByRecursion P xs → i < length xs → P (get_or xs i d)
-all_at P [] i d all lt = absurd (omega arith)
-all_at P (x ∷ xs) zero d all lt = all.0
-all_at P (x ∷ xs) (suc i) d all lt = all_at P xs i d all.1 (omega arith)
+all_at P xs i d all lt = All-from_recursion P xs all i d lt
 
 -- a loop over a list: one more element is looked at, and all are
 one_taken : {X : Type 0} (xs : List X) (i : ℕ) (x : X) → i < length xs → x ≡ get_or xs i x → take (i + 1) xs ≡ take i xs ++ x ∷ []
@@ -101,9 +100,7 @@ mapped_whole f xs i out was le = was ∙ ap (map f) (take_all i xs le)
 pub pushed_view : {X Y : Type 0} (f : X → Y) (old new : List X) (x : X) → new ≡ old ++ x ∷ [] → map f new ≡ map f old ++ f x ∷ []
 pushed_view f old new x now = ap (map f) now ∙ map-append f old (x ∷ [])
 
-abbrev found : DecodeError → Option DecodeError
-found e = Some e
-
+-- the first fault of digests: behind one of 32 bytes, at one of another length, and where none is left
 pub digest_passed : {X : Type 0} (f : X → List ℕ) (xs : List X) (i : ℕ) (x : X) (whole : Option DecodeError) (bytes : List ℕ) → i < length xs → x ≡ get_or xs i x
     → bytes ≡ f x → length bytes ≡ 32 → whole ≡ first_fault digest_fault (map f (drop i xs)) → whole ≡ first_fault digest_fault (map f (drop (i + 1) xs))
 digest_passed f xs i x whole bytes lt is here long was = grind (arith, common_steps)

@@ -1,13 +1,11 @@
 -- A loop that takes one thing after the other in.
-use Rattle.std.proofs.Common.{◌≡◌, ℕ, ◌<◌, List, [], ◌∷◌, ◌++◌, length, subst, eqb, Bool, true, false, Ok, Err, refl, sym, ap, ◌∙◌, append_assoc, arith, inl, inr}
-use Rattle.std.proofs.lemmas.Bool.{eqb-true, eqb-false}
+use Rattle.std.proofs.Common.{◌≡◌, ℕ, ◌<◌, List, [], ◌∷◌, ◌++◌, length, subst, Ok, Err, refl, sym, ap, ◌∙◌, append_assoc, arith, inl, inr}
 use Rattle.std.proofs.lemmas.List.{append-nil, nil_from_length}
 use Rattle.warg_protobuf.specs.declared.error.WireError.{WireError}
 use Rattle.warg_protobuf.specs.Reading.{◌>>=◌, Fails, all_of, Reader, Check}
 use Rattle.warg_protobuf.specs.Field.{SpellsAll}
-use Rattle.warg_protobuf.specs.Schema.{as_uint32}
 use Rattle.warg_protobuf.specs.Private.Taking.{Adds}
-use Rattle.warg_protobuf.proofs.Readers.{IsReader, read_on, found, parts_joined}
+use Rattle.warg_protobuf.proofs.Readers.{IsReader, behind, found, parts_joined}
 use Rattle.warg_protobuf.proofs.Sequences.{AreThere, FaultHere, all_met}
 use Rattle.warg_protobuf.proofs.ForCallers.{all_push}
 
@@ -19,10 +17,7 @@ pub record Collects {X M : Type 0} (Spells : List ℕ → X → Type 0) (check :
   pub there : AreThere Spells check front taken
   pub state_is : state ≡ message taken
 
-pub Collects-start : {X M : Type 0} (Spells : List ℕ → X → Type 0) (check : Check X) (message : List X → M) (bytes : List ℕ) (state : M)
-    → state ≡ message [] → Collects Spells check message bytes bytes state
-Collects-start Spells check message bytes state e = record { taken = []; front = []; parts = refl; there = (refl, tt); state_is = e }
-
+-- one thing more is spelled behind the others
 spelled_push : {X : Type 0} (Spells : List ℕ → X → Type 0) (front text : List ℕ) (xs : List X) (x : X) → SpellsAll Spells front xs
     → Spells text x → SpellsAll Spells (front ++ text) (xs ++ x ∷ [])
 spelled_push Spells front text [] x are is = (text, [], is, refl, rw (are, append-nil) refl)
@@ -45,26 +40,12 @@ module _ {X M : Type 0} {split : Reader X} {Spells : List ℕ → X → Type 0} 
   pub Collects-fails : (e : WireError) → 0 < length rest → Fails e (split rest >>= λ x. check x.0) → Fails e (all_of split check bytes)
   Collects-fails e left (inl memory) = inl memory
   Collects-fails e left (inr bad) =
-      let here = read_on Spells Fault rest (λ r. r ≡ Err e → FaultHere Spells Fault check rest e) (split rest) (λ x. check x.0) (reader.reads rest)
+      let here = behind reader (λ r. r ≡ Err e → FaultHere Spells Fault check rest e) rest (λ x. check x.0)
       (λ x after b wrong. inr (x, after, b, wrong)) (λ d f same. inl (let is : d ≡ e = cc in subst (Fault rest) is f)) in
       inr (all_met check reader bytes (Err e) (record { taken = c.taken; front = c.front; rest = rest; parts = c.parts; there = c.there; left = left; why = here bad }))
 
+  -- behind the last thing, all are read
   pub Collects-done : length rest ≡ 0 → (xs : List X) × (all_of split check bytes ≡ Ok xs) × (state ≡ message xs)
   Collects-done none =
       let whole : bytes ≡ c.front = rw (c.parts, nil_from_length rest none, append-nil) refl in
       (c.taken, rw whole (all_met check reader c.front (Ok c.taken) c.there), c.state_is)
-
--- whether bytes are left
-
-pub not_empty : (b : Bool) (n : ℕ) → b ≡ eqb n 0 → b ≡ false → 0 < n
-not_empty b n is e = let ne = eqb-false n 0 (sym is ∙ e) in omega (arith, ne)
-
-pub is_empty : (b : Bool) (n : ℕ) → b ≡ eqb n 0 → b ≡ true → n ≡ 0
-is_empty b n is e = eqb-true n 0 (sym is ∙ e)
-
--- packed numbers are put behind the old ones
-pub numbers_add : (old : List ℕ) → Adds (λ (ns : List ℕ). old ++ ns) (λ (m : List ℕ) (n : ℕ). m ++ n ∷ [])
-numbers_add old = record { push = λ ns n. sym (append_assoc old ns (n ∷ [])) }
-
-pub uint32_is : (n m : ℕ) → as_uint32 n ≡ Ok m → m ≡ n
-uint32_is n m e = grind arith

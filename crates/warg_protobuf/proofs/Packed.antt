@@ -1,7 +1,6 @@
 -- Packed numbers: what reading their bytes gives stands there, and what stands there is read.
 use Rattle.std.proofs.Common.{◌≡◌, ℕ, ◌^◌, ◌<◌, ◌≤◌, List, Result, Ok, Err, subst, arith, inl, inr}
 use Rattle.std.specs.Prelude.{◌↔◌}
-use Rattle.std.proofs.lemmas.Bool.{cases_lt}
 use Rattle.std.proofs.lemmas.List.Elements.{All-from_recursion, recursion_from_All}
 use Rattle.warg_protobuf.specs.declared.error.WireError.{WireError}
 use Rattle.warg_protobuf.specs.declared.error.WireError.TheVariants as errors
@@ -14,15 +13,6 @@ use Rattle.warg_protobuf.proofs.Varints.{varints}
 use Rattle.warg_protobuf.proofs.Sequences.{AreThere, FaultHere, AllStand, all_stand, all_met}
 
 -- ---- numbers that are uint32s
-
-low_checks : (n : ℕ) → n < 2 ^ 32 → is_uint32 n ≡ Ok tt
-low_checks n lt = grind arith
-
-high_fails : (n : ℕ) → 2 ^ 32 ≤ n → is_uint32 n ≡ Err errors.NumberTooLarge
-high_fails n le = grind arith
-
-checked_low : (n : ℕ) → is_uint32 n ≡ Ok tt → n < 2 ^ 32
-checked_low n h = grind arith
 
 abbrev IsLow : ℕ → Type 0
 IsLow n = n < 2 ^ 32
@@ -43,20 +33,19 @@ NumberHere bytes e = FaultHere IsVarint VarintFault is_uint32 bytes e
 number_fault : (bytes : List ℕ) (e : WireError) → NumberHere bytes e → NumberFault bytes e
 number_fault bytes e (inl cut) = in_number e cut
 number_fault bytes e (inr (n, rest, b, bad)) =
-    elim (cases_lt n (2 ^ 32)) [
-      | inl lt ↦ absurd (let good = low_checks n lt in cc)
-      | inr le ↦ let is : errors.NumberTooLarge ≡ e = (let high = high_fails n le in cc) in subst (NumberFault bytes) is (too_large n rest b le)
-    ]
+    let why : (2 ^ 32 ≤ n) × (errors.NumberTooLarge ≡ e) = grind arith in
+    subst (NumberFault bytes) why.1 (too_large n rest b why.0)
 
 fault_number : (bytes : List ℕ) (e : WireError) → NumberFault bytes e → NumberHere bytes e
 fault_number bytes e (in_number fault v) = inl v
-fault_number bytes e (too_large n rest b le) = inr (n, rest, b, high_fails n le)
+fault_number bytes e (too_large n rest b le) = inr (n, rest, b, grind arith)
 
+-- numbers that stand there and check are packed numbers, and the other way round
 numbers_packed : (bytes ns : List ℕ) → AreThere IsVarint is_uint32 bytes ns → IsPacked bytes ns
-numbers_packed bytes ns there = grind (arith, All-from_recursion IsLow ns (all_weaken Checks IsLow checked_low ns there.1))
+numbers_packed bytes ns there = grind (arith, All-from_recursion IsLow ns (all_weaken Checks IsLow (λ n h. grind arith) ns there.1))
 
 packed_numbers : (bytes ns : List ℕ) → IsPacked bytes ns → AreThere IsVarint is_uint32 bytes ns
-packed_numbers bytes ns p = (p.spelled, all_weaken IsLow Checks low_checks ns (recursion_from_All IsLow ns p.fit))
+packed_numbers bytes ns p = (p.spelled, all_weaken IsLow Checks (λ n h. grind arith) ns (recursion_from_All IsLow ns p.fit))
 
 packed : (bytes : List ℕ) (r : Result (List ℕ) WireError) → AllStand IsVarint VarintFault is_uint32 bytes r → PackedStands bytes r
 packed bytes r stands = grind (arith, numbers_packed, number_fault)

@@ -35,6 +35,7 @@ pub parts_joined : (bytes a b rest after : List ℕ) → bytes ≡ a ++ rest →
 parts_joined bytes a b rest after e f = e ∙ ap (λ (l : List ℕ). a ++ l) f ∙ sym (append_assoc a b after)
 
 module _ {X : Type 0} {split : Reader X} {Spells : List ℕ → X → Type 0} {Fault : List ℕ → WireError → Type 0} (reader : IsReader split Spells Fault) where
+  -- what is read stands at the front, and what stands there is read
   pub found : (bytes : List ℕ) (x : X) (rest : List ℕ) → split bytes ≡ Ok (x, rest) → BeginsWith Spells bytes x rest
   found bytes x rest e = subst (Stands Spells Fault bytes) e (reader.reads bytes)
 
@@ -44,6 +45,12 @@ module _ {X : Type 0} {split : Reader X} {Spells : List ℕ → X → Type 0} {F
   pub fault_found : (bytes : List ℕ) (e : WireError) → split bytes ≡ Err e → Fault bytes e
   fault_found bytes e h = subst (Stands Spells Fault bytes) h (reader.reads bytes)
 
+  -- what holds of reading on, by what stands at the front
+  pub behind : {Y : Type 0} (P : Result Y WireError → Type 0) (bytes : List ℕ) (f : X × List ℕ → Result Y WireError)
+      → ((x : X) (rest : List ℕ) → BeginsWith Spells bytes x rest → P (f (x, rest))) → ((e : WireError) → Fault bytes e → P (Err e)) → P (split bytes >>= f)
+  behind P bytes f ok err = read_on Spells Fault bytes P (split bytes) f (reader.reads bytes) ok err
+
+  -- what follows is shorter than the whole
   pub shorter : (bytes : List ℕ) (x : X) (rest : List ℕ) → BeginsWith Spells bytes x rest → length rest < length bytes
   shorter bytes x rest b = omega (arith, ap length b.parts, length-append b.front rest, reader.not_empty b.front x b.spelled)
 

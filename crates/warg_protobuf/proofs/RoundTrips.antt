@@ -1,4 +1,5 @@
--- The written form of each message is read as that message.
+-- The written form of each message is read as that message: its parts are written, and `simp` reads each part's values, where
+-- `other` lets it pass over the parts of other numbers.
 use Rattle.std.proofs.Common.{◌≡◌, Some, None, false, refl, arith}
 use Rattle.std.proofs.lemmas.List.{append-nil, length-append}
 use Rattle.std.proofs.lemmas.List.Concat.{flat_map-append}
@@ -27,7 +28,7 @@ pub logs_again : ReadsAgain log_schema log_fields LogFits
 unfolding log_schema log_fields
 logs_again m fits short =
     let other : false ≡ false = refl in
-    let lengths = simp (flat_map-append, length-append) at short in
+    let sizes = simp (flat_map-append, length-append) at short in
     let read = all_read entry_schema entry_fields EntryFits entries_again 4 m.hashes fits.hashes (omega arith) in
     let length = uint32_written log_schema 1 m.log_length (refl, λ p. refl) fits.log_length in
     let lengths = packed_written log_schema 2 m.consistent_lengths (refl, λ p. refl) fits.consistent_lengths in
@@ -44,7 +45,7 @@ pub stacks_again : ReadsAgain stack_schema stack_fields StackFits
 unfolding stack_schema stack_fields
 stacks_again m fits short =
     let other : false ≡ false = refl in
-    let lengths = simp (flat_map-append, length-append) at short in
+    let sizes = simp (flat_map-append, length-append) at short in
     let read = all_read entry_schema entry_fields EntryFits entries_again 2 m.stack fits.stack (omega arith) in
     let length = uint32_written stack_schema 1 m.length (refl, λ p. refl) fits.length in
     let roots = nested_written stack_schema entry_schema entry_fields 2 (refl, λ p. refl) m.stack read in
@@ -82,7 +83,7 @@ pub maps_again : ReadsAgain map_schema map_fields Anything
 unfolding map_schema map_fields
 maps_again m fits short =
     let other : false ≡ false = refl in
-    let lengths = simp (flat_map-append, length-append) at short in
+    let sizes = simp (flat_map-append, length-append) at short in
     let held = all_read proof_schema proof_fields Anything proofs_again 1 m.proofs (λ k d lt. tt) (omega arith) in
     let absent = all_read proof_schema proof_fields Anything proofs_again 2 m.absences (λ k d lt. tt) (omega arith) in
     let proofs = nested_written map_schema proof_schema proof_fields 1 (refl, λ p. refl) m.proofs held in

@@ -6,7 +6,7 @@ use Rattle.warg_protobuf.specs.Reading.{◌>>=◌, all_in, all_of, Reader, Check
 use Rattle.warg_protobuf.specs.Field.{SpellsAll}
 use Rattle.warg_protobuf.specs.Faults.{BeginsWith}
 use Rattle.warg_protobuf.specs.Spelled.{AllCheck}
-use Rattle.warg_protobuf.proofs.Readers.{IsReader, two_steps, read_on, begins, shorter, parts_joined}
+use Rattle.warg_protobuf.proofs.Readers.{IsReader, two_steps, behind, begins, shorter, parts_joined}
 
 -- These things are spelled in the bytes, and they check.
 abbrev pub AreThere : {X : Type 0} → (List ℕ → X → Type 0) → Check X → List ℕ → List X → Type 0
@@ -58,7 +58,7 @@ module _ {X : Type 0} {split : Reader X} {Spells : List ℕ → X → Type 0} {F
   all_stand_in (suc more) [] le = (refl, tt)
   all_stand_in (suc more) (b ∷ bytes) le =
       let Here : Result (List X) WireError → Type 0 = AllStand Spells Fault check (b ∷ bytes) in
-      read_on Spells Fault (b ∷ bytes) Here (split (b ∷ bytes)) (λ x. check x.0 >>= λ _. all_in split check more x.1 >>= λ xs. Ok (x.0 ∷ xs)) (reader.reads (b ∷ bytes))
+      behind reader Here (b ∷ bytes) (λ x. check x.0 >>= λ _. all_in split check more x.1 >>= λ xs. Ok (x.0 ∷ xs))
       (λ x rest s. two_steps Here (check x) (λ _. all_in split check more rest >>= λ xs. Ok (x ∷ xs))
       (λ _ good. let lt = shorter reader (b ∷ bytes) x rest s in one_more (b ∷ bytes) x rest s good (all_in split check more rest) (all_stand_in more rest (omega arith)))
       (λ e bad. fault_here b bytes e (inr (x, rest, s, bad))))

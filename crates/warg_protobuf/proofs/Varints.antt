@@ -1,5 +1,6 @@
 -- Varints: the recursion that reads them, the loop that writes them, and that both agree.
-use Rattle.std.proofs.Common.{◌≡◌, ◌≢◌, ℕ, zero, suc, ◌+◌, ◌-◌, ◌*◌, ◌/◌, ◌%◌, ◌^◌, ◌<◌, ◌≤◌, List, [], ◌∷◌, ◌++◌, length, get_or, drop, Result, Ok, Err, refl, ap, ◌∙◌, append_assoc, sub-one, arith, inl, inr}
+use Rattle.std.proofs.Common.{◌≡◌, ◌≢◌, ℕ, zero, suc, ◌+◌, ◌-◌, ◌*◌, ◌/◌, ◌%◌, ◌^◌, ◌<◌, ◌≤◌, List, [], ◌∷◌, ◌++◌, length, get_or, drop, Result, Ok, Err, refl, ap, append_assoc, sub-one, arith, inl, inr}
+use Rattle.std.proofs.lemmas.Grind.{common_steps}
 use Rattle.std.proofs.lemmas.Bool.{cases_lt, lt-ltb, le-ltb}
 use Rattle.std.proofs.Math.Nat.{pow-le-pow_right, pow-succ', one-le-pow}
 use Rattle.warg_protobuf.specs.declared.error.WireError.{WireError}
@@ -67,10 +68,12 @@ data VarintFaultIn (more : ℕ) (bytes : List ℕ) : WireError → Type 0 where
 abbrev StandsIn : ℕ → List ℕ → Result (ℕ × List ℕ) WireError → Type 0
 StandsIn more bytes r = Stands (IsNumberIn more) (VarintFaultIn more) bytes r
 
+-- a last byte is a number by itself
 one_byte : (more b : ℕ) (rest : List ℕ) → b < 128 → b < 2 * 128 ^ more → BeginsWith (IsNumberIn more) (b ∷ rest) b rest
 one_byte more b rest last below =
     record { front = b ∷ []; spelled = record { groups = (last, refl); short = omega arith; below = below }; parts = refl }
 
+-- a byte that goes on moves the fault one byte back
 goes_on : (more b : ℕ) (bytes : List ℕ) (e : WireError) → 128 ≤ b → VarintFaultIn more bytes e
     → VarintFaultIn (suc more) (b ∷ bytes) e
 goes_on more b bytes e le (ends_in short on) = ends_in (omega arith) (le, on)
@@ -99,6 +102,7 @@ varint_stands_in (suc more) (b ∷ bytes) =
           }) (λ e f. goes_on more b bytes e le f))
     ]
 
+-- ten bytes at most
 varint_stands : (bytes : List ℕ) (r : Result (ℕ × List ℕ) WireError) → StandsIn 9 bytes r → Stands IsVarint VarintFault bytes r
 varint_stands bytes (Ok x) s = record {
   front = s.front;
@@ -119,6 +123,7 @@ varint_again_in zero (b ∷ c ∷ text) n rest g short below = absurd (omega ari
 varint_again_in (suc more) (b ∷ []) n rest g short below = grind arith
 varint_again_in (suc more) (b ∷ c ∷ text) n rest g short below = grind (arith, pow-succ' 128 more, varint_again_in more (c ∷ text) g.1 rest g.3)
 
+-- each fault is the one that reading names
 ends_read : (more : ℕ) (bytes : List ℕ) → length bytes < suc more → AllGoOn bytes → varint_in more bytes ≡ Err errors.Truncated
 unfolding varint_in
 ends_read zero [] short on = refl
@@ -137,11 +142,10 @@ last_read (suc more) (c ∷ front) rest b long on above = grind (arith, last_rea
 fault_varint : (bytes : List ℕ) (e : WireError) → VarintFault bytes e → varint_at bytes ≡ Err e
 unfolding varint_at
 fault_varint bytes e (ends short on) = ends_read 9 bytes short on
-fault_varint bytes e (tenth nine rest b long on above parts) = ap (varint_in 9) parts ∙ last_read 9 nine rest b long on above
+fault_varint bytes e (tenth nine rest b long on above parts) = rw (parts, last_read 9 nine rest b long on above) refl
 
 pub varint_not_empty : (text : List ℕ) (n : ℕ) → IsVarint text n → 0 < length text
-varint_not_empty [] n v = absurd v.groups
-varint_not_empty (b ∷ text) n v = omega arith
+varint_not_empty text n v = grind (arith, common_steps)
 
 pub varints : IsReader varint_at IsVarint VarintFault
 unfolding varint_at

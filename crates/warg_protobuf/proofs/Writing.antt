@@ -1,5 +1,5 @@
 -- What is written spells its fields, and they say what was written.
-use Rattle.std.proofs.Common.{◌≡◌, ℕ, ◌+◌, ◌*◌, ◌^◌, ◌<◌, Bool, false, cond, eqb, List, [], ◌∷◌, ◌++◌, length, Result, Ok, Err, refl, sym, subst, arith}
+use Rattle.std.proofs.Common.{◌≡◌, ℕ, ◌+◌, ◌*◌, ◌^◌, ◌<◌, Bool, false, cond, eqb, List, [], ◌∷◌, ◌++◌, length, Result, Ok, Err, refl, sym, arith}
 use Rattle.std.specs.Prelude.{All, IfOk, OnOk, Vec, IsTrue, nat_lt, ◌&&◌}
 use Rattle.std.specs.declared.alloc.AllocError.{AllocError}
 use Rattle.std.specs.List.{flat_map, AllByRecursion}
@@ -11,7 +11,7 @@ use Rattle.warg_protobuf.specs.declared.error.WireError.{WireError}
 use Rattle.warg_protobuf.specs.Reading.{Check}
 use Rattle.warg_protobuf.specs.Varint.{IsVarint, varint_bytes}
 use Rattle.warg_protobuf.specs.Field.{Payload, varint, fixed64, delimited, fixed32, Field, wire_type, SpellsPayload, SpellsField, SpellsAll}
-use Rattle.warg_protobuf.specs.Schema.{Schema, check_by, as_uint32, packed_uint32s, uint32_in, bytes_in, uint32s_in, uint32, bytes, uint32s, message, message_of, message_in, each, value, values, last_of}
+use Rattle.warg_protobuf.specs.Schema.{Schema, check_by, packed_uint32s, uint32_in, bytes_in, uint32s_in, uint32, bytes, uint32s, message, message_of, message_in, each, value, values, last_of}
 use Rattle.warg_protobuf.specs.Spelled.{IsSpelled, IsEncoded}
 use Rattle.warg_protobuf.specs.Written.{payload_bytes, field_bytes, fields_bytes, uint32_fields, bytes_fields, packed_fields, repeated_fields, message_fields}
 use Rattle.warg_protobuf.proofs.Varints.{varint_bytes_is}
@@ -77,9 +77,6 @@ pub field_written : {M : Type 0} (schema : Schema M) (k : ℕ) (check : Check Pa
     → (p : Payload) → PayloadFits p → check p ≡ Ok tt → IsWritten schema (record { number = k; payload = p })
 field_written schema k check has p fits good = grind arith
 
-uint32_ok : (n : ℕ) → n < 2 ^ 32 → as_uint32 n ≡ Ok n
-uint32_ok n lt = grind arith
-
 pub uint32_written : {M : Type 0} (schema : Schema M) (k n : ℕ) → HasField schema k uint32 → n < 2 ^ 32
     → AreWritten schema (uint32_fields k n)
 unfolding uint32_in
@@ -98,10 +95,9 @@ repeated_written schema k (inner ∷ inners) has = grind (arith, repeated_writte
 
 packed_spelled : (ns : List ℕ) → All (λ n. n < 2 ^ 32) ns → SpellsAll IsVarint (flat_map varint_bytes ns) ns
 packed_spelled [] fit = refl
-packed_spelled (n ∷ ns) fit =
-    let low : n < 2 ^ 32 = All-head (λ k. k < 2 ^ 32) n ns fit in
-    (varint_bytes n, flat_map varint_bytes ns, varint_bytes_is n (omega arith), packed_spelled ns (All-tail (λ k. k < 2 ^ 32) n ns fit), refl)
+packed_spelled (n ∷ ns) fit = grind (arith, All-head (λ k. k < 2 ^ 32) n ns fit, varint_bytes_is n, packed_spelled ns (All-tail (λ k. k < 2 ^ 32) n ns fit))
 
+-- packed numbers are read from their written form
 packed_again : (ns : List ℕ) → All (λ n. n < 2 ^ 32) ns → packed_uint32s (flat_map varint_bytes ns) ≡ Ok ns
 packed_again ns fit = (packed_is (flat_map varint_bytes ns) (Ok ns)).0 (record { spelled = packed_spelled ns fit; fit = fit })
 
@@ -162,7 +158,7 @@ pub all_read : {M : Type 0} (schema : Schema M) (fields : M → List Field) (Fit
     → length (fields_bytes (message_fields k fields ms)) < 2 ^ 64 → AllRead schema fields ms
 all_read schema fields Fits again k [] fits short = tt
 all_read schema fields Fits again k (m ∷ ms) fits short =
-    let lengths = simp length-append at short in
+    let sizes = simp length-append at short in
     let spelled = again m (All-head Fits m ms fits) (omega arith) in
     (message_met schema (fields_bytes (fields m)) (Ok m) spelled, all_read schema fields Fits again k ms (All-tail Fits m ms fits) (omega arith))
 
@@ -185,9 +181,5 @@ pub encoded : {A M : Type 0} (schema : Schema M) (fields : M → List Field) (Fi
     → ReadsAgain schema fields Fits → (m : M) (r : Result (Vec ℕ A) AllocError)
     → IfOk r (λ v. v.items ≡ fields_bytes (fields m)) → OnOk r (Fits m) → IfOk r (λ v. length v.items < 2 ^ 64)
     → IfOk r (λ v. IsEncoded schema (λ x. fields_bytes (fields x)) m v.items)
-encoded schema fields Fits again m (Ok v) is fits short =
-    let P : List ℕ → Type 0 = λ l. length l < 2 ^ 64 in
-    let Q : List ℕ → Type 0 = λ l. IsSpelled schema l m in
-    let spells = subst Q (sym is) (again m fits (subst P is short)) in
-    record { written = is; spelled = spells; again = message_met schema v.items (Ok m) spells }
+encoded schema fields Fits again m (Ok v) is fits short = grind (arith, again m fits, message_met schema v.items (Ok m))
 encoded schema fields Fits again m (Err e) is fits short = tt

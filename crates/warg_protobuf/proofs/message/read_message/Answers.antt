@@ -1,21 +1,20 @@
-use Rattle.std.proofs.Common.{refl}
+use Rattle.std.proofs.Common.{◌≡◌, ◌<◌, [], length, refl, arith}
 use Rattle.std.proofs.lemmas.Result.{err_from_is_err_and}
-use Rattle.warg_protobuf.specs.Field.{SpellsField}
 use Rattle.warg_protobuf.specs.Private.Lent.{field_view}
 use Rattle.warg_protobuf.specs.Schema.{check_by, message_of}
 use Rattle.warg_protobuf.proofs.Readers.{found, shorter, Fails-then}
 use Rattle.warg_protobuf.proofs.Fields.{fields}
-use Rattle.warg_protobuf.proofs.Loops.{Collects-start, Collects-next, Collects-fails, Collects-done, not_empty, is_empty}
+use Rattle.warg_protobuf.proofs.Loops.{Collects-next, Collects-fails, Collects-done}
 use Rattle.warg_protobuf.proofs.message.read_message.Goals as goal
 
 pub loop-rest-init : goal.loop-rest-init
-loop-rest-init g c = Collects-start SpellsField (check_by g.M.Message.schema.table) g.M.Message.schema.message c.args.bytes.now _ c.empty-message.ensures
+loop-rest-init g c = record { taken = []; front = []; parts = refl; there = (refl, tt); state_is = c.empty-message.ensures }
 
 pub returns-in_err-field : goal.returns-in_err-field
 unfolding message_of
 returns-in_err-field g c =
     let p = err_from_is_err_and c.from_residual.result c.from_residual.ensures.1 in
-    let left = not_empty c.is_empty.result _ c.is_empty.ensures c.loop-rest-test.true in
+    let left : 0 < length c.loop-rest.rest.now = grind arith in
     let met = Fails-then _ _ (λ x. check_by g.M.Message.schema.table x.0) c.in_err-field.ensures in
     rw (p.1, p.2) (Fails-then _ _ _ (Collects-fails (check_by g.M.Message.schema.table) fields _ _ _ _ c.loop-rest.invariant _ left met))
 
@@ -23,7 +22,7 @@ pub returns-in_err-put : goal.returns-in_err-put
 unfolding message_of
 returns-in_err-put g c =
     let p = err_from_is_err_and c.from_residual-in_err-put.result c.from_residual-in_err-put.ensures.1 in
-    let left = not_empty c.is_empty.result _ c.is_empty.ensures c.loop-rest-test.true in
+    let left : 0 < length c.loop-rest.rest.now = grind arith in
     rw (p.1, p.2) (Fails-then _ _ _ (Collects-fails (check_by g.M.Message.schema.table) fields _ _ _ _ c.loop-rest.invariant _ left (rw c.in_ok-field.ensures c.in_err-put.ensures)))
 
 pub loop-rest-smaller : goal.loop-rest-smaller
@@ -36,5 +35,6 @@ loop-rest-preserved g c =
 pub returns : goal.returns
 unfolding message_of
 returns g c =
-    let d = Collects-done (check_by g.M.Message.schema.table) fields _ _ _ _ c.loop-rest.invariant (is_empty c.is_empty.result _ c.is_empty.ensures c.loop-rest-test.false) in
+    let none : length c.loop-rest.rest.now ≡ 0 = grind arith in
+    let d = Collects-done (check_by g.M.Message.schema.table) fields _ _ _ _ c.loop-rest.invariant none in
     rw (d.1, ← d.2) refl
