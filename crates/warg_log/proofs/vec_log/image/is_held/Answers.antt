@@ -9,7 +9,7 @@ pub children-requires-clause-branch : goal.children-requires-clause-branch
 children-requires-clause-branch g c = is_branch c.args.node.0 c.requires.branch
 
 pub children-requires-clause-low : goal.children-requires-clause-low
-children-requires-clause-low g c = low_by_end 64 c.args.node.0 (omega (arith, c.exists_at_length.ensures.0 c.if-not-exists_at_length.false))
+children-requires-clause-low g c = low_by_end c.args.node.0 (omega (arith, c.exists_at_length.ensures.0 c.if-not-exists_at_length.false))
 
 inside : (g : _) (c : After-children g) → (c.children.result.0.0 < length c.args.tree.now) × (c.children.result.1.0 < length c.args.tree.now)
 inside g c = children_inside _ _ _ _ _ c.requires.branch (c.exists_at_length.ensures.0 c.if-not-exists_at_length.false) c.requires.length c.children.ensures.left c.children.ensures.right
