@@ -8,7 +8,7 @@ use Rattle.std.proofs.lemmas.Nat.{pow_pos}
 use Rattle.warg_log.specs.Nodes.{height_of, place_of, start_of, end_of, number_of}
 use Rattle.warg_log.specs.Tree.{root_of, leaves_in, slice_of, digest_or_spacer}
 use Rattle.warg_log.specs.Private.Slices.{IsSliceUpTo}
-use Rattle.warg_log.proofs.NodeLemmas.{node_is, last_leaf}
+use Rattle.warg_log.proofs.NodeLemmas.{last_leaf}
 use Rattle.warg_log.proofs.SliceLemmas.{slice_of-is, own_leaf}
 use Rattle.warg_log.proofs.BalancedLemmas.{end_is}
 
@@ -25,7 +25,7 @@ kept : (H : List ℕ → List ℕ) (ds : List (List ℕ)) (d : List ℕ) (z : �
 kept H ds d z before low =
     let front = λ (fits : end_of z ≤ length ds). ap (root_of H) (front_kept ds d (start_of z) (2 ^ height_of z) (omega (arith, end_is z))) in
     let flat = λ (at : end_of z ≡ length ds + 1). ap (λ k. 2 ^ k) (let e : height_of z ≡ 0 = omega (arith, low at) in e) in
-    grind (arith, nat_tests, length_push ds d, front, flat, last_leaf z (height_of z) (place_of z) (node_is z))
+    grind (arith, nat_tests, length_push ds d, front, flat, last_leaf z)
 
 -- the slice with room for a leaf: a spacer, unless there is no leaf yet
 pub record HasRoom (H : List ℕ → List ℕ) (ds base : List (List ℕ)) : Type 0 where
@@ -44,7 +44,7 @@ room_more H tree is some =
     let len = length_push tree (H []) in
     record {
       len = omega (arith, len, slice.len);
-      holds = λ z lt. grind (arith, nat_tests, len, get_or-append tree (H [] ∷ []) [] z, slice.holds z, slice.len, get_or-append_seam tree (H []) [] [], last_leaf z (height_of z) (place_of z) (node_is z), pow_pos (height_of z));
+      holds = λ z lt. grind (arith, nat_tests, len, get_or-append tree (H [] ∷ []) [] z, slice.holds z, slice.len, get_or-append_seam tree (H []) [] [], last_leaf z, pow_pos (height_of z));
       leaves = λ d. leaves_in-two tree (H []) d (omega (arith, slice.len));
     }
 

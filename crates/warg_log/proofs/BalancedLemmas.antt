@@ -82,8 +82,8 @@ pub roots : (P : ℕ → ℕ → List ℕ → Type 0) → Rule P → (n : ℕ) �
 roots P R n = let start : 0 * 2 ^ n ≡ 0 = omega arith in rw start at (roots_within P R n 0 n (below_pow n))
 
 -- the balanced roots follow one another, and their heights fall
-pub balanced_roots-row : (n : ℕ) → Follow 0 n (balanced_roots n) × Fall n (balanced_roots n)
-balanced_roots-row n =
+pub balanced_roots_row : (n : ℕ) → Follow 0 n (balanced_roots n) × Fall n (balanced_roots n)
+balanced_roots_row n =
     let row = roots (λ a n ts. Follow a (a + n) ts × ((k : ℕ) → n < 2 ^ k → Fall k ts)) (record {
       none = λ a. (omega arith, λ k lt. tt);
       first = λ h c m ts lt rest.

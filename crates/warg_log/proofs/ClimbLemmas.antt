@@ -10,9 +10,9 @@ use Rattle.warg_log.specs.Cut.{top_of, cut_over, cut_root, old_root, IsFull}
 use Rattle.warg_log.specs.Walks.{climbed, joined_all}
 use Rattle.warg_protobuf.proofs.ForCallers.{all_weaken}
 use Rattle.warg_log.proofs.NodeLemmas.{node_is, only_number, over_at, over_ends}
-use Rattle.warg_log.proofs.CutLemmas.{cut_over-read, cut_over-split, nothing_beside}
+use Rattle.warg_log.proofs.CutLemmas.{cut_over_read, cut_over-split, nothing_beside}
 use Rattle.warg_log.proofs.WayLemmas.{IsBeside, missed}
-use Rattle.warg_log.proofs.BalancedLemmas.{end_is, balanced_first, none_left, roots, roots_end, balanced_roots-row}
+use Rattle.warg_log.proofs.BalancedLemmas.{end_is, balanced_first, none_left, roots, roots_end, balanced_roots_row}
 use Rattle.warg_log.proofs.OrderLemmas.{above, climb, not_power}
 
 -- ---- only the balanced roots follow one another with heights that fall
@@ -32,8 +32,8 @@ only_row h a e (t ∷ ts) follow fall =
     let first = balanced_first (height_of t) a (e - a) (omega (arith, bound, ends)) (omega (arith, bound, ends, pow-suc)) in
     grind (arith, follow.0, ends, only_number t (height_of t) (place_of t) (node_is t), first, only_row (height_of t) (end_of t) e ts follow.1 fall.1)
 
-pub balanced_roots-only : (n h : ℕ) (ts : List ℕ) → Follow 0 n ts → Fall h ts → ts ≡ balanced_roots n
-balanced_roots-only n h ts follow fall = let all : n - 0 ≡ n = omega arith in rw all at (only_row h 0 n ts follow fall)
+pub balanced_roots_only : (n h : ℕ) (ts : List ℕ) → Follow 0 n ts → Fall h ts → ts ≡ balanced_roots n
+balanced_roots_only n h ts follow fall = let all : n - 0 ≡ n = omega arith in rw all at (only_row h 0 n ts follow fall)
 
 -- ---- a cut root joins those of the balanced roots
 
@@ -68,7 +68,7 @@ module _ (H : List ℕ → List ℕ) (F : ℕ → Option (List ℕ)) (x : List �
   all_read : (ts : List ℕ) → AllByRecursion Misses ts → map range_cut ts ≡ map F ts
   all_read [] all = refl
   all_read (t ∷ ts) all =
-      let read = cut_over-read H F x s w (start_of t) (2 ^ height_of t) (missed s w (start_of t) (2 ^ height_of t) (pow_pos (height_of t)) all.0) (inr ((height_of t, refl), all.0)) in
+      let read = cut_over_read H F x s w (start_of t) (2 ^ height_of t) (missed s w (start_of t) (2 ^ height_of t) (pow_pos (height_of t)) all.0) (inr ((height_of t, refl), all.0)) in
       rw (read, all_read ts all.1, ← only_number t (height_of t) (place_of t) (node_is t)) refl
 
   -- all roots but the one above the target miss it
@@ -94,16 +94,16 @@ unfolding top_of
 climb_cut H F x k j c = climb k j (λ d way. top_of H F x way ≡ climbed H F (Some x) k j d) refl
     (λ d way is. ⊎_elim (λ (t : (j / 2 ^ d % 2 == 0) ≡ true). rw (t, is) refl) (λ (f : (j / 2 ^ d % 2 == 0) ≡ false). rw (f, is) refl) (cases_Bool (j / 2 ^ d % 2 == 0))) c
 
-pub cut_root-walk : (H : List ℕ → List ℕ) (F : ℕ → Option (List ℕ)) (t : ℕ) (x : List ℕ) (n c : ℕ) (left right : List ℕ) → 0 < n
+pub cut_root_walk : (H : List ℕ → List ℕ) (F : ℕ → Option (List ℕ)) (t : ℕ) (x : List ℕ) (n c : ℕ) (left right : List ℕ) → 0 < n
     → balanced_roots n ≡ left ++ number_of (height_of t + c) (place_of t / 2 ^ c) ∷ right
     → cut_root H F t x n ≡ joined_all H (map F left ++ climbed H F (Some x) (height_of t) (place_of t) c ∷ map F right)
-cut_root-walk H F t x n c left right some split =
+cut_root_walk H F t x n c left right some split =
     let s = start_of t in
     let w = 2 ^ height_of t in
     let k = height_of t + c in
     let i = place_of t / 2 ^ c in
     let at = over_at k i in
     let within = above c (height_of t) (place_of t) in
-    let beside = others_beside H F x s w 0 n (number_of k i) left right (grind (arith, at, within)) (omega (arith, over_ends k i, within)) (rw split at (balanced_roots-row n).0) in
+    let beside = others_beside H F x s w 0 n (number_of k i) left right (grind (arith, at, within)) (omega (arith, over_ends k i, within)) (rw split at (balanced_roots_row n).0) in
     let here : range_cut H F x s w (number_of k i) ≡ climbed H F (Some x) (height_of t) (place_of t) c = rw (at.0, at.1) (climb_cut H F x (height_of t) (place_of t) c) in
     cut_roots H F x s w (λ _. (height_of t, refl)) n some ∙ rw (split, map-append, here, all_read H F x s w left beside.1, all_read H F x s w right beside.2) refl

@@ -56,16 +56,16 @@ front_is_greatest n more = let f = powers.front_is n more in rw f.1 ((f.0, refl)
 
 -- a power of two below a count whose double isn't below it is the front
 pub front_of_is : (h n : ℕ) → 2 ^ h < n → n ≤ 2 ^ suc h → front_of n ≡ 2 ^ h
-front_of_is = powers.front_of-is
+front_of_is = powers.front_of_is
 
 -- the root over one leaf is its digest
 pub root_over_one : (H : List ℕ → List ℕ) (ds : List (List ℕ)) (a : ℕ) → a < length ds → root_over H ds a 1 ≡ slice_index_or ds a []
-root_over_one = laws.root_over-one
+root_over_one = laws.root_over_one
 
 -- the root over more leaves is the branch over those of the two parts
 pub root_over_parts : (H : List ℕ → List ℕ) (ds : List (List ℕ)) (a n : ℕ) → 1 < n → a + n ≤ length ds
     → root_over H ds a n ≡ branch H (root_over H ds a (front_of n)) (root_over H ds (a + front_of n) (n - front_of n))
-root_over_parts H ds a n more fits = let f = powers.front_is n more in rw f.1 (cuts.root_over-split H ds f.0 a n f.2 f.3 fits)
+root_over_parts H ds a n more fits = let f = powers.front_is n more in rw f.1 (cuts.root_over_split H ds f.0 a n f.2 f.3 fits)
 
 -- the balanced root of a power of two of leaves is the node over them
 pub balanced_full : (a n : ℕ) → IsFull n → balanced_over a n ≡ node_over a n ∷ []
@@ -79,12 +79,12 @@ balanced_parts a n more part =
 
 -- the cut root of the target is the digest in its place
 pub cut_target : (H : List ℕ → List ℕ) (F : ℕ → Option (List ℕ)) (x : List ℕ) (s w : ℕ) → cut_over H F x s w s w ≡ Some x
-cut_target = cuts.cut_over-target
+cut_target = cuts.cut_over_target
 
 -- the cut root of a range that isn't read is the branch over those of its parts
 pub cut_parts : (H : List ℕ → List ℕ) (F : ℕ → Option (List ℕ)) (x : List ℕ) (s w a n : ℕ) → 1 < n → (a ≡ s → n ≡ w → ⊥) → (IsFull n → (a + n ≤ s) ⊎ (s + w ≤ a) → ⊥)
     → cut_over H F x s w a n ≡ joined H (cut_over H F x s w a (front_of n)) (cut_over H F x s w (a + front_of n) (n - front_of n))
-cut_parts = cuts.cut_over-parts
+cut_parts = cuts.cut_over_parts
 
 -- the cut root of a range that misses the target is its old root
 pub cut_old : (H : List ℕ → List ℕ) (F : ℕ → Option (List ℕ)) (x : List ℕ) (s w a n : ℕ) → 0 < w → 0 < n → (a + n ≤ s) ⊎ (s + w ≤ a) → cut_over H F x s w a n ≡ old_over H F a n
@@ -102,12 +102,12 @@ cut_own_range H ds s w a n some aligned = cuts.own_at H ds _ s w aligned.height 
 
 -- the old root of a power of two of leaves is the digest that is held for them
 pub old_full : (H : List ℕ → List ℕ) (F : ℕ → Option (List ℕ)) (a n : ℕ) → IsFull n → old_over H F a n ≡ F (node_over a n)
-old_full H F a n full = let some : 0 < n = rw full.1 (pow_pos full.0) in cuts.old_over-full H F a n some full
+old_full H F a n full = let some : 0 < n = rw full.1 (pow_pos full.0) in cuts.old_over_full H F a n some full
 
 -- the old root of other leaves is the branch over those of the two parts
 pub old_parts : (H : List ℕ → List ℕ) (F : ℕ → Option (List ℕ)) (a n : ℕ) → 1 < n → (IsFull n → ⊥)
     → old_over H F a n ≡ joined H (old_over H F a (front_of n)) (old_over H F (a + front_of n) (n - front_of n))
-old_parts = cuts.old_over-parts
+old_parts = cuts.old_over_parts
 
 -- over a log's own digests the old root of a range of its recursion is the root over it
 pub old_own_range : (H : List ℕ → List ℕ) (ds : List (List ℕ)) (a n : ℕ) → 0 < n → IsAligned a n → a + n ≤ length ds

@@ -12,7 +12,7 @@ use Rattle.warg_log.specs.Blocks.{Blocks}
 use Rattle.warg_protobuf.specs.Decoding.{first_fault, digest_fault}
 use Rattle.warg_log.specs.Images.{root_entry, stack_message, stack_in}
 use Rattle.warg_protobuf.proofs.ForCallers.{all_weaken}
-use Rattle.warg_log.proofs.NodeLemmas.{node_is, last_leaf}
+use Rattle.warg_log.proofs.NodeLemmas.{last_leaf}
 use Rattle.warg_log.proofs.BalancedLemmas.{balanced_first, has_first_over, roots_end}
 
 pub all_good : (ds : List (List ℕ)) → AllByRecursion (λ d. length d ≡ 32) ds → first_fault digest_fault ds ≡ None
@@ -34,7 +34,7 @@ stack_again b count lens =
 
 -- the lengths whose balanced roots fit in 32 bits
 pub roots_fit : (n : ℕ) → n ≤ 2 ^ 31 → (n < 2 ^ 32) × AllByRecursion (λ t. t < 2 ^ 32) (balanced_roots n)
-roots_fit n le = (omega arith, all_weaken (λ t. end_of t ≤ n) _ (λ t ends. omega (arith, last_leaf t (height_of t) (place_of t) (node_is t), ends, le)) _ (roots_end n n (omega arith)))
+roots_fit n le = (omega arith, all_weaken (λ t. end_of t ≤ n) _ (λ t ends. omega (arith, last_leaf t, ends, le)) _ (roots_end n n (omega arith)))
 
 pub roots_too_large : (n : ℕ) → 2 ^ 31 < n → (n < 2 ^ 32) × AllByRecursion (λ t. t < 2 ^ 32) (balanced_roots n) → ⊥
 roots_too_large n above fits =

@@ -10,14 +10,14 @@ use Rattle.warg_log.specs.Cut.{joined, is_beside, Way, at_target, at_node, at_pa
 use Rattle.warg_log.specs.Walks.{needed, read_on}
 use Rattle.warg_protobuf.proofs.ForCallers.{all_append}
 use Rattle.warg_log.proofs.NodeLemmas.{over_ends}
-use Rattle.warg_log.proofs.RootLemmas.{root_of-one}
+use Rattle.warg_log.proofs.RootLemmas.{root_of_one}
 use Rattle.warg_log.proofs.WayLemmas.{IsBeside, ways_from, front_missed, rest_missed}
-use Rattle.warg_log.proofs.CutLemmas.{old_over-full, old_over-split}
+use Rattle.warg_log.proofs.CutLemmas.{old_over_full, old_over-split}
 
-pub root_over-one : (H : List ℕ → List ℕ) (ds : List (List ℕ)) (a : ℕ) → a < length ds → root_over H ds a 1 ≡ slice_index_or ds a []
-root_over-one H [] a lt = absurd (omega arith)
-root_over-one H (d ∷ ds) zero lt = root_of-one H d
-root_over-one H (d ∷ ds) (suc a) lt = root_over-one H ds a (omega arith)
+pub root_over_one : (H : List ℕ → List ℕ) (ds : List (List ℕ)) (a : ℕ) → a < length ds → root_over H ds a 1 ≡ slice_index_or ds a []
+root_over_one H [] a lt = absurd (omega arith)
+root_over_one H (d ∷ ds) zero lt = root_of_one H d
+root_over_one H (d ∷ ds) (suc a) lt = root_over_one H ds a (omega arith)
 
 -- a height and a place have one number
 pub one_number : (x y k j i : ℕ) → j ≡ i → IsNode x k j → IsNode y k i → x ≡ y
@@ -28,7 +28,7 @@ pub cut_old : (H : List ℕ → List ℕ) (F : ℕ → Option (List ℕ)) (x : L
 unfolding top_of
 cut_old H F x s w a n target some = ways_from s w a (λ a n way. IsBeside s w a n → top_of H F x way ≡ old_over H F a n) (record {
   target = λ leaves beside. absurd (omega arith);
-  node = λ k c a _ _. sym (old_over-full H F a (2 ^ k) (pow_pos k) (k, refl));
+  node = λ k c a _ _. sym (old_over_full H F a (2 ^ k) (pow_pos k) (k, refl));
   parts = λ h a n left right more most apart l r beside.
       rw (l (front_missed s w a n (2 ^ h) (omega arith) beside), r (rest_missed s w a n (2 ^ h) (omega arith) beside))
       (sym (old_over-split H F h a n more most (λ e. apart e beside)));

@@ -13,7 +13,7 @@ use Rattle.warg_log.specs.Cut.{cut_root, old_root}
 use Rattle.warg_protobuf.specs.Reading.{◌>>=◌}
 use Rattle.warg_log.specs.Consistency.{root_to, agreed_root, new_root_of, consistency, LeadsTo, IsConsistent}
 use Rattle.warg_protobuf.proofs.ForCallers.{all_weaken}
-use Rattle.warg_log.proofs.CutLemmas.{cut_root-own, old_root-own}
+use Rattle.warg_log.proofs.CutLemmas.{cut_root_own, old_root_own}
 use Rattle.warg_log.proofs.BalancedLemmas.{has_first_over, roots_end}
 
 -- an evaluation that is Ok
@@ -81,9 +81,9 @@ module _ (H : List ℕ → List ℕ) (F : ℕ → Option (List ℕ)) where
       rw (ne_eqb m 0 (λ none. omega (arith, none, is.some)), le-ltb n m is.order, agree, is.old_root_is) refl
 
 -- a log's own digests
-pub consistency-own : (H : List ℕ → List ℕ) (ds : List (List ℕ)) (m n : ℕ) → 0 < m → m ≤ n → n ≤ length ds
+pub consistency_own : (H : List ℕ → List ℕ) (ds : List (List ℕ)) (m n : ℕ) → 0 < m → m ≤ n → n ≤ length ds
     → consistency H (own_digest H ds) m n ≡ Ok (root_of H (take m ds), root_of H (take n ds))
-consistency-own H ds m n some order fits =
+consistency_own H ds m n some order fits =
     let roots = all_weaken (λ t. end_of t ≤ length ds) (LeadsTo H (own_digest H ds) n (root_of H (take n ds)))
-    (λ t exists. (root_of H (leaves_below t ds), rw (le-leb (end_of t) (length ds) exists) refl, cut_root-own H ds t n (root_of H (leaves_below t ds)) refl (omega arith) fits)) (balanced_roots m) (roots_end m (length ds) (omega arith)) in
-    consistency-then H (own_digest H ds) m n _ _ (record { some = some; order = order; old_root_is = old_root-own H ds m some (omega arith); new_root_is = roots })
+    (λ t exists. (root_of H (leaves_below t ds), rw (le-leb (end_of t) (length ds) exists) refl, cut_root_own H ds t n (root_of H (leaves_below t ds)) refl (omega arith) fits)) (balanced_roots m) (roots_end m (length ds) (omega arith)) in
+    consistency-then H (own_digest H ds) m n _ _ (record { some = some; order = order; old_root_is = old_root_own H ds m some (omega arith); new_root_is = roots })

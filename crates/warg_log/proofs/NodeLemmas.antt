@@ -15,48 +15,6 @@ parts h k le = ap (λ n. 2 ^ n) (sym (add-sub_of_le le)) ∙ pow-add 2 h (k - h)
 pub pow_below_pow : (a b : ℕ) → 2 ^ a < 2 ^ b → a < b
 pow_below_pow a b lt = ⊎_elim (λ less. less) (λ le. absurd (omega (arith, pow-le-pow_right {n = 2} (lit≤ tt) le))) (cases_lt a b)
 
--- a node ends at or behind its width
-pub low_by_end : (b x : ℕ) → end_of x < 2 ^ b → height_of x < b
-low_by_end b x lt = pow_below_pow (height_of x) b (omega arith)
-
--- the parent of a left and of a right node
-pub parent_left : (x k j : ℕ) → IsNode x k j → j % 2 ≡ 0 → IsNode (x + 2 ^ k) (k + 1) (j / 2)
-parent_left x k j is even = let half : j ≡ j / 2 * 2 = omega arith in rw pow-add (omega (arith, ap (λ n. 2 ^ k * n) half))
-
-pub parent_right : (x k j : ℕ) → IsNode x k j → j % 2 ≡ 1 → (2 ^ k ≤ x) × IsNode (x - 2 ^ k) (k + 1) (j / 2)
-parent_right x k j is odd =
-    let half : j ≡ j / 2 * 2 + 1 = omega arith in
-    let scaled : 2 ^ k * j ≡ 2 ^ k * (j / 2 * 2 + 1) = ap (λ n. 2 ^ k * n) half in
-    rw pow-add (omega (arith, pow_pos), omega (arith, pow_pos))
-
--- the sibling of a right node
-pub sibling_right : (x k j : ℕ) → IsNode x k j → j % 2 ≡ 1 → (2 ^ k ≤ x) × (2 ^ k ≤ x - 2 ^ k) × IsNode (x - 2 ^ k - 2 ^ k) k (j - 1)
-sibling_right x k j is odd =
-    let one : j ≡ j - 1 + 1 = omega arith in
-    let scaled : 2 ^ k * j ≡ 2 ^ k * (j - 1 + 1) = ap (λ n. 2 ^ k * n) one in
-    (omega (arith, pow_pos), omega (arith, pow_pos), omega (arith, pow_pos))
-
--- the children of a branch
-pub child_nodes : (x k j : ℕ) → IsNode x k j → 0 < k → (2 ^ (k - 1) ≤ x) × IsNode (x - 2 ^ (k - 1)) (k - 1) (2 * j) × IsNode (x + 2 ^ (k - 1)) (k - 1) (2 * j + 1)
-child_nodes x k j is some = let at = rw (parts 1 k (omega arith)) at is in (omega (arith, pow_pos), omega (arith, pow_pos), omega arith)
-
--- the last leaf below a node
-pub last_leaf : (x k j : ℕ) → IsNode x k j → x + (2 ^ k - 1) + 2 ≡ 2 * ((j + 1) * 2 ^ k)
-last_leaf x k j is = omega (arith, pow_pos)
-
--- the room above a node below height 64, and above a left one below height 63
-pub room : (x k j : ℕ) → IsNode x k j → x < 2 ^ 64 → k < 64 → x + 2 ^ k < 2 ^ 64
-room x k j is lt low =
-    let whole : 2 ^ 63 ≡ 2 ^ k * 2 ^ (63 - k) = parts k 63 (omega arith) in
-    let less : j < 2 ^ (63 - k) = lt_of_mul-lt-mul_left (2 ^ k) (omega (arith, pow_pos)) in
-    let more : 2 ^ k * (j + 1) ≤ 2 ^ k * 2 ^ (63 - k) = mul-le-mul_left (2 ^ k) (omega arith) in
-    omega arith
-
-pub room_left : (x k j : ℕ) → IsNode x k j → x < 2 ^ 64 → k < 63 → j % 2 ≡ 0 → x + 2 ^ k + 2 ^ k < 2 ^ 64
-room_left x k j is lt low even =
-    let below : x + 2 ^ k < 2 ^ 64 = room x k j is lt (omega arith) in
-    omega (arith, pow-add 2 k 1, room (x + 2 ^ k) (k + 1) (j / 2) (parent_left x k j is even) below (omega arith))
-
 -- a node's height and place by its number's halves
 odd_node : (x k j : ℕ) → x % 2 ≡ 1 → IsNode (x / 2) k j → IsNode x (suc k) j
 odd_node x k j odd half = rw pow-suc (omega arith)
@@ -93,19 +51,69 @@ one_place (suc k) (suc k') x j j' is is' = let p = one_place k k' (x / 2) j j' (
 pub node_at : (x k j : ℕ) → IsNode x k j → (height_of x ≡ k) × (place_of x ≡ j)
 node_at x k j is = one_place (height_of x) k x (place_of x) j (node_is x) is
 
--- the program counts the ones at a number's end
-node_by_bits : (k x : ℕ) → bit_at x k ≡ 0 → ((i : ℕ) → i < k → bit_at x i ≡ 1) → (j : ℕ) × IsNode x k j
-node_by_bits zero x low ones = (x / 2, omega arith)
-node_by_bits (suc k) x low ones =
-    let half = node_by_bits k (x / 2) (sym (bit_at-suc x k) ∙ low) (λ i lt. sym (bit_at-suc x i) ∙ ones (suc i) (omega arith)) in
-    (half.0, odd_node x k half.0 (omega (arith, ones 0 (omega arith))) half.1)
+-- a digit b at each place below k, and the other one there
+by_bits : (b k n : ℕ) → b ≤ 1 → bit_at n k ≡ 1 - b → ((i : ℕ) → i < k → bit_at n i ≡ b) → (q : ℕ) × (n + b ≡ (2 * q + 1) * 2 ^ k)
+by_bits b zero n digit other same = (n / 2, omega arith)
+by_bits b (suc k) n digit other same =
+    let half = by_bits b k (n / 2) digit (sym (bit_at-suc n k) ∙ other) (λ i lt. sym (bit_at-suc n i) ∙ same (suc i) (omega arith)) in
+    (half.0, omega (arith, same 0 (omega arith), half.1, ap (λ w. (2 * half.0 + 1) * w) (pow-suc 2 k)))
 
-pub height_of-trailing_ones : (x : ℕ) → x < 2 ^ 64 → height_of x ≡ trailing_ones w64 x
+-- the program counts the ones at a number's end
+pub height_of_trailing_ones : (x : ℕ) → x < 2 ^ 64 → height_of x ≡ trailing_ones w64 x
 unfolding lib.Count.count_trailing_zeros
-height_of-trailing_ones x lt = ⊎_elim
-    (λ below. let t = bit_at-trailing_ones w64 x below in let n = node_by_bits (trailing_ones w64 x) x t.1 t.2 in (node_at x _ n.0 n.1).0)
+height_of_trailing_ones x lt = ⊎_elim
+    (λ below. let t = bit_at-trailing_ones w64 x below in let n = by_bits 1 (trailing_ones w64 x) x (omega arith) t.1 t.2 in (node_at x _ n.0 (omega (arith, n.1))).0)
     (λ above. let top : x ≡ 18446744073709551615 = omega arith in rw top (node_at 18446744073709551615 64 0 refl).0)
     (cases_lt (x + 1) (2 ^ 64))
+
+-- the same as an equation of its first leaf and its width
+pub by_start : (x : ℕ) → 2 ^ height_of x + 2 * start_of x ≡ x + 1
+by_start x = omega (arith, node_is x)
+
+-- a node ends at or behind its width
+pub low_by_end : (x : ℕ) → end_of x < 2 ^ 64 → height_of x < 64
+low_by_end x lt = pow_below_pow (height_of x) 64 (omega arith)
+
+-- the parent of a left and of a right node
+pub parent_left : (x : ℕ) → place_of x % 2 ≡ 0 → IsNode (x + 2 ^ height_of x) (height_of x + 1) (place_of x / 2)
+parent_left x even = let half : place_of x ≡ place_of x / 2 * 2 = omega arith in rw pow-add (omega (arith, node_is x, ap (λ n. 2 ^ height_of x * n) half))
+
+pub parent_right : (x : ℕ) → place_of x % 2 ≡ 1 → (2 ^ height_of x ≤ x) × IsNode (x - 2 ^ height_of x) (height_of x + 1) (place_of x / 2)
+parent_right x odd =
+    let half : place_of x ≡ place_of x / 2 * 2 + 1 = omega arith in
+    let scaled = ap (λ n. 2 ^ height_of x * n) half in
+    rw pow-add (omega (arith, node_is x, scaled, pow_pos), omega (arith, node_is x, scaled, pow_pos))
+
+-- the sibling of a right node
+pub sibling_right : (x : ℕ) → place_of x % 2 ≡ 1 → (2 ^ height_of x + 2 ^ height_of x ≤ x) × IsNode (x - 2 ^ height_of x - 2 ^ height_of x) (height_of x) (place_of x - 1)
+sibling_right x odd =
+    let one : place_of x ≡ place_of x - 1 + 1 = omega arith in
+    let scaled = ap (λ n. 2 ^ height_of x * n) one in
+    (omega (arith, node_is x, scaled, pow_pos), omega (arith, node_is x, scaled, pow_pos))
+
+-- the children of a branch
+pub child_nodes : (x : ℕ) → 0 < height_of x → (2 ^ (height_of x - 1) ≤ x) × IsNode (x - 2 ^ (height_of x - 1)) (height_of x - 1) (2 * place_of x) × IsNode (x + 2 ^ (height_of x - 1)) (height_of x - 1) (2 * place_of x + 1)
+child_nodes x some = let at = rw (parts 1 (height_of x) (omega arith)) at (node_is x) in (omega (arith, at, pow_pos), omega (arith, at, pow_pos), omega (arith, at))
+
+-- the last leaf below a node
+pub last_leaf : (x : ℕ) → x + (2 ^ height_of x - 1) + 2 ≡ 2 * end_of x
+last_leaf x = omega (arith, node_is x, pow_pos)
+
+-- the room above a node below height 64, and above a left one below height 63
+room_at : (x k j : ℕ) → IsNode x k j → x < 2 ^ 64 → k < 64 → x + 2 ^ k < 2 ^ 64
+room_at x k j is lt low =
+    let whole : 2 ^ 63 ≡ 2 ^ k * 2 ^ (63 - k) = parts k 63 (omega arith) in
+    let less : j < 2 ^ (63 - k) = lt_of_mul-lt-mul_left (2 ^ k) (omega (arith, pow_pos)) in
+    let more : 2 ^ k * (j + 1) ≤ 2 ^ k * 2 ^ (63 - k) = mul-le-mul_left (2 ^ k) (omega arith) in
+    omega arith
+
+pub room : (x : ℕ) → x < 2 ^ 64 → height_of x < 64 → x + 2 ^ height_of x < 2 ^ 64
+room x = room_at x (height_of x) (place_of x) (node_is x)
+
+pub room_left : (x : ℕ) → x < 2 ^ 64 → height_of x < 63 → place_of x % 2 ≡ 0 → x + 2 ^ height_of x + 2 ^ height_of x < 2 ^ 64
+room_left x lt low even =
+    let below = room x lt (omega arith) in
+    omega (arith, pow-add 2 (height_of x) 1, room_at (x + 2 ^ height_of x) (height_of x + 1) (place_of x / 2) (parent_left x even) below (omega arith))
 
 -- the node of height h that begins where the j-th node of height k ends
 pub next_at : (h k j : ℕ) → h ≤ k → (height_of (2 * ((j + 1) * 2 ^ k) + (2 ^ h - 1)) ≡ h) × (start_of (2 * ((j + 1) * 2 ^ k) + (2 ^ h - 1)) ≡ (j + 1) * 2 ^ k)
@@ -127,14 +135,8 @@ pub over_ends : (k j : ℕ) → end_of (node_over (j * 2 ^ k) (2 ^ k)) ≡ j * 2
 over_ends k j = let at = over_at k j in rw (at.0, at.1) (omega arith)
 
 -- a length's last balanced root has as many leaves as the greatest power of two that divides the length
-last_by_bits : (k n : ℕ) → bit_at n k ≡ 1 → ((i : ℕ) → i < k → bit_at n i ≡ 0) → (q : ℕ) × (n ≡ (2 * q + 1) * 2 ^ k)
-last_by_bits zero n one zeros = (n / 2, omega arith)
-last_by_bits (suc k) n one zeros =
-    let half = last_by_bits k (n / 2) (sym (bit_at-suc n k) ∙ one) (λ i lt. sym (bit_at-suc n i) ∙ zeros (suc i) (omega arith)) in
-    (half.0, omega (arith, zeros 0 (omega arith), half.1, ap (λ w. (2 * half.0 + 1) * w) (pow-suc 2 k)))
-
 pub last_root : (n : ℕ) → 0 < n → n < 2 ^ 64 → (q : ℕ) × (n ≡ (2 * q + 1) * 2 ^ trailing_zeros w64 n) × (trailing_zeros w64 n < 64)
-last_root n some fits = let t = bit_at-trailing_zeros w64 n some fits in let last = last_by_bits (trailing_zeros w64 n) n t.1 t.2 in (last.0, last.1, t.0)
+last_root n some fits = let t = bit_at-trailing_zeros w64 n some fits in let last = by_bits 0 (trailing_zeros w64 n) n (omega arith) t.1 t.2 in (last.0, omega (arith, last.1), t.0)
 
 pub last_width : (n : ℕ) → 0 < n → n < 2 ^ 64 → (trailing_zeros w64 n < 64) × (1 * 2 ^ trailing_zeros w64 n % 2 ^ 64 ≤ n) × (0 < 1 * 2 ^ trailing_zeros w64 n % 2 ^ 64)
 last_width n some fits =

@@ -13,7 +13,7 @@ use Rattle.warg_log.specs.Walks.{read_on, needed_over, siblings_up}
 use Rattle.warg_protobuf.proofs.ForCallers.{all_append, all_weaken}
 use Rattle.warg_log.proofs.RootLemmas.{below_pow, same_power}
 use Rattle.warg_log.proofs.BalancedLemmas.{balanced_none, balanced_first, balanced_at, balanced_full, roots}
-use Rattle.warg_log.proofs.WayLemmas.{IsBeside, beside_decides, beside_false, cases_beside, missed, front_missed, rest_missed, way_over-target, way_over-read, way_over-split, ways_from}
+use Rattle.warg_log.proofs.WayLemmas.{IsBeside, beside_decides, beside_false, cases_beside, missed, front_missed, rest_missed, way_over_target, way_over-read, way_over-split, ways_from}
 use Rattle.warg_log.proofs.NodeLemmas.{pow_below_pow}
 
 pub reverse-cons : (xs : List ℕ) (x : ℕ) → reverse (x ∷ xs) ≡ reverse xs ++ x ∷ []
@@ -82,7 +82,7 @@ way_up s w h i some low high =
 -- P holds of the way to the j-th node of height k from each node above it where it holds at that node and, if it does at one, at the next
 pub climb : (k j : ℕ) (P : ℕ → Way → Type 0) → P 0 at_target → ((d : ℕ) (way : Way) → P d way → P (suc d) (up (k + d) (j / 2 ^ d) way))
     → (d : ℕ) → P d (way_over (j * 2 ^ k) (2 ^ k) (j / 2 ^ d * 2 ^ (k + d)) (2 ^ (k + d)))
-climb k j P here step zero = let same : j / 2 ^ 0 ≡ j = omega arith in rw (same, add-zero, way_over-target) here
+climb k j P here step zero = let same : j / 2 ^ 0 ≡ j = omega arith in rw (same, add-zero, way_over_target) here
 climb k j P here step (suc d) =
     let next : k + suc d ≡ suc (k + d) = omega arith in
     let half : j / 2 ^ suc d ≡ j / 2 ^ d / 2 = let next : suc d ≡ d + 1 = omega arith in rw next (sym (shr-shr j d 1)) in

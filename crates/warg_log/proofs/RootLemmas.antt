@@ -29,19 +29,19 @@ root_of_within H h (d ∷ ds) pos le =
     settled_at (λ m. root_within H m (d ∷ ds)) n n h (λ k low. rw (le-leb n (2 ^ k) low) refl) (omega (arith, below_pow n)) le
 
 -- the root of more digests than 2 ^ h, and at most twice as many
-pub root_of-split : (H : List ℕ → List ℕ) (h : ℕ) (ds : List (List ℕ)) → 2 ^ h < length ds → length ds ≤ 2 ^ suc h
+pub root_of_split : (H : List ℕ → List ℕ) (h : ℕ) (ds : List (List ℕ)) → 2 ^ h < length ds → length ds ≤ 2 ^ suc h
     → root_of H ds ≡ branch H (root_of H (take (2 ^ h) ds)) (root_of H (drop (2 ^ h) ds))
 unfolding root_within
-root_of-split H h ds more most =
+root_of_split H h ds more most =
     let len_take : length (take (2 ^ h) ds) ≡ 2 ^ h = length-take-le (2 ^ h) ds (omega arith) in
     let len_drop : length (drop (2 ^ h) ds) ≡ length ds - 2 ^ h = length-drop (2 ^ h) ds in
     rw (root_of_within H h (take (2 ^ h) ds) (omega (arith, pow_pos)) (omega arith), root_of_within H h (drop (2 ^ h) ds) (omega arith) (omega (arith, pow-suc)))
     (root_of_within H (suc h) ds (omega arith) most ∙ rw (lt-leb (length ds) (2 ^ h) more) refl)
 
 -- the root of one digest
-pub root_of-one : (H : List ℕ → List ℕ) (d : List ℕ) → root_of H (d ∷ []) ≡ d
+pub root_of_one : (H : List ℕ → List ℕ) (d : List ℕ) → root_of H (d ∷ []) ≡ d
 unfolding root_within
-root_of-one H d = root_of_within H 0 (d ∷ []) (lit< tt) (lit≤ tt)
+root_of_one H d = root_of_within H 0 (d ∷ []) (lit< tt) (lit≤ tt)
 
 -- the greatest power of two below a number
 front_above : (h n : ℕ) → 2 ^ h < n → front_within h n ≡ 2 ^ h
@@ -49,9 +49,9 @@ unfolding front_within
 front_above zero n more = refl
 front_above (suc h) n more = rw (lt-leb n (2 ^ suc h) more) refl
 
-pub front_of-is : (h n : ℕ) → 2 ^ h < n → n ≤ 2 ^ suc h → front_of n ≡ 2 ^ h
+pub front_of_is : (h n : ℕ) → 2 ^ h < n → n ≤ 2 ^ suc h → front_of n ≡ 2 ^ h
 unfolding front_of front_within
-front_of-is h n more most =
+front_of_is h n more most =
     settled_at (λ k. front_within k n) n n (suc h) (λ k low. rw (le-leb n (2 ^ suc k) (omega (arith, pow-suc))) refl) (omega (arith, below_pow)) most
     ∙ rw (le-leb n (2 ^ suc h) most) (front_above h n more)
 
@@ -62,7 +62,7 @@ exponent_below (suc f) n more most = ⊎_elim (λ above. (f, above, most)) (λ l
 
 -- the front of a range of more than one leaf
 pub front_is : (n : ℕ) → 1 < n → (h : ℕ) × (front_of n ≡ 2 ^ h) × (2 ^ h < n) × (n ≤ 2 ^ suc h)
-front_is n more = let e = exponent_below n n more (omega (arith, below_pow)) in (e.0, front_of-is e.0 n e.1 e.2, e.1, e.2)
+front_is n more = let e = exponent_below n n more (omega (arith, below_pow)) in (e.0, front_of_is e.0 n e.1 e.2, e.1, e.2)
 
 -- a power of two is known by the powers around it
 pub same_power : (n r h : ℕ) → 2 ^ r ≤ n → n < 2 * 2 ^ r → n ≡ 2 ^ h → n ≡ 2 ^ r

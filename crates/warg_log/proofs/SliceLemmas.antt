@@ -16,8 +16,8 @@ use Rattle.warg_crypto.specs.Tree.{branch}
 use Rattle.warg_log.specs.Tree.{root_of, root_over, leaves_in, digest_or_spacer, slice_of, own_digest}
 use Rattle.warg_log.specs.Private.Slices.{IsSliceUpTo}
 use Rattle.warg_log.proofs.NodeLemmas.{node_is, over_at, last_root, smaller_root, divides_most}
-use Rattle.warg_log.proofs.CutLemmas.{root_over-split}
-use Rattle.warg_log.proofs.LawLemmas.{root_over-one}
+use Rattle.warg_log.proofs.CutLemmas.{root_over_split}
+use Rattle.warg_log.proofs.LawLemmas.{root_over_one}
 
 -- a node that exists stands inside the slice
 pub inside_slice : (x n m : ℕ) → end_of x ≤ n → m ≡ 2 * n - 1 → x < m
@@ -57,7 +57,7 @@ root_below H ds k j ends =
     let start : 2 * j * 2 ^ k ≡ j * 2 ^ suc k = rw two (omega arith) in
     let middle : (2 * j + 1) * 2 ^ k ≡ j * 2 ^ suc k + 2 ^ k = rw two (omega arith) in
     let half : 2 ^ suc k - 2 ^ k ≡ 2 ^ k = omega arith in
-    rw (start, middle) (root_over-split H ds k (j * 2 ^ suc k) (2 ^ suc k) (omega (arith, pow_pos)) (omega arith) (omega arith) ∙ rw half refl)
+    rw (start, middle) (root_over_split H ds k (j * 2 ^ suc k) (2 ^ suc k) (omega (arith, pow_pos)) (omega arith) (omega arith) ∙ rw half refl)
 
 -- what stands at a node's place, by its height and its place among those
 module _ (H : List ℕ → List ℕ) (ds : List (List ℕ)) where
@@ -68,7 +68,7 @@ module _ (H : List ℕ → List ℕ) (ds : List (List ℕ)) where
   own_lacks k j late = let at = over_at k j in rw (at.0, at.1, lt-leb ((j + 1) * 2 ^ k) (length ds) late) refl
 
   pub own_leaf : (i : ℕ) → i < length ds → digest_or_spacer H ds (number_of 0 i) ≡ get_or ds i []
-  own_leaf i lt = let one : i * 2 ^ 0 ≡ i = omega arith in own_there 0 i (omega arith) ∙ rw one (root_over-one H ds i lt)
+  own_leaf i lt = let one : i * 2 ^ 0 ≡ i = omega arith in own_there 0 i (omega arith) ∙ rw one (root_over_one H ds i lt)
 
   pub own_branch : (k j : ℕ) → (j + 1) * 2 ^ suc k ≤ length ds
       → digest_or_spacer H ds (number_of (suc k) j) ≡ branch H (digest_or_spacer H ds (number_of k (2 * j))) (digest_or_spacer H ds (number_of k (2 * j + 1)))
@@ -156,7 +156,7 @@ joined_before : (H : List ℕ → List ℕ) (ds : List (List ℕ)) (h a e : ℕ)
     → left ≡ root_over H ds a (2 ^ h) → MatchOption root (r ≡ left) (λ right. r ≡ branch H left right) → r ≡ root_over H ds a (length ds - a)
 joined_before H ds h a e None left r at few from read first = let rest : length ds - a ≡ 2 ^ h = omega (arith, from.joined) in rw rest (first ∙ read)
 joined_before H ds h a e (Some right) left r at few from read next =
-    let split = root_over-split H ds h a (length ds - a) (omega (arith, from.joined.0)) (omega (arith, pow-suc)) (omega (arith, from.within)) in
+    let split = root_over_split H ds h a (length ds - a) (omega (arith, from.joined.0)) (omega (arith, pow-suc)) (omega (arith, from.within)) in
     let rest : length ds - a - 2 ^ h ≡ length ds - e = omega arith in
     next ∙ rw (read, from.joined.1) (sym (rw (← at, rest) at split))
 

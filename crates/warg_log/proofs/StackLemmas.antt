@@ -16,8 +16,8 @@ use Rattle.warg_log.specs.Blocks.{Blocks, StandsFor, digest_beside, block_at, bl
 use Rattle.warg_log.specs.Private.Growth.{Grows}
 use Rattle.warg_protobuf.proofs.ForCallers.{all_weaken}
 use Rattle.warg_log.proofs.NodeLemmas.{node_is, only_number, over_at, over_ends}
-use Rattle.warg_log.proofs.CutLemmas.{root_over-split, old_root-own}
-use Rattle.warg_log.proofs.LawLemmas.{root_over-one}
+use Rattle.warg_log.proofs.CutLemmas.{root_over_split, old_root_own}
+use Rattle.warg_log.proofs.LawLemmas.{root_over_one}
 use Rattle.warg_log.proofs.BalancedLemmas.{map_same, end_is, balanced_none, balanced_full, balanced_more, has_first_over, roots, roots_end}
 use Rattle.warg_log.proofs.OrderLemmas.{roots_distinct}
 use Rattle.warg_log.proofs.ClimbLemmas.{old_root-joined}
@@ -152,8 +152,8 @@ grows_roots H b ds d stands =
     record {
       blocks = stands.roots ∙ map_same _ _ (balanced_roots b.len) (all_weaken (λ t. end_of t ≤ length ds) _
           (λ t ends. ap (root_of H) (sym (front_kept ds d (start_of t) (2 ^ height_of t) (omega (arith, ends, end_is t))))) (balanced_roots b.len) (roots_end b.len (length ds) (omega arith)));
-      leaf = sym (root_over-one H (ds ++ d ∷ []) b.len (omega arith) ∙ get_or_push ds d [] b.len count);
-      joins = λ h q end. grind (arith, pow-suc 2 h, root_over-split H (ds ++ d ∷ []) h (q * 2 ^ suc h) (2 ^ suc h) (omega (arith, pow-suc, pow_pos)) (omega arith) (omega (arith, end)));
+      leaf = sym (root_over_one H (ds ++ d ∷ []) b.len (omega arith) ∙ get_or_push ds d [] b.len count);
+      joins = λ h q end. grind (arith, pow-suc 2 h, root_over_split H (ds ++ d ∷ []) h (q * 2 ^ suc h) (2 ^ suc h) (omega (arith, pow-suc, pow_pos)) (omega arith) (omega (arith, end)));
     }
 
 pub stands_pushed : (H : List ℕ → List ℕ) (b : Blocks) (d : List ℕ) (ds : List (List ℕ)) → StandsFor H b ds → StandsFor H (pushed H b d) (ds ++ d ∷ [])
@@ -190,6 +190,6 @@ stands_root H b (e ∷ es) stands =
     let own = all_weaken (λ t. end_of t ≤ length ds) (λ t. own_digest H ds t ≡ Some (root_of H (leaves_below t ds))) (λ t ends. rw (le-leb (end_of t) (length ds) ends) refl) (balanced_roots b.len) (roots_end b.len (length ds) (omega arith)) in
     let held : map (own_digest H ds) (balanced_roots b.len) ≡ map Some b.digests = map_same _ _ (balanced_roots b.len) own ∙ sym (map-map Some (λ t. root_of H (leaves_below t ds)) (balanced_roots b.len)) ∙ ap (λ l. map Some l) (sym stands.roots) in
     let joins = old_joined H (own_digest H ds) b.len b.digests (omega arith) held in
-    let root : old_root H (own_digest H ds) b.len ≡ Some (root_of H ds) = old_root-own H ds b.len (omega arith) (omega arith) ∙ rw (← count, take-length es) refl in
+    let root : old_root H (own_digest H ds) b.len ≡ Some (root_of H ds) = old_root_own H ds b.len (omega arith) (omega arith) ∙ rw (← count, take-length es) refl in
     let both : Some (joined_blocks H b.digests) ≡ Some (root_of H ds) = sym joins ∙ root in
     cc

@@ -31,15 +31,15 @@ is_other s w a n apart e f = false≢true (sym apart ∙ (target_decides s w a n
 target_false : (s w a n : ℕ) → (a ≡ s → n ≡ w → ⊥) → is_target s w a n ≡ false
 target_false s w a n other = false_from_ne_true (is_target s w a n) (λ e. let p = (target_decides s w a n).0 e in other p.0 p.1)
 
-pub is_beside-true : (s w a n : ℕ) → IsBeside s w a n → IsTrue (is_beside s w a n)
-is_beside-true s w a n beside = (beside_decides s w a n).1 beside
+pub is_beside_true : (s w a n : ℕ) → IsBeside s w a n → IsTrue (is_beside s w a n)
+is_beside_true s w a n beside = (beside_decides s w a n).1 beside
 
-pub is_beside-so : (s w a n : ℕ) → IsTrue (is_beside s w a n) → IsBeside s w a n
-is_beside-so s w a n beside = (beside_decides s w a n).0 beside
+pub is_beside_so : (s w a n : ℕ) → IsTrue (is_beside s w a n) → IsBeside s w a n
+is_beside_so s w a n beside = (beside_decides s w a n).0 beside
 
 pub read_so : (s w a n : ℕ) → (n ≡ 1) ⊎ (IsFull n × IsTrue (is_beside s w a n)) → (n ≡ 1) ⊎ (IsFull n × IsBeside s w a n)
 read_so s w a n (inl one) = inl one
-read_so s w a n (inr full) = inr (full.0, is_beside-so s w a n full.1)
+read_so s w a n (inr full) = inr (full.0, is_beside_so s w a n full.1)
 
 pub beside_false : (s w a n : ℕ) → (IsBeside s w a n → ⊥) → is_beside s w a n ≡ false
 beside_false s w a n inside = false_from_ne_true (is_beside s w a n) (λ e. inside ((beside_decides s w a n).0 e))
@@ -73,9 +73,9 @@ way_more s w h a n more most =
     rw (way_at s w h a (2 ^ h) (omega arith), way_at s w h (a + 2 ^ h) (n - 2 ^ h) (omega (arith, pow-suc))) (way_at s w (suc h) a n most ∙ rw (lt-leb n (2 ^ h) more) refl)
 
 -- the target's own range
-pub way_over-target : (s w : ℕ) → way_over s w s w ≡ at_target
+pub way_over_target : (s w : ℕ) → way_over s w s w ≡ at_target
 unfolding way_within
-way_over-target s w =
+way_over_target s w =
     let yes : is_target s w s w ≡ true = (target_decides s w s w).1 (refl, refl) in
     ⊎_elim (λ more. let f = front_is w more in way_more s w f.0 s w f.2 f.3 ∙ rw yes refl) (λ low. way_at s w 0 s w low ∙ rw yes refl) (cases_lt 1 w)
 
@@ -100,9 +100,9 @@ way_over-split s w h a n more most other apart =
     let read : (n == 2 ^ suc h && is_beside s w a n) ≡ false = false_from_ne_true _ (λ e. let p = (read_decides s w h a n).0 e in apart p.0 p.1) in
     way_more s w h a n more most ∙ rw (target_false s w a n other, read) refl
 
-pub way_over-parts : (s w a n : ℕ) → 1 < n → (a ≡ s → n ≡ w → ⊥) → (IsFull n → IsBeside s w a n → ⊥)
+pub way_over_parts : (s w a n : ℕ) → 1 < n → (a ≡ s → n ≡ w → ⊥) → (IsFull n → IsBeside s w a n → ⊥)
     → way_over s w a n ≡ at_parts (is_beside s w a (front_of n)) (way_over s w a (front_of n)) (way_over s w (a + front_of n) (n - front_of n))
-way_over-parts s w a n more other apart =
+way_over_parts s w a n more other apart =
     let f = front_is n more in
     rw f.1 (way_over-split s w f.0 a n f.2 f.3 other (λ width. apart (suc f.0, width)))
 

@@ -55,6 +55,7 @@ impl Iterator for BalancedRoots {
 
     ghost remaining = { item_count (λ rest. rest) };
 
+    #[tactic(auto, using(crate::proofs::BalancedLemmas::none_left, crate::proofs::BalancedLemmas::first_cut))]
     fn next(&mut self) -> Option<Node> {
         if self.start >= self.end {
             return None;

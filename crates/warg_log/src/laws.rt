@@ -28,6 +28,7 @@ pub fn root_of_none()
 {}
 
 /// The root of one digest is that digest (RFC 6962, section 2.1).
+#[tactic(auto, using(crate::proofs::RootLemmas::root_of_one))]
 pub fn root_of_one()
     ensures { (H : List ℕ → List ℕ) (d : List ℕ) → root_of H (d ∷ []) ≡ d }
 {}
@@ -53,12 +54,14 @@ pub fn number_is_node()
 {}
 
 /// A node and its sibling have one parent: the node of the height above over either is the same.
+#[tactic(auto, using(crate::proofs::LawLemmas::one_number, std::proofs::lemmas::Bool::Decides::nat_tests))]
 pub fn parent_of_sibling()
     ensures { (x y k j : ℕ) → IsNode x (k + 1) (sibling_place j / 2) → IsNode y (k + 1) (j / 2)
         → x ≡ y }
 {}
 
 /// The halves of the parent are the node and its sibling, in the order of their places.
+#[tactic(auto, using(crate::proofs::LawLemmas::one_number, std::proofs::lemmas::Bool::Decides::nat_tests))]
 pub fn children_of_parent()
     ensures left { (l r x s k j : ℕ) → IsNode l k (2 * (j / 2)) → IsNode r k (2 * (j / 2) + 1)
         → IsNode x k j → IsNode s k (sibling_place j) → j % 2 ≡ 0 → (l ≡ x) × (r ≡ s) }
@@ -75,11 +78,13 @@ pub fn balanced_in_a_row()
 {}
 
 /// The balanced root of a range of a power of two of leaves is the node over it.
+#[tactic(auto, using(crate::proofs::ForCallers::balanced_full))]
 pub fn balanced_full()
     ensures { (a n : ℕ) → IsFull n → balanced_over a n ≡ node_over a n ∷ [] }
 {}
 
 /// The balanced roots of any other range are the node over its first part, and those of the rest.
+#[tactic(auto, using(crate::proofs::ForCallers::balanced_parts))]
 pub fn balanced_parts()
     ensures { (a n : ℕ) → 1 < n → (IsFull n → ⊥)
         → balanced_over a n ≡ node_over a (front_of n) ∷ balanced_over (a + front_of n)
@@ -87,6 +92,7 @@ pub fn balanced_parts()
 {}
 
 /// The cut root of the target's own range is the digest in its place.
+#[tactic(auto, using(crate::proofs::ForCallers::cut_target))]
 pub fn cut_target()
     ensures { (H : List ℕ → List ℕ) (F : ℕ → Option (List ℕ)) (x : List ℕ) (s w : ℕ)
         → cut_over H F x s w s w ≡ Some x }
@@ -108,6 +114,7 @@ pub fn cut_parts()
 {}
 
 /// The target's own range needs no node.
+#[tactic(auto, using(crate::proofs::WayLemmas::way_over_target), unfolding(crate::specs::Walks::read_on))]
 pub fn needed_target()
     ensures { (s w : ℕ) → needed_over s w s w ≡ [] }
 {}
@@ -132,11 +139,13 @@ pub fn needed_parts()
 {}
 
 /// The needed nodes exist at the length.
+#[tactic(auto, using(crate::proofs::ForCallers::needed_exist))]
 pub fn needed_exist()
     ensures { (t n : ℕ) → 0 < n → AllByRecursion (λ x. ExistsAt x n) (needed t n) }
 {}
 
 /// A cut root is there exactly if the digest of each needed node is.
+#[tactic(auto, using(crate::proofs::WalkLemmas::needed_exactly))]
 pub fn needed_known()
     ensures { (H : List ℕ → List ℕ) (F : ℕ → Option (List ℕ)) (t : ℕ) (x : List ℕ) (n : ℕ)
         → IsKnown F (needed t n) ↔ IsSome (cut_root H F t x n) }
@@ -145,6 +154,7 @@ pub fn needed_known()
 /// The cut root by the digests of a walk, in its order: the target's digest is joined with those of the
 /// siblings on the way up to its balanced root, the lower number's on the left; then the digests of all
 /// balanced roots, with what it has become in that root's place, are joined from right to left.
+#[tactic(auto, using(crate::proofs::ClimbLemmas::cut_root_walk))]
 pub fn cut_by_walk()
     ensures { (H : List ℕ → List ℕ) (F : ℕ → Option (List ℕ)) (t : ℕ) (x : List ℕ) (n steps : ℕ)
         (left right : List ℕ) → 0 < n
@@ -156,6 +166,7 @@ pub fn cut_by_walk()
 
 /// Over a log's own digests, with a node's own digest in its place, the cut root at each length up to
 /// the log's is the root of that many leaves.
+#[tactic(auto, using(crate::proofs::CutLemmas::cut_root_own))]
 pub fn cut_own()
     ensures { (H : List ℕ → List ℕ) (ds : List (List ℕ)) (t n : ℕ) → 0 < n → n ≤ length ds
         → cut_root H (own_digest H ds) t (root_of H (leaves_below t ds)) n
@@ -164,6 +175,7 @@ pub fn cut_own()
 
 /// The same of a range that begins at a multiple of a power of two and has at most so many leaves, as each
 /// range of the recursion does: its cut root is the root over it, whichever the target is.
+#[tactic(auto, using(crate::proofs::ForCallers::cut_own_range))]
 pub fn cut_own_range()
     ensures { (H : List ℕ → List ℕ) (ds : List (List ℕ)) (s w a n : ℕ) → 0 < n → IsAligned a n
         → a + n ≤ length ds
@@ -172,6 +184,7 @@ pub fn cut_own_range()
 
 /// An inclusion proof leads to a root exactly if its node exists at its length and this is the cut root. Else it
 /// is `LeafTooNew` exactly if the node doesn't exist, and `HashNotKnown` exactly if it does and a digest is lacking.
+#[tactic(auto, using(crate::proofs::InclusionLemmas::leads, crate::proofs::InclusionLemmas::too_new, crate::proofs::InclusionLemmas::unknown))]
 pub fn inclusion_met()
     ensures ok { (H : List ℕ → List ℕ) (F : ℕ → Option (List ℕ)) (p : InclusionClaim)
         (x root : List ℕ)
@@ -196,12 +209,14 @@ pub fn own_inclusion()
 {}
 
 /// The old root of a range of a power of two of leaves is the digest that is held for it.
+#[tactic(auto, using(crate::proofs::ForCallers::old_full))]
 pub fn old_full()
     ensures { (H : List ℕ → List ℕ) (F : ℕ → Option (List ℕ)) (a n : ℕ) → IsFull n
         → old_over H F a n ≡ F (node_over a n) }
 {}
 
 /// The old root of any other range is the branch over those of its two parts.
+#[tactic(auto, using(crate::proofs::ForCallers::old_parts))]
 pub fn old_parts()
     ensures { (H : List ℕ → List ℕ) (F : ℕ → Option (List ℕ)) (a n : ℕ) → 1 < n → (IsFull n → ⊥)
         → old_over H F a n ≡ joined H (old_over H F a (front_of n))
@@ -210,12 +225,14 @@ pub fn old_parts()
 
 /// Over a log's own digests, the old root at each length up to the log's is the root of that many
 /// leaves.
+#[tactic(auto, using(crate::proofs::CutLemmas::old_root_own))]
 pub fn old_own()
     ensures { (H : List ℕ → List ℕ) (ds : List (List ℕ)) (m : ℕ) → 0 < m → m ≤ length ds
         → old_root H (own_digest H ds) m ≡ Some (root_of H (take m ds)) }
 {}
 
 /// The same of a range that begins at a multiple of a power of two and has at most so many leaves.
+#[tactic(auto, using(crate::proofs::ForCallers::old_own_range))]
 pub fn old_own_range()
     ensures { (H : List ℕ → List ℕ) (ds : List (List ℕ)) (a n : ℕ) → 0 < n → IsAligned a n
         → a + n ≤ length ds
@@ -232,6 +249,7 @@ pub fn consistency_met()
 
 /// A log's consistency proofs lead to the roots that it had: over the log's own digests, a proof from a
 /// length of at least 1 to one that isn't smaller, up to the log's, has the roots of that many leaves.
+#[tactic(auto, using(crate::proofs::MetLemmas::consistency_own))]
 pub fn own_consistency()
     ensures { (H : List ℕ → List ℕ) (ds : List (List ℕ)) (m n : ℕ) → 0 < m → m ≤ n → n ≤ length ds
         → consistency H (own_digest H ds) m n ≡ Ok (root_of H (take m ds), root_of H (take n ds)) }
@@ -244,6 +262,7 @@ pub fn pushed_stands()
 {}
 
 /// Blocks that stand for leaf digests, joined from the right, are the root over these.
+#[tactic(auto, using(crate::proofs::StackLemmas::stands_root))]
 pub fn stands_for_root()
     ensures { (H : List ℕ → List ℕ) (b : Blocks) (ds : List (List ℕ)) → StandsFor H b ds
         → joined_blocks H b.digests ≡ root_of H ds }

@@ -81,6 +81,7 @@ impl LeafRange {
 
     /// The two parts of the range in the tree's recursion: the first leaves, as many as the greatest
     /// power of two below the count, and the rest.
+    #[tactic(auto, using(crate::proofs::RootLemmas::front_of_is, std::proofs::lemmas::Nat::pow_pos))]
     pub fn split(&self) -> (LeafRange, LeafRange)
         requires { 1 < self.now.count }
         ensures front { (result.0.start ≡ self.now.start)

@@ -70,6 +70,7 @@ impl Node {
     }
 
     /// The node's height: 0 for a leaf, and one more than its children's for a branch.
+    #[tactic(auto, using(crate::proofs::NodeLemmas::by_start, crate::proofs::NodeLemmas::height_of_trailing_ones))]
     pub fn height(&self) -> u32
         ensures value { result ≡ height_of self.now.0 }
         ensures node { IsNode self.now.0 result (place_of self.now.0) }
@@ -87,6 +88,7 @@ impl Node {
 
     /// The side of its parent on which the node stands: left where its place among the nodes of its
     /// height is even.
+    #[tactic(auto, using(std::proofs::lemmas::Nat::Bits::shr_and_one), unfolding(crate::specs::Nodes::place_of))]
     pub fn side(&self) -> Side
         requires { height_of self.now.0 < 63 }
         ensures left { result ≡ Side.Left → place_of self.now.0 % 2 ≡ 0 }
@@ -111,6 +113,7 @@ impl Node {
     }
 
     /// The sibling of a node that stands on the right.
+    #[tactic(auto, using(crate::proofs::NodeLemmas::by_start, crate::proofs::NodeLemmas::sibling_right))]
     pub fn left_sibling(&self) -> Node
         requires low { height_of self.now.0 < 63 }
         requires right { place_of self.now.0 % 2 ≡ 1 }
@@ -121,6 +124,7 @@ impl Node {
     }
 
     /// The sibling of a node that stands on the left.
+    #[tactic(auto, using(std::proofs::lemmas::Nat::pow_pos, crate::proofs::NodeLemmas::by_start, crate::proofs::NodeLemmas::room_left))]
     pub fn right_sibling(&self) -> Node
         requires low { height_of self.now.0 < 63 }
         requires left { place_of self.now.0 % 2 ≡ 0 }
@@ -131,6 +135,7 @@ impl Node {
     }
 
     /// The node one higher that stands for this one's leaves and its sibling's.
+    #[tactic(auto, using(crate::proofs::NodeLemmas::by_start, crate::proofs::NodeLemmas::room, crate::proofs::NodeLemmas::parent_left, crate::proofs::NodeLemmas::parent_right))]
     pub fn parent(&self) -> Node
         requires { height_of self.now.0 < 63 }
         ensures { IsNode result.0 (height_of self.now.0 + 1) (place_of self.now.0 / 2) }
@@ -142,6 +147,7 @@ impl Node {
     }
 
     /// The two nodes one lower that stand for the first and the second half of a branch's leaves.
+    #[tactic(auto, using(crate::proofs::NodeLemmas::by_start, crate::proofs::NodeLemmas::child_nodes, crate::proofs::NodeLemmas::parts, crate::proofs::NodeLemmas::room))]
     pub fn children(&self) -> (Node, Node)
         requires branch { 0 < height_of self.now.0 }
         requires low { height_of self.now.0 < 64 }
@@ -153,6 +159,7 @@ impl Node {
     }
 
     /// The last leaf below the node.
+    #[tactic(auto, using(std::proofs::lemmas::Nat::pow_pos, crate::proofs::NodeLemmas::by_start, crate::proofs::NodeLemmas::room))]
     pub fn rightmost_descendent(&self) -> Node
         requires { height_of self.now.0 < 64 }
         ensures { result.0 ≡ 2 * (end_of self.now.0 - 1) }
@@ -161,6 +168,7 @@ impl Node {
     }
 
     /// The first leaf below the node.
+    #[tactic(auto, using(std::proofs::lemmas::Nat::pow_pos, crate::proofs::NodeLemmas::by_start))]
     pub fn leftmost_descendent(&self) -> Node
         requires { height_of self.now.0 < 64 }
         ensures { result.0 ≡ 2 * start_of self.now.0 }
@@ -169,6 +177,7 @@ impl Node {
     }
 
     /// Whether a log of this length has the node: all leaves below it are in the log.
+    #[tactic(auto, using(std::proofs::lemmas::Grind::common_steps, crate::proofs::NodeLemmas::low_by_end))]
     pub fn exists_at_length(&self, length: usize) -> bool
         ensures { IsTrue result ↔ ExistsAt self.now.0 length }
     {
@@ -195,6 +204,7 @@ impl Node {
     }
 
     /// The leaves below the node.
+    #[tactic(auto, using(std::proofs::lemmas::Nat::pow_pos, crate::proofs::NodeLemmas::by_start, crate::proofs::NodeLemmas::low_by_end))]
     pub fn leaf_range(&self) -> LeafRange
         requires { end_of self.now.0 ≤ 2 ^ 63 }
         ensures start { result.start ≡ start_of self.now.0 }

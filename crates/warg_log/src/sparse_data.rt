@@ -62,6 +62,7 @@ impl<D: SupportedDigest, V: VisitBytes, A: Allocator> SparseLogData<D, V, A> {
     }
 
     /// The same data once more, in memory of `alloc`.
+    #[tactic(auto, using(warg_protobuf::proofs::ForCallers::copied_more, warg_protobuf::proofs::ForCallers::taken_whole))]
     pub fn copied(&self, alloc: A) -> Result<Self, AllocError>
         ensures { IfOk result (λ again. again ≡ self.now) }
     {
@@ -82,6 +83,7 @@ impl<D: SupportedDigest, V: VisitBytes, A: Allocator> SparseLogData<D, V, A> {
 pub struct NotAscending;
 
 // Whether the nodes' numbers ascend strictly.
+#[tactic(auto, using(std::proofs::lemmas::List::get_or_default, crate::proofs::SparseLemmas::ascends))]
 fn are_ascending<D>(pairs: &[(Node, Hash<D>)]) -> bool
     ensures { IsTrue result ↔ IsAscending pairs.now }
 {

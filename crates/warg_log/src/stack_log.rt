@@ -44,6 +44,7 @@ impl<D: SupportedDigest, V: VisitBytes, A: Allocator> Model for StackLog<D, V, A
 
 impl<D: SupportedDigest, V: VisitBytes, A: Allocator> StackLog<D, V, A> {
     /// The log of no entries. It takes no memory yet.
+    #[tactic(auto, unfolding(crate::specs::Nodes::balanced_within))]
     pub fn default(alloc: A) -> Self
         ensures value { result ≡ record { len = 0; digests = [] } }
         ensures stands { StandsFor D.digest result [] }
@@ -89,6 +90,7 @@ impl<D: SupportedDigest, V: VisitBytes, A: Allocator> LogBuilder<D, V> for Stack
 
     ghost stands_for = { λ l ds. StandsFor D.digest l ds };
 
+    #[tactic(auto, using(crate::proofs::StackLemmas::blocks_root, crate::proofs::StackLemmas::stands_root))]
     fn checkpoint(&self) -> Checkpoint<D>
         ensures root { (ds : List (List ℕ)) → StandsFor D.digest self.now ds
             → result.root ≡ root_of D.digest ds }

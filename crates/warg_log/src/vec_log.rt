@@ -70,7 +70,7 @@ impl<D: SupportedDigest, V: VisitBytes, A: Allocator> VecLog<D, V, A> {
 
     /// The root of the tree over the entries, as in the [`checkpoint`](LogBuilder::checkpoint): for no entries the digest of
     /// no bytes (RFC 6962, section 2.1). It hashes the branches over the balanced roots, which the log doesn't keep.
-    #[tactic(auto, using(crate::proofs::NodeLemmas::last_width, crate::proofs::SliceLemmas::slice_size))]
+    #[tactic(auto, using(crate::proofs::NodeLemmas::last_width, crate::proofs::SliceLemmas::slice_size, crate::proofs::SliceLemmas::whole_root))]
     pub fn root(&self) -> Hash<D>
         ensures { result ≡ root_of D.digest self.now }
     {
@@ -124,6 +124,7 @@ impl<D: SupportedDigest, V: VisitBytes, A: Allocator> LogBuilder<D, V> for VecLo
         Checkpoint::new(self.root(), self.count)
     }
 
+    #[tactic(auto, using(crate::proofs::AppendLemmas::room_empty, crate::proofs::AppendLemmas::room_more, crate::proofs::AppendLemmas::appended))]
     fn push(&mut self, entry: &V) -> Result<Node, AllocError>
         requires { length self.old < 2 ^ 63 }
         ensures node { IfOk result (λ node. node.0 ≡ 2 * length self.old) }
@@ -154,6 +155,7 @@ impl<D: SupportedDigest, V: VisitBytes, A: Allocator> LogData<D, V> for VecLog<D
         node.exists_at_length(self.count)
     }
 
+    #[tactic(auto, using(crate::proofs::SliceLemmas::inside_slice, crate::proofs::SliceLemmas::slice_size, crate::proofs::SliceLemmas::own_digest_held))]
     fn hash_for(&self, node: Node) -> Option<Hash<D>> {
         if node.exists_at_length(self.count) {
             Some(self.tree[node.0].copied())

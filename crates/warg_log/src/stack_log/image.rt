@@ -61,6 +61,7 @@ impl<D: SupportedDigest, V: VisitBytes, A: Allocator + Copy> StackLog<D, V, A> {
 
     /// The log's message, which holds the same log. `TooLarge` exactly if the length or a balanced root's
     /// number is above `u32::MAX`, which is above 2^31 entries, before any growth.
+    #[tactic(auto, using(std::proofs::lemmas::Result::err_from_is_err_and, crate::proofs::ImageLemmas::roots_fit, crate::proofs::ImageLemmas::roots_too_large))]
     pub fn to_message(&self) -> Result<Message<A>, EncodeError>
         ensures ok { IfOk result (λ message. stack_view message ≡ stack_message self.now) }
         ensures again { IfOk result (λ message. stack_in (stack_view message) ≡ Ok self.now) }
@@ -93,6 +94,7 @@ impl<D: SupportedDigest, V: VisitBytes, A: Allocator + Copy> StackLog<D, V, A> {
 }
 
 // The digests of these entries.
+#[tactic(auto, using(std::proofs::lemmas::Result::err_from_is_err_and, warg_protobuf::proofs::ForCallers::mapped_more, warg_protobuf::proofs::ForCallers::mapped_whole, warg_protobuf::proofs::ForCallers::digest_passed, warg_protobuf::proofs::ForCallers::digest_met, warg_protobuf::proofs::ForCallers::no_digest_left))]
 fn read_blocks<D, A: Allocator>(
     alloc: A,
     entries: &[HashEntry<A>],
@@ -128,6 +130,7 @@ fn are_roots<A: Allocator>(entries: &[HashEntry<A>], count: usize) -> bool
 }
 
 // The entries of the balanced roots of a length, with these digests.
+#[tactic(auto, using(crate::proofs::ImageLemmas::roots_fit))]
 fn entries<D, A: Allocator + Copy>(
     alloc: A,
     count: usize,

@@ -25,6 +25,7 @@ impl<D: SupportedDigest, V: VisitBytes, A: Allocator + Copy> VecLog<D, V, A> {
     /// length `n` above 0, and none for 0; each branch that exists has the digest of its children's, and each
     /// other one that of no bytes. Memory grows with the digests that are there, and never by the length. Each
     /// branch is hashed once.
+    #[tactic(auto, using(crate::proofs::TreeLemmas::message_is, crate::proofs::TreeLemmas::slice_decides))]
     pub fn from_message(alloc: A, message: Message<A>) -> Result<Self, DecodeError>
         ensures exact { Answers DecodeError.Memory result (vec_in D.digest (vec_view message)) }
         ensures message { IfOk result (λ log. vec_message D.digest log ≡ vec_view message) }
@@ -58,6 +59,7 @@ impl<D: SupportedDigest, V: VisitBytes, A: Allocator + Copy> VecLog<D, V, A> {
 
     /// The log's message, which holds the same log. `TooLarge` exactly if the length is above `u32::MAX`,
     /// before any growth.
+    #[tactic(auto, using(crate::proofs::TreeLemmas::message_is, crate::proofs::TreeLemmas::vec_again))]
     pub fn to_message(&self) -> Result<Message<A>, EncodeError>
         ensures ok { IfOk result (λ message. vec_view message ≡ vec_message D.digest self.now) }
         ensures again { IfOk result (λ message. vec_in D.digest (vec_view message) ≡ Ok self.now) }
@@ -89,6 +91,7 @@ impl<D: SupportedDigest, V: VisitBytes, A: Allocator + Copy> VecLog<D, V, A> {
 }
 
 // The hashes with these bytes.
+#[tactic(auto, using(std::proofs::lemmas::Result::err_from_is_err_and, warg_protobuf::proofs::ForCallers::copied_more, warg_protobuf::proofs::ForCallers::taken_whole, warg_protobuf::proofs::ForCallers::digest_passed, warg_protobuf::proofs::ForCallers::digest_met, warg_protobuf::proofs::ForCallers::no_digest_left))]
 fn read_tree<D, A: Allocator>(
     alloc: A,
     tree: &[DigestBytes<A>],
@@ -107,6 +110,7 @@ fn read_tree<D, A: Allocator>(
 }
 
 // Whether the tree is the slice of a log of this length.
+#[tactic(auto, using(crate::proofs::TreeLemmas::slice_decides, crate::proofs::TreeLemmas::leaves_count, crate::proofs::TreeLemmas::held_slice, crate::proofs::TreeLemmas::slice_held))]
 fn is_slice<D: SupportedDigest>(tree: &[Hash<D>], count: usize, spacer: &Hash<D>) -> bool
     requires fits { count < 2 ^ 32 }
     requires spacer { spacer.now ≡ D.digest [] }
@@ -124,6 +128,7 @@ fn is_slice<D: SupportedDigest>(tree: &[Hash<D>], count: usize, spacer: &Hash<D>
 }
 
 // Whether a branch's place holds the digest of its children's, or the spacer where the branch doesn't exist.
+#[tactic(auto, using(crate::proofs::NodeLemmas::low_by_end, crate::proofs::TreeLemmas::is_branch))]
 fn is_held<D: SupportedDigest>(tree: &[Hash<D>], count: usize, node: Node, spacer: &Hash<D>) -> bool
     requires fits { count < 2 ^ 32 }
     requires length { length tree.now ≡ 2 * count - 1 }
@@ -141,6 +146,7 @@ fn is_held<D: SupportedDigest>(tree: &[Hash<D>], count: usize, node: Node, space
 }
 
 // The bytes of these digests.
+#[tactic(auto, using(warg_protobuf::proofs::ForCallers::copied_more, warg_protobuf::proofs::ForCallers::taken_whole, warg_protobuf::proofs::ForCallers::all_more, warg_protobuf::proofs::ForCallers::all_whole))]
 fn digests<D, A: Allocator + Copy>(
     alloc: A,
     tree: &[Hash<D>],

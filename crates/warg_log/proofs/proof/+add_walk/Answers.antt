@@ -3,14 +3,14 @@ use Rattle.std.proofs.lemmas.Bool.{false≢true}
 use Rattle.std.proofs.lemmas.List.{map_push}
 use Rattle.warg_log.specs.Nodes.{start_of, height_of, node_over}
 use Rattle.warg_log.specs.Ranges.{IsAligned}
-use Rattle.warg_log.proofs.WayLemmas.{is_beside-so, is_beside-true}
+use Rattle.warg_log.proofs.WayLemmas.{is_beside_so, is_beside_true}
 use Rattle.warg_log.proofs.StepLemmas.{HasMissed, HasFound, numbers, aligned_next, missed_first, walk_grows, found_first, HasBegun, walk_begins}
 use Rattle.warg_log.proofs.proof.+add_walk.Goals as goal
 use Rattle.warg_log.proofs.proof.+add_walk.Goals.{Then-is_beside, In_ok-push, After-ilog2, After-len}
 
 missed : (g : _) (t : _) (c : Then-is_beside g t) → HasMissed c.args.leaf.0 c.args.start c.args.end c.first_root-root.result.count
 missed g t c = missed_first _ _ _ _ c.first_root-root.ensures.count c.requires.starts c.requires.ends
-    (rw (← c.first_root-root.ensures.start, ← c.leaf_range.ensures.start, ← c.leaf_range.ensures.count) (is_beside-so _ _ _ _ (sym c.if-is_beside.ensures)))
+    (rw (← c.first_root-root.ensures.start, ← c.leaf_range.ensures.start, ← c.leaf_range.ensures.count) (is_beside_so _ _ _ _ (sym c.if-is_beside.ensures)))
 
 pub add_walk-requires : goal.add_walk-requires
 add_walk-requires g t c κs within =
@@ -37,7 +37,7 @@ returns-then-is_beside-clause-order g t c =
 found : (g : _) (t : _) (c : After-ilog2 g t) → HasFound c.args.leaf.0 c.args.start c.args.end c.first_root-root.result.count c.ilog2.result
 found g t c = found_first _ _ _ _ _ c.requires.aligned c.first_root-root.ensures.count c.requires.starts c.requires.ends c.ilog2.ensures.power_le c.ilog2.ensures.next_power_gt
     (λ b. false≢true (c.if-is_beside.ensures ∙ rw (c.first_root-root.ensures.start, c.leaf_range.ensures.start, c.leaf_range.ensures.count)
-    (is_beside-true (start_of c.args.leaf.0) (2 ^ height_of c.args.leaf.0) c.args.start c.first_root-root.result.count b)))
+    (is_beside_true (start_of c.args.leaf.0) (2 ^ height_of c.args.leaf.0) c.args.start c.first_root-root.result.count b)))
 
 pub add_siblings-requires-clause-above : goal.add_siblings-requires-clause-above
 add_siblings-requires-clause-above g t c = (found g t (goal.at.add_siblings-requires-clause-above g t c).After-ilog2).low

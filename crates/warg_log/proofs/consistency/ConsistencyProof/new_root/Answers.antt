@@ -1,4 +1,4 @@
-use Rattle.std.proofs.Common.{◌≡◌, ◌^◌, ◌<◌, ◌≤◌, ◌∷◌, sym, subst, refl, ◌∙◌, lit<}
+use Rattle.std.proofs.Common.{◌≡◌, ◌^◌, ◌<◌, ◌≤◌, ◌∷◌, sym, subst, refl, ◌∙◌}
 use Rattle.std.specs.List.{AllByRecursion}
 use Rattle.warg_log.specs.Nodes.{balanced_roots, end_of}
 use Rattle.warg_log.proofs.BalancedLemmas.{has_first_over, roots_end}
@@ -16,9 +16,6 @@ first g c = sym c.of-roots.ensures ∙ c.in-Some.ensures.steps
 
 ends : (g : _) (c : In-Some g) → AllByRecursion (λ t. end_of t ≤ 2 ^ 63) (c.in-Some.first.0 ∷ c.next.new.self)
 ends g c = subst (AllByRecursion (λ t. end_of t ≤ 2 ^ 63)) (first g c) (roots_end c.self.inside.old_length (2 ^ 63) c.self.invariant.0)
-
-pub root_from-requires : goal.root_from-requires
-root_from-requires g c = (lit< tt, (c.new-branches.ensures, ((ends g (goal.at.root_from-requires g c).In-Some).0, c.new-whole.ensures.start)))
 
 pub roots-init : goal.roots-init
 roots-init g c =

@@ -1,5 +1,5 @@
-use Rattle.std.proofs.Common.{◌≡◌, refl, ◌∙◌, arith}
-use Rattle.warg_log.proofs.SliceLemmas.{no_root, whole_root, next_root}
+use Rattle.std.proofs.Common.{refl, ◌∙◌, arith}
+use Rattle.warg_log.proofs.SliceLemmas.{no_root, next_root}
 use Rattle.warg_log.proofs.vec_log.VecLog.root.Goals as goal
 use Rattle.warg_log.proofs.vec_log.VecLog.root.Goals.{in-Some, in-None}
 
@@ -12,8 +12,3 @@ roots-preserved g c =
       | in-Some w ↦ rw w.in-Some.is (w.root-is ∙ w.hash_branch.ensures)
       | in-None w ↦ rw w.in-None.is (w.root-is ∙ w.copied.ensures)
     ])
-
-pub returns : goal.returns
-returns g c =
-    let none : c.roots.end ≡ 0 = omega arith in
-    c.unwrap_or.ensures ∙ rw (c.copied-2.ensures, c.self.invariant.2, ← c.self.view_is) (whole_root _ _ _ (rw none at c.roots.invariant))

@@ -1,4 +1,4 @@
-use Rattle.std.proofs.Common.{refl, sym, ◌∙◌, arith}
+use Rattle.std.proofs.Common.{sym, ◌∙◌, arith}
 use Rattle.warg_log.specs.Tree.{leaves_in}
 use Rattle.warg_log.proofs.AppendLemmas.{IsAppended, room_empty, room_more, appended}
 use Rattle.warg_log.proofs.vec_log.VecLogLogBuilder.push.Goals as goal
@@ -20,6 +20,3 @@ pub invariant_of-self-2 : goal.invariant_of-self-2
 invariant_of-self-2 g c =
     let at = ready g (goal.at.invariant_of-self-2 g c).After-push_reserved-2 in
     rw c.join_up.ensures.leaves (omega (arith, at), c.join_up.ensures.slice, c.self.invariant.2, omega arith)
-
-pub returns-clause-ok : goal.returns-clause-ok
-returns-clause-ok g c = c.join_up.ensures.leaves ∙ (ready g (goal.at.returns-clause-ok g c).After-push_reserved-2).leaves ∙ rw (c.self.view_is, c.hash_leaf-digest.ensures) refl

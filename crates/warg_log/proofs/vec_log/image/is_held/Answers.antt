@@ -1,15 +1,8 @@
 use Rattle.std.proofs.Common.{◌<◌, length, arith}
-use Rattle.warg_log.proofs.NodeLemmas.{low_by_end}
 use Rattle.warg_log.proofs.EqualLemmas.{eq_exactly}
-use Rattle.warg_log.proofs.TreeLemmas.{is_branch, children_inside, held_exists}
+use Rattle.warg_log.proofs.TreeLemmas.{children_inside, held_exists}
 use Rattle.warg_log.proofs.vec_log.image.is_held.Goals as goal
 use Rattle.warg_log.proofs.vec_log.image.is_held.Goals.{After-children}
-
-pub children-requires-clause-branch : goal.children-requires-clause-branch
-children-requires-clause-branch g c = is_branch c.args.node.0 c.requires.branch
-
-pub children-requires-clause-low : goal.children-requires-clause-low
-children-requires-clause-low g c = low_by_end 64 c.args.node.0 (omega (arith, c.exists_at_length.ensures.0 c.if-not-exists_at_length.false))
 
 inside : (g : _) (c : After-children g) → (c.children.result.0.0 < length c.args.tree.now) × (c.children.result.1.0 < length c.args.tree.now)
 inside g c = children_inside _ _ _ _ _ c.requires.branch (c.exists_at_length.ensures.0 c.if-not-exists_at_length.false) c.requires.length c.children.ensures.left c.children.ensures.right
