@@ -1,5 +1,6 @@
-use Rattle.warg_witness.proofs.KeyLawLemmas.{equal_roots_meet}
+use Rattle.std.proofs.Common.{◌∙◌}
+use Rattle.warg_witness.proofs.KeyLawLemmas.{own_met}
 use Rattle.warg_witness.proofs.laws.equal_roots.Goals as goal
 
 pub returns : goal.returns
-returns c = equal_roots_meet
+returns c H insertions others key value peers same last few proves = own_met H insertions key value peers last few proves ∙ same

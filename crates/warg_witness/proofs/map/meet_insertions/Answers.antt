@@ -1,22 +1,18 @@
-use Rattle.std.proofs.Common.{◌∙◌}
-use Rattle.warg_witness.proofs.KeyLemmas.{tree_few, apart_not_met, meeting_from}
+use Rattle.std.proofs.Common.{sym, ◌∙◌, arith}
+use Rattle.warg_map.proofs.ForCallers.{length-last_bits}
+use Rattle.warg_witness.proofs.PlainPathLemmas.{length-plain_peers}
+use Rattle.warg_witness.proofs.KeyLemmas.{plain_root_is}
 use Rattle.warg_witness.proofs.map.meet_insertions.Goals as goal
 
 pub invariant_of-tree : goal.invariant_of-tree
-invariant_of-tree g c = record { few = tree_few _ _ _ _ _ c.deref-2.ensures.value c.in_ok-plain.ensures.peers }
+invariant_of-tree g c = record { few = rw (c.deref-2.ensures.value, c.in_ok-plain.ensures.peers, length-plain_peers, length-last_bits) (omega arith) }
 
 pub returns-in_default : goal.returns-in_default
-returns-in_default g c =
-    let H = g.D.SupportedDigest.digest in
-    let key = g.K.VisitBytes.bytes c.args.key.now in
-    apart_not_met H _ key _ _ _ _ _ _
-    (record { digest_is = c.of-digest.ensures; tree_is = c.deref-2.ensures.value ∙ c.in_ok-plain.ensures.peers; plain_is = c.plain_leaf.ensures _ c.in_ok-plain.ensures.last })
-    c.hash_leaf.ensures c.in_default.ensures
+returns-in_default g c met =
+    (rw (c.hash_leaf.ensures, c.deref-2.ensures.value, c.in_ok-plain.ensures.peers, c.plain_leaf.ensures _ c.in_ok-plain.ensures.last, c.of-digest.ensures) at c.in_default.ensures)
+    (met ∙ sym (plain_root_is g.D.SupportedDigest.digest _ (g.K.VisitBytes.bytes c.args.key.now)))
 
 pub returns : goal.returns
 returns g c =
-    let H = g.D.SupportedDigest.digest in
-    let key = g.K.VisitBytes.bytes c.args.key.now in
-    meeting_from H _ key _ _ _ _ _ _ _ _
-    (record { digest_is = c.of-digest.ensures; tree_is = c.deref-2.ensures.value ∙ c.in_ok-plain.ensures.peers; plain_is = c.plain_leaf.ensures _ c.in_ok-plain.ensures.last })
-    c.hash_leaf.ensures c.in-Some.ensures c.in_ok-plain.ensures.last
+    let meets = rw (c.hash_leaf.ensures, c.deref-2.ensures.value, c.in_ok-plain.ensures.peers, c.plain_leaf.ensures _ c.in_ok-plain.ensures.last, c.of-digest.ensures) at c.in-Some.ensures in
+    record { met = meets.met ∙ plain_root_is _ _ _; diverges = meets.diverges; last_is = rw c.of-digest.ensures at c.in_ok-plain.ensures.last }

@@ -1,5 +1,6 @@
-use Rattle.warg_witness.proofs.KeyLemmas.{absent_leaf}
+use Rattle.warg_crypto.specs.EmptyTrees.{empty_root}
 use Rattle.warg_witness.proofs.map.witness_absent.Goals as goal
 
 pub returns : goal.returns
-returns g c = record { found = rw (c.peers.ensures.value, absent_leaf g.D.SupportedDigest.digest) at c.find.ensures }
+unfolding empty_root
+returns g c = record { found = rw c.peers.ensures.value at c.find.ensures }

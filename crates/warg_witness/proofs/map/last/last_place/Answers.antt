@@ -1,19 +1,18 @@
-use Rattle.std.proofs.Common.{◌<◌, ◌≤◌, length, sym, ◌∙◌, arith}
-use Rattle.std.proofs.lemmas.Bool.{false≢true}
-use Rattle.warg_witness.proofs.LastLemmas.{found_last, others_more, none_last}
+use Rattle.std.proofs.Common.{◌≡◌, ◌∙◌, arith}
+use Rattle.warg_map.specs.Last.{last_with}
+use Rattle.warg_witness.proofs.LastLemmas.{last_among}
 use Rattle.warg_witness.proofs.map.last.last_place.Goals as goal
 
 pub returns-then-branch : goal.returns-then-branch
 returns-then-branch g c =
-    let some : 0 < c.loop-place.place = omega arith in
-    let le : c.loop-place.place ≤ length c.args.insertions.now = omega arith in
-    (omega (arith, some, le), found_last g.K.VisitBytes.bytes g.V.VisitBytes.bytes c.args.insertions.now (g.K.VisitBytes.bytes c.args.key.now) _ _ some le c.index-insertions-place.is (c.in_ok-have_same_bytes.ensures.0 c.if-branch.true) c.loop-place.invariant)
+    let last = last_among g.K.VisitBytes.bytes g.V.VisitBytes.bytes c.args.insertions.now _ _ _ _ c.in_ok-have_same_bytes.ensures (omega arith) (omega arith) c.index-insertions-place.is in
+    (omega arith, c.loop-place.invariant ∙ rw c.if-branch.true at last)
 
 pub loop-place-preserved : goal.loop-place-preserved
 loop-place-preserved g c =
-    let some : 0 < c.loop-place.place = omega arith in
-    let le : c.loop-place.place ≤ length c.args.insertions.now = omega arith in
-    others_more g.K.VisitBytes.bytes g.V.VisitBytes.bytes c.args.insertions.now (g.K.VisitBytes.bytes c.args.key.now) _ _ some le c.index-insertions-place.is (λ same. false≢true (sym c.if-branch.false ∙ c.in_ok-have_same_bytes.ensures.1 same)) c.loop-place.invariant
+    let last = last_among g.K.VisitBytes.bytes g.V.VisitBytes.bytes c.args.insertions.now _ _ _ _ c.in_ok-have_same_bytes.ensures (omega arith) (omega arith) c.index-insertions-place.is in
+    c.loop-place.invariant ∙ rw c.if-branch.false at last
 
 pub returns : goal.returns
-returns g c = none_last _ _ c.loop-place.place (omega arith) c.loop-place.invariant
+unfolding last_with
+returns g c = let none : c.loop-place.place ≡ 0 = omega arith in rw none at c.loop-place.invariant

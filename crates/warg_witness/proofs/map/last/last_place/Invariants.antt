@@ -1,9 +1,10 @@
-use Rattle.std.proofs.Common.{◌≡◌, ℕ, ◌<◌, ◌≤◌, [], length, get_or, false}
+use Rattle.std.proofs.Common.{◌≡◌, take}
 use Rattle.warg_map.specs.Sparse.{pair_bytes}
-use Rattle.warg_crypto.specs.Bytes.{same_bytes}
+use Rattle.warg_witness.specs.MapClaims.{last_insertion}
 use Rattle.warg_witness.proofs.map.last.last_place.Given as goal
 
+-- none of the insertions from the place on is of the key
 abbrev pub invariant-loop-place : goal.invariant-loop-place
 invariant-loop-place g l =
-    (i : ℕ) → l.place ≤ i → i < length (pair_bytes g.K.VisitBytes.bytes g.V.VisitBytes.bytes l.insertions)
-    → same_bytes (g.K.VisitBytes.bytes l.key) (get_or (pair_bytes g.K.VisitBytes.bytes g.V.VisitBytes.bytes l.insertions) i ([], [])).0 ≡ false
+    let insertions = pair_bytes g.K.VisitBytes.bytes g.V.VisitBytes.bytes l.insertions in
+    last_insertion (g.K.VisitBytes.bytes l.key) insertions ≡ last_insertion (g.K.VisitBytes.bytes l.key) (take l.place insertions)
