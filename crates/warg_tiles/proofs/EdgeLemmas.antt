@@ -1,19 +1,19 @@
 -- The right edge of a log, level by level.
-use Rattle.std.proofs.Common.{◌≡◌, ℕ, zero, suc, ◌+◌, ◌-◌, ◌*◌, ◌/◌, ◌%◌, ◌^◌, ◌<◌, ◌≤◌, ◌==◌, if◌then◌else◌, List, [], ◌∷◌, ◌++◌, length, take, drop, map, slice_index_or, Some, None, Result, Ok, Err, refl, sym, ap, subst, ◌∙◌, arith}
+use Rattle.std.proofs.Common.{◌≡◌, ℕ, zero, suc, ◌+◌, ◌-◌, ◌*◌, ◌/◌, ◌%◌, ◌^◌, ◌<◌, ◌≤◌, ◌==◌, if◌then◌else◌, List, [], ◌∷◌, ◌++◌, length, take, drop, slice_index_or, Some, Result, Ok, Err, refl, sym, ap, ◌∙◌, arith}
 use Rattle.std.specs.Prelude.{IfOk}
-use Rattle.std.proofs.Math.Seq.{take-append_seam, drop-append_seam}
 use Rattle.std.proofs.lemmas.Nat.{pow-add}
 use Rattle.std.proofs.lemmas.Bool.{le-leb, ne_eqb, eq-eqb}
-use Rattle.std.proofs.lemmas.List.{append_assoc, append-nil, length-append, take-append-le, take-append-drop, length-drop}
+use Rattle.std.proofs.lemmas.List.{append_assoc, append-nil, map-append, length-append, length-take, take-take, take_at, drop_at}
 use Rattle.std.proofs.lemmas.List.FromFn.{length-map-range_with_len, get_or-map-range_with_len, map-range_with_len_more}
 use Rattle.warg_log.specs.Nodes.{height_of, end_of, number_of}
 use Rattle.warg_log.specs.Tree.{root_of, root_over, leaves_below, own_digest}
 use Rattle.warg_log.proofs.ForCallers.{over_at, pow_below_pow}
 use Rattle.warg_tiles.specs.Tiles.{TileAt, node_in}
 use Rattle.warg_tiles.specs.TileData.{Tiles, IsTileBy}
-use Rattle.warg_tiles.specs.TileLog.{completed_from, tile_digests}
+use Rattle.warg_protobuf.proofs.ForCallers.{all_append}
+use Rattle.warg_tiles.specs.TileLog.{completed_from, tile_digests, AreTilesOf}
 use Rattle.warg_tiles.specs.Private.Edges.{edge_width, width_from, edge_within, edge_from, EndsWith, AreAdded}
-use Rattle.warg_tiles.proofs.OwnLemmas.{roots_of_parts}
+use Rattle.warg_tiles.proofs.RootLemmas.{roots_of_parts}
 
 -- the digest of a node is the root over its leaves
 pub node_root : (H : List ℕ → List ℕ) (ds : List (List ℕ)) (k j : ℕ) → root_of H (leaves_below (number_of k j) ds) ≡ root_over H ds (j * 2 ^ k) (2 ^ k)
@@ -36,22 +36,22 @@ pub edge_step : (H : List ℕ → List ℕ) (ds : List (List ℕ)) (level count 
 unfolding edge_within
 edge_step H ds level count low = let one : 8 - level ≡ suc (8 - (level + 1)) = omega arith in rw one refl
 
+-- a node more stands in the same tile, or is the first of the next one
+next_place : (count : ℕ) → (count % 256 < 255 → ((count + 1) / 256 ≡ count / 256) × ((count + 1) % 256 ≡ count % 256 + 1)) × (count % 256 ≡ 255 → ((count + 1) / 256 ≡ count / 256 + 1) × ((count + 1) % 256 ≡ 0))
+next_place count = (λ less. (omega arith, omega arith), λ full. (omega arith, omega arith))
+
 -- the tiles that are completed by levels
 completed_step : (level count : ℕ) → level < 8
     → completed_from (8 - level) level count ≡ (if count % 256 == 0 then record { level = level; number = count / 256 - 1; width = 256 } ∷ completed_from (8 - (level + 1)) (level + 1) (count / 256) else [])
 unfolding completed_from
 completed_step level count low = let one : 8 - level ≡ suc (8 - (level + 1)) = omega arith in rw one refl
 
-pub completed_none : (level count : ℕ) → level < 8 → count % 256 < 255 → completed_from (8 - level) level (count + 1) ≡ []
-completed_none level count low less = completed_step level (count + 1) low ∙ rw (ne_eqb ((count + 1) % 256) 0 (λ nought. omega (arith, nought))) refl
-
-pub completed_more : (level count : ℕ) → level < 8 → count % 256 ≡ 255
+completed_more : (level count : ℕ) → level < 8 → count % 256 ≡ 255
     → completed_from (8 - level) level (count + 1) ≡ record { level = level; number = count / 256; width = 256 } ∷ completed_from (8 - (level + 1)) (level + 1) (count / 256 + 1)
 completed_more level count low full =
-    let nought : (count + 1) % 256 ≡ 0 = omega (arith, full) in
-    let next : (count + 1) / 256 ≡ count / 256 + 1 = omega (arith, full) in
+    let next = next_place count in
     let place : count / 256 + 1 - 1 ≡ count / 256 = omega arith in
-    completed_step level (count + 1) low ∙ rw (eq-eqb ((count + 1) % 256) 0 nought, next, place) refl
+    completed_step level (count + 1) low ∙ rw (eq-eqb ((count + 1) % 256) 0 ((next.1 full).1), (next.1 full).0, place) refl
 
 -- a tile has as many digests as its width
 pub tile_count : (H : List ℕ → List ℕ) (ds : List (List ℕ)) (t : TileAt) → length (tile_digests H ds t) ≡ t.width
@@ -79,48 +79,56 @@ digests_more H ds level number width = map-range_with_len_more (λ i. root_of H 
 pub digest_at_place : (H : List ℕ → List ℕ) (ds : List (List ℕ)) (t : TileAt) (i : ℕ) → i < t.width → slice_index_or (tile_digests H ds t) i [] ≡ root_of H (leaves_below (node_in t i) ds)
 digest_at_place H ds t i low = get_or-map-range_with_len (λ i. root_of H (leaves_below (node_in t i) ds)) 0 t.width i i [] low (omega arith)
 
--- the digests of a tile that is there are the log's own
-pub own_tile : (H : List ℕ → List ℕ) (ds : List (List ℕ)) (t : TileAt) → (256 * t.number + t.width) * 2 ^ (8 * t.level) ≤ length ds → IsTileBy (own_digest H ds) t (tile_digests H ds t)
-own_tile H ds t fits = record {
-  count = tile_count H ds t;
-  digest = λ i low.
-      let at = over_at (8 * t.level) (256 * t.number + i) in
-      let within : (256 * t.number + i + 1) * 2 ^ (8 * t.level) ≤ (256 * t.number + t.width) * 2 ^ (8 * t.level) = grind arith in
-      let place : end_of (node_in t i) ≡ (256 * t.number + i + 1) * 2 ^ (8 * t.level) = ap (λ j. (j + 1) * 2 ^ height_of (node_in t i)) at.1 ∙ ap (λ k. (256 * t.number + i + 1) * 2 ^ k) at.0 in
-      ap (λ b. if b then Some (root_of H (leaves_below (node_in t i) ds)) else None) (le-leb (end_of (node_in t i)) (length ds) (omega (arith, place, within, fits)))
-      ∙ ap Some (sym (digest_at_place H ds t i low));
+-- tiles behind tiles
+pub are_append : (H : List ℕ → List ℕ) (ds : List (List ℕ)) (xs ys : List TileAt) (old new : Tiles) → AreTilesOf H ds xs old → AreTilesOf H ds ys new → AreTilesOf H ds (xs ++ ys) (old ++ new)
+are_append H ds xs ys old new one two = record {
+  places = map-append (λ (t : TileAt × List (List ℕ)). t.0) old new ∙ cc (one.places, two.places);
+  digests = all_append (λ (t : TileAt × List (List ℕ)). IsTileBy (own_digest H ds) t.0 t.1) old new one.digests two.digests;
 }
+
+-- the digests of a tile that is there are the log's own
+pub own_tile : (H : List ℕ → List ℕ) (ds : List (List ℕ)) (t : TileAt) → (256 * t.number + t.width) * 2 ^ (8 * t.level) ≤ length ds → AreTilesOf H ds (t ∷ []) ((t, tile_digests H ds t) ∷ [])
+own_tile H ds t fits = record {
+  places = refl;
+  digests = (
+    record {
+      count = tile_count H ds t;
+      digest = λ i low.
+          let at = over_at (8 * t.level) (256 * t.number + i) in
+          let place : end_of (node_in t i) ≡ (256 * t.number + i + 1) * 2 ^ (8 * t.level) = rw (at.1, at.0) refl in
+          let within : (256 * t.number + i + 1) * 2 ^ (8 * t.level) ≤ (256 * t.number + t.width) * 2 ^ (8 * t.level) = grind arith in
+          rw (le-leb (end_of (node_in t i)) (length ds) (omega arith)) (ap Some (sym (digest_at_place H ds t i low)));
+    },
+    tt,
+  );
+}
+
+-- the parts of an edge at its lowest level
+pub edge_split : (H : List ℕ → List ℕ) (ds edge : List (List ℕ)) (level count : ℕ) → level < 8 → edge ≡ edge_from H ds level count
+    → (take (length edge - count % 256) edge ≡ edge_from H ds (level + 1) (count / 256))
+    × (drop (length edge - count % 256) edge ≡ tile_digests H ds (record { level = level; number = count / 256; width = count % 256 }))
+edge_split H ds edge level count low is =
+    let above = edge_from H ds (level + 1) (count / 256) in
+    let digests = tile_digests H ds (record { level = level; number = count / 256; width = count % 256 }) in
+    let whole : edge ≡ above ++ digests = is ∙ edge_step H ds level count low in
+    let size : length above ≡ length edge - count % 256 = omega (arith, ap length whole, length-append above digests, tile_count H ds (record { level = level; number = count / 256; width = count % 256 })) in
+    (ap (take (length edge - count % 256)) whole ∙ take_at above digests _ size, ap (drop (length edge - count % 256)) whole ∙ drop_at above digests _ size)
 
 -- a node's digest goes behind a partial tile
 pub edge_partial : (H : List ℕ → List ℕ) (ds edge : List (List ℕ)) (digest : List ℕ) (level count : ℕ) → level < 8 → count % 256 < 255 → EndsWith H ds level count edge digest
     → edge ++ digest ∷ [] ≡ edge_from H ds level (count + 1)
 edge_partial H ds edge digest level count low less is =
-    let number : (count + 1) / 256 ≡ count / 256 = omega (arith, less) in
-    let width : (count + 1) % 256 ≡ count % 256 + 1 = omega (arith, less) in
-    let place : count ≡ 256 * (count / 256) + count % 256 = omega arith in
-    let above = edge_from H ds (level + 1) (count / 256) in
-    let digests = tile_digests H ds (record { level = level; number = count / 256; width = count % 256 }) in
-    ap (λ e. e ++ digest ∷ []) (is.before ∙ edge_step H ds level count low) ∙ append_assoc above digests (digest ∷ [])
-    ∙ ap (λ d. above ++ (digests ++ d ∷ [])) (is.last ∙ ap (λ j. root_of H (leaves_below (number_of (8 * level) j) ds)) place)
-    ∙ ap (λ l. above ++ l) (sym (digests_more H ds level (count / 256) (count % 256)))
-    ∙ ap (λ w. above ++ tile_digests H ds (record { level = level; number = count / 256; width = w })) (sym width)
-    ∙ ap (λ j. edge_from H ds (level + 1) j ++ tile_digests H ds (record { level = level; number = j; width = (count + 1) % 256 })) (sym number)
-    ∙ sym (edge_step H ds level (count + 1) low)
+    let next = (next_place count).0 less in
+    let place : 256 * (count / 256) + count % 256 ≡ count = omega arith in
+    rw (edge_step H ds level (count + 1) low, next.0, next.1, digests_more H ds level (count / 256) (count % 256), place, is.before, edge_step H ds level count low, append_assoc, is.last) refl
 
 -- the parts of an edge whose last tile is filled
 pub edge_parts : (H : List ℕ → List ℕ) (ds edge : List (List ℕ)) (digest : List ℕ) (level count : ℕ) → level < 8 → count % 256 ≡ 255 → EndsWith H ds level count edge digest
     → (take (length edge - 255) edge ≡ edge_from H ds (level + 1) (count / 256)) × (drop (length edge - 255) edge ++ digest ∷ [] ≡ tile_digests H ds (record { level = level; number = count / 256; width = 256 }))
 edge_parts H ds edge digest level count low full is =
-    let above = edge_from H ds (level + 1) (count / 256) in
-    let digests = tile_digests H ds (record { level = level; number = count / 256; width = 255 }) in
-    let whole : edge ≡ above ++ digests = is.before ∙ edge_step H ds level count low ∙ ap (λ w. above ++ tile_digests H ds (record { level = level; number = count / 256; width = w })) full in
-    let size : length edge - 255 ≡ length above = omega (arith, ap length whole, length-append above digests, tile_count H ds (record { level = level; number = count / 256; width = 255 })) in
-    let place : count ≡ 256 * (count / 256) + 255 = omega (arith, full) in (
-      ap (λ n. take n edge) size ∙ ap (take (length above)) whole ∙ take-append_seam above digests,
-      ap (λ l. l ++ digest ∷ []) (ap (λ n. drop n edge) size ∙ ap (drop (length above)) whole ∙ drop-append_seam above digests)
-          ∙ ap (λ d. digests ++ d ∷ []) (is.last ∙ ap (λ j. root_of H (leaves_below (number_of (8 * level) j) ds)) place)
-          ∙ sym (digests_more H ds level (count / 256) 255),
-    )
+    let parts = rw full at (edge_split H ds edge level count low is.before) in
+    let place : 256 * (count / 256) + 255 ≡ count = omega arith in
+    (parts.0, rw (parts.1, is.last, digests_more H ds level (count / 256) 255, place) refl)
 
 -- the root of a full tile is the digest of the node above it
 pub root_up : (H : List ℕ → List ℕ) (ds : List (List ℕ)) (level number : ℕ) → (256 * number + 256) * 2 ^ (8 * level) ≤ length ds
@@ -144,13 +152,7 @@ fits_low level count fits =
     let low : 8 * level < 64 = pow_below_pow (8 * level) 64 (omega arith) in
     omega arith
 
--- and so is that above it, where the node is the last of a tile
-pub up_low : (level count : ℕ) → (count + 1) * 2 ^ (8 * level) ≤ 2 ^ 63 → count % 256 ≡ 255 → level + 1 < 8
-up_low level count fits full =
-    let whole : count + 1 ≡ 256 * (count / 256 + 1) = omega (arith, full) in
-    let size : (count + 1) * 2 ^ (8 * level) ≡ (count / 256 + 1) * 2 ^ (8 * (level + 1)) = omega (arith, ap (λ n. n * 2 ^ (8 * level)) whole, ap (λ p. (count / 256 + 1) * p) (pow_up level)) in
-    fits_low (level + 1) (count / 256) (omega (arith, fits, size))
-
+-- and so does that above it, where the node is the last of a tile
 pub next_fits : (level count : ℕ) → (count + 1) * 2 ^ (8 * level) ≤ 2 ^ 63 → count % 256 ≡ 255 → (count / 256 + 1) * 2 ^ (8 * (level + 1)) ≤ 2 ^ 63
 next_fits level count fits full =
     let whole : count + 1 ≡ 256 * (count / 256 + 1) = omega (arith, full) in
@@ -158,36 +160,28 @@ next_fits level count fits full =
 
 -- the width with a node more
 pub width_more : (level count : ℕ) → level < 8 → count % 256 < 255 → width_from level (count + 1) ≡ width_from level count + 1
-width_more level count low less =
-    let number : (count + 1) / 256 ≡ count / 256 = omega (arith, less) in
-    let width : (count + 1) % 256 ≡ count % 256 + 1 = omega (arith, less) in
-    omega (arith, width_step level count low, width_step level (count + 1) low, ap (width_from (level + 1)) number, width)
+width_more level count low less = let next = (next_place count).0 less in omega (arith, width_step level count low, width_step level (count + 1) low, ap (width_from (level + 1)) next.0)
 
 -- the width with a full tile more
 pub width_full : (level count : ℕ) → level < 8 → count % 256 ≡ 255 → (width_from level count ≡ 255 + width_from (level + 1) (count / 256)) × (width_from level (count + 1) ≡ width_from (level + 1) (count / 256 + 1))
 width_full level count low full =
-    let number : (count + 1) / 256 ≡ count / 256 + 1 = omega (arith, full) in
-    let width : (count + 1) % 256 ≡ 0 = omega (arith, full) in
-    (omega (arith, width_step level count low, full), omega (arith, width_step level (count + 1) low, ap (width_from (level + 1)) number, width))
+    let next = (next_place count).1 full in
+    (omega (arith, width_step level count low), omega (arith, width_step level (count + 1) low, ap (width_from (level + 1)) next.0))
 
 -- no tile is filled
 pub nothing_added : (H : List ℕ → List ℕ) (ds : List (List ℕ)) (old : Tiles) (level count : ℕ) → level < 8 → count % 256 < 255 → AreAdded H ds (completed_from (8 - level) level (count + 1)) old old
-nothing_added H ds old level count low less = ([], sym (append-nil old), record { places = sym (completed_none level count low less); digests = tt })
+nothing_added H ds old level count low less =
+    let none = completed_step level (count + 1) low ∙ rw (ne_eqb ((count + 1) % 256) 0 (λ nought. omega arith)) refl in
+    ([], sym (append-nil old), record { places = sym none; digests = tt })
 
 -- the first digests of an edge whose last tile was filled, with the digest above it
 pub edge_full : (H : List ℕ → List ℕ) (ds edge above : List (List ℕ)) (last : List ℕ) (level count kept : ℕ) → level < 8 → count % 256 ≡ 255
     → above ≡ take (length edge - 255) edge → kept ≤ length above → take kept above ++ last ∷ [] ≡ edge_from H ds (level + 1) (count / 256 + 1)
     → take kept edge ++ last ∷ [] ≡ edge_from H ds level (count + 1)
 edge_full H ds edge above last level count kept low full front few is =
-    let n = length edge - 255 in
-    let number : (count + 1) / 256 ≡ count / 256 + 1 = omega (arith, full) in
-    let width : (count + 1) % 256 ≡ 0 = omega (arith, full) in
-    let few_taken : kept ≤ length (take n edge) = omega (arith, few, ap length front) in
-    let same : take kept edge ≡ take kept above = ap (take kept) (sym (take-append-drop n edge)) ∙ take-append-le kept (take n edge) (drop n edge) few_taken ∙ ap (take kept) (sym front) in
-    ap (λ l. l ++ last ∷ []) same ∙ is ∙ sym (append-nil (edge_from H ds (level + 1) (count / 256 + 1)))
-    ∙ ap (λ w. edge_from H ds (level + 1) (count / 256 + 1) ++ tile_digests H ds (record { level = level; number = count / 256 + 1; width = w })) (sym width)
-    ∙ ap (λ j. edge_from H ds (level + 1) j ++ tile_digests H ds (record { level = level; number = j; width = (count + 1) % 256 })) (sym number)
-    ∙ sym (edge_step H ds level (count + 1) low)
+    let next = (next_place count).1 full in
+    let same : take kept edge ≡ take kept above = rw front (sym (take-take kept (length edge - 255) edge (omega (arith, ap length front, length-take (length edge - 255) edge)))) in
+    rw (edge_step H ds level (count + 1) low, next.0, next.1, same, append-nil (edge_from H ds (level + 1) (count / 256 + 1))) is
 
 -- the nodes of a full tile
 whole_nodes : (count : ℕ) → count % 256 ≡ 255 → count + 1 ≡ 256 * (count / 256) + 256
@@ -213,45 +207,14 @@ pub tile_added : (H : List ℕ → List ℕ) (ds edge digests : List (List ℕ))
 tile_added H ds edge digests digest old new pushed tile level count low full is rest at put added =
     let parts = edge_parts H ds edge digest level count low full is in
     let t : TileAt = record { level = level; number = count / 256; width = 256 } in
-    let whole : count + 1 ≡ 256 * (count / 256) + 256 = whole_nodes count full in
-    let own : IsTileBy (own_digest H ds) t (tile_digests H ds t) = own_tile H ds t (omega (arith, is.ends, ap (λ n. n * 2 ^ (8 * level)) whole)) in (
+    let own = own_tile H ds t (omega (arith, is.ends, ap (λ n. n * 2 ^ (8 * level)) (whole_nodes count full))) in
+    let one : AreTilesOf H ds (t ∷ []) ((tile, digests) ∷ []) = rw (at, rest, parts.1) own in (
       (tile, digests) ∷ added.0,
       added.1 ∙ ap (λ l. l ++ added.0) put ∙ append_assoc old ((tile, digests) ∷ []) added.0,
-      record {
-        places = ap (λ u. u ∷ map (λ (s : TileAt × List (List ℕ)). s.0) added.0) at ∙ ap (λ l. t ∷ l) added.2.places ∙ sym (completed_more level count low full);
-        digests = (subst (λ u. IsTileBy (own_digest H ds) u digests) (sym at) (subst (IsTileBy (own_digest H ds) t) (sym (rest ∙ parts.1)) own), added.2.digests);
-      },
+      rw (completed_more level count low full) (are_append H ds (t ∷ []) _ ((tile, digests) ∷ []) added.0 one added.2),
     )
 
 -- two facts of a value that may be there
 pub both : {X E : Type 0} (r : Result X E) (P Q R : X → Type 0) → ((x : X) → P x → Q x → R x) → IfOk r P → IfOk r Q → IfOk r R
 both (Ok x) P Q R f p q = f x p q
 both (Err e) P Q R f p q = tt
-
--- the greatest digit
-pub full_of : (count : ℕ) → 255 ≤ count % 256 → count % 256 ≡ 255
-full_of count most = omega arith
-
--- a tile that was filled has 256 digests
-pub filled_count : (items edge : List (List ℕ)) (digest : List ℕ) → 255 ≤ length edge → items ≡ drop (length edge - 255) edge ++ digest ∷ [] → length items ≡ 256
-filled_count items edge digest long is = omega (arith, ap length is, length-append (drop (length edge - 255) edge) (digest ∷ []), length-drop (length edge - 255) edge)
-
--- a tile behind others by its parts
-pub pair_put : (old : Tiles) (a b : TileAt) (ds es : List (List ℕ)) → a ≡ b → ds ≡ es → old ++ (a, ds) ∷ [] ≡ old ++ (b, es) ∷ []
-pair_put old a b ds es p q = ap (λ u. old ++ (u, ds) ∷ []) p ∙ ap (λ d. old ++ (b, d) ∷ []) q
-
--- no nodes
-pub width_none : edge_width 8 0 ≡ 0
-unfolding edge_width
-width_none = refl
-
--- the parts of an edge at its lowest level
-pub edge_split : (H : List ℕ → List ℕ) (ds edge : List (List ℕ)) (level count : ℕ) → level < 8 → edge ≡ edge_from H ds level count
-    → (take (length edge - count % 256) edge ≡ edge_from H ds (level + 1) (count / 256))
-    × (drop (length edge - count % 256) edge ≡ tile_digests H ds (record { level = level; number = count / 256; width = count % 256 }))
-edge_split H ds edge level count low is =
-    let above = edge_from H ds (level + 1) (count / 256) in
-    let digests = tile_digests H ds (record { level = level; number = count / 256; width = count % 256 }) in
-    let whole : edge ≡ above ++ digests = is ∙ edge_step H ds level count low in
-    let size : length edge - count % 256 ≡ length above = omega (arith, ap length whole, length-append above digests, tile_count H ds (record { level = level; number = count / 256; width = count % 256 })) in
-    (ap (λ n. take n edge) size ∙ ap (take (length above)) whole ∙ take-append_seam above digests, ap (λ n. drop n edge) size ∙ ap (drop (length above)) whole ∙ drop-append_seam above digests)

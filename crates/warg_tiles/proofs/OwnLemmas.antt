@@ -1,66 +1,23 @@
 -- What the tiles of a log come to.
-use Rattle.std.proofs.Common.{◌≡◌, inl, inr, ℕ, zero, suc, ◌+◌, ◌-◌, ◌*◌, ◌/◌, ◌%◌, ◌^◌, ◌<◌, ◌≤◌, ◌==◌, ◌&&◌, nat_le, if◌then◌else◌, Bool, true, false, List, [], ◌∷◌, length, take, drop, slice_index_or, Option, Some, None, refl, sym, ap, subst, ◌∙◌, arith}
+use Rattle.std.proofs.Common.{◌≡◌, ℕ, ◌+◌, ◌-◌, ◌*◌, ◌/◌, ◌%◌, ◌^◌, ◌<◌, ◌≤◌, ◌==◌, ◌&&◌, nat_le, true, List, [], ◌∷◌, length, take, drop, slice_index_or, Option, Some, None, refl, sym, ap, subst, ◌∙◌, arith}
 use Rattle.std.specs.List.{AllByRecursion}
-use Rattle.std.proofs.Math.Nat.{pow-suc}
 use Rattle.std.proofs.lemmas.Nat.{pow_pos, pow-add}
-use Rattle.std.proofs.lemmas.Bool.{leb-true, le-leb, eqb-true, cases_lt, lt-leb}
+use Rattle.std.proofs.lemmas.Bool.{leb-true, le-leb, eqb-true, and_parts}
+use Rattle.std.proofs.lemmas.Option.{cond_some}
+use Rattle.std.proofs.Math.Dec.{leb}
 use Rattle.std.proofs.lemmas.List.{get_or-take, get_or-drop, length-take-le, length-drop}
 use Rattle.warg_log.specs.Nodes.{height_of, place_of, start_of, end_of}
-use Rattle.warg_crypto.specs.Tree.{branch}
-use Rattle.warg_log.specs.Tree.{front_of, root_of, root_over, own_digest}
-use Rattle.warg_log.proofs.ForCallers.{root_over_parts, front_of_is, over_at}
+use Rattle.warg_log.specs.Tree.{root_over, own_digest}
+use Rattle.warg_log.proofs.ForCallers.{over_at}
 use Rattle.warg_tiles.specs.Tiles.{TileAt, node_in, place_in_level, tile_over}
 use Rattle.std.specs.Option.{option_or}
 use Rattle.warg_tiles.specs.TileData.{Tiles, IsTileBy, has_below, root_below, digest_of, digest_by}
 use Rattle.warg_tiles.proofs.TileLemmas.{place_in_level_is, height_parts}
-use Rattle.warg_tiles.proofs.RootLemmas.{root_one, root_parts}
-
--- the root over twice as many leaves
-root_twice : (H : List ℕ → List ℕ) (ds : List (List ℕ)) (a e : ℕ) → a + 2 ^ suc e ≤ length ds → root_over H ds a (2 ^ suc e) ≡ branch H (root_over H ds a (2 ^ e)) (root_over H ds (a + 2 ^ e) (2 ^ e))
-root_twice H ds a e fits =
-    let twice : 2 ^ suc e ≡ 2 * 2 ^ e = omega (arith, pow-suc 2 e) in
-    let some : 0 < 2 ^ e = pow_pos e in
-    let front : front_of (2 ^ suc e) ≡ 2 ^ e = front_of_is e (2 ^ suc e) (omega arith) (omega arith) in
-    let rest : 2 ^ suc e - 2 ^ e ≡ 2 ^ e = omega arith in
-    root_over_parts H ds a (2 ^ suc e) (omega arith) fits
-    ∙ ap (λ f. branch H (root_over H ds a f) (root_over H ds (a + f) (2 ^ suc e - f))) front
-    ∙ ap (λ n. branch H (root_over H ds a (2 ^ e)) (root_over H ds (a + 2 ^ e) n)) rest
-
--- the root over the roots of parts of one size is the root over all
-pub roots_of_parts : (H : List ℕ → List ℕ) (ds xs : List (List ℕ)) (m k a : ℕ) → a + 2 ^ (k + m) ≤ length ds → length xs ≡ 2 ^ k
-    → ((i : ℕ) → i < 2 ^ k → slice_index_or xs i [] ≡ root_over H ds (a + i * 2 ^ m) (2 ^ m)) → root_of H xs ≡ root_over H ds a (2 ^ (k + m))
-roots_of_parts H ds xs m zero a fits count each =
-    let at : a + 0 * 2 ^ m ≡ a = omega arith in
-    let same : 0 + m ≡ m = omega arith in
-    root_one H xs count ∙ each 0 (omega arith) ∙ ap (λ b. root_over H ds b (2 ^ m)) at ∙ ap (λ n. root_over H ds a (2 ^ n)) (sym same)
-roots_of_parts H ds xs m (suc k) a fits count each =
-    let some : 0 < 2 ^ k = pow_pos k in
-    let twice : 2 ^ suc k ≡ 2 * 2 ^ k = omega (arith, pow-suc 2 k) in
-    let exponent : suc k + m ≡ suc (k + m) = omega arith in
-    let size : 2 ^ (suc k + m) ≡ 2 * 2 ^ (k + m) = ap (λ n. 2 ^ n) exponent ∙ omega (arith, pow-suc 2 (k + m)) in
-    let part : 2 ^ (k + m) ≡ 2 ^ k * 2 ^ m = pow-add 2 k m in
-    let front = roots_of_parts H ds (take (2 ^ k) xs) m k a (omega arith) (length-take-le (2 ^ k) xs (omega arith))
-    (λ i low. get_or-take (2 ^ k) xs i [] low ∙ each i (omega arith)) in
-    let rest = roots_of_parts H ds (drop (2 ^ k) xs) m k (a + 2 ^ (k + m)) (omega arith) (omega (arith, length-drop (2 ^ k) xs))
-    (λ i low.
-    let at : a + (2 ^ k + i) * 2 ^ m ≡ a + 2 ^ (k + m) + i * 2 ^ m = omega (arith, part) in
-    get_or-drop (2 ^ k) xs i [] ∙ each (2 ^ k + i) (omega arith) ∙ ap (λ b. root_over H ds b (2 ^ m)) at) in
-    root_parts H xs (take (2 ^ k) xs) (drop (2 ^ k) xs) k (omega arith) (omega arith) (omega arith) refl refl
-    ∙ ap (λ l. branch H l (root_of H (drop (2 ^ k) xs))) front ∙ ap (λ l. branch H (root_over H ds a (2 ^ (k + m))) l) rest
-    ∙ sym (root_twice H ds a (k + m) (omega (arith, size, pow-suc 2 (k + m)))) ∙ ap (λ n. root_over H ds a (2 ^ n)) (sym exponent)
+use Rattle.warg_tiles.proofs.RootLemmas.{roots_of_parts}
 
 -- a log's own digest of a node is the root over its leaves, which are there
 pub own_is : (H : List ℕ → List ℕ) (ds : List (List ℕ)) (x : ℕ) (d : List ℕ) → own_digest H ds x ≡ Some d → (end_of x ≤ length ds) × (d ≡ root_over H ds (start_of x) (2 ^ height_of x))
-own_is H ds x d is = elim (cases_lt (length ds) (end_of x)) [
-  | inl beyond ↦ absurd (none_some (sym (ap (λ b. if b then Some (root_over H ds (start_of x) (2 ^ height_of x)) else None) (lt-leb (end_of x) (length ds) beyond)) ∙ is))
-  | inr within ↦ (within, some_same (sym is ∙ ap (λ b. if b then Some (root_over H ds (start_of x) (2 ^ height_of x)) else None) (le-leb (end_of x) (length ds) within)))
-]
-  where
-    none_some : {d : List ℕ} → None ≡ Some d → ⊥
-    none_some e = cc
-
-    some_same : {d e : List ℕ} → Some d ≡ Some e → d ≡ e
-    some_same e = cc
+own_is H ds x d is = let found = cond_some (leb (end_of x) (length ds)) (root_over H ds (start_of x) (2 ^ height_of x)) d is in (leb-true (end_of x) (length ds) found.0, sym found.1)
 
 -- a digest of a log's tile is the root over the leaves below it, which are there
 tile_digest_is : (H : List ℕ → List ℕ) (ds digests : List (List ℕ)) (t : TileAt) (i : ℕ) → IsTileBy (own_digest H ds) t digests → i < t.width
@@ -71,10 +28,6 @@ tile_digest_is H ds digests t i tile inside =
       subst (λ k. (256 * t.number + i + 1) * 2 ^ k ≤ length ds) at.0 (subst (λ j. (j + 1) * 2 ^ height_of (node_in t i) ≤ length ds) at.1 own.0),
       own.1 ∙ ap (λ j. root_over H ds (j * 2 ^ height_of (node_in t i)) (2 ^ height_of (node_in t i))) at.1 ∙ ap (λ k. root_over H ds ((256 * t.number + i) * 2 ^ k) (2 ^ k)) at.0,
     )
-
-and_parts : (a b : Bool) → (a && b) ≡ true → (a ≡ true) × (b ≡ true)
-and_parts true b is = (refl, is)
-and_parts false b is = cc
 
 -- the test of a tile that has all digests below a node
 below_is : (t : TileAt) (x : ℕ) → has_below t x ≡ true → (t.level ≡ (tile_over x).level) × (t.number ≡ (tile_over x).number) × ((tile_over x).width ≤ t.width)
@@ -115,16 +68,12 @@ root_below_own H ds digests t x tile has =
     ∙ ap (λ b. root_over H ds b unit) at) in
     (omega (arith, leaves.0, leaves.2, ends), roots ∙ ap (λ b. root_over H ds b (2 ^ (height_of x % 8 + 8 * t.level))) (sym leaves.0) ∙ ap (root_over H ds (start_of x)) (sym leaves.1))
 
-digest_by_test : (H : List ℕ → List ℕ) (ds digests : List (List ℕ)) (t : TileAt) (x : ℕ) (d : List ℕ) (b : Bool) → IsTileBy (own_digest H ds) t digests → has_below t x ≡ b
-    → (if b then Some (root_below H digests x) else None) ≡ Some d → own_digest H ds x ≡ Some d
-digest_by_test H ds digests t x d false tile has is = cc
-digest_by_test H ds digests t x d true tile has is =
-    let own = root_below_own H ds digests t x tile has in
-    ap (λ b. if b then Some (root_over H ds (start_of x) (2 ^ height_of x)) else None) (le-leb (end_of x) (length ds) own.0) ∙ ap Some (sym own.1) ∙ is
-
 -- the digest by a log's tile is the log's own
 digest_of_own : (H : List ℕ → List ℕ) (ds : List (List ℕ)) (t : TileAt × List (List ℕ)) (x : ℕ) (d : List ℕ) → IsTileBy (own_digest H ds) t.0 t.1 → digest_of H t x ≡ Some d → own_digest H ds x ≡ Some d
-digest_of_own H ds t x d tile is = digest_by_test H ds t.1 t.0 x d (has_below t.0 x) tile refl is
+digest_of_own H ds t x d tile is =
+    let found = cond_some (has_below t.0 x) (root_below H t.1 x) d is in
+    let own = root_below_own H ds t.1 t.0 x tile found.0 in
+    rw (le-leb (end_of x) (length ds) own.0) (ap Some (sym own.1 ∙ found.1))
 
 digest_by_first : (first rest own : Option (List ℕ)) (d : List ℕ) → ((e : List ℕ) → first ≡ Some e → own ≡ Some e) → (rest ≡ Some d → own ≡ Some d) → option_or first rest ≡ Some d → own ≡ Some d
 digest_by_first (Some e) rest own d one others is = one e refl ∙ is

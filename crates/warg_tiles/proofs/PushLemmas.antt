@@ -1,20 +1,22 @@
 -- What a log that keeps its right edge stands for, with an entry more.
-use Rattle.std.proofs.Common.{◌≡◌, ℕ, zero, suc, ◌+◌, ◌-◌, ◌*◌, ◌/◌, ◌%◌, ◌^◌, ◌<◌, ◌≤◌, if◌then◌else◌, List, [], ◌∷◌, ◌++◌, length, take, drop, map, slice_index_or, get_or, Some, None, refl, sym, ap, subst, ◌∙◌, arith}
-use Rattle.std.specs.List.{AllByRecursion, flat_map, range_with_len}
+use Rattle.std.proofs.Common.{◌≡◌, ℕ, zero, suc, ◌+◌, ◌-◌, ◌*◌, ◌/◌, ◌%◌, ◌^◌, ◌≤◌, List, [], ◌∷◌, ◌++◌, length, take, drop, slice_index_or, get_or, Some, refl, sym, ap, ◌∙◌, arith}
+use Rattle.std.specs.List.{flat_map, range_with_len}
 use Rattle.std.proofs.Math.Nat.{div-div-eq-div-mul}
 use Rattle.std.proofs.Math.Seq.{get_or-append_seam}
 use Rattle.std.proofs.lemmas.Bool.{le-leb}
 use Rattle.std.proofs.lemmas.Grind.{flat_map-append}
-use Rattle.std.proofs.lemmas.List.{append_assoc, append-nil, length-append, take-append-le, drop-append-le, length-drop, map-append}
+use Rattle.std.proofs.lemmas.List.FromFn.{fill_by_all, map-range_with_len_more}
+use Rattle.std.proofs.lemmas.List.{append_assoc, append-nil, length-append, take-append-le, drop-append-le, length-drop, map-id}
 use Rattle.warg_log.specs.Nodes.{height_of, start_of, end_of}
 use Rattle.warg_log.specs.Tree.{root_of, root_over, leaves_below, own_digest}
+use Rattle.warg_protobuf.proofs.ForCallers.{all_weaken}
 use Rattle.warg_log.proofs.ForCallers.{root_over_one}
 use Rattle.warg_tiles.specs.Tiles.{TileAt, node_in}
 use Rattle.warg_tiles.specs.TileData.{Tiles, IsTileBy}
 use Rattle.warg_tiles.specs.TileLog.{RightEdge, last_tile, completed_from, completed_at, full_between, tile_digests, edge_digests, AreTilesOf, StandsFor}
 use Rattle.warg_tiles.specs.Private.Edges.{edge_within, edge_from, EndsWith, AreAdded}
 use Rattle.warg_tiles.proofs.OwnLemmas.{own_is}
-use Rattle.warg_tiles.proofs.EdgeLemmas.{node_root, pow_up}
+use Rattle.warg_tiles.proofs.EdgeLemmas.{node_root, pow_up, tile_count, digest_at_place, are_append}
 
 -- the nodes of the next level
 pub level_count : (n level : ℕ) → n / 2 ^ (8 * level) / 256 ≡ n / 2 ^ (8 * (level + 1))
@@ -30,9 +32,7 @@ edge_at H ds n (suc levels) level = edge_at H ds n levels (level + 1) ++ tile_di
 edge_at_is : (H : List ℕ → List ℕ) (ds : List (List ℕ)) (n levels level : ℕ) → edge_within H ds levels level (n / 2 ^ (8 * level)) ≡ edge_at H ds n levels level
 unfolding edge_within edge_at
 edge_at_is H ds n zero level = refl
-edge_at_is H ds n (suc levels) level =
-    ap (λ c. edge_within H ds levels (level + 1) c ++ tile_digests H ds (last_tile n level)) (level_count n level)
-    ∙ ap (λ l. l ++ tile_digests H ds (last_tile n level)) (edge_at_is H ds n levels (level + 1))
+edge_at_is H ds n (suc levels) level = rw (level_count n level, edge_at_is H ds n levels (level + 1)) refl
 
 pub levels_flat : (H : List ℕ → List ℕ) (ds : List (List ℕ)) (n : ℕ) → flat_map (λ level. tile_digests H ds (last_tile n level)) (7 ∷ 6 ∷ 5 ∷ 4 ∷ 3 ∷ 2 ∷ 1 ∷ 0 ∷ []) ≡ edge_at H ds n 8 0
 unfolding edge_at
@@ -49,48 +49,37 @@ root_over_append : (H : List ℕ → List ℕ) (ds more : List (List ℕ)) (a n 
 root_over_append H ds more a n fits =
     ap (root_of H) (ap (take n) (drop-append-le a ds more (omega arith)) ∙ take-append-le n (drop a ds) more (omega (arith, length-drop a ds)))
 
-map_same : (f g : ℕ → List ℕ) (n a : ℕ) → ((i : ℕ) → i < a + n → f i ≡ g i) → map f (range_with_len a n) ≡ map g (range_with_len a n)
-map_same f g zero a same = refl
-map_same f g (suc n) a same =
-    let first = same a (omega arith) in
-    let rest = map_same f g n (a + 1) (λ i low. same i (omega arith)) in
-    cc (first, rest)
-
 -- and so do the digests of a tile that is there
 tile_append : (H : List ℕ → List ℕ) (ds more : List (List ℕ)) (t : TileAt) → (256 * t.number + t.width) * 2 ^ (8 * t.level) ≤ length ds → tile_digests H (ds ++ more) t ≡ tile_digests H ds t
 tile_append H ds more t fits =
-    map_same (λ i. root_of H (leaves_below (node_in t i) (ds ++ more))) (λ i. root_of H (leaves_below (node_in t i) ds)) t.width 0
+    fill_by_all (λ i. root_of H (leaves_below (node_in t i) ds)) (tile_digests H (ds ++ more) t) t.width [] (tile_count H (ds ++ more) t)
     (λ i low.
     let within : (256 * t.number + i + 1) * 2 ^ (8 * t.level) ≤ (256 * t.number + t.width) * 2 ^ (8 * t.level) = grind arith in
-    node_root H (ds ++ more) (8 * t.level) (256 * t.number + i)
-    ∙ root_over_append H ds more ((256 * t.number + i) * 2 ^ (8 * t.level)) (2 ^ (8 * t.level)) (omega (arith, within, fits)) ∙ sym (node_root H ds (8 * t.level) (256 * t.number + i)))
+    digest_at_place H (ds ++ more) t i low ∙ node_root H (ds ++ more) (8 * t.level) (256 * t.number + i)
+    ∙ root_over_append H ds more ((256 * t.number + i) * 2 ^ (8 * t.level)) (2 ^ (8 * t.level)) (omega arith) ∙ sym (node_root H ds (8 * t.level) (256 * t.number + i)))
 
 -- and the edge of nodes that are there
 edge_append : (H : List ℕ → List ℕ) (ds more : List (List ℕ)) (levels level count : ℕ) → count * 2 ^ (8 * level) ≤ length ds → edge_within H (ds ++ more) levels level count ≡ edge_within H ds levels level count
 unfolding edge_within
 edge_append H ds more zero level count fits = refl
 edge_append H ds more (suc levels) level count fits =
-    let t : TileAt = record { level = level; number = count / 256; width = count % 256 } in
     let parts : count ≡ 256 * (count / 256) + count % 256 = omega arith in
-    let size : count * 2 ^ (8 * level) ≡ (256 * (count / 256) + count % 256) * 2 ^ (8 * level) = ap (λ n. n * 2 ^ (8 * level)) parts in
-    let above : count / 256 * 2 ^ (8 * (level + 1)) ≤ length ds = omega (arith, fits, size, ap (λ p. count / 256 * p) (pow_up level)) in
-    ap (λ l. l ++ tile_digests H (ds ++ more) t) (edge_append H ds more levels (level + 1) (count / 256) above)
-    ∙ ap (λ l. edge_within H ds levels (level + 1) (count / 256) ++ l) (tile_append H ds more t (omega (arith, fits, size)))
+    let size = ap (λ n. n * 2 ^ (8 * level)) parts in
+    let above : count / 256 * 2 ^ (8 * (level + 1)) ≤ length ds = omega (arith, ap (λ p. count / 256 * p) (pow_up level)) in
+    rw (edge_append H ds more levels (level + 1) (count / 256) above, tile_append H ds more (record { level = level; number = count / 256; width = count % 256 }) (omega arith)) refl
 
 -- and the tiles of a log
 own_append : (H : List ℕ → List ℕ) (ds more : List (List ℕ)) (x : ℕ) (d : List ℕ) → own_digest H ds x ≡ Some d → own_digest H (ds ++ more) x ≡ Some d
 own_append H ds more x d is =
     let own = own_is H ds x d is in
-    ap (λ b. if b then Some (root_over H (ds ++ more) (start_of x) (2 ^ height_of x)) else None) (le-leb (end_of x) (length (ds ++ more)) (omega (arith, own.0, length-append ds more)))
-    ∙ ap Some (root_over_append H ds more (start_of x) (2 ^ height_of x) (omega (arith, own.0)) ∙ sym own.1)
+    rw (le-leb (end_of x) (length (ds ++ more)) (omega (arith, own.0, length-append ds more))) (ap Some (root_over_append H ds more (start_of x) (2 ^ height_of x) (omega (arith, own.0)) ∙ sym own.1))
 
-pub tiles_append : (H : List ℕ → List ℕ) (ds more : List (List ℕ)) (tiles : Tiles) → AllByRecursion (λ (t : TileAt × List (List ℕ)). IsTileBy (own_digest H ds) t.0 t.1) tiles
-    → AllByRecursion (λ (t : TileAt × List (List ℕ)). IsTileBy (own_digest H (ds ++ more)) t.0 t.1) tiles
-tiles_append H ds more [] all = tt
-tiles_append H ds more (t ∷ tiles) all = (
-  record { count = all.0.count; digest = λ i low. own_append H ds more (node_in t.0 i) (slice_index_or t.1 i []) (all.0.digest i low) },
-  tiles_append H ds more tiles all.1,
-)
+pub tiles_append : (H : List ℕ → List ℕ) (ds more : List (List ℕ)) (expected : List TileAt) (tiles : Tiles) → AreTilesOf H ds expected tiles → AreTilesOf H (ds ++ more) expected tiles
+tiles_append H ds more expected tiles are = record {
+  places = are.places;
+  digests = all_weaken (λ (t : TileAt × List (List ℕ)). IsTileBy (own_digest H ds) t.0 t.1) (λ (t : TileAt × List (List ℕ)). IsTileBy (own_digest H (ds ++ more)) t.0 t.1)
+      (λ t own. record { count = own.count; digest = λ i low. own_append H ds more (node_in t.0 i) (slice_index_or t.1 i []) (own.digest i low) }) tiles are.digests;
+}
 
 -- the edge before an entry, and the entry's digest
 pub push_ends : (H : List ℕ → List ℕ) (ds edge : List (List ℕ)) (d : List ℕ) (n : ℕ) → length ds ≡ n → edge ≡ edge_digests H ds → EndsWith H (ds ++ d ∷ []) 0 n edge d
@@ -105,52 +94,21 @@ push_ends H ds edge d n count is =
           ∙ ap (λ i. get_or (ds ++ d ∷ []) i []) (sym count) ∙ get_or-append_seam ds d [] []);
     }
 
-range_more : (a n : ℕ) → range_with_len a (suc n) ≡ range_with_len a n ++ (a + n) ∷ []
-range_more a zero = let same : a ≡ a + 0 = omega arith in ap (λ b. b ∷ []) same
-range_more a (suc n) = let same : a + 1 + n ≡ a + suc n = omega arith in ap (λ l. a ∷ l) (range_more (a + 1) n ∙ ap (λ b. range_with_len (a + 1) n ++ b ∷ []) same)
-
 -- the full tiles with an entry more
 full_more : (old new : ℕ) → old ≤ new → full_between old (new + 1) ≡ full_between old new ++ completed_at (new + 1)
 full_more old new order =
-    let count : new + 1 - old ≡ suc (new - old) = omega arith in
-    let last : old + 1 + (new - old) ≡ new + 1 = omega arith in
-    ap (λ n. flat_map completed_at (range_with_len (old + 1) n)) count ∙ ap (flat_map completed_at) (range_more (old + 1) (new - old) ∙ ap (λ b. range_with_len (old + 1) (new - old) ++ b ∷ []) last)
-    ∙ flat_map-append completed_at (range_with_len (old + 1) (new - old)) ((new + 1) ∷ []) ∙ ap (λ l. full_between old new ++ l) (append-nil (completed_at (new + 1)))
-
-all_both : (P : TileAt × List (List ℕ) → Type 0) (xs ys : Tiles) → AllByRecursion P xs → AllByRecursion P ys → AllByRecursion P (xs ++ ys)
-all_both P [] ys p q = q
-all_both P (x ∷ xs) ys p q = (p.0, all_both P xs ys p.1 q)
+    let count : new + 1 - old ≡ new - old + 1 = omega arith in
+    let more = simp map-id at (map-range_with_len_more (λ (n : ℕ). n) (old + 1) (new - old) (new + 1) (omega arith)) in
+    rw (count, more) (flat_map-append completed_at (range_with_len (old + 1) (new - old)) ((new + 1) ∷ []) ∙ ap (λ l. full_between old new ++ l) (append-nil (completed_at (new + 1))))
 
 -- what a log stands for with an entry more
 pub push_stands : (H : List ℕ → List ℕ) (e f : RightEdge) (ds edge : List (List ℕ)) (d : List ℕ) (filled : Tiles) → e.taken ≤ e.len → StandsFor H e ds → edge ≡ edge_from H (ds ++ d ∷ []) 0 (e.len + 1)
     → AreAdded H (ds ++ d ∷ []) (completed_from (8 - 0) 0 (e.len + 1)) [] filled → f ≡ record { len = e.len + 1; taken = e.taken; digests = edge; full = e.full ++ filled } → StandsFor H f (ds ++ d ∷ [])
 push_stands H e f ds edge d filled order stands made added is =
     let size : length (ds ++ d ∷ []) ≡ e.len + 1 = omega (arith, length-append ds (d ∷ []), stands.count) in
-    let new : RightEdge = record { len = e.len + 1; taken = e.taken; digests = edge; full = e.full ++ filled } in
-    let tiles : AreTilesOf H (ds ++ d ∷ []) (completed_at (e.len + 1)) filled = subst (AreTilesOf H (ds ++ d ∷ []) (completed_at (e.len + 1))) (sym added.1) added.2 in
-    let made_new : StandsFor H new (ds ++ d ∷ []) = record {
+    let tiles : AreTilesOf H (ds ++ d ∷ []) (completed_at (e.len + 1)) filled = rw added.1 added.2 in
+    rw is (record {
       count = size;
       edge = made ∙ ap (edge_from H (ds ++ d ∷ []) 0) (sym size) ∙ sym (edge_digests_is H (ds ++ d ∷ []));
-      full = record {
-        places = map-append (λ (t : TileAt × List (List ℕ)). t.0) e.full filled ∙ ap (λ l. l ++ map (λ (t : TileAt × List (List ℕ)). t.0) filled) stands.full.places
-            ∙ ap (λ l. full_between e.taken e.len ++ l) tiles.places ∙ sym (full_more e.taken e.len order);
-        digests = all_both (λ (t : TileAt × List (List ℕ)). IsTileBy (own_digest H (ds ++ d ∷ [])) t.0 t.1) e.full filled (tiles_append H ds (d ∷ []) e.full stands.full.digests) tiles.digests;
-      };
-    } in
-    subst (λ g. StandsFor H g (ds ++ d ∷ [])) (sym is) made_new
-
--- the log of no entries
-pub stands_none : (H : List ℕ → List ℕ) → StandsFor H (record { len = 0; taken = 0; digests = []; full = [] }) []
-stands_none H = record { count = refl; edge = refl; full = record { places = refl; digests = tt } }
-
--- full tiles that were taken
-pub stands_taken : (H : List ℕ → List ℕ) (e f : RightEdge) (ds : List (List ℕ)) → f ≡ record e { taken = e.len; full = [] } → StandsFor H e ds → StandsFor H f ds
-stands_taken H e f ds is stands =
-    let none : e.len - e.len ≡ 0 = omega arith in
-    let new : RightEdge = record e { taken = e.len; full = [] } in
-    let made : StandsFor H new ds = record {
-      count = stands.count;
-      edge = stands.edge;
-      full = record { places = sym (ap (λ n. flat_map completed_at (range_with_len (e.len + 1) n)) none); digests = tt };
-    } in
-    subst (λ g. StandsFor H g ds) (sym is) made
+      full = rw (full_more e.taken e.len order) (are_append H (ds ++ d ∷ []) (full_between e.taken e.len) (completed_at (e.len + 1)) e.full filled (tiles_append H ds (d ∷ []) _ e.full stands.full) tiles);
+    })

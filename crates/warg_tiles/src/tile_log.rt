@@ -53,6 +53,7 @@ impl<D: SupportedDigest, V: VisitBytes, A: Allocator> Model for TileLog<D, V, A>
 
 impl<D: SupportedDigest, V: VisitBytes, A: Allocator + Copy> TileLog<D, V, A> {
     /// The log of no entries. It takes no memory yet.
+    #[tactic(auto, unfolding(crate::specs::Private::Edges::edge_width))]
     pub fn new(alloc: A) -> Self
         ensures value { result ≡ record { len = 0; taken = 0; digests = []; full = [] } }
         ensures stands { StandsFor D.digest result [] }

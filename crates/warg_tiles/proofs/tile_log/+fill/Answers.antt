@@ -1,10 +1,10 @@
-use Rattle.std.proofs.Common.{◌/◌, [], ◌∷◌, ◌++◌, map, sym, ap, ◌∙◌, rules, arith}
+use Rattle.std.proofs.Common.{◌≡◌, ◌%◌, ◌-◌, length, drop, ◌/◌, [], ◌∷◌, ◌++◌, map, sym, ap, ◌∙◌, rules, arith}
 use Rattle.std.proofs.Math.Seq.{take-length}
-use Rattle.std.proofs.lemmas.List.{map-append}
+use Rattle.std.proofs.lemmas.List.{map-append, length-append, length-drop}
 use Rattle.std.proofs.lemmas.Result.{IfOk-weaker, on_ok_weaker}
 use Rattle.warg_log.specs.Tree.{root_of}
 use Rattle.warg_tiles.proofs.BetweenLemmas.{same_tile}
-use Rattle.warg_tiles.proofs.EdgeLemmas.{width_more, width_full, edge_partial, edge_full, ends_up, tile_added, fits_low, next_fits, nothing_added, full_of, filled_count, pair_put, both}
+use Rattle.warg_tiles.proofs.EdgeLemmas.{width_more, width_full, edge_partial, edge_full, ends_up, tile_added, fits_low, next_fits, nothing_added, both}
 use Rattle.warg_tiles.proofs.tile_log.+fill.Goals as goal
 
 pub returns-then-count-lt255-clause-kept : goal.returns-then-count-lt255-clause-kept
@@ -20,7 +20,7 @@ returns-then-count-lt255-clause-filled g t c = λ ds is. nothing_added g.D.Suppo
 
 pub overflow_sub-edge : goal.overflow_sub-edge
 overflow_sub-edge g t c =
-    let full = full_of c.args.count c.if-count-lt255.false in
+    let full : c.args.count % 256 ≡ 255 = omega arith in
     omega (arith, c.requires.width, (width_full c.args.level c.args.count (fits_low c.args.level c.args.count c.requires.fits) full).0)
 
 pub new-requires-clause-level : goal.new-requires-clause-level
@@ -29,12 +29,19 @@ new-requires-clause-level g t c = omega (arith, fits_low c.args.level c.args.cou
 pub new-requires-2 : goal.new-requires-2
 new-requires-2 g t c =
     let digests = c.in_ok-push.ensures.items ∙ ap (λ l. l ++ c.args.digest ∷ []) (c.in_ok-digests.ensures ∙ c.split_at.ensures.back) in
-    filled_count c.push.new.self.items c.args.edge.now c.args.digest
-    (omega (arith, c.requires.width, (width_full c.args.level c.args.count (fits_low c.args.level c.args.count c.requires.fits) (full_of c.args.count c.if-count-lt255.false)).0)) digests ∙ sym c.new.ensures.width
+    omega (
+      arith,
+      c.new.ensures.width,
+      c.requires.width,
+      (width_full c.args.level c.args.count (fits_low c.args.level c.args.count c.requires.fits) (omega arith)).0,
+      ap length digests,
+      length-append (drop (length c.args.edge.now - 255) c.args.edge.now) (c.args.digest ∷ []),
+      length-drop (length c.args.edge.now - 255) c.args.edge.now,
+    )
 
 pub fill-requires : goal.fill-requires
 fill-requires g t c κs within =
-    let full = full_of c.args.count c.if-count-lt255.false in (
+    let full : c.args.count % 256 ≡ 255 = omega arith in (
       search rules,
       (
         search rules,
@@ -50,13 +57,13 @@ fill-requires g t c κs within =
 
 pub returns-clause-kept : goal.returns-clause-kept
 returns-clause-kept g t c =
-    let full = full_of c.args.count c.if-count-lt255.false in
+    let full : c.args.count % 256 ≡ 255 = omega arith in
     let width = (width_full c.args.level c.args.count (fits_low c.args.level c.args.count c.requires.fits) full).1 in
     IfOk-weaker c.fill.result _ _ (λ r h. (omega (arith, h.0, c.split_at.ensures.front_len), h.1 ∙ sym width)) c.fill.ensures.kept
 
 pub returns-clause-edge : goal.returns-clause-edge
 returns-clause-edge g t c =
-    let full = full_of c.args.count c.if-count-lt255.false in
+    let full : c.args.count % 256 ≡ 255 = omega arith in
     let low = fits_low c.args.level c.args.count c.requires.fits in
     let digests = c.in_ok-push.ensures.items ∙ ap (λ l. l ++ c.args.digest ∷ []) (c.in_ok-digests.ensures ∙ c.split_at.ensures.back) in
     both c.fill.result _ _ _
@@ -68,7 +75,7 @@ returns-clause-edge g t c =
 
 pub returns-clause-filled : goal.returns-clause-filled
 returns-clause-filled g t c =
-    let full = full_of c.args.count c.if-count-lt255.false in
+    let full : c.args.count % 256 ≡ 255 = omega arith in
     let low = fits_low c.args.level c.args.count c.requires.fits in
     let digests = c.in_ok-push.ensures.items ∙ ap (λ l. l ++ c.args.digest ∷ []) (c.in_ok-digests.ensures ∙ c.split_at.ensures.back) in
     on_ok_weaker c.fill.result
@@ -76,7 +83,7 @@ returns-clause-filled g t c =
     tile_added g.D.SupportedDigest.digest ds c.args.edge.now c.push.new.self.items c.args.digest _ _ _ c.new.result c.args.level c.args.count low full is digests
     (same_tile c.new.result c.args.level (c.args.count / 256) 256 c.new.ensures.level c.new.ensures.number c.new.ensures.width)
     (ap (map (λ t. (t.tile, t.digests.items))) c.in_ok-push-2.ensures.items ∙ map-append (λ t. (t.tile, t.digests.items)) c.args.filled.now.items (c.new-2.result ∷ [])
-    ∙ pair_put (map (λ t. (t.tile, t.digests.items)) c.args.filled.now.items) c.new-2.result.tile c.new.result c.new-2.result.digests.items c.push.new.self.items c.new-2.ensures.tile c.new-2.ensures.digests)
+    ∙ ap (λ t. map (λ t. (t.tile, t.digests.items)) c.args.filled.now.items ++ t ∷ []) (cc (c.new-2.ensures.tile, c.new-2.ensures.digests)))
     (filled ds (ends_up g.D.SupportedDigest.digest ds c.args.edge.now c.split_at.result.0.now c.push.new.self.items c.args.digest c.root_over-root.result c.args.level c.args.count low full is c.split_at.ensures.front
     digests (c.root_over-root.ensures ∙ ap (λ l. root_of g.D.SupportedDigest.digest l) c.as_slice.ensures.value))))
     c.fill.ensures.filled
