@@ -7,7 +7,7 @@ use Rattle.std.proofs.lemmas.Slice.Zip.{firsts-zip, seconds-zip}
 use Rattle.std.proofs.lemmas.Nat.{pow_pos}
 use Rattle.std.proofs.lemmas.Bool.{eq-eqb}
 use Rattle.warg_protobuf.specs.HashEntry.{Entry}
-use Rattle.warg_log.specs.Nodes.{height_of, place_of, end_of, balanced_roots}
+use Rattle.warg_log.specs.Nodes.{end_of, balanced_roots}
 use Rattle.warg_log.specs.Blocks.{Blocks}
 use Rattle.warg_protobuf.specs.Decoding.{first_fault, digest_fault}
 use Rattle.warg_log.specs.Images.{root_entry, stack_message, stack_in}

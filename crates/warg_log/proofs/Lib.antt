@@ -6,7 +6,6 @@ pub mod SliceLemmas
 pub mod WayLemmas
 pub mod CutLemmas
 pub mod WalkLemmas
-pub mod LawLemmas
 pub mod OrderLemmas
 pub mod StepLemmas
 pub mod ClimbLemmas

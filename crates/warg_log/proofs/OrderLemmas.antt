@@ -4,16 +4,16 @@ use Rattle.std.specs.Prelude.{reverse, nat_eq}
 use Rattle.std.specs.List.{AllByRecursion, IsDistinct}
 use Rattle.std.proofs.lemmas.Grind.{reverse_onto}
 use Rattle.std.proofs.Math.Nat.{pow-suc, mul-le-mul_right}
-use Rattle.std.proofs.lemmas.List.{length-append, append-nil, length-reverse}
+use Rattle.std.proofs.lemmas.List.{length-append, append-nil}
 use Rattle.std.proofs.lemmas.Bool.{ne_eqb, eq-eqb, cond_both, cases_lt, cases_eq}
 use Rattle.std.proofs.lemmas.Nat.{pow_pos, pow-add, shl-shr, shr-shr, le-div, div_below}
 use Rattle.warg_log.specs.Nodes.{sibling_place, node_over, number_of, balanced_within, balanced_over, balanced_roots}
 use Rattle.warg_log.specs.Cut.{Way, at_target, at_node, at_parts, way_over, is_beside}
 use Rattle.warg_log.specs.Walks.{read_on, needed_over, siblings_up}
 use Rattle.warg_protobuf.proofs.ForCallers.{all_append, all_weaken}
-use Rattle.warg_log.proofs.RootLemmas.{below_pow, same_power}
-use Rattle.warg_log.proofs.BalancedLemmas.{balanced_none, balanced_first, balanced_at, balanced_full, roots}
-use Rattle.warg_log.proofs.WayLemmas.{IsBeside, beside_decides, beside_false, cases_beside, missed, front_missed, rest_missed, way_over_target, way_over-read, way_over-split, ways_from}
+use Rattle.warg_log.proofs.RootLemmas.{same_power}
+use Rattle.warg_log.proofs.BalancedLemmas.{balanced_none, balanced_first, balanced_full, roots}
+use Rattle.warg_log.proofs.WayLemmas.{IsBeside, beside_decides, beside_false, missed, front_missed, rest_missed, way_over_target, way_over-read, way_over-split, ways_from}
 use Rattle.warg_log.proofs.NodeLemmas.{pow_below_pow}
 
 pub reverse-cons : (xs : List ℕ) (x : ℕ) → reverse (x ∷ xs) ≡ reverse xs ++ x ∷ []
@@ -127,8 +127,8 @@ walk_around d k j n low high = ⊎_elim
     rw (full, none, balanced_none) (need_around d k j ∙ sym (append-nil (siblings_up d k j))))
     (cases_lt (2 ^ (k + d)) n)
 
--- how many the needed nodes are
-balanced_count : (h a n : ℕ) → length (balanced_within h a n) ≤ h
+-- how many the balanced roots and the siblings are
+pub balanced_count : (h a n : ℕ) → length (balanced_within h a n) ≤ h
 unfolding balanced_within
 balanced_count zero a n = lit≤ tt
 balanced_count (suc h) a n = cond_both (nat_le (2 ^ h) n) (node_over a (2 ^ h) ∷ balanced_within h (a + 2 ^ h) (n - 2 ^ h)) (balanced_within h a n) (λ l. length l ≤ suc h)
@@ -137,29 +137,6 @@ balanced_count (suc h) a n = cond_both (nat_le (2 ^ h) n) (node_over a (2 ^ h) �
 pub siblings_count : (c k j : ℕ) → length (siblings_up c k j) ≡ c
 siblings_count zero k j = refl
 siblings_count (suc c) k j = length-append (siblings_up c k j) _ ∙ rw (siblings_count c k j, add-one) refl
-
-pub needed_count : (k j b c n : ℕ) → n < 2 ^ b → c * 2 ^ b ≤ j * 2 ^ k → j * 2 ^ k + 2 ^ k ≤ c * 2 ^ b + n
-    → length (needed_over (j * 2 ^ k) (2 ^ k) (c * 2 ^ b) n) ≤ 2 * (b - 1)
-needed_count k j zero c n lt starts ends = absurd (omega (arith, pow_pos k))
-needed_count k j (suc b) c n lt starts ends =
-    let start : c * 2 ^ suc b ≡ 2 * c * 2 ^ b = rw pow-suc (omega arith) in
-    let middle : 2 * c * 2 ^ b + 2 ^ b ≡ (2 * c + 1) * 2 ^ b = omega arith in
-    let pos : 0 < 2 ^ k = pow_pos k in
-    rw start (⊎_elim
-    (λ (low : n < 2 ^ b). omega (arith, needed_count k j b (2 * c) n low (omega arith) (omega arith)))
-    (λ (high : 2 ^ b ≤ n). ⊎_elim
-    (λ (beside : IsBeside (j * 2 ^ k) (2 ^ k) (2 * c * 2 ^ b) (2 ^ b)).
-    let rest = needed_count k j b (2 * c + 1) (n - 2 ^ b) (omega (arith, pow-suc)) (omega arith) (omega arith) in
-    let wide : 0 < b = pow_below_pow 0 b (omega (arith, pow-suc)) in
-    rw (walk_beside k j b (2 * c * 2 ^ b) n high lt (omega arith) (omega arith) beside, middle, length-append) (omega (arith, rest, wide)))
-    (λ (inside : IsBeside (j * 2 ^ k) (2 ^ k) (2 * c * 2 ^ b) (2 ^ b) → ⊥).
-    let lies = lies_in_first k j b (2 * c) n lt (omega arith) (omega arith) inside in
-    let sum : k + (b - k) ≡ b = let le = lies.0 in omega (arith, le) in
-    let whole = rw (sum, lies.1) at (walk_around (b - k) k j n (rw sum high) (rw sum lt)) in
-    let some = balanced_at (n - 2 ^ b) b (2 * c * 2 ^ b + 2 ^ b) (n - 2 ^ b) (below_pow (n - 2 ^ b)) (omega (arith, pow-suc)) in
-    rw (whole, length-append, siblings_count (b - k) k j, length-reverse, some) (omega (arith, balanced_count b (2 * c * 2 ^ b + 2 ^ b) (n - 2 ^ b))))
-    (cases_beside (j * 2 ^ k) (2 ^ k) (2 * c * 2 ^ b) (2 ^ b)))
-    (cases_lt n (2 ^ b)))
 
 -- a node over a part of the leaves from a up to e
 abbrev pub Lies : ℕ → ℕ → ℕ → Type 0

@@ -16,8 +16,8 @@ use Rattle.warg_crypto.specs.Tree.{branch}
 use Rattle.warg_log.specs.Tree.{root_of, root_over, leaves_in, digest_or_spacer, slice_of, own_digest}
 use Rattle.warg_log.specs.Private.Slices.{IsSliceUpTo}
 use Rattle.warg_log.proofs.NodeLemmas.{node_is, over_at, last_root, smaller_root, divides_most}
+use Rattle.warg_log.proofs.RootLemmas.{root_over_one}
 use Rattle.warg_log.proofs.CutLemmas.{root_over_split}
-use Rattle.warg_log.proofs.LawLemmas.{root_over_one}
 
 -- a node that exists stands inside the slice
 pub inside_slice : (x n m : ℕ) → end_of x ≤ n → m ≡ 2 * n - 1 → x < m

@@ -16,8 +16,8 @@ use Rattle.warg_log.specs.Blocks.{Blocks, StandsFor, digest_beside, block_at, bl
 use Rattle.warg_log.specs.Private.Growth.{Grows}
 use Rattle.warg_protobuf.proofs.ForCallers.{all_weaken}
 use Rattle.warg_log.proofs.NodeLemmas.{node_is, only_number, over_at, over_ends}
+use Rattle.warg_log.proofs.RootLemmas.{root_over_one}
 use Rattle.warg_log.proofs.CutLemmas.{root_over_split, old_root_own}
-use Rattle.warg_log.proofs.LawLemmas.{root_over_one}
 use Rattle.warg_log.proofs.BalancedLemmas.{map_same, end_is, balanced_none, balanced_full, balanced_more, has_first_over, roots, roots_end}
 use Rattle.warg_log.proofs.OrderLemmas.{roots_distinct}
 use Rattle.warg_log.proofs.ClimbLemmas.{old_root-joined}

@@ -4,7 +4,7 @@ use Rattle.std.specs.Prelude.{IsTrue}
 use Rattle.std.specs.Bool.{Decides}
 use Rattle.std.proofs.Math.Nat.{pow-suc}
 use Rattle.std.proofs.lemmas.Bool.{le-leb, lt-leb, leb-true, false_from_ne_true, false≢true, cond_both, cases_Bool, cases_lt}
-use Rattle.std.proofs.lemmas.Bool.Decides.{Decides-and, Decides-or, Decides-eqb, not_from_Decides}
+use Rattle.std.proofs.lemmas.Bool.Decides.{Decides-and, Decides-or, Decides-eqb}
 use Rattle.std.proofs.lemmas.Nat.{pow_pos}
 use Rattle.warg_log.specs.Nodes.{node_over}
 use Rattle.warg_log.specs.Tree.{front_of}
@@ -43,9 +43,6 @@ read_so s w a n (inr full) = inr (full.0, is_beside_so s w a n full.1)
 
 pub beside_false : (s w a n : ℕ) → (IsBeside s w a n → ⊥) → is_beside s w a n ≡ false
 beside_false s w a n inside = false_from_ne_true (is_beside s w a n) (λ e. inside ((beside_decides s w a n).0 e))
-
-pub cases_beside : (s w a n : ℕ) → IsBeside s w a n ⊎ (IsBeside s w a n → ⊥)
-cases_beside s w a n = ⊎_elim (λ t. inl ((beside_decides s w a n).0 t)) (λ f. inr (not_from_Decides _ (beside_decides s w a n) f)) (cases_Bool (is_beside s w a n))
 
 -- what misses the target isn't it, and no part of it is
 pub missed : (s w a n : ℕ) → 0 < n → IsBeside s w a n → a ≡ s → n ≡ w → ⊥

@@ -54,14 +54,14 @@ pub fn number_is_node()
 {}
 
 /// A node and its sibling have one parent: the node of the height above over either is the same.
-#[tactic(auto, using(crate::proofs::LawLemmas::one_number, std::proofs::lemmas::Bool::Decides::nat_tests))]
+#[tactic(auto, using(crate::proofs::NodeLemmas::one_number, std::proofs::lemmas::Bool::Decides::nat_tests))]
 pub fn parent_of_sibling()
     ensures { (x y k j : ℕ) → IsNode x (k + 1) (sibling_place j / 2) → IsNode y (k + 1) (j / 2)
         → x ≡ y }
 {}
 
 /// The halves of the parent are the node and its sibling, in the order of their places.
-#[tactic(auto, using(crate::proofs::LawLemmas::one_number, std::proofs::lemmas::Bool::Decides::nat_tests))]
+#[tactic(auto, using(crate::proofs::NodeLemmas::one_number, std::proofs::lemmas::Bool::Decides::nat_tests))]
 pub fn children_of_parent()
     ensures left { (l r x s k j : ℕ) → IsNode l k (2 * (j / 2)) → IsNode r k (2 * (j / 2) + 1)
         → IsNode x k j → IsNode s k (sibling_place j) → j % 2 ≡ 0 → (l ≡ x) × (r ≡ s) }
@@ -71,6 +71,7 @@ pub fn children_of_parent()
 
 /// The balanced roots of a length: their leaves follow one another from the first to the last one, and
 /// their heights fall. No other nodes are so.
+#[tactic(auto, using(crate::proofs::BalancedLemmas::roots_follow, crate::proofs::BalancedLemmas::roots_fall, crate::proofs::ClimbLemmas::balanced_roots_only))]
 pub fn balanced_in_a_row()
     ensures follow { (n : ℕ) → Follow 0 n (balanced_roots n) }
     ensures fall { (n : ℕ) → Fall n (balanced_roots n) }
