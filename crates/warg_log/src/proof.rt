@@ -275,6 +275,7 @@ struct WalkParts {
 }
 
 // Puts the walk from a node over the leaves from `start` up to `end` into an empty list.
+#[tactic(auto, using(std::proofs::lemmas::List::map_push, crate::proofs::WayLemmas::is_beside_so, crate::proofs::WayLemmas::is_beside_true, crate::proofs::StepLemmas::aligned_next, crate::proofs::StepLemmas::missed_first, crate::proofs::StepLemmas::walk_grows, crate::proofs::StepLemmas::found_first, crate::proofs::StepLemmas::walk_begins))]
 fn add_walk<A: Allocator>(
     nodes: &mut Vec<Node, A>,
     leaf: Node,
@@ -306,6 +307,7 @@ fn add_walk<A: Allocator>(
 }
 
 // Adds the siblings on the way up from a node to the height of one above it.
+#[tactic(auto, using(std::proofs::lemmas::List::map_push, crate::proofs::NodeLemmas::node_at, crate::proofs::StepLemmas::step_place, crate::proofs::StepLemmas::step_pushed))]
 fn add_siblings<A: Allocator>(
     nodes: &mut Vec<Node, A>,
     leaf: Node,
