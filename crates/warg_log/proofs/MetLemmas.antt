@@ -31,9 +31,7 @@ passed false fault q r e = (refl, e)
 
 module _ (H : List ℕ → List ℕ) (F : ℕ → Option (List ℕ)) where
   root_ok : (n t : ℕ) (r : List ℕ) → root_to H F n t ≡ Ok r → LeadsTo H F n r t
-  root_ok n t r e =
-      let at = gone_on (ok_or (F t) Consistency.HashNotKnown) (λ x. ok_or (cut_root H F t x n) (Consistency.InclusionError Inclusion.HashNotKnown)) r e in
-      (at.0, held_ok (F t) Consistency.HashNotKnown at.0 at.1, held_ok (cut_root H F t at.0 n) (Consistency.InclusionError Inclusion.HashNotKnown) r at.2)
+  root_ok n t r e = grind (arith, gone_on, held_ok)
 
   agreed_ok : (n : ℕ) (a r : List ℕ) (ts : List ℕ) → agreed_root H F n a ts ≡ Ok r → (a ≡ r) × AllByRecursion (LeadsTo H F n a) ts
   agreed_ok n a r [] e = (cc, tt)

@@ -101,6 +101,7 @@ pub fn cut_target()
 
 /// The cut root of a range that misses the target and has a power of two of leaves is the digest that
 /// is held for it.
+#[tactic(auto, using(crate::proofs::CutLemmas::cut_over_read, crate::proofs::WayLemmas::is_beside_so))]
 pub fn cut_beside()
     ensures { (H : List ℕ → List ℕ) (F : ℕ → Option (List ℕ)) (x : List ℕ) (s w a n : ℕ) → 0 < w
         → IsFull n → IsTrue (is_beside s w a n) → cut_over H F x s w a n ≡ F (node_over a n) }
@@ -121,6 +122,7 @@ pub fn needed_target()
 {}
 
 /// A range that misses the target and has a power of two of leaves needs the node over it.
+#[tactic(auto, using(crate::proofs::OrderLemmas::need_full, crate::proofs::WayLemmas::is_beside_so))]
 pub fn needed_beside()
     ensures { (s w a n : ℕ) → 0 < w → IsFull n → IsTrue (is_beside s w a n)
         → needed_over s w a n ≡ node_over a n ∷ [] }

@@ -109,6 +109,7 @@ impl<D: SupportedDigest, V: VisitBytes> InclusionProof<D, V> {
     ///
     /// `LeafTooNew` exactly if the node doesn't exist at the length; else memory is the only error. A
     /// length of `b` binary digits has at most `2 * (b - 1)` such nodes.
+    #[tactic(auto, using(crate::proofs::StepLemmas::needed_once))]
     pub fn walk<A: Allocator>(&self, alloc: A) -> Result<InclusionProofWalk<A>, InclusionProofError>
         ensures too_new { (result ≡ Err InclusionProofError.LeafTooNew)
             ↔ ¬ ExistsAt self.now.leaf.0 self.now.log_length }
