@@ -21,11 +21,10 @@ use Rattle.warg_log.proofs.RootLemmas as powers
 use Rattle.warg_log.proofs.BalancedLemmas as balanced
 use Rattle.warg_log.proofs.WayLemmas as ways
 use Rattle.warg_log.proofs.CutLemmas as cuts
-use Rattle.warg_log.proofs.MetLemmas as met
 use Rattle.warg_log.proofs.StackLemmas as stacks
-use Rattle.warg_log.proofs.SameLemmas as same
+use Rattle.warg_log.proofs.ReadLemmas as reads
+use Rattle.warg_log.proofs.EvaluationLemmas as evaluations
 use Rattle.warg_log.proofs.EqualLemmas as equal
-use Rattle.warg_log.proofs.InclusionLemmas as included
 
 -- a number is below its power of two
 pub below_pow : (n : ℕ) → n < 2 ^ n
@@ -138,15 +137,15 @@ old_own_range H ds a n some aligned = cuts.own_at H ds _ 0 0 aligned.height alig
 -- an inclusion proof leads to a root exactly if its node exists and this is the cut root
 pub inclusion_leads : (H : List ℕ → List ℕ) (F : ℕ → Option (List ℕ)) (p : InclusionClaim) (x root : List ℕ)
     → (inclusion H F p x ≡ Ok root) ↔ (ExistsAt p.leaf.0 p.log_length × (cut_root H F p.leaf.0 x p.log_length ≡ Some root))
-inclusion_leads H F p x root = included.leads (end_of p.leaf.0) p.log_length (cut_root H F p.leaf.0 x p.log_length) root
+inclusion_leads H F p x root = evaluations.leads (end_of p.leaf.0) p.log_length (cut_root H F p.leaf.0 x p.log_length) root
 
 -- a consistency proof evaluates to the roots that meet it alone
 pub consistency_only : (H : List ℕ → List ℕ) (F : ℕ → Option (List ℕ)) (m n : ℕ) (old new : List ℕ) → consistency H F m n ≡ Ok (old, new) → IsConsistent H F m n old new
-consistency_only = met.consistency-only
+consistency_only = evaluations.consistency-only
 
 -- a consistency proof evaluates to roots that meet it
 pub consistency_then : (H : List ℕ → List ℕ) (F : ℕ → Option (List ℕ)) (m n : ℕ) (old new : List ℕ) → IsConsistent H F m n old new → consistency H F m n ≡ Ok (old, new)
-consistency_then = met.consistency-then
+consistency_then = evaluations.consistency-then
 
 -- the needed nodes exist at the length
 pub needed_exist : (t n : ℕ) → 0 < n → AllByRecursion (λ x. ExistsAt x n) (needed t n)
@@ -168,11 +167,11 @@ roots_exist = stacks.roots_exist
 
 -- data that agree on the needed nodes have one cut root
 pub same_cut : (H : List ℕ → List ℕ) (F G : ℕ → Option (List ℕ)) (x : List ℕ) (t n : ℕ) → AllByRecursion (λ y. F y ≡ G y) (needed t n) → cut_root H F t x n ≡ cut_root H G t x n
-same_cut H F G x t n = same.same_on H F G x _
+same_cut H F G x t n = reads.same_on H F G x _
 
 -- and one consistency evaluation
 pub same_consistency : (H : List ℕ → List ℕ) (F G : ℕ → Option (List ℕ)) (m n : ℕ) → AllByRecursion (λ y. F y ≡ G y) (needed_between m n) → consistency H F m n ≡ consistency H G m n
-same_consistency = same.same_consistency
+same_consistency = reads.same_consistency
 
 -- nodes are compared by their numbers
 pub nodes_decide : (m n : Node) → Decides (same_node m n) (m ≡ n)

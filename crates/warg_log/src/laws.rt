@@ -148,7 +148,7 @@ pub fn needed_exist()
 {}
 
 /// A cut root is there exactly if the digest of each needed node is.
-#[tactic(auto, using(crate::proofs::WalkLemmas::needed_exactly))]
+#[tactic(auto, using(crate::proofs::ReadLemmas::needed_exactly))]
 pub fn needed_known()
     ensures { (H : List ℕ → List ℕ) (F : ℕ → Option (List ℕ)) (t : ℕ) (x : List ℕ) (n : ℕ)
         → IsKnown F (needed t n) ↔ IsSome (cut_root H F t x n) }
@@ -187,7 +187,7 @@ pub fn cut_own_range()
 
 /// An inclusion proof leads to a root exactly if its node exists at its length and this is the cut root. Else it
 /// is `LeafTooNew` exactly if the node doesn't exist, and `HashNotKnown` exactly if it does and a digest is lacking.
-#[tactic(auto, using(crate::proofs::InclusionLemmas::leads, crate::proofs::InclusionLemmas::too_new, crate::proofs::InclusionLemmas::unknown))]
+#[tactic(auto, using(crate::proofs::EvaluationLemmas::leads, crate::proofs::EvaluationLemmas::too_new, crate::proofs::EvaluationLemmas::unknown))]
 pub fn inclusion_met()
     ensures ok { (H : List ℕ → List ℕ) (F : ℕ → Option (List ℕ)) (p : InclusionClaim)
         (x root : List ℕ)
@@ -252,7 +252,7 @@ pub fn consistency_met()
 
 /// A log's consistency proofs lead to the roots that it had: over the log's own digests, a proof from a
 /// length of at least 1 to one that isn't smaller, up to the log's, has the roots of that many leaves.
-#[tactic(auto, using(crate::proofs::MetLemmas::consistency_own))]
+#[tactic(auto, using(crate::proofs::EvaluationLemmas::consistency_own))]
 pub fn own_consistency()
     ensures { (H : List ℕ → List ℕ) (ds : List (List ℕ)) (m n : ℕ) → 0 < m → m ≤ n → n ≤ length ds
         → consistency H (own_digest H ds) m n ≡ Ok (root_of H (take m ds), root_of H (take n ds)) }
