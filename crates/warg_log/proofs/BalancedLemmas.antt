@@ -91,10 +91,3 @@ roots_fall n = roots (λ _ n ts. (k : ℕ) → n < 2 ^ k → Fall k ts) (record 
   none = λ a k lt. tt;
   first = λ h c m ts lt rest k fits. rw (over_at h c).0 (pow_below_pow h k (omega arith), rest h lt);
 }) n n (below_pow n)
-
--- each ends at or before the last leaf
-pub roots_end : (n e : ℕ) → n ≤ e → AllByRecursion (λ t. end_of t ≤ e) (balanced_roots n)
-roots_end n e fits = roots (λ a n ts. a + n ≤ e → AllByRecursion (λ t. end_of t ≤ e) ts) (record {
-  none = λ a fits. tt;
-  first = λ h c m ts lt rest fits. (rw (over_ends h c) (omega arith), rest (omega arith));
-}) n (omega arith)

@@ -12,8 +12,8 @@ use Rattle.warg_protobuf.proofs.ForCallers.{all_weaken}
 use Rattle.warg_log.proofs.NodeLemmas.{node_is, only_number, over_at, over_ends}
 use Rattle.warg_log.proofs.CutLemmas.{cut_over_read, cut_over-split, nothing_beside}
 use Rattle.warg_log.proofs.WayLemmas.{IsBeside, missed}
-use Rattle.warg_log.proofs.BalancedLemmas.{end_is, balanced_first, none_left, roots, roots_end, roots_follow}
-use Rattle.warg_log.proofs.OrderLemmas.{above, climb, not_power}
+use Rattle.warg_log.proofs.BalancedLemmas.{end_is, balanced_first, none_left, roots, roots_follow}
+use Rattle.warg_log.proofs.OrderLemmas.{roots_end, above, climb, not_power}
 
 -- ---- only the balanced roots follow one another with heights that fall
 

@@ -16,7 +16,8 @@ use Rattle.warg_protobuf.specs.Reading.{◌>>=◌}
 use Rattle.warg_log.specs.Consistency.{root_to, agreed_root, new_root_of, consistency, LeadsTo, IsConsistent}
 use Rattle.warg_protobuf.proofs.ForCallers.{all_weaken}
 use Rattle.warg_log.proofs.CutLemmas.{cut_root_own, old_root_own}
-use Rattle.warg_log.proofs.BalancedLemmas.{has_first_over, roots_end}
+use Rattle.warg_log.proofs.BalancedLemmas.{has_first_over}
+use Rattle.warg_log.proofs.OrderLemmas.{roots_end}
 
 -- ---- inclusion
 

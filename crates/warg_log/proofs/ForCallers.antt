@@ -5,14 +5,13 @@ use Rattle.std.specs.Bool.{Decides}
 use Rattle.warg_log.specs.declared.node.Node.{Node}
 use Rattle.warg_log.specs.Claims.{same_node}
 use Rattle.std.proofs.lemmas.Nat.{pow_pos}
-use Rattle.std.proofs.lemmas.Bool.{cond_both}
-use Rattle.warg_protobuf.proofs.ForCallers.{all_append}
+use Rattle.warg_protobuf.proofs.ForCallers.{all_weaken}
 use Rattle.warg_log.specs.Nodes.{IsNode, ExistsAt, height_of, place_of, start_of, end_of, node_over, balanced_over, balanced_roots}
 use Rattle.warg_crypto.specs.Tree.{branch}
 use Rattle.warg_log.specs.Ranges.{IsAligned}
 use Rattle.warg_log.specs.Tree.{front_of, root_over, own_digest}
-use Rattle.warg_log.specs.Cut.{is_target, is_beside, joined, Way, at_target, at_node, at_parts, top_of, cut_over, cut_root, old_over, IsFull}
-use Rattle.warg_log.specs.Walks.{read_on, needed, needed_between}
+use Rattle.warg_log.specs.Cut.{is_target, joined, Way, at_target, at_node, at_parts, top_of, cut_over, cut_root, old_over, IsFull}
+use Rattle.warg_log.specs.Walks.{needed, needed_between}
 use Rattle.warg_log.specs.Consistency.{consistency, IsConsistent}
 use Rattle.warg_log.specs.Inclusion.{inclusion}
 use Rattle.warg_log.specs.Claims.{InclusionClaim}
@@ -21,6 +20,7 @@ use Rattle.warg_log.proofs.RootLemmas as powers
 use Rattle.warg_log.proofs.BalancedLemmas as balanced
 use Rattle.warg_log.proofs.WayLemmas as ways
 use Rattle.warg_log.proofs.CutLemmas as cuts
+use Rattle.warg_log.proofs.OrderLemmas as orders
 use Rattle.warg_log.proofs.StackLemmas as stacks
 use Rattle.warg_log.proofs.ReadLemmas as reads
 use Rattle.warg_log.proofs.EvaluationLemmas as evaluations
@@ -149,17 +149,7 @@ consistency_then = evaluations.consistency-then
 
 -- the needed nodes exist at the length
 pub needed_exist : (t n : ℕ) → 0 < n → AllByRecursion (λ x. ExistsAt x n) (needed t n)
-unfolding read_on
-needed_exist t n some = ways.ways_from (start_of t) (2 ^ height_of t) 0 (λ a m way. a + m ≤ n → AllByRecursion (λ x. ExistsAt x n) (read_on way)) (record {
-  target = λ _ _. tt;
-  node = λ k c a start fits.
-      let at : a ≡ c * 2 ^ k = omega arith in
-      let ends : end_of (node_over a (2 ^ k)) ≡ a + 2 ^ k = rw at (nodes.over_ends k c) in
-      (omega arith, tt);
-  parts = λ h a m left right more most _ l r fits.
-      cond_both (is_beside (start_of t) (2 ^ height_of t) a (2 ^ h)) _ _ (AllByRecursion (λ x. ExistsAt x n))
-      (λ _. all_append (λ x. ExistsAt x n) (read_on right) (read_on left) (r (omega arith)) (l (omega arith))) (λ _. all_append (λ x. ExistsAt x n) (read_on left) (read_on right) (l (omega arith)) (r (omega arith)));
-}) n some (omega arith)
+needed_exist t n some = all_weaken (orders.Lies 0 n) _ (λ x p. p.1) (needed t n) (orders.needed_within (start_of t) (2 ^ height_of t) n some).lie
 
 -- the balanced roots of a length exist at it
 pub roots_exist : (n : ℕ) → AllByRecursion (λ t. end_of t ≤ n) (balanced_roots n)

@@ -13,7 +13,8 @@ use Rattle.warg_protobuf.specs.Decoding.{first_fault, digest_fault}
 use Rattle.warg_log.specs.Images.{root_entry, stack_message, stack_in}
 use Rattle.warg_protobuf.proofs.ForCallers.{all_weaken}
 use Rattle.warg_log.proofs.NodeLemmas.{last_leaf}
-use Rattle.warg_log.proofs.BalancedLemmas.{balanced_first, has_first_over, roots_end}
+use Rattle.warg_log.proofs.BalancedLemmas.{balanced_first, has_first_over}
+use Rattle.warg_log.proofs.OrderLemmas.{roots_end}
 
 pub all_good : (ds : List (List ℕ)) → AllByRecursion (λ d. length d ≡ 32) ds → first_fault digest_fault ds ≡ None
 all_good [] lens = refl

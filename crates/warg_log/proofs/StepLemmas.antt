@@ -13,8 +13,8 @@ use Rattle.warg_protobuf.proofs.ForCallers.{all_parts}
 use Rattle.warg_log.proofs.WayLemmas.{IsBeside}
 use Rattle.warg_log.proofs.NodeLemmas.{node_at, only_number, over_ends, pow_below_pow, parts}
 use Rattle.warg_log.proofs.RootLemmas.{below_pow, same_power}
-use Rattle.warg_log.proofs.BalancedLemmas.{IsFirst, first_cut, balanced_at, roots_end}
-use Rattle.warg_log.proofs.OrderLemmas.{reverse-cons, siblings_count, balanced_count, walk_beside, walk_around, lies_in_first, needed_distinct}
+use Rattle.warg_log.proofs.BalancedLemmas.{IsFirst, first_cut, balanced_at}
+use Rattle.warg_log.proofs.OrderLemmas.{reverse-cons, siblings_count, balanced_count, walk_beside, walk_around, lies_in_first, needed_within, roots_end}
 
 -- the numbers of nodes
 abbrev pub numbers : List Node → List ℕ
@@ -130,7 +130,7 @@ walk_whole x n i l j zs over count =
     (omega arith, omega arith, rw (← upper) (rw sub-zero at walk))
 
 pub needed_once : (x n : ℕ) → ExistsAt x n → IsDistinct nat_eq (needed x n)
-needed_once x n exists = needed_distinct (start_of x) (2 ^ height_of x) n (omega (arith, pow_pos))
+needed_once x n exists = (needed_within (start_of x) (2 ^ height_of x) n (omega (arith, pow_pos))).distinct
 
 -- a length of b binary digits has at most b balanced roots, and below each at most b - 1 siblings on the way up
 pub walk_most : (x n b i l upper : ℕ) (nodes : List ℕ) → IsWalkOver x 0 n nodes i l upper → n < 2 ^ b → length nodes ≤ 2 * (b - 1)
