@@ -5,7 +5,7 @@ use Rattle.std.proofs.Math.Seq.{get_or-append_seam}
 use Rattle.std.proofs.lemmas.List.{take-append-le, drop-append-le, length-drop, length_push}
 use Rattle.std.proofs.lemmas.Bool.Decides.{nat_tests}
 use Rattle.std.proofs.lemmas.Nat.{pow_pos}
-use Rattle.warg_log.specs.Nodes.{height_of, place_of, start_of, end_of, number_of}
+use Rattle.warg_log.specs.Nodes.{height_of, start_of, end_of, number_of}
 use Rattle.warg_log.specs.Tree.{root_of, leaves_in, slice_of, digest_or_spacer}
 use Rattle.warg_log.specs.Private.Slices.{IsSliceUpTo}
 use Rattle.warg_log.proofs.NodeLemmas.{last_leaf}

@@ -1,20 +1,16 @@
 -- Balanced roots.
-use Rattle.std.proofs.Common.{◌≡◌, ℕ, zero, suc, ◌+◌, ◌-◌, ◌*◌, ◌^◌, ◌<◌, ◌≤◌, List, [], ◌∷◌, ◌++◌, map, add-one, refl, ◌∙◌, arith, ⊎_elim}
+use Rattle.std.proofs.Common.{◌≡◌, ℕ, zero, suc, ◌+◌, ◌-◌, ◌*◌, ◌^◌, ◌<◌, ◌≤◌, List, [], ◌∷◌, map, add-one, refl, ◌∙◌, arith, ⊎_elim}
 use Rattle.std.proofs.Math.Nat.{pow-suc}
 use Rattle.std.proofs.lemmas.Bool.{le-leb, lt-leb, cases_lt}
 use Rattle.std.proofs.lemmas.Nat.{pow_pos}
 use Rattle.std.specs.List.{AllByRecursion}
 use Rattle.warg_log.specs.Nodes.{height_of, start_of, end_of, node_over, balanced_within, balanced_over, balanced_roots, Follow, Fall}
-use Rattle.warg_protobuf.proofs.ForCallers.{all_append}
 use Rattle.warg_log.proofs.NodeLemmas.{over_at, over_ends, pow_below_pow}
 use Rattle.warg_log.proofs.RootLemmas.{below_pow, settled_at, exponent_below}
 
 -- a node ends its width behind its start
 pub end_is : (r : ℕ) → end_of r ≡ start_of r + 2 ^ height_of r
 end_is r = omega arith
-
-pub all_push : {X : Type 0} (P : X → Type 0) (xs : List X) (x : X) → AllByRecursion P xs → P x → AllByRecursion P (xs ++ x ∷ [])
-all_push P xs x all last = all_append P xs (x ∷ []) all (last, tt)
 
 -- functions that agree on each element
 pub map_same : {X Y : Type 0} (f g : X → Y) (xs : List X) → AllByRecursion (λ x. f x ≡ g x) xs → map f xs ≡ map g xs
@@ -82,20 +78,16 @@ pub roots : (P : ℕ → ℕ → List ℕ → Type 0) → Rule P → (n : ℕ) �
 roots P R n = let start : 0 * 2 ^ n ≡ 0 = omega arith in rw start at (roots_within P R n 0 n (below_pow n))
 
 -- the balanced roots follow one another, and their heights fall
-pub balanced_roots_row : (n : ℕ) → Follow 0 n (balanced_roots n) × Fall n (balanced_roots n)
-balanced_roots_row n =
-    let row = roots (λ a n ts. Follow a (a + n) ts × ((k : ℕ) → n < 2 ^ k → Fall k ts)) (record {
-      none = λ a. (omega arith, λ k lt. tt);
-      first = λ h c m ts lt rest.
-          let whole : c * 2 ^ h + (2 ^ h + m) ≡ c * 2 ^ h + 2 ^ h + m = omega arith in
-          rw (whole, over_ends h c, (over_at h c).0, (over_at h c).1) ((refl, rest.0), (λ k fits. (pow_below_pow h k (omega arith), rest.1 h lt)));
-    }) n in
-    let all : 0 + n ≡ n = omega arith in
-    (rw all at row.0, row.1 n (below_pow n))
+pub roots_follow : (n : ℕ) → Follow 0 n (balanced_roots n)
+roots_follow n = let all : 0 + n ≡ n = omega arith in rw all at (roots (λ a n ts. Follow a (a + n) ts) (record {
+  none = λ a. omega arith;
+  first = λ h c m ts lt rest.
+      let whole : c * 2 ^ h + (2 ^ h + m) ≡ c * 2 ^ h + 2 ^ h + m = omega arith in
+      rw (whole, over_ends h c, (over_at h c).0, (over_at h c).1) (refl, rest);
+}) n)
 
--- each ends at or before the last leaf
-pub roots_end : (n e : ℕ) → n ≤ e → AllByRecursion (λ t. end_of t ≤ e) (balanced_roots n)
-roots_end n e fits = roots (λ a n ts. a + n ≤ e → AllByRecursion (λ t. end_of t ≤ e) ts) (record {
-  none = λ a fits. tt;
-  first = λ h c m ts lt rest fits. (rw (over_ends h c) (omega arith), rest (omega arith));
-}) n (omega arith)
+pub roots_fall : (n : ℕ) → Fall n (balanced_roots n)
+roots_fall n = roots (λ _ n ts. (k : ℕ) → n < 2 ^ k → Fall k ts) (record {
+  none = λ a k lt. tt;
+  first = λ h c m ts lt rest k fits. rw (over_at h c).0 (pow_below_pow h k (omega arith), rest h lt);
+}) n n (below_pow n)

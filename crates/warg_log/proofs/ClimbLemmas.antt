@@ -12,8 +12,8 @@ use Rattle.warg_protobuf.proofs.ForCallers.{all_weaken}
 use Rattle.warg_log.proofs.NodeLemmas.{node_is, only_number, over_at, over_ends}
 use Rattle.warg_log.proofs.CutLemmas.{cut_over_read, cut_over-split, nothing_beside}
 use Rattle.warg_log.proofs.WayLemmas.{IsBeside, missed}
-use Rattle.warg_log.proofs.BalancedLemmas.{end_is, balanced_first, none_left, roots, roots_end, balanced_roots_row}
-use Rattle.warg_log.proofs.OrderLemmas.{above, climb, not_power}
+use Rattle.warg_log.proofs.BalancedLemmas.{end_is, balanced_first, none_left, roots, roots_follow}
+use Rattle.warg_log.proofs.OrderLemmas.{roots_end, above, climb, not_power}
 
 -- ---- only the balanced roots follow one another with heights that fall
 
@@ -104,6 +104,6 @@ cut_root_walk H F t x n c left right some split =
     let i = place_of t / 2 ^ c in
     let at = over_at k i in
     let within = above c (height_of t) (place_of t) in
-    let beside = others_beside H F x s w 0 n (number_of k i) left right (grind (arith, at, within)) (omega (arith, over_ends k i, within)) (rw split at (balanced_roots_row n).0) in
+    let beside = others_beside H F x s w 0 n (number_of k i) left right (grind (arith, at, within)) (omega (arith, over_ends k i, within)) (rw split at (roots_follow n)) in
     let here : range_cut H F x s w (number_of k i) ≡ climbed H F (Some x) (height_of t) (place_of t) c = rw (at.0, at.1) (climb_cut H F x (height_of t) (place_of t) c) in
     cut_roots H F x s w (λ _. (height_of t, refl)) n some ∙ rw (split, map-append, here, all_read H F x s w left beside.1, all_read H F x s w right beside.2) refl

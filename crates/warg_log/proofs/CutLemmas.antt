@@ -1,15 +1,15 @@
 -- Cut roots.
-use Rattle.std.proofs.Common.{◌≡◌, ℕ, suc, ◌+◌, ◌-◌, ◌*◌, ◌^◌, ◌<◌, ◌≤◌, List, [], length, take, drop, Option, Some, refl, sym, ap, ◌∙◌, arith, ◌⊎◌, inr}
+use Rattle.std.proofs.Common.{◌≡◌, ℕ, suc, false, ◌+◌, ◌-◌, ◌*◌, ◌^◌, ◌<◌, ◌≤◌, List, [], length, take, drop, Option, Some, refl, sym, ap, ◌∙◌, arith, ◌⊎◌, inl, inr, IsTrue}
 use Rattle.std.proofs.Math.Nat.{add-sub_of_le}
 use Rattle.std.proofs.lemmas.List.{length-drop, length-take-le, drop-drop, drop-take, take-take}
 use Rattle.std.proofs.lemmas.Bool.{le-leb}
 use Rattle.warg_log.specs.Nodes.{height_of, start_of, node_over}
 use Rattle.warg_crypto.specs.Tree.{branch}
 use Rattle.warg_log.specs.Tree.{front_of, root_of, own_digest, leaves_below, root_over}
-use Rattle.warg_log.specs.Cut.{joined, top_of, cut_over, cut_root, IsFull, old_over, old_root}
+use Rattle.warg_log.specs.Cut.{joined, is_target, is_beside, top_of, cut_over, cut_root, IsFull, old_over, old_root}
 use Rattle.warg_log.proofs.NodeLemmas.{over_at}
 use Rattle.warg_log.proofs.RootLemmas.{below_pow, root_of_split}
-use Rattle.warg_log.proofs.WayLemmas.{IsBeside, way_over_target, way_over-read, way_over-split, way_over_parts, ways}
+use Rattle.warg_log.proofs.WayLemmas.{IsBeside, is_other, is_beside_so, is_beside_true, way_over_target, way_over-read, way_over-split, way_over_parts, ways}
 
 -- the range of the target, a range that is read, and any other, split at its front
 module _ (H : List ℕ → List ℕ) (F : ℕ → Option (List ℕ)) (x : List ℕ) (s w : ℕ) where
@@ -30,6 +30,17 @@ module _ (H : List ℕ → List ℕ) (F : ℕ → Option (List ℕ)) (x : List �
       → cut_over H F x s w a n ≡ joined H (cut_over H F x s w a (front_of n)) (cut_over H F x s w (a + front_of n) (n - front_of n))
   unfolding top_of
   cut_over_parts a n more other apart = ap (top_of H F x) (way_over_parts s w a n more other apart)
+
+  -- as a program tests it
+  pub cut_read : (a n : ℕ) → is_target s w a n ≡ false → (n ≡ 1) ⊎ (IsFull n × IsTrue (is_beside s w a n)) → cut_over H F x s w a n ≡ F (node_over a n)
+  cut_read a n apart (inl one) = cut_over_read a n (is_other s w a n apart) (inl one)
+  cut_read a n apart (inr full) = cut_over_read a n (is_other s w a n apart) (inr (full.0, is_beside_so s w a n full.1))
+
+  pub cut_split : (a n : ℕ) → 0 < n → is_target s w a n ≡ false → ((n ≡ 1) ⊎ (IsFull n × IsTrue (is_beside s w a n)) → ⊥)
+      → cut_over H F x s w a n ≡ joined H (cut_over H F x s w a (front_of n)) (cut_over H F x s w (a + front_of n) (n - front_of n))
+  cut_split a n some apart unread =
+      let many : n ≡ 1 → ⊥ = λ one. unread (inl one) in
+      cut_over_parts a n (omega arith) (is_other s w a n apart) (λ full beside. unread (inr (full, is_beside_true s w a n beside)))
 
 -- the old root of a range of a power of two, and of any other
 pub nothing_beside : (a n : ℕ) → IsBeside 0 0 a n

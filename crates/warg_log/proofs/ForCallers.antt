@@ -1,30 +1,30 @@
 -- Lemmas for the proofs of the crates above, over public definitions alone.
-use Rattle.std.proofs.Common.{◌≡◌, ℕ, suc, ◌+◌, ◌-◌, ◌*◌, ◌^◌, ◌<◌, ◌≤◌, List, [], ◌∷◌, length, Option, Some, Ok, slice_index_or, refl, arith, ◌⊎◌, ◌↔◌}
+use Rattle.std.proofs.Common.{◌≡◌, ℕ, suc, ◌+◌, ◌-◌, ◌*◌, ◌^◌, ◌<◌, ◌≤◌, List, [], ◌∷◌, ◌++◌, length, Option, Some, None, Ok, slice_index_or, refl, sym, arith, ◌⊎◌, ◌↔◌}
 use Rattle.std.specs.List.{AllByRecursion}
 use Rattle.std.specs.Bool.{Decides}
 use Rattle.warg_log.specs.declared.node.Node.{Node}
 use Rattle.warg_log.specs.Claims.{same_node}
 use Rattle.std.proofs.lemmas.Nat.{pow_pos}
-use Rattle.warg_log.specs.Nodes.{IsNode, ExistsAt, height_of, place_of, end_of, node_over, balanced_over, balanced_roots}
+use Rattle.warg_protobuf.proofs.ForCallers.{all_weaken}
+use Rattle.warg_log.specs.Nodes.{IsNode, ExistsAt, height_of, place_of, start_of, end_of, node_over, balanced_over, balanced_roots}
 use Rattle.warg_crypto.specs.Tree.{branch}
 use Rattle.warg_log.specs.Ranges.{IsAligned}
 use Rattle.warg_log.specs.Tree.{front_of, root_over, own_digest}
-use Rattle.warg_log.specs.Cut.{is_target, joined, cut_over, cut_root, old_over, IsFull}
+use Rattle.warg_log.specs.Cut.{is_target, joined, Way, at_target, at_node, at_parts, top_of, cut_over, cut_root, old_over, IsFull}
 use Rattle.warg_log.specs.Walks.{needed, needed_between}
 use Rattle.warg_log.specs.Consistency.{consistency, IsConsistent}
 use Rattle.warg_log.specs.Inclusion.{inclusion}
 use Rattle.warg_log.specs.Claims.{InclusionClaim}
 use Rattle.warg_log.proofs.NodeLemmas as nodes
 use Rattle.warg_log.proofs.RootLemmas as powers
-use Rattle.warg_log.proofs.LawLemmas as laws
 use Rattle.warg_log.proofs.BalancedLemmas as balanced
 use Rattle.warg_log.proofs.WayLemmas as ways
 use Rattle.warg_log.proofs.CutLemmas as cuts
-use Rattle.warg_log.proofs.MetLemmas as met
+use Rattle.warg_log.proofs.OrderLemmas as orders
 use Rattle.warg_log.proofs.StackLemmas as stacks
-use Rattle.warg_log.proofs.SameLemmas as same
+use Rattle.warg_log.proofs.ReadLemmas as reads
+use Rattle.warg_log.proofs.EvaluationLemmas as evaluations
 use Rattle.warg_log.proofs.EqualLemmas as equal
-use Rattle.warg_log.proofs.InclusionLemmas as included
 
 -- a number is below its power of two
 pub below_pow : (n : ℕ) → n < 2 ^ n
@@ -60,7 +60,7 @@ front_of_is = powers.front_of_is
 
 -- the root over one leaf is its digest
 pub root_over_one : (H : List ℕ → List ℕ) (ds : List (List ℕ)) (a : ℕ) → a < length ds → root_over H ds a 1 ≡ slice_index_or ds a []
-root_over_one = laws.root_over_one
+root_over_one = powers.root_over_one
 
 -- the root over more leaves is the branch over those of the two parts
 pub root_over_parts : (H : List ℕ → List ℕ) (ds : List (List ℕ)) (a n : ℕ) → 1 < n → a + n ≤ length ds
@@ -88,12 +88,32 @@ cut_parts = cuts.cut_over_parts
 
 -- the cut root of a range that misses the target is its old root
 pub cut_old : (H : List ℕ → List ℕ) (F : ℕ → Option (List ℕ)) (x : List ℕ) (s w a n : ℕ) → 0 < w → 0 < n → (a + n ≤ s) ⊎ (s + w ≤ a) → cut_over H F x s w a n ≡ old_over H F a n
-cut_old = laws.cut_old
+unfolding top_of
+cut_old H F x s w a n target some = ways.ways_from s w a (λ a n way. ways.IsBeside s w a n → top_of H F x way ≡ old_over H F a n) (record {
+  target = λ leaves beside. absurd (omega arith);
+  node = λ k c a _ _. sym (cuts.old_over_full H F a (2 ^ k) (pow_pos k) (k, refl));
+  parts = λ h a n left right more most apart l r beside.
+      rw (l (ways.front_missed s w a n (2 ^ h) (omega arith) beside), r (ways.rest_missed s w a n (2 ^ h) (omega arith) beside))
+      (sym (cuts.old_over-split H F h a n more most (λ e. apart e beside)));
+}) n some
+
+-- a cut root is one of the digests
+joined_is_branch : (H : List ℕ → List ℕ) (p q : Option (List ℕ)) (r : List ℕ) → joined H p q ≡ Some r → (m : List ℕ) × (H m ≡ r)
+joined_is_branch H (Some l) (Some m) r e = (1 ∷ l ++ m, let f : branch H l m ≡ r = cc in f)
+joined_is_branch H (Some l) None r e = absurd (cc)
+joined_is_branch H None q r e = absurd (cc)
+
+top_of-size : (H : List ℕ → List ℕ) (F : ℕ → Option (List ℕ)) (x : List ℕ) → ((m : List ℕ) → length (H m) ≡ 32)
+    → ((t : ℕ) (d : List ℕ) → F t ≡ Some d → length d ≡ 32) → length x ≡ 32 → (way : Way) (r : List ℕ) → top_of H F x way ≡ Some r → length r ≡ 32
+unfolding top_of
+top_of-size H F x gives holds own at_target r e = let there : Some x ≡ Some r = e in let same : x ≡ r = cc in rw (← same) own
+top_of-size H F x gives holds own (at_node t) r e = holds t r e
+top_of-size H F x gives holds own (at_parts misses left right) r e = let p = joined_is_branch H (top_of H F x left) (top_of H F x right) r e in rw (← p.1) (gives p.0)
 
 -- where all digests have 32 bytes, so has each cut root
 pub cut_size : (H : List ℕ → List ℕ) (F : ℕ → Option (List ℕ)) (x : List ℕ) (s w a n : ℕ) (r : List ℕ) → ((m : List ℕ) → length (H m) ≡ 32)
     → ((t : ℕ) (d : List ℕ) → F t ≡ Some d → length d ≡ 32) → length x ≡ 32 → cut_over H F x s w a n ≡ Some r → length r ≡ 32
-cut_size H F x s w a n r gives holds own = laws.top_of-size H F x gives holds own _ r
+cut_size H F x s w a n r gives holds own = top_of-size H F x gives holds own _ r
 
 -- over a log's own digests the cut root of a range of its recursion is the root over it
 pub cut_own_range : (H : List ℕ → List ℕ) (ds : List (List ℕ)) (s w a n : ℕ) → 0 < n → IsAligned a n → a + n ≤ length ds
@@ -117,19 +137,19 @@ old_own_range H ds a n some aligned = cuts.own_at H ds _ 0 0 aligned.height alig
 -- an inclusion proof leads to a root exactly if its node exists and this is the cut root
 pub inclusion_leads : (H : List ℕ → List ℕ) (F : ℕ → Option (List ℕ)) (p : InclusionClaim) (x root : List ℕ)
     → (inclusion H F p x ≡ Ok root) ↔ (ExistsAt p.leaf.0 p.log_length × (cut_root H F p.leaf.0 x p.log_length ≡ Some root))
-inclusion_leads H F p x root = included.leads (end_of p.leaf.0) p.log_length (cut_root H F p.leaf.0 x p.log_length) root
+inclusion_leads H F p x root = evaluations.leads (end_of p.leaf.0) p.log_length (cut_root H F p.leaf.0 x p.log_length) root
 
 -- a consistency proof evaluates to the roots that meet it alone
 pub consistency_only : (H : List ℕ → List ℕ) (F : ℕ → Option (List ℕ)) (m n : ℕ) (old new : List ℕ) → consistency H F m n ≡ Ok (old, new) → IsConsistent H F m n old new
-consistency_only = met.consistency-only
+consistency_only = evaluations.consistency-only
 
 -- a consistency proof evaluates to roots that meet it
 pub consistency_then : (H : List ℕ → List ℕ) (F : ℕ → Option (List ℕ)) (m n : ℕ) (old new : List ℕ) → IsConsistent H F m n old new → consistency H F m n ≡ Ok (old, new)
-consistency_then = met.consistency-then
+consistency_then = evaluations.consistency-then
 
 -- the needed nodes exist at the length
 pub needed_exist : (t n : ℕ) → 0 < n → AllByRecursion (λ x. ExistsAt x n) (needed t n)
-needed_exist = laws.needed_exist
+needed_exist t n some = all_weaken (orders.Lies 0 n) _ (λ x p. p.1) (needed t n) (orders.needed_within (start_of t) (2 ^ height_of t) n some).lie
 
 -- the balanced roots of a length exist at it
 pub roots_exist : (n : ℕ) → AllByRecursion (λ t. end_of t ≤ n) (balanced_roots n)
@@ -137,11 +157,11 @@ roots_exist = stacks.roots_exist
 
 -- data that agree on the needed nodes have one cut root
 pub same_cut : (H : List ℕ → List ℕ) (F G : ℕ → Option (List ℕ)) (x : List ℕ) (t n : ℕ) → AllByRecursion (λ y. F y ≡ G y) (needed t n) → cut_root H F t x n ≡ cut_root H G t x n
-same_cut H F G x t n = same.same_on H F G x _
+same_cut H F G x t n = reads.same_on H F G x _
 
 -- and one consistency evaluation
 pub same_consistency : (H : List ℕ → List ℕ) (F G : ℕ → Option (List ℕ)) (m n : ℕ) → AllByRecursion (λ y. F y ≡ G y) (needed_between m n) → consistency H F m n ≡ consistency H G m n
-same_consistency = same.same_consistency
+same_consistency = reads.same_consistency
 
 -- nodes are compared by their numbers
 pub nodes_decide : (m n : Node) → Decides (same_node m n) (m ≡ n)

@@ -7,13 +7,14 @@ use Rattle.std.proofs.lemmas.Slice.Zip.{firsts-zip, seconds-zip}
 use Rattle.std.proofs.lemmas.Nat.{pow_pos}
 use Rattle.std.proofs.lemmas.Bool.{eq-eqb}
 use Rattle.warg_protobuf.specs.HashEntry.{Entry}
-use Rattle.warg_log.specs.Nodes.{height_of, place_of, end_of, balanced_roots}
+use Rattle.warg_log.specs.Nodes.{end_of, balanced_roots}
 use Rattle.warg_log.specs.Blocks.{Blocks}
 use Rattle.warg_protobuf.specs.Decoding.{first_fault, digest_fault}
 use Rattle.warg_log.specs.Images.{root_entry, stack_message, stack_in}
 use Rattle.warg_protobuf.proofs.ForCallers.{all_weaken}
 use Rattle.warg_log.proofs.NodeLemmas.{last_leaf}
-use Rattle.warg_log.proofs.BalancedLemmas.{balanced_first, has_first_over, roots_end}
+use Rattle.warg_log.proofs.BalancedLemmas.{balanced_first, has_first_over}
+use Rattle.warg_log.proofs.OrderLemmas.{roots_end}
 
 pub all_good : (ds : List (List ℕ)) → AllByRecursion (λ d. length d ≡ 32) ds → first_fault digest_fault ds ≡ None
 all_good [] lens = refl

@@ -157,3 +157,7 @@ pub divides_most : (n h j : ℕ) → 0 < n → n < 2 ^ 64 → n ≡ j * 2 ^ h �
 divides_most n h j some fits is =
     let t = trailing_zeros w64 n in
     ⊎_elim (λ (tall : t < h). absurd (omega (arith, rw (add-zero, ← is) at (bit_at_cat_low j h 0 t tall), bit_at-zero t, (bit_at-trailing_zeros w64 n some fits).1))) (λ le. le) (cases_lt t h)
+
+-- a height and a place have one number
+pub one_number : (x y k j i : ℕ) → j ≡ i → IsNode x k j → IsNode y k i → x ≡ y
+one_number x y k j i same is is' = omega (arith, is ∙ ap (λ n. 2 ^ k * (2 * n + 1)) same ∙ sym is')

@@ -1,20 +1,20 @@
--- The order in which the needed nodes stand, and how many they are.
+-- The order in which the needed nodes stand, and where they lie.
 use Rattle.std.proofs.Common.{◌≡◌, ℕ, zero, suc, ◌+◌, ◌-◌, ◌*◌, ◌/◌, ◌%◌, ◌^◌, ◌<◌, ◌≤◌, ◌==◌, if◌then◌else◌, nat_le, true, false, List, [], ◌∷◌, ◌++◌, length, refl, sym, ap, ◌∙◌, arith, lit≤, add-zero, add-one, ⊎_elim, inl, inr}
 use Rattle.std.specs.Prelude.{reverse, nat_eq}
 use Rattle.std.specs.List.{AllByRecursion, IsDistinct}
 use Rattle.std.proofs.lemmas.Grind.{reverse_onto}
 use Rattle.std.proofs.Math.Nat.{pow-suc, mul-le-mul_right}
-use Rattle.std.proofs.lemmas.List.{length-append, append-nil, length-reverse}
+use Rattle.std.proofs.lemmas.List.{length-append, append-nil}
 use Rattle.std.proofs.lemmas.Bool.{ne_eqb, eq-eqb, cond_both, cases_lt, cases_eq}
 use Rattle.std.proofs.lemmas.Nat.{pow_pos, pow-add, shl-shr, shr-shr, le-div, div_below}
-use Rattle.warg_log.specs.Nodes.{sibling_place, node_over, number_of, balanced_within, balanced_over, balanced_roots}
+use Rattle.warg_log.specs.Nodes.{height_of, start_of, end_of, sibling_place, node_over, number_of, balanced_within, balanced_over, balanced_roots}
 use Rattle.warg_log.specs.Cut.{Way, at_target, at_node, at_parts, way_over, is_beside}
 use Rattle.warg_log.specs.Walks.{read_on, needed_over, siblings_up}
 use Rattle.warg_protobuf.proofs.ForCallers.{all_append, all_weaken}
-use Rattle.warg_log.proofs.RootLemmas.{below_pow, same_power}
-use Rattle.warg_log.proofs.BalancedLemmas.{balanced_none, balanced_first, balanced_at, balanced_full, roots}
-use Rattle.warg_log.proofs.WayLemmas.{IsBeside, beside_decides, beside_false, cases_beside, missed, front_missed, rest_missed, way_over_target, way_over-read, way_over-split, ways_from}
-use Rattle.warg_log.proofs.NodeLemmas.{pow_below_pow}
+use Rattle.warg_log.proofs.RootLemmas.{same_power}
+use Rattle.warg_log.proofs.BalancedLemmas.{balanced_none, balanced_first, balanced_full, roots}
+use Rattle.warg_log.proofs.WayLemmas.{IsBeside, beside_decides, beside_false, missed, front_missed, rest_missed, way_over_target, way_over-read, way_over-split, ways_from}
+use Rattle.warg_log.proofs.NodeLemmas.{over_at, over_ends, pow_below_pow}
 
 pub reverse-cons : (xs : List ℕ) (x : ℕ) → reverse (x ∷ xs) ≡ reverse xs ++ x ∷ []
 reverse-cons xs x = reverse_onto xs x []
@@ -127,8 +127,8 @@ walk_around d k j n low high = ⊎_elim
     rw (full, none, balanced_none) (need_around d k j ∙ sym (append-nil (siblings_up d k j))))
     (cases_lt (2 ^ (k + d)) n)
 
--- how many the needed nodes are
-balanced_count : (h a n : ℕ) → length (balanced_within h a n) ≤ h
+-- how many the balanced roots and the siblings are
+pub balanced_count : (h a n : ℕ) → length (balanced_within h a n) ≤ h
 unfolding balanced_within
 balanced_count zero a n = lit≤ tt
 balanced_count (suc h) a n = cond_both (nat_le (2 ^ h) n) (node_over a (2 ^ h) ∷ balanced_within h (a + 2 ^ h) (n - 2 ^ h)) (balanced_within h a n) (λ l. length l ≤ suc h)
@@ -138,32 +138,9 @@ pub siblings_count : (c k j : ℕ) → length (siblings_up c k j) ≡ c
 siblings_count zero k j = refl
 siblings_count (suc c) k j = length-append (siblings_up c k j) _ ∙ rw (siblings_count c k j, add-one) refl
 
-pub needed_count : (k j b c n : ℕ) → n < 2 ^ b → c * 2 ^ b ≤ j * 2 ^ k → j * 2 ^ k + 2 ^ k ≤ c * 2 ^ b + n
-    → length (needed_over (j * 2 ^ k) (2 ^ k) (c * 2 ^ b) n) ≤ 2 * (b - 1)
-needed_count k j zero c n lt starts ends = absurd (omega (arith, pow_pos k))
-needed_count k j (suc b) c n lt starts ends =
-    let start : c * 2 ^ suc b ≡ 2 * c * 2 ^ b = rw pow-suc (omega arith) in
-    let middle : 2 * c * 2 ^ b + 2 ^ b ≡ (2 * c + 1) * 2 ^ b = omega arith in
-    let pos : 0 < 2 ^ k = pow_pos k in
-    rw start (⊎_elim
-    (λ (low : n < 2 ^ b). omega (arith, needed_count k j b (2 * c) n low (omega arith) (omega arith)))
-    (λ (high : 2 ^ b ≤ n). ⊎_elim
-    (λ (beside : IsBeside (j * 2 ^ k) (2 ^ k) (2 * c * 2 ^ b) (2 ^ b)).
-    let rest = needed_count k j b (2 * c + 1) (n - 2 ^ b) (omega (arith, pow-suc)) (omega arith) (omega arith) in
-    let wide : 0 < b = pow_below_pow 0 b (omega (arith, pow-suc)) in
-    rw (walk_beside k j b (2 * c * 2 ^ b) n high lt (omega arith) (omega arith) beside, middle, length-append) (omega (arith, rest, wide)))
-    (λ (inside : IsBeside (j * 2 ^ k) (2 ^ k) (2 * c * 2 ^ b) (2 ^ b) → ⊥).
-    let lies = lies_in_first k j b (2 * c) n lt (omega arith) (omega arith) inside in
-    let sum : k + (b - k) ≡ b = let le = lies.0 in omega (arith, le) in
-    let whole = rw (sum, lies.1) at (walk_around (b - k) k j n (rw sum high) (rw sum lt)) in
-    let some = balanced_at (n - 2 ^ b) b (2 * c * 2 ^ b + 2 ^ b) (n - 2 ^ b) (below_pow (n - 2 ^ b)) (omega (arith, pow-suc)) in
-    rw (whole, length-append, siblings_count (b - k) k j, length-reverse, some) (omega (arith, balanced_count b (2 * c * 2 ^ b + 2 ^ b) (n - 2 ^ b))))
-    (cases_beside (j * 2 ^ k) (2 ^ k) (2 * c * 2 ^ b) (2 ^ b)))
-    (cases_lt n (2 ^ b)))
-
--- a node over a part of the leaves from a up to e
+-- all leaves below a node are among those from a up to e
 abbrev pub Lies : ℕ → ℕ → ℕ → Type 0
-Lies a e x = (2 * a ≤ x) × (x + 2 ≤ 2 * e)
+Lies a e x = (a ≤ start_of x) × (end_of x ≤ e)
 
 distinct_append : (P Q : ℕ → Type 0) → ((x y : ℕ) → P x → Q y → x ≡ y → ⊥) → (xs ys : List ℕ) → AllByRecursion P xs → AllByRecursion Q ys
     → IsDistinct nat_eq xs → IsDistinct nat_eq ys → IsDistinct nat_eq (xs ++ ys)
@@ -174,39 +151,45 @@ distinct_append P Q apart (x ∷ xs) ys h i d e = (
   distinct_append P Q apart xs ys h.1 i d.1 e,
 )
 
--- the needed nodes of a range lie in it, and none stands twice
+-- nodes that lie there, and of which none stands twice
 pub record IsWithin (a e : ℕ) (xs : List ℕ) : Type 0 where
   pub lie : AllByRecursion (Lies a e) xs
   pub distinct : IsDistinct nat_eq xs
 
-within_one : (a n : ℕ) → 0 < n → IsWithin a (a + n) (node_over a n ∷ [])
+within_one : (k c : ℕ) → IsWithin (c * 2 ^ k) (c * 2 ^ k + 2 ^ k) (node_over (c * 2 ^ k) (2 ^ k) ∷ [])
 unfolding IsDistinct
-within_one a n some = record { lie = ((omega arith, omega arith), tt); distinct = (tt, tt) }
+within_one k c = let at = over_at k c in record { lie = ((rw (at.0, at.1) (omega arith), omega (arith, over_ends k c)), tt); distinct = (tt, tt) }
 
 within_both : (a m e : ℕ) (xs ys : List ℕ) → a ≤ m → m ≤ e → IsWithin a m xs → IsWithin m e ys → IsWithin a e (xs ++ ys) × IsWithin a e (ys ++ xs)
 within_both a m e xs ys low high left right =
-    let lx : AllByRecursion (Lies a e) xs = all_weaken (Lies a m) (Lies a e) (λ x p. (p.0, omega (arith, p.1))) xs left.lie in
-    let ly : AllByRecursion (Lies a e) ys = all_weaken (Lies m e) (Lies a e) (λ x p. (omega (arith, p.0), p.1)) ys right.lie in (
-      record { lie = all_append (Lies a e) xs ys lx ly; distinct = distinct_append (Lies a m) (Lies m e) (λ x y p q f. omega (arith, p, q, f)) xs ys left.lie right.lie left.distinct right.distinct },
-      record { lie = all_append (Lies a e) ys xs ly lx; distinct = distinct_append (Lies m e) (Lies a m) (λ x y q p f. omega (arith, p, q, f)) ys xs right.lie left.lie right.distinct left.distinct },
+    let lx = all_weaken (Lies a m) (Lies a e) (λ x p. (p.0, omega (arith, p.1))) xs left.lie in
+    let ly = all_weaken (Lies m e) (Lies a e) (λ x p. (omega (arith, p.0), p.1)) ys right.lie in
+    let apart = λ (x y : ℕ) (p : Lies a m x) (q : Lies m e y) (f : x ≡ y). let g : ⊥ = omega (arith, p, q, ap start_of f, pow_pos (height_of x)) in g in (
+      record { lie = all_append (Lies a e) xs ys lx ly; distinct = distinct_append (Lies a m) (Lies m e) apart xs ys left.lie right.lie left.distinct right.distinct },
+      record { lie = all_append (Lies a e) ys xs ly lx; distinct = distinct_append (Lies m e) (Lies a m) (λ y x q p f. apart x y p q (sym f)) ys xs right.lie left.lie right.distinct left.distinct },
     )
 
-pub needed_distinct : (s w n : ℕ) → 0 < n → IsDistinct nat_eq (needed_over s w 0 n)
+-- so do the needed nodes of a length, and its balanced roots
+pub needed_within : (s w n : ℕ) → 0 < n → IsWithin 0 n (needed_over s w 0 n)
 unfolding read_on IsDistinct
-needed_distinct s w n some = (ways_from s w 0 (λ a n way. IsWithin a (a + n) (read_on way)) (record {
+needed_within s w n some = let all : 0 + n ≡ n = omega arith in rw all at (ways_from s w 0 (λ a n way. IsWithin a (a + n) (read_on way)) (record {
   target = λ _. record { lie = tt; distinct = tt };
-  node = λ k c a _. within_one a (2 ^ k) (pow_pos k);
+  node = λ k c a start. let at : a ≡ c * 2 ^ k = omega arith in rw at (within_one k c);
   parts = λ h a n left right more most _ l r.
       let end : a + 2 ^ h + (n - 2 ^ h) ≡ a + n = omega arith in
       let both = within_both a (a + 2 ^ h) (a + n) (read_on left) (read_on right) (omega arith) (omega arith) l (rw end at r) in
       cond_both (is_beside s w a (2 ^ h)) _ _ (IsWithin a (a + n)) (λ _. both.1) (λ _. both.0);
-}) n some).distinct
+}) n some)
 
-pub roots_distinct : (n : ℕ) → IsDistinct nat_eq (balanced_roots n)
+pub roots_within : (n : ℕ) → IsWithin 0 n (balanced_roots n)
 unfolding IsDistinct
-roots_distinct n = (roots (λ a n ts. IsWithin a (a + n) ts) (record {
+roots_within n = let all : 0 + n ≡ n = omega arith in rw all at (roots (λ a n ts. IsWithin a (a + n) ts) (record {
   none = λ a. record { lie = tt; distinct = tt };
   first = λ h c m ts lt rest.
       let end : c * 2 ^ h + 2 ^ h + m ≡ c * 2 ^ h + (2 ^ h + m) = omega arith in
-      (within_both (c * 2 ^ h) (c * 2 ^ h + 2 ^ h) (c * 2 ^ h + (2 ^ h + m)) (_ ∷ []) ts (omega arith) (omega arith) (within_one (c * 2 ^ h) (2 ^ h) (pow_pos h)) (rw end at rest)).0;
-}) n).distinct
+      (within_both (c * 2 ^ h) (c * 2 ^ h + 2 ^ h) (c * 2 ^ h + (2 ^ h + m)) (_ ∷ []) ts (omega arith) (omega arith) (within_one h c) (rw end at rest)).0;
+}) n)
+
+-- each root ends at or before the last leaf
+pub roots_end : (n e : ℕ) → n ≤ e → AllByRecursion (λ t. end_of t ≤ e) (balanced_roots n)
+roots_end n e fits = all_weaken (Lies 0 n) _ (λ t p. omega (arith, p.1)) (balanced_roots n) (roots_within n).lie

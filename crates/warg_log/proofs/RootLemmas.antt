@@ -1,10 +1,10 @@
 -- Roots of lists of leaf digests.
-use Rattle.std.proofs.Common.{◌≡◌, ℕ, zero, suc, ◌+◌, ◌-◌, ◌*◌, ◌^◌, ◌<◌, ◌≤◌, ⊎_elim, List, [], ◌∷◌, length, take, drop, refl, sym, ap, ◌∙◌, arith, lit≤, lit<, add-zero, length-drop, length-take-le}
+use Rattle.std.proofs.Common.{◌≡◌, ℕ, zero, suc, ◌+◌, ◌-◌, ◌*◌, ◌^◌, ◌<◌, ◌≤◌, ⊎_elim, List, [], ◌∷◌, length, take, drop, refl, sym, ap, ◌∙◌, arith, lit≤, lit<, add-zero, length-drop, length-take-le, slice_index_or}
 use Rattle.std.proofs.Math.Nat.{add-suc, add_comm, pow-suc, pow-le-pow_right}
 use Rattle.std.proofs.lemmas.Bool.{le-leb, lt-leb, cases_lt}
 use Rattle.std.proofs.lemmas.Nat.{pow_pos}
 use Rattle.warg_crypto.specs.Tree.{branch}
-use Rattle.warg_log.specs.Tree.{front_within, front_of, root_within, root_of}
+use Rattle.warg_log.specs.Tree.{front_within, front_of, root_within, root_of, root_over}
 use Rattle.warg_log.proofs.NodeLemmas.{pow_below_pow}
 
 pub below_pow : (n : ℕ) → n < 2 ^ n
@@ -42,6 +42,12 @@ root_of_split H h ds more most =
 pub root_of_one : (H : List ℕ → List ℕ) (d : List ℕ) → root_of H (d ∷ []) ≡ d
 unfolding root_within
 root_of_one H d = root_of_within H 0 (d ∷ []) (lit< tt) (lit≤ tt)
+
+-- the root over one leaf
+pub root_over_one : (H : List ℕ → List ℕ) (ds : List (List ℕ)) (a : ℕ) → a < length ds → root_over H ds a 1 ≡ slice_index_or ds a []
+root_over_one H [] a lt = absurd (omega arith)
+root_over_one H (d ∷ ds) zero lt = root_of_one H d
+root_over_one H (d ∷ ds) (suc a) lt = root_over_one H ds a (omega arith)
 
 -- the greatest power of two below a number
 front_above : (h n : ℕ) → 2 ^ h < n → front_within h n ≡ 2 ^ h

@@ -16,8 +16,8 @@ use Rattle.warg_crypto.specs.Tree.{branch}
 use Rattle.warg_log.specs.Tree.{root_of, root_over, leaves_in, digest_or_spacer, slice_of, own_digest}
 use Rattle.warg_log.specs.Private.Slices.{IsSliceUpTo}
 use Rattle.warg_log.proofs.NodeLemmas.{node_is, over_at, last_root, smaller_root, divides_most}
+use Rattle.warg_log.proofs.RootLemmas.{root_over_one}
 use Rattle.warg_log.proofs.CutLemmas.{root_over_split}
-use Rattle.warg_log.proofs.LawLemmas.{root_over_one}
 
 -- a node that exists stands inside the slice
 pub inside_slice : (x n m : ℕ) → end_of x ≤ n → m ≡ 2 * n - 1 → x < m
@@ -72,9 +72,7 @@ module _ (H : List ℕ → List ℕ) (ds : List (List ℕ)) where
 
   pub own_branch : (k j : ℕ) → (j + 1) * 2 ^ suc k ≤ length ds
       → digest_or_spacer H ds (number_of (suc k) j) ≡ branch H (digest_or_spacer H ds (number_of k (2 * j))) (digest_or_spacer H ds (number_of k (2 * j + 1)))
-  own_branch k j ends =
-      let fits = rw (pow-suc 2 k) at ends in
-      rw (own_there (suc k) j ends, own_there k (2 * j) (omega arith), own_there k (2 * j + 1) (omega arith)) (root_below H ds k j ends)
+  own_branch k j ends = grind (arith, pow-suc, own_there, root_below)
 
 -- a write at an odd place keeps the leaves
 leaves_in-set : (t : List (List ℕ)) (i : ℕ) (v : List ℕ) → leaves_in (set t (suc (2 * i)) v) ≡ leaves_in t

@@ -16,10 +16,10 @@ use Rattle.warg_log.specs.Blocks.{Blocks, StandsFor, digest_beside, block_at, bl
 use Rattle.warg_log.specs.Private.Growth.{Grows}
 use Rattle.warg_protobuf.proofs.ForCallers.{all_weaken}
 use Rattle.warg_log.proofs.NodeLemmas.{node_is, only_number, over_at, over_ends}
+use Rattle.warg_log.proofs.RootLemmas.{root_over_one}
 use Rattle.warg_log.proofs.CutLemmas.{root_over_split, old_root_own}
-use Rattle.warg_log.proofs.LawLemmas.{root_over_one}
-use Rattle.warg_log.proofs.BalancedLemmas.{map_same, end_is, balanced_none, balanced_full, balanced_more, has_first_over, roots, roots_end}
-use Rattle.warg_log.proofs.OrderLemmas.{roots_distinct}
+use Rattle.warg_log.proofs.BalancedLemmas.{map_same, end_is, balanced_none, balanced_full, balanced_more, has_first_over, roots}
+use Rattle.warg_log.proofs.OrderLemmas.{roots_within, roots_end}
 use Rattle.warg_log.proofs.ClimbLemmas.{old_root-joined}
 use Rattle.warg_log.proofs.AppendLemmas.{front_kept}
 
@@ -115,7 +115,7 @@ beside_none x (t ∷ ts) (d ∷ ds) all = rw all.0 (beside_none x ts ds all.1)
 
 -- the blocks of a length are held
 blocks_held : (b : Blocks) → length b.digests ≡ length (balanced_roots b.len) → map (block_at b) (balanced_roots b.len) ≡ map Some b.digests
-blocks_held b len = beside_all (balanced_roots b.len) b.digests len (roots_distinct b.len)
+blocks_held b len = beside_all (balanced_roots b.len) b.digests len (roots_within b.len).distinct
 
 -- an old block's digest
 over_held : (H : List ℕ → List ℕ) (F : ℕ → Option (List ℕ)) (n : ℕ) (d e : List ℕ) (h a : ℕ) → a + 2 ^ h ≤ n → F (node_over a (2 ^ h)) ≡ Some e → block_over H F n d h a ≡ e

@@ -9,11 +9,12 @@ use Rattle.warg_log.specs.declared.node.Node.{Node}
 use Rattle.warg_log.specs.Nodes.{IsNode, ExistsAt, height_of, place_of, start_of, end_of, sibling_place, node_over, number_of, balanced_over}
 use Rattle.warg_log.specs.Ranges.{IsAligned}
 use Rattle.warg_log.specs.Walks.{needed, needed_over, siblings_up, IsWalk, IsWalkOver}
+use Rattle.warg_protobuf.proofs.ForCallers.{all_parts}
 use Rattle.warg_log.proofs.WayLemmas.{IsBeside}
-use Rattle.warg_log.proofs.NodeLemmas.{node_at, only_number, pow_below_pow, parts}
-use Rattle.warg_log.proofs.RootLemmas.{same_power}
-use Rattle.warg_log.proofs.BalancedLemmas.{IsFirst, first_cut}
-use Rattle.warg_log.proofs.OrderLemmas.{reverse-cons, siblings_count, walk_beside, walk_around, lies_in_first, needed_distinct, needed_count}
+use Rattle.warg_log.proofs.NodeLemmas.{node_at, only_number, over_ends, pow_below_pow, parts}
+use Rattle.warg_log.proofs.RootLemmas.{below_pow, same_power}
+use Rattle.warg_log.proofs.BalancedLemmas.{IsFirst, first_cut, balanced_at}
+use Rattle.warg_log.proofs.OrderLemmas.{reverse-cons, siblings_count, balanced_count, walk_beside, walk_around, lies_in_first, needed_within, roots_end}
 
 -- the numbers of nodes
 abbrev pub numbers : List Node → List ℕ
@@ -129,7 +130,13 @@ walk_whole x n i l j zs over count =
     (omega arith, omega arith, rw (← upper) (rw sub-zero at walk))
 
 pub needed_once : (x n : ℕ) → ExistsAt x n → IsDistinct nat_eq (needed x n)
-needed_once x n exists = needed_distinct (start_of x) (2 ^ height_of x) n (omega (arith, pow_pos))
+needed_once x n exists = (needed_within (start_of x) (2 ^ height_of x) n (omega (arith, pow_pos))).distinct
 
-pub needed_most : (x n b : ℕ) → ExistsAt x n → n < 2 ^ b → length (needed x n) ≤ 2 * (b - 1)
-needed_most x n b exists lt = let none : 0 * 2 ^ b ≡ 0 = omega arith in rw none at (needed_count (height_of x) (place_of x) b 0 n lt (omega arith) (omega arith))
+-- a length of b binary digits has at most b balanced roots, and below each at most b - 1 siblings on the way up
+pub walk_most : (x n b i l upper : ℕ) (nodes : List ℕ) → IsWalkOver x 0 n nodes i l upper → n < 2 ^ b → length nodes ≤ 2 * (b - 1)
+walk_most x n b i l upper nodes walk lt =
+    let k = height_of x + i in
+    let ends = (all_parts (λ t. end_of t ≤ n) walk.left _ (rw walk.roots at (roots_end n n (omega arith)))).1.0 in
+    let low : k < b = pow_below_pow k b (omega (arith, ends, over_ends k (place_of x / 2 ^ i))) in
+    let few : length (balanced_over 0 n) ≤ b = rw (balanced_at n b 0 n (below_pow n) lt) (balanced_count b 0 n) in
+    omega (arith, few, simp length-append at (ap length walk.roots), simp (length-append, length-reverse, siblings_count) at (ap length walk.order))

@@ -1,10 +1,10 @@
 -- The way of an evaluation down a range.
-use Rattle.std.proofs.Common.{◌≡◌, ℕ, zero, suc, ◌+◌, ◌-◌, ◌*◌, ◌^◌, ◌<◌, ◌≤◌, ◌==◌, ◌&&◌, true, false, if◌then◌else◌, refl, sym, ◌∙◌, arith, ⊎_elim, ◌⊎◌, inl, inr}
+use Rattle.std.proofs.Common.{◌≡◌, ℕ, zero, suc, ◌+◌, ◌-◌, ◌*◌, ◌^◌, ◌<◌, ◌≤◌, ◌==◌, ◌&&◌, true, false, if◌then◌else◌, refl, sym, ◌∙◌, arith, ⊎_elim, ◌⊎◌}
 use Rattle.std.specs.Prelude.{IsTrue}
 use Rattle.std.specs.Bool.{Decides}
 use Rattle.std.proofs.Math.Nat.{pow-suc}
-use Rattle.std.proofs.lemmas.Bool.{le-leb, lt-leb, leb-true, false_from_ne_true, false≢true, cond_both, cases_Bool, cases_lt}
-use Rattle.std.proofs.lemmas.Bool.Decides.{Decides-and, Decides-or, Decides-eqb, not_from_Decides}
+use Rattle.std.proofs.lemmas.Bool.{le-leb, lt-leb, leb-true, false_from_ne_true, false≢true, cond_both, cases_lt}
+use Rattle.std.proofs.lemmas.Bool.Decides.{Decides-and, Decides-or, Decides-eqb}
 use Rattle.std.proofs.lemmas.Nat.{pow_pos}
 use Rattle.warg_log.specs.Nodes.{node_over}
 use Rattle.warg_log.specs.Tree.{front_of}
@@ -37,15 +37,8 @@ is_beside_true s w a n beside = (beside_decides s w a n).1 beside
 pub is_beside_so : (s w a n : ℕ) → IsTrue (is_beside s w a n) → IsBeside s w a n
 is_beside_so s w a n beside = (beside_decides s w a n).0 beside
 
-pub read_so : (s w a n : ℕ) → (n ≡ 1) ⊎ (IsFull n × IsTrue (is_beside s w a n)) → (n ≡ 1) ⊎ (IsFull n × IsBeside s w a n)
-read_so s w a n (inl one) = inl one
-read_so s w a n (inr full) = inr (full.0, is_beside_so s w a n full.1)
-
 pub beside_false : (s w a n : ℕ) → (IsBeside s w a n → ⊥) → is_beside s w a n ≡ false
 beside_false s w a n inside = false_from_ne_true (is_beside s w a n) (λ e. inside ((beside_decides s w a n).0 e))
-
-pub cases_beside : (s w a n : ℕ) → IsBeside s w a n ⊎ (IsBeside s w a n → ⊥)
-cases_beside s w a n = ⊎_elim (λ t. inl ((beside_decides s w a n).0 t)) (λ f. inr (not_from_Decides _ (beside_decides s w a n) f)) (cases_Bool (is_beside s w a n))
 
 -- what misses the target isn't it, and no part of it is
 pub missed : (s w a n : ℕ) → 0 < n → IsBeside s w a n → a ≡ s → n ≡ w → ⊥

@@ -188,7 +188,7 @@ impl<D: SupportedDigest, V: VisitBytes> ConsistencyProof<D, V> {
     }
 
     // The one root to which the balanced roots of the old length lead.
-    #[tactic(auto, using(crate::proofs::BalancedLemmas::has_first_over, crate::proofs::BalancedLemmas::roots_end))]
+    #[tactic(auto, using(crate::proofs::BalancedLemmas::has_first_over, crate::proofs::OrderLemmas::roots_end))]
     fn new_root<L: LogData<D, V>>(&self, hashes: &L) -> Result<Hash<D>, ConsistencyProofError>
         requires some { 0 < self.now.old_length }
         requires order { self.now.old_length ≤ self.now.new_length }

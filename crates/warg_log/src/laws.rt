@@ -54,14 +54,14 @@ pub fn number_is_node()
 {}
 
 /// A node and its sibling have one parent: the node of the height above over either is the same.
-#[tactic(auto, using(crate::proofs::LawLemmas::one_number, std::proofs::lemmas::Bool::Decides::nat_tests))]
+#[tactic(auto, using(crate::proofs::NodeLemmas::one_number, std::proofs::lemmas::Bool::Decides::nat_tests))]
 pub fn parent_of_sibling()
     ensures { (x y k j : ℕ) → IsNode x (k + 1) (sibling_place j / 2) → IsNode y (k + 1) (j / 2)
         → x ≡ y }
 {}
 
 /// The halves of the parent are the node and its sibling, in the order of their places.
-#[tactic(auto, using(crate::proofs::LawLemmas::one_number, std::proofs::lemmas::Bool::Decides::nat_tests))]
+#[tactic(auto, using(crate::proofs::NodeLemmas::one_number, std::proofs::lemmas::Bool::Decides::nat_tests))]
 pub fn children_of_parent()
     ensures left { (l r x s k j : ℕ) → IsNode l k (2 * (j / 2)) → IsNode r k (2 * (j / 2) + 1)
         → IsNode x k j → IsNode s k (sibling_place j) → j % 2 ≡ 0 → (l ≡ x) × (r ≡ s) }
@@ -71,6 +71,7 @@ pub fn children_of_parent()
 
 /// The balanced roots of a length: their leaves follow one another from the first to the last one, and
 /// their heights fall. No other nodes are so.
+#[tactic(auto, using(crate::proofs::BalancedLemmas::roots_follow, crate::proofs::BalancedLemmas::roots_fall, crate::proofs::ClimbLemmas::balanced_roots_only))]
 pub fn balanced_in_a_row()
     ensures follow { (n : ℕ) → Follow 0 n (balanced_roots n) }
     ensures fall { (n : ℕ) → Fall n (balanced_roots n) }
@@ -100,6 +101,7 @@ pub fn cut_target()
 
 /// The cut root of a range that misses the target and has a power of two of leaves is the digest that
 /// is held for it.
+#[tactic(auto, using(crate::proofs::CutLemmas::cut_over_read, crate::proofs::WayLemmas::is_beside_so))]
 pub fn cut_beside()
     ensures { (H : List ℕ → List ℕ) (F : ℕ → Option (List ℕ)) (x : List ℕ) (s w a n : ℕ) → 0 < w
         → IsFull n → IsTrue (is_beside s w a n) → cut_over H F x s w a n ≡ F (node_over a n) }
@@ -120,6 +122,7 @@ pub fn needed_target()
 {}
 
 /// A range that misses the target and has a power of two of leaves needs the node over it.
+#[tactic(auto, using(crate::proofs::OrderLemmas::need_full, crate::proofs::WayLemmas::is_beside_so))]
 pub fn needed_beside()
     ensures { (s w a n : ℕ) → 0 < w → IsFull n → IsTrue (is_beside s w a n)
         → needed_over s w a n ≡ node_over a n ∷ [] }
@@ -145,7 +148,7 @@ pub fn needed_exist()
 {}
 
 /// A cut root is there exactly if the digest of each needed node is.
-#[tactic(auto, using(crate::proofs::WalkLemmas::needed_exactly))]
+#[tactic(auto, using(crate::proofs::ReadLemmas::needed_exactly))]
 pub fn needed_known()
     ensures { (H : List ℕ → List ℕ) (F : ℕ → Option (List ℕ)) (t : ℕ) (x : List ℕ) (n : ℕ)
         → IsKnown F (needed t n) ↔ IsSome (cut_root H F t x n) }
@@ -184,7 +187,7 @@ pub fn cut_own_range()
 
 /// An inclusion proof leads to a root exactly if its node exists at its length and this is the cut root. Else it
 /// is `LeafTooNew` exactly if the node doesn't exist, and `HashNotKnown` exactly if it does and a digest is lacking.
-#[tactic(auto, using(crate::proofs::InclusionLemmas::leads, crate::proofs::InclusionLemmas::too_new, crate::proofs::InclusionLemmas::unknown))]
+#[tactic(auto, using(crate::proofs::EvaluationLemmas::leads, crate::proofs::EvaluationLemmas::too_new, crate::proofs::EvaluationLemmas::unknown))]
 pub fn inclusion_met()
     ensures ok { (H : List ℕ → List ℕ) (F : ℕ → Option (List ℕ)) (p : InclusionClaim)
         (x root : List ℕ)
@@ -249,7 +252,7 @@ pub fn consistency_met()
 
 /// A log's consistency proofs lead to the roots that it had: over the log's own digests, a proof from a
 /// length of at least 1 to one that isn't smaller, up to the log's, has the roots of that many leaves.
-#[tactic(auto, using(crate::proofs::MetLemmas::consistency_own))]
+#[tactic(auto, using(crate::proofs::EvaluationLemmas::consistency_own))]
 pub fn own_consistency()
     ensures { (H : List ℕ → List ℕ) (ds : List (List ℕ)) (m n : ℕ) → 0 < m → m ≤ n → n ≤ length ds
         → consistency H (own_digest H ds) m n ≡ Ok (root_of H (take m ds), root_of H (take n ds)) }

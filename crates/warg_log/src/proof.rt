@@ -109,6 +109,7 @@ impl<D: SupportedDigest, V: VisitBytes> InclusionProof<D, V> {
     ///
     /// `LeafTooNew` exactly if the node doesn't exist at the length; else memory is the only error. A
     /// length of `b` binary digits has at most `2 * (b - 1)` such nodes.
+    #[tactic(auto, using(crate::proofs::StepLemmas::needed_once))]
     pub fn walk<A: Allocator>(&self, alloc: A) -> Result<InclusionProofWalk<A>, InclusionProofError>
         ensures too_new { (result ≡ Err InclusionProofError.LeafTooNew)
             ↔ ¬ ExistsAt self.now.leaf.0 self.now.log_length }
@@ -275,6 +276,7 @@ struct WalkParts {
 }
 
 // Puts the walk from a node over the leaves from `start` up to `end` into an empty list.
+#[tactic(auto, using(std::proofs::lemmas::List::map_push, crate::proofs::WayLemmas::is_beside_so, crate::proofs::WayLemmas::is_beside_true, crate::proofs::StepLemmas::aligned_next, crate::proofs::StepLemmas::missed_first, crate::proofs::StepLemmas::walk_grows, crate::proofs::StepLemmas::found_first, crate::proofs::StepLemmas::walk_begins))]
 fn add_walk<A: Allocator>(
     nodes: &mut Vec<Node, A>,
     leaf: Node,
@@ -306,6 +308,7 @@ fn add_walk<A: Allocator>(
 }
 
 // Adds the siblings on the way up from a node to the height of one above it.
+#[tactic(auto, using(std::proofs::lemmas::List::map_push, crate::proofs::NodeLemmas::node_at, crate::proofs::StepLemmas::step_place, crate::proofs::StepLemmas::step_pushed))]
 fn add_siblings<A: Allocator>(
     nodes: &mut Vec<Node, A>,
     leaf: Node,

@@ -29,6 +29,7 @@ pub fn range_root<D: SupportedDigest, V: VisitBytes, L: LogData<D, V>>(
 }
 
 // The same, where `joins` gives the digests of branches.
+#[tactic(auto, using(crate::proofs::WayLemmas::target_decides, crate::proofs::CutLemmas::cut_over_target, crate::proofs::CutLemmas::cut_read, crate::proofs::CutLemmas::cut_split))]
 pub(crate) fn range_root_by<D: SupportedDigest, V: VisitBytes, L: LogData<D, V>, J: Join<D>>(
     joins: &mut J,
     hashes: &L,
@@ -56,6 +57,7 @@ pub(crate) fn range_root_by<D: SupportedDigest, V: VisitBytes, L: LogData<D, V>,
 
 /// The old root of one range: the root of the range's leaves by the digests that the data holds for the
 /// range's balanced roots. None exactly if the data lacks one of them. It takes no memory.
+#[tactic(auto, using(crate::proofs::CutLemmas::old_over_full, crate::proofs::CutLemmas::old_over_parts))]
 pub fn stored_root<D: SupportedDigest, V: VisitBytes, L: LogData<D, V>>(
     hashes: &L,
     range: &LeafRange,

@@ -1,4 +1,4 @@
-use Rattle.warg_log.proofs.MetLemmas.{consistency-only, consistency-then}
+use Rattle.warg_log.proofs.EvaluationLemmas.{consistency-only, consistency-then}
 use Rattle.warg_log.proofs.laws.consistency_met.Goals as goal
 
 pub returns : goal.returns

@@ -3,10 +3,10 @@ use Rattle.std.proofs.lemmas.List.{length-map, get_or-map, take-map}
 use Rattle.warg_log.specs.Nodes.{end_of}
 use Rattle.warg_log.specs.Tree.{root_of, leaves_of}
 use Rattle.warg_log.specs.Cut.{cut_root}
-use Rattle.warg_log.proofs.InclusionLemmas.{leads}
+use Rattle.warg_log.proofs.EvaluationLemmas.{leads}
 use Rattle.warg_log.proofs.NodeLemmas.{node_at}
 use Rattle.warg_log.proofs.CutLemmas.{cut_root_own}
-use Rattle.warg_log.proofs.LawLemmas.{root_over_one}
+use Rattle.warg_log.proofs.RootLemmas.{root_over_one}
 use Rattle.warg_log.proofs.laws.own_inclusion.Goals as goal
 
 pub returns : goal.returns

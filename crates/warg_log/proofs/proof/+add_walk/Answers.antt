@@ -1,32 +1,14 @@
-use Rattle.std.proofs.Common.{◌≡◌, suc, ◌-◌, ◌^◌, ◌≤◌, ◌++◌, ◌∷◌, [], refl, sym, ◌∙◌, rules}
+use Rattle.std.proofs.Common.{◌≡◌, suc, ◌-◌, ◌^◌, ◌++◌, ◌∷◌, [], refl, ◌∙◌}
 use Rattle.std.proofs.lemmas.Bool.{false≢true}
 use Rattle.std.proofs.lemmas.List.{map_push}
 use Rattle.warg_log.specs.Nodes.{start_of, height_of, node_over}
-use Rattle.warg_log.specs.Ranges.{IsAligned}
-use Rattle.warg_log.proofs.WayLemmas.{is_beside_so, is_beside_true}
-use Rattle.warg_log.proofs.StepLemmas.{HasMissed, HasFound, numbers, aligned_next, missed_first, walk_grows, found_first, HasBegun, walk_begins}
+use Rattle.warg_log.proofs.WayLemmas.{is_beside_true}
+use Rattle.warg_log.proofs.StepLemmas.{HasFound, numbers, walk_grows, found_first, HasBegun, walk_begins}
 use Rattle.warg_log.proofs.proof.+add_walk.Goals as goal
-use Rattle.warg_log.proofs.proof.+add_walk.Goals.{Then-is_beside, In_ok-push, After-ilog2, After-len}
-
-missed : (g : _) (t : _) (c : Then-is_beside g t) → HasMissed c.args.leaf.0 c.args.start c.args.end c.first_root-root.result.count
-missed g t c = missed_first _ _ _ _ c.first_root-root.ensures.count c.requires.starts c.requires.ends
-    (rw (← c.first_root-root.ensures.start, ← c.leaf_range.ensures.start, ← c.leaf_range.ensures.count) (is_beside_so _ _ _ _ (sym c.if-is_beside.ensures)))
-
-pub add_walk-requires : goal.add_walk-requires
-add_walk-requires g t c κs within =
-    let first = missed g t (goal.at.add_walk-requires g t c).Then-is_beside in
-    let next : IsAligned c.end.result (c.args.end - c.end.result) =
-    rw (c.end.ensures, c.first_root-root.ensures.start) (aligned_next _ _ _ c.requires.aligned c.first_root-root.ensures.count) in
-    let later : c.end.result ≤ start_of c.args.leaf.0 = rw (c.end.ensures, c.first_root-root.ensures.start) first.later in
-    search rules
+use Rattle.warg_log.proofs.proof.+add_walk.Goals.{In_ok-push, After-ilog2, After-len}
 
 pushed : (g : _) (t : _) (c : In_ok-push g t) → numbers c.push.new.self.items ≡ numbers c.add_walk.new.nodes.items ++ node_over c.args.start c.first_root-root.result.count ∷ []
 pushed g t c = rw (c.in_ok-push.ensures.items, map_push, c.over.ensures, c.first_root-root.ensures.start) refl
-
-pub returns-then-is_beside-clause-needed : goal.returns-then-is_beside-clause-needed
-returns-then-is_beside-clause-needed g t c =
-    let at = goal.at.returns-then-is_beside-clause-needed g t c in
-    rw (pushed g t at.In_ok-push, c.in_ok-parts.ensures.needed, c.end.ensures, c.first_root-root.ensures.start) (sym (missed g t at.Then-is_beside).needs)
 
 pub returns-then-is_beside-clause-order : goal.returns-then-is_beside-clause-order
 returns-then-is_beside-clause-order g t c =

@@ -2,7 +2,7 @@ use Rattle.std.proofs.Common.{◌≡◌, ◌∙◌, Err, ap, sym}
 use Rattle.std.proofs.lemmas.Result.{err_from_is_err_and}
 use Rattle.warg_log.specs.declared.consistency.ConsistencyProofError.TheVariants.{Memory, InclusionError}
 use Rattle.warg_log.specs.Nodes.{balanced_roots}
-use Rattle.warg_log.proofs.EvaluationFaults.{new_root_fault}
+use Rattle.warg_log.proofs.EvaluationLemmas.{new_root_fault}
 use Rattle.warg_log.proofs.consistency.ConsistencyProof.evaluate.Goals as goal
 
 pub returns-in_err-new_root-clause-memory : goal.returns-in_err-new_root-clause-memory

@@ -1,7 +1,8 @@
 use Rattle.std.proofs.Common.{◌≡◌, ◌^◌, ◌<◌, ◌≤◌, ◌∷◌, sym, subst, refl, ◌∙◌}
 use Rattle.std.specs.List.{AllByRecursion}
 use Rattle.warg_log.specs.Nodes.{balanced_roots, end_of}
-use Rattle.warg_log.proofs.BalancedLemmas.{has_first_over, roots_end}
+use Rattle.warg_log.proofs.BalancedLemmas.{has_first_over}
+use Rattle.warg_log.proofs.OrderLemmas.{roots_end}
 use Rattle.warg_log.proofs.consistency.ConsistencyProof.new_root.Goals as goal
 use Rattle.warg_log.proofs.consistency.ConsistencyProof.new_root.Goals.{In-Some}
 

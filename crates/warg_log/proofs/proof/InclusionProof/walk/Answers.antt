@@ -1,9 +1,7 @@
-use Rattle.std.proofs.Common.{◌≡◌, sym, ap, ◌∙◌, arith, length}
+use Rattle.std.proofs.Common.{◌∙◌, arith}
 use Rattle.std.proofs.Math.Nat.{sub-zero}
 use Rattle.std.proofs.lemmas.List.{length-map}
-use Rattle.warg_log.specs.declared.node.Node.{Node}
-use Rattle.warg_log.specs.Walks.{needed}
-use Rattle.warg_log.proofs.StepLemmas.{walk_whole, needed_once, needed_most}
+use Rattle.warg_log.proofs.StepLemmas.{walk_whole, walk_most}
 use Rattle.warg_log.proofs.proof.InclusionProof.walk.Goals as goal
 
 pub add_walk-requires-clause-aligned : goal.add_walk-requires-clause-aligned
@@ -18,11 +16,7 @@ overflow_sub-result-in-Ok g c = (walk_whole _ _ _ _ c.len.result _ c.in-Ok.ensur
 pub returns-in-Ok-clause-order : goal.returns-in-Ok-clause-order
 returns-in-Ok-clause-order g c = rw (← c.self.view_is) (walk_whole _ _ _ _ c.len.result _ c.in-Ok.ensures.order (c.len.ensures ∙ c.add_walk.new.nodes.ok.0)).2
 
-pub returns-in-Ok-clause-once : goal.returns-in-Ok-clause-once
-returns-in-Ok-clause-once g c = rw (rw sub-zero at c.in-Ok.ensures.needed) (needed_once _ _ (c.exists_at_length.ensures.0 c.if-not-exists_at_length.false))
-
 pub returns-in-Ok-clause-most : goal.returns-in-Ok-clause-most
 returns-in-Ok-clause-most g c = rw (← c.self.view_is) (λ b lt.
-    let count : length c.add_walk.new.nodes.items ≡ length (needed c.self.inside.leaf.0 c.self.inside.log_length) =
-    sym (length-map _ (λ (m : Node). m.0)) ∙ ap length (rw sub-zero at c.in-Ok.ensures.needed) in
-    rw count (needed_most _ _ b (c.exists_at_length.ensures.0 c.if-not-exists_at_length.false) lt))
+    let walk = rw sub-zero at c.in-Ok.ensures.order.1 in
+    rw (length-map) at (walk_most _ _ b _ _ _ _ walk lt))

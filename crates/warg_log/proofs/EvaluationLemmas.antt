@@ -1,6 +1,8 @@
--- What a consistency proof's evaluation says.
-use Rattle.std.proofs.Common.{◌≡◌, ℕ, ◌<◌, ◌≤◌, ◌==◌, Bool, true, false, nat_eq, nat_lt, List, [], ◌∷◌, length, take, Option, Some, None, Result, Ok, Err, if◌then◌else◌, refl, ap, ◌∙◌, arith, subst, ⊎_elim}
+-- What the evaluations of inclusion and consistency proofs say, and which faults they can have.
+use Rattle.std.proofs.Common.{◌≡◌, ℕ, ◌≤◌, nat_le, List, Option, Some, None, Result, Ok, Err, ◌↔◌, if◌then◌else◌, arith, ◌<◌, ◌==◌, Bool, true, false, nat_eq, nat_lt, [], ◌∷◌, length, take, refl, ap, ◌∙◌, subst, ⊎_elim, cond}
 use Rattle.std.specs.Option.{ok_or}
+use Rattle.std.proofs.lemmas.Bool.Decides.{nat_tests}
+use Rattle.warg_log.specs.declared.proof.InclusionProofError.{InclusionProofError}
 use Rattle.std.specs.Cmp.Lexicographic.{pointwise, bytes_decides}
 use Rattle.std.specs.List.{AllByRecursion}
 use Rattle.std.proofs.lemmas.Bool.{le-leb, ne_eqb, eqb-false, ltb-false, le-ltb, cases_Bool}
@@ -14,7 +16,28 @@ use Rattle.warg_protobuf.specs.Reading.{◌>>=◌}
 use Rattle.warg_log.specs.Consistency.{root_to, agreed_root, new_root_of, consistency, LeadsTo, IsConsistent}
 use Rattle.warg_protobuf.proofs.ForCallers.{all_weaken}
 use Rattle.warg_log.proofs.CutLemmas.{cut_root_own, old_root_own}
-use Rattle.warg_log.proofs.BalancedLemmas.{has_first_over, roots_end}
+use Rattle.warg_log.proofs.BalancedLemmas.{has_first_over}
+use Rattle.warg_log.proofs.OrderLemmas.{roots_end}
+
+-- ---- inclusion
+
+-- an evaluation that is looked at where the node's leaves end in time
+abbrev evaluation : ℕ → ℕ → Option (List ℕ) → Result (List ℕ) InclusionProofError
+evaluation end n cut = if nat_le end n then ok_or cut Inclusion.HashNotKnown else Err Inclusion.LeafTooNew
+
+pub leads : (end n : ℕ) (cut : Option (List ℕ)) (root : List ℕ) → (evaluation end n cut ≡ Ok root) ↔ ((end ≤ n) × (cut ≡ Some root))
+leads end n (Some found) root = (λ is. grind (arith, nat_tests), λ at. grind (arith, nat_tests))
+leads end n None root = (λ is. grind (arith, nat_tests), λ at. grind (arith, nat_tests))
+
+pub too_new : (end n : ℕ) (cut : Option (List ℕ)) → (evaluation end n cut ≡ Err Inclusion.LeafTooNew) ↔ (end ≤ n → ⊥)
+too_new end n (Some found) = (λ is. grind (arith, nat_tests), λ late. grind (arith, nat_tests))
+too_new end n None = (λ is. grind (arith, nat_tests), λ late. grind (arith, nat_tests))
+
+pub unknown : (end n : ℕ) (cut : Option (List ℕ)) → (evaluation end n cut ≡ Err Inclusion.HashNotKnown) ↔ ((end ≤ n) × (cut ≡ None))
+unknown end n (Some found) = (λ is. grind (arith, nat_tests), λ at. grind (arith, nat_tests))
+unknown end n None = (λ is. grind (arith, nat_tests), λ at. grind (arith, nat_tests))
+
+-- ---- consistency
 
 -- an evaluation that is Ok
 held_ok : {A : Type 0} (p : Option A) (fault : ConsistencyProofError) (r : A) → ok_or p fault ≡ Ok r → p ≡ Some r
@@ -31,9 +54,7 @@ passed false fault q r e = (refl, e)
 
 module _ (H : List ℕ → List ℕ) (F : ℕ → Option (List ℕ)) where
   root_ok : (n t : ℕ) (r : List ℕ) → root_to H F n t ≡ Ok r → LeadsTo H F n r t
-  root_ok n t r e =
-      let at = gone_on (ok_or (F t) Consistency.HashNotKnown) (λ x. ok_or (cut_root H F t x n) (Consistency.InclusionError Inclusion.HashNotKnown)) r e in
-      (at.0, held_ok (F t) Consistency.HashNotKnown at.0 at.1, held_ok (cut_root H F t at.0 n) (Consistency.InclusionError Inclusion.HashNotKnown) r at.2)
+  root_ok n t r e = grind (arith, gone_on, held_ok)
 
   agreed_ok : (n : ℕ) (a r : List ℕ) (ts : List ℕ) → agreed_root H F n a ts ≡ Ok r → (a ≡ r) × AllByRecursion (LeadsTo H F n a) ts
   agreed_ok n a r [] e = (cc, tt)
@@ -87,3 +108,42 @@ consistency_own H ds m n some order fits =
     let roots = all_weaken (λ t. end_of t ≤ length ds) (LeadsTo H (own_digest H ds) n (root_of H (take n ds)))
     (λ t exists. (root_of H (leaves_below t ds), rw (le-leb (end_of t) (length ds) exists) refl, cut_root_own H ds t n (root_of H (leaves_below t ds)) refl (omega arith) fits)) (balanced_roots m) (roots_end m (length ds) (omega arith)) in
     consistency-then H (own_digest H ds) m n _ _ (record { some = some; order = order; old_root_is = old_root_own H ds m some (omega arith); new_root_is = roots })
+
+-- ---- faults
+
+-- memory is never refused, and an inclusion proof of a balanced root only lacks a digest
+abbrev pub CanBe : ConsistencyProofError → Type 0
+CanBe Consistency.Memory = ⊥
+CanBe (Consistency.InclusionError e) = e ≡ Inclusion.HashNotKnown
+CanBe e = Unit {0}
+
+abbrev Sound : {X : Type 0} → Result X ConsistencyProofError → Type 0
+Sound (Ok x) = Unit {0}
+Sound (Err e) = CanBe e
+
+sound_held : {X : Type 0} (o : Option X) (e : ConsistencyProofError) → CanBe e → Sound (ok_or o e)
+sound_held (Some x) e can = tt
+sound_held None e can = can
+
+sound_then : {X Y : Type 0} (r : Result X ConsistencyProofError) (f : X → Result Y ConsistencyProofError) → Sound r → ((x : X) → Sound (f x)) → Sound (r >>= f)
+sound_then (Ok x) f sound each = each x
+sound_then (Err e) f sound each = sound
+
+sound_either : {X : Type 0} (b : Bool) (r s : Result X ConsistencyProofError) → Sound r → Sound s → Sound (cond b r s)
+sound_either true r s first second = first
+sound_either false r s first second = second
+
+module _ (H : List ℕ → List ℕ) (F : ℕ → Option (List ℕ)) where
+  sound_to : (n t : ℕ) → Sound (root_to H F n t)
+  sound_to n t = sound_then (ok_or (F t) Consistency.HashNotKnown) _ (sound_held (F t) Consistency.HashNotKnown tt) (λ x. sound_held (cut_root H F t x n) (Consistency.InclusionError Inclusion.HashNotKnown) refl)
+
+  sound_agreed : (n : ℕ) (agreed : List ℕ) (ts : List ℕ) → Sound (agreed_root H F n agreed ts)
+  sound_agreed n agreed [] = tt
+  sound_agreed n agreed (t ∷ ts) = sound_then (root_to H F n t) _ (sound_to n t) (λ r. sound_either (pointwise nat_eq r agreed) (agreed_root H F n agreed ts) (Err Consistency.DivergingRoots) (sound_agreed n agreed ts) tt)
+
+  sound_new : (n : ℕ) (ts : List ℕ) → Sound (new_root_of H F n ts)
+  sound_new n [] = tt
+  sound_new n (t ∷ ts) = sound_then (root_to H F n t) _ (sound_to n t) (λ r. sound_agreed n r ts)
+
+pub new_root_fault : (H : List ℕ → List ℕ) (F : ℕ → Option (List ℕ)) (n : ℕ) (ts : List ℕ) (e : ConsistencyProofError) → new_root_of H F n ts ≡ Err e → CanBe e
+new_root_fault H F n ts e is = subst Sound is (sound_new H F n ts)
