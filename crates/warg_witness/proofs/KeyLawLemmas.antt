@@ -1,8 +1,9 @@
 -- What the laws of keys and absences state.
 use Rattle.std.proofs.Common.{◌≡◌, ℕ, zero, suc, ◌≤◌, Bool, not, List, [], ◌∷◌, ◌++◌, length, Option, Some, None, inl, inr, refl, sym, ◌∙◌, arith}
+use Rattle.std.proofs.lemmas.Grind.{common_steps}
 use Rattle.std.specs.FinMap.{get}
 use Rattle.std.specs.Option.{option_map, IfSome}
-use Rattle.warg_crypto.proofs.ForCallers.{same_or_not, HasSize}
+use Rattle.warg_crypto.proofs.ForCallers.{same_or_not, HasSize, sizes}
 use Rattle.warg_crypto.specs.EmptyTrees.{empty_root}
 use Rattle.warg_map.specs.Bits.{key_bits}
 use Rattle.warg_crypto.specs.Tree.{leaf_digest}
@@ -18,7 +19,6 @@ use Rattle.warg_witness.proofs.CollisionLemmas.{SomeDivergence, shown_collides}
 use Rattle.warg_witness.proofs.PathLemmas.{diverged_on_path}
 use Rattle.warg_witness.proofs.KeyLemmas.{DivergesFromPlain, plain_root_is, key_shown, last_differs, keys_shown}
 use Rattle.warg_map.proofs.ForCallers.{all_bits, last_held, root_at_prefix}
-use Rattle.warg_crypto.proofs.ForCallers.{sizes}
 
 -- What is held has 32 bytes.
 abbrev HaveSize : (List Bool → Option (List ℕ)) → Type 0
@@ -32,10 +32,7 @@ module _ (H : List ℕ → List ℕ) (gives : HasSize H) where
   root_len (suc k) held h = gives _
 
   holds_push : (peers : List (Option (List ℕ))) (digest : List ℕ) → length digest ≡ 32 → HoldsPeers peers → HoldsPeers (peers ++ Some digest ∷ [])
-  holds_push [] digest size holds zero other e = let same : digest ≡ other = cc in rw same at size
-  holds_push [] digest size holds (suc place) other e = absurd (cc)
-  holds_push (peer ∷ peers) digest size holds zero other e = holds 0 other e
-  holds_push (peer ∷ peers) digest size holds (suc place) other e = holds_push peers digest size (λ n. holds (suc n)) place other e
+  holds_push peers digest size holds place other e = grind (arith, common_steps, holds place other)
 
   holds_plain : (held : List Bool → Option (List ℕ)) → HaveSize held → (bits : List Bool) → HoldsPeers (plain_peers H held bits)
   unfolding plain_peers
@@ -49,9 +46,10 @@ module _ (H : List ℕ → List ℕ) (gives : HasSize H) where
       of o = grind (arith, gives)
 
 -- a claim of a key that is met diverges from the plain tree somewhere
-pub diverged_from_plain : (H : List ℕ → List ℕ) (peers : List (Option (List ℕ))) (key value : List ℕ) (insertions : List (List ℕ × List ℕ)) → HasSize H → HoldsPeers peers → IsKeyMet H peers key value insertions
+pub diverged_from_plain : (H : List ℕ → List ℕ) (peers : List (Option (List ℕ))) (key value : List ℕ) (insertions : List (List ℕ × List ℕ)) → GivesHashes H → HoldsPeers peers → IsKeyMet H peers key value insertions
     → (p : SomeDivergence) × DivergesFromPlain H peers key value insertions p
-diverged_from_plain H peers key value insertions gives holds met =
+diverged_from_plain H peers key value insertions digests holds met =
+    let gives = sizes digests in
     diverged_on_path H peers _ _ _ gives holds (holds_plain H gives (get (map_of H insertions)) (held_len H gives insertions) (key_bits H key)) (gives _) (gives _) (key_bits H key) (met ∙ sym (plain_root_is H insertions key))
 
 pub key_collides : (H : List ℕ → List ℕ) (peers : List (Option (List ℕ))) (key value : List ℕ) (insertions : List (List ℕ × List ℕ)) → GivesHashes H → HoldsPeers peers
@@ -59,7 +57,7 @@ pub key_collides : (H : List ℕ → List ℕ) (peers : List (Option (List ℕ))
 key_collides H peers key value insertions digests holds met untrue = elim (same_or_not value (value_in (last_under H (key_bits H key) insertions))) [
   | inl same ↦ of_keys (last_under H (key_bits H key) insertions) refl same
   | inr other ↦
-      let (p, diverges) = diverged_from_plain H peers key value insertions (sizes digests) holds met in
+      let (p, diverges) = diverged_from_plain H peers key value insertions digests holds met in
       shown_collides _ (key_shown H peers key value insertions p _ diverges refl other)
 ]
   where

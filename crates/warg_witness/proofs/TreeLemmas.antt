@@ -87,14 +87,6 @@ unfolding plain_peers
 peers_more H m key prefix depth b old below new far lt bit is beside more =
     rw (more, simp append_assoc at is, simp append_assoc at beside, bits_left-more key depth lt, ← bit, length-last_bits, append_assoc) refl
 
-pub peers_none : (H : List ℕ → List ℕ) (held : List Bool → Option (List ℕ)) (key : List ℕ) (depth : ℕ) (old : List (Option (List ℕ))) → depth ≡ 256 → old ≡ old ++ plain_peers H held (last_bits key (256 - depth))
-unfolding plain_peers
-peers_none H held key depth old whole = rw (bits_left-none key depth whole, append-nil) refl
-
-pub place_more : (H : List ℕ → List ℕ) (insertions : List (List ℕ × List ℕ)) (key : List ℕ) (prefix : List Bool) (depth : ℕ) (b : Bool) (found : Option ℕ) → depth < 256 → b ≡ bit_at key depth
-    → IsLastPlace H insertions ((prefix ++ b ∷ []) ++ last_bits key (256 - (depth + 1))) found → IsLastPlace H insertions (prefix ++ last_bits key (256 - depth)) found
-place_more H insertions key prefix depth b found lt bit last = rw (bits_left-more key depth lt, ← bit) (rw append_assoc at last)
-
 pub length-push_bit : (prefix : List Bool) (b : Bool) {depth : ℕ} → length prefix ≡ depth → length (prefix ++ b ∷ []) ≡ depth + 1
 length-push_bit prefix b size = rw length-append (omega arith)
 

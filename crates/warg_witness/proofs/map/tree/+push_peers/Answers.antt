@@ -1,11 +1,15 @@
-use Rattle.std.proofs.Common.{rules, ◌<◌, not, ◌∙◌, arith}
+use Rattle.std.proofs.Common.{refl, append_assoc, rules, ◌<◌, not, ◌∙◌, arith}
+use Rattle.std.proofs.lemmas.List.{append-nil}
+use Rattle.warg_witness.specs.Private.MapPaths.{plain_peers}
+use Rattle.warg_map.proofs.ForCallers.{bits_left-more, bits_left-none}
 use Rattle.warg_map.specs.Sparse.{pair_bytes}
-use Rattle.warg_witness.proofs.TreeLemmas.{last_place_is, peers_none, peers_more, place_more, length-push_bit, half_under}
+use Rattle.warg_witness.proofs.TreeLemmas.{last_place_is, peers_more, length-push_bit, half_under}
 use Rattle.warg_witness.proofs.map.tree.+push_peers.Goals as goal
 
 pub returns-then-depth-eq256 : goal.returns-then-depth-eq256
+unfolding plain_peers
 returns-then-depth-eq256 g t c prefix size are = (
-  peers_none _ _ _ _ _ c.if-depth-eq256.true,
+  rw (bits_left-none c.args.key.now c.args.depth c.if-depth-eq256.true, append-nil) refl,
   last_place_is _ _ prefix _ are g.met.D.SupportedDigest.is_digest (size ∙ c.if-depth-eq256.true) c.args.key.now c.args.depth _ c.if-depth-eq256.true c.last_place.ensures,
 )
 
@@ -21,5 +25,5 @@ returns g t c prefix size are =
     let below = c.in_ok-last.ensures _ (length-push_bit _ _ size) both.0 in
     let lt : c.args.depth < 256 = omega arith in (
       peers_more _ _ c.args.key.now prefix c.args.depth c.bit.result _ _ _ _ lt c.bit.ensures below.0 (c.plain_root.ensures _ (length-push_bit _ _ size) both.1) c.in_ok-push.ensures.items,
-      place_more _ _ c.args.key.now prefix c.args.depth c.bit.result _ lt c.bit.ensures below.1,
+      rw (bits_left-more c.args.key.now c.args.depth lt, ← c.bit.ensures) (rw append_assoc at below.1),
     )
