@@ -1,8 +1,8 @@
--- What the laws of keys and absences state.
+-- What the laws of keys, absences and agreements state.
 use Rattle.std.proofs.Common.{◌≡◌, ℕ, zero, suc, ◌≤◌, Bool, not, List, [], ◌∷◌, ◌++◌, length, Option, Some, None, inl, inr, refl, sym, ◌∙◌, arith}
 use Rattle.std.proofs.lemmas.Grind.{common_steps}
 use Rattle.std.specs.FinMap.{get}
-use Rattle.std.specs.Option.{option_map, IfSome}
+use Rattle.std.specs.Option.{IfSome}
 use Rattle.warg_crypto.proofs.ForCallers.{same_or_not, HasSize, sizes}
 use Rattle.warg_crypto.specs.EmptyTrees.{empty_root}
 use Rattle.warg_map.specs.Bits.{key_bits}
@@ -12,12 +12,12 @@ use Rattle.warg_map.specs.Peers.{Proves}
 use Rattle.warg_map.specs.Last.{last_under}
 use Rattle.warg_crypto.specs.Collisions.{GivesHashes, SomeCollision}
 use Rattle.warg_witness.specs.Laws.{HoldsPeers}
-use Rattle.warg_witness.specs.MapClaims.{value_in, IsLastValue, IsKeyMet, IsAbsenceMet}
-use Rattle.warg_witness.specs.MapPlaced.{IsKeyPlaced}
+use Rattle.warg_witness.specs.MapClaims.{value_in, IsKeyAgreement, IsLastValue, IsKeyMet, IsAbsenceMet}
+use Rattle.warg_witness.specs.MapPlaced.{IsKeyPlaced, IsKeyAgreementPlaced}
 use Rattle.warg_witness.specs.Private.MapPaths.{plain_peers}
 use Rattle.warg_witness.proofs.CollisionLemmas.{SomeDivergence, shown_collides}
 use Rattle.warg_witness.proofs.PathLemmas.{diverged_on_path}
-use Rattle.warg_witness.proofs.KeyLemmas.{DivergesFromPlain, plain_root_is, key_shown, last_differs, keys_shown}
+use Rattle.warg_witness.proofs.KeyLemmas.{DivergesFromPlain, key_agreement_shown, plain_root_is, key_shown, last_differs, keys_shown}
 use Rattle.warg_map.proofs.ForCallers.{all_bits, last_held, root_at_prefix}
 
 -- What is held has 32 bytes.
@@ -40,10 +40,14 @@ module _ (H : List ℕ → List ℕ) (gives : HasSize H) where
   holds_plain held h (b ∷ bits) = holds_push _ _ (root_len (length bits) (λ q. held (not b ∷ q)) (λ q. h (not b ∷ q))) (holds_plain (λ q. held (b ∷ q)) (λ q. h (b ∷ q)) bits)
 
   held_len : (insertions : List (List ℕ × List ℕ)) → HaveSize (get (map_of H insertions))
-  held_len insertions q = rw last_held (of (last_under H q insertions))
-    where
-      of : (o : Option (List ℕ × List ℕ)) → IfSome (option_map (λ e. leaf_digest H e.1) o) (λ digest. length digest ≡ 32)
-      of o = grind (arith, gives)
+  held_len insertions q = rw last_held (grind (arith, gives))
+
+pub key_agreement_collides : (H : List ℕ → List ℕ) (key : List ℕ) (P : List (Option (List ℕ))) (v : List ℕ) (Q : List (Option (List ℕ))) (u : List ℕ) → GivesHashes H → HoldsPeers P → HoldsPeers Q
+    → IsKeyAgreement H key P v Q u → (v ≡ u → ⊥) → SomeCollision H (IsKeyAgreementPlaced H key P v Q u)
+key_agreement_collides H key P v Q u digests holds holds' met other =
+    let gives = sizes digests in
+    let (p, diverges) = diverged_on_path H P _ Q _ gives holds holds' (gives _) (gives _) (key_bits H key) met in
+    shown_collides _ (key_agreement_shown H key P v Q u p diverges other)
 
 -- a claim of a key that is met diverges from the plain tree somewhere
 pub diverged_from_plain : (H : List ℕ → List ℕ) (peers : List (Option (List ℕ))) (key value : List ℕ) (insertions : List (List ℕ × List ℕ)) → GivesHashes H → HoldsPeers peers → IsKeyMet H peers key value insertions

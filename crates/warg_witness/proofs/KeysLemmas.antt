@@ -26,14 +26,11 @@ bits_from-at bytes i (suc n) (suc k) lt = grind (arith, bits_from-at bytes (i + 
 -- bits after a common prefix
 bits_cmp-prefix : (prefix p q : List Bool) → bits_cmp (prefix ++ p) (prefix ++ q) ≡ bits_cmp p q
 bits_cmp-prefix [] p q = refl
-bits_cmp-prefix (true ∷ prefix) p q = bits_cmp-prefix prefix p q
-bits_cmp-prefix (false ∷ prefix) p q = bits_cmp-prefix prefix p q
+bits_cmp-prefix (b ∷ prefix) p q = grind (arith, bits_cmp-prefix prefix p q)
 
 -- of two bits in order the second is 1 where the first is
 bits_ascend : (b c : Bool) (p q : List Bool) (o : Ordering) → is_lt (ordering_then (bits_cmp (c ∷ q) (b ∷ p)) o) ≡ false → c ≡ false → b ≡ false
-bits_ascend false c p q o e f = refl
-bits_ascend true false p q o e f = e
-bits_ascend true true p q o e f = f
+bits_ascend b c p q o e f = grind arith
 
 module _ (H : List ℕ → List ℕ) (insertions : List (List ℕ × List ℕ)) (prefix : List Bool) (lt : length prefix < 256) where
   -- the first of the bits that are left after a prefix
@@ -61,7 +58,11 @@ module _ (H : List ℕ → List ℕ) (insertions : List (List ℕ × List ℕ)) 
       → ((i : ℕ) → i < length half → entry_at half i ≡ entry_at keys (from + i))
       → ((i : ℕ) → i < length keys → (bit_at (entry_at keys i).0 (length prefix) ≡ b) ↔ ((from ≤ i) × (i < from + length half))) → AreKeysUnder H insertions (prefix ++ b ∷ []) half
   half_are b keys half from within are at has = record {
-    each = λ i less. rw (at i less) (narrowed (entry_at keys (from + i)) (are.each _ (omega arith)) ((has _ (omega arith)).1 (omega arith, omega arith)));
+    each = λ i less.
+        let under = are.each (from + i) (omega arith) in
+        let bits = entry_bits _ under in
+        let is = (has (from + i) (omega arith)).1 (omega arith, omega arith) in
+        rw (at i less) record { within = under.within; digest = under.digest; rest = bits.0; begins = rw append_assoc (rw (rw under.digest at is) at bits.1) };
     all = λ place rest less begins.
         let begins' = begins ∙ append_assoc prefix (b ∷ []) rest in
         let found = are.all place (b ∷ rest) less begins' in
@@ -71,14 +72,6 @@ module _ (H : List ℕ → List ℕ) (insertions : List (List ℕ × List ℕ)) 
         (found.0 - from, omega arith, at _ (omega arith) ∙ rw sum found.2);
     ascending = λ i j le less. rw (at i (omega arith), at j less) (are.ascending (from + i) (from + j) (omega arith) (omega arith));
   }
-    where
-      narrowed : (e : List ℕ × ℕ) → IsKeyUnder H insertions prefix e → bit_at e.0 (length prefix) ≡ b → IsKeyUnder H insertions (prefix ++ b ∷ []) e
-      narrowed e under is = let bits = entry_bits e under in record {
-        within = under.within;
-        digest = under.digest;
-        rest = bits.0;
-        begins = rw append_assoc (rw (rw under.digest at is) at bits.1);
-      }
 
   pub halves_are : (keys : List (List ℕ × ℕ)) (n : ℕ) → n ≤ length keys
       → AreKeysUnder H insertions prefix keys → IsPartitionPoint (λ e. not (bit_at e.0 (length prefix)) ≡ true) (λ e. not (bit_at e.0 (length prefix)) ≡ false) keys n

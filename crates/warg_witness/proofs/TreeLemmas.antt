@@ -1,10 +1,11 @@
 -- The plain sparse tree over sorted keys.
 use Rattle.std.proofs.Common.{◌≡◌, ℕ, suc, ◌+◌, ◌-◌, ◌<◌, Bool, true, false, not, List, [], ◌∷◌, ◌++◌, length, Option, Some, None, MatchOption, get_or, refl, sym, ap, ◌∙◌, arith, append_assoc}
 use Rattle.std.proofs.lemmas.List.{length-append, append-nil, get_or_default}
+use Rattle.std.proofs.lemmas.Grind.{common_steps}
 use Rattle.std.proofs.lemmas.Bool.{false_from_ne_true}
 use Rattle.std.proofs.lemmas.Map.Keys.{ge_from_not_lt}
 use Rattle.std.specs.FinMap.{get}
-use Rattle.warg_crypto.specs.Tree.{branch, leaf_digest}
+use Rattle.warg_crypto.specs.Tree.{branch}
 use Rattle.warg_map.specs.Bits.{bit_at, key_bits, last_bits}
 use Rattle.warg_map.specs.Sparse.{SparseMap, root_of_levels, map_of, pair_bytes}
 use Rattle.warg_map.specs.Last.{same_bits, last_under}
@@ -15,8 +16,7 @@ use Rattle.warg_crypto.specs.Collisions.{GivesHashes}
 
 -- bits that begin with a whole prefix
 whole_prefix : (bits prefix rest : List Bool) → length bits ≡ 256 → length prefix ≡ 256 → bits ≡ prefix ++ rest → bits ≡ prefix
-whole_prefix bits prefix [] all size e = rw append-nil at e
-whole_prefix bits prefix (b ∷ rest) all size e = absurd (omega (arith, ap length e, length-append prefix (b ∷ rest)))
+whole_prefix bits prefix rest all size e = grind (arith, common_steps, ap length e)
 
 module _ (H : List ℕ → List ℕ) (insertions : List (List ℕ × List ℕ)) (prefix : List Bool) (keys : List (List ℕ × ℕ)) (are : AreKeysUnder H insertions prefix keys) where
   none_under : length keys ≡ 0 → (q : List Bool) → last_under H (prefix ++ q) insertions ≡ None
@@ -46,11 +46,6 @@ module _ (H : List ℕ → List ℕ) (insertions : List (List ℕ × List ℕ)) 
               omega (arith, ge_from_not_lt (entry_at keys n).1 j up))),
         )
 
-    -- the leaf of a whole digest
-    leaf_is : (n : ℕ) → length keys ≡ n + 1 → leaf_digest H (get_or insertions (entry_at keys n).1 ([], [])).1 ≡ root_of_levels H 0 (λ q. get (map_of H insertions) (prefix ++ q))
-    unfolding root_of_levels
-    leaf_is n count = rw (append-nil, last_held, (last_is n count).1) refl
-
     -- the place of the last insertion, where the bits are whole
     pub last_place_is : (key : List ℕ) (depth : ℕ) (found : Option ℕ) → depth ≡ 256 → MatchOption found (length keys ≡ 0) (IsPlaceOfLast keys) → IsLastPlace H insertions (prefix ++ last_bits key (256 - depth)) found
     last_place_is key depth None whole none = none_under none _
@@ -63,12 +58,14 @@ module _ {K V : Type 0} (H : List ℕ → List ℕ) (kb : K → List ℕ) (vb : 
       let within = (are.each last.before (omega (arith, last.count))).within in
       omega (arith, last.is, length-pair_bytes kb vb es)
 
+  -- the leaf of a whole digest
   pub leaf_root : GivesHashes H → (depth : ℕ) (e : K × V) (leaf : List ℕ) → depth ≡ 256 → length prefix ≡ depth → e ≡ get_or es place e → leaf ≡ H (0 ∷ vb e.1)
       → leaf ≡ root_of_levels H (256 - depth) (λ q. get (map_of H (pair_bytes kb vb es)) (prefix ++ q))
+  unfolding root_of_levels
   leaf_root digests depth e leaf whole size at is =
       let none : 256 - depth ≡ 0 = omega arith in
       let pair = pair_at kb vb es place e place_within at in
-      rw (none, ← leaf_is H (pair_bytes kb vb es) prefix keys are digests (size ∙ whole) last.before last.count, ← last.is, pair) is
+      rw (none, append-nil, last_held, (last_is H (pair_bytes kb vb es) prefix keys are digests (size ∙ whole) last.before last.count).1, ← last.is, pair) is
 
 -- a branch over both halves
 pub root_branch : (H : List ℕ → List ℕ) (m : SparseMap) (prefix : List Bool) (depth : ℕ) (l r : List ℕ) → depth < 256

@@ -62,7 +62,7 @@ pub fn consistency_or_collision()
 {}
 
 /// Two different values that two proofs of one key lead to one root give a collision.
-#[tactic(auto, using(crate::proofs::KeyAgreementLemmas::key_agreement_collides))]
+#[tactic(auto, using(crate::proofs::KeyLawLemmas::key_agreement_collides))]
 pub fn key_agreement_or_collision()
     ensures { (H : List ℕ → List ℕ) (key : List ℕ) (peers : List (Option (List ℕ))) (value : List ℕ)
         (other_peers : List (Option (List ℕ))) (other : List ℕ) → GivesHashes H → HoldsPeers peers
