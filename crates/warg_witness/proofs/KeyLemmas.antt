@@ -54,6 +54,7 @@ module _ (H : List ℕ → List ℕ) (peers : List (Option (List ℕ))) (key val
   abbrev pub ShowsKey : List ℕ × List ℕ → Type 0
   ShowsKey = Shows H (IsKeyPlaced H peers value key insertions)
 
+  -- a branch at which they diverge stands at one prefix of the key's bits
   pub prefix_placed : (l r : List ℕ) → DivergesOnPath H peers (leaf_digest H value) (plain_peers H (get (map_of H insertions)) (key_bits H key)) (leaf_digest H (value_in (last_under H (key_bits H key) insertions))) (key_bits H key) l r
       → IsPlacedAtPrefix H peers value key insertions l r
   prefix_placed l r is = record {

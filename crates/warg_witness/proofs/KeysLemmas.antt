@@ -36,8 +36,11 @@ module _ (H : List ℕ → List ℕ) (insertions : List (List ℕ × List ℕ)) 
   -- the first of the bits that are left after a prefix
   next_bit : (key : List ℕ) (rest : List Bool) → key_bits H key ≡ prefix ++ rest → (below : List Bool) × (rest ≡ bit_at (H key) (length prefix) ∷ below)
   next_bit key [] e = absurd (omega (arith, all_bits H key, ap length e, length-append prefix []))
-  next_bit key (b ∷ below) e = (below, ap (λ c. c ∷ below) (sym (get_or-append_seam prefix b below false) ∙ rw e at (bits_from-at (H key) 0 256 (length prefix) lt) ∙ ap (bit_at (H key)) (omega arith)))
+  next_bit key (b ∷ below) e =
+      let bit = rw (e, get_or-append_seam) at (bits_from-at (H key) 0 256 (length prefix) lt) in
+      (below, grind (arith, bit))
 
+  -- the bits of a key under the prefix
   entry_bits : (e : List ℕ × ℕ) → IsKeyUnder H insertions prefix e → (below : List Bool) × (key_bits H (key_at insertions e.1) ≡ prefix ++ bit_at (H (key_at insertions e.1)) (length prefix) ∷ below)
   entry_bits e under = let next = next_bit _ under.rest under.begins in (next.0, rw (← next.1) under.begins)
 

@@ -19,6 +19,7 @@ whole_prefix : (bits prefix rest : List Bool) → length bits ≡ 256 → length
 whole_prefix bits prefix rest all size e = grind (arith, common_steps, ap length e)
 
 module _ (H : List ℕ → List ℕ) (insertions : List (List ℕ × List ℕ)) (prefix : List Bool) (keys : List (List ℕ × ℕ)) (are : AreKeysUnder H insertions prefix keys) where
+  -- where there are no keys, nothing is inserted under the prefix
   none_under : length keys ≡ 0 → (q : List Bool) → last_under H (prefix ++ q) insertions ≡ None
   none_under none q =
       last_with-none (λ e. same_bits (prefix ++ q) (key_bits H e.0)) insertions ([], [])
@@ -53,6 +54,7 @@ module _ (H : List ℕ → List ℕ) (insertions : List (List ℕ × List ℕ)) 
 
 module _ {K V : Type 0} (H : List ℕ → List ℕ) (kb : K → List ℕ) (vb : V → List ℕ) (es : List (K × V)) (prefix : List Bool) (keys : List (List ℕ × ℕ)) (place : ℕ)
     (are : AreKeysUnder H (pair_bytes kb vb es) prefix keys) (last : IsPlaceOfLast keys place) where
+  -- the last key's place is one of an insertion
   pub place_within : place < length es
   place_within =
       let within = (are.each last.before (omega (arith, last.count))).within in
