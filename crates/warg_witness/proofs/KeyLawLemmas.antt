@@ -12,7 +12,7 @@ use Rattle.warg_map.specs.Peers.{Proves}
 use Rattle.warg_map.specs.Last.{last_under}
 use Rattle.warg_crypto.specs.Collisions.{GivesHashes, SomeCollision}
 use Rattle.warg_witness.specs.Laws.{HoldsPeers}
-use Rattle.warg_witness.specs.MapClaims.{value_in, IsKeyAgreement, IsLastValue, IsKeyMet, IsAbsenceMet}
+use Rattle.warg_witness.specs.MapClaims.{value_in, IsKeyAgreement, IsLastValue, IsKeyMet}
 use Rattle.warg_witness.specs.MapPlaced.{IsKeyPlaced, IsKeyAgreementPlaced}
 use Rattle.warg_witness.specs.Private.MapPaths.{plain_peers}
 use Rattle.warg_witness.proofs.CollisionLemmas.{SomeDivergence, shown_collides}
@@ -68,11 +68,6 @@ key_collides H peers key value insertions digests holds met untrue = elim (same_
     of_keys : (o : Option (List ℕ × List ℕ)) → last_under H (key_bits H key) insertions ≡ o → value ≡ value_in o → SomeCollision H (IsKeyPlaced H peers value key insertions)
     of_keys None last same = absurd (last_differs H peers key value insertions untrue None last tt same)
     of_keys (Some e) last same = shown_collides _ (keys_shown H peers key value insertions untrue e digests last same)
-
-pub absence_collides : (H : List ℕ → List ℕ) (peers : List (Option (List ℕ))) (key : List ℕ) (insertions : List (List ℕ × List ℕ)) → GivesHashes H → HoldsPeers peers
-    → IsAbsenceMet H peers key insertions → (IsLastValue key [] insertions → ⊥) → SomeCollision H (IsKeyPlaced H peers [] key insertions)
-unfolding empty_root
-absence_collides H peers key insertions digests holds met untrue = key_collides H peers key [] insertions digests holds met untrue
 
 -- a map's own proof of a key meets the key's claim
 pub own_met : (H : List ℕ → List ℕ) (insertions : List (List ℕ × List ℕ)) (key value : List ℕ) (peers : List (Option (List ℕ)))

@@ -1,5 +1,5 @@
 -- What the laws of updates state.
-use Rattle.std.proofs.Common.{◌≡◌, ℕ, ◌≤◌, List, [], ◌∷◌, ◌++◌, length, Option, Some, ◌⊎◌, inl, inr, refl, sym, ◌∙◌, append_assoc}
+use Rattle.std.proofs.Common.{◌≡◌, ℕ, List, [], ◌∷◌, ◌++◌, Option, ◌⊎◌, inl, inr, refl, sym, ◌∙◌, append_assoc}
 use Rattle.std.proofs.lemmas.List.{append-nil, map-append}
 use Rattle.std.specs.List.{AllByRecursion}
 use Rattle.std.specs.FinMap.{insert, empty}
@@ -8,18 +8,15 @@ use Rattle.warg_crypto.proofs.ForCallers.{same_or_not}
 use Rattle.warg_map.specs.Bits.{key_bits}
 use Rattle.warg_crypto.specs.Tree.{leaf_digest}
 use Rattle.warg_map.specs.Sparse.{SparseMap, sparse_root, inserted, map_of}
-use Rattle.warg_map.specs.Last.{last_under}
-use Rattle.warg_map.specs.Peers.{Proves, ProvesAbsent}
 use Rattle.warg_map.specs.ProofValue.{proof_value}
 use Rattle.warg_witness.specs.Laws.{HoldsPeers}
-use Rattle.warg_witness.specs.MapClaims.{IsKeyMet, IsAbsenceMet}
+use Rattle.warg_witness.specs.MapClaims.{IsKeyMet}
 use Rattle.warg_witness.specs.MapPlaced.{IsPlacedAtPrefix}
 use Rattle.warg_witness.specs.UpdateClaims.{IsUpdated, Step, insertions_of, LeadThrough, CollidesAtStep}
 use Rattle.warg_witness.proofs.CollisionLemmas.{shown_collides}
 use Rattle.warg_witness.proofs.KeyLemmas.{path_shown, prefix_placed}
-use Rattle.warg_witness.proofs.KeyLawLemmas.{diverged_from_plain, own_met}
+use Rattle.warg_witness.proofs.KeyLawLemmas.{diverged_from_plain}
 use Rattle.warg_witness.proofs.UpdateLemmas.{grown_root_is}
-use Rattle.warg_map.proofs.ForCallers.{all_bits, replaced_root, absent_replaced_root, absent_root}
 
 -- a claim that is met and isn't true
 pub update_collides : (H : List ℕ → List ℕ) (peers : List (Option (List ℕ))) (key old new : List ℕ) (insertions : List (List ℕ × List ℕ)) → GivesHashes H → HoldsPeers peers
@@ -29,26 +26,10 @@ update_collides H peers key old new insertions digests holds met untrue =
     shown_collides _ (path_shown p [] [] (prefix_placed H peers key old insertions) (λ _ nowhere. absurd (untrue (nowhere.beside (leaf_digest H new) ∙ grown_root_is H insertions key new))) diverges)
 
 -- one insertion more
-inserted_push : (H : List ℕ → List ℕ) (m : SparseMap) (es : List (List ℕ × List ℕ)) (key value : List ℕ) → inserted H m (es ++ (key, value) ∷ []) ≡ insert (inserted H m es) (key_bits H key) (leaf_digest H value)
+pub inserted_push : (H : List ℕ → List ℕ) (m : SparseMap) (es : List (List ℕ × List ℕ)) (key value : List ℕ) → inserted H m (es ++ (key, value) ∷ []) ≡ insert (inserted H m es) (key_bits H key) (leaf_digest H value)
 unfolding inserted
 inserted_push H m [] key value = refl
 inserted_push H m (e ∷ es) key value = inserted_push H (insert m (key_bits H e.0) (leaf_digest H e.1)) es key value
-
--- a map's own proofs
-pub own_updates : (H : List ℕ → List ℕ) (insertions : List (List ℕ × List ℕ)) (key old new : List ℕ) (peers : List (Option (List ℕ)))
-    → last_under H (key_bits H key) insertions ≡ Some (key, old) → length peers ≤ 256 → Proves H 256 (map_of H insertions) (key_bits H key) peers
-    → IsKeyMet H peers key old insertions × IsUpdated H peers key new insertions
-own_updates H insertions key old new peers last few proves = (
-  own_met H insertions key old peers last few proves,
-  rw inserted_push (replaced_root H (map_of H insertions) (key_bits H key) peers (leaf_digest H new) (all_bits H key) few proves),
-)
-
-pub own_insertions : (H : List ℕ → List ℕ) (insertions : List (List ℕ × List ℕ)) (key value : List ℕ) (peers : List (Option (List ℕ))) → length peers ≤ 256
-    → ProvesAbsent H (map_of H insertions) (key_bits H key) peers → IsAbsenceMet H peers key insertions × IsUpdated H peers key value insertions
-own_insertions H insertions key value peers few proves = (
-  absent_root H (map_of H insertions) (key_bits H key) peers (all_bits H key) few proves,
-  rw inserted_push (absent_replaced_root H (map_of H insertions) (key_bits H key) peers (leaf_digest H value) (all_bits H key) few proves),
-)
 
 -- a list of steps, behind others that led to the plain root
 steps_lead : (H : List ℕ → List ℕ) → GivesHashes H → (before steps : List Step) (root end : List ℕ) → AllByRecursion (λ (s : Step). HoldsPeers s.peers) steps

@@ -81,7 +81,7 @@ pub fn key_or_collision()
 {}
 
 /// An absence's claim that is met and isn't true gives a collision.
-#[tactic(auto, using(crate::proofs::KeyLawLemmas::absence_collides))]
+#[tactic(auto, using(crate::proofs::KeyLawLemmas::key_collides), unfolding(warg_crypto::specs::EmptyTrees::empty_root))]
 pub fn absence_or_collision()
     ensures { (H : List ℕ → List ℕ) (peers : List (Option (List ℕ))) (key : List ℕ)
         (insertions : List (List ℕ × List ℕ)) → GivesHashes H → HoldsPeers peers
