@@ -1,5 +1,5 @@
 -- What the laws of keys, absences and agreements state.
-use Rattle.std.proofs.Common.{◌≡◌, ℕ, zero, suc, ◌≤◌, Bool, not, List, [], ◌∷◌, ◌++◌, length, Option, Some, None, inl, inr, refl, sym, ◌∙◌, arith}
+use Rattle.std.proofs.Common.{◌≡◌, ℕ, zero, suc, ◌≤◌, Bool, not, List, [], ◌∷◌, length, Option, Some, None, inl, inr, refl, sym, ◌∙◌, arith}
 use Rattle.std.proofs.lemmas.Grind.{common_steps}
 use Rattle.std.specs.FinMap.{get}
 use Rattle.std.specs.Option.{IfSome}
@@ -31,17 +31,17 @@ module _ (H : List ℕ → List ℕ) (gives : HasSize H) where
   root_len zero held h = grind (arith, h [])
   root_len (suc k) held h = gives _
 
-  holds_push : (peers : List (Option (List ℕ))) (digest : List ℕ) → length digest ≡ 32 → HoldsPeers peers → HoldsPeers (peers ++ Some digest ∷ [])
-  holds_push peers digest size holds place other e = grind (arith, common_steps, holds place other)
-
+  -- so have the plain peers
   holds_plain : (held : List Bool → Option (List ℕ)) → HaveSize held → (bits : List Bool) → HoldsPeers (plain_peers H held bits)
   unfolding plain_peers
-  holds_plain held h [] = λ place digest e. absurd (cc)
-  holds_plain held h (b ∷ bits) = holds_push _ _ (root_len (length bits) (λ q. held (not b ∷ q)) (λ q. h (not b ∷ q))) (holds_plain (λ q. held (b ∷ q)) (λ q. h (b ∷ q)) bits)
+  holds_plain held h [] place other e = absurd (cc)
+  holds_plain held h (b ∷ bits) place other e =
+      grind (arith, common_steps, root_len (length bits) (λ q. held (not b ∷ q)) (λ q. h (not b ∷ q)), holds_plain (λ q. held (b ∷ q)) (λ q. h (b ∷ q)) bits place other)
 
   held_len : (insertions : List (List ℕ × List ℕ)) → HaveSize (get (map_of H insertions))
   held_len insertions q = rw last_held (grind (arith, gives))
 
+-- an agreement of two values, and a claim of a key, that are met and aren't true
 pub key_agreement_collides : (H : List ℕ → List ℕ) (key : List ℕ) (P : List (Option (List ℕ))) (v : List ℕ) (Q : List (Option (List ℕ))) (u : List ℕ) → GivesHashes H → HoldsPeers P → HoldsPeers Q
     → IsKeyAgreement H key P v Q u → (v ≡ u → ⊥) → SomeCollision H (IsKeyAgreementPlaced H key P v Q u)
 key_agreement_collides H key P v Q u digests holds holds' met other =

@@ -94,10 +94,7 @@ pub record AreListed (H : List ℕ → List ℕ) (insertions : List (List ℕ ×
 entry_total : IsTotalOrder entry_cmp
 entry_total = then_total (on_total (λ (e : List ℕ × ℕ). e.0) nat_list_cmp_total) (on_total (λ (e : List ℕ × ℕ). e.1) nat_cmp_total)
 
--- the order of hashes ends in that of their marker
-then_equal : (a : Ordering) → ordering_then a Equal ≡ a
-then_equal a = grind arith
-
+-- the keys once they are sorted
 pub sorted_are : (H : List ℕ → List ℕ) (insertions : List (List ℕ × List ℕ)) (keys sorted : List (List ℕ × ℕ)) → AreListed H insertions keys (length insertions) → IsPermutation keys sorted
     → IsSorted (λ e f. ordering_then (ordering_then (slice_cmp nat_cmp e.0 f.0) Equal) (nat_cmp e.1 f.1)) sorted → AreKeysUnder H insertions [] sorted
 sorted_are H insertions keys sorted are moved up = record {
@@ -106,5 +103,5 @@ sorted_are H insertions keys sorted are moved up = record {
   all = λ place rest less begins.
       let there = Contains-permutation keys sorted (H (key_at insertions place), place) moved (place, omega arith, get_or_default keys place _ ([], 0) (omega arith) ∙ are.each place less) in
       (there.0, there.1, get_or_default sorted there.0 ([], 0) _ there.1 ∙ there.2);
-  ascending = λ i j le less. sorted_far (λ x y. is_lt (entry_cmp x y)) (ranks_by entry_total (λ x. x)) sorted (λ k d low less. rw then_equal at (up k d low less)) i j ([], 0) le less;
+  ascending = λ i j le less. sorted_far (λ x y. is_lt (entry_cmp x y)) (ranks_by entry_total (λ x. x)) sorted (λ k d low less. grind (arith, up k d low less)) i j ([], 0) le less;
 }
