@@ -1,8 +1,9 @@
--- What the laws of keys and absences state.
-use Rattle.std.proofs.Common.{◌≡◌, ℕ, zero, suc, ◌≤◌, Bool, not, List, [], ◌∷◌, ◌++◌, length, Option, Some, None, inl, inr, refl, sym, ◌∙◌, arith}
+-- What the laws of keys, absences and agreements state.
+use Rattle.std.proofs.Common.{◌≡◌, ℕ, zero, suc, ◌≤◌, Bool, not, List, [], ◌∷◌, length, Option, Some, None, inl, inr, refl, sym, ◌∙◌, arith}
+use Rattle.std.proofs.lemmas.Grind.{common_steps}
 use Rattle.std.specs.FinMap.{get}
-use Rattle.std.specs.Option.{option_map, IfSome}
-use Rattle.warg_crypto.proofs.ForCallers.{same_or_not, HasSize}
+use Rattle.std.specs.Option.{IfSome}
+use Rattle.warg_crypto.proofs.ForCallers.{same_or_not, HasSize, sizes}
 use Rattle.warg_crypto.specs.EmptyTrees.{empty_root}
 use Rattle.warg_map.specs.Bits.{key_bits}
 use Rattle.warg_crypto.specs.Tree.{leaf_digest}
@@ -11,14 +12,13 @@ use Rattle.warg_map.specs.Peers.{Proves}
 use Rattle.warg_map.specs.Last.{last_under}
 use Rattle.warg_crypto.specs.Collisions.{GivesHashes, SomeCollision}
 use Rattle.warg_witness.specs.Laws.{HoldsPeers}
-use Rattle.warg_witness.specs.MapClaims.{value_in, IsLastValue, IsKeyMet, IsAbsenceMet}
-use Rattle.warg_witness.specs.MapPlaced.{IsKeyPlaced}
+use Rattle.warg_witness.specs.MapClaims.{value_in, IsKeyAgreement, IsLastValue, IsKeyMet}
+use Rattle.warg_witness.specs.MapPlaced.{IsKeyPlaced, IsKeyAgreementPlaced}
 use Rattle.warg_witness.specs.Private.MapPaths.{plain_peers}
 use Rattle.warg_witness.proofs.CollisionLemmas.{SomeDivergence, shown_collides}
 use Rattle.warg_witness.proofs.PathLemmas.{diverged_on_path}
-use Rattle.warg_witness.proofs.KeyLemmas.{DivergesFromPlain, plain_root_is, key_shown, last_differs, keys_shown}
+use Rattle.warg_witness.proofs.KeyLemmas.{DivergesFromPlain, key_agreement_shown, plain_root_is, key_shown, last_differs, keys_shown}
 use Rattle.warg_map.proofs.ForCallers.{all_bits, last_held, root_at_prefix}
-use Rattle.warg_crypto.proofs.ForCallers.{sizes}
 
 -- What is held has 32 bytes.
 abbrev HaveSize : (List Bool → Option (List ℕ)) → Type 0
@@ -31,27 +31,29 @@ module _ (H : List ℕ → List ℕ) (gives : HasSize H) where
   root_len zero held h = grind (arith, h [])
   root_len (suc k) held h = gives _
 
-  holds_push : (peers : List (Option (List ℕ))) (digest : List ℕ) → length digest ≡ 32 → HoldsPeers peers → HoldsPeers (peers ++ Some digest ∷ [])
-  holds_push [] digest size holds zero other e = let same : digest ≡ other = cc in rw same at size
-  holds_push [] digest size holds (suc place) other e = absurd (cc)
-  holds_push (peer ∷ peers) digest size holds zero other e = holds 0 other e
-  holds_push (peer ∷ peers) digest size holds (suc place) other e = holds_push peers digest size (λ n. holds (suc n)) place other e
-
+  -- so have the plain peers
   holds_plain : (held : List Bool → Option (List ℕ)) → HaveSize held → (bits : List Bool) → HoldsPeers (plain_peers H held bits)
   unfolding plain_peers
-  holds_plain held h [] = λ place digest e. absurd (cc)
-  holds_plain held h (b ∷ bits) = holds_push _ _ (root_len (length bits) (λ q. held (not b ∷ q)) (λ q. h (not b ∷ q))) (holds_plain (λ q. held (b ∷ q)) (λ q. h (b ∷ q)) bits)
+  holds_plain held h [] place other e = absurd (cc)
+  holds_plain held h (b ∷ bits) place other e =
+      grind (arith, common_steps, root_len (length bits) (λ q. held (not b ∷ q)) (λ q. h (not b ∷ q)), holds_plain (λ q. held (b ∷ q)) (λ q. h (b ∷ q)) bits place other)
 
   held_len : (insertions : List (List ℕ × List ℕ)) → HaveSize (get (map_of H insertions))
-  held_len insertions q = rw last_held (of (last_under H q insertions))
-    where
-      of : (o : Option (List ℕ × List ℕ)) → IfSome (option_map (λ e. leaf_digest H e.1) o) (λ digest. length digest ≡ 32)
-      of o = grind (arith, gives)
+  held_len insertions q = rw last_held (grind (arith, gives))
+
+-- an agreement of two values, and a claim of a key, that are met and aren't true
+pub key_agreement_collides : (H : List ℕ → List ℕ) (key : List ℕ) (P : List (Option (List ℕ))) (v : List ℕ) (Q : List (Option (List ℕ))) (u : List ℕ) → GivesHashes H → HoldsPeers P → HoldsPeers Q
+    → IsKeyAgreement H key P v Q u → (v ≡ u → ⊥) → SomeCollision H (IsKeyAgreementPlaced H key P v Q u)
+key_agreement_collides H key P v Q u digests holds holds' met other =
+    let gives = sizes digests in
+    let (p, diverges) = diverged_on_path H P _ Q _ gives holds holds' (gives _) (gives _) (key_bits H key) met in
+    shown_collides _ (key_agreement_shown H key P v Q u p diverges other)
 
 -- a claim of a key that is met diverges from the plain tree somewhere
-pub diverged_from_plain : (H : List ℕ → List ℕ) (peers : List (Option (List ℕ))) (key value : List ℕ) (insertions : List (List ℕ × List ℕ)) → HasSize H → HoldsPeers peers → IsKeyMet H peers key value insertions
+pub diverged_from_plain : (H : List ℕ → List ℕ) (peers : List (Option (List ℕ))) (key value : List ℕ) (insertions : List (List ℕ × List ℕ)) → GivesHashes H → HoldsPeers peers → IsKeyMet H peers key value insertions
     → (p : SomeDivergence) × DivergesFromPlain H peers key value insertions p
-diverged_from_plain H peers key value insertions gives holds met =
+diverged_from_plain H peers key value insertions digests holds met =
+    let gives = sizes digests in
     diverged_on_path H peers _ _ _ gives holds (holds_plain H gives (get (map_of H insertions)) (held_len H gives insertions) (key_bits H key)) (gives _) (gives _) (key_bits H key) (met ∙ sym (plain_root_is H insertions key))
 
 pub key_collides : (H : List ℕ → List ℕ) (peers : List (Option (List ℕ))) (key value : List ℕ) (insertions : List (List ℕ × List ℕ)) → GivesHashes H → HoldsPeers peers
@@ -59,18 +61,13 @@ pub key_collides : (H : List ℕ → List ℕ) (peers : List (Option (List ℕ))
 key_collides H peers key value insertions digests holds met untrue = elim (same_or_not value (value_in (last_under H (key_bits H key) insertions))) [
   | inl same ↦ of_keys (last_under H (key_bits H key) insertions) refl same
   | inr other ↦
-      let (p, diverges) = diverged_from_plain H peers key value insertions (sizes digests) holds met in
+      let (p, diverges) = diverged_from_plain H peers key value insertions digests holds met in
       shown_collides _ (key_shown H peers key value insertions p _ diverges refl other)
 ]
   where
     of_keys : (o : Option (List ℕ × List ℕ)) → last_under H (key_bits H key) insertions ≡ o → value ≡ value_in o → SomeCollision H (IsKeyPlaced H peers value key insertions)
     of_keys None last same = absurd (last_differs H peers key value insertions untrue None last tt same)
     of_keys (Some e) last same = shown_collides _ (keys_shown H peers key value insertions untrue e digests last same)
-
-pub absence_collides : (H : List ℕ → List ℕ) (peers : List (Option (List ℕ))) (key : List ℕ) (insertions : List (List ℕ × List ℕ)) → GivesHashes H → HoldsPeers peers
-    → IsAbsenceMet H peers key insertions → (IsLastValue key [] insertions → ⊥) → SomeCollision H (IsKeyPlaced H peers [] key insertions)
-unfolding empty_root
-absence_collides H peers key insertions digests holds met untrue = key_collides H peers key [] insertions digests holds met untrue
 
 -- a map's own proof of a key meets the key's claim
 pub own_met : (H : List ℕ → List ℕ) (insertions : List (List ℕ × List ℕ)) (key value : List ℕ) (peers : List (Option (List ℕ)))

@@ -1,4 +1,4 @@
--- What a false claim of a key shows.
+-- What a false claim or an agreement of a key shows.
 use Rattle.std.proofs.Common.{◌≡◌, ℕ, Bool, List, [], ◌∷◌, Option, Some, None, IfOk, get_or, inl, inr, refl, sym, ap, ◌∙◌, arith}
 use Rattle.std.proofs.lemmas.List.{append-nil, length-map, get_or-map}
 use Rattle.std.specs.Option.{IfSome}
@@ -11,7 +11,7 @@ use Rattle.warg_map.specs.Sparse.{sparse_root, map_of, pair_bytes}
 use Rattle.warg_map.specs.Last.{same_bits, last_under}
 use Rattle.warg_map.specs.ProofValue.{proof_value}
 use Rattle.warg_witness.specs.MapClaims.{value_in, IsLastValue}
-use Rattle.warg_witness.specs.MapPlaced.{IsPlacedAtPrefix, IsKeyPlaced}
+use Rattle.warg_witness.specs.MapPlaced.{IsPlacedAtPrefix, IsKeyPlaced, IsKeyAgreementPlaced}
 use Rattle.warg_witness.specs.Private.MapPaths.{DivergesOnPath, DivergesNowhere, IsPathDivergence, plain_peers}
 use Rattle.warg_witness.specs.Private.MapMeeting.{IsKeyMeeting}
 use Rattle.warg_crypto.specs.Collisions.{GivesHashes}
@@ -30,6 +30,13 @@ pub path_shown : {D : Type 0} {H : List ℕ → List ℕ} {P : List (Option (Lis
 path_shown Target first second place meets is = meets refl is
 path_shown (Branch l r l' r') first second place meets is = (record { differ = is.differ; same = is.same }, place _ _ is)
 
+-- so do two proofs of a key with other values
+pub key_agreement_shown : {D : Type 0} (H : List ℕ → List ℕ) (key : List ℕ) (P : List (Option (List ℕ))) (v : List ℕ) (Q : List (Option (List ℕ))) (u : List ℕ) (p : Divergence D)
+    → IsPathDivergence H P (H (0 ∷ v)) Q (H (0 ∷ u)) (key_bits H key) p → (v ≡ u → ⊥) → Shows H (IsKeyAgreementPlaced H key P v Q u) (inputs_of p (0 ∷ v) (0 ∷ u))
+key_agreement_shown H key P v Q u p diverges other = path_shown {Place = IsKeyAgreementPlaced H key P v Q u} p _ _
+    (λ l r is. record { prefix = is.above; rest = is.bit ∷ is.below; bits = is.split; first_evaluation = is.first_input; second_evaluation = is.second_input })
+    (λ _ is. (record { differ = λ e. other (cc); same = is.same }, record { prefix = key_bits H key; rest = []; bits = sym (append-nil (key_bits H key)); first_evaluation = refl; second_evaluation = refl })) diverges
+
 -- the plain peers of a key lead to the plain root
 pub plain_root_is : (H : List ℕ → List ℕ) (insertions : List (List ℕ × List ℕ)) (key : List ℕ)
     → proof_value H (plain_peers H (get (map_of H insertions)) (key_bits H key)) (leaf_digest H (value_in (last_under H (key_bits H key) insertions))) (key_bits H key) ≡ sparse_root H 256 (map_of H insertions)
@@ -47,6 +54,7 @@ module _ (H : List ℕ → List ℕ) (peers : List (Option (List ℕ))) (key val
   abbrev pub ShowsKey : List ℕ × List ℕ → Type 0
   ShowsKey = Shows H (IsKeyPlaced H peers value key insertions)
 
+  -- a branch at which they diverge stands at one prefix of the key's bits
   pub prefix_placed : (l r : List ℕ) → DivergesOnPath H peers (leaf_digest H value) (plain_peers H (get (map_of H insertions)) (key_bits H key)) (leaf_digest H (value_in (last_under H (key_bits H key) insertions))) (key_bits H key) l r
       → IsPlacedAtPrefix H peers value key insertions l r
   prefix_placed l r is = record {

@@ -1,5 +1,5 @@
 -- The inserted keys in the order of their digests.
-use Rattle.std.proofs.Common.{◌≡◌, ℕ, zero, suc, ◌+◌, ◌-◌, ◌<◌, ◌≤◌, Bool, true, false, not, List, [], ◌∷◌, ◌++◌, length, take, drop, get_or, refl, sym, ap, ◌∙◌, ◌↔◌, arith, append_assoc}
+use Rattle.std.proofs.Common.{◌≡◌, ℕ, zero, suc, ◌+◌, ◌-◌, ◌<◌, ◌≤◌, Bool, true, false, not, List, [], ◌∷◌, ◌++◌, length, take, drop, get_or, refl, ap, ◌∙◌, ◌↔◌, arith, append_assoc}
 use Rattle.std.proofs.lemmas.List.{get_or-take, get_or-drop, get_or_default, length-take-le, length-drop, length-append}
 use Rattle.std.proofs.lemmas.Bool.{not-true, not_from_false}
 use Rattle.std.proofs.Math.Seq.{get_or-append_seam}
@@ -26,21 +26,21 @@ bits_from-at bytes i (suc n) (suc k) lt = grind (arith, bits_from-at bytes (i + 
 -- bits after a common prefix
 bits_cmp-prefix : (prefix p q : List Bool) → bits_cmp (prefix ++ p) (prefix ++ q) ≡ bits_cmp p q
 bits_cmp-prefix [] p q = refl
-bits_cmp-prefix (true ∷ prefix) p q = bits_cmp-prefix prefix p q
-bits_cmp-prefix (false ∷ prefix) p q = bits_cmp-prefix prefix p q
+bits_cmp-prefix (b ∷ prefix) p q = grind (arith, bits_cmp-prefix prefix p q)
 
 -- of two bits in order the second is 1 where the first is
 bits_ascend : (b c : Bool) (p q : List Bool) (o : Ordering) → is_lt (ordering_then (bits_cmp (c ∷ q) (b ∷ p)) o) ≡ false → c ≡ false → b ≡ false
-bits_ascend false c p q o e f = refl
-bits_ascend true false p q o e f = e
-bits_ascend true true p q o e f = f
+bits_ascend b c p q o e f = grind arith
 
 module _ (H : List ℕ → List ℕ) (insertions : List (List ℕ × List ℕ)) (prefix : List Bool) (lt : length prefix < 256) where
   -- the first of the bits that are left after a prefix
   next_bit : (key : List ℕ) (rest : List Bool) → key_bits H key ≡ prefix ++ rest → (below : List Bool) × (rest ≡ bit_at (H key) (length prefix) ∷ below)
   next_bit key [] e = absurd (omega (arith, all_bits H key, ap length e, length-append prefix []))
-  next_bit key (b ∷ below) e = (below, ap (λ c. c ∷ below) (sym (get_or-append_seam prefix b below false) ∙ rw e at (bits_from-at (H key) 0 256 (length prefix) lt) ∙ ap (bit_at (H key)) (omega arith)))
+  next_bit key (b ∷ below) e =
+      let bit = rw (e, get_or-append_seam) at (bits_from-at (H key) 0 256 (length prefix) lt) in
+      (below, grind (arith, bit))
 
+  -- the bits of a key under the prefix
   entry_bits : (e : List ℕ × ℕ) → IsKeyUnder H insertions prefix e → (below : List Bool) × (key_bits H (key_at insertions e.1) ≡ prefix ++ bit_at (H (key_at insertions e.1)) (length prefix) ∷ below)
   entry_bits e under = let next = next_bit _ under.rest under.begins in (next.0, rw (← next.1) under.begins)
 
@@ -61,7 +61,11 @@ module _ (H : List ℕ → List ℕ) (insertions : List (List ℕ × List ℕ)) 
       → ((i : ℕ) → i < length half → entry_at half i ≡ entry_at keys (from + i))
       → ((i : ℕ) → i < length keys → (bit_at (entry_at keys i).0 (length prefix) ≡ b) ↔ ((from ≤ i) × (i < from + length half))) → AreKeysUnder H insertions (prefix ++ b ∷ []) half
   half_are b keys half from within are at has = record {
-    each = λ i less. rw (at i less) (narrowed (entry_at keys (from + i)) (are.each _ (omega arith)) ((has _ (omega arith)).1 (omega arith, omega arith)));
+    each = λ i less.
+        let under = are.each (from + i) (omega arith) in
+        let bits = entry_bits _ under in
+        let is = (has (from + i) (omega arith)).1 (omega arith, omega arith) in
+        rw (at i less) record { within = under.within; digest = under.digest; rest = bits.0; begins = rw append_assoc (rw (rw under.digest at is) at bits.1) };
     all = λ place rest less begins.
         let begins' = begins ∙ append_assoc prefix (b ∷ []) rest in
         let found = are.all place (b ∷ rest) less begins' in
@@ -71,14 +75,6 @@ module _ (H : List ℕ → List ℕ) (insertions : List (List ℕ × List ℕ)) 
         (found.0 - from, omega arith, at _ (omega arith) ∙ rw sum found.2);
     ascending = λ i j le less. rw (at i (omega arith), at j less) (are.ascending (from + i) (from + j) (omega arith) (omega arith));
   }
-    where
-      narrowed : (e : List ℕ × ℕ) → IsKeyUnder H insertions prefix e → bit_at e.0 (length prefix) ≡ b → IsKeyUnder H insertions (prefix ++ b ∷ []) e
-      narrowed e under is = let bits = entry_bits e under in record {
-        within = under.within;
-        digest = under.digest;
-        rest = bits.0;
-        begins = rw append_assoc (rw (rw under.digest at is) at bits.1);
-      }
 
   pub halves_are : (keys : List (List ℕ × ℕ)) (n : ℕ) → n ≤ length keys
       → AreKeysUnder H insertions prefix keys → IsPartitionPoint (λ e. not (bit_at e.0 (length prefix)) ≡ true) (λ e. not (bit_at e.0 (length prefix)) ≡ false) keys n
@@ -98,10 +94,7 @@ pub record AreListed (H : List ℕ → List ℕ) (insertions : List (List ℕ ×
 entry_total : IsTotalOrder entry_cmp
 entry_total = then_total (on_total (λ (e : List ℕ × ℕ). e.0) nat_list_cmp_total) (on_total (λ (e : List ℕ × ℕ). e.1) nat_cmp_total)
 
--- the order of hashes ends in that of their marker
-then_equal : (a : Ordering) → ordering_then a Equal ≡ a
-then_equal a = grind arith
-
+-- the keys once they are sorted
 pub sorted_are : (H : List ℕ → List ℕ) (insertions : List (List ℕ × List ℕ)) (keys sorted : List (List ℕ × ℕ)) → AreListed H insertions keys (length insertions) → IsPermutation keys sorted
     → IsSorted (λ e f. ordering_then (ordering_then (slice_cmp nat_cmp e.0 f.0) Equal) (nat_cmp e.1 f.1)) sorted → AreKeysUnder H insertions [] sorted
 sorted_are H insertions keys sorted are moved up = record {
@@ -110,5 +103,5 @@ sorted_are H insertions keys sorted are moved up = record {
   all = λ place rest less begins.
       let there = Contains-permutation keys sorted (H (key_at insertions place), place) moved (place, omega arith, get_or_default keys place _ ([], 0) (omega arith) ∙ are.each place less) in
       (there.0, there.1, get_or_default sorted there.0 ([], 0) _ there.1 ∙ there.2);
-  ascending = λ i j le less. sorted_far (λ x y. is_lt (entry_cmp x y)) (ranks_by entry_total (λ x. x)) sorted (λ k d low less. rw then_equal at (up k d low less)) i j ([], 0) le less;
+  ascending = λ i j le less. sorted_far (λ x y. is_lt (entry_cmp x y)) (ranks_by entry_total (λ x. x)) sorted (λ k d low less. grind (arith, up k d low less)) i j ([], 0) le less;
 }

@@ -9,7 +9,6 @@ pub mod ConsistencyLemmas
 pub mod CollisionLemmas
 pub mod CompareLemmas
 pub mod PathLemmas
-pub mod KeyAgreementLemmas
 pub mod UpdateLemmas
 pub mod PlainPathLemmas
 pub mod LastLemmas

@@ -1,39 +1,37 @@
 -- The plain sparse tree over sorted keys.
-use Rattle.std.proofs.Common.{◌≡◌, ℕ, suc, ◌+◌, ◌-◌, ◌<◌, Bool, true, false, not, List, [], ◌∷◌, ◌++◌, length, Option, Some, None, MatchOption, get_or, refl, sym, ap, ◌∙◌, arith, append_assoc}
-use Rattle.std.proofs.lemmas.List.{length-append, append-nil, get_or_default}
+use Rattle.std.proofs.Common.{◌≡◌, ℕ, ◌+◌, ◌-◌, ◌<◌, Bool, List, [], ◌∷◌, ◌++◌, length, Option, Some, None, MatchOption, get_or, refl, sym, ap, ◌∙◌, arith}
+use Rattle.std.proofs.lemmas.List.{length-append, append-nil}
+use Rattle.std.proofs.lemmas.Grind.{common_steps}
 use Rattle.std.proofs.lemmas.Bool.{false_from_ne_true}
 use Rattle.std.proofs.lemmas.Map.Keys.{ge_from_not_lt}
 use Rattle.std.specs.FinMap.{get}
-use Rattle.warg_crypto.specs.Tree.{branch, leaf_digest}
-use Rattle.warg_map.specs.Bits.{bit_at, key_bits, last_bits}
-use Rattle.warg_map.specs.Sparse.{SparseMap, root_of_levels, map_of, pair_bytes}
+use Rattle.warg_crypto.specs.EmptyTrees.{empty_root}
+use Rattle.warg_map.specs.Bits.{key_bits, last_bits}
+use Rattle.warg_map.specs.Sparse.{root_of_levels, map_of, pair_bytes}
 use Rattle.warg_map.specs.Last.{same_bits, last_under}
-use Rattle.warg_witness.specs.Private.MapPaths.{key_at, entry_at, AreKeysUnder, AreEmptyTrees, IsPlaceOfLast, IsLastPlace, plain_peers}
-use Rattle.warg_witness.proofs.LastLemmas.{last_with-none, last_with-at, pair_at, length-pair_bytes}
-use Rattle.warg_map.proofs.ForCallers.{all_bits, bits_cmp-itself, bits_left-more, bits_left-none, last_held, length-last_bits, order_of_bits, root-nothing, root-same, same_bits-itself, same_bits-true}
+use Rattle.warg_witness.specs.Private.MapPaths.{key_at, entry_at, AreKeysUnder, IsPlaceOfLast, IsLastPlace}
+use Rattle.warg_witness.proofs.LastLemmas.{last_with-none, last_with-at, length-pair_bytes}
+use Rattle.warg_map.proofs.ForCallers.{all_bits, bits_cmp-itself, bits_left-none, last_held, order_of_bits, root-nothing, root-same, same_bits-itself, same_bits-true}
 use Rattle.warg_crypto.specs.Collisions.{GivesHashes}
 
 -- bits that begin with a whole prefix
 whole_prefix : (bits prefix rest : List Bool) → length bits ≡ 256 → length prefix ≡ 256 → bits ≡ prefix ++ rest → bits ≡ prefix
-whole_prefix bits prefix [] all size e = rw append-nil at e
-whole_prefix bits prefix (b ∷ rest) all size e = absurd (omega (arith, ap length e, length-append prefix (b ∷ rest)))
+whole_prefix bits prefix rest all size e = grind (arith, common_steps, ap length e)
 
 module _ (H : List ℕ → List ℕ) (insertions : List (List ℕ × List ℕ)) (prefix : List Bool) (keys : List (List ℕ × ℕ)) (are : AreKeysUnder H insertions prefix keys) where
+  -- where there are no keys, nothing is inserted under the prefix
   none_under : length keys ≡ 0 → (q : List Bool) → last_under H (prefix ++ q) insertions ≡ None
   none_under none q =
       last_with-none (λ e. same_bits (prefix ++ q) (key_bits H e.0)) insertions ([], [])
       (λ i less. false_from_ne_true _ (λ same. let (at, at_less, is) = are.all i q less (sym (same_bits-true _ _ same)) in omega arith))
 
-  -- over no keys it is an empty tree, as the code has it
-  pub empty_is : (empty : List (List ℕ)) (k : ℕ) (digest copy : List ℕ) → AreEmptyTrees H empty → k < 257 → copy ≡ digest → digest ≡ get_or empty k digest → length keys ≡ 0
-      → copy ≡ root_of_levels H k (λ q. get (map_of H insertions) (prefix ++ q))
-  empty_is empty k digest copy trees lt is at none =
-      let root = root-same H k (λ q. get (map_of H insertions) (prefix ++ q)) (λ q. None) (λ q. rw (last_held, none_under none q) refl) ∙ root-nothing H k in
-      is ∙ at ∙ get_or_default empty k digest [] (omega (arith, trees.count)) ∙ trees.each k lt ∙ sym root
+  -- over no keys it is an empty tree
+  pub root_none : length keys ≡ 0 → (k : ℕ) → root_of_levels H k (λ q. get (map_of H insertions) (prefix ++ q)) ≡ empty_root H k
+  root_none none k = root-same H k _ (λ q. None) (λ q. rw (last_held, none_under none q) refl) ∙ root-nothing H k
 
   module _ (digests : GivesHashes H) (size : length prefix ≡ 256) where
     -- the last of the keys of one digest
-    last_is : (n : ℕ) → length keys ≡ n + 1 → ((entry_at keys n).1 < length insertions) × (last_under H prefix insertions ≡ Some (get_or insertions (entry_at keys n).1 ([], [])))
+    pub last_is : (n : ℕ) → length keys ≡ n + 1 → ((entry_at keys n).1 < length insertions) × (last_under H prefix insertions ≡ Some (get_or insertions (entry_at keys n).1 ([], [])))
     last_is n count =
         let under = are.each n (omega arith) in
         let bits = whole_prefix _ prefix under.rest (all_bits H _) size under.begins in (
@@ -46,54 +44,17 @@ module _ (H : List ℕ → List ℕ) (insertions : List (List ℕ × List ℕ)) 
               omega (arith, ge_from_not_lt (entry_at keys n).1 j up))),
         )
 
-    -- the leaf of a whole digest
-    leaf_is : (n : ℕ) → length keys ≡ n + 1 → leaf_digest H (get_or insertions (entry_at keys n).1 ([], [])).1 ≡ root_of_levels H 0 (λ q. get (map_of H insertions) (prefix ++ q))
-    unfolding root_of_levels
-    leaf_is n count = rw (append-nil, last_held, (last_is n count).1) refl
-
     -- the place of the last insertion, where the bits are whole
     pub last_place_is : (key : List ℕ) (depth : ℕ) (found : Option ℕ) → depth ≡ 256 → MatchOption found (length keys ≡ 0) (IsPlaceOfLast keys) → IsLastPlace H insertions (prefix ++ last_bits key (256 - depth)) found
     last_place_is key depth None whole none = none_under none _
     last_place_is key depth (Some place) whole last = rw (bits_left-none key depth whole, append-nil, last.is) (last_is last.before last.count)
 
-module _ {K V : Type 0} (H : List ℕ → List ℕ) (kb : K → List ℕ) (vb : V → List ℕ) (es : List (K × V)) (prefix : List Bool) (keys : List (List ℕ × ℕ)) (place : ℕ)
-    (are : AreKeysUnder H (pair_bytes kb vb es) prefix keys) (last : IsPlaceOfLast keys place) where
-  pub place_within : place < length es
-  place_within =
-      let within = (are.each last.before (omega (arith, last.count))).within in
-      omega (arith, last.is, length-pair_bytes kb vb es)
-
-  pub leaf_root : GivesHashes H → (depth : ℕ) (e : K × V) (leaf : List ℕ) → depth ≡ 256 → length prefix ≡ depth → e ≡ get_or es place e → leaf ≡ H (0 ∷ vb e.1)
-      → leaf ≡ root_of_levels H (256 - depth) (λ q. get (map_of H (pair_bytes kb vb es)) (prefix ++ q))
-  leaf_root digests depth e leaf whole size at is =
-      let none : 256 - depth ≡ 0 = omega arith in
-      let pair = pair_at kb vb es place e place_within at in
-      rw (none, ← leaf_is H (pair_bytes kb vb es) prefix keys are digests (size ∙ whole) last.before last.count, ← last.is, pair) is
-
--- a branch over both halves
-pub root_branch : (H : List ℕ → List ℕ) (m : SparseMap) (prefix : List Bool) (depth : ℕ) (l r : List ℕ) → depth < 256
-    → l ≡ root_of_levels H (256 - (depth + 1)) (λ q. get m ((prefix ++ false ∷ []) ++ q)) → r ≡ root_of_levels H (256 - (depth + 1)) (λ q. get m ((prefix ++ true ∷ []) ++ q))
-    → branch H l r ≡ root_of_levels H (256 - depth) (λ q. get m (prefix ++ q))
-unfolding root_of_levels
-root_branch H m prefix depth l r lt left right =
-    let up : 256 - depth ≡ suc (256 - (depth + 1)) = omega arith in
-    rw (simp append_assoc at left, simp append_assoc at right, up) refl
-
--- one more of the plain peers
-pub peers_more : (H : List ℕ → List ℕ) (m : SparseMap) (key : List ℕ) (prefix : List Bool) (depth : ℕ) (b : Bool) (old below new : List (Option (List ℕ))) (far : List ℕ) → depth < 256 → b ≡ bit_at key depth
-    → below ≡ old ++ plain_peers H (λ q. get m ((prefix ++ b ∷ []) ++ q)) (last_bits key (256 - (depth + 1))) → far ≡ root_of_levels H (256 - (depth + 1)) (λ q. get m ((prefix ++ not b ∷ []) ++ q))
-    → new ≡ below ++ Some far ∷ [] → new ≡ old ++ plain_peers H (λ q. get m (prefix ++ q)) (last_bits key (256 - depth))
-unfolding plain_peers
-peers_more H m key prefix depth b old below new far lt bit is beside more =
-    rw (more, simp append_assoc at is, simp append_assoc at beside, bits_left-more key depth lt, ← bit, length-last_bits, append_assoc) refl
-
-pub peers_none : (H : List ℕ → List ℕ) (held : List Bool → Option (List ℕ)) (key : List ℕ) (depth : ℕ) (old : List (Option (List ℕ))) → depth ≡ 256 → old ≡ old ++ plain_peers H held (last_bits key (256 - depth))
-unfolding plain_peers
-peers_none H held key depth old whole = rw (bits_left-none key depth whole, append-nil) refl
-
-pub place_more : (H : List ℕ → List ℕ) (insertions : List (List ℕ × List ℕ)) (key : List ℕ) (prefix : List Bool) (depth : ℕ) (b : Bool) (found : Option ℕ) → depth < 256 → b ≡ bit_at key depth
-    → IsLastPlace H insertions ((prefix ++ b ∷ []) ++ last_bits key (256 - (depth + 1))) found → IsLastPlace H insertions (prefix ++ last_bits key (256 - depth)) found
-place_more H insertions key prefix depth b found lt bit last = rw (bits_left-more key depth lt, ← bit) (rw append_assoc at last)
+-- the last key's place is one of an insertion
+pub place_within : {K V : Type 0} (H : List ℕ → List ℕ) (kb : K → List ℕ) (vb : V → List ℕ) (es : List (K × V)) (prefix : List Bool) (keys : List (List ℕ × ℕ)) (place : ℕ)
+    → AreKeysUnder H (pair_bytes kb vb es) prefix keys → IsPlaceOfLast keys place → place < length es
+place_within H kb vb es prefix keys place are last =
+    let within = (are.each last.before (omega (arith, last.count))).within in
+    omega (arith, last.is, length-pair_bytes kb vb es)
 
 pub length-push_bit : (prefix : List Bool) (b : Bool) {depth : ℕ} → length prefix ≡ depth → length (prefix ++ b ∷ []) ≡ depth + 1
 length-push_bit prefix b size = rw length-append (omega arith)

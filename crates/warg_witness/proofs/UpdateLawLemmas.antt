@@ -1,69 +1,50 @@
 -- What the laws of updates state.
-use Rattle.std.proofs.Common.{◌≡◌, ℕ, ◌≤◌, List, [], ◌∷◌, ◌++◌, length, Option, Some, ◌⊎◌, inl, inr, refl, sym, ◌∙◌, append_assoc}
+use Rattle.std.proofs.Common.{◌≡◌, ℕ, List, [], ◌∷◌, ◌++◌, Option, ◌⊎◌, inl, inr, refl, sym, ◌∙◌, append_assoc}
 use Rattle.std.proofs.lemmas.List.{append-nil, map-append}
 use Rattle.std.specs.List.{AllByRecursion}
 use Rattle.std.specs.FinMap.{insert, empty}
-use Rattle.warg_crypto.specs.Collisions.{SomeCollision}
-use Rattle.warg_crypto.proofs.ForCallers.{same_or_not, HasSize}
+use Rattle.warg_crypto.specs.Collisions.{GivesHashes, SomeCollision}
+use Rattle.warg_crypto.proofs.ForCallers.{same_or_not}
 use Rattle.warg_map.specs.Bits.{key_bits}
 use Rattle.warg_crypto.specs.Tree.{leaf_digest}
 use Rattle.warg_map.specs.Sparse.{SparseMap, sparse_root, inserted, map_of}
-use Rattle.warg_map.specs.Last.{last_under}
-use Rattle.warg_map.specs.Peers.{Proves, ProvesAbsent}
 use Rattle.warg_map.specs.ProofValue.{proof_value}
 use Rattle.warg_witness.specs.Laws.{HoldsPeers}
-use Rattle.warg_witness.specs.MapClaims.{IsKeyMet, IsAbsenceMet}
+use Rattle.warg_witness.specs.MapClaims.{IsKeyMet}
 use Rattle.warg_witness.specs.MapPlaced.{IsPlacedAtPrefix}
 use Rattle.warg_witness.specs.UpdateClaims.{IsUpdated, Step, insertions_of, LeadThrough, CollidesAtStep}
 use Rattle.warg_witness.proofs.CollisionLemmas.{shown_collides}
 use Rattle.warg_witness.proofs.KeyLemmas.{path_shown, prefix_placed}
-use Rattle.warg_witness.proofs.KeyLawLemmas.{diverged_from_plain, own_met}
+use Rattle.warg_witness.proofs.KeyLawLemmas.{diverged_from_plain}
 use Rattle.warg_witness.proofs.UpdateLemmas.{grown_root_is}
-use Rattle.warg_map.proofs.ForCallers.{all_bits, replaced_root, absent_replaced_root, absent_root}
 
 -- a claim that is met and isn't true
-pub update_collides : (H : List ℕ → List ℕ) (peers : List (Option (List ℕ))) (key old new : List ℕ) (insertions : List (List ℕ × List ℕ)) → HasSize H → HoldsPeers peers
+pub update_collides : (H : List ℕ → List ℕ) (peers : List (Option (List ℕ))) (key old new : List ℕ) (insertions : List (List ℕ × List ℕ)) → GivesHashes H → HoldsPeers peers
     → IsKeyMet H peers key old insertions → ¬ (IsUpdated H peers key new insertions) → SomeCollision H (IsPlacedAtPrefix H peers old key insertions)
-update_collides H peers key old new insertions gives holds met untrue =
-    let (p, diverges) = diverged_from_plain H peers key old insertions gives holds met in
+update_collides H peers key old new insertions digests holds met untrue =
+    let (p, diverges) = diverged_from_plain H peers key old insertions digests holds met in
     shown_collides _ (path_shown p [] [] (prefix_placed H peers key old insertions) (λ _ nowhere. absurd (untrue (nowhere.beside (leaf_digest H new) ∙ grown_root_is H insertions key new))) diverges)
 
 -- one insertion more
-inserted_push : (H : List ℕ → List ℕ) (m : SparseMap) (es : List (List ℕ × List ℕ)) (key value : List ℕ) → inserted H m (es ++ (key, value) ∷ []) ≡ insert (inserted H m es) (key_bits H key) (leaf_digest H value)
+pub inserted_push : (H : List ℕ → List ℕ) (m : SparseMap) (es : List (List ℕ × List ℕ)) (key value : List ℕ) → inserted H m (es ++ (key, value) ∷ []) ≡ insert (inserted H m es) (key_bits H key) (leaf_digest H value)
 unfolding inserted
 inserted_push H m [] key value = refl
 inserted_push H m (e ∷ es) key value = inserted_push H (insert m (key_bits H e.0) (leaf_digest H e.1)) es key value
 
--- a map's own proofs
-pub own_updates : (H : List ℕ → List ℕ) (insertions : List (List ℕ × List ℕ)) (key old new : List ℕ) (peers : List (Option (List ℕ)))
-    → last_under H (key_bits H key) insertions ≡ Some (key, old) → length peers ≤ 256 → Proves H 256 (map_of H insertions) (key_bits H key) peers
-    → IsKeyMet H peers key old insertions × IsUpdated H peers key new insertions
-own_updates H insertions key old new peers last few proves = (
-  own_met H insertions key old peers last few proves,
-  rw inserted_push (replaced_root H (map_of H insertions) (key_bits H key) peers (leaf_digest H new) (all_bits H key) few proves),
-)
-
-pub own_insertions : (H : List ℕ → List ℕ) (insertions : List (List ℕ × List ℕ)) (key value : List ℕ) (peers : List (Option (List ℕ))) → length peers ≤ 256
-    → ProvesAbsent H (map_of H insertions) (key_bits H key) peers → IsAbsenceMet H peers key insertions × IsUpdated H peers key value insertions
-own_insertions H insertions key value peers few proves = (
-  absent_root H (map_of H insertions) (key_bits H key) peers (all_bits H key) few proves,
-  rw inserted_push (absent_replaced_root H (map_of H insertions) (key_bits H key) peers (leaf_digest H value) (all_bits H key) few proves),
-)
-
 -- a list of steps, behind others that led to the plain root
-steps_lead : (H : List ℕ → List ℕ) → HasSize H → (before steps : List Step) (root end : List ℕ) → AllByRecursion (λ (s : Step). HoldsPeers s.peers) steps
+steps_lead : (H : List ℕ → List ℕ) → GivesHashes H → (before steps : List Step) (root end : List ℕ) → AllByRecursion (λ (s : Step). HoldsPeers s.peers) steps
     → root ≡ sparse_root H 256 (map_of H (insertions_of before)) → LeadThrough H root steps end
     → (end ≡ sparse_root H 256 (map_of H (insertions_of (before ++ steps)))) ⊎ CollidesAtStep H (before ++ steps)
 unfolding LeadThrough
-steps_lead H gives before [] root end all is through = inl (rw append-nil (sym through ∙ is))
-steps_lead H gives before (s ∷ steps) root end all is through =
+steps_lead H digests before [] root end all is through = inl (rw append-nil (sym through ∙ is))
+steps_lead H digests before (s ∷ steps) root end all is through =
     let (next, from_old, from_new, rest) = through in
     elim (same_or_not (proof_value H s.peers (leaf_digest H s.new_value) (key_bits H s.key)) (sparse_root H 256 (map_of H (insertions_of before ++ (s.key, s.new_value) ∷ [])))) [
-      | inl updated ↦ rw append_assoc at (steps_lead H gives (before ++ s ∷ []) steps next end all.1 (rw map-append (sym from_new ∙ updated)) rest)
-      | inr untrue ↦ inr (record { before = before; step = s; after = steps; split = refl; collision = update_collides H s.peers s.key s.old_value s.new_value (insertions_of before) gives all.0 (from_old ∙ is) untrue })
+      | inl updated ↦ rw append_assoc at (steps_lead H digests (before ++ s ∷ []) steps next end all.1 (rw map-append (sym from_new ∙ updated)) rest)
+      | inr untrue ↦ inr (record { before = before; step = s; after = steps; split = refl; collision = update_collides H s.peers s.key s.old_value s.new_value (insertions_of before) digests all.0 (from_old ∙ is) untrue })
     ]
 
-pub steps_end : (H : List ℕ → List ℕ) (steps : List Step) (root : List ℕ) → HasSize H → AllByRecursion (λ (s : Step). HoldsPeers s.peers) steps
+pub steps_end : (H : List ℕ → List ℕ) (steps : List Step) (root : List ℕ) → GivesHashes H → AllByRecursion (λ (s : Step). HoldsPeers s.peers) steps
     → LeadThrough H (sparse_root H 256 empty) steps root → (root ≡ sparse_root H 256 (map_of H (insertions_of steps))) ⊎ CollidesAtStep H steps
 unfolding inserted
-steps_end H steps root gives all through = steps_lead H gives [] steps (sparse_root H 256 empty) root all refl through
+steps_end H steps root digests all through = steps_lead H digests [] steps (sparse_root H 256 empty) root all refl through

@@ -62,6 +62,7 @@ pub fn consistency_or_collision()
 {}
 
 /// Two different values that two proofs of one key lead to one root give a collision.
+#[tactic(auto, using(crate::proofs::KeyLawLemmas::key_agreement_collides))]
 pub fn key_agreement_or_collision()
     ensures { (H : List ℕ → List ℕ) (key : List ℕ) (peers : List (Option (List ℕ))) (value : List ℕ)
         (other_peers : List (Option (List ℕ))) (other : List ℕ) → GivesHashes H → HoldsPeers peers
@@ -71,6 +72,7 @@ pub fn key_agreement_or_collision()
 {}
 
 /// A key's claim that is met and isn't true gives a collision.
+#[tactic(auto, using(crate::proofs::KeyLawLemmas::key_collides))]
 pub fn key_or_collision()
     ensures { (H : List ℕ → List ℕ) (peers : List (Option (List ℕ))) (key value : List ℕ)
         (insertions : List (List ℕ × List ℕ)) → GivesHashes H → HoldsPeers peers
@@ -79,6 +81,7 @@ pub fn key_or_collision()
 {}
 
 /// An absence's claim that is met and isn't true gives a collision.
+#[tactic(auto, using(crate::proofs::KeyLawLemmas::key_collides), unfolding(warg_crypto::specs::EmptyTrees::empty_root))]
 pub fn absence_or_collision()
     ensures { (H : List ℕ → List ℕ) (peers : List (Option (List ℕ))) (key : List ℕ)
         (insertions : List (List ℕ × List ℕ)) → GivesHashes H → HoldsPeers peers
@@ -87,6 +90,7 @@ pub fn absence_or_collision()
 {}
 
 /// An update's claim that is met and isn't true gives a collision.
+#[tactic(auto, using(crate::proofs::UpdateLawLemmas::update_collides))]
 pub fn update_or_collision()
     ensures { (H : List ℕ → List ℕ) (peers : List (Option (List ℕ)))
         (key old_value new_value : List ℕ)
@@ -98,6 +102,7 @@ pub fn update_or_collision()
 /// Steps that lead from the empty map's root to another end at the root of the map of exactly these insertions, in their
 /// order, or two byte strings collide at one of the steps. So whoever checks each step knows that nothing else was
 /// inserted, changed or removed.
+#[tactic(auto, using(crate::proofs::UpdateLawLemmas::steps_end))]
 pub fn steps_or_collision()
     ensures { (H : List ℕ → List ℕ) (steps : List Step) (root : List ℕ) → GivesHashes H
         → AllByRecursion (λ s. HoldsPeers s.peers) steps

@@ -1,6 +1,6 @@
 use Rattle.std.proofs.Common.{◌≡◌, sym, ◌∙◌}
 use Rattle.std.proofs.lemmas.Bool.{false≢true}
-use Rattle.warg_witness.proofs.KeyAgreementLemmas.{key_agreement_shown}
+use Rattle.warg_witness.proofs.KeyLemmas.{key_agreement_shown}
 use Rattle.warg_witness.proofs.map.agree_key.Goals as goal
 
 pub returns-clause-found : goal.returns-clause-found
