@@ -245,11 +245,6 @@ text_once s t a b p q e =
       four.1,
     )
 
--- bytes that aren't tested as empty
-pub some_of : (xs : List ℕ) (b : Bool) → b ≡ (length xs == 0) → b ≡ false → 0 < length xs
-some_of [] b is none = let e : true ≡ false = sym is ∙ none in cc e
-some_of (x ∷ xs) b is none = omega arith
-
 -- an error that is handed on
 pub err_same : {X E : Type 0} (P : E → Type 0) (e : E) (r : Result X E) → IsErrAnd r (λ f. f ≡ e) → P e → IfErr r P
 err_same P e (Ok x) is holds = tt
