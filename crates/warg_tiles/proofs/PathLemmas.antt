@@ -172,13 +172,6 @@ place_parts text number width (Some (before, behind)) cut is = elim (cases_eq wi
 pub one_width : (text rest : List ℕ) (width other : ℕ) → text ≡ 112 ∷ (47 ∷ rest) → rest ≡ decimal width → width < 2 ^ 64 → other < 2 ^ 64 → text ≡ 112 ∷ (47 ∷ decimal other) → width ≡ other
 one_width text rest width other is read small fits also = decimal_injective width other small fits (let same : rest ≡ decimal other = cc in sym read ∙ same)
 
--- a text with a number, a dot and a width is the place of a partial tile
-pub place_is : (text : List ℕ) (before behind : Bor (List ℕ)) (number width : ℕ) → IsSplitOnceResult 46 text (Some (before, behind)) → before.now ≡ number_path number → behind.now ≡ 112 ∷ (47 ∷ decimal width) → width < 256
-    → text ≡ place_path number width
-place_is text before behind number width cut front back part =
-    (split_parts 46 text (Some (before, behind)) cut (omega arith)).0
-    ∙ ap (λ l. l ++ (46 ∷ behind.now)) front ∙ ap (λ l. number_path number ++ (46 ∷ l)) back ∙ sym (partial_place number width (λ e. omega arith))
-
 -- what stands before and behind the slash of a tile's path
 pub parts_at_slash : (text rest : List ℕ) (t : TileAt) (r : Option (Bor (List ℕ) × Bor (List ℕ))) → text ≡ codes "tile/" ++ rest → IsSplitOnceResult 47 rest r → IsTile t → text ≡ tile_path t
     → MatchOption r ⊥ (λ x. (x.0.now ≡ decimal t.level) × (x.1.now ≡ place_path t.number t.width))
