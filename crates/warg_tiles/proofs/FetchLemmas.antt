@@ -19,13 +19,6 @@ use Rattle.warg_tiles.specs.Fetching.{gives, AreFor, IsAdded}
 use Rattle.warg_tiles.proofs.TileLemmas.{place_in_level_is, width_most}
 use Rattle.warg_tiles.proofs.OwnLemmas.{leaves_by_tile}
 
--- what some tiles give, more give
-gives_more : (tiles : List TileAt) (t : TileAt) (x : ℕ) → gives tiles x ≡ true → gives (tiles ++ t ∷ []) x ≡ true
-gives_more tiles t x is = list_any-append (λ s. has_below s x) tiles (t ∷ []) ∙ rw is refl
-
-gives_new : (tiles : List TileAt) (t : TileAt) (x : ℕ) → gives tiles x ≡ false → has_below t x ≡ true → gives (tiles ++ t ∷ []) x ≡ true
-gives_new tiles t x none is = list_any-append (λ s. has_below s x) tiles (t ∷ []) ∙ rw (none, is) refl
-
 -- no tiles were added for no nodes
 pub added_none : (n : ℕ) (tiles : List TileAt) → IsAdded n tiles tiles []
 added_none n tiles = record { tiles_of = λ are. are; keep = λ x given. given; give = tt }
@@ -42,8 +35,8 @@ added_new n x tiles t none of_length has = record {
     once = all_pairs_push (λ (s u : TileAt). s ≢ u) tiles t are.once
         (λ k d inside same. true≢false (sym (list_any_at (λ s. has_below s x) tiles k d inside (ap (λ s. has_below s x) same ∙ has)) ∙ none));
   };
-  keep = λ y given. gives_more tiles t y given;
-  give = (gives_new tiles t x none has, tt);
+  keep = λ y given. list_any-append (λ s. has_below s y) tiles (t ∷ []) ∙ rw given refl;
+  give = (list_any-append (λ s. has_below s x) tiles (t ∷ []) ∙ rw (none, has) refl, tt);
 }
 
 -- what was added after what was added

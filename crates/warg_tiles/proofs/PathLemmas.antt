@@ -8,7 +8,7 @@ use Rattle.std.proofs.Math.Seq.{get_or-append_seam}
 use Rattle.std.proofs.lemmas.Str.Pattern.{IsSplitOnceResult, split_after, split_parts}
 use Rattle.std.specs.Char.{is_ascii_digit}
 use Rattle.std.specs.Fmt.{decimal, char_count, padded_integral, format_spec}
-use Rattle.std.proofs.lemmas.Fmt.{decimal_digit, decimal_step, decimal_injective}
+use Rattle.std.proofs.lemmas.Fmt.{decimal_digit, decimal_step}
 use Rattle.warg_tiles.specs.TilePaths.{three_digits, group_of, groups_within, groups_of, number_path, place_path, tile_path}
 use Rattle.warg_tiles.specs.Tiles.{TileAt, IsTile}
 use Rattle.warg_tiles.proofs.DecimalLemmas.{decimal_without}
@@ -168,18 +168,10 @@ place_parts text number width (Some (before, behind)) cut is = elim (cases_eq wi
   | inr other ↦ let parts = split_after 46 text (number_path number) (112 ∷ (47 ∷ decimal width)) (Some (before, behind)) cut (omega arith) (is ∙ partial_place number width other) (no_dot number) in (other, parts.0, parts.1)
 ]
 
--- one text has one width
-pub one_width : (text rest : List ℕ) (width other : ℕ) → text ≡ 112 ∷ (47 ∷ rest) → rest ≡ decimal width → width < 2 ^ 64 → other < 2 ^ 64 → text ≡ 112 ∷ (47 ∷ decimal other) → width ≡ other
-one_width text rest width other is read small fits also = decimal_injective width other small fits (let same : rest ≡ decimal other = cc in sym read ∙ same)
-
 -- what stands before and behind the slash of a tile's path
-pub parts_at_slash : (text rest : List ℕ) (t : TileAt) (r : Option (Bor (List ℕ) × Bor (List ℕ))) → text ≡ codes "tile/" ++ rest → IsSplitOnceResult 47 rest r → IsTile t → text ≡ tile_path t
+pub parts_at_slash : (text left rest : List ℕ) (t : TileAt) (r : Option (Bor (List ℕ) × Bor (List ℕ))) → text ≡ codes "tile/" ++ left → rest ≡ left → IsSplitOnceResult 47 rest r → IsTile t → text ≡ tile_path t
     → MatchOption r ⊥ (λ x. (x.0.now ≡ decimal t.level) × (x.1.now ≡ place_path t.number t.width))
-parts_at_slash text rest t r front cut tile is =
+parts_at_slash text left rest t r front same cut tile is =
     split_after 47 rest (decimal t.level) (place_path t.number t.width) r cut (omega arith)
-    (append_cancel_left (codes "tile/") rest (decimal t.level ++ (47 ∷ place_path t.number t.width)) (sym front ∙ is))
+    (same ∙ append_cancel_left (codes "tile/") left (decimal t.level ++ (47 ∷ place_path t.number t.width)) (sym front ∙ is))
     (λ i inside. decimal_without t.level 47 i (omega (arith, tile.level)) (λ a b. omega arith) inside)
-
--- one text has one level
-pub one_level : (level : ℕ) (text : List ℕ) (t : TileAt) → text ≡ decimal level → text ≡ decimal t.level → level < 2 ^ 64 → IsTile t → level ≤ 63
-one_level level text t read is fits tile = omega (arith, decimal_injective level t.level fits (omega (arith, tile.level)) (sym read ∙ is), tile.level)

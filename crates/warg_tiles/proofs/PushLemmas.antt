@@ -54,6 +54,9 @@ edge_digests_is H ds =
     let one : length ds / 2 ^ (8 * 0) ≡ length ds = omega arith in
     levels_flat H ds (length ds) ∙ sym (edge_at_is H ds (length ds) 8 0) ∙ ap (edge_within H ds 8 0) one
 
+pub edge_of : (H : List ℕ → List ℕ) (e : RightEdge) (ds : List (List ℕ)) → StandsFor H e ds → e.digests ≡ edge_from H ds 0 e.len
+edge_of H e ds stands = stands.edge ∙ edge_digests_is H ds ∙ ap (edge_from H ds 0) stands.count
+
 -- the root over leaves that are there stays the same as the log grows
 root_over_append : (H : List ℕ → List ℕ) (ds more : List (List ℕ)) (a n : ℕ) → a + n ≤ length ds → root_over H (ds ++ more) a n ≡ root_over H ds a n
 root_over_append H ds more a n fits =

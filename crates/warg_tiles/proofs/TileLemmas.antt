@@ -79,25 +79,17 @@ level_low t some fits =
     let low : 8 * t.level < 64 = pow_below_pow (8 * t.level) 64 (omega arith) in
     omega arith
 
--- the end of a tile by the nodes of its level
-pub end_by_nodes : (t : TileAt) (n : ℕ) → 256 * t.number + t.width ≤ n / 2 ^ (8 * t.level) → tile_end t ≤ n
-end_by_nodes t n within = omega (arith, mul-le-mul_left (2 ^ (8 * t.level)) within, mul-div-le n (2 ^ (8 * t.level)))
-
-pub nodes_by_end : (t : TileAt) (n : ℕ) → tile_end t ≤ n → 256 * t.number + t.width ≤ n / 2 ^ (8 * t.level)
-nodes_by_end t n within = le-div (256 * t.number + t.width) n (2 ^ (8 * t.level)) (pow_pos (8 * t.level)) within
-
 -- the number of a tile of such a log
 pub number_low : (t : TileAt) → 0 < t.width → tile_end t ≤ 2 ^ 63 → t.number < 2 ^ 55
 number_low t some fits = omega (arith, mul-le-mul_left (256 * t.number + t.width) (pow_pos (8 * t.level)))
 
--- a tile of a level above 7 stands at no length
-pub low_only : (t : TileAt) (n : ℕ) → 8 ≤ t.level → 0 < t.width → n ≤ 2 ^ 63 → IsTrue false ↔ (tile_end t ≤ n)
-low_only t n high some small = (λ yes. absurd (false≢true yes), λ fits. let low : t.level < 8 = level_low t some (omega (arith, fits)) in absurd (omega arith))
-
--- nor does one of a number from 2 ^ 55 on
-pub below_only : (t : TileAt) (n : ℕ) → 2 ^ 55 ≤ t.number → 0 < t.width → n ≤ 2 ^ 63 → IsTrue false ↔ (tile_end t ≤ n)
-below_only t n high some small = (λ yes. absurd (false≢true yes), λ fits. let low : t.number < 2 ^ 55 = number_low t some (omega (arith, fits)) in absurd (omega arith))
+-- a tile of a level above 7, or of a number from 2 ^ 55 on, stands at no length
+pub at_no_length : (t : TileAt) (n : ℕ) → (t.level < 8 → t.number < 2 ^ 55 → ⊥) → 0 < t.width → n ≤ 2 ^ 63 → IsTrue false ↔ (tile_end t ≤ n)
+at_no_length t n beyond some small = (λ yes. absurd (false≢true yes), λ fits. absurd (beyond (level_low t some (omega arith)) (number_low t some (omega arith))))
 
 -- any other stands at the lengths that have so many nodes of its level
 pub by_nodes : (t : TileAt) (n : ℕ) → IsTrue (leb (256 * t.number + t.width) (n / 2 ^ (8 * t.level))) ↔ (tile_end t ≤ n)
-by_nodes t n = (λ yes. end_by_nodes t n (leb-true (256 * t.number + t.width) (n / 2 ^ (8 * t.level)) yes), λ fits. le-leb (256 * t.number + t.width) (n / 2 ^ (8 * t.level)) (nodes_by_end t n fits))
+by_nodes t n = (
+  λ yes. omega (arith, mul-le-mul_left (2 ^ (8 * t.level)) (leb-true (256 * t.number + t.width) (n / 2 ^ (8 * t.level)) yes), mul-div-le n (2 ^ (8 * t.level))),
+  λ fits. le-leb (256 * t.number + t.width) (n / 2 ^ (8 * t.level)) (le-div (256 * t.number + t.width) n (2 ^ (8 * t.level)) (pow_pos (8 * t.level)) fits),
+)
