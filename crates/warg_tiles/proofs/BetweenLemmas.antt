@@ -1,10 +1,8 @@
 -- The tiles by which a log grows, one by one.
 use Rattle.std.proofs.Common.{◌≡◌, ℕ, suc, ◌+◌, ◌-◌, ◌*◌, ◌/◌, ◌^◌, ◌<◌, ◌≤◌, List, [], ◌∷◌, ◌++◌, map, refl, sym, ap, ◌∙◌, arith}
-use Rattle.std.specs.Int.{div_ceil}
 use Rattle.std.specs.List.{range_with_len}
 use Rattle.std.proofs.lemmas.List.{append_assoc, append-nil}
 use Rattle.std.proofs.lemmas.List.FromFn.{map-range_with_len_more}
-use Rattle.std.proofs.lemmas.Bool.{ne_eqb}
 use Rattle.warg_tiles.specs.Tiles.{TileAt}
 use Rattle.warg_tiles.specs.Between.{filled, level_tiles, levels_from}
 
@@ -16,13 +14,10 @@ numbers_more old level new a b order =
     append_assoc old (map (filled level new) (range_with_len a (b - a))) (filled level new b ∷ [])
     ∙ ap (λ l. old ++ l) (sym (map-range_with_len_more (filled level new) a (b - a) b (omega arith)) ∙ ap (λ n. map (filled level new) (range_with_len a n)) count)
 
-none_of : (old new : ℕ) → levels_from (8 - 8) 8 old new ≡ []
-unfolding levels_from
-none_of old new = refl
-
 -- no level is left
 pub all_levels : (tiles : List TileAt) (level old new : ℕ) → level ≡ 8 → tiles ++ levels_from (8 - level) level old new ≡ levels_from 8 0 old new → tiles ≡ levels_from 8 0 old new
-all_levels tiles level old new last is = sym (append-nil tiles) ∙ ap (λ l. tiles ++ l) (sym (none_of old new)) ∙ ap (λ n. tiles ++ levels_from (8 - n) n old new) (sym last) ∙ is
+unfolding levels_from
+all_levels tiles level old new last is = sym (append-nil tiles) ∙ rw last at is
 
 -- a level more
 pub levels_more : (tiles : List TileAt) (level old new : ℕ) → level < 8
@@ -32,15 +27,6 @@ levels_more tiles level old new low =
     let one : 8 - level ≡ suc (8 - (level + 1)) = omega arith in
     rw one (append_assoc tiles (level_tiles level (old / 2 ^ (8 * level)) (new / 2 ^ (8 * level))) (levels_from (8 - (level + 1)) (level + 1) old new))
 
--- all tiles of a level
-pub level_whole : (tiles : List TileAt) (level old new last : ℕ) → (old ≡ new → ⊥) → last ≡ (new + 255) / 256
-    → tiles ++ map (filled level new) (range_with_len (old / 256) (last - old / 256)) ≡ tiles ++ level_tiles level old new
-level_whole tiles level old new last other is = rw (is, ne_eqb old new other) refl
-
 -- a tile by its parts
 pub same_tile : (t : TileAt) (level number width : ℕ) → t.level ≡ level → t.number ≡ number → t.width ≡ width → t ≡ record { level = level; number = number; width = width }
 same_tile t level number width a b c = rw (← a, ← b, ← c) refl
-
--- the number behind the last tile
-pub last_number : (old new number end : ℕ) → end ≡ div_ceil new 256 → end ≤ number → (old / 256 ≤ end → number ≤ end) → old / 256 ≤ number → old ≤ new → number ≡ (new + 255) / 256
-last_number old new number end is past within from order = omega (arith, within (omega arith))

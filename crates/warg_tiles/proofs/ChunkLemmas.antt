@@ -117,10 +117,6 @@ pub root_lacks : (H : List ℕ → List ℕ) (ds : List (List ℕ)) (o : Option 
 root_lacks H [] o is none = refl
 root_lacks H (d ∷ ds) o is none = let e = sym none ∙ is in cc e
 
--- nothing is behind the first level's nodes
-pub root_begin : (H : List ℕ → List ℕ) (ds : List (List ℕ)) (n m : ℕ) → length ds ≡ n → m ≡ n → None ≡ root_if H (drop m ds)
-root_begin H ds n m count all = sym (root_if_none H (drop m ds) (omega (arith, length-drop m ds)))
-
 -- all is behind the last level's tiles
 pub root_end : (H : List ℕ → List ℕ) (ds : List (List ℕ)) (n level : ℕ) → n ≤ 2 ^ 63 → level ≡ 8 → root_if H (drop (n / 2 ^ (8 * level) * 2 ^ (8 * level)) ds) ≡ root_if H ds
 root_end H ds n level most last =

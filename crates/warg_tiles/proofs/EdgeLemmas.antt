@@ -1,5 +1,5 @@
 -- The right edge of a log, level by level.
-use Rattle.std.proofs.Common.{◌≡◌, ℕ, zero, suc, ◌+◌, ◌-◌, ◌*◌, ◌/◌, ◌%◌, ◌^◌, ◌<◌, ◌≤◌, ◌==◌, if◌then◌else◌, List, [], ◌∷◌, ◌++◌, length, take, drop, slice_index_or, Some, Result, Ok, Err, refl, sym, ap, ◌∙◌, arith}
+use Rattle.std.proofs.Common.{◌≡◌, ℕ, suc, ◌+◌, ◌-◌, ◌*◌, ◌/◌, ◌%◌, ◌^◌, ◌<◌, ◌≤◌, ◌==◌, if◌then◌else◌, List, [], ◌∷◌, ◌++◌, length, take, drop, slice_index_or, Some, Result, Ok, Err, refl, sym, ap, ◌∙◌, arith}
 use Rattle.std.specs.Prelude.{IfOk}
 use Rattle.std.proofs.lemmas.Nat.{pow-add}
 use Rattle.std.proofs.lemmas.Bool.{le-leb, ne_eqb, eq-eqb}
@@ -56,18 +56,6 @@ completed_more level count low full =
 -- a tile has as many digests as its width
 pub tile_count : (H : List ℕ → List ℕ) (ds : List (List ℕ)) (t : TileAt) → length (tile_digests H ds t) ≡ t.width
 tile_count H ds t = length-map-range_with_len (λ i. root_of H (leaves_below (node_in t i) ds)) 0 t.width
-
--- the edge has as many digests as its width
-pub edge_count : (H : List ℕ → List ℕ) (ds : List (List ℕ)) (levels level count : ℕ) → length (edge_within H ds levels level count) ≡ edge_width levels count
-unfolding edge_within edge_width
-edge_count H ds zero level count = refl
-edge_count H ds (suc levels) level count =
-    omega (
-      arith,
-      length-append (edge_within H ds levels (level + 1) (count / 256)) (tile_digests H ds (record { level = level; number = count / 256; width = count % 256 })),
-      tile_count H ds (record { level = level; number = count / 256; width = count % 256 }),
-      edge_count H ds levels (level + 1) (count / 256),
-    )
 
 -- a digest of a tile more
 pub digests_more : (H : List ℕ → List ℕ) (ds : List (List ℕ)) (level number width : ℕ)

@@ -111,9 +111,9 @@ open_stands H ds edge tile_of digests_of xs n none count all is =
     }
 
 -- the first fault of tiles from a level on, by that of the first one
-pub fault_step : {X : Type 0} (tile_of : X → TileAt) (xs others : List X) (first : X) (wanted : TileAt) (n level : ℕ) → level < 8 → (n / 2 ^ (8 * level) % 256 ≡ 0 → ⊥) → wanted ≡ last_tile n level → xs ≡ first ∷ others
-    → tiles_fault (partial_from n level) (map tile_of xs) ≡ earlier (tile_fault wanted (tile_of first)) (tiles_fault (partial_from n (level + 1)) (map tile_of others))
-fault_step tile_of xs others first wanted n level low some at is = rw (from_some n level low (omega (arith, some)), is, at) refl
+pub fault_step : {X : Type 0} (tile_of : X → TileAt) (xs others : List X) (first : X) (wanted : TileAt) (n level : ℕ) → level < 8 → (n / 2 ^ (8 * level) % 256 ≡ 0 → ⊥) → wanted.level ≡ level → wanted.number ≡ n / 2 ^ (8 * level) / 256
+    → wanted.width ≡ n / 2 ^ (8 * level) % 256 → xs ≡ first ∷ others → tiles_fault (partial_from n level) (map tile_of xs) ≡ earlier (tile_fault wanted (tile_of first)) (tiles_fault (partial_from n (level + 1)) (map tile_of others))
+fault_step tile_of xs others first wanted n level low some l m w is = rw (from_some n level low (omega (arith, some)), is, same_tile wanted _ _ _ l m w) refl
 
 -- and that of none, where one is wanted
 pub fault_missing : {X : Type 0} (tile_of : X → TileAt) (xs : List X) (n level : ℕ) → level < 8 → (n / 2 ^ (8 * level) % 256 ≡ 0 → ⊥) → length xs ≡ 0 → tiles_fault (partial_from n level) (map tile_of xs) ≡ Some Count

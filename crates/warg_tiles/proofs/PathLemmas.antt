@@ -1,12 +1,14 @@
 -- Numbers in groups of three digits.
-use Rattle.std.proofs.Common.{◌≡◌, ◌≢◌, inl, inr, ℕ, zero, suc, ◌+◌, ◌-◌, ◌*◌, ◌/◌, ◌%◌, ◌^◌, ◌<◌, ◌≤◌, List, [], ◌∷◌, ◌++◌, ◌==◌, length, get_or, true, false, cond, rules, drop, drop-cons, add-one, Option, Some, None, MatchOption, codes, Bor, refl, sym, ap, ◌∙◌, arith}
+use Rattle.std.proofs.Common.{◌≡◌, ◌≢◌, inl, inr, ℕ, zero, suc, ◌+◌, ◌-◌, ◌*◌, ◌/◌, ◌%◌, ◌^◌, ◌<◌, ◌≤◌, List, [], ◌∷◌, ◌++◌, ◌==◌, length, get_or, true, false, cond, rules, drop, Option, Some, None, MatchOption, codes, Bor, refl, sym, ap, ◌∙◌, arith}
 use Rattle.std.proofs.lemmas.Bool.{cases_lt, cases_eq, eq-eqb, ne_eqb}
-use Rattle.std.proofs.lemmas.List.{append_assoc, append_cancel_left, append-nil, length-append}
+use Rattle.std.specs.List.{AllByRecursion}
+use Rattle.warg_protobuf.proofs.ForCallers.{all_append, all_at}
+use Rattle.std.proofs.lemmas.List.{at_drop_more, append_assoc, append_cancel_left, append-nil, length-append}
 use Rattle.std.proofs.Math.Seq.{get_or-append_seam}
 use Rattle.std.proofs.lemmas.Str.Pattern.{IsSplitOnceResult, split_after, split_parts}
 use Rattle.std.specs.Char.{is_ascii_digit}
 use Rattle.std.specs.Fmt.{decimal, char_count, padded_integral, format_spec}
-use Rattle.std.proofs.lemmas.Fmt.{decimal_digit, decimal_step, decimal_injective}
+use Rattle.std.proofs.lemmas.Fmt.{decimal_digit, decimal_step}
 use Rattle.warg_tiles.specs.TilePaths.{three_digits, group_of, groups_within, groups_of, number_path, place_path, tile_path}
 use Rattle.warg_tiles.specs.Tiles.{TileAt, IsTile}
 use Rattle.warg_tiles.proofs.DecimalLemmas.{decimal_without}
@@ -21,29 +23,22 @@ number_on-le n (byte ∷ bytes) = elim (is_ascii_digit byte) as (λ b. n ≤ con
   | false ↦ number_on-le n bytes
 ]
 
--- no text changes nothing
-pub number_on-none : (n : ℕ) → number_on n [] ≡ n
+-- a byte of a text more
+number_on-drop : (n i : ℕ) (text : List ℕ) → i < length text
+    → number_on n (drop i text) ≡ cond (is_ascii_digit (get_or text i 0)) (number_on (10 * n + (get_or text i 0 - 48)) (drop (i + 1) text)) (number_on n (drop (i + 1) text))
 unfolding number_on
-number_on-none n = refl
+number_on-drop n i text inside = at_drop_more (number_on n) text i 0 inside
 
--- a digit more
-pub number_on-digit : (n byte : ℕ) (bytes : List ℕ) → is_ascii_digit byte ≡ true → number_on n (byte ∷ bytes) ≡ number_on (10 * n + (byte - 48)) bytes
-unfolding number_on
-number_on-digit n byte bytes is = rw is refl
+-- a digit of a text is read
+pub read_digit : (n i : ℕ) (text : List ℕ) → i < length text → is_ascii_digit (get_or text i 0) ≡ true → number_on n (drop i text) ≡ number_on 0 text
+    → (number_on (10 * n + (get_or text i 0 - 48)) (drop (i + 1) text) ≡ number_on 0 text) × (10 * n + (get_or text i 0 - 48) ≤ number_on 0 text)
+read_digit n i text inside is so_far =
+    let read = rw is at (sym (number_on-drop n i text inside) ∙ so_far) in
+    (read, omega (arith, read, number_on-le (10 * n + (get_or text i 0 - 48)) (drop (i + 1) text)))
 
--- another byte more
-pub number_on-other : (n byte : ℕ) (bytes : List ℕ) → is_ascii_digit byte ≡ false → number_on n (byte ∷ bytes) ≡ number_on n bytes
-unfolding number_on
-number_on-other n byte bytes is = rw is refl
-
--- a digit of a text more
-pub number_on-drop_digit : (n i : ℕ) (text : List ℕ) → i < length text → is_ascii_digit (get_or text i 0) ≡ true
-    → number_on n (drop i text) ≡ number_on (10 * n + (get_or text i 0 - 48)) (drop (i + 1) text)
-number_on-drop_digit n i text inside is = rw (drop-cons text i 0 inside, add-one) (number_on-digit n (get_or text i 0) (drop (suc i) text) is)
-
--- another byte of a text more
-pub number_on-drop_other : (n i : ℕ) (text : List ℕ) → i < length text → is_ascii_digit (get_or text i 0) ≡ false → number_on n (drop i text) ≡ number_on n (drop (i + 1) text)
-number_on-drop_other n i text inside is = rw (drop-cons text i 0 inside, add-one) (number_on-other n (get_or text i 0) (drop (suc i) text) is)
+-- and another byte
+pub read_other : (n i : ℕ) (text : List ℕ) → i < length text → is_ascii_digit (get_or text i 0) ≡ false → number_on n (drop i text) ≡ number_on 0 text → number_on n (drop (i + 1) text) ≡ number_on 0 text
+read_other n i text inside is so_far = rw is at (sym (number_on-drop n i text inside) ∙ so_far)
 
 -- one text behind another
 pub number_on-append : (n : ℕ) (xs ys : List ℕ) → number_on n (xs ++ ys) ≡ number_on (number_on n xs) ys
@@ -60,37 +55,25 @@ digit_is d small = search rules
 
 -- three digits more
 pub number_on-three : (n d : ℕ) (rest : List ℕ) → d < 1000 → number_on n (three_digits d ++ rest) ≡ number_on (1000 * n + d) rest
-number_on-three n d rest small =
-    number_on-digit n (48 + d / 100) _ (digit_is (d / 100) (omega arith))
-    ∙ number_on-digit (10 * n + (48 + d / 100 - 48)) (48 + d / 10 % 10) _ (digit_is (d / 10 % 10) (omega arith))
-    ∙ number_on-digit (10 * (10 * n + (48 + d / 100 - 48)) + (48 + d / 10 % 10 - 48)) (48 + d % 10) rest (digit_is (d % 10) (omega arith))
-    ∙ ap (λ m. number_on m rest) (omega arith)
+unfolding number_on
+number_on-three n d rest small = rw (digit_is (d / 100) (omega arith), digit_is (d / 10 % 10) (omega arith), digit_is (d % 10) (omega arith)) (ap (λ m. number_on m rest) (omega arith))
 
 -- the digits of the groups are the number's
 groups_on : (steps n : ℕ) → n ≤ steps → number_on 0 (groups_within steps n) ≡ n
-unfolding groups_within
-groups_on zero n low = number_on-none 0 ∙ omega arith
+unfolding groups_within number_on
+groups_on zero n low = omega arith
 groups_on (suc steps) n low = elim (cases_lt 0 n) [
   | inl some ↦
       let front = groups_within steps (n / 1000) in
-      let last = three_digits (n % 1000) ++ 47 ∷ [] in
-      rw (ne_eqb n 0 (λ e. omega arith)) (
-      number_on-append 0 front (120 ∷ last)
-      ∙ number_on-other (number_on 0 front) 120 last refl
-      ∙ number_on-three (number_on 0 front) (n % 1000) (47 ∷ []) (omega arith)
-      ∙ number_on-other (1000 * number_on 0 front + n % 1000) 47 [] refl
-      ∙ number_on-none (1000 * number_on 0 front + n % 1000)
-      ∙ omega (arith, groups_on steps (n / 1000) (omega arith)))
-  | inr none ↦ rw (eq-eqb n 0 (omega arith)) (number_on-none 0 ∙ omega arith)
+      rw (ne_eqb n 0 (λ e. omega arith)) (number_on-append 0 front (group_of (n % 1000)) ∙ number_on-three (number_on 0 front) (n % 1000) (47 ∷ []) (omega arith) ∙ omega (arith, groups_on steps (n / 1000) (omega arith)))
+  | inr none ↦ rw (eq-eqb n 0 (omega arith)) (omega arith)
 ]
 
 -- the digits of a number's path are the number's
-pub number_on-path : (n : ℕ) → number_on 0 (number_path n) ≡ n
+number_on-path : (n : ℕ) → number_on 0 (number_path n) ≡ n
+unfolding number_on
 number_on-path n =
-    number_on-append 0 (groups_of (n / 1000)) (three_digits (n % 1000))
-    ∙ number_on-three (number_on 0 (groups_of (n / 1000))) (n % 1000) [] (omega arith)
-    ∙ number_on-none (1000 * number_on 0 (groups_of (n / 1000)) + n % 1000)
-    ∙ omega (arith, groups_on (n / 1000) (n / 1000) (omega arith))
+    number_on-append 0 (groups_of (n / 1000)) (three_digits (n % 1000)) ∙ number_on-three (number_on 0 (groups_of (n / 1000))) (n % 1000) [] (omega arith) ∙ omega (arith, groups_on (n / 1000) (n / 1000) (omega arith))
 
 -- a step more than the number says changes nothing
 groups_enough : (s t n : ℕ) → n ≤ s → n ≤ t → groups_within s n ≡ groups_within t n
@@ -137,66 +120,31 @@ pub strip_more : (text front piece rest : List ℕ) (r : Option (Bor (List ℕ))
 strip_more text front piece rest None is found = λ left e. found left (append_cancel_left front rest (piece ++ left) (sym is ∙ e ∙ append_assoc front piece left))
 strip_more text front piece rest (Some x) is found = is ∙ ap (λ l. front ++ l) found ∙ sym (append_assoc front piece x.now)
 
--- a text is no number in groups of three digits, where it doesn't begin with the groups of its digits
-pub no_groups : (text : List ℕ) (n m : ℕ) → number_on 0 text ≡ n → ((rest : List ℕ) → text ≢ groups_of (n / 1000) ++ rest) → text ≢ number_path m
-no_groups text n m digits other is =
+-- a number's path is that of the number which its digits are
+pub path_of_digits : (text : List ℕ) (n m : ℕ) → number_on 0 text ≡ n → text ≡ number_path m → (n ≡ m) × (text ≡ number_path n)
+path_of_digits text n m digits is =
     let same : n ≡ m = sym digits ∙ ap (number_on 0) is ∙ number_on-path m in
-    other (three_digits (m % 1000)) (is ∙ ap (λ k. groups_of (k / 1000) ++ three_digits (m % 1000)) (sym same))
-
--- nor where its last digits are others
-pub no_last : (text last : List ℕ) (n m : ℕ) → number_on 0 text ≡ n → text ≡ groups_of (n / 1000) ++ last → (last ≡ three_digits (n % 1000) → ⊥) → text ≢ number_path m
-no_last text last n m digits front other is =
-    let same : n ≡ m = sym digits ∙ ap (number_on 0) is ∙ number_on-path m in
-    other (append_cancel_left (groups_of (n / 1000)) last (three_digits (n % 1000)) (sym front ∙ is ∙ ap number_path (sym same)))
-
--- a number of 64 bits in groups of three digits has digits of such a number
-pub no_digits : (text : List ℕ) (m : ℕ) → 2 ^ 64 ≤ number_on 0 text → m < 2 ^ 64 → text ≢ number_path m
-no_digits text m large small is = omega (arith, ap (number_on 0) is ∙ number_on-path m)
-
--- where it is
-pub is_number : (text last : List ℕ) (n : ℕ) → text ≡ groups_of (n / 1000) ++ last → last ≡ three_digits (n % 1000) → text ≡ number_path n
-is_number text last n front is = front ∙ ap (λ l. groups_of (n / 1000) ++ l) is
+    (same, is ∙ ap number_path (sym same))
 
 -- a text has no dot
-Dotless : List ℕ → Type 0
-Dotless text = (i : ℕ) → i < length text → get_or text i 0 ≢ 46
+abbrev Dotless : List ℕ → Type 0
+Dotless text = AllByRecursion (λ byte. byte ≢ 46) text
 
-dotless_cons : (byte : ℕ) (text : List ℕ) → byte ≢ 46 → Dotless text → Dotless (byte ∷ text)
-unfolding Dotless
-dotless_cons byte text other free zero inside = other
-dotless_cons byte text other free (suc i) inside = free i (omega arith)
-
-dotless_none : Dotless []
-unfolding Dotless
-dotless_none i inside = absurd (omega arith)
-
-dotless_first : (x : ℕ) (xs : List ℕ) → Dotless (x ∷ xs) → x ≢ 46
-unfolding Dotless
-dotless_first x xs free = free 0 (omega arith)
-
-dotless_rest : (x : ℕ) (xs : List ℕ) → Dotless (x ∷ xs) → Dotless xs
-unfolding Dotless
-dotless_rest x xs free = λ i inside. free (suc i) (omega arith)
-
-dotless_append : (xs ys : List ℕ) → Dotless xs → Dotless ys → Dotless (xs ++ ys)
-dotless_append [] ys free more = more
-dotless_append (x ∷ xs) ys free more = dotless_cons x (xs ++ ys) (dotless_first x xs free) (dotless_append xs ys (dotless_rest x xs free) more)
-
-dotless_three : (n : ℕ) (rest : List ℕ) → Dotless rest → Dotless (three_digits n ++ rest)
-dotless_three n rest free = dotless_cons _ _ (λ e. omega (arith, e)) (dotless_cons _ _ (λ e. omega (arith, e)) (dotless_cons _ _ (λ e. omega (arith, e)) free))
+dotless_three : (n : ℕ) → Dotless (three_digits n)
+dotless_three n = ((λ e. omega (arith, e)), ((λ e. omega (arith, e)), ((λ e. omega (arith, e)), tt)))
 
 dotless_groups : (steps n : ℕ) → Dotless (groups_within steps n)
 unfolding groups_within
-dotless_groups zero n = dotless_none
+dotless_groups zero n = tt
 dotless_groups (suc steps) n = elim (n == 0) as (λ b. Dotless (cond b [] (groups_within steps (n / 1000) ++ group_of (n % 1000)))) [
-  | true ↦ dotless_none
-  | false ↦ dotless_append _ _ (dotless_groups steps (n / 1000)) (dotless_cons 120 _ (λ e. omega (arith, e)) (dotless_three (n % 1000) _ (dotless_cons 47 [] (λ e. omega (arith, e)) dotless_none)))
+  | true ↦ tt
+  | false ↦ all_append (λ byte. byte ≢ 46) (groups_within steps (n / 1000)) (group_of (n % 1000)) (dotless_groups steps (n / 1000))
+      ((λ e. omega (arith, e)), all_append (λ byte. byte ≢ 46) (three_digits (n % 1000)) (47 ∷ []) (dotless_three (n % 1000)) ((λ e. omega (arith, e)), tt))
 ]
 
 -- a number in groups of three digits has no dot
 pub no_dot : (n i : ℕ) → i < length (number_path n) → get_or (number_path n) i 0 ≢ 46
-unfolding Dotless
-no_dot n = dotless_append _ _ (dotless_groups (n / 1000) (n / 1000)) (dotless_three (n % 1000) [] dotless_none)
+no_dot n i inside = all_at (λ byte. byte ≢ 46) (number_path n) i 0 (all_append (λ byte. byte ≢ 46) (groups_of (n / 1000)) (three_digits (n % 1000)) (dotless_groups (n / 1000) (n / 1000)) (dotless_three (n % 1000))) inside
 
 -- a full tile's place has no dot
 pub full_place : (n : ℕ) → place_path n 256 ≡ number_path n
@@ -206,67 +154,24 @@ full_place n = append-nil (number_path n)
 pub partial_place : (n width : ℕ) → width ≢ 256 → place_path n width ≡ number_path n ++ (46 ∷ (112 ∷ (47 ∷ decimal width)))
 partial_place n width other = rw (ne_eqb width 256 other) refl
 
--- the place of a text with no dot is that of a full tile
-pub no_partial : (text : List ℕ) (n width : ℕ) → ((i : ℕ) → i < length text → get_or text i 0 ≢ 46) → width ≢ 256 → text ≢ place_path n width
-no_partial text n width free other is =
-    let front = number_path n in
-    let tail = 112 ∷ (47 ∷ decimal width) in
-    let same : text ≡ front ++ (46 ∷ tail) = is ∙ partial_place n width other in
-    free (length front) (omega (arith, ap length same, length-append front (46 ∷ tail))) (ap (λ t. get_or t (length front) 0) same ∙ get_or-append_seam front 46 tail 0)
-
--- the place of a text with a dot is that of a partial tile
-pub no_full : (text before behind : List ℕ) (n : ℕ) → text ≡ before ++ (46 ∷ behind) → text ≢ place_path n 256
-no_full text before behind n is full =
-    let same : before ++ (46 ∷ behind) ≡ number_path n = sym is ∙ full ∙ full_place n in
-    no_dot n (length before) (omega (arith, ap length same, length-append before (46 ∷ behind))) (ap (λ t. get_or t (length before) 0) (sym same) ∙ get_or-append_seam before 46 behind 0)
-
--- the place of a partial tile parts at its dot
-pub parts_at_dot : (text : List ℕ) (n width : ℕ) (r : Option (Bor (List ℕ) × Bor (List ℕ))) → IsSplitOnceResult 46 text r → text ≡ place_path n width → width ≢ 256
-    → MatchOption r ⊥ (λ x. (x.0.now ≡ number_path n) × (x.1.now ≡ 112 ∷ (47 ∷ decimal width)))
-parts_at_dot text n width r cut is other = split_after 46 text (number_path n) (112 ∷ (47 ∷ decimal width)) r cut (omega arith) (is ∙ partial_place n width other) (no_dot n)
-
--- one text has one width
-pub one_width : (text rest : List ℕ) (width other : ℕ) → text ≡ 112 ∷ (47 ∷ rest) → rest ≡ decimal width → width < 2 ^ 64 → other < 2 ^ 64 → text ≡ 112 ∷ (47 ∷ decimal other) → width ≡ other
-one_width text rest width other is read small fits also = decimal_injective width other small fits (let same : rest ≡ decimal other = cc in sym read ∙ same)
-
--- a text whose part before the dot is no number is no place
-pub no_number : (text : List ℕ) (before behind : Bor (List ℕ)) → IsSplitOnceResult 46 text (Some (before, behind)) → ((n : ℕ) → n < 2 ^ 64 → before.now ≢ number_path n)
-    → (number width : ℕ) → number < 2 ^ 64 → text ≢ place_path number width
-no_number text before behind cut none number width small is = elim (cases_eq width 256) [
-  | inl full ↦ no_full text before.now behind.now number (split_parts 46 text (Some (before, behind)) cut (omega arith)).0 (is ∙ ap (place_path number) full)
-  | inr other ↦ none number small (parts_at_dot text number width (Some (before, behind)) cut is other).0
+-- a place with no dot is that of a full tile, and one with a dot parts there into a number and a width
+pub place_parts : (text : List ℕ) (number width : ℕ) (r : Option (Bor (List ℕ) × Bor (List ℕ))) → IsSplitOnceResult 46 text r → text ≡ place_path number width
+    → MatchOption r (text ≡ number_path number) (λ x. (width ≢ 256) × (x.0.now ≡ number_path number) × (x.1.now ≡ 112 ∷ (47 ∷ decimal width)))
+place_parts text number width None cut is = elim (cases_eq width 256) [
+  | inl full ↦ is ∙ ap (place_path number) full ∙ full_place number
+  | inr other ↦ absurd (split_after 46 text (number_path number) (112 ∷ (47 ∷ decimal width)) None cut (omega arith) (is ∙ partial_place number width other) (no_dot number))
 ]
-
--- nor is one whose part behind the dot is no width
-pub no_width : (text : List ℕ) (before behind : Bor (List ℕ)) → IsSplitOnceResult 46 text (Some (before, behind)) → ((width : ℕ) → 0 < width → width < 256 → behind.now ≢ 112 ∷ (47 ∷ decimal width))
-    → (number width : ℕ) → 0 < width → width ≤ 256 → text ≢ place_path number width
-no_width text before behind cut none number width some most is = elim (cases_eq width 256) [
-  | inl full ↦ no_full text before.now behind.now number (split_parts 46 text (Some (before, behind)) cut (omega arith)).0 (is ∙ ap (place_path number) full)
-  | inr other ↦ none width some (omega arith) (parts_at_dot text number width (Some (before, behind)) cut is other).1
+place_parts text number width (Some (before, behind)) cut is = elim (cases_eq width 256) [
+  | inl full ↦
+      let same : before.now ++ (46 ∷ behind.now) ≡ number_path number = sym (split_parts 46 text (Some (before, behind)) cut (omega arith)).0 ∙ is ∙ ap (place_path number) full ∙ full_place number in
+      absurd (no_dot number (length before.now) (omega (arith, ap length same, length-append before.now (46 ∷ behind.now))) (ap (λ t. get_or t (length before.now) 0) (sym same) ∙ get_or-append_seam before.now 46 behind.now 0))
+  | inr other ↦ let parts = split_after 46 text (number_path number) (112 ∷ (47 ∷ decimal width)) (Some (before, behind)) cut (omega arith) (is ∙ partial_place number width other) (no_dot number) in (other, parts.0, parts.1)
 ]
-
--- nor is one without a dot that is no number
-pub no_place : (text : List ℕ) → IsSplitOnceResult 46 text None → ((n : ℕ) → n < 2 ^ 64 → text ≢ number_path n) → (number width : ℕ) → number < 2 ^ 64 → text ≢ place_path number width
-no_place text cut none number width small is = elim (cases_eq width 256) [
-  | inl full ↦ none number small (is ∙ ap (place_path number) full ∙ full_place number)
-  | inr other ↦ no_partial text number width (split_parts 46 text None cut (omega arith)) other is
-]
-
--- a text with a number, a dot and a width is the place of a partial tile
-pub place_is : (text : List ℕ) (before behind : Bor (List ℕ)) (number width : ℕ) → IsSplitOnceResult 46 text (Some (before, behind)) → before.now ≡ number_path number → behind.now ≡ 112 ∷ (47 ∷ decimal width) → width < 256
-    → text ≡ place_path number width
-place_is text before behind number width cut front back part =
-    (split_parts 46 text (Some (before, behind)) cut (omega arith)).0
-    ∙ ap (λ l. l ++ (46 ∷ behind.now)) front ∙ ap (λ l. number_path number ++ (46 ∷ l)) back ∙ sym (partial_place number width (λ e. omega arith))
 
 -- what stands before and behind the slash of a tile's path
-pub parts_at_slash : (text rest : List ℕ) (t : TileAt) (r : Option (Bor (List ℕ) × Bor (List ℕ))) → text ≡ codes "tile/" ++ rest → IsSplitOnceResult 47 rest r → IsTile t → text ≡ tile_path t
+pub parts_at_slash : (text left rest : List ℕ) (t : TileAt) (r : Option (Bor (List ℕ) × Bor (List ℕ))) → text ≡ codes "tile/" ++ left → rest ≡ left → IsSplitOnceResult 47 rest r → IsTile t → text ≡ tile_path t
     → MatchOption r ⊥ (λ x. (x.0.now ≡ decimal t.level) × (x.1.now ≡ place_path t.number t.width))
-parts_at_slash text rest t r front cut tile is =
+parts_at_slash text left rest t r front same cut tile is =
     split_after 47 rest (decimal t.level) (place_path t.number t.width) r cut (omega arith)
-    (append_cancel_left (codes "tile/") rest (decimal t.level ++ (47 ∷ place_path t.number t.width)) (sym front ∙ is))
+    (same ∙ append_cancel_left (codes "tile/") left (decimal t.level ++ (47 ∷ place_path t.number t.width)) (sym front ∙ is))
     (λ i inside. decimal_without t.level 47 i (omega (arith, tile.level)) (λ a b. omega arith) inside)
-
--- one text has one level
-pub one_level : (level : ℕ) (text : List ℕ) (t : TileAt) → text ≡ decimal level → text ≡ decimal t.level → level < 2 ^ 64 → IsTile t → level ≤ 63
-one_level level text t read is fits tile = omega (arith, decimal_injective level t.level fits (omega (arith, tile.level)) (sym read ∙ is), tile.level)

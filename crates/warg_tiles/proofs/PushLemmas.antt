@@ -1,5 +1,5 @@
 -- What a log that keeps its right edge stands for, with an entry more.
-use Rattle.std.proofs.Common.{◌≡◌, ℕ, zero, suc, ◌+◌, ◌-◌, ◌*◌, ◌/◌, ◌%◌, ◌^◌, ◌≤◌, List, [], ◌∷◌, ◌++◌, length, take, drop, slice_index_or, get_or, Some, refl, sym, ap, ◌∙◌, arith}
+use Rattle.std.proofs.Common.{◌≡◌, ℕ, zero, suc, ◌+◌, ◌-◌, ◌*◌, ◌/◌, ◌%◌, ◌^◌, ◌<◌, ◌≤◌, List, [], ◌∷◌, ◌++◌, length, take, drop, slice_index_or, get_or, Some, refl, sym, ap, ◌∙◌, arith}
 use Rattle.std.specs.List.{flat_map, range_with_len}
 use Rattle.std.proofs.Math.Nat.{div-div-eq-div-mul}
 use Rattle.std.proofs.Math.Seq.{get_or-append_seam}
@@ -14,15 +14,25 @@ use Rattle.warg_log.proofs.ForCallers.{root_over_one}
 use Rattle.warg_tiles.specs.Tiles.{TileAt, node_in}
 use Rattle.warg_tiles.specs.TileData.{Tiles, IsTileBy}
 use Rattle.warg_tiles.specs.TileLog.{RightEdge, last_tile, completed_from, completed_at, full_between, tile_digests, edge_digests, AreTilesOf, StandsFor}
-use Rattle.warg_tiles.specs.Private.Edges.{edge_within, edge_from, EndsWith, AreAdded}
+use Rattle.warg_tiles.specs.Private.Edges.{width_from, edge_within, edge_from, EndsWith, AreAdded}
 use Rattle.warg_tiles.proofs.OwnLemmas.{own_is}
-use Rattle.warg_tiles.proofs.EdgeLemmas.{node_root, pow_up, tile_count, digest_at_place, are_append}
+use Rattle.warg_tiles.proofs.EdgeLemmas.{node_root, pow_up, width_step, edge_split, tile_count, digest_at_place, are_append}
 
 -- the nodes of the next level
 pub level_count : (n level : ℕ) → n / 2 ^ (8 * level) / 256 ≡ n / 2 ^ (8 * (level + 1))
 level_count n level =
     let size : 2 ^ (8 * level) * 256 ≡ 2 ^ (8 * (level + 1)) = omega (arith, pow_up level) in
     div-div-eq-div-mul n (2 ^ (8 * level)) 256 ∙ ap (λ p. n / p) size
+
+-- the width of a length's edge from a level on, and its digests, without those of the level's partial tile
+pub width_below : (level n width : ℕ) → level < 8 → width ≡ width_from level (n / 2 ^ (8 * level)) → width ≡ n / 2 ^ (8 * level) % 256 + width_from (level + 1) (n / 2 ^ (8 * (level + 1)))
+width_below level n width low is = rw (← level_count n level) (is ∙ width_step level (n / 2 ^ (8 * level)) low)
+
+pub edge_below : (H : List ℕ → List ℕ) (ds edge : List (List ℕ)) (level n : ℕ) → level < 8 → edge ≡ edge_from H ds level (n / 2 ^ (8 * level))
+    → (take (length edge - n / 2 ^ (8 * level) % 256) edge ≡ edge_from H ds (level + 1) (n / 2 ^ (8 * (level + 1)))) × (drop (length edge - n / 2 ^ (8 * level) % 256) edge ≡ tile_digests H ds (last_tile n level))
+edge_below H ds edge level n low is =
+    let parts = edge_split H ds edge level (n / 2 ^ (8 * level)) low is in
+    (parts.0 ∙ ap (edge_from H ds (level + 1)) (level_count n level), parts.1)
 
 -- the digests of the partial tiles of some levels of a length
 unfoldable pub edge_at : (List ℕ → List ℕ) → List (List ℕ) → ℕ → ℕ → ℕ → List (List ℕ)
@@ -43,6 +53,9 @@ pub edge_digests_is : (H : List ℕ → List ℕ) (ds : List (List ℕ)) → edg
 edge_digests_is H ds =
     let one : length ds / 2 ^ (8 * 0) ≡ length ds = omega arith in
     levels_flat H ds (length ds) ∙ sym (edge_at_is H ds (length ds) 8 0) ∙ ap (edge_within H ds 8 0) one
+
+pub edge_of : (H : List ℕ → List ℕ) (e : RightEdge) (ds : List (List ℕ)) → StandsFor H e ds → e.digests ≡ edge_from H ds 0 e.len
+edge_of H e ds stands = stands.edge ∙ edge_digests_is H ds ∙ ap (edge_from H ds 0) stands.count
 
 -- the root over leaves that are there stays the same as the log grows
 root_over_append : (H : List ℕ → List ℕ) (ds more : List (List ℕ)) (a n : ℕ) → a + n ≤ length ds → root_over H (ds ++ more) a n ≡ root_over H ds a n
@@ -102,13 +115,13 @@ full_more old new order =
     rw (count, more) (flat_map-append completed_at (range_with_len (old + 1) (new - old)) ((new + 1) ∷ []) ∙ ap (λ l. full_between old new ++ l) (append-nil (completed_at (new + 1))))
 
 -- what a log stands for with an entry more
-pub push_stands : (H : List ℕ → List ℕ) (e f : RightEdge) (ds edge : List (List ℕ)) (d : List ℕ) (filled : Tiles) → e.taken ≤ e.len → StandsFor H e ds → edge ≡ edge_from H (ds ++ d ∷ []) 0 (e.len + 1)
-    → AreAdded H (ds ++ d ∷ []) (completed_from (8 - 0) 0 (e.len + 1)) [] filled → f ≡ record { len = e.len + 1; taken = e.taken; digests = edge; full = e.full ++ filled } → StandsFor H f (ds ++ d ∷ [])
-push_stands H e f ds edge d filled order stands made added is =
+pub push_stands : (H : List ℕ → List ℕ) (e : RightEdge) (ds edge : List (List ℕ)) (d : List ℕ) (filled full : Tiles) → e.taken ≤ e.len → StandsFor H e ds → edge ≡ edge_from H (ds ++ d ∷ []) 0 (e.len + 1)
+    → AreAdded H (ds ++ d ∷ []) (completed_from (8 - 0) 0 (e.len + 1)) [] filled → full ≡ e.full ++ filled → StandsFor H (record { len = e.len + 1; taken = e.taken; digests = edge; full = full }) (ds ++ d ∷ [])
+push_stands H e ds edge d filled full order stands made added is =
     let size : length (ds ++ d ∷ []) ≡ e.len + 1 = omega (arith, length-append ds (d ∷ []), stands.count) in
     let tiles : AreTilesOf H (ds ++ d ∷ []) (completed_at (e.len + 1)) filled = rw added.1 added.2 in
-    rw is (record {
+    record {
       count = size;
       edge = made ∙ ap (edge_from H (ds ++ d ∷ []) 0) (sym size) ∙ sym (edge_digests_is H (ds ++ d ∷ []));
-      full = rw (full_more e.taken e.len order) (are_append H (ds ++ d ∷ []) (full_between e.taken e.len) (completed_at (e.len + 1)) e.full filled (tiles_append H ds (d ∷ []) _ e.full stands.full) tiles);
-    })
+      full = rw (is, full_more e.taken e.len order) (are_append H (ds ++ d ∷ []) (full_between e.taken e.len) (completed_at (e.len + 1)) e.full filled (tiles_append H ds (d ∷ []) _ e.full stands.full) tiles);
+    }

@@ -1,15 +1,16 @@
 -- Checkpoint texts, line by line.
-use Rattle.std.proofs.Common.{◌≡◌, ◌≢◌, ℕ, zero, suc, ◌+◌, ◌*◌, ◌/◌, ◌%◌, ◌^◌, ◌<◌, ◌≤◌, ◌==◌, Bool, true, false, if◌then◌else◌, List, [], ◌∷◌, ◌++◌, length, get_or, map, take, replicate, Option, Some, None, Result, Ok, Err, Bor, refl, sym, ap, subst, ◌∙◌, inl, inr, arith}
-use Rattle.std.specs.List.{AllByRecursion}
-use Rattle.std.proofs.lemmas.Bool.{cases_lt}
-use Rattle.std.proofs.lemmas.List.Elements.{All-get_or}
+use Rattle.std.proofs.Common.{◌≡◌, ◌≢◌, ℕ, ◌+◌, ◌*◌, ◌/◌, ◌%◌, ◌^◌, ◌<◌, ◌≤◌, ◌==◌, false, List, [], ◌∷◌, ◌++◌, length, get_or, map, take, replicate, Option, Some, None, Result, Ok, Err, Bor, refl, sym, ap, subst, ◌∙◌, inl, inr, arith}
+use Rattle.std.specs.List.{AllByRecursion, list_any}
+use Rattle.std.proofs.lemmas.Bool.{cases_lt, true≢false}
+use Rattle.std.proofs.lemmas.List.Elements.{All-get_or, All-from_get_or, All-replicate, recursion_from_All}
+use Rattle.std.proofs.lemmas.List.Folds.{list_any_at}
+use Rattle.warg_protobuf.proofs.ForCallers.{all_append, all_push}
 use Rattle.std.specs.Fmt.{decimal}
-use Rattle.std.proofs.lemmas.Fmt.{decimal_injective, IsAscii-decimal}
-use Rattle.std.proofs.lemmas.Str.{IsUtf8-from_ascii}
+use Rattle.std.proofs.lemmas.Fmt.{decimal_injective}
 use Rattle.std.specs.Str.{IsUtf8}
 use Rattle.std.specs.Prelude.{MatchResult, IfOk, IfErr, IsOk, IsErrAnd, ◌↔◌}
 use Rattle.std.specs.Result.{result_ok}
-use Rattle.std.proofs.lemmas.List.{append_assoc, append-nil, get_or_past, length-append, length-replicate, take_more, map-append}
+use Rattle.std.proofs.lemmas.List.{append_assoc, append-nil, get_or_past, length-append, length-replicate, map_more}
 use Rattle.base64.specs.Engines.{standard}
 use Rattle.base64.specs.GeneralPurpose.{encode_of, decode_of, IsBytes}
 use Rattle.base64.specs.Rfc4648.{encode_symbols, padding_len}
@@ -41,38 +42,15 @@ line_once (x ∷ a) r (y ∷ b) s p q is =
     let first : x ≡ y = cc in
     (cc (rest.0, first), rest.1)
 
--- bytes that are no newline at any place
-by_places : (xs : List ℕ) → ((i : ℕ) → i < length xs → get_or xs i 0 ≢ 10) → HasNoNewline xs
-by_places [] each = tt
-by_places (x ∷ xs) each = (each 0 (omega arith), by_places xs (λ i low. each (suc i) (omega arith)))
-
 -- a number in decimal has no newline
 pub no_newline-decimal : (n : ℕ) → n < 2 ^ 64 → HasNoNewline (decimal n)
-no_newline-decimal n small = by_places (decimal n) (λ i low. decimal_without n 10 i small (λ a b. omega arith) low)
-
-no_newline-append : (xs ys : List ℕ) → HasNoNewline xs → HasNoNewline ys → HasNoNewline (xs ++ ys)
-no_newline-append [] ys p q = q
-no_newline-append (x ∷ xs) ys p q = (p.0, no_newline-append xs ys p.1 q)
-
-no_newline-replicate : (n x : ℕ) → x ≢ 10 → HasNoNewline (replicate n x)
-no_newline-replicate zero x p = tt
-no_newline-replicate (suc n) x p = (p, no_newline-replicate n x p)
-
-abbrev lacks : List ℕ → Bool
-lacks [] = true
-lacks (x ∷ xs) = if x == 10 then false else lacks xs
-
-lacks_cons : (x : ℕ) (rest b : Bool) → (x == 10) ≡ b → (if b then false else rest) ≡ true → (x ≢ 10) × (rest ≡ true)
-lacks_cons x rest true e is = cc
-lacks_cons x rest false e is = (λ (ten : x ≡ 10). let t : (10 == 10) ≡ false = ap (λ n. n == 10) (sym ten) ∙ e in cc, is)
-
-never : (xs : List ℕ) → lacks xs ≡ true → (k : ℕ) → get_or xs k 0 ≢ 10
-never [] is k = omega arith
-never (x ∷ xs) is zero = (lacks_cons x (lacks xs) (x == 10) refl is).0
-never (x ∷ xs) is (suc k) = never xs (lacks_cons x (lacks xs) (x == 10) refl is).1 k
+no_newline-decimal n small = recursion_from_All (λ b. b ≢ 10) (decimal n) (All-from_get_or (λ b. b ≢ 10) (decimal n) 0 (λ i low. decimal_without n 10 i small (λ a b. omega arith) low))
 
 symbol : (k : ℕ) → get_or standard.encode_table k 0 ≢ 10
-symbol k = never standard.encode_table refl k
+symbol k is = elim (cases_lt k (length standard.encode_table)) [
+  | inl low ↦ let none : list_any (λ x. x == 10) standard.encode_table ≡ false = refl in true≢false (sym (list_any_at (λ x. x == 10) standard.encode_table k 0 low (rw is refl)) ∙ none)
+  | inr past ↦ omega (arith, sym is ∙ get_or_past standard.encode_table k 0 past)
+]
 
 symbols : (m : List ℕ) → HasNoNewline (encode_symbols standard.encode_table m)
 unfolding encode_symbols
@@ -83,7 +61,9 @@ symbols (a ∷ b ∷ c ∷ rest) = (symbol (a / 4), (symbol (a % 4 * 16 + b / 16
 
 -- base64 has no newline
 pub no_newline-encode : (m : List ℕ) → HasNoNewline (encode_of standard m)
-no_newline-encode m = no_newline-append (encode_symbols standard.encode_table m) (replicate (padding_len (length m)) 61) (symbols m) (no_newline-replicate (padding_len (length m)) 61 (omega arith))
+no_newline-encode m =
+    let padding : List ℕ = replicate (padding_len (length m)) 61 in
+    all_append (λ b. b ≢ 10) (encode_symbols standard.encode_table m) padding (symbols m) (recursion_from_All (λ b. b ≢ 10) padding (All-replicate (λ b. b ≢ 10) (padding_len (length m)) 61 (λ e. omega (arith, e))))
 
 -- a digest's bytes are bytes
 pub digest_bytes : (root : List ℕ) → IsDigest root → IsBytes root
@@ -92,13 +72,18 @@ digest_bytes root is i = elim (cases_lt i (length root)) [
   | inr out ↦ rw (get_or_past root i 0 out) (omega arith)
 ]
 
--- base64 is read in one way
-pub encode_once : (a b : List ℕ) → IsDigest a → IsDigest b → encode_of standard a ≡ encode_of standard b → a ≡ b
-encode_once a b p q is =
-    let one = decode_of-encode_of standard a refl (digest_bytes a p) in
-    let two = decode_of-encode_of standard b refl (digest_bytes b q) in
-    let e = sym one ∙ ap (decode_of standard) is ∙ two in
-    cc e
+-- a length's line is read in one way
+length_once : (n m : ℕ) (r s : List ℕ) → n ≤ 2 ^ 63 → m ≤ 2 ^ 63 → length_line n r ≡ length_line m s → (n ≡ m) × (r ≡ s)
+length_once n m r s p q is =
+    let once = line_once (decimal n) r (decimal m) s (no_newline-decimal n (omega arith)) (no_newline-decimal m (omega arith)) is in
+    (decimal_injective n m (omega arith) (omega arith) once.0, once.1)
+
+-- and so is a root's
+root_once : (a b r s : List ℕ) → IsDigest a → IsDigest b → root_line a r ≡ root_line b s → (a ≡ b) × (r ≡ s)
+root_once a b r s p q is =
+    let once = line_once (encode_of standard a) r (encode_of standard b) s (no_newline-encode a) (no_newline-encode b) is in
+    let read = sym (decode_of-encode_of standard a refl (digest_bytes a p)) ∙ ap (decode_of standard) once.0 ∙ decode_of-encode_of standard b refl (digest_bytes b q) in
+    (cc read, once.1)
 
 -- bytes that aren't read as text are no text
 pub not_utf8 : {S E : Type 0} (P : S → Type 0) (Q : E → Type 0) (bytes : List ℕ) (r : Result S E) (o : Option S) → MatchResult r P (λ e. (IsUtf8 bytes → ⊥) × Q e) → o ≡ result_ok r → o ≡ None → IsUtf8 bytes → ⊥
@@ -113,10 +98,6 @@ text_read P Q bytes (Err e) o t cases is some = let f = sym is ∙ some in cc f
 -- the number in decimal on a line is in its bytes alone
 pub decimal_line : (bytes text rest more : List ℕ) (n : ℕ) → HasNoNewline text → bytes ≡ line text rest → n ≤ 2 ^ 63 → bytes ≡ length_line n more → text ≡ decimal n
 decimal_line bytes text rest more n none is most other = (line_once text rest (decimal n) more none (no_newline-decimal n (omega arith)) (sym is ∙ other)).0
-
--- and is UTF-8
-pub utf8-decimal : (n : ℕ) → n ≤ 2 ^ 63 → IsUtf8 (decimal n)
-utf8-decimal n most = IsUtf8-from_ascii (decimal n) (IsAscii-decimal n (omega arith))
 
 -- the base64 of a digest on a line is in its bytes alone
 pub root_line_is : (bytes text rest more root : List ℕ) → HasNoNewline text → bytes ≡ line text rest → bytes ≡ root_line root more → text ≡ encode_of standard root
@@ -171,15 +152,10 @@ text_written said b1 b2 b3 b4 one two three four =
     four ∙ ap (λ b. b ++ lines said.extensions []) (three ∙ ap (λ b. b ++ (encode_of standard said.root ++ 10 ∷ [])) (two ∙ ap (λ b. b ++ (decimal said.length ++ 10 ∷ [])) one)) ∙ simp append_assoc
 
 -- lines up to one more of a list
-pub lines-take : {X : Type 0} (f : X → List ℕ) (xs : List X) (x : X) (i : ℕ) → i < length xs → x ≡ get_or xs i x → lines (map f (take (i + 1) xs)) [] ≡ lines (map f (take i xs)) [] ++ (f x ++ 10 ∷ [])
-lines-take f xs x i inside is =
-    ap (λ l. lines (map f l) []) (take_more xs i x inside) ∙ ap (λ y. lines (map f (take i xs ++ y ∷ [])) []) (sym is) ∙ ap (λ l. lines l []) (map-append f (take i xs) (x ∷ []))
-    ∙ lines-last (map f (take i xs)) (f x) [] ∙ lines-append (map f (take i xs)) (f x ++ 10 ∷ [])
-
--- no lines
-pub lines-none : {X : Type 0} (f : X → List ℕ) (xs : List X) (b : List ℕ) → b ≡ b ++ lines (map f (take 0 xs)) []
-unfolding lines
-lines-none f xs b = sym (append-nil b)
+pub lines-take : {X : Type 0} (bytes : List ℕ) (f : X → List ℕ) (xs : List X) (x : X) (i : ℕ) → i < length xs → x ≡ get_or xs i x
+    → bytes ++ lines (map f (take (i + 1) xs)) [] ≡ (bytes ++ lines (map f (take i xs)) []) ++ (f x ++ 10 ∷ [])
+lines-take bytes f xs x i inside is =
+    rw (map_more f xs i x inside, ← is, lines-last (map f (take i xs)) (f x) [], lines-append (map f (take i xs)) (f x ++ 10 ∷ [])) (sym (append_assoc bytes (lines (map f (take i xs)) []) (f x ++ 10 ∷ [])))
 
 -- a line is no end of lines
 line_not_behind : (x r : List ℕ) (b : Option (List ℕ)) → IsLine x → line x r ≢ behind b
@@ -219,14 +195,10 @@ pub added_none : (s : Said) (bytes : List ℕ) → Added s s bytes bytes
 unfolding lines
 added_none s bytes = ([], tt, ap (λ e. record s { extensions = e }) (sym (append-nil s.extensions)), refl)
 
-all_last : (xs : List (List ℕ)) (x : List ℕ) → AllByRecursion IsLine xs → IsLine x → AllByRecursion IsLine (xs ++ x ∷ [])
-all_last [] x p q = (q, tt)
-all_last (y ∷ xs) x p q = (p.0, all_last xs x p.1 q)
-
 pub added_line : (s t u : Said) (bytes rest x more : List ℕ) → Added s t bytes rest → rest ≡ line x more → IsLine x → u ≡ record t { extensions = t.extensions ++ x ∷ [] } → Added s u bytes more
 added_line s t u bytes rest x more added is one grown = (
   added.0 ++ x ∷ [],
-  all_last added.0 x added.1 one,
+  all_push IsLine added.0 x added.1 one,
   grown ∙ ap (λ (a : Said). record a { extensions = a.extensions ++ x ∷ [] }) added.2 ∙ ap (λ e. record s { extensions = e }) (append_assoc s.extensions added.0 (x ∷ [])),
   added.3 ∙ ap (lines added.0) is ∙ sym (lines-last added.0 x more),
 )
@@ -235,20 +207,13 @@ added_line s t u bytes rest x more added is one grown = (
 pub text_once : (s t : Said) (a b : Option (List ℕ)) → CanBeSaid s → CanBeSaid t → text_before s a ≡ text_before t b → (s ≡ t) × (a ≡ b)
 text_once s t a b p q e =
     let one = line_once s.origin _ t.origin _ p.origin.no_newline q.origin.no_newline e in
-    let two = line_once (decimal s.length) _ (decimal t.length) _ (no_newline-decimal s.length (omega (arith, p.length))) (no_newline-decimal t.length (omega (arith, q.length))) one.1 in
-    let three = line_once (encode_of standard s.root) _ (encode_of standard t.root) _ (no_newline-encode s.root) (no_newline-encode t.root) two.1 in
-    let four = lines_once s.extensions t.extensions a b p.extensions q.extensions three.1 in
-    let length : s.length ≡ t.length = decimal_injective s.length t.length (omega (arith, p.length)) (omega (arith, q.length)) two.0 in
-    let root : s.root ≡ t.root = encode_once s.root t.root p.root q.root three.0 in (
-      ap (λ o. record s { origin = o }) one.0 ∙ ap (λ n. record s { origin = t.origin; length = n }) length
-          ∙ ap (λ r. record s { origin = t.origin; length = t.length; root = r }) root ∙ ap (λ x. record t { extensions = x }) four.0,
+    let two = length_once s.length t.length _ _ p.length q.length one.1 in
+    let three = root_once s.root t.root _ _ p.root q.root two.1 in
+    let four = lines_once s.extensions t.extensions a b p.extensions q.extensions three.1 in (
+      ap (λ o. record s { origin = o }) one.0 ∙ ap (λ n. record s { origin = t.origin; length = n }) two.0
+          ∙ ap (λ r. record s { origin = t.origin; length = t.length; root = r }) three.0 ∙ ap (λ x. record t { extensions = x }) four.0,
       four.1,
     )
-
--- bytes that aren't tested as empty
-pub some_of : (xs : List ℕ) (b : Bool) → b ≡ (length xs == 0) → b ≡ false → 0 < length xs
-some_of [] b is none = let e : true ≡ false = sym is ∙ none in cc e
-some_of (x ∷ xs) b is none = omega arith
 
 -- an error that is handed on
 pub err_same : {X E : Type 0} (P : E → Type 0) (e : E) (r : Result X E) → IsErrAnd r (λ f. f ≡ e) → P e → IfErr r P
@@ -266,8 +231,7 @@ pub no_root : (bytes origin rest more : List ℕ) (length : ℕ) → IsLine orig
     → ((root last : List ℕ) → IsDigest root → more ≢ root_line root last) → HasRoot bytes → ⊥
 no_root bytes origin rest more length is first most second none h =
     let behind_origin = (line_once h.0 (length_line h.1 (root_line h.2 h.3)) origin rest h.4.no_newline is.no_newline (sym h.7 ∙ first)).1 in
-    let behind_length = (line_once (decimal h.1) (root_line h.2 h.3) (decimal length) more (no_newline-decimal h.1 (omega (arith, h.5))) (no_newline-decimal length (omega (arith, most))) (behind_origin ∙ second)).1 in
-    none h.2 h.3 h.6 (sym behind_length)
+    none h.2 h.3 h.6 (sym (length_once h.1 length _ more h.5 most (behind_origin ∙ second)).1)
 
 -- what is behind the root's line is no further lines
 pub no_extensions : (bytes origin rest more root last : List ℕ) (length : ℕ) → IsLine origin → bytes ≡ line origin rest → length ≤ 2 ^ 63 → rest ≡ length_line length more
@@ -277,9 +241,8 @@ no_extensions bytes origin rest more root last length is first most second diges
       (origin, length, root, last, is, most, digest, whole),
       λ h.
           let one = (line_once h.0.origin _ origin _ h.2.origin.no_newline is.no_newline (sym h.3 ∙ whole)).1 in
-          let two = (line_once (decimal h.0.length) _ (decimal length) _ (no_newline-decimal h.0.length (omega (arith, h.2.length))) (no_newline-decimal length (omega (arith, most))) one).1 in
-          let three = (line_once (encode_of standard h.0.root) _ (encode_of standard root) _ (no_newline-encode h.0.root) (no_newline-encode root) two).1 in
-          fault h.0.extensions h.1 h.2.extensions (sym three),
+          let two = (length_once h.0.length length _ _ h.2.length most one).1 in
+          fault h.0.extensions h.1 h.2.extensions (sym (root_once h.0.root root _ _ h.2.root digest two).1),
     )
 no_extensions bytes origin rest more root last length is first most second digest third Memory fault =
     (origin, length, root, last, is, most, digest, first ∙ ap (line origin) (second ∙ ap (length_line length) third))

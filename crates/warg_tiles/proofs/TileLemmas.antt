@@ -1,7 +1,7 @@
 -- The least tile of a node.
 use Rattle.std.proofs.Common.{◌↔◌, IsTrue, false}
 use Rattle.std.proofs.Common.{◌≡◌, ℕ, ◌+◌, ◌-◌, ◌*◌, ◌/◌, ◌%◌, ◌^◌, ◌<◌, ◌≤◌, sym, ap, ◌∙◌, arith}
-use Rattle.std.proofs.Math.Nat.{add-sub_of_le, mul-le-mul_left, mul-div_cancel, mul-mod_left, mul-div-le}
+use Rattle.std.proofs.Math.Nat.{add-sub_of_le, mul-le-mul_left, mul-le-mul_right, mul-div_cancel, mul-mod_left, mul-div-le}
 use Rattle.std.proofs.lemmas.Nat.{pow_pos, pow-add, mod-pow-add, le-div}
 use Rattle.std.proofs.Math.Dec.{leb}
 use Rattle.std.proofs.lemmas.Bool.{false≢true, leb-true, le-leb}
@@ -72,39 +72,24 @@ tile_made x k j t small is height place level number width =
     rw (place_in_level_is x, ← height, ← place, ← whole, ← number, ← level)
     (ap (λ w. record { level = t.level; number = t.number; width = w }) (width ∙ ap (λ w. j * 2 ^ (k % 8) % 2 ^ 64 % 256 + w) part))
 
-times_some : (a b : ℕ) → 0 < b → 1 * a ≤ b * a
-times_some a b some = omega (arith, mul-le-mul_left a some)
-
 -- a tile of a log of at most 2 ^ 63 entries has a level below 8
 pub level_low : (t : TileAt) → 0 < t.width → tile_end t ≤ 2 ^ 63 → t.level < 8
 level_low t some fits =
-    let least : 1 * 2 ^ (8 * t.level) ≤ (256 * t.number + t.width) * 2 ^ (8 * t.level) = times_some (2 ^ (8 * t.level)) (256 * t.number + t.width) (omega arith) in
+    let least : 1 * 2 ^ (8 * t.level) ≤ (256 * t.number + t.width) * 2 ^ (8 * t.level) = mul-le-mul_right (2 ^ (8 * t.level)) (omega arith) in
     let low : 8 * t.level < 64 = pow_below_pow (8 * t.level) 64 (omega arith) in
     omega arith
-
--- the end of a tile by the nodes of its level
-pub end_by_nodes : (t : TileAt) (n : ℕ) → 256 * t.number + t.width ≤ n / 2 ^ (8 * t.level) → tile_end t ≤ n
-end_by_nodes t n within = omega (arith, mul-le-mul_left (2 ^ (8 * t.level)) within, mul-div-le n (2 ^ (8 * t.level)))
-
-pub nodes_by_end : (t : TileAt) (n : ℕ) → tile_end t ≤ n → 256 * t.number + t.width ≤ n / 2 ^ (8 * t.level)
-nodes_by_end t n within = le-div (256 * t.number + t.width) n (2 ^ (8 * t.level)) (pow_pos (8 * t.level)) within
 
 -- the number of a tile of such a log
 pub number_low : (t : TileAt) → 0 < t.width → tile_end t ≤ 2 ^ 63 → t.number < 2 ^ 55
 number_low t some fits = omega (arith, mul-le-mul_left (256 * t.number + t.width) (pow_pos (8 * t.level)))
 
--- the start of a node's digests within its tile, and their number
-pub parts_of_width : (x w : ℕ) → w ≡ (tile_over x).width → (2 ^ (height_of x % 8) ≤ w) × (w - 2 ^ (height_of x % 8) ≡ place_in_level x % 256)
-parts_of_width x w is = (omega (arith, is), omega (arith, is))
-
--- a tile of a level above 7 stands at no length
-pub low_only : (t : TileAt) (n : ℕ) → 8 ≤ t.level → 0 < t.width → n ≤ 2 ^ 63 → IsTrue false ↔ (tile_end t ≤ n)
-low_only t n high some small = (λ yes. absurd (false≢true yes), λ fits. let low : t.level < 8 = level_low t some (omega (arith, fits)) in absurd (omega arith))
-
--- nor does one of a number from 2 ^ 55 on
-pub below_only : (t : TileAt) (n : ℕ) → 2 ^ 55 ≤ t.number → 0 < t.width → n ≤ 2 ^ 63 → IsTrue false ↔ (tile_end t ≤ n)
-below_only t n high some small = (λ yes. absurd (false≢true yes), λ fits. let low : t.number < 2 ^ 55 = number_low t some (omega (arith, fits)) in absurd (omega arith))
+-- a tile of a level above 7, or of a number from 2 ^ 55 on, stands at no length
+pub at_no_length : (t : TileAt) (n : ℕ) → (t.level < 8 → t.number < 2 ^ 55 → ⊥) → 0 < t.width → n ≤ 2 ^ 63 → IsTrue false ↔ (tile_end t ≤ n)
+at_no_length t n beyond some small = (λ yes. absurd (false≢true yes), λ fits. absurd (beyond (level_low t some (omega arith)) (number_low t some (omega arith))))
 
 -- any other stands at the lengths that have so many nodes of its level
 pub by_nodes : (t : TileAt) (n : ℕ) → IsTrue (leb (256 * t.number + t.width) (n / 2 ^ (8 * t.level))) ↔ (tile_end t ≤ n)
-by_nodes t n = (λ yes. end_by_nodes t n (leb-true (256 * t.number + t.width) (n / 2 ^ (8 * t.level)) yes), λ fits. le-leb (256 * t.number + t.width) (n / 2 ^ (8 * t.level)) (nodes_by_end t n fits))
+by_nodes t n = (
+  λ yes. omega (arith, mul-le-mul_left (2 ^ (8 * t.level)) (leb-true (256 * t.number + t.width) (n / 2 ^ (8 * t.level)) yes), mul-div-le n (2 ^ (8 * t.level))),
+  λ fits. le-leb (256 * t.number + t.width) (n / 2 ^ (8 * t.level)) (le-div (256 * t.number + t.width) n (2 ^ (8 * t.level)) (pow_pos (8 * t.level)) fits),
+)

@@ -267,6 +267,7 @@ fn push_line<A: Allocator>(bytes: &mut Vec<u8, A>, line: &[u8]) -> Result<(), Al
 }
 
 // Writes lines and their newlines.
+#[tactic(auto, unfolding(crate::specs::CheckpointText::lines))]
 fn push_lines<A: Allocator, B: Allocator>(
     bytes: &mut Vec<u8, A>,
     extensions: &[Vec<u8, B>],

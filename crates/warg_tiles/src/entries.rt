@@ -14,6 +14,7 @@ const TOO_LONG: usize = 1 << 16;
 /// The bytes of the bundle of these entries: for each its length as two bytes, the greater one first, and then its bytes
 /// (C2SP tlog-tiles). `TooLong` exactly if an entry has more than 65,535 bytes, before memory is taken; else memory is
 /// the only error.
+#[tactic(auto, unfolding(crate::specs::EntryBundles::bundle_of))]
 pub fn write_entries<T: AsSlice<u8>, A: Allocator>(
     alloc: A,
     entries: &[T],
@@ -34,6 +35,7 @@ pub fn write_entries<T: AsSlice<u8>, A: Allocator>(
 
 /// Adds an entry behind those of a bundle's bytes. `TooLong` exactly if it has more than 65,535 bytes; else memory is the
 /// only error. A refused call leaves the bytes as they were.
+#[tactic(auto, unfolding(crate::specs::EntryBundles::bundle_of))]
 pub fn push_entry<A: Allocator>(bytes: &mut Vec<u8, A>, entry: &[u8]) -> Result<(), EntriesError>
     ensures ok { OnOk result (bytes.new.items ≡ bytes.old.items ++ bundle_of (entry.now ∷ [])) }
     ensures err { OnErr result (bytes.new.items ≡ bytes.old.items) }
@@ -74,6 +76,7 @@ fn write_entry<A: Allocator>(bytes: &mut Vec<u8, A>, entry: &[u8]) -> Result<(),
 
 /// The entries of a bundle, lent from its bytes. `Truncated` only where the bytes are no bundle's: they end within an
 /// entry's length or within an entry. Else memory is the only error.
+#[tactic(auto, unfolding(crate::specs::EntryBundles::bundle_of))]
 pub fn read_entries<A: Allocator>(alloc: A, bytes: &[u8]) -> Result<Vec<&[u8], A>, EntriesError>
     ensures ok { IfOk result (λ entries. bytes.now ≡ bundle_of (map (λ e. e.now) entries.items)) }
     ensures truncated { result ≡ Err EntriesError.Truncated → (entries : List (List ℕ))

@@ -1,6 +1,7 @@
-use Rattle.std.proofs.Common.{◌≡◌, ◌/◌, ◌∙◌}
+use Rattle.std.proofs.Common.{◌≡◌, ◌+◌, ◌/◌, ◌∙◌, refl, arith}
+use Rattle.std.proofs.lemmas.Bool.{ne_eqb}
 use Rattle.warg_tiles.specs.Between.{filled}
-use Rattle.warg_tiles.proofs.BetweenLemmas.{numbers_more, level_whole, same_tile, last_number}
+use Rattle.warg_tiles.proofs.BetweenLemmas.{numbers_more, same_tile}
 use Rattle.warg_tiles.proofs.between.push_level.Goals as goal
 
 pub numbers-preserved : goal.numbers-preserved
@@ -9,4 +10,6 @@ numbers-preserved g c =
     rw (c.in_ok-push.ensures.items, c.numbers.invariant, tile) (numbers_more c.args.tiles.now.items c.args.level c.args.new_count (c.args.old_count / 256) c.numbers.number c.numbers.auto.number)
 
 pub returns : goal.returns
-returns g c = c.numbers.invariant ∙ level_whole c.args.tiles.now.items c.args.level c.args.old_count c.args.new_count c.numbers.number c.if-old_count-new_count.false (last_number c.args.old_count c.args.new_count c.numbers.number _ c.div_ceil-number-end.ensures c.numbers-test.false c.numbers.auto.number-end c.numbers.auto.number c.requires.order)
+returns g c =
+    let last : c.numbers.number ≡ (c.args.new_count + 255) / 256 = omega (arith, c.div_ceil-number-end.ensures, c.numbers.auto.number-end (omega arith)) in
+    c.numbers.invariant ∙ rw (last, ne_eqb c.args.old_count c.args.new_count c.if-old_count-new_count.false) refl

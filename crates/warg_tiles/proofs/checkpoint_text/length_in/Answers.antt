@@ -1,8 +1,9 @@
 use Rattle.std.proofs.Common.{◌≡◌, sym, subst, ◌∙◌, arith}
 use Rattle.std.specs.Str.{IsUtf8}
 use Rattle.std.specs.Fmt.{decimal}
-use Rattle.std.proofs.lemmas.Fmt.{decimal_injective}
-use Rattle.warg_tiles.proofs.TextLemmas.{no_line, decimal_line, utf8-decimal, not_utf8, text_read}
+use Rattle.std.proofs.lemmas.Fmt.{decimal_injective, IsAscii-decimal}
+use Rattle.std.proofs.lemmas.Str.{IsUtf8-from_ascii}
+use Rattle.warg_tiles.proofs.TextLemmas.{no_line, decimal_line, not_utf8, text_read}
 use Rattle.warg_tiles.proofs.checkpoint_text.length_in.Goals as goal
 
 pub returns-in_err-line : goal.returns-in_err-line
@@ -12,7 +13,7 @@ pub returns-in_err-ok : goal.returns-in_err-ok
 returns-in_err-ok c =
     rw c.from_residual-in_err-ok.ensures (λ n rest most is.
     let at = decimal_line c.args.bytes.now c.in_ok-line.line.now c.in_ok-line.rest.now rest n c.in_ok-line.ensures.0 c.in_ok-line.ensures.1 most is in
-    not_utf8 _ _ c.in_ok-line.line.now c.from_utf8.result c.ok.result c.from_utf8.ensures.cases c.ok.ensures.value c.in_err-ok.was (subst IsUtf8 (sym at) (utf8-decimal n most)))
+    not_utf8 _ _ c.in_ok-line.line.now c.from_utf8.result c.ok.result c.from_utf8.ensures.cases c.ok.ensures.value c.in_err-ok.was (subst IsUtf8 (sym at) (IsUtf8-from_ascii (decimal n) (IsAscii-decimal n (omega arith)))))
 
 pub returns-in_err-length : goal.returns-in_err-length
 returns-in_err-length c =

@@ -1,18 +1,17 @@
-use Rattle.std.proofs.Common.{Bor, List, ℕ, map, refl, sym, ◌∙◌}
-use Rattle.warg_tiles.proofs.EntryLemmas.{bundle_of-none, read_more, short_more, none_left, shorter, some_left, nothing_left}
+use Rattle.std.proofs.Common.{Bor, List, ℕ, ◌<◌, length, map, ap, sym, ◌∙◌, arith, length-append}
+use Rattle.std.proofs.lemmas.List.{map_push}
+use Rattle.warg_protobuf.proofs.ForCallers.{all_push}
+use Rattle.warg_tiles.proofs.EntryLemmas.{read_more, none_left, some_left, nothing_left}
 use Rattle.warg_tiles.proofs.entries.read_entries.Goals as goal
 
-pub entries-init : goal.entries-init
-entries-init g c = rw (c.new-entries.ensures.items, bundle_of-none) record { read = refl; short = tt }
-
 pub entries-preserved : goal.entries-preserved
-entries-preserved g c = rw c.in_ok-push.ensures.items record {
-  read = read_more c.args.bytes.now c.entries.entries.items c.in-Some.entry c.entries.rest.now c.in-Some.behind.now c.entries.invariant.read c.in-Some.ensures.1;
-  short = short_more c.entries.entries.items c.in-Some.entry c.entries.invariant.short c.in-Some.ensures.0;
+entries-preserved g c = rw (c.in_ok-push.ensures.items, map_push (λ (e : Bor (List ℕ)). e.now) c.entries.entries.items c.in-Some.entry) record {
+  read = read_more c.args.bytes.now (map (λ (e : Bor (List ℕ)). e.now) c.entries.entries.items) c.in-Some.entry.now c.entries.rest.now c.in-Some.behind.now c.entries.invariant.read c.in-Some.ensures.1;
+  short = all_push (λ (e : List ℕ). length e < 65536) (map (λ (e : Bor (List ℕ)). e.now) c.entries.entries.items) c.in-Some.entry.now c.entries.invariant.short c.in-Some.ensures.0;
 }
 
 pub entries-smaller : goal.entries-smaller
-entries-smaller g c = shorter c.entries.rest.now c.in-Some.entry.now c.in-Some.behind.now c.in-Some.ensures.1
+entries-smaller g c = omega (arith, ap length c.in-Some.ensures.1, length-append c.in-Some.entry.now c.in-Some.behind.now)
 
 pub returns-in_default-clause-truncated : goal.returns-in_default-clause-truncated
 returns-in_default-clause-truncated g c = λ refused ys short is.

@@ -1,15 +1,13 @@
 use Rattle.std.proofs.Common.{◌<◌, length, map, sym, ap, ◌∙◌}
 use Rattle.std.proofs.lemmas.List.{take_all}
 use Rattle.warg_tiles.specs.EntryBundles.{bundle_of}
-use Rattle.warg_tiles.proofs.EntryLemmas.{bundle_of-none, all-here, written_more}
+use Rattle.warg_tiles.proofs.EntryLemmas.{written_more}
+use Rattle.warg_protobuf.proofs.ForCallers.{all_at}
 use Rattle.warg_tiles.proofs.entries.write_entries.Goals as goal
-
-pub entries-init : goal.entries-init
-entries-init g c = c.new-bytes.ensures.items ∙ sym bundle_of-none
 
 pub write_entry-requires : goal.write_entry-requires
 write_entry-requires g c =
-    let short = all-here (λ e. length (g.T.AsSlice.items e) < 65536) c.args.entries.now c.entries.entry-index c.entry-item.result c.entries-test.true (c.are_short.ensures.0 c.if-not-are_short.false) in
+    let short = all_at (λ e. length (g.T.AsSlice.items e) < 65536) c.args.entries.now c.entries.entry-index c.entry-item.result (c.are_short.ensures.0 c.if-not-are_short.false) c.entries-test.true in
     rw (c.as_slice.ensures, c.entry-item.is) short
 
 pub entries-preserved : goal.entries-preserved

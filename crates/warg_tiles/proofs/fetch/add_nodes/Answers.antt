@@ -1,8 +1,9 @@
-use Rattle.std.proofs.Common.{◌≡◌, get_or, sym, ◌∙◌}
+use Rattle.std.proofs.Common.{[], ◌∷◌, get_or, map, take, sym, ◌∙◌}
+use Rattle.std.proofs.lemmas.List.{map_more}
 use Rattle.warg_log.specs.Nodes.{ExistsAt}
 use Rattle.warg_log.specs.declared.node.Node.{Node}
-use Rattle.warg_tiles.proofs.EntryLemmas.{all-here}
-use Rattle.warg_tiles.proofs.FetchLemmas.{added_none, added_known, added_new, at_any}
+use Rattle.warg_protobuf.proofs.ForCallers.{all_at}
+use Rattle.warg_tiles.proofs.FetchLemmas.{added_none, added_known, added_new, added_append}
 use Rattle.warg_tiles.proofs.fetch.add_nodes.Goals as goal
 use Rattle.warg_tiles.proofs.fetch.add_nodes.Goals.{then-not-give+in_ok-push, else-not-give}
 
@@ -10,18 +11,17 @@ pub nodes-init : goal.nodes-init
 nodes-init g c = added_none c.args.length c.args.tiles.now.items
 
 pub tile_for-requires-clause-exists : goal.tile_for-requires-clause-exists
-tile_for-requires-clause-exists g c = all-here (λ (node : Node). ExistsAt node.0 c.args.length) c.args.nodes.now c.nodes.node-index _ c.nodes-test.true c.requires.exist
+tile_for-requires-clause-exists g c = all_at (λ (node : Node). ExistsAt node.0 c.args.length) c.args.nodes.now c.nodes.node-index _ c.requires.exist c.nodes-test.true
 
 pub nodes-preserved : goal.nodes-preserved
 nodes-preserved g c =
-    let node : Node = get_or c.args.nodes.now c.nodes.node-index (record { 0 = 0 }) in
-    let here : node ≡ get_or c.args.nodes.now c.nodes.node-index node = at_any c.args.nodes.now c.nodes.node-index (record { 0 = 0 }) node c.nodes-test.true in
+    let none : Node = record { 0 = 0 } in
+    let x = (get_or c.args.nodes.now c.nodes.node-index none).0 in
     let asked = rw c.as_slice.ensures.value at c.give.ensures in
-    elim c.if-not-give.branch [
+    let more = added_append c.args.length c.args.tiles.now.items c.nodes.tiles.items c.if-not-give.tiles.items (map (λ (x : Node). x.0) (take c.nodes.node-index c.args.nodes.now)) (x ∷ []) c.nodes.invariant in
+    rw (map_more (λ (x : Node). x.0) c.args.nodes.now c.nodes.node-index none c.nodes-test.true)
+    (more (elim c.if-not-give.branch [
       | then-not-give+in_ok-push w ↦
-          rw (w.tiles-is, w.in_ok-push.ensures.items)
-          (added_new c.args.length c.args.tiles.now.items c.nodes.tiles.items w.tile_for.result c.args.nodes.now node c.nodes.node-index c.nodes-test.true here c.nodes.invariant
-          (sym asked ∙ w.if-not-give.true) w.tile_for.ensures.of w.tile_for.ensures.gives)
-      | else-not-give w ↦
-          rw w.tiles-is (added_known c.args.length c.args.tiles.now.items c.nodes.tiles.items c.args.nodes.now node c.nodes.node-index c.nodes-test.true here c.nodes.invariant (sym asked ∙ w.if-not-give.false))
-    ]
+          rw (w.tiles-is, w.in_ok-push.ensures.items) (added_new c.args.length x c.nodes.tiles.items w.tile_for.result (sym asked ∙ w.if-not-give.true) w.tile_for.ensures.of w.tile_for.ensures.gives)
+      | else-not-give w ↦ rw w.tiles-is (added_known c.args.length x c.nodes.tiles.items (sym asked ∙ w.if-not-give.false))
+    ]))

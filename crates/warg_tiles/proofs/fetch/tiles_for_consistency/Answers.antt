@@ -1,25 +1,25 @@
-use Rattle.std.proofs.Common.{get_or, map, ap, ◌∙◌}
+use Rattle.std.proofs.Common.{map, ap, ◌∙◌}
+use Rattle.std.proofs.lemmas.List.{take_all}
 use Rattle.warg_log.specs.declared.node.Node.{Node}
-use Rattle.warg_tiles.proofs.FetchLemmas.{added_none, added_root, all_roots, root_there, at_any, some_length}
+use Rattle.warg_tiles.proofs.FetchLemmas.{added_none, added_root, added_first, root_there}
 use Rattle.warg_tiles.proofs.fetch.tiles_for_consistency.Goals as goal
 
 pub roots-init : goal.roots-init
-roots-init g c = rw c.new-tiles.ensures.items (added_none c.args.new_length _)
+roots-init g c = rw (c.new-tiles.ensures.items) (added_none c.args.new_length _)
 
 pub add_root-requires-clause-exists : goal.add_root-requires-clause-exists
 add_root-requires-clause-exists g c =
-    root_there c.args.old_length c.args.new_length c.as_slice-root-items.result.now c.roots.root-index (record { 0 = 0 }) c.requires.order (ap (map (λ (x : Node). x.0)) c.as_slice-root-items.ensures.value ∙ c.in_ok-roots.ensures) c.roots-test.true
+    (root_there c.args.old_length c.args.new_length c.as_slice-root-items.result.now c.roots.root-index (record { 0 = 0 }) c.requires.order (ap (map (λ (x : Node). x.0)) c.as_slice-root-items.ensures.value ∙ c.in_ok-roots.ensures) c.roots-test.true).0
 
 pub add_root-requires-clause-some : goal.add_root-requires-clause-some
 add_root-requires-clause-some g c =
-    some_length _ c.args.new_length (root_there c.args.old_length c.args.new_length c.as_slice-root-items.result.now c.roots.root-index (record { 0 = 0 }) c.requires.order (ap (map (λ (x : Node). x.0)) c.as_slice-root-items.ensures.value ∙ c.in_ok-roots.ensures) c.roots-test.true)
+    (root_there c.args.old_length c.args.new_length c.as_slice-root-items.result.now c.roots.root-index (record { 0 = 0 }) c.requires.order (ap (map (λ (x : Node). x.0)) c.as_slice-root-items.ensures.value ∙ c.in_ok-roots.ensures) c.roots-test.true).1
 
 pub roots-preserved : goal.roots-preserved
 roots-preserved g c =
-    let root : Node = get_or c.as_slice-root-items.result.now c.roots.root-index (record { 0 = 0 }) in
-    added_root c.args.new_length c.roots.tiles.items c.add_root.new.tiles.items c.as_slice-root-items.result.now root c.roots.root-index c.roots-test.true
-    (at_any c.as_slice-root-items.result.now c.roots.root-index (record { 0 = 0 }) root c.roots-test.true) c.roots.invariant c.in_ok-add_root.ensures
+    added_root c.args.new_length c.roots.tiles.items c.add_root.new.tiles.items c.as_slice-root-items.result.now c.roots.root-index (record { 0 = 0 }) c.roots-test.true c.roots.invariant c.in_ok-add_root.ensures
 
 pub returns : goal.returns
 returns g c =
-    all_roots c.args.old_length c.args.new_length c.roots.tiles.items c.as_slice-root-items.result.now c.roots.root-index c.roots-test.false (ap (map (λ (x : Node). x.0)) c.as_slice-root-items.ensures.value ∙ c.in_ok-roots.ensures) c.roots.invariant
+    let numbers = ap (map (λ (x : Node). x.0)) (take_all c.roots.root-index c.as_slice-root-items.result.now c.roots-test.false ∙ c.as_slice-root-items.ensures.value) ∙ c.in_ok-roots.ensures in
+    added_first c.args.new_length c.roots.tiles.items _ (rw numbers at c.roots.invariant)

@@ -1,5 +1,6 @@
-use Rattle.std.proofs.Common.{◌≡◌, ◌++◌, None, Some, codes, sym, ap, ◌∙◌, arith}
-use Rattle.warg_tiles.proofs.PathLemmas.{parts_at_slash, one_level}
+use Rattle.std.proofs.Common.{None, Some, sym, ◌∙◌, arith}
+use Rattle.std.proofs.lemmas.Fmt.{decimal_injective}
+use Rattle.warg_tiles.proofs.PathLemmas.{parts_at_slash}
 use Rattle.warg_tiles.proofs.path.tile_in.Goals as goal
 
 pub returns-in_err-strip_prefix : goal.returns-in_err-strip_prefix
@@ -7,26 +8,19 @@ returns-in_err-strip_prefix c = rw c.from_residual.ensures (λ t tile is. c.in_e
 
 pub returns-in_err-level : goal.returns-in_err-level
 returns-in_err-level c =
-    let front : c.args.path.now ≡ codes "tile/" ++ c.in_ok-strip_prefix.field-0.now = c.in_ok-strip_prefix.ensures.cases.1.1 ∙ ap (λ r. codes "tile/" ++ r) (sym c.in_ok-strip_prefix.ensures.cases.2) in
-    rw c.from_residual-in_err-level.ensures (λ t tile is. parts_at_slash c.args.path.now c.in_ok-strip_prefix.field-0.now t None front c.in_err-level.ensures.cases tile is)
+    rw c.from_residual-in_err-level.ensures (λ t tile is. parts_at_slash c.args.path.now _ c.in_ok-strip_prefix.field-0.now t None c.in_ok-strip_prefix.ensures.cases.1.1 c.in_ok-strip_prefix.ensures.cases.2 c.in_err-level.ensures.cases tile is)
 
 pub returns-in_err-level-2 : goal.returns-in_err-level-2
 returns-in_err-level-2 c =
-    let front : c.args.path.now ≡ codes "tile/" ++ c.in_ok-strip_prefix.field-0.now = c.in_ok-strip_prefix.ensures.cases.1.1 ∙ ap (λ r. codes "tile/" ++ r) (sym c.in_ok-strip_prefix.ensures.cases.2) in
     rw c.from_residual-in_err-level-2.ensures (λ t tile is. c.in_err-level-2.ensures t.level (omega (arith, tile.level))
-    (parts_at_slash c.args.path.now c.in_ok-strip_prefix.field-0.now t (Some (c.in_ok-level.level, c.in_ok-level.place)) front c.in_ok-level.ensures.cases tile is).0)
+    (parts_at_slash c.args.path.now _ c.in_ok-strip_prefix.field-0.now t (Some (c.in_ok-level.level, c.in_ok-level.place)) c.in_ok-strip_prefix.ensures.cases.1.1 c.in_ok-strip_prefix.ensures.cases.2 c.in_ok-level.ensures.cases tile is).0)
 
 pub returns-in_err-place : goal.returns-in_err-place
 returns-in_err-place c =
-    let front : c.args.path.now ≡ codes "tile/" ++ c.in_ok-strip_prefix.field-0.now = c.in_ok-strip_prefix.ensures.cases.1.1 ∙ ap (λ r. codes "tile/" ++ r) (sym c.in_ok-strip_prefix.ensures.cases.2) in
     rw c.from_residual-in_err-place.ensures (λ t tile is. c.in_err-place.ensures t.number t.width tile.number tile.some tile.most
-    (parts_at_slash c.args.path.now c.in_ok-strip_prefix.field-0.now t (Some (c.in_ok-level.level, c.in_ok-level.place)) front c.in_ok-level.ensures.cases tile is).1)
+    (parts_at_slash c.args.path.now _ c.in_ok-strip_prefix.field-0.now t (Some (c.in_ok-level.level, c.in_ok-level.place)) c.in_ok-strip_prefix.ensures.cases.1.1 c.in_ok-strip_prefix.ensures.cases.2 c.in_ok-level.ensures.cases tile is).1)
 
 pub returns-then-level-gt63 : goal.returns-then-level-gt63
-returns-then-level-gt63 c =
-    let front : c.args.path.now ≡ codes "tile/" ++ c.in_ok-strip_prefix.field-0.now = c.in_ok-strip_prefix.ensures.cases.1.1 ∙ ap (λ r. codes "tile/" ++ r) (sym c.in_ok-strip_prefix.ensures.cases.2) in
-    λ t tile is. omega (
-      arith,
-      one_level c.in_ok-level-2.level c.in_ok-level.level.now t c.in_ok-level-2.ensures
-          (parts_at_slash c.args.path.now c.in_ok-strip_prefix.field-0.now t (Some (c.in_ok-level.level, c.in_ok-level.place)) front c.in_ok-level.ensures.cases tile is).0 (omega arith) tile,
-    )
+returns-then-level-gt63 c = λ t tile is.
+    let parts = parts_at_slash c.args.path.now _ c.in_ok-strip_prefix.field-0.now t (Some (c.in_ok-level.level, c.in_ok-level.place)) c.in_ok-strip_prefix.ensures.cases.1.1 c.in_ok-strip_prefix.ensures.cases.2 c.in_ok-level.ensures.cases tile is in
+    omega (arith, decimal_injective c.in_ok-level-2.level t.level (omega arith) (omega (arith, tile.level)) (sym c.in_ok-level-2.ensures ∙ parts.0), tile.level)

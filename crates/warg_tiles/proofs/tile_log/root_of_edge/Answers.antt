@@ -1,10 +1,9 @@
-use Rattle.std.proofs.Common.{◌≡◌, ◌+◌, ◌*◌, ◌/◌, ◌^◌, ◌++◌, sym, ap, ◌∙◌, arith}
+use Rattle.std.proofs.Common.{drop, length-drop, ◌≡◌, ◌*◌, ◌/◌, ◌++◌, sym, ap, ◌∙◌, arith}
 use Rattle.std.specs.Option.{option_to_list}
 use Rattle.warg_tiles.specs.TileLog.{last_tile, tile_digests}
 use Rattle.warg_tiles.specs.Private.Edges.{width_from, edge_from, root_if}
-use Rattle.warg_tiles.proofs.EdgeLemmas.{width_step, edge_split}
-use Rattle.warg_tiles.proofs.PushLemmas.{level_count}
-use Rattle.warg_tiles.proofs.ChunkLemmas.{root_step, root_end, root_begin}
+use Rattle.warg_tiles.proofs.PushLemmas.{width_below, edge_below}
+use Rattle.warg_tiles.proofs.ChunkLemmas.{root_if_none, root_step, root_end}
 use Rattle.warg_tiles.proofs.tile_log.root_of_edge.Goals as goal
 
 pub levels-init : goal.levels-init
@@ -13,24 +12,22 @@ levels-init g c =
     record {
       width = c.requires.width ∙ ap (width_from 0) (sym all);
       edge = λ ds n is. is ∙ ap (edge_from g.D.SupportedDigest.digest ds 0) (sym all);
-      root = λ ds n is. root_begin g.D.SupportedDigest.digest ds c.args.count (c.args.count / 1 * 1) n (omega arith);
+      root = λ ds n is. sym (root_if_none g.D.SupportedDigest.digest (drop (c.args.count / 1 * 1) ds) (omega (arith, length-drop (c.args.count / 1 * 1) ds)));
     }
 
 pub overflow_sub-rest : goal.overflow_sub-rest
-overflow_sub-rest g c = omega (arith, c.levels.invariant.width, width_step c.levels.level (c.args.count / 2 ^ (8 * c.levels.level)) c.levels-test.true)
+overflow_sub-rest g c = omega (arith, width_below c.levels.level c.args.count _ c.levels-test.true c.levels.invariant.width)
 
 pub levels-preserved : goal.levels-preserved
 levels-preserved g c =
-    let m = c.args.count / 2 ^ (8 * c.levels.level) in
+    let H = g.D.SupportedDigest.digest in
     record {
-      width = omega (arith, c.split_at.ensures.front_len, c.levels.invariant.width, width_step c.levels.level (c.args.count / 2 ^ (8 * c.levels.level)) c.levels-test.true) ∙ ap (width_from (c.levels.level + 1)) (level_count c.args.count c.levels.level);
-      edge = λ ds n is. c.split_at.ensures.front ∙ (edge_split g.D.SupportedDigest.digest ds c.levels.rest.now c.levels.level (c.args.count / 2 ^ (8 * c.levels.level)) c.levels-test.true (c.levels.invariant.edge ds n is)).0
-          ∙ ap (edge_from g.D.SupportedDigest.digest ds (c.levels.level + 1)) (level_count c.args.count c.levels.level);
+      width = omega (arith, c.split_at.ensures.front_len, width_below c.levels.level c.args.count _ c.levels-test.true c.levels.invariant.width);
+      edge = λ ds n is. c.split_at.ensures.front ∙ (edge_below H ds c.levels.rest.now c.levels.level c.args.count c.levels-test.true (c.levels.invariant.edge ds n is)).0;
       root = λ ds n is. c.root_with-root.ensures
-          ∙ ap (λ d. root_if g.D.SupportedDigest.digest (d ++ option_to_list c.levels.root))
-          (c.split_at.ensures.back ∙ (edge_split g.D.SupportedDigest.digest ds c.levels.rest.now c.levels.level (c.args.count / 2 ^ (8 * c.levels.level)) c.levels-test.true (c.levels.invariant.edge ds n is)).1)
-          ∙ ap (λ o. root_if g.D.SupportedDigest.digest (tile_digests g.D.SupportedDigest.digest ds (last_tile c.args.count c.levels.level) ++ option_to_list o)) (c.levels.invariant.root ds n is)
-          ∙ root_step g.D.SupportedDigest.digest ds c.levels.level c.args.count n;
+          ∙ ap (λ d. root_if H (d ++ option_to_list c.levels.root)) (c.split_at.ensures.back ∙ (edge_below H ds c.levels.rest.now c.levels.level c.args.count c.levels-test.true (c.levels.invariant.edge ds n is)).1)
+          ∙ ap (λ o. root_if H (tile_digests H ds (last_tile c.args.count c.levels.level) ++ option_to_list o)) (c.levels.invariant.root ds n is)
+          ∙ root_step H ds c.levels.level c.args.count n;
     }
 
 pub returns : goal.returns

@@ -1,16 +1,16 @@
-use Rattle.std.proofs.Common.{◌+◌, ◌*◌, ◌/◌, ◌^◌, ◌≤◌, ◌↔◌, IsTrue, false, subst}
+use Rattle.std.proofs.Common.{◌+◌, ◌*◌, ◌/◌, ◌^◌, ◌≤◌, ◌↔◌, IsTrue, false, subst, arith}
 use Rattle.std.proofs.Math.Dec.{leb}
 use Rattle.warg_tiles.specs.Tiles.{TileAt, tile_end}
-use Rattle.warg_tiles.proofs.TileLemmas.{low_only, below_only, by_nodes}
+use Rattle.warg_tiles.proofs.TileLemmas.{at_no_length, by_nodes}
 use Rattle.warg_tiles.proofs.tile.Tile.exists_at_length.Goals as goal
 
 pub returns-then-self-ge8 : goal.returns-then-self-ge8
 returns-then-self-ge8 c = subst (λ (t : TileAt). (IsTrue false ↔ (tile_end t ≤ c.args.length))) c.self.view_is
-    (low_only _ c.args.length c.if-self-ge8.true c.self.invariant.1 c.requires)
+    (at_no_length _ c.args.length (λ low few. omega (arith, low, c.if-self-ge8.true)) c.self.invariant.1 c.requires)
 
 pub returns-then-self : goal.returns-then-self
 returns-then-self c = subst (λ (t : TileAt). (IsTrue false ↔ (tile_end t ≤ c.args.length))) c.self.view_is
-    (below_only _ c.args.length c.if-self.true c.self.invariant.1 c.requires)
+    (at_no_length _ c.args.length (λ low few. omega (arith, few, c.if-self.true)) c.self.invariant.1 c.requires)
 
 pub returns : goal.returns
 returns c =

@@ -1,7 +1,6 @@
-use Rattle.std.proofs.Common.{◌+◌, ◌-◌, [], ◌∷◌, ◌++◌, length, map, take, sym, ap, subst, ◌∙◌, arith}
+use Rattle.std.proofs.Common.{[], ◌∷◌, ◌++◌, length, map, take, sym, ap, subst, ◌∙◌, arith}
 use Rattle.std.proofs.lemmas.List.{append-nil, length-append, map-append}
-use Rattle.warg_tiles.specs.TileLog.{RightEdge, StandsFor, completed_from}
-use Rattle.warg_tiles.specs.Private.Edges.{AreAdded}
+use Rattle.warg_tiles.specs.TileLog.{RightEdge, StandsFor}
 use Rattle.warg_tiles.proofs.EdgeLemmas.{width_more, edge_partial, nothing_added}
 use Rattle.warg_tiles.proofs.PushLemmas.{push_ends, push_stands}
 use Rattle.warg_tiles.proofs.tile_log.TileLogLogBuilder.push.Goals as goal
@@ -17,24 +16,17 @@ pub returns-then-self-lt255-clause-stands : goal.returns-then-self-lt255-clause-
 returns-then-self-lt255-clause-stands g c = λ ds stands.
     let H = g.D.SupportedDigest.digest in
     let old = subst (λ (e : RightEdge). StandsFor H e ds) (sym c.self.view_is) stands in
-    let more = ds ++ c.hash_leaf-digest.result ∷ [] in
     let ends = push_ends H ds c.self.inside.edge.items c.hash_leaf-digest.result c.self.inside.count old.count old.edge in
-    let made = c.in_ok-push.ensures.items ∙ edge_partial H more c.self.inside.edge.items c.hash_leaf-digest.result 0 c.self.inside.count (omega arith) c.if-self-lt255.true ends in
-    let added = nothing_added H more [] 0 c.self.inside.count (omega arith) c.if-self-lt255.true in
-    let tiles = map (λ t. (t.tile, t.digests.items)) c.self.inside.full.items in
-    subst (λ x. StandsFor H (record { len = c.self.inside.count + 1; taken = c.self.inside.taken; digests = c.push.new.self.items; full = tiles }) (ds ++ x ∷ [])) c.hash_leaf-digest.ensures
-    (push_stands H (record { len = c.self.inside.count; taken = c.self.inside.taken; digests = c.self.inside.edge.items; full = tiles }) _ ds c.push.new.self.items c.hash_leaf-digest.result []
-    c.self.invariant.2 old made added (ap (λ l. record { len = c.self.inside.count + 1; taken = c.self.inside.taken; digests = c.push.new.self.items; full = l }) (sym (append-nil tiles))))
+    let made = c.in_ok-push.ensures.items ∙ edge_partial H (ds ++ c.hash_leaf-digest.result ∷ []) c.self.inside.edge.items c.hash_leaf-digest.result 0 c.self.inside.count (omega arith) c.if-self-lt255.true ends in
+    rw (← c.hash_leaf-digest.ensures) (push_stands H _ ds c.push.new.self.items c.hash_leaf-digest.result [] _ c.self.invariant.2 old made (nothing_added H _ [] 0 c.self.inside.count (omega arith) c.if-self-lt255.true) (sym (append-nil _)))
 
 pub returns-clause-stands : goal.returns-clause-stands
 returns-clause-stands g c = λ ds stands.
-    let old = subst (λ (e : RightEdge). StandsFor g.D.SupportedDigest.digest e ds) (sym c.self.view_is) stands in
-    let ends = push_ends g.D.SupportedDigest.digest ds c.as_slice.result.now c.hash_leaf-digest.result c.self.inside.count old.count (c.as_slice.ensures.value ∙ old.edge) in
-    let made = c.push_reserved.ensures.items ∙ ap (λ l. l ++ c.in_ok-kept.digest ∷ []) (c.truncate.ensures.items ∙ ap (take c.in_ok-kept.kept) (c.in_ok-reserve.ensures.items ∙ sym c.as_slice.ensures.value)) ∙ c.in_ok-kept.ensures.edge (ds ++ c.hash_leaf-digest.result ∷ []) ends in
-    let added = subst (λ o. AreAdded g.D.SupportedDigest.digest (ds ++ c.hash_leaf-digest.result ∷ []) (completed_from (8 - 0) 0 (c.self.inside.count + 1)) (map (λ t. (t.tile, t.digests.items)) o) (map (λ t. (t.tile, t.digests.items)) c.fill.new.filled.items))
-    c.new-filled.ensures.items (c.in_ok-kept.ensures.filled (ds ++ c.hash_leaf-digest.result ∷ []) ends) in
+    let H = g.D.SupportedDigest.digest in
+    let more = ds ++ c.hash_leaf-digest.result ∷ [] in
+    let old = subst (λ (e : RightEdge). StandsFor H e ds) (sym c.self.view_is) stands in
+    let ends = push_ends H ds c.as_slice.result.now c.hash_leaf-digest.result c.self.inside.count old.count (c.as_slice.ensures.value ∙ old.edge) in
+    let made = c.push_reserved.ensures.items ∙ ap (λ l. l ++ c.in_ok-kept.digest ∷ []) (c.truncate.ensures.items ∙ ap (take c.in_ok-kept.kept) (c.in_ok-reserve.ensures.items ∙ sym c.as_slice.ensures.value)) ∙ c.in_ok-kept.ensures.edge more ends in
+    let added = rw c.new-filled.ensures.items at (c.in_ok-kept.ensures.filled more ends) in
     let full = ap (map (λ t. (t.tile, t.digests.items))) c.in_ok-append.ensures.items ∙ map-append (λ t. (t.tile, t.digests.items)) c.self.inside.full.items c.fill.new.filled.items in
-    subst (λ x. StandsFor g.D.SupportedDigest.digest (record { len = c.self.inside.count + 1; taken = c.self.inside.taken; digests = c.push_reserved.new.self.items; full = map (λ t. (t.tile, t.digests.items)) c.append.new.self.items }) (ds ++ x ∷ [])) c.hash_leaf-digest.ensures
-    (push_stands g.D.SupportedDigest.digest (record { len = c.self.inside.count; taken = c.self.inside.taken; digests = c.self.inside.edge.items; full = map (λ t. (t.tile, t.digests.items)) c.self.inside.full.items })
-    _ ds c.push_reserved.new.self.items c.hash_leaf-digest.result (map (λ t. (t.tile, t.digests.items)) c.fill.new.filled.items)
-    c.self.invariant.2 old made added (ap (λ l. record { len = c.self.inside.count + 1; taken = c.self.inside.taken; digests = c.push_reserved.new.self.items; full = l }) full))
+    rw (← c.hash_leaf-digest.ensures) (push_stands H _ ds c.push_reserved.new.self.items c.hash_leaf-digest.result _ _ c.self.invariant.2 old made added full)
