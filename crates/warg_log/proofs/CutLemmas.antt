@@ -9,7 +9,7 @@ use Rattle.warg_log.specs.Tree.{front_of, root_of, own_digest, leaves_below, roo
 use Rattle.warg_log.specs.Cut.{joined, is_target, is_beside, top_of, cut_over, cut_root, IsFull, old_over, old_root}
 use Rattle.warg_log.proofs.NodeLemmas.{over_at}
 use Rattle.warg_log.proofs.RootLemmas.{below_pow, root_of_split}
-use Rattle.warg_log.proofs.WayLemmas.{IsBeside, is_other, is_beside_so, is_beside_true, way_over_target, way_over-read, way_over-split, way_over_parts, ways}
+use Rattle.warg_log.proofs.WayLemmas.{IsBeside, is_other, is_beside_so, way_over_target, way_over-read, way_over-split, way_over_parts, ways}
 
 -- the range of the target, a range that is read, and any other, split at its front
 module _ (H : List ℕ → List ℕ) (F : ℕ → Option (List ℕ)) (x : List ℕ) (s w : ℕ) where
@@ -26,7 +26,7 @@ module _ (H : List ℕ → List ℕ) (F : ℕ → Option (List ℕ)) (x : List �
   unfolding top_of
   cut_over-split h a n more most other apart = ap (top_of H F x) (way_over-split s w h a n more most other apart)
 
-  pub cut_over_parts : (a n : ℕ) → 1 < n → (a ≡ s → n ≡ w → ⊥) → (IsFull n → IsBeside s w a n → ⊥)
+  pub cut_over_parts : (a n : ℕ) → 1 < n → (a ≡ s → n ≡ w → ⊥) → (IsFull n → IsTrue (is_beside s w a n) → ⊥)
       → cut_over H F x s w a n ≡ joined H (cut_over H F x s w a (front_of n)) (cut_over H F x s w (a + front_of n) (n - front_of n))
   unfolding top_of
   cut_over_parts a n more other apart = ap (top_of H F x) (way_over_parts s w a n more other apart)
@@ -40,7 +40,7 @@ module _ (H : List ℕ → List ℕ) (F : ℕ → Option (List ℕ)) (x : List �
       → cut_over H F x s w a n ≡ joined H (cut_over H F x s w a (front_of n)) (cut_over H F x s w (a + front_of n) (n - front_of n))
   cut_split a n some apart unread =
       let many : n ≡ 1 → ⊥ = λ one. unread (inl one) in
-      cut_over_parts a n (omega arith) (is_other s w a n apart) (λ full beside. unread (inr (full, is_beside_true s w a n beside)))
+      cut_over_parts a n (omega arith) (is_other s w a n apart) (λ full beside. unread (inr (full, beside)))
 
 -- the old root of a range of a power of two, and of any other
 pub nothing_beside : (a n : ℕ) → IsBeside 0 0 a n

@@ -84,7 +84,7 @@ cut_target = cuts.cut_over_target
 -- the cut root of a range that isn't read is the branch over those of its parts
 pub cut_parts : (H : List ℕ → List ℕ) (F : ℕ → Option (List ℕ)) (x : List ℕ) (s w a n : ℕ) → 1 < n → (a ≡ s → n ≡ w → ⊥) → (IsFull n → (a + n ≤ s) ⊎ (s + w ≤ a) → ⊥)
     → cut_over H F x s w a n ≡ joined H (cut_over H F x s w a (front_of n)) (cut_over H F x s w (a + front_of n) (n - front_of n))
-cut_parts = cuts.cut_over_parts
+cut_parts H F x s w a n more other apart = cuts.cut_over_parts H F x s w a n more other (λ full beside. apart full (ways.is_beside_so s w a n beside))
 
 -- the cut root of a range that misses the target is its old root
 pub cut_old : (H : List ℕ → List ℕ) (F : ℕ → Option (List ℕ)) (x : List ℕ) (s w a n : ℕ) → 0 < w → 0 < n → (a + n ≤ s) ⊎ (s + w ≤ a) → cut_over H F x s w a n ≡ old_over H F a n

@@ -93,11 +93,11 @@ way_over-split s w h a n more most other apart =
     let read : (n == 2 ^ suc h && is_beside s w a n) ≡ false = false_from_ne_true _ (λ e. let p = (read_decides s w h a n).0 e in apart p.0 p.1) in
     way_more s w h a n more most ∙ rw (target_false s w a n other, read) refl
 
-pub way_over_parts : (s w a n : ℕ) → 1 < n → (a ≡ s → n ≡ w → ⊥) → (IsFull n → IsBeside s w a n → ⊥)
+pub way_over_parts : (s w a n : ℕ) → 1 < n → (a ≡ s → n ≡ w → ⊥) → (IsFull n → IsTrue (is_beside s w a n) → ⊥)
     → way_over s w a n ≡ at_parts (is_beside s w a (front_of n)) (way_over s w a (front_of n)) (way_over s w (a + front_of n) (n - front_of n))
 way_over_parts s w a n more other apart =
     let f = front_is n more in
-    rw f.1 (way_over-split s w f.0 a n f.2 f.3 other (λ width. apart (suc f.0, width)))
+    rw f.1 (way_over-split s w f.0 a n f.2 f.3 other (λ width beside. apart (suc f.0, width) (is_beside_true s w a n beside)))
 
 -- P holds of each range and the way down it where it holds of the target, of a node that is read and, if it holds of
 -- both parts, of a range that is split; the ranges begin a multiple of their width behind the leaf o

@@ -108,6 +108,7 @@ pub fn cut_beside()
 {}
 
 /// The cut root of any other range is the branch over those of its two parts.
+#[tactic(auto, using(crate::proofs::CutLemmas::cut_over_parts))]
 pub fn cut_parts()
     ensures { (H : List ℕ → List ℕ) (F : ℕ → Option (List ℕ)) (x : List ℕ) (s w a n : ℕ) → 1 < n
         → (a ≡ s → n ≡ w → ⊥) → (IsFull n → IsTrue (is_beside s w a n) → ⊥)
@@ -130,6 +131,7 @@ pub fn needed_beside()
 
 /// Any other range needs what its two parts need: the rest's nodes stand first where the first part misses
 /// the target, and else the first part's.
+#[tactic(auto, using(crate::proofs::WayLemmas::way_over_parts), unfolding(crate::specs::Walks::read_on))]
 pub fn needed_parts()
     ensures rest_first { (s w a n : ℕ) → 1 < n → (a ≡ s → n ≡ w → ⊥)
         → (IsFull n → IsTrue (is_beside s w a n) → ⊥) → IsTrue (is_beside s w a (front_of n))

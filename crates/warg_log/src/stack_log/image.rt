@@ -94,7 +94,7 @@ impl<D: SupportedDigest, V: VisitBytes, A: Allocator + Copy> StackLog<D, V, A> {
 }
 
 // The digests of these entries.
-#[tactic(auto, using(std::proofs::lemmas::Result::err_from_is_err_and, warg_protobuf::proofs::ForCallers::mapped_more, warg_protobuf::proofs::ForCallers::mapped_whole, warg_protobuf::proofs::ForCallers::digest_passed, warg_protobuf::proofs::ForCallers::digest_met, warg_protobuf::proofs::ForCallers::no_digest_left))]
+#[tactic(auto, using(warg_protobuf::proofs::ForCallers::mapped_more, warg_protobuf::proofs::ForCallers::mapped_whole, warg_protobuf::proofs::ForCallers::digest_passed, warg_protobuf::proofs::ForCallers::no_digest_left))]
 fn read_blocks<D, A: Allocator>(
     alloc: A,
     entries: &[HashEntry<A>],
