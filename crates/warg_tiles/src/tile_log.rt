@@ -201,6 +201,7 @@ impl<D: SupportedDigest, V: VisitBytes, A: Allocator + Copy> LogBuilder<D, V> fo
 }
 
 // The partial tiles of a log of this length, out of its right edge.
+#[tactic(auto, using(crate::proofs::PushLemmas::width_below))]
 fn partial_tiles<D, A: Allocator + Copy>(
     alloc: A,
     edge: &[Hash<D>],
@@ -248,6 +249,7 @@ fn push_partial<D, A: Allocator + Copy>(
 }
 
 // The root of a log of this length, out of its right edge; none of no entries.
+#[tactic(auto, using(crate::proofs::PushLemmas::width_below))]
 fn root_of_edge<D: SupportedDigest>(edge: &[Hash<D>], count: usize) -> Option<Hash<D>>
     requires fits { count ≤ 2 ^ 63 }
     requires width { length edge.now ≡ width_from 0 count }

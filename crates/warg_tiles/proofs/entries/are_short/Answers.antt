@@ -1,6 +1,6 @@
-use Rattle.std.proofs.Common.{◌<◌, length, refl, arith}
+use Rattle.std.proofs.Common.{◌<◌, length, arith}
 use Rattle.std.proofs.lemmas.Bool.{false≢true}
-use Rattle.warg_protobuf.proofs.ForCallers.{all_at, all_more, all_whole}
+use Rattle.warg_protobuf.proofs.ForCallers.{all_at, all_more}
 use Rattle.warg_tiles.proofs.entries.are_short.Goals as goal
 
 pub entries-preserved : goal.entries-preserved
@@ -14,6 +14,3 @@ returns-then-as_slice-ge-TOO_LONG g c =
       λ all. let short = all_at (λ e. length (g.T.AsSlice.items e) < 65536) c.args.entries.now c.entries.entry-index c.entry-item.result all c.entries-test.true in
           absurd (omega (arith, long, rw (← c.entry-item.is, ← c.as_slice.ensures) at short)),
     )
-
-pub returns : goal.returns
-returns g c = (λ yes. all_whole (λ e. length (g.T.AsSlice.items e) < 65536) c.args.entries.now c.entries.entry-index c.entries.invariant c.entries-test.false, λ all. refl)
