@@ -167,6 +167,7 @@ fn number_in(text: &[u8]) -> Option<usize>
 }
 
 // The number whose decimal digits a text has, whatever else stands between them, if it is below 2^64.
+#[tactic(auto, unfolding(crate::specs::Private::PathDigits::number_on))]
 fn number_of_digits(text: &[u8]) -> Option<usize>
     ensures { MatchOption result (2 ^ 64 ≤ number_on 0 text.now) (λ n. n ≡ number_on 0 text.now) }
 {
