@@ -110,13 +110,14 @@ edge_partial H ds edge digest level count low less is =
     let place : 256 * (count / 256) + count % 256 ≡ count = omega arith in
     rw (edge_step H ds level (count + 1) low, next.0, next.1, digests_more H ds level (count / 256) (count % 256), place, is.before, edge_step H ds level count low, append_assoc, is.last) refl
 
--- the parts of an edge whose last tile is filled
-pub edge_parts : (H : List ℕ → List ℕ) (ds edge : List (List ℕ)) (digest : List ℕ) (level count : ℕ) → level < 8 → count % 256 ≡ 255 → EndsWith H ds level count edge digest
+-- the parts of an edge whose last tile is filled, and where the tile's leaves end
+edge_parts : (H : List ℕ → List ℕ) (ds edge : List (List ℕ)) (digest : List ℕ) (level count : ℕ) → level < 8 → count % 256 ≡ 255 → EndsWith H ds level count edge digest
     → (take (length edge - 255) edge ≡ edge_from H ds (level + 1) (count / 256)) × (drop (length edge - 255) edge ++ digest ∷ [] ≡ tile_digests H ds (record { level = level; number = count / 256; width = 256 }))
+    × ((256 * (count / 256) + 256) * 2 ^ (8 * level) ≡ length ds)
 edge_parts H ds edge digest level count low full is =
     let parts = rw full at (edge_split H ds edge level count low is.before) in
     let place : 256 * (count / 256) + 255 ≡ count = omega arith in
-    (parts.0, rw (parts.1, is.last, digests_more H ds level (count / 256) 255, place) refl)
+    (parts.0, rw (parts.1, is.last, digests_more H ds level (count / 256) 255, place) refl, omega (arith, is.ends, ap (λ n. n * 2 ^ (8 * level)) place))
 
 -- the root of a full tile is the digest of the node above it
 pub root_up : (H : List ℕ → List ℕ) (ds : List (List ℕ)) (level number : ℕ) → (256 * number + 256) * 2 ^ (8 * level) ≤ length ds
@@ -171,21 +172,15 @@ edge_full H ds edge above last level count kept low full front few is =
     let same : take kept edge ≡ take kept above = rw front (sym (take-take kept (length edge - 255) edge (omega (arith, ap length front, length-take (length edge - 255) edge)))) in
     rw (edge_step H ds level (count + 1) low, next.0, next.1, same, append-nil (edge_from H ds (level + 1) (count / 256 + 1))) is
 
--- the nodes of a full tile
-whole_nodes : (count : ℕ) → count % 256 ≡ 255 → count + 1 ≡ 256 * (count / 256) + 256
-whole_nodes count full = omega (arith, full)
-
 -- the edge above a tile that was filled ends with the tile's root
 pub ends_up : (H : List ℕ → List ℕ) (ds edge above digests : List (List ℕ)) (digest root : List ℕ) (level count : ℕ) → level < 8 → count % 256 ≡ 255 → EndsWith H ds level count edge digest
     → above ≡ take (length edge - 255) edge → digests ≡ drop (length edge - 255) edge ++ digest ∷ [] → root ≡ root_of H digests → EndsWith H ds (level + 1) (count / 256) above root
 ends_up H ds edge above digests digest root level count low full is front rest made =
     let parts = edge_parts H ds edge digest level count low full is in
-    let whole : count + 1 ≡ 256 * (count / 256) + 256 = whole_nodes count full in
-    let fits : (256 * (count / 256) + 256) * 2 ^ (8 * level) ≤ length ds = omega (arith, is.ends, ap (λ n. n * 2 ^ (8 * level)) whole) in
     record {
-      ends = omega (arith, is.ends, ap (λ n. n * 2 ^ (8 * level)) whole, ap (λ p. (count / 256 + 1) * p) (pow_up level));
+      ends = omega (arith, parts.2, ap (λ p. (count / 256 + 1) * p) (pow_up level));
       before = front ∙ parts.0;
-      last = made ∙ ap (root_of H) (rest ∙ parts.1) ∙ root_up H ds level (count / 256) fits;
+      last = made ∙ ap (root_of H) (rest ∙ parts.1) ∙ root_up H ds level (count / 256) (omega (arith, parts.2));
     }
 
 -- the tiles with one that was filled
@@ -195,7 +190,7 @@ pub tile_added : (H : List ℕ → List ℕ) (ds edge digests : List (List ℕ))
 tile_added H ds edge digests digest old new pushed tile level count low full is rest at put added =
     let parts = edge_parts H ds edge digest level count low full is in
     let t : TileAt = record { level = level; number = count / 256; width = 256 } in
-    let own = own_tile H ds t (omega (arith, is.ends, ap (λ n. n * 2 ^ (8 * level)) (whole_nodes count full))) in
+    let own = own_tile H ds t (omega (arith, parts.2)) in
     let one : AreTilesOf H ds (t ∷ []) ((tile, digests) ∷ []) = rw (at, rest, parts.1) own in (
       (tile, digests) ∷ added.0,
       added.1 ∙ ap (λ l. l ++ added.0) put ∙ append_assoc old ((tile, digests) ∷ []) added.0,

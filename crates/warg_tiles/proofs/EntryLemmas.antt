@@ -1,8 +1,8 @@
 -- Entry bundles, entry by entry.
-use Rattle.std.proofs.Common.{◌≡◌, ◌≢◌, ℕ, ◌+◌, ◌/◌, ◌%◌, ◌<◌, List, [], ◌∷◌, ◌++◌, ◌==◌, true, false, length, take, drop, map, slice_index_or, refl, sym, ap, ◌∙◌, arith}
-use Rattle.std.proofs.lemmas.Bool.{eqb-true, eqb-false}
+use Rattle.std.proofs.Common.{◌≡◌, ◌≢◌, ℕ, ◌+◌, ◌/◌, ◌%◌, ◌<◌, List, [], ◌∷◌, ◌++◌, ◌==◌, false, length, take, drop, map, slice_index_or, refl, sym, ap, ◌∙◌, arith}
+use Rattle.std.proofs.lemmas.Bool.{eqb-false}
 use Rattle.std.specs.List.{AllByRecursion}
-use Rattle.std.proofs.lemmas.List.{append_assoc, append-nil, nil_from_length, map_more, take_at, drop_at}
+use Rattle.std.proofs.lemmas.List.{append_assoc, append-nil, map_more, take_at, drop_at}
 use Rattle.warg_tiles.specs.EntryBundles.{two_bytes, bundle_of}
 
 -- a bundle with one entry more
@@ -39,9 +39,6 @@ pub written_more : {X : Type 0} (f : X → List ℕ) (xs : List X) (i : ℕ) (x 
     → bundle_of (map f (take i xs)) ++ (two_bytes (length (f x)) ++ f x) ≡ bundle_of (map f (take (i + 1) xs))
 written_more f xs i x inside is = rw (map_more f xs i x inside, is) (sym (bundle_of-push (map f (take i xs)) (f x)))
 
--- something is left, and nothing is
+-- something is left
 pub some_left : (rest : List ℕ) → (length rest == 0) ≡ false → 0 < length rest
 some_left rest is = let other : length rest ≢ 0 = eqb-false (length rest) 0 is in omega arith
-
-pub nothing_left : (bytes before rest : List ℕ) → bytes ≡ before ++ rest → (length rest == 0) ≡ true → bytes ≡ before
-nothing_left bytes before rest read is = read ∙ rw (nil_from_length rest (eqb-true (length rest) 0 is)) (append-nil before)

@@ -86,11 +86,6 @@ groups_enough (suc s) (suc t) n low high = elim (cases_lt 0 n) [
   | inr none ↦ rw (eq-eqb n 0 (omega arith)) refl
 ]
 
--- no groups
-pub groups_none : groups_of 0 ≡ []
-unfolding groups_within
-groups_none = refl
-
 -- the groups of a number are those of the number without its last three digits, and these
 pub groups_step : (n : ℕ) → 0 < n → groups_of n ≡ groups_of (n / 1000) ++ group_of (n % 1000)
 unfolding groups_within

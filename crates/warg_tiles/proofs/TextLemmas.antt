@@ -99,20 +99,15 @@ text_read P Q bytes (Err e) o t cases is some = let f = sym is ∙ some in cc f
 pub decimal_line : (bytes text rest more : List ℕ) (n : ℕ) → HasNoNewline text → bytes ≡ line text rest → n ≤ 2 ^ 63 → bytes ≡ length_line n more → text ≡ decimal n
 decimal_line bytes text rest more n none is most other = (line_once text rest (decimal n) more none (no_newline-decimal n (omega arith)) (sym is ∙ other)).0
 
--- the base64 of a digest on a line is in its bytes alone
-pub root_line_is : (bytes text rest more root : List ℕ) → HasNoNewline text → bytes ≡ line text rest → bytes ≡ root_line root more → text ≡ encode_of standard root
-root_line_is bytes text rest more root none is other = (line_once text rest (encode_of standard root) more none (no_newline-encode root) (sym is ∙ other)).0
-
--- the base64 of 32 bytes has 44
-pub encode_length : (root : List ℕ) → IsDigest root → length (encode_of standard root) ≡ 44
-encode_length root is =
-    let all = length-append (encode_symbols standard.encode_table root) (replicate (padding_len (length root)) 61) in
-    let letters = length-encode_symbols standard.encode_table root in
-    omega (arith, all, letters, is.has_32, length-replicate {A = ℕ} (padding_len (length root)) 61)
-
--- it is decoded
-pub encode_decoded : (root : List ℕ) → IsDigest root → decode_of standard (encode_of standard root) ≡ Ok root
-encode_decoded root is = decode_of-encode_of standard root refl (digest_bytes root is)
+-- the base64 of a digest on a line has 44 bytes, and is decoded
+pub root_line_is : (bytes text rest more root : List ℕ) → HasNoNewline text → bytes ≡ line text rest → IsDigest root → bytes ≡ root_line root more → (length text ≡ 44) × (decode_of standard text ≡ Ok root)
+root_line_is bytes text rest more root none is digest other =
+    let same = (line_once text rest (encode_of standard root) more none (no_newline-encode root) (sym is ∙ other)).0 in
+    let padding : List ℕ = replicate (padding_len (length root)) 61 in
+    let all = length-append (encode_symbols standard.encode_table root) padding in (
+      omega (arith, ap length same, all, length-encode_symbols standard.encode_table root, digest.has_32, length-replicate {A = ℕ} (padding_len (length root)) 61),
+      ap (decode_of standard) same ∙ decode_of-encode_of standard root refl (digest_bytes root digest),
+    )
 
 -- a text that was decoded is the base64 of what it gave
 pub root_read : (bytes text rest decoded root : List ℕ) → IsBytes bytes → bytes ≡ line text rest → decode_of standard text ≡ Ok decoded → root ≡ decoded → bytes ≡ root_line root rest

@@ -46,17 +46,15 @@ place_fits x k j is lt =
     let most : 1 * (r * (2 * j + 1)) ≤ q * (r * (2 * j + 1)) = omega (arith, mul-le-mul_left (r * (2 * j + 1)) (pow_pos (8 * (k / 8)))) in
     omega (arith, pow_pos (k % 8))
 
-sub_add : (r : ℕ) → r < 8 → 8 ≡ 8 - r + r
-sub_add r low = omega arith
-
 width_within : (b q place part rest : ℕ) → q * b ≡ 256 → place ≡ part * b + rest → rest ≡ 0 → part < q → place + b ≤ 256
 width_within b q place part rest whole is none less = omega (arith, mul-le-mul_left b less)
 
 -- the width ends with the tile at the latest
 pub width_most : (p r : ℕ) → r < 8 → p * 2 ^ r % 256 + 2 ^ r ≤ 256
 width_most p r low =
-    let full : 2 ^ 8 ≡ 2 ^ (8 - r) * 2 ^ r = ap (λ n. 2 ^ n) (sub_add r low) ∙ pow-add 2 (8 - r) r in
-    let left : p * 2 ^ r % 2 ^ 8 ≡ (p * 2 ^ r / 2 ^ r % 2 ^ (8 - r)) * 2 ^ r + p * 2 ^ r % 2 ^ r = ap (λ m. p * 2 ^ r % 2 ^ m) (sub_add r low) ∙ mod-pow-add (p * 2 ^ r) (8 - r) r in
+    let whole : 8 ≡ 8 - r + r = omega arith in
+    let full : 2 ^ 8 ≡ 2 ^ (8 - r) * 2 ^ r = ap (λ n. 2 ^ n) whole ∙ pow-add 2 (8 - r) r in
+    let left : p * 2 ^ r % 2 ^ 8 ≡ (p * 2 ^ r / 2 ^ r % 2 ^ (8 - r)) * 2 ^ r + p * 2 ^ r % 2 ^ r = ap (λ m. p * 2 ^ r % 2 ^ m) whole ∙ mod-pow-add (p * 2 ^ r) (8 - r) r in
     let part : p * 2 ^ r / 2 ^ r ≡ p = mul-div_cancel p (pow_pos r) in
     let less : p % 2 ^ (8 - r) < 2 ^ (8 - r) = omega (arith, pow_pos (8 - r)) in
     width_within (2 ^ r) (2 ^ (8 - r)) (p * 2 ^ r % 256) (p % 2 ^ (8 - r)) (p * 2 ^ r % 2 ^ r) (omega (arith, full)) (rw part at left) (mul-mod_left p (2 ^ r)) less

@@ -9,6 +9,7 @@ ghost use Rattle.warg_tiles.specs.CheckpointText.{Said, CanBeSaid, text_before};
 
 /// A digest that the tiles of a log give is the node's: where each tile has the log's own digests, and they give a digest for
 /// a node, the log has the node, and this is its digest.
+#[tactic(auto, using(crate::proofs::OwnLemmas::digest_by_own))]
 pub fn digest_by_own_tiles()
     ensures { (H : List ℕ → List ℕ) (ds : List (List ℕ)) (tiles : Tiles) (x : ℕ) (d : List ℕ)
         → AllByRecursion (λ t. IsTileBy (own_digest H ds) t.0 t.1) tiles
@@ -17,6 +18,7 @@ pub fn digest_by_own_tiles()
 
 /// A checkpoint text is read in one way: where two are the same bytes, each with what stands behind it, they say the same
 /// and the same stands behind them. So what `write` gives is read as what was written.
+#[tactic(auto, using(crate::proofs::TextLemmas::text_once))]
 pub fn checkpoint_text_once()
     ensures { (s t : Said) (a b : Option (List ℕ)) → CanBeSaid s → CanBeSaid t
         → text_before s a ≡ text_before t b → (s ≡ t) × (a ≡ b) }

@@ -98,6 +98,7 @@ fn push_place<A: Allocator>(text: &mut String<A>, tile: &Tile) -> Result<(), All
 }
 
 // Writes the groups of a number's digits that stand before the last one.
+#[tactic(auto, unfolding(crate::specs::TilePaths::groups_within))]
 fn push_groups<A: Allocator>(text: &mut String<A>, groups: usize) -> Result<(), AllocError>
     ensures { OnOk result (string_bytes text.new ≡ string_bytes text.old ++ groups_of groups) }
 {
@@ -166,6 +167,7 @@ fn number_in(text: &[u8]) -> Option<usize>
 }
 
 // The number whose decimal digits a text has, whatever else stands between them, if it is below 2^64.
+#[tactic(auto, unfolding(crate::specs::Private::PathDigits::number_on))]
 fn number_of_digits(text: &[u8]) -> Option<usize>
     ensures { MatchOption result (2 ^ 64 ≤ number_on 0 text.now) (λ n. n ≡ number_on 0 text.now) }
 {
@@ -180,6 +182,7 @@ fn number_of_digits(text: &[u8]) -> Option<usize>
 }
 
 // What a text has behind the groups of a number's digits that stand before the last one.
+#[tactic(auto, unfolding(crate::specs::TilePaths::groups_within))]
 fn strip_groups(text: &[u8], groups: usize) -> Option<&[u8]>
     ensures { MatchOption result ((rest : List ℕ) → text.now ≢ groups_of groups ++ rest)
         (λ rest. text.now ≡ groups_of groups ++ rest.now) }

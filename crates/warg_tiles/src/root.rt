@@ -6,6 +6,7 @@ ghost use Rattle.warg_log.specs.Tree.{root_of};
 use warg_crypto::{Hash, SupportedDigest, hash_branch};
 
 // The root of the tree over digests, by RFC 6962, section 2.1.
+#[tactic(auto, using(crate::proofs::RootLemmas::root_one, crate::proofs::RootLemmas::root_two))]
 pub(crate) fn root_over<D: SupportedDigest>(digests: &[Hash<D>]) -> Hash<D>
     requires { 0 < length digests.now }
     ensures { result ≡ root_of D.digest digests.now }

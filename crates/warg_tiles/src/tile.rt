@@ -87,6 +87,7 @@ impl Tile {
     }
 
     /// The node of the tile's digest at a place, from 0.
+    #[tactic(auto, using(crate::proofs::TileLemmas::level_low))]
     pub fn node(&self, place: usize) -> Node
         requires inside { place < self.now.width }
         requires fits { tile_end self.now ≤ 2 ^ 63 }

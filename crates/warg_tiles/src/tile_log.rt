@@ -201,6 +201,7 @@ impl<D: SupportedDigest, V: VisitBytes, A: Allocator + Copy> LogBuilder<D, V> fo
 }
 
 // The partial tiles of a log of this length, out of its right edge.
+#[tactic(auto, using(crate::proofs::PushLemmas::width_below))]
 fn partial_tiles<D, A: Allocator + Copy>(
     alloc: A,
     edge: &[Hash<D>],
@@ -248,6 +249,7 @@ fn push_partial<D, A: Allocator + Copy>(
 }
 
 // The root of a log of this length, out of its right edge; none of no entries.
+#[tactic(auto, using(crate::proofs::PushLemmas::width_below))]
 fn root_of_edge<D: SupportedDigest>(edge: &[Hash<D>], count: usize) -> Option<Hash<D>>
     requires fits { count ≤ 2 ^ 63 }
     requires width { length edge.now ≡ width_from 0 count }
@@ -328,6 +330,7 @@ fn push_digests<D, A: Allocator + Copy>(
 // Puts a node's digest behind the right edge from a level on, where so many nodes of the level stand before it. Each tile
 // that this fills goes behind the others, and its root up by one level. What is left are the first digests of the edge, so
 // many, and the digest behind them.
+#[tactic(auto, using(crate::proofs::EdgeLemmas::fits_low, crate::proofs::EdgeLemmas::width_full))]
 fn fill<D: SupportedDigest, A: Allocator + Copy>(
     alloc: A,
     filled: &mut Vec<StoredTile<D, A>, A>,
@@ -388,6 +391,7 @@ fn root_with<D: SupportedDigest>(digests: &[Hash<D>], last: Option<Hash<D>>) -> 
 }
 
 // The root over digests and one more behind them.
+#[tactic(auto, using(crate::proofs::ChunkLemmas::root_alone))]
 fn root_before<D: SupportedDigest>(digests: &[Hash<D>], last: Hash<D>) -> Hash<D>
     ensures { result ≡ root_of D.digest (digests.now ++ last ∷ []) }
 {

@@ -1,8 +1,8 @@
-use Rattle.std.proofs.Common.{sym, ap, length, ◌≡◌, ◌<◌, ◌∙◌, subst, arith, Ok}
+use Rattle.std.proofs.Common.{sym, ◌∙◌, subst, arith}
 use Rattle.base64.specs.Engines.{standard}
-use Rattle.base64.specs.GeneralPurpose.{encode_of, decode_of}
+use Rattle.base64.specs.GeneralPurpose.{encode_of}
 use Rattle.warg_crypto.specs.Digests.{IsDigest}
-use Rattle.warg_tiles.proofs.TextLemmas.{no_line, root_line_is, encode_length, encode_decoded, root_read, decoded_length, hash_read, hash_unread}
+use Rattle.warg_tiles.proofs.TextLemmas.{no_line, root_line_is, root_read, decoded_length, hash_read, hash_unread}
 use Rattle.warg_tiles.proofs.checkpoint_text.root_in.Goals as goal
 
 pub returns-in_err-line : goal.returns-in_err-line
@@ -10,22 +10,17 @@ returns-in_err-line g c = rw c.from_residual.ensures (λ root rest is e. no_line
 
 pub returns-then-line-gt44 : goal.returns-then-line-gt44
 returns-then-line-gt44 g c = λ root rest is e.
-    let at = root_line_is c.args.bytes.now c.in_ok-line.line.now c.in_ok-line.rest.now rest root c.in_ok-line.ensures.0 c.in_ok-line.ensures.1 e in
-    let long : 44 < length c.in_ok-line.line.now = c.if-line-gt44.true in
-    omega (arith, long, ap length at, encode_length root is)
+    omega (arith, c.if-line-gt44.true, (root_line_is c.args.bytes.now c.in_ok-line.line.now c.in_ok-line.rest.now rest root c.in_ok-line.ensures.0 c.in_ok-line.ensures.1 is e).0)
 
 pub returns-in_default : goal.returns-in_default
 returns-in_default g c = λ root rest is e.
-    let at = root_line_is c.args.bytes.now c.in_ok-line.line.now c.in_ok-line.rest.now rest root c.in_ok-line.ensures.0 c.in_ok-line.ensures.1 e in
-    let fine : decode_of standard c.in_ok-line.line.now ≡ Ok root = ap (decode_of standard) at ∙ encode_decoded root is in
-    let f = sym fine ∙ c.in_default.ensures.err in
-    cc f
+    let fine = (root_line_is c.args.bytes.now c.in_ok-line.line.now c.in_ok-line.rest.now rest root c.in_ok-line.ensures.0 c.in_ok-line.ensures.1 is e).1 in
+    cc (sym fine ∙ c.in_default.ensures.err)
 
 pub returns-in_err-root : goal.returns-in_err-root
 returns-in_err-root g c =
     rw c.from_residual-in_err-root.ensures (λ root rest is e.
-    let at = root_line_is c.args.bytes.now c.in_ok-line.line.now c.in_ok-line.rest.now rest root c.in_ok-line.ensures.0 c.in_ok-line.ensures.1 e in
-    let fine : decode_of standard c.in_ok-line.line.now ≡ Ok root = ap (decode_of standard) at ∙ encode_decoded root is in
+    let fine = (root_line_is c.args.bytes.now c.in_ok-line.line.now c.in_ok-line.rest.now rest root c.in_ok-line.ensures.0 c.in_ok-line.ensures.1 is e).1 in
     hash_unread c.try_from.result c.ok.result _ c.try_from.ensures.exactly c.ok.ensures.value c.in_err-root.was (decoded_length _ root _ fine c.in-Ok.ensures.ok.0 is))
 
 pub returns : goal.returns

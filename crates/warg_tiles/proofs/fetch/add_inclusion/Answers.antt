@@ -7,6 +7,3 @@ pub add_nodes-requires-clause-exist : goal.add_nodes-requires-clause-exist
 add_nodes-requires-clause-exist g c =
     all_numbers (λ x. ExistsAt x c.args.length) c.nodes.result.now
     (rw (c.nodes.ensures, c.in-Ok.ensures.needed, c.prove_inclusion.ensures.leaf, c.prove_inclusion.ensures.log_length) (needed_exist c.args.node.0 c.args.length c.requires.some))
-
-pub returns : goal.returns
-returns g c = rw (c.nodes.ensures, c.in-Ok.ensures.needed, c.prove_inclusion.ensures.leaf, c.prove_inclusion.ensures.log_length) at c.add_nodes.ensures

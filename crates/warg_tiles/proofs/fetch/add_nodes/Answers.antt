@@ -1,17 +1,9 @@
 use Rattle.std.proofs.Common.{[], ◌∷◌, get_or, map, take, sym, ◌∙◌}
 use Rattle.std.proofs.lemmas.List.{map_more}
-use Rattle.warg_log.specs.Nodes.{ExistsAt}
 use Rattle.warg_log.specs.declared.node.Node.{Node}
-use Rattle.warg_protobuf.proofs.ForCallers.{all_at}
-use Rattle.warg_tiles.proofs.FetchLemmas.{added_none, added_known, added_new, added_append}
+use Rattle.warg_tiles.proofs.FetchLemmas.{added_known, added_new, added_append}
 use Rattle.warg_tiles.proofs.fetch.add_nodes.Goals as goal
 use Rattle.warg_tiles.proofs.fetch.add_nodes.Goals.{then-not-give+in_ok-push, else-not-give}
-
-pub nodes-init : goal.nodes-init
-nodes-init g c = added_none c.args.length c.args.tiles.now.items
-
-pub tile_for-requires-clause-exists : goal.tile_for-requires-clause-exists
-tile_for-requires-clause-exists g c = all_at (λ (node : Node). ExistsAt node.0 c.args.length) c.args.nodes.now c.nodes.node-index _ c.requires.exist c.nodes-test.true
 
 pub nodes-preserved : goal.nodes-preserved
 nodes-preserved g c =

@@ -1,19 +1,13 @@
 use Rattle.std.proofs.Common.{map, ap, ◌∙◌}
 use Rattle.std.proofs.lemmas.List.{take_all}
 use Rattle.warg_log.specs.declared.node.Node.{Node}
-use Rattle.warg_tiles.proofs.FetchLemmas.{added_none, added_root, added_first, root_there}
+use Rattle.warg_tiles.proofs.FetchLemmas.{added_root, added_first, root_there}
 use Rattle.warg_tiles.proofs.fetch.tiles_for_consistency.Goals as goal
 
-pub roots-init : goal.roots-init
-roots-init g c = rw (c.new-tiles.ensures.items) (added_none c.args.new_length _)
-
-pub add_root-requires-clause-exists : goal.add_root-requires-clause-exists
-add_root-requires-clause-exists g c =
-    (root_there c.args.old_length c.args.new_length c.as_slice-root-items.result.now c.roots.root-index (record { 0 = 0 }) c.requires.order (ap (map (λ (x : Node). x.0)) c.as_slice-root-items.ensures.value ∙ c.in_ok-roots.ensures) c.roots-test.true).0
-
-pub add_root-requires-clause-some : goal.add_root-requires-clause-some
-add_root-requires-clause-some g c =
-    (root_there c.args.old_length c.args.new_length c.as_slice-root-items.result.now c.roots.root-index (record { 0 = 0 }) c.requires.order (ap (map (λ (x : Node). x.0)) c.as_slice-root-items.ensures.value ∙ c.in_ok-roots.ensures) c.roots-test.true).1
+pub add_root-requires : goal.add_root-requires
+add_root-requires g c =
+    let there = root_there c.args.old_length c.args.new_length c.as_slice-root-items.result.now c.roots.root-index (record { 0 = 0 }) c.requires.order (ap (map (λ (x : Node). x.0)) c.as_slice-root-items.ensures.value ∙ c.in_ok-roots.ensures) c.roots-test.true in
+    record { exists = there.0; fits = c.requires.fits; some = there.1 }
 
 pub roots-preserved : goal.roots-preserved
 roots-preserved g c =

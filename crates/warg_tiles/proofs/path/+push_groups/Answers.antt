@@ -1,10 +1,7 @@
-use Rattle.std.proofs.Common.{◌%◌, sym, arith}
-use Rattle.std.proofs.lemmas.List.{append-nil, append_assoc}
-use Rattle.warg_tiles.proofs.PathLemmas.{groups_none, groups_step, three_padded}
+use Rattle.std.proofs.Common.{◌%◌, arith}
+use Rattle.std.proofs.lemmas.List.{append_assoc}
+use Rattle.warg_tiles.proofs.PathLemmas.{groups_step, three_padded}
 use Rattle.warg_tiles.proofs.path.+push_groups.Goals as goal
-
-pub returns-then-groups-eq0 : goal.returns-then-groups-eq0
-returns-then-groups-eq0 g t c = rw (c.if-groups-eq0.true, groups_none) (sym (append-nil _))
 
 pub returns : goal.returns
 returns g t c =

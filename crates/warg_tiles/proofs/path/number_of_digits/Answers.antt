@@ -1,6 +1,4 @@
 use Rattle.std.proofs.Common.{◌≡◌, ◌+◌, ◌-◌, ◌*◌, get_or, arith, sym, ◌∙◌}
-use Rattle.std.proofs.lemmas.List.{at_drop_all}
-use Rattle.warg_tiles.specs.Private.PathDigits.{number_on}
 use Rattle.warg_tiles.proofs.PathLemmas.{read_digit, read_other}
 use Rattle.warg_tiles.proofs.path.number_of_digits.Goals as goal
 use Rattle.warg_tiles.proofs.path.number_of_digits.Goals.{then-is_ascii_digit+in_ok-checked_mul+in_ok-number, else-is_ascii_digit}
@@ -27,7 +25,3 @@ bytes-preserved c = elim c.if-is_ascii_digit.branch [
       let read = read_other c.bytes.number c.bytes.byte-index c.args.text.now c.bytes-test.true (sym c.is_ascii_digit.ensures.value ∙ w.if-is_ascii_digit.false) c.bytes.invariant.read in
       record { read = rw w.number-is read; fits = rw w.number-is c.bytes.invariant.fits }
 ]
-
-pub returns : goal.returns
-unfolding number_on
-returns c = sym (at_drop_all (number_on c.bytes.number) c.args.text.now c.bytes.byte-index (omega arith)) ∙ c.bytes.invariant.read

@@ -1,15 +1,7 @@
-use Rattle.std.proofs.Common.{◌≡◌, [], ◌^◌, ◌*◌, ◌%◌, take, drop, sym, ap, ◌∙◌, arith}
-use Rattle.std.proofs.lemmas.List.{get_or_read}
+use Rattle.std.proofs.Common.{◌≡◌, ◌^◌, ◌*◌, ◌%◌, take, drop, ap, ◌∙◌, arith}
 use Rattle.std.proofs.Math.Nat.{pow-suc}
-use Rattle.warg_tiles.proofs.RootLemmas.{root_one, root_two, root_parts}
+use Rattle.warg_tiles.proofs.RootLemmas.{root_parts}
 use Rattle.warg_tiles.proofs.root.+root_over.Goals as goal
-
-pub returns-then-digests-eq1 : goal.returns-then-digests-eq1
-returns-then-digests-eq1 g t c =
-    c.copied.ensures ∙ get_or_read c.args.digests.now 0 c.index-digests-0.result (omega (arith, c.if-digests-eq1.true)) c.index-digests-0.is [] ∙ sym (root_one g.D.SupportedDigest.digest c.args.digests.now c.if-digests-eq1.true)
-
-pub returns-in-len2 : goal.returns-in-len2
-returns-in-len2 g t c = c.hash_branch.ensures ∙ root_two g.D.SupportedDigest.digest c.args.digests.now c.left-item.result c.right-item.result c.in-len2.len_at_least c.in-len2.len_below c.left-item.is c.right-item.is
 
 pub returns : goal.returns
 returns g t c =

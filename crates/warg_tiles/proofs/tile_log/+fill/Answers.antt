@@ -17,14 +17,6 @@ returns-then-count-lt255 g t c =
       filled = λ ds is. nothing_added g.D.SupportedDigest.digest ds _ c.args.level c.args.count low c.if-count-lt255.true;
     }
 
-pub overflow_sub-edge : goal.overflow_sub-edge
-overflow_sub-edge g t c =
-    let full : c.args.count % 256 ≡ 255 = omega arith in
-    omega (arith, c.requires.width, (width_full c.args.level c.args.count (fits_low c.args.level c.args.count c.requires.fits) full).0)
-
-pub new-requires-clause-level : goal.new-requires-clause-level
-new-requires-clause-level g t c = omega (arith, fits_low c.args.level c.args.count c.requires.fits)
-
 pub new-requires-2 : goal.new-requires-2
 new-requires-2 g t c =
     let digests = c.in_ok-push.ensures.items ∙ ap (λ l. l ++ c.args.digest ∷ []) (c.in_ok-digests.ensures ∙ c.split_at.ensures.back) in

@@ -1,11 +1,7 @@
-use Rattle.std.proofs.Common.{◌≡◌, ◌*◌, ◌^◌, ◌%◌, length, take, drop, sym, ap, ◌∙◌, arith}
-use Rattle.std.proofs.lemmas.Bool.{eqb-true}
+use Rattle.std.proofs.Common.{◌≡◌, ◌*◌, ◌^◌, ◌%◌, take, drop, ap, ◌∙◌, arith}
 use Rattle.std.proofs.Math.Nat.{pow-suc}
-use Rattle.warg_tiles.proofs.ChunkLemmas.{root_alone, root_behind}
+use Rattle.warg_tiles.proofs.ChunkLemmas.{root_behind}
 use Rattle.warg_tiles.proofs.tile_log.+root_before.Goals as goal
-
-pub returns-then-is_empty : goal.returns-then-is_empty
-returns-then-is_empty g t c = root_alone g.D.SupportedDigest.digest c.args.digests.now c.args.last (eqb-true (length c.args.digests.now) 0 (sym c.is_empty.ensures ∙ c.if-is_empty.true))
 
 pub returns : goal.returns
 returns g t c =

@@ -1,22 +1,10 @@
-use Rattle.std.proofs.Common.{drop, length-drop, ◌≡◌, ◌*◌, ◌/◌, ◌++◌, sym, ap, ◌∙◌, arith}
+use Rattle.std.proofs.Common.{◌++◌, ap, ◌∙◌, arith}
 use Rattle.std.specs.Option.{option_to_list}
 use Rattle.warg_tiles.specs.TileLog.{last_tile, tile_digests}
-use Rattle.warg_tiles.specs.Private.Edges.{width_from, edge_from, root_if}
+use Rattle.warg_tiles.specs.Private.Edges.{root_if}
 use Rattle.warg_tiles.proofs.PushLemmas.{width_below, edge_below}
-use Rattle.warg_tiles.proofs.ChunkLemmas.{root_if_none, root_step, root_end}
+use Rattle.warg_tiles.proofs.ChunkLemmas.{root_step, root_end}
 use Rattle.warg_tiles.proofs.tile_log.root_of_edge.Goals as goal
-
-pub levels-init : goal.levels-init
-levels-init g c =
-    let all : c.args.count / 1 ≡ c.args.count = omega arith in
-    record {
-      width = c.requires.width ∙ ap (width_from 0) (sym all);
-      edge = λ ds n is. is ∙ ap (edge_from g.D.SupportedDigest.digest ds 0) (sym all);
-      root = λ ds n is. sym (root_if_none g.D.SupportedDigest.digest (drop (c.args.count / 1 * 1) ds) (omega (arith, length-drop (c.args.count / 1 * 1) ds)));
-    }
-
-pub overflow_sub-rest : goal.overflow_sub-rest
-overflow_sub-rest g c = omega (arith, width_below c.levels.level c.args.count _ c.levels-test.true c.levels.invariant.width)
 
 pub levels-preserved : goal.levels-preserved
 levels-preserved g c =
