@@ -78,17 +78,7 @@ module _ (H : Digest) {s w a n : ℕ} (some : 0 < w) (around : IsAround s w a n)
           first_is = sides_root F x sides climb.first_is far ∙ ap Some (sym up.first_is);
           second_is = sides_root G y sides climb.second_is other_far ∙ ap Some (sym up.second_is);
           diverges = up_diverges (IsDivergence H F x G y s w a n) up (λ same _. widened H F x G y s w p (side_is_part b m whole (omega arith) (near_side sides)) (climb.diverges same))
-              (λ collides. record {
-                from = a;
-                count = n;
-                part = whole;
-                around = around;
-                other = other;
-                first_input = sides_input F x sides climb.first_is far;
-                second_input = sides_input G y sides climb.second_is other_far;
-                differ = collides.differ;
-                same = collides.same;
-              });
+              (λ collides. search (whole, around, other, sides_input F x sides climb.first_is far, sides_input G y sides climb.second_is other_far, collides));
         }
 
 -- the leaves are as many as the entries
@@ -109,7 +99,7 @@ module _ (H : Digest) where
 
   -- an evaluation that leads to a tree's root has it in common with the tree, and two trees have a range at which they have one digest
   own_root : (ds : List (List ℕ)) (s w : ℕ) → 0 < length ds → cut_over H (own_digest H ds) (root_over H ds s w) s w 0 (length ds) ≡ Some (root_of H ds)
-  own_root ds s w some = own_cut ds s w (whole_aligned (length ds)) some (omega arith) ∙ ap (λ l. Some (root_of H l)) (take-length ds)
+  own_root ds s w some = own_cut ds s w (whole_aligned (length ds) refl) some (omega arith) ∙ ap (λ l. Some (root_of H l)) (take-length ds)
 
   pub have_root : {F : Data} {x : List ℕ} (ds : List (List ℕ)) (s w : ℕ) → cut_over H F x s w 0 (length ds) ≡ Some (root_of H ds) → 0 < length ds
       → HaveOneDigest H F x (own_digest H ds) (root_over H ds s w) s w 0 (length ds)

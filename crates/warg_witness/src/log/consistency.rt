@@ -124,6 +124,7 @@ fn held_root<D: SupportedDigest, V: VisitBytes, L: LogData<D, V>, A: Allocator>(
 }
 
 // Where the evaluation, with a digest at a node, diverges from the tree to whose root it leads.
+#[tactic(auto, using(crate::proofs::RangeLemmas::whole_aligned))]
 fn divergence_from<D: SupportedDigest, V: VisitBytes, L: LogData<D, V>, A: Allocator>(
     hashes: &L,
     hash: &Hash<D>,
