@@ -1,5 +1,5 @@
 -- Evaluations over the ranges of a log's tree: one, two side by side, and that of the tree over entries.
-use Rattle.std.proofs.Common.{◌≡◌, ℕ, ◌+◌, ◌-◌, ◌<◌, ◌≤◌, Bool, true, false, List, ◌∷◌, length, Option, Some, None, inl, inr, refl, sym, ap, ◌∙◌, arith}
+use Rattle.std.proofs.Common.{◌≡◌, ℕ, ◌+◌, ◌-◌, ◌<◌, ◌≤◌, Bool, true, false, List, ◌∷◌, length, Option, Some, inl, inr, refl, sym, ap, ◌∙◌, arith}
 use Rattle.std.proofs.Math.Seq.{take-length}
 use Rattle.std.proofs.lemmas.List.{length-map, get_or-map}
 use Rattle.std.proofs.lemmas.Bool.Decides.{nat_tests}
@@ -38,8 +38,7 @@ widened H F x G y s w (Branch l r l' r') outer is = search (IsPart-trans, outer,
 -- a branch is the digest of its input
 joined_input : (H : Digest) (left right : Option (List ℕ)) (i : List ℕ) → where_both branch_input left right ≡ Some i → joined H left right ≡ Some (H i)
 joined_input H (Some l) (Some r) i is = grind arith
-joined_input H (Some l) None i is = absurd (cc)
-joined_input H None right i is = absurd (cc)
+joined_input H _ _ i is = absurd (cc)
 
 module _ (H : Digest) {s w a n : ℕ} (some : 0 < w) (around : IsAround s w a n) (other : a ≡ s → n ≡ w → ⊥) where
   module _ (F : Data) (x : List ℕ) where

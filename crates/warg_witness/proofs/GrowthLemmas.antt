@@ -60,16 +60,10 @@ leads_order H m n old path is = grind (arith, nat_tests)
 module _ {V : Type 0} (bytes : V → List ℕ) (H : Digest) (path : List (List ℕ)) (old new : List V) (r p q : List ℕ) (is : r ≡ root_of H (leaves_of H (map bytes old)))
     (led : consistency_roots H (length old) (length new) r path ≡ Some (p, q)) where
   pub met_roots : IsTreeMet H path (map bytes old) (map bytes new) → (p ≡ r) × (q ≡ root_of H (leaves_of H (map bytes new)))
-  met_roots met =
-      let old_count = length-map old bytes in
-      let new_count = length-map new bytes in
-      pair_parts (p, q) (r, root_of H (leaves_of H (map bytes new))) (sym led ∙ rw (old_count, new_count, ← is) at met)
+  met_roots met = grind (arith, length-map old bytes, length-map new bytes)
 
   pub roots_met : p ≡ r → q ≡ root_of H (leaves_of H (map bytes new)) → IsTreeMet H path (map bytes old) (map bytes new)
-  roots_met old_root new_root =
-      let old_count = length-map old bytes in
-      let new_count = length-map new bytes in
-      rw (old_count, new_count, ← is, ← new_root) (led ∙ ap (λ o. Some (o, q)) old_root)
+  roots_met old_root new_root = grind (arith, length-map old bytes, length-map new bytes)
 
 -- leaves that end in the rest of a range split where it does
 pub same_front : (m n : ℕ) → 1 < n → front_of n < m → m ≤ n → front_of m ≡ front_of n

@@ -1,5 +1,5 @@
 -- A tree's own path of a leaf, and what a divergence from it shows.
-use Rattle.std.proofs.Common.{◌≡◌, ℕ, ◌+◌, ◌-◌, ◌<◌, ◌≤◌, List, [], ◌∷◌, ◌++◌, length, map, reverse, get_or, slice_index_or, Option, Some, None, inl, inr, refl, sym, ap, ◌∙◌, arith}
+use Rattle.std.proofs.Common.{◌≡◌, ℕ, ◌+◌, ◌-◌, ◌<◌, ◌≤◌, List, [], ◌∷◌, ◌++◌, length, map, reverse, get_or, slice_index_or, Option, Some, inl, inr, refl, sym, ap, ◌∙◌, arith}
 use Rattle.std.proofs.lemmas.Bool.{lt-leb, lt-ltb, le-ltb, cases_lt}
 use Rattle.std.proofs.lemmas.List.{reverse-reverse, reverse-append, length-reverse, same_from_push, length-map}
 use Rattle.warg_log.specs.Ranges.{IsAligned}
@@ -38,9 +38,7 @@ record IsOwn (H : Digest) (tree : List (List ℕ)) (place m a n : ℕ) (ds : Lis
 -- a path with one more digest
 beside_is : (path : Option (List (List ℕ))) (top : Option (List ℕ)) (below : List (List ℕ)) (d : List ℕ) → beside path top ≡ Some (below ++ d ∷ []) → (path ≡ Some below) × (top ≡ Some d)
 beside_is (Some path) (Some top) below d is = let pushed : path ++ top ∷ [] ≡ below ++ d ∷ [] = cc in let same = same_from_push path below top d pushed in (ap Some same.0, ap Some same.1)
-beside_is (Some path) None below d is = absurd (cc)
-beside_is None (Some top) below d is = absurd (cc)
-beside_is None None below d is = absurd (cc)
+beside_is _ _ below d is = absurd (cc)
 
 -- the path in the part that has the leaf, and the root beside it
 own_front : {H : Digest} {tree : List (List ℕ)} {place m a n : ℕ} {t : List ℕ} {ds : List (List ℕ)} → 1 < n → m < front_of n → IsOwn H tree place m a n (t ∷ ds)

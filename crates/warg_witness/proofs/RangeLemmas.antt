@@ -81,6 +81,9 @@ side_aligned {a} {n} b m aligned more side =
     at_side IsAligned a n b m side (record { height = aligned.height; place = aligned.place; start = aligned.start; most = omega arith })
     (record { height = f.0.0; place = at.0; start = at.1; most = omega arith })
 
+pub beside_aligned : {a n b m : ℕ} → IsAligned a n → 1 < n → (b ≡ a + front_of n) × (m ≡ n - front_of n) → IsAligned b m
+beside_aligned aligned more side = side_aligned _ _ aligned more (inr side)
+
 -- of the sides of a range around a target, the one in which the target begins is around it
 pub front_around : {s w a n : ℕ} → IsNodeRange s w → IsAligned a n → IsAround s w a n → (a ≡ s → n ≡ w → ⊥) → s < a + front_of n → s + w ≤ a + front_of n
 front_around {s} {w} {a} {n} node aligned around other left =
