@@ -91,7 +91,7 @@ both_same : (H : Digest) (known : Option (List ℕ)) (n : ℕ) (path : List (Lis
 both_same H known n path r r' leads = one (one_root known path) (sym (both_one H known n path) ∙ leads)
   where
     one : (root : Option (List ℕ)) → twice root ≡ Some (r, r') → r ≡ r'
-    one None is = absurd (cc)
+    one None is = cc
     one (Some root) is = let both = pair_parts _ _ is in sym both.0 ∙ both.1
 
 -- the plain input at more than one leaf is the tree's

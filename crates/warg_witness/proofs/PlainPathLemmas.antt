@@ -37,8 +37,8 @@ peer_there H peers before after digest i e n all =
 -- the branch over both halves
 both_halves : (H : List ℕ → List ℕ) (held : List Bool → Option (List ℕ)) (b : Bool) (k : ℕ) (peer value : List ℕ) → peer ≡ root_of_levels H k (λ q. held (not b ∷ q)) → value ≡ root_of_levels H k (λ q. held (b ∷ q))
     → ◌≡◌ {A = List ℕ} (input_beside b peer value) (branch_input (root_of_levels H k (λ q. held (false ∷ q))) (root_of_levels H k (λ q. held (true ∷ q))))
-both_halves H held true k peer value p v = ap (λ t. 1 ∷ t ++ value) p ∙ ap (λ t. 1 ∷ root_of_levels H k (λ q. held (false ∷ q)) ++ t) v
-both_halves H held false k peer value p v = ap (λ t. 1 ∷ t ++ peer) v ∙ ap (λ t. 1 ∷ root_of_levels H k (λ q. held (false ∷ q)) ++ t) p
+both_halves H held true k peer value p v = rw (p, v) refl
+both_halves H held false k peer value p v = rw (p, v) refl
 
 more_of : (H : List ℕ → List ℕ) (held : List Bool → Option (List ℕ)) (b : Bool) (bits : List Bool) (peers after : List (Option (List ℕ))) → peers ≡ plain_peers H held (b ∷ bits) ++ after
     → peers ≡ plain_peers H (λ q. held (b ∷ q)) bits ++ Some (root_of_levels H (length bits) (λ q. held (not b ∷ q))) ∷ after

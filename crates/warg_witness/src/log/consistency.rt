@@ -82,7 +82,7 @@ fn meet_trees<D: SupportedDigest, V: VisitBytes, L: LogData<D, V>, A: Allocator 
 }
 
 // The balanced root of a range that has the leaf at `place`.
-#[tactic(auto, using(crate::proofs::RootLemmas::root_full, crate::proofs::RootLemmas::full_node, crate::proofs::RootLemmas::front_node, crate::proofs::RootLemmas::rest_aligned))]
+#[tactic(auto, using(crate::proofs::RootLemmas::root_full, crate::proofs::RootLemmas::full_node, crate::proofs::RootLemmas::front_node, crate::proofs::RootLemmas::rest_aligned, crate::proofs::RootLemmas::root_rest))]
 fn root_around(place: usize, range: &LeafRange) -> LeafRange
     requires starts { range.now.start ≤ place }
     requires ends { place < range.now.start + range.now.count }
