@@ -1,5 +1,5 @@
 -- One step up of two evaluations.
-use Rattle.std.proofs.Common.{◌≡◌, ℕ, Bool, true, false, cond, List, length, Option, Some, None, inl, inr, refl, sym, ◌∙◌}
+use Rattle.std.proofs.Common.{◌≡◌, ℕ, Bool, true, false, cond, List, length, Option, Some, inl, inr, refl, sym, ◌∙◌}
 use Rattle.warg_crypto.proofs.ForCallers.{branch_parts, same_or_not}
 use Rattle.warg_crypto.specs.Collisions.{Collides}
 use Rattle.warg_crypto.specs.Tree.{input_beside}
@@ -44,5 +44,4 @@ up_diverges P up below here one = elim up.diverges [
 -- a branch that is there has both its parts
 pub both_there : (H : List ℕ → List ℕ) (left right : Option (List ℕ)) (d : List ℕ) → joined H left right ≡ Some d → (l : List ℕ) × (r : List ℕ) × (left ≡ Some l) × (right ≡ Some r)
 both_there H (Some l) (Some r) d is = (l, r, refl, refl)
-both_there H (Some l) None d is = absurd (cc)
-both_there H None right d is = absurd (cc)
+both_there H _ _ d is = absurd (cc)

@@ -122,7 +122,7 @@ module _ (H : Digest) where
       let ds = leaves_of H entries in
       let n = length ds in
       let some = node_some node in
-      diverged gives holds (own_holds entries gives) size (root_size entries s w gives some within) node place meets (whole_aligned n) (omega arith) (have_root H ds s w leads (omega arith))
+      diverged gives holds (own_holds entries gives) size (root_size entries s w gives some within) node place meets (whole_aligned n refl) (omega arith) (have_root H ds s w leads (omega arith))
 
   -- a claim that is met leads to the root of the tree
   leads_to : {F : Data} {p : InclusionClaim} {digest : List ℕ} {entries : List (List ℕ)} → IsMet H F p digest entries → let ds = leaves_of H entries in let node = p.leaf.0 in
@@ -153,7 +153,7 @@ module _ (H : Digest) where
       let second = (inclusion_leads H G p _ met.root).0 met.second_is in
       diverged gives holds holds' (gives (0 ∷ value)) (gives (0 ∷ other)) (node_range node)
       (agreement_placed H F value G other node n) (λ meets. shown_collides _ (agreement_meets H F value G other node n false_claim meets))
-      (whole_aligned n) (omega arith) (record { digest = met.root; first = first.1; second = second.1 })
+      (whole_aligned n refl) (omega arith) (record { digest = met.root; first = first.1; second = second.1 })
 
   -- the balanced root around a difference shows a collision
   pub consistency_collides : (F : Data) (m n : ℕ) (old new : List (List ℕ)) → HasSize H → HoldsHashes F → IsConsistencyMet H F m n old new → (Begins old new → ⊥)
@@ -162,7 +162,7 @@ module _ (H : Digest) where
       let ds = leaves_of H old in
       let es = leaves_of H new in
       let found = difference old new (omega arith) false_claim in
-      let root = root_found found.0 (length ds) 0 (length ds) (omega arith) (whole_aligned (length ds)) (omega arith) (omega (arith, length-leaves H old)) in
+      let root = root_found found.0 (length ds) 0 (length ds) (omega arith) (whole_aligned (length ds) refl) (omega arith) (omega (arith, length-leaves H old)) in
       let is : IsConsistencyMeeting H F m n old new ds es = record { met = met; old_is = refl; new_is = refl } in
       let leads = root_leads (trees_consistent is) root.2 in
       let at = leads.1 in
@@ -171,7 +171,7 @@ module _ (H : Digest) where
       from_tree old gives holds size at.node at.in_old at.to_old (old_placed is at)
       (λ in_old. from_tree new gives holds size at.node at.in_new at.to_new (new_placed is at)
       (λ in_new. diverged gives (own_holds old gives) (own_holds new gives)
-      (root_size old place 1 gives (omega arith) (omega arith)) (root_size new place 1 gives (omega arith) (omega arith)) (leaf_node place)
+      (root_size old place 1 gives (omega arith) (omega arith)) (root_size new place 1 gives (omega arith) (omega arith)) (leaf_node refl)
       (below_placed is at place in_new.part)
       (λ meets. shown_collides _ (leaves_shown is at place in_new.part meets found.2))
       (node_aligned at.node) root.3 (have_range H ds es place 1 (node_aligned at.node) (node_some at.node) at.in_old at.in_new (sym in_old.same ∙ in_new.same))))

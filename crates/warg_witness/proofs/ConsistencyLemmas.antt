@@ -1,5 +1,5 @@
 -- What a consistency proof shows of given entries.
-use Rattle.std.proofs.Common.{◌≡◌, ℕ, ◌+◌, ◌-◌, ◌<◌, List, [], ◌∷◌, Some, inl, inr, sym, ap, ◌∙◌, arith, length, map, get_or}
+use Rattle.std.proofs.Common.{◌≡◌, ℕ, ◌+◌, ◌-◌, ◌<◌, List, [], ◌∷◌, Some, inl, inr, refl, sym, ap, ◌∙◌, arith, length, map, get_or}
 use Rattle.warg_log.specs.Nodes.{node_over, balanced_roots}
 use Rattle.warg_log.specs.Tree.{front_of, leaves_of, root_of, root_over, own_digest}
 use Rattle.warg_log.specs.Cut.{cut_over, old_over, IsFull}
@@ -71,7 +71,7 @@ trees_consistent {H} {old = old} {new = new} is = rw (is.old_is, is.new_is, leng
 pub root_leads : {H : Digest} {F : Data} {old_tree new_tree : List (List ℕ)} {s w : ℕ} → IsConsistent H F (length old_tree) (length new_tree) (root_of H old_tree) (root_of H new_tree)
     → Root s w 0 (length old_tree) → (x : List ℕ) × LeadsToBoth H F old_tree new_tree s w x
 root_leads {H} {F} {old_tree} {new_tree} {s} {w} is root =
-    let aligned = whole_aligned (length old_tree) in
+    let aligned = whole_aligned (length old_tree) refl in
     let at = root_stands root is.some aligned in
     let numbers = node_bounds root.node in
     let P = LeadsTo H F (length new_tree) (root_of H new_tree) in
@@ -103,7 +103,7 @@ module _ {H : Digest} {F : Data} {m n : ℕ} {old new old_tree new_tree : List (
   in_both : IsPart 0 (length new_tree) s w → IsPart 0 (length old) s w × IsPart 0 (length new) s w
   in_both new_part =
       let some = node_some at.node in
-      let old_part = (root_stands root (omega arith) (whole_aligned (length old_tree))).part in (rw (is.old_is, length-leaves H old) at old_part, rw (is.new_is, length-leaves H new) at new_part)
+      let old_part = (root_stands root (omega arith) (whole_aligned (length old_tree) refl)).part in (rw (is.old_is, length-leaves H old) at old_part, rw (is.new_is, length-leaves H new) at new_part)
 
   -- where both trees diverge below the root, or their leaves have one digest, and other entries
   pub below_placed : (place : ℕ) → IsPart 0 (length new_tree) s w → (first second : List ℕ)

@@ -1,5 +1,5 @@
 -- Evaluations over the ranges of a log's tree: one, two side by side, and that of the tree over entries.
-use Rattle.std.proofs.Common.{◌≡◌, ℕ, ◌+◌, ◌-◌, ◌<◌, ◌≤◌, Bool, true, false, List, ◌∷◌, length, Option, Some, None, inl, inr, refl, sym, ap, ◌∙◌, arith}
+use Rattle.std.proofs.Common.{◌≡◌, ℕ, ◌+◌, ◌-◌, ◌<◌, ◌≤◌, Bool, true, false, List, ◌∷◌, length, Option, Some, inl, inr, refl, sym, ap, ◌∙◌, arith}
 use Rattle.std.proofs.Math.Seq.{take-length}
 use Rattle.std.proofs.lemmas.List.{length-map, get_or-map}
 use Rattle.std.proofs.lemmas.Bool.Decides.{nat_tests}
@@ -38,8 +38,7 @@ widened H F x G y s w (Branch l r l' r') outer is = search (IsPart-trans, outer,
 -- a branch is the digest of its input
 joined_input : (H : Digest) (left right : Option (List ℕ)) (i : List ℕ) → where_both branch_input left right ≡ Some i → joined H left right ≡ Some (H i)
 joined_input H (Some l) (Some r) i is = grind arith
-joined_input H (Some l) None i is = absurd (cc)
-joined_input H None right i is = absurd (cc)
+joined_input H _ _ i is = absurd (cc)
 
 module _ (H : Digest) {s w a n : ℕ} (some : 0 < w) (around : IsAround s w a n) (other : a ≡ s → n ≡ w → ⊥) where
   module _ (F : Data) (x : List ℕ) where
@@ -78,17 +77,7 @@ module _ (H : Digest) {s w a n : ℕ} (some : 0 < w) (around : IsAround s w a n)
           first_is = sides_root F x sides climb.first_is far ∙ ap Some (sym up.first_is);
           second_is = sides_root G y sides climb.second_is other_far ∙ ap Some (sym up.second_is);
           diverges = up_diverges (IsDivergence H F x G y s w a n) up (λ same _. widened H F x G y s w p (side_is_part b m whole (omega arith) (near_side sides)) (climb.diverges same))
-              (λ collides. record {
-                from = a;
-                count = n;
-                part = whole;
-                around = around;
-                other = other;
-                first_input = sides_input F x sides climb.first_is far;
-                second_input = sides_input G y sides climb.second_is other_far;
-                differ = collides.differ;
-                same = collides.same;
-              });
+              (λ collides. search (whole, around, other, sides_input F x sides climb.first_is far, sides_input G y sides climb.second_is other_far, collides));
         }
 
 -- the leaves are as many as the entries
@@ -109,7 +98,7 @@ module _ (H : Digest) where
 
   -- an evaluation that leads to a tree's root has it in common with the tree, and two trees have a range at which they have one digest
   own_root : (ds : List (List ℕ)) (s w : ℕ) → 0 < length ds → cut_over H (own_digest H ds) (root_over H ds s w) s w 0 (length ds) ≡ Some (root_of H ds)
-  own_root ds s w some = own_cut ds s w (whole_aligned (length ds)) some (omega arith) ∙ ap (λ l. Some (root_of H l)) (take-length ds)
+  own_root ds s w some = own_cut ds s w (whole_aligned (length ds) refl) some (omega arith) ∙ ap (λ l. Some (root_of H l)) (take-length ds)
 
   pub have_root : {F : Data} {x : List ℕ} (ds : List (List ℕ)) (s w : ℕ) → cut_over H F x s w 0 (length ds) ≡ Some (root_of H ds) → 0 < length ds
       → HaveOneDigest H F x (own_digest H ds) (root_over H ds s w) s w 0 (length ds)

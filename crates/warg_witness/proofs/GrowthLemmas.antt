@@ -1,9 +1,10 @@
 -- The way down a consistency path and the trees over the old and the new entries.
-use Rattle.std.proofs.Common.{◌≡◌, ℕ, Bool, ◌+◌, ◌-◌, ◌<◌, ◌≤◌, ◌==◌, ◌&&◌, ◌↔◌, true, false, nat_lt, nat_le, List, [], ◌∷◌, length, map, reverse, get_or, Option, Some, None, inl, inr, refl, sym, ap, ◌∙◌, arith}
+use Rattle.std.proofs.Common.{◌≡◌, ℕ, Bool, ◌+◌, ◌-◌, ◌<◌, ◌≤◌, ◌↔◌, true, false, List, [], ◌∷◌, length, map, reverse, get_or, Option, Some, None, inl, inr, refl, sym, ap, ◌∙◌, arith}
 use Rattle.std.specs.Option.{is_some}
 use Rattle.std.proofs.lemmas.Nat.{pow_pos}
 use Rattle.std.proofs.lemmas.List.{length-map}
-use Rattle.std.proofs.lemmas.Bool.{lt-leb, le-leb, lt-ltb, le-ltb, ne_eqb, cases_lt, cases_Bool}
+use Rattle.std.proofs.lemmas.Bool.Decides.{nat_tests}
+use Rattle.std.proofs.lemmas.Bool.{lt-leb, le-leb, lt-ltb, ne_eqb}
 use Rattle.warg_crypto.specs.Tree.{branch_input, input_beside}
 use Rattle.warg_log.specs.Tree.{front_of, leaves_of, root_of, root_over, own_digest}
 use Rattle.warg_log.proofs.ForCallers.{front_is_greatest, front_of_is, root_over_parts}
@@ -32,74 +33,37 @@ use Rattle.warg_witness.proofs.BothLemmas.{both_placed, both_meet}
 
 -- two roots are the same one by one
 pair_parts : (p q : List ℕ × List ℕ) → Some p ≡ Some q → (p.0 ≡ q.0) × (p.1 ≡ q.1)
-pair_parts p q e = let pair : p ≡ q = cc in (ap (λ r. r.0) pair, ap (λ r. r.1) pair)
-
-nothing : {p : List ℕ × List ℕ} → None ≡ Some p → ⊥
-nothing e = cc
+pair_parts p q e = (cc, cc)
 
 -- the roots by what is left of a path, from lengths in order
 pub subproof_is : (H : Digest) (known : Option (List ℕ)) (m n : ℕ) (path : List (List ℕ)) → 0 < m → m ≤ n → subproof_roots H known m n path ≡ roots_down H known m n (reverse path)
 subproof_is H known m n path some order = rw (lt-ltb 0 m some, le-leb m n order) refl
 
 -- whether a path leads somewhere doesn't depend on the old root
-none_below : (H : Digest) (below : Option (List ℕ × List ℕ)) (top : List ℕ) → grown H below top ≡ None → below ≡ None
-none_below H None top is = refl
-none_below H (Some roots) top is = absurd (cc)
+some_grown : (H : Digest) (below : Option (List ℕ × List ℕ)) (top : List ℕ) → is_some (grown H below top) ≡ is_some below
+some_grown H None top = refl
+some_grown H (Some roots) top = refl
 
-none_down : (H : Digest) (r s : List ℕ) (ds : List (List ℕ)) (m n : ℕ) → roots_down H (Some r) m n ds ≡ None → roots_down H (Some s) m n ds ≡ None
+some_down : (H : Digest) (r s : List ℕ) (ds : List (List ℕ)) (m n : ℕ) → is_some (roots_down H (Some r) m n ds) ≡ is_some (roots_down H (Some s) m n ds)
 unfolding roots_down
-none_down H r s [] m n is = elim (cases_Bool (m == n)) [
-  | inl same ↦ let some : Some (r, r) ≡ None = rw same at is in absurd (cc)
-  | inr other ↦ rw other refl
-]
-none_down H r s (top ∷ below) m n is = elim (cases_Bool (m == n)) [
-  | inl same ↦ rw same refl
-  | inr other ↦ elim (cases_Bool (nat_le m (front_of n))) [
-    | inl low ↦ rw (other, low) (ap (λ x. grown H x top) (none_down H r s below m (front_of n) (none_below H _ top (rw (other, low) at is))))
-    | inr high ↦ rw (other, high) (rw (other, high) at is)
-  ]
-]
-
-pub none_whichever : (H : Digest) (m n : ℕ) (r s : List ℕ) (path : List (List ℕ)) → consistency_roots H m n r path ≡ None → consistency_roots H m n s path ≡ None
-none_whichever H m n r s path is = elim (cases_Bool (nat_lt 0 m && nat_le m n)) [
-  | inl order ↦ rw order (none_down H r s (reverse path) m n (rw order at is))
-  | inr other ↦ rw other refl
-]
-
-none_from : (roots : Option (List ℕ × List ℕ)) → is_some roots ≡ false → roots ≡ None
-none_from None is = refl
-none_from (Some roots) is = absurd (cc)
+some_down H r s [] m n = grind arith
+some_down H r s (top ∷ below) m n = grind (arith, some_grown, some_down H r s below m (front_of n))
 
 pub leads_nowhere : (H : Digest) (m n : ℕ) (r s : List ℕ) (path : List (List ℕ)) → (is_some (consistency_roots H m n r path) ≡ false) ↔ (consistency_roots H m n s path ≡ None)
-leads_nowhere H m n r s path = (λ no. none_whichever H m n r s path (none_from _ no), λ none. ap is_some (none_whichever H m n s r path none))
+leads_nowhere H m n r s path = grind (arith, some_down H r s (reverse path) m n)
 
 -- a path that leads somewhere, from lengths in order
 pub leads_order : (H : Digest) (m n : ℕ) (old : List ℕ) (path : List (List ℕ)) → is_some (consistency_roots H m n old path) ≡ true → (0 < m) × (m ≤ n)
-leads_order H m n old path is = elim (cases_lt 0 m) [
-  | inr none ↦ absurd (other (rw (le-ltb 0 m none) at is))
-  | inl some ↦ elim (cases_lt n m) [
-    | inl less ↦ absurd (other (rw (lt-ltb 0 m some, lt-leb m n less) at is))
-    | inr order ↦ (some, order)
-  ]
-]
-  where
-    other : false ≡ true → ⊥
-    other e = cc
+leads_order H m n old path is = grind (arith, nat_tests)
 
 -- the roots to which a path leads are those of the trees over the entries, where the claim is met, and the claim is met where they are
 module _ {V : Type 0} (bytes : V → List ℕ) (H : Digest) (path : List (List ℕ)) (old new : List V) (r p q : List ℕ) (is : r ≡ root_of H (leaves_of H (map bytes old)))
     (led : consistency_roots H (length old) (length new) r path ≡ Some (p, q)) where
   pub met_roots : IsTreeMet H path (map bytes old) (map bytes new) → (p ≡ r) × (q ≡ root_of H (leaves_of H (map bytes new)))
-  met_roots met =
-      let old_count = length-map old bytes in
-      let new_count = length-map new bytes in
-      pair_parts (p, q) (r, root_of H (leaves_of H (map bytes new))) (sym led ∙ rw (old_count, new_count, ← is) at met)
+  met_roots met = grind (arith, length-map old bytes, length-map new bytes)
 
   pub roots_met : p ≡ r → q ≡ root_of H (leaves_of H (map bytes new)) → IsTreeMet H path (map bytes old) (map bytes new)
-  roots_met old_root new_root =
-      let old_count = length-map old bytes in
-      let new_count = length-map new bytes in
-      rw (old_count, new_count, ← is, ← new_root) (led ∙ ap (λ o. Some (o, q)) old_root)
+  roots_met old_root new_root = grind (arith, length-map old bytes, length-map new bytes)
 
 -- leaves that end in the rest of a range split where it does
 pub same_front : (m n : ℕ) → 1 < n → front_of n < m → m ≤ n → front_of m ≡ front_of n
@@ -127,7 +91,7 @@ both_same : (H : Digest) (known : Option (List ℕ)) (n : ℕ) (path : List (Lis
 both_same H known n path r r' leads = one (one_root known path) (sym (both_one H known n path) ∙ leads)
   where
     one : (root : Option (List ℕ)) → twice root ≡ Some (r, r') → r ≡ r'
-    one None is = absurd (nothing is)
+    one None is = cc
     one (Some root) is = let both = pair_parts _ _ is in sym both.0 ∙ both.1
 
 -- the plain input at more than one leaf is the tree's
@@ -180,38 +144,28 @@ module _ (H : Digest) (old_tree new_tree : List (List ℕ)) (place : ℕ) (known
   -- what inputs of the evaluation and of a tree at the range show, where they collide
   old_here : {i j : List ℕ} → front_of n < m → old_turn_input H m n top below ≡ Some i → j ≡ tree_input H old_tree a m → Collides H (i, j) → (path old new : List (List ℕ))
       → IsOnWayOver H path old new old_tree new_tree place known m a n (top ∷ below) → IsTreeShown H path old new (i, j)
-  old_here high evaluation plain collides path old new way = record {
-    collides = collides;
-    placed = inl (record {
-      known = known;
-      old_count = m;
-      from = a;
-      count = n;
-      top = top;
-      below = below;
-      turn = record { on_way = way.on_way; more = more };
-      in_rest = high;
-      evaluation = evaluation;
-      plain = let split = front_some n (omega arith) in plain ∙ plain_is H old old_tree a m way.old_is (omega arith);
-    });
-  }
+  old_here high evaluation plain collides path old new way =
+      let split = front_some n (omega arith) in
+      let is = plain ∙ plain_is H old old_tree a m way.old_is (omega arith) in record {
+        collides = collides;
+        placed = inl (record {
+          known = known;
+          old_count = m;
+          from = a;
+          count = n;
+          top = top;
+          below = below;
+          turn = record { on_way = way.on_way; more = more };
+          in_rest = high;
+          evaluation = evaluation;
+          plain = is;
+        });
+      }
 
   new_here : {i j : List ℕ} → new_turn_input H known m n top below ≡ Some i → j ≡ tree_input H new_tree a n → Collides H (i, j) → (path old new : List (List ℕ))
       → IsOnWayOver H path old new old_tree new_tree place known m a n (top ∷ below) → IsTreeShown H path old new (i, j)
-  new_here evaluation plain collides path old new way = record {
-    collides = collides;
-    placed = inr (inl (record {
-      known = known;
-      old_count = m;
-      from = a;
-      count = n;
-      top = top;
-      below = below;
-      turn = record { on_way = way.on_way; more = more };
-      evaluation = evaluation;
-      plain = plain ∙ plain_is H new new_tree a n way.new_is (omega arith);
-    }));
-  }
+  new_here evaluation plain collides path old new way =
+      let is = plain ∙ plain_is H new new_tree a n way.new_is (omega arith) in record { collides = collides; placed = inr (inl (search (way, more, evaluation, is))) }
 
   module _ (in_old : a + m ≤ length old_tree) (in_new : a + n ≤ length new_tree) where
     -- up from the first part

@@ -1,5 +1,5 @@
 -- A tree's own path of a leaf, and what a divergence from it shows.
-use Rattle.std.proofs.Common.{◌≡◌, ℕ, ◌+◌, ◌-◌, ◌<◌, ◌≤◌, List, [], ◌∷◌, ◌++◌, length, map, reverse, get_or, slice_index_or, Option, Some, None, inl, inr, refl, sym, ap, ◌∙◌, arith}
+use Rattle.std.proofs.Common.{◌≡◌, ℕ, ◌+◌, ◌-◌, ◌<◌, ◌≤◌, List, [], ◌∷◌, ◌++◌, length, map, reverse, get_or, slice_index_or, Option, Some, inl, inr, refl, sym, ap, ◌∙◌, arith}
 use Rattle.std.proofs.lemmas.Bool.{lt-leb, lt-ltb, le-ltb, cases_lt}
 use Rattle.std.proofs.lemmas.List.{reverse-reverse, reverse-append, length-reverse, same_from_push, length-map}
 use Rattle.warg_log.specs.Ranges.{IsAligned}
@@ -38,9 +38,7 @@ record IsOwn (H : Digest) (tree : List (List ℕ)) (place m a n : ℕ) (ds : Lis
 -- a path with one more digest
 beside_is : (path : Option (List (List ℕ))) (top : Option (List ℕ)) (below : List (List ℕ)) (d : List ℕ) → beside path top ≡ Some (below ++ d ∷ []) → (path ≡ Some below) × (top ≡ Some d)
 beside_is (Some path) (Some top) below d is = let pushed : path ++ top ∷ [] ≡ below ++ d ∷ [] = cc in let same = same_from_push path below top d pushed in (ap Some same.0, ap Some same.1)
-beside_is (Some path) None below d is = absurd (cc)
-beside_is None (Some top) below d is = absurd (cc)
-beside_is None None below d is = absurd (cc)
+beside_is _ _ below d is = absurd (cc)
 
 -- the path in the part that has the leaf, and the root beside it
 own_front : {H : Digest} {tree : List (List ℕ)} {place m a n : ℕ} {t : List ℕ} {ds : List (List ℕ)} → 1 < n → m < front_of n → IsOwn H tree place m a n (t ∷ ds)
@@ -53,17 +51,11 @@ own_rest {H} {tree} {place} {m} {a} {n} {t} {ds} more le own = beside_is _ _ (re
 
 -- where a digest is left, the range has more than one leaf
 own_more : {H : Digest} {tree : List (List ℕ)} {place m a n : ℕ} {t : List ℕ} {ds : List (List ℕ)} → IsOwn H tree place m a n (t ∷ ds) → 1 < n
-own_more {H} {tree} {place} {m} {a} {n} {t} {ds} own = elim (cases_lt 1 n) [
-  | inl more ↦ more
-  | inr few ↦
-      let one : n ≡ 1 = let h = own.inside in omega arith in
-      let is : Some [] ≡ Some (reverse (t ∷ ds)) = sym (path_one (Roots H tree) m a) ∙ rw one at own.path in
-      let none : [] ≡ reverse (t ∷ ds) = cc in absurd (omega (arith, ap length none, length-reverse (t ∷ ds)))
-]
+own_more {H} {tree} {place} {m} {a} {n} {t} {ds} own = grind (arith, path_one (Roots H tree) m a, length-reverse (t ∷ ds), own.inside, own.path)
 
 module _ (H : Digest) (tree own : List (List ℕ)) (place : ℕ) (inside : place < length tree) (own_is : inclusion_of (Roots H tree) place (length tree) ≡ Some own) where
   own_on_way : {m a n : ℕ} {ds : List (List ℕ)} → IsOnWay place 0 (length tree) (reverse own) m a n ds → IsOwn H tree place m a n ds
-  own_on_way whole = record { inside = inside; within = omega arith; at = omega arith; aligned = whole_aligned (length tree); path = own_is ∙ ap Some (sym (reverse-reverse own)) }
+  own_on_way whole = record { inside = inside; within = omega arith; at = omega arith; aligned = whole_aligned (length tree) refl; path = own_is ∙ ap Some (sym (reverse-reverse own)) }
   own_on_way (front m a n t ds way more lt) =
       let up = own_on_way way in
       let f = front_is_greatest n more in record {
@@ -122,30 +114,15 @@ record_shown {D} H index path value entries p inside other is = at_way p (is.div
         → Shows H (IsRecordPlaced H index path value entries) (inputs_of p (0 ∷ value) (0 ∷ get_or entries index []))
     at_way Target here = (
       record { differ = λ e. other (cc); same = here.same ∙ sym (root_over_one H tree index (omega (arith, count))) ∙ plain_digest_is H entries index 1 (omega arith) (omega arith) },
-      record {
-        leaf = 0;
-        from = 0 + index;
-        count = 1;
-        digests = [];
-        on_way = rw (← count) here.on_way;
-        evaluation = refl;
-        plain = ap (λ i. 0 ∷ get_or entries i []) (omega arith);
-      },
+      let way = rw count at here.on_way in
+          let plain = ap (λ i. 0 ∷ get_or entries i []) (let at : index ≡ 0 + index = omega arith in at) in search (way, plain),
     )
     at_way (Branch l r l' r') here =
         let own = own_input H tree is.own index (omega (arith, count)) is.own_is here.other_on_way in
         let both : Some (branch_input l' r') ≡ Some (tree_input H tree here.from here.count) = sym here.second_evaluation ∙ own.1 in
         let second : branch_input l' r' ≡ plain_input H entries here.from here.count = rw (lt-leb here.count 1 own.0) (cc) in (
           record { differ = here.differ; same = here.same },
-          record {
-            leaf = here.leaf;
-            from = here.from;
-            count = here.count;
-            digests = here.top ∷ here.below;
-            on_way = rw (← count) here.on_way;
-            evaluation = here.first_evaluation;
-            plain = second;
-          },
+          let way = rw count at here.on_way in search (way, here, second),
         )
 
 -- the same, of entries that are read

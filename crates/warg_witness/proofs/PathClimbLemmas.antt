@@ -3,7 +3,6 @@ use Rattle.std.proofs.Common.{◌≡◌, ℕ, ◌+◌, ◌-◌, ◌<◌, ◌≤�
 use Rattle.std.proofs.lemmas.Bool.{lt-ltb, le-ltb}
 use Rattle.warg_log.specs.Tree.{front_of}
 use Rattle.warg_log.specs.Cut.{joined}
-use Rattle.warg_paths.specs.Paths.{root_down}
 use Rattle.warg_paths.proofs.ForCallers.{root_one, root_long}
 use Rattle.warg_crypto.specs.Collisions.{Collides}
 use Rattle.warg_witness.specs.PathPlaced.{IsOnWay, IsRecordAgreementPlaced, turn_input}
@@ -40,21 +39,7 @@ module _ (H : Digest) (x t : List ℕ) (ds : List (List ℕ)) (y u : List ℕ) (
   -- where the inputs at a range collide
   diverges_at : {i j : List ℕ} → turn_input H x m n t ds ≡ Some i → turn_input H y m n u es ≡ Some j → Collides H (i, j) → (m₀ a₀ n₀ : ℕ) (digests₀ other_digests₀ : List (List ℕ))
       → IsOnWay m₀ a₀ n₀ digests₀ m a n (t ∷ ds) → IsOnWay m₀ a₀ n₀ other_digests₀ m a n (u ∷ es) → PathsDiverge H x digests₀ y other_digests₀ m₀ a₀ n₀ i j
-  diverges_at first second collides m₀ a₀ n₀ digests₀ other_digests₀ way other_way = record {
-    leaf = m;
-    from = a;
-    count = n;
-    top = t;
-    below = ds;
-    other_top = u;
-    other_below = es;
-    on_way = way;
-    other_on_way = other_way;
-    first_evaluation = first;
-    second_evaluation = second;
-    differ = collides.differ;
-    same = collides.same;
-  }
+  diverges_at first second collides m₀ a₀ n₀ digests₀ other_digests₀ way other_way = search (way, other_way, first, second, collides)
 
   module _ {D : Type 0} {b c d e : List ℕ} {p q : Divergence D} where
     -- up from the first part
@@ -87,11 +72,7 @@ pub second_short : (H : Digest) (x y : List ℕ) (ds : List (List ℕ)) (path : 
 second_short H x y ds path m n more none = λ first second is other. none_leads H m n y second path more none other
 
 pub one_long : (H : Digest) (x y : List ℕ) (path other_path : List (List ℕ)) (m n : ℕ) → n ≡ 1 → ((length path ≡ 0) × (length other_path ≡ 0) → ⊥) → LeadNowhere H x (reverse path) y (reverse other_path) m n
-one_long H x y path other_path m n one long = λ first second is other. long (short x first path (rw one at is), short y second other_path (rw one at other))
-  where
-    short : (z root : List ℕ) (path : List (List ℕ)) → root_down H m 1 z (reverse path) ≡ Some root → length path ≡ 0
-    short z root [] is = refl
-    short z root (d ∷ path) is = let nowhere = root_long H m z (d ∷ path) (λ e. omega arith) in absurd (cc)
+one_long H x y path other_path m n one long = λ first second is other. grind (arith, root_long H m x path, root_long H m y other_path)
 
 -- where one leads nowhere in the part that has the leaf
 module _ (H : Digest) (x t : List ℕ) (ds : List (List ℕ)) (y u : List ℕ) (es : List (List ℕ)) (m n : ℕ) (more : 1 < n) where
@@ -126,31 +107,5 @@ record_agreement_shown H index n path value other_path other p apart is = at_way
   where
     at_way : {D : Type 0} (p : Divergence D) → PathsPart H (H (0 ∷ value)) (reverse path) (H (0 ∷ other)) (reverse other_path) index 0 n (0 + index) p
         → Shows H (IsRecordAgreementPlaced H index n path value other_path other) (inputs_of p (0 ∷ value) (0 ∷ other))
-    at_way Target is = (
-      record { differ = λ e. apart (cc); same = is.same },
-      record {
-        leaf = 0;
-        from = 0 + index;
-        count = 1;
-        digests = [];
-        other_digests = [];
-        on_way = is.on_way;
-        other_on_way = is.other_on_way;
-        first_evaluation = refl;
-        second_evaluation = refl;
-      },
-    )
-    at_way (Branch l r l' r') is = (
-      record { differ = is.differ; same = is.same },
-      record {
-        leaf = is.leaf;
-        from = is.from;
-        count = is.count;
-        digests = is.top ∷ is.below;
-        other_digests = is.other_top ∷ is.other_below;
-        on_way = is.on_way;
-        other_on_way = is.other_on_way;
-        first_evaluation = is.first_evaluation;
-        second_evaluation = is.second_evaluation;
-      },
-    )
+    at_way Target is = (record { differ = λ e. apart (cc); same = is.same }, search is)
+    at_way (Branch l r l' r') is = search is

@@ -1,6 +1,5 @@
 -- Two evaluations along one key's bits.
-use Rattle.std.proofs.Common.{◌≡◌, ℕ, zero, suc, ◌+◌, ◌-◌, ◌<◌, Bool, true, false, nat_lt, List, [], ◌∷◌, ◌++◌, length, Option, Some, None, unwrap_or, get_or, ⊎_elim, refl, sym, ap, ◌∙◌}
-use Rattle.std.proofs.lemmas.Bool.{cases_Bool}
+use Rattle.std.proofs.Common.{◌≡◌, ℕ, zero, suc, ◌+◌, ◌-◌, ◌<◌, Bool, List, [], ◌∷◌, ◌++◌, length, Option, refl, sym, ap, ◌∙◌, arith}
 use Rattle.warg_crypto.specs.EmptyTrees.{empty_root}
 use Rattle.warg_map.specs.ProofValue.{peer_of, proof_value}
 use Rattle.warg_crypto.specs.Tree.{input_beside}
@@ -83,14 +82,7 @@ empty_len H gives zero = gives (0 ∷ [])
 empty_len H gives (suc k) = gives (1 ∷ (empty_root H k ++ empty_root H k))
 
 peer_len : (H : List ℕ → List ℕ) (P : List (Option (List ℕ))) → HasSize H → HoldsPeers P → (i : ℕ) → length (peer_of H P i) ≡ 32
-peer_len H P gives holds i = ⊎_elim
-    (λ (t : nat_lt i (256 - length P) ≡ true). rw t (empty_len H gives i))
-    (λ (t : nat_lt i (256 - length P) ≡ false). rw t (there (get_or P (i - (256 - length P)) None) (holds (i - (256 - length P)))))
-    (cases_Bool (nat_lt i (256 - length P)))
-  where
-    there : (o : Option (List ℕ)) → ((digest : List ℕ) → o ≡ Some digest → length digest ≡ 32) → length (unwrap_or o (empty_root H i)) ≡ 32
-    there None h = empty_len H gives i
-    there (Some digest) h = h digest refl
+peer_len H P gives holds i = grind (arith, empty_len H gives i, holds (i - (256 - length P)))
 
 -- two evaluations of one root diverge at a branch, or have one leaf digest
 module _ (H : List ℕ → List ℕ) (P : List (Option (List ℕ))) (x : List ℕ) (Q : List (Option (List ℕ))) (y : List ℕ) (gives : HasSize H) (holds : HoldsPeers P) (holds' : HoldsPeers Q)

@@ -1,5 +1,5 @@
 -- The plain sparse tree beside a key's bits, as the peers of a proof.
-use Rattle.std.proofs.Common.{◌≡◌, ℕ, zero, suc, ◌+◌, ◌-◌, Bool, true, false, not, cond, nat_lt, List, [], ◌∷◌, ◌++◌, length, Option, Some, None, unwrap_or, get_or, refl, sym, ap, ◌∙◌, arith, append_assoc}
+use Rattle.std.proofs.Common.{◌≡◌, ℕ, zero, suc, ◌+◌, ◌-◌, Bool, true, false, not, List, [], ◌∷◌, ◌++◌, length, Option, Some, None, unwrap_or, get_or, refl, sym, ap, ◌∙◌, arith, append_assoc}
 use Rattle.std.proofs.lemmas.List.{append-nil, length-append}
 use Rattle.std.proofs.lemmas.Bool.{le-ltb}
 use Rattle.std.specs.Option.{option_map}
@@ -32,17 +32,25 @@ peer_there : (H : List ℕ → List ℕ) (peers before after : List (Option (Lis
 peer_there H peers before after digest i e n all =
     let none : 256 - length peers ≡ 0 = omega (arith, all) in
     let place : i - 0 ≡ i = omega arith in
-    ap (λ k. cond (nat_lt i k) (empty_root H i) (unwrap_or (get_or peers (i - k) None) (empty_root H i))) none
-    ∙ ap (λ t. cond t (empty_root H i) (unwrap_or (get_or peers (i - 0) None) (empty_root H i))) (le-ltb i 0 (omega arith))
-    ∙ ap (λ j. unwrap_or (get_or peers j None) (empty_root H i)) place
-    ∙ ap (λ ps. unwrap_or (get_or ps i None) (empty_root H i)) e
-    ∙ ap (λ o. unwrap_or o (empty_root H i)) (at_end before (Some digest) after i n)
+    let there : get_or peers i None ≡ Some digest = rw e (at_end before (Some digest) after i n) in rw (none, le-ltb i 0 (omega arith), place, there) refl
 
 -- the branch over both halves
 both_halves : (H : List ℕ → List ℕ) (held : List Bool → Option (List ℕ)) (b : Bool) (k : ℕ) (peer value : List ℕ) → peer ≡ root_of_levels H k (λ q. held (not b ∷ q)) → value ≡ root_of_levels H k (λ q. held (b ∷ q))
     → ◌≡◌ {A = List ℕ} (input_beside b peer value) (branch_input (root_of_levels H k (λ q. held (false ∷ q))) (root_of_levels H k (λ q. held (true ∷ q))))
-both_halves H held true k peer value p v = ap (λ t. 1 ∷ t ++ value) p ∙ ap (λ t. 1 ∷ root_of_levels H k (λ q. held (false ∷ q)) ++ t) v
-both_halves H held false k peer value p v = ap (λ t. 1 ∷ t ++ peer) v ∙ ap (λ t. 1 ∷ root_of_levels H k (λ q. held (false ∷ q)) ++ t) p
+both_halves H held true k peer value p v = rw (p, v) refl
+both_halves H held false k peer value p v = rw (p, v) refl
+
+more_of : (H : List ℕ → List ℕ) (held : List Bool → Option (List ℕ)) (b : Bool) (bits : List Bool) (peers after : List (Option (List ℕ))) → peers ≡ plain_peers H held (b ∷ bits) ++ after
+    → peers ≡ plain_peers H (λ q. held (b ∷ q)) bits ++ Some (root_of_levels H (length bits) (λ q. held (not b ∷ q))) ∷ after
+unfolding plain_peers
+more_of H held b bits peers after e = e ∙ append_assoc (plain_peers H (λ q. held (b ∷ q)) bits) (Some (root_of_levels H (length bits) (λ q. held (not b ∷ q))) ∷ []) after
+
+fork_is : (H : List ℕ → List ℕ) (held : List Bool → Option (List ℕ)) (b : Bool) (bits : List Bool) (peers after : List (Option (List ℕ))) (value : List ℕ) → peers ≡ plain_peers H held (b ∷ bits) ++ after
+    → length peers ≡ 256 → value ≡ root_of_levels H (length bits) (λ q. held (b ∷ q))
+    → ◌≡◌ {A = List ℕ} (input_beside b (peer_of H peers (length bits)) value) (branch_input (root_of_levels H (length bits) (λ q. held (false ∷ q))) (root_of_levels H (length bits) (λ q. held (true ∷ q))))
+fork_is H held b bits peers after value e all is =
+    let there = peer_there H peers (plain_peers H (λ q. held (b ∷ q)) bits) after _ (length bits) (more_of H held b bits peers after e) (length-plain_peers H (λ q. held (b ∷ q)) bits) all in
+    both_halves H held b (length bits) (peer_of H peers (length bits)) value there is
 
 -- the plain peers lead to the plain root
 pub plain_value : (H : List ℕ → List ℕ) (held : List Bool → Option (List ℕ)) (bits : List Bool) (peers after : List (Option (List ℕ))) (x : List ℕ) → peers ≡ plain_peers H held bits ++ after → length peers ≡ 256
@@ -50,19 +58,14 @@ pub plain_value : (H : List ℕ → List ℕ) (held : List Bool → Option (List
 unfolding plain_peers proof_value root_of_levels
 plain_value H held [] peers after x e all is = is
 plain_value H held (b ∷ bits) peers after x e all is =
-    let more = e ∙ append_assoc (plain_peers H (λ q. held (b ∷ q)) bits) (Some (root_of_levels H (length bits) (λ q. held (not b ∷ q))) ∷ []) after in
-    ap H (both_halves H held b (length bits) (peer_of H peers (length bits)) (proof_value H peers x bits)
-    (peer_there H peers (plain_peers H (λ q. held (b ∷ q)) bits) after _ (length bits) more (length-plain_peers H (λ q. held (b ∷ q)) bits) all)
-    (plain_value H (λ q. held (b ∷ q)) bits peers (Some (root_of_levels H (length bits) (λ q. held (not b ∷ q))) ∷ after) x more all is))
+    ap H (fork_is H held b bits peers after _ e all (plain_value H (λ q. held (b ∷ q)) bits peers _ x (more_of H held b bits peers after e) all is))
 
 -- the plain peers below a prefix
 plain_after : (H : List ℕ → List ℕ) (held : List Bool → Option (List ℕ)) (prefix rest : List Bool) (peers after : List (Option (List ℕ))) → peers ≡ plain_peers H held (prefix ++ rest) ++ after
     → (more : List (Option (List ℕ))) × (peers ≡ plain_peers H (λ q. held (prefix ++ q)) rest ++ more)
 unfolding plain_peers
 plain_after H held [] rest peers after e = (after, e)
-plain_after H held (b ∷ prefix) rest peers after e =
-    plain_after H (λ q. held (b ∷ q)) prefix rest peers (Some (root_of_levels H (length (prefix ++ rest)) (λ q. held (not b ∷ q))) ∷ after)
-    (e ∙ append_assoc (plain_peers H (λ q. held (b ∷ q)) (prefix ++ rest)) (Some (root_of_levels H (length (prefix ++ rest)) (λ q. held (not b ∷ q))) ∷ []) after)
+plain_after H held (b ∷ prefix) rest peers after e = plain_after H (λ q. held (b ∷ q)) prefix rest peers _ (more_of H held b (prefix ++ rest) peers after e)
 
 leaf_is : (H : List ℕ → List ℕ) (o : Option (List ℕ × List ℕ)) → leaf_digest H (value_in o) ≡ unwrap_or (option_map (λ e. leaf_digest H e.1) o) (empty_root H 0)
 unfolding empty_root
@@ -74,19 +77,10 @@ pub plain_leaf_is : (H : List ℕ → List ℕ) (insertions : List (List ℕ × 
     → leaf_digest H (value_in (last_under H bits insertions)) ≡ unwrap_or (get (map_of H insertions) bits) (empty_root H 0)
 plain_leaf_is H insertions bits = leaf_is H (last_under H bits insertions) ∙ ap (λ o. unwrap_or o (empty_root H 0)) (sym (last_held H bits insertions))
 
-more_of : (H : List ℕ → List ℕ) (held : List Bool → Option (List ℕ)) (b : Bool) (bits : List Bool) (peers after : List (Option (List ℕ))) → peers ≡ plain_peers H held (b ∷ bits) ++ after
-    → peers ≡ plain_peers H (λ q. held (b ∷ q)) bits ++ Some (root_of_levels H (length bits) (λ q. held (not b ∷ q))) ∷ after
-unfolding plain_peers
-more_of H held b bits peers after e = e ∙ append_assoc (plain_peers H (λ q. held (b ∷ q)) bits) (Some (root_of_levels H (length bits) (λ q. held (not b ∷ q))) ∷ []) after
-
 below_prefix : (H : List ℕ → List ℕ) (held : List Bool → Option (List ℕ)) (b : Bool) (bits : List Bool) (peers after : List (Option (List ℕ))) (x : List ℕ) → peers ≡ plain_peers H held (b ∷ bits) ++ after
     → length peers ≡ 256 → x ≡ unwrap_or (held (b ∷ bits)) (empty_root H 0)
     → fork_input H peers x b bits ≡ branch_input (root_of_levels H (length bits) (λ q. held (false ∷ q))) (root_of_levels H (length bits) (λ q. held (true ∷ q)))
-below_prefix H held b bits peers after x e all is =
-    let more = more_of H held b bits peers after e in
-    both_halves H held b (length bits) (peer_of H peers (length bits)) (proof_value H peers x bits)
-    (peer_there H peers (plain_peers H (λ q. held (b ∷ q)) bits) after _ (length bits) more (length-plain_peers H (λ q. held (b ∷ q)) bits) all)
-    (plain_value H (λ q. held (b ∷ q)) bits peers (Some (root_of_levels H (length bits) (λ q. held (not b ∷ q))) ∷ after) x more all is)
+below_prefix H held b bits peers after x e all is = fork_is H held b bits peers after _ e all (plain_value H (λ q. held (b ∷ q)) bits peers _ x (more_of H held b bits peers after e) all is)
 
 -- the input of the plain peers' evaluation at a prefix is the plain input there
 pub plain_input_is : (H : List ℕ → List ℕ) (insertions : List (List ℕ × List ℕ)) (bits prefix rest : List Bool) → length bits ≡ 256

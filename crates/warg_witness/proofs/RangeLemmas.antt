@@ -1,5 +1,5 @@
 -- Ranges of the tree's recursion and their sides.
-use Rattle.std.proofs.Common.{◌≡◌, ℕ, suc, ◌+◌, ◌-◌, ◌*◌, ◌^◌, ◌<◌, ◌≤◌, ◌⊎◌, Bool, false, true, List, Option, inl, inr, ap, ◌∙◌, arith, refl}
+use Rattle.std.proofs.Common.{◌≡◌, ℕ, suc, ◌+◌, ◌-◌, ◌*◌, ◌^◌, ◌<◌, ◌≤◌, ◌⊎◌, Bool, false, true, List, Option, inl, inr, ap, ◌∙◌, arith, rules, refl}
 use Rattle.std.proofs.lemmas.Nat.{pow-add, pow_pos, pow_below, row_fits, mul-le}
 use Rattle.std.proofs.lemmas.Bool.{cases_lt}
 use Rattle.warg_log.specs.Cut.{IsFull}
@@ -26,14 +26,17 @@ pub more_than_one : (n : ℕ) → 0 < n → (IsFull n → ⊥) → 1 < n
 more_than_one n some not_full = grind arith
 
 -- one leaf is a node's range, and such a range and the whole of a log are aligned
-pub leaf_node : (a : ℕ) → IsNodeRange a 1
-leaf_node a = record { height = 0; place = a; start = omega arith; count = refl }
+pub leaf_node : {a n : ℕ} → n ≡ 1 → IsNodeRange a n
+leaf_node {a} one = record { height = 0; place = a; start = omega arith; count = one }
 
 pub node_aligned : {s w : ℕ} → IsNodeRange s w → IsAligned s w
 node_aligned node = record { height = node.height; place = node.place; start = node.start; most = omega arith }
 
-pub whole_aligned : (n : ℕ) → IsAligned 0 n
-whole_aligned n = record { height = n; place = 0; start = omega arith; most = omega (arith, below_pow n) }
+pub leaf_aligned : {a n : ℕ} → n ≡ 1 → IsAligned a n
+leaf_aligned one = node_aligned (leaf_node one)
+
+pub whole_aligned : {a : ℕ} (n : ℕ) → a ≡ 0 → IsAligned a n
+whole_aligned n start = record { height = n; place = 0; start = omega arith; most = omega (arith, below_pow n) }
 
 pub node_some : {s w : ℕ} → IsNodeRange s w → 0 < w
 node_some node = rw node.count (pow_pos node.height)
@@ -78,6 +81,9 @@ side_aligned {a} {n} b m aligned more side =
     at_side IsAligned a n b m side (record { height = aligned.height; place = aligned.place; start = aligned.start; most = omega arith })
     (record { height = f.0.0; place = at.0; start = at.1; most = omega arith })
 
+pub beside_aligned : {a n b m : ℕ} → IsAligned a n → 1 < n → (b ≡ a + front_of n) × (m ≡ n - front_of n) → IsAligned b m
+beside_aligned aligned more side = side_aligned _ _ aligned more (inr side)
+
 -- of the sides of a range around a target, the one in which the target begins is around it
 pub front_around : {s w a n : ℕ} → IsNodeRange s w → IsAligned a n → IsAround s w a n → (a ≡ s → n ≡ w → ⊥) → s < a + front_of n → s + w ≤ a + front_of n
 front_around {s} {w} {a} {n} node aligned around other left =
@@ -97,10 +103,8 @@ side_around {s} {w} {a} {n} node aligned around other =
     let some = node_some node in
     let f = front_is_greatest n (omega arith) in
     elim (cases_lt s (a + front_of n)) [
-      | inl left ↦
-          let ends = front_around node aligned around other left in
-          (false, a, front_of n, a + front_of n, n - front_of n, record { start = refl; count = refl; other_start = refl; other_count = refl }, record { starts = around.starts; ends = ends }, f.1)
-      | inr right ↦ (true, a + front_of n, n - front_of n, a, front_of n, record { start = refl; count = refl; other_start = refl; other_count = refl }, omega arith, omega arith)
+      | inl left ↦ let ends = front_around node aligned around other left in (false, a, front_of n, a + front_of n, n - front_of n, search rules, omega arith, f.1)
+      | inr right ↦ (true, a + front_of n, n - front_of n, a, front_of n, search rules, omega arith, omega arith)
     ]
 
 -- the parts of an aligned range lie within it and are aligned, and so are those of a whole log
@@ -110,4 +114,4 @@ part_within aligned (front b k part more) = let at = part_within aligned part in
 part_within aligned (rest b k part more) = let at = part_within aligned part in (grind (arith, front_is_greatest k more), side_aligned (b + front_of k) (k - front_of k) at.1 more (inr (refl, refl)))
 
 pub part_in : {n b m : ℕ} → IsPart 0 n b m → (b + m ≤ n) × IsAligned b m
-part_in {n} part = let at = part_within (whole_aligned n) part in (omega arith, at.1)
+part_in {n} part = let at = part_within (whole_aligned n refl) part in (omega arith, at.1)

@@ -1,6 +1,7 @@
 -- Where a path leads, and the tree over given entries.
-use Rattle.std.proofs.Common.{◌≡◌, ℕ, ◌-◌, ◌^◌, ◌<◌, ◌≤◌, List, [], ◌∷◌, ◌++◌, length, map, reverse, get_or, Some, None, inl, inr, refl, sym, ap, ◌∙◌}
-use Rattle.std.proofs.lemmas.Bool.{lt-leb, lt-ltb, le-ltb, cases_lt}
+use Rattle.std.proofs.Common.{◌≡◌, ℕ, ◌-◌, ◌^◌, ◌<◌, ◌≤◌, List, [], ◌∷◌, ◌++◌, length, map, reverse, get_or, Some, refl, sym, ap, ◌∙◌, arith}
+use Rattle.std.proofs.lemmas.Bool.Decides.{nat_tests}
+use Rattle.std.proofs.lemmas.Bool.{lt-leb, lt-ltb, le-ltb}
 use Rattle.std.proofs.lemmas.List.{reverse-append, length-map}
 use Rattle.std.proofs.Math.Seq.{take-length}
 use Rattle.warg_log.specs.Tree.{front_of, leaves_of, root_of, root_over}
@@ -15,13 +16,7 @@ use Rattle.warg_witness.proofs.ConsistencyLemmas.{entry_at}
 
 -- a path that leads somewhere, from a place that is there
 pub leads_inside : (H : Digest) (m n : ℕ) (x root : List ℕ) (path : List (List ℕ)) → inclusion_root H m n x path ≡ Some root → (m < n) × (root_down H m n x (reverse path) ≡ Some root)
-leads_inside H m n x root path is = elim (cases_lt m n) [
-  | inl lt ↦ (lt, rw (lt-ltb m n lt) at is)
-  | inr le ↦ absurd (none (rw (le-ltb m n le) at is))
-]
-  where
-    none : None ≡ Some root → ⊥
-    none e = cc
+leads_inside H m n x root path is = grind (arith, nat_tests)
 
 pub inside_leads : (H : Digest) (m n : ℕ) (x : List ℕ) (path : List (List ℕ)) → m < n → inclusion_root H m n x path ≡ root_down H m n x (reverse path)
 inside_leads H m n x path lt = rw (lt-ltb m n lt) refl

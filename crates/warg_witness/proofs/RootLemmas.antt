@@ -104,26 +104,17 @@ root_stands {s} {w} {a} {n} root some aligned = by_root s w (λ b k. Stands s w 
 
 -- a part around a balanced root has it as a balanced root
 root_at_side : {s w a n : ℕ} (b m : ℕ) → IsAligned a n → Root s w a n → 1 < n → IsSide a n b m → IsAround s w b m → Root s w b m
-root_at_side {s} {w} {a} {n} b m aligned root more side around = record {
-  node = root.node;
-  contained = by_root s w (λ c k. 1 < k → IsSide c k b m → Contains (balanced_over b m) (node_over s w)) at_full at_front at_rest a n (omega arith) aligned root more side;
-}
-  where
-    at_full : (c k : ℕ) → IsFull k → s ≡ c → w ≡ k → 1 < k → IsSide c k b m → Contains (balanced_over b m) (node_over s w)
-    at_full c k is start count many side' = let f = front_is_greatest k many in elim side' [ inl left ↦ absurd (omega arith) | inr right ↦ absurd (omega arith) ]
-
-    at_front : (c k : ℕ) → 1 < k → (IsFull k → ⊥) → s ≡ c → w ≡ front_of k → 1 < k → IsSide c k b m → Contains (balanced_over b m) (node_over s w)
-    at_front c k many not_full start count _ side' =
-        let f = front_is_greatest k many in
-        elim side' [ inl left ↦ rw (left.0, left.1, start, count) (root_full c (front_of k) f.0) | inr right ↦ absurd (omega arith) ]
-
-    at_rest : (c k : ℕ) → IsAligned c k → 1 < k → (IsFull k → ⊥) → Root s w (c + front_of k) (k - front_of k) → (1 < k - front_of k → IsSide (c + front_of k) (k - front_of k) b m → Contains (balanced_over b m) (node_over s w))
-        → 1 < k → IsSide c k b m → Contains (balanced_over b m) (node_over s w)
-    at_rest c k aligned' many not_full below _ _ side' =
-        let f = front_is_greatest k many in
-        let some = node_some root.node in
-        let at = root_stands below (omega arith) (rest_aligned aligned' many) in
-        elim side' [ inl left ↦ absurd (omega arith) | inr right ↦ rw (right.0, right.1) below.contained ]
+root_at_side {s} {w} {a} {n} b m aligned root more side around =
+    let some = node_some root.node in record {
+      node = root.node;
+      contained = by_root s w (λ c k. 1 < k → IsSide c k b m → Contains (balanced_over b m) (node_over s w))
+          (λ c k is start count many side'. let f = front_is_greatest k many in elim side' [ inl left ↦ absurd (omega arith) | inr right ↦ absurd (omega arith) ])
+          (λ c k many not_full start count _ side'. let f = front_is_greatest k many in
+          elim side' [ inl left ↦ rw (left.0, left.1, start, count) (root_full c (front_of k) f.0) | inr right ↦ absurd (omega arith) ])
+          (λ c k aligned' many not_full below _ _ side'. let f = front_is_greatest k many in
+          let at = root_stands below (omega arith) (rest_aligned aligned' many) in elim side' [ inl left ↦ absurd (omega arith) | inr right ↦ rw (right.0, right.1) below.contained ])
+          a n (omega arith) aligned root more side;
+    }
 
 pub root_at_part : {s w m a n : ℕ} → Root s w 0 m → IsPart 0 m a n → IsAround s w a n → Root s w a n
 root_at_part root whole around = root

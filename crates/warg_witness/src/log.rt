@@ -41,6 +41,7 @@ pub(crate) struct Meeting<D: SupportedDigest, V: VisitBytes, A: Allocator> {
 }
 
 // The meeting of a proof with a digest at its node with the entries, or None where they don't meet.
+#[tactic(auto, using(crate::proofs::RangeLemmas::whole_aligned))]
 fn meet_entries<D: SupportedDigest, V: VisitBytes, L: LogData<D, V>, A: Allocator + Copy>(
     alloc: A,
     proof: &InclusionProof<D, V>,
@@ -212,6 +213,7 @@ pub fn witness_hash<D: SupportedDigest, V: VisitBytes, L: LogData<D, V>, A: Allo
 ///
 /// It hashes both values, and each branch of both evaluations once. Out of memory is the only error. A value of more
 /// than `usize::MAX` bytes counts as that.
+#[tactic(auto, using(crate::proofs::RangeLemmas::whole_aligned))]
 pub fn agree_value<
     D: SupportedDigest,
     V: VisitBytes,

@@ -62,6 +62,7 @@ fn meet_path<D: SupportedDigest, V: VisitBytes, A: Allocator>(
 }
 
 // Where the evaluation of a path that leads to the tree's root and the tree diverge.
+#[tactic(auto, using(crate::proofs::RangeLemmas::leaf_aligned))]
 fn divergence_from_tree<D: SupportedDigest, V: VisitBytes, A: Allocator>(
     alloc: A,
     index: usize,

@@ -41,6 +41,7 @@ pub(crate) fn plain_digest<D: SupportedDigest, V: VisitBytes, A: Allocator>(
 }
 
 /// What the digest function takes at a range of the tree over the entries.
+#[tactic(auto, using(crate::proofs::RangeLemmas::beside_aligned))]
 pub(crate) fn plain_bytes<D: SupportedDigest, V: VisitBytes, A: Allocator + Copy>(
     alloc: A,
     tree: &VecLog<D, V, A>,

@@ -12,6 +12,7 @@ use warg_crypto::{Hash, SupportedDigest, VisitBytes};
 use warg_log::{LeafRange, LogData, range_root};
 
 // The part of a larger range that has the target, the part beside it, and whether the first is the one on the right.
+#[tactic(auto, using(crate::proofs::RangeLemmas::beside_aligned))]
 fn sides_around(target: &LeafRange, range: &LeafRange) -> (LeafRange, LeafRange, bool)
     requires node { IsNodeRange target.now.start target.now.count }
     requires aligned { IsAligned range.now.start range.now.count }

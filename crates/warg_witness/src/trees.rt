@@ -25,6 +25,7 @@ pub(crate) struct Trees<D: SupportedDigest, V: VisitBytes, A: Allocator> {
 
 // Whether an old and a new entry at one place have the same bytes. They don't where their leaf digests
 // differ; else their bytes are compared.
+#[tactic(auto, using(crate::proofs::RangeLemmas::leaf_aligned))]
 fn is_same_entry<D: SupportedDigest, V: VisitBytes, A: Allocator>(
     trees: &Trees<D, V, A>,
     place: usize,
@@ -69,6 +70,7 @@ pub(crate) fn first_difference<D: SupportedDigest, V: VisitBytes, A: Allocator>(
 }
 
 /// Where two trees that have one digest at a range diverge on the way to the leaf at `place`.
+#[tactic(auto, using(crate::proofs::RangeLemmas::leaf_node, crate::proofs::RangeLemmas::leaf_aligned))]
 pub(crate) fn divergence_below<D: SupportedDigest, V: VisitBytes, A: Allocator>(
     trees: &Trees<D, V, A>,
     range: &LeafRange,

@@ -82,6 +82,7 @@ fn meet_trees<D: SupportedDigest, V: VisitBytes, L: LogData<D, V>, A: Allocator 
 }
 
 // The balanced root of a range that has the leaf at `place`.
+#[tactic(auto, using(crate::proofs::RootLemmas::root_full, crate::proofs::RootLemmas::full_node, crate::proofs::RootLemmas::front_node, crate::proofs::RootLemmas::rest_aligned, crate::proofs::RootLemmas::root_rest))]
 fn root_around(place: usize, range: &LeafRange) -> LeafRange
     requires starts { range.now.start ≤ place }
     requires ends { place < range.now.start + range.now.count }
@@ -124,6 +125,7 @@ fn held_root<D: SupportedDigest, V: VisitBytes, L: LogData<D, V>, A: Allocator>(
 }
 
 // Where the evaluation, with a digest at a node, diverges from the tree to whose root it leads.
+#[tactic(auto, using(crate::proofs::RangeLemmas::whole_aligned))]
 fn divergence_from<D: SupportedDigest, V: VisitBytes, L: LogData<D, V>, A: Allocator>(
     hashes: &L,
     hash: &Hash<D>,

@@ -1,12 +1,8 @@
 use Rattle.std.proofs.Common.{◌∙◌, refl, arith}
 use Rattle.warg_log.proofs.ForCallers.{inclusion_leads}
 use Rattle.warg_witness.specs.Claims.{IsAgreement}
-use Rattle.warg_witness.proofs.RangeLemmas.{whole_aligned}
 use Rattle.warg_witness.proofs.ShownLemmas.{agreement_shown}
 use Rattle.warg_witness.proofs.log.agree_value.Goals as goal
-
-pub meet_ranges-met-requires-clause-aligned : goal.meet_ranges-met-requires-clause-aligned
-meet_ranges-met-requires-clause-aligned g c = rw c.new-whole.ensures.start (whole_aligned _)
 
 pub returns-clause-found : goal.returns-clause-found
 returns-clause-found g c =

@@ -1,12 +1,8 @@
 use Rattle.std.proofs.Common.{length, sym, ◌∙◌, ap, arith}
 use Rattle.std.proofs.lemmas.List.{length-map}
 use Rattle.warg_log.proofs.ForCallers.{inclusion_leads}
-use Rattle.warg_witness.proofs.RangeLemmas.{whole_aligned}
 use Rattle.warg_witness.proofs.CutLemmas.{length-leaves, have_root, root_led}
 use Rattle.warg_witness.proofs.log.meet_entries.Goals as goal
-
-pub meet_ranges-requires-clause-aligned : goal.meet_ranges-requires-clause-aligned
-meet_ranges-requires-clause-aligned g c = rw c.new-whole.ensures.start (whole_aligned _)
 
 pub returns-in_default-meet_ranges-clause-met : goal.returns-in_default-meet_ranges-clause-met
 returns-in_default-meet_ranges-clause-met g c met =

@@ -3,9 +3,6 @@ use Rattle.warg_witness.proofs.HashLemmas.{eq_false}
 use Rattle.warg_witness.proofs.ShownLemmas.{hash_shown}
 use Rattle.warg_witness.proofs.log.witness_hash.Goals as goal
 
-pub collide_branch-requires : goal.collide_branch-requires
-collide_branch-requires g c = (hash_shown (rw c.in-Some.is at c.in_ok-met.ensures.met) (eq_false _ _ c.if-eq.ensures)).0
-
 pub returns-clause-found : goal.returns-clause-found
 returns-clause-found g c =
     let meeting = rw c.in-Some.is at c.in_ok-met.ensures.met in

@@ -4,7 +4,6 @@ use Rattle.warg_log.specs.Cut.{old_over}
 use Rattle.warg_log.proofs.ForCallers.{root_over_one}
 use Rattle.warg_paths.specs.Paths.{inclusion_of}
 use Rattle.warg_paths.proofs.ForCallers.{own_path_is}
-use Rattle.warg_witness.proofs.RangeLemmas.{leaf_node, node_aligned}
 use Rattle.warg_witness.proofs.paths.divergence_from_tree.Goals as goal
 
 pub unreachable-requires : goal.unreachable-requires
@@ -13,9 +12,6 @@ unreachable-requires g c =
     let length_is = c.length.ensures.value in
     let out = c.inclusion_path.ensures.out_of_range in
     let unknown = rw length_is at c.inclusion_path.ensures.not_known in grind (arith, own.1, out, unknown)
-
-pub plain_digest-own_leaf-requires-clause-aligned : goal.plain_digest-own_leaf-requires-clause-aligned
-plain_digest-own_leaf-requires-clause-aligned g c = rw (c.new.ensures.start, c.new.ensures.count) (node_aligned (leaf_node c.args.index))
 
 pub unreachable-requires-in-None : goal.unreachable-requires-in-None
 unreachable-requires-in-None g c =

@@ -1,10 +1,7 @@
 use Rattle.std.proofs.Common.{arith}
-use Rattle.warg_witness.proofs.RecordLemmas.{met_leads, read_other}
+use Rattle.warg_witness.proofs.RecordLemmas.{read_other}
 use Rattle.warg_witness.proofs.OwnPathLemmas.{read_shown}
 use Rattle.warg_witness.proofs.paths.witness_record.Goals as goal
-
-pub divergence_from_tree-requires : goal.divergence_from_tree-requires
-divergence_from_tree-requires g c = let at = met_leads (rw c.in-Some.is at c.in_ok-tree.ensures.met) in record { inside = at.0; fits = at.1; leads = at.2 }
 
 pub collide_values-requires : goal.collide_values-requires
 collide_values-requires g c =

@@ -1,4 +1,4 @@
-use Rattle.std.proofs.Common.{sym, ◌∙◌, arith, refl}
+use Rattle.std.proofs.Common.{sym, ◌∙◌, arith}
 use Rattle.warg_log.proofs.ForCallers.{target_decides}
 use Rattle.warg_witness.proofs.CutLemmas.{ranges_start, sides_lack, ranges_up}
 use Rattle.warg_witness.proofs.ranges.+climb_ranges.Goals as goal

@@ -1,11 +1,7 @@
-use Rattle.std.proofs.Common.{arith, inr}
-use Rattle.warg_witness.proofs.RangeLemmas.{front_around, side_aligned}
+use Rattle.std.proofs.Common.{arith}
+use Rattle.warg_witness.proofs.RangeLemmas.{front_around}
 use Rattle.warg_witness.proofs.ranges.sides_around.Goals as goal
 
 pub returns-then-target-rest-clause-around : goal.returns-then-target-rest-clause-around
 returns-then-target-rest-clause-around c =
     let ends = front_around c.requires.node c.requires.aligned c.requires.around c.requires.other (grind arith) in omega arith
-
-pub returns-else-target-rest-clause-aligned : goal.returns-else-target-rest-clause-aligned
-returns-else-target-rest-clause-aligned c =
-    side_aligned _ _ c.requires.aligned (grind arith) (inr c.split.ensures.rest)

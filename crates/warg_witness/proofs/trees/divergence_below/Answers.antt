@@ -1,15 +1,5 @@
-use Rattle.warg_witness.proofs.RangeLemmas.{leaf_node, node_aligned}
 use Rattle.warg_witness.proofs.CutLemmas.{have_range}
 use Rattle.warg_witness.proofs.trees.divergence_below.Goals as goal
-
-pub plain_digest-old-requires-clause-aligned : goal.plain_digest-old-requires-clause-aligned
-plain_digest-old-requires-clause-aligned g c = rw c.new-leaf.ensures.count (node_aligned (leaf_node _))
-
-pub plain_digest-new-requires-clause-aligned : goal.plain_digest-new-requires-clause-aligned
-plain_digest-new-requires-clause-aligned g c = rw c.new-leaf.ensures.count (node_aligned (leaf_node _))
-
-pub meet_ranges-requires-clause-node : goal.meet_ranges-requires-clause-node
-meet_ranges-requires-clause-node g c = rw c.new-leaf.ensures.count (leaf_node _)
 
 pub unreachable-requires : goal.unreachable-requires
 unreachable-requires g c = (rw (c.plain_digest-old.ensures, c.plain_digest-new.ensures) at c.in-None.ensures) (have_range _ _ _ _ _ c.requires.aligned c.args.range.now.some c.requires.in_old c.requires.in_new c.requires.same)

@@ -1,14 +1,7 @@
 use Rattle.std.proofs.Common.{arith}
-use Rattle.warg_witness.proofs.RangeLemmas.{leaf_node, node_aligned}
 use Rattle.warg_witness.proofs.HashLemmas.{ne_true}
 use Rattle.warg_witness.proofs.trees.is_same_entry.Goals as goal
 use Rattle.warg_log.proofs.ForCallers.{root_over_one}
-
-pub plain_digest-requires-clause-aligned : goal.plain_digest-requires-clause-aligned
-plain_digest-requires-clause-aligned g c = rw c.new-leaf.ensures.count (node_aligned (leaf_node _))
-
-pub plain_digest-requires-2-clause-aligned : goal.plain_digest-requires-2-clause-aligned
-plain_digest-requires-2-clause-aligned g c = rw c.new-leaf.ensures.count (node_aligned (leaf_node _))
 
 pub returns-then-ne : goal.returns-then-ne
 returns-then-ne g c =

@@ -1,12 +1,7 @@
 use Rattle.std.proofs.Common.{arith}
 use Rattle.std.specs.Cmp.Lexicographic.{bytes_decides}
-use Rattle.warg_witness.proofs.ClimbLemmas.{up_same, up_differs}
+use Rattle.warg_witness.proofs.ClimbLemmas.{up_differs}
 use Rattle.warg_witness.proofs.climb.Climb.up.Goals as goal
-
-pub returns-then-eq-2 : goal.returns-then-eq-2
-returns-then-eq-2 g c =
-    rw (c.hash_branch-first.ensures, c.hash_branch-second.ensures, c.left_and_right-first_left.ensures.left, c.left_and_right-first_left.ensures.right, c.left_and_right-second_left.ensures.left, c.left_and_right-second_left.ensures.right, c.copied.ensures, c.copied-2.ensures)
-    (up_same c.args.right (grind (arith, bytes_decides)))
 
 pub returns : goal.returns
 returns g c =

@@ -1,10 +1,7 @@
 use Rattle.std.proofs.Common.{refl, arith}
 use Rattle.warg_witness.proofs.ShownLemmas.{divergence_placed}
-use Rattle.warg_witness.proofs.ConsistencyLemmas.{trees_consistent, old_placed, new_placed, below_placed, entries_shown}
+use Rattle.warg_witness.proofs.ConsistencyLemmas.{old_placed, new_placed, below_placed, entries_shown}
 use Rattle.warg_witness.proofs.log.consistency.collide_at.Goals as goal
-
-pub held_root-hash-requires-clause-met : goal.held_root-hash-requires-clause-met
-held_root-hash-requires-clause-met g c = trees_consistent c.requires.met
 
 pub returns-then-not-is_target : goal.returns-then-not-is_target
 returns-then-not-is_target g c =

@@ -25,6 +25,3 @@ returns-clause-met g c =
       old_is = c.in_ok-old_tree.ensures.tree;
       new_is = c.in_ok-new_tree.ensures.tree;
     }
-
-pub returns-clause-fits : goal.returns-clause-fits
-returns-clause-fits g c = let lengths = c.if-not-have_lengths.ensures.same.0 refl in omega (arith, c.have_lengths.ensures)

@@ -21,9 +21,6 @@ returns-in_err-growth g t c =
     rw (c.from_residual-in_err-growth.ensures, turned _ _ _ c.in_ok-top.ensures.cases.0)
     (front_none _ _ _ _ _ _ (omega arith) (rw c.split.ensures.front.1 at c.if-old_length-front.true) (rw c.split.ensures.front.1 at c.in_err-growth.ensures))
 
-pub plain_digest-new_rest-requires-clause-aligned : goal.plain_digest-new_rest-requires-clause-aligned
-plain_digest-new_rest-requires-clause-aligned g t c = side_aligned _ _ c.requires.aligned (omega arith) (inr c.split.ensures.rest)
-
 pub returns-then-old_length-front : goal.returns-then-old_length-front
 returns-then-old_length-front g t c =
     rw (turned _ _ _ c.in_ok-top.ensures.cases.0)
@@ -40,9 +37,6 @@ pub plain_digest-requires-clause-aligned : goal.plain_digest-requires-clause-ali
 plain_digest-requires-clause-aligned g t c =
     let rest : IsAligned c.split.result.1.start c.split.result.1.count = side_aligned _ _ c.requires.aligned (omega arith) (inr c.split.ensures.rest) in
     record { height = rest.height; place = rest.place; start = c.new-old_rest.ensures.start ∙ rest.start; most = omega arith }
-
-pub plain_digest-requires-then-place-rest-clause-aligned : goal.plain_digest-requires-then-place-rest-clause-aligned
-plain_digest-requires-then-place-rest-clause-aligned g t c = side_aligned _ _ c.requires.aligned (omega arith) (inr c.split.ensures.rest)
 
 pub returns-then-place-rest : goal.returns-then-place-rest
 returns-then-place-rest g t c =

@@ -5,9 +5,6 @@ use Rattle.warg_witness.proofs.HashLemmas.{ne_false, ne_true}
 use Rattle.warg_witness.proofs.GrowthLemmas.{met_roots, roots_met}
 use Rattle.warg_witness.proofs.paths.tree.meet_trees.Goals as goal
 
-pub plain_tree-requires : goal.plain_tree-requires
-plain_tree-requires g c = let order = c.if-not-leads.ensures.order refl in omega arith
-
 pub returns-then-ne-clause-met : goal.returns-then-ne-clause-met
 returns-then-ne-clause-met g c met =
     let root = c.in_ok-old_tree.ensures.root ∙ ap (root_of g.D.SupportedDigest.digest) c.in_ok-old_tree.ensures.tree in

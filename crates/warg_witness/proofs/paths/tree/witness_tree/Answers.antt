@@ -1,13 +1,6 @@
-use Rattle.warg_witness.proofs.RangeLemmas.{whole_aligned}
 use Rattle.warg_witness.proofs.ConsistencyLemmas.{differs_not_begins}
 use Rattle.warg_witness.proofs.GrowthLemmas.{whole_growth, growth_shown}
 use Rattle.warg_witness.proofs.paths.tree.witness_tree.Goals as goal
-
-pub plain_digest-old_root-requires-clause-aligned : goal.plain_digest-old_root-requires-clause-aligned
-plain_digest-old_root-requires-clause-aligned g c = rw c.new.ensures.start (whole_aligned _)
-
-pub growth_divergence-divergence-requires-clause-aligned : goal.growth_divergence-divergence-requires-clause-aligned
-growth_divergence-divergence-requires-clause-aligned g c = rw c.new-whole.ensures.start (whole_aligned _)
 
 pub growth_divergence-divergence-requires-clause-leads : goal.growth_divergence-divergence-requires-clause-leads
 growth_divergence-divergence-requires-clause-leads g c =
