@@ -98,10 +98,6 @@ root_found place (suc k) a n le aligned starts ends = elim (full_or_not n (omega
 node_range : (node : ℕ) → IsNodeRange (start_of node) (2 ^ height_of node)
 node_range node = record { height = height_of node; place = place_of node; start = refl; count = refl }
 
--- two trees diverge somewhere or nowhere
-pub target_or_not : (p : SomeDivergence) → (p ≡ Target) ⊎ (p ≡ Target → ⊥)
-target_or_not p = grind arith
-
 -- what is shown is a collision
 pub shown_collides : {H : Digest} {P : List ℕ → List ℕ → Type 0} (pair : List ℕ × List ℕ) → Shows H P pair → SomeCollision H P
 shown_collides pair shown = record { first = pair.0; second = pair.1; collide = shown.0; placed = shown.1 }

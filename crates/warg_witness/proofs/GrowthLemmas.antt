@@ -52,10 +52,6 @@ some_down H r s (top ∷ below) m n = grind (arith, some_grown, some_down H r s 
 pub leads_nowhere : (H : Digest) (m n : ℕ) (r s : List ℕ) (path : List (List ℕ)) → (is_some (consistency_roots H m n r path) ≡ false) ↔ (consistency_roots H m n s path ≡ None)
 leads_nowhere H m n r s path = grind (arith, some_down H r s (reverse path) m n)
 
--- a path that leads somewhere, from lengths in order
-pub leads_order : (H : Digest) (m n : ℕ) (old : List ℕ) (path : List (List ℕ)) → is_some (consistency_roots H m n old path) ≡ true → (0 < m) × (m ≤ n)
-leads_order H m n old path is = grind (arith, nat_tests)
-
 -- the roots to which a path leads are those of the trees over the entries, where the claim is met, and the claim is met where they are
 module _ {V : Type 0} (bytes : V → List ℕ) (H : Digest) (path : List (List ℕ)) (old new : List V) (r p q : List ℕ) (is : r ≡ root_of H (leaves_of H (map bytes old)))
     (led : consistency_roots H (length old) (length new) r path ≡ Some (p, q)) where

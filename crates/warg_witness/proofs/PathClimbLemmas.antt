@@ -96,9 +96,6 @@ climbs_meet {D} {H} {x} {y} path other_path {m} {n} {first} inside climb same = 
   diverges = climb.diverges same;
 }
 
-pub outside_meet : (H : Digest) (x y : List ℕ) (path other_path : List (List ℕ)) (m n : ℕ) → n ≤ m → NeverMeet H x path y other_path m n
-outside_meet H x y path other_path m n out = λ root is other. let inside = (leads_inside H m n x root path is).0 in omega arith
-
 -- what a divergence of two paths shows, where the values differ
 pub record_agreement_shown : {D : Type 0} (H : Digest) (index n : ℕ) (path : List (List ℕ)) (value : List ℕ) (other_path : List (List ℕ)) (other : List ℕ) (p : Divergence D) → (value ≡ other → ⊥)
     → IsPathsDivergence H (H (0 ∷ value)) (reverse path) (H (0 ∷ other)) (reverse other_path) index 0 n p

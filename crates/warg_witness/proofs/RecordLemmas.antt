@@ -42,11 +42,6 @@ rest_leads H m n x top below more le = rw (lt-leb n 1 more, le-ltb m (front_of n
 pub whole_root : (H : Digest) (entries : List (List ℕ)) → root_of H (leaves_of H entries) ≡ root_over H (leaves_of H entries) 0 (length entries)
 whole_root H entries = rw (← length-leaves H entries) (sym (ap (root_of H) (take-length (leaves_of H entries))))
 
-pub met_leads : {H : Digest} {index : ℕ} {path : List (List ℕ)} {x : List ℕ} {entries tree : List (List ℕ)} → IsPathMeeting H index path x entries tree
-    → (index < length tree) × (length tree ≤ 2 ^ 63) × (inclusion_root H index (length tree) x path ≡ Some (root_of H tree))
-met_leads {H} {index} {path} {x} {entries} {tree} met =
-    rw (met.tree_is, length-leaves H entries) (met.inside, met.fits, met.leads)
-
 -- an entry that is read and has other bytes than the value
 pub read_other : {V : Type 0} (bytes : V → List ℕ) (H : Digest) (index : ℕ) (path : List (List ℕ)) (value x : List ℕ) (entries : List V) (tree : List (List ℕ)) {e : V}
     → IsPathMeeting H index path x (map bytes entries) tree → e ≡ get_or entries index e → (value ≡ bytes e → ⊥) → IsRecord index value (map bytes entries) → ⊥

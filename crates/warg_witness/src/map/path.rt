@@ -7,7 +7,7 @@ ghost use Rattle.warg_map.specs.ProofValue.{peer_of, proof_value};
 ghost use Rattle.warg_witness.specs.Private.MapPaths.{MeetsOnPath};
 
 use crate::climb::{Climb, Divergence};
-use warg_crypto::{Hash, SupportedDigest, empty_tree_hash};
+use warg_crypto::{Hash, SupportedDigest};
 
 /// Bit `at` of a digest, from the most significant bit of its first byte.
 pub(crate) fn bit<D>(digest: &Hash<D>, at: usize) -> bool
@@ -62,7 +62,7 @@ pub(crate) fn meet_on_path<D: SupportedDigest>(
         MeetsOnPath D.digest first.entry.peers.now first.entry.leaf second.entry.peers.now second.entry.leaf (last_bits key.now 256) p) }
 {
     let mut climb = Climb::new(first.leaf, second.leaf);
-    let mut empty = empty_tree_hash(0);
+    let mut empty = D::empty_tree(0);
     for height in 0..256 {
         let right = bit(key, 255 - height);
         let first_peer = peer_at(first.peers, &empty, height);

@@ -2,7 +2,7 @@ use Rattle.warg_witness.proofs.PathLemmas.{climb_starts, climb_up, climb_more, p
 use Rattle.warg_witness.proofs.map.path.meet_on_path.Goals as goal
 
 pub loop-height-init : goal.loop-height-init
-loop-height-init g c = (c.empty_tree_hash-empty.ensures, rw (c.new-climb.ensures.first, c.new-climb.ensures.second, c.new-climb.ensures.divergence) (climb_starts _ _ _ _ _ _))
+loop-height-init g c = (c.empty_tree-empty.ensures, rw (c.new-climb.ensures.first, c.new-climb.ensures.second, c.new-climb.ensures.divergence) (climb_starts _ _ _ _ _ _))
 
 pub loop-height-preserved : goal.loop-height-preserved
 loop-height-preserved g c = (
