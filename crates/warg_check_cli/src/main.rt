@@ -9,7 +9,7 @@ mod texts;
 use std::env;
 use std::io::{self, IsTerminal};
 use std::process::ExitCode;
-use texts::{HELP, VERSION};
+use texts::text_of;
 use warg_program::{exit_code, run};
 
 fn main(rt: HostRuntime) -> ExitCode {
@@ -22,30 +22,16 @@ fn main(rt: HostRuntime) -> ExitCode {
 // Does what the arguments ask for. At most one is taken.
 fn answer(rt: &HostRuntime) -> io::Result<ExitCode> {
     let words = env::args(rt)?.skip(1).collect::<Vec<String>>(rt.alloc())?;
-    match words.as_slice() {
-        [] => Ok(run_commands(rt)),
-        [word] => tell(rt, word.as_str()),
-        [first, second, ..] if is_known(first.as_str()) => refuse_word(rt, second.as_str()),
-        [first, ..] => refuse_word(rt, first.as_str()),
-    }
-}
-
-fn is_known(word: &str) -> bool {
-    matches!(word, "--help" | "-h" | "--version" | "-V")
-}
-
-// Says of the program what the argument asks for.
-fn tell(rt: &HostRuntime, word: &str) -> io::Result<ExitCode> {
-    match word {
-        "--help" | "-h" => rt.print(HELP)?,
-        "--version" | "-V" => rt.println(VERSION)?,
-        _ => return refuse_word(rt, word),
-    }
-    Ok(ExitCode::SUCCESS)
-}
-
-fn refuse_word(rt: &HostRuntime, word: &str) -> io::Result<ExitCode> {
-    eprintln!(rt; "warg_check: no argument is called {word:?}; see warg_check --help")?;
+    let unknown = match words.as_slice() {
+        [] => return Ok(run_commands(rt)),
+        [word] => match text_of(word.as_str()) {
+            Some(text) => return rt.print(text).map(|()| ExitCode::SUCCESS),
+            None => word,
+        },
+        [first, second, ..] if text_of(first.as_str()).is_some() => second,
+        [first, ..] => first,
+    };
+    eprintln!(rt; "warg_check: no argument is called {unknown:?}; see warg_check --help")?;
     Ok(ExitCode::from(2))
 }
 

@@ -1,10 +1,17 @@
 //! What the program says of itself.
 
-/// The line that `--version` prints.
-pub const VERSION: &str = "warg_check 0.9.2-rattle.1";
+/// What an argument prints: `None` for a word that is none of the program's arguments.
+pub fn text_of(word: &str) -> Option<&'static str> {
+    match word {
+        "--help" | "-h" => Some(HELP),
+        "--version" | "-V" => Some(VERSION),
+        _ => None,
+    }
+}
 
-/// The text that `--help` prints.
-pub const HELP: &str = "\
+const VERSION: &str = "warg_check 0.9.2-rattle.1\n";
+
+const HELP: &str = "\
 warg_check: a transparency log and a verifiable map, by commands.
 
 Usage: warg_check < COMMANDS
