@@ -39,3 +39,6 @@ decimal_is_read text n r e parses fails small is = let read = parse-decimal 64 n
 -- a number has digits
 pub none_empty : (n : ℕ) (text : List ℕ) → n < 2 ^ 64 → length text ≡ 0 → text ≢ decimal n
 none_empty n text small empty is = omega (arith, decimal_nonempty n small, ap length is)
+
+-- which texts are decimals, and of which number
+pub ruleset decimals = (none_empty, no_plus, no_zero, read_is, decimal_is_read)

@@ -10,7 +10,7 @@ use Rattle.warg_log.specs.Nodes.{IsNode, ExistsAt, height_of, place_of, start_of
 use Rattle.warg_log.specs.Ranges.{IsAligned}
 use Rattle.warg_log.specs.Walks.{needed, needed_over, siblings_up, IsWalk, IsWalkOver}
 use Rattle.warg_protobuf.proofs.ForCallers.{all_parts}
-use Rattle.warg_log.proofs.WayLemmas.{IsBeside}
+use Rattle.warg_log.proofs.WayLemmas.{IsBeside, is_beside_so, is_beside_true}
 use Rattle.warg_log.proofs.NodeLemmas.{node_at, only_number, over_ends, pow_below_pow, parts}
 use Rattle.warg_log.proofs.RootLemmas.{below_pow, same_power}
 use Rattle.warg_log.proofs.BalancedLemmas.{IsFirst, first_cut, balanced_at}
@@ -140,3 +140,6 @@ walk_most x n b i l upper nodes walk lt =
     let low : k < b = pow_below_pow k b (omega (arith, ends, over_ends k (place_of x / 2 ^ i))) in
     let few : length (balanced_over 0 n) ≤ b = rw (balanced_at n b 0 n (below_pow n) lt) (balanced_count b 0 n) in
     omega (arith, few, simp length-append at (ap length walk.roots), simp (length-append, length-reverse, siblings_count) at (ap length walk.order))
+
+-- what a walk's steps from one balanced root to the next rest on
+pub ruleset walk_steps = (map_push, is_beside_so, is_beside_true, aligned_next, missed_first, walk_grows, found_first, walk_begins)

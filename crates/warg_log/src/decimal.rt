@@ -5,7 +5,7 @@ ghost use Rattle.std.specs.Fmt.{decimal};
 
 /// The number below 2^64 that a text is in decimal: `None` exactly if the text isn't what `Display` writes of a number, as
 /// where it has a sign or a needless zero.
-#[tactic(auto, using(crate::proofs::DecimalLemmas::none_empty, crate::proofs::DecimalLemmas::no_plus, crate::proofs::DecimalLemmas::no_zero, crate::proofs::DecimalLemmas::read_is, crate::proofs::DecimalLemmas::decimal_is_read))]
+#[tactic(auto, using(crate::proofs::DecimalLemmas::decimals))]
 pub fn decimal_in(text: &str) -> Option<usize>
     ensures { MatchOption result ((n : ℕ) → n < 2 ^ 64 → text.now ≢ decimal n)
         (λ n. text.now ≡ decimal n) }

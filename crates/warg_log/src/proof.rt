@@ -276,7 +276,7 @@ struct WalkParts {
 }
 
 // Puts the walk from a node over the leaves from `start` up to `end` into an empty list.
-#[tactic(auto, using(std::proofs::lemmas::List::map_push, crate::proofs::WayLemmas::is_beside_so, crate::proofs::WayLemmas::is_beside_true, crate::proofs::StepLemmas::aligned_next, crate::proofs::StepLemmas::missed_first, crate::proofs::StepLemmas::walk_grows, crate::proofs::StepLemmas::found_first, crate::proofs::StepLemmas::walk_begins))]
+#[tactic(auto, using(crate::proofs::StepLemmas::walk_steps))]
 fn add_walk<A: Allocator>(
     nodes: &mut Vec<Node, A>,
     leaf: Node,

@@ -91,7 +91,7 @@ impl<D: SupportedDigest, V: VisitBytes, A: Allocator + Copy> VecLog<D, V, A> {
 }
 
 // The hashes with these bytes.
-#[tactic(auto, using(std::proofs::lemmas::Result::err_from_is_err_and, warg_protobuf::proofs::ForCallers::copied_more, warg_protobuf::proofs::ForCallers::taken_whole, warg_protobuf::proofs::ForCallers::digest_passed, warg_protobuf::proofs::ForCallers::digest_met, warg_protobuf::proofs::ForCallers::no_digest_left))]
+#[tactic(auto, using(crate::proofs::ImageLemmas::digests_taken))]
 fn read_tree<D, A: Allocator>(
     alloc: A,
     tree: &[DigestBytes<A>],
