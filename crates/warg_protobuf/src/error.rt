@@ -1,8 +1,9 @@
 //! Why bytes are no message.
 ghost use Rattle.std.specs.Prelude.{◌≡◌};
-ghost use Rattle.warg_protobuf.specs.declared.error.WireError.TheVariants.{Memory};
+ghost use Rattle.warg_protobuf.specs.declared.error.WireError.TheVariants.{Memory, NumberTooLarge};
 
 use std::alloc::{AllocError, AllocFailed};
+use std::num::TryFromIntError;
 use thiserror::Error;
 
 /// The first fault of the bytes from left to right, or out of memory.
@@ -52,5 +53,13 @@ impl<T: Drop> From<AllocFailed<T>> for WireError {
 
     fn from(_e: AllocFailed<T>) -> WireError {
         WireError::Memory
+    }
+}
+
+impl From<TryFromIntError> for WireError {
+    ghost from_gives = { λ _ e. e ≡ NumberTooLarge };
+
+    fn from(_e: TryFromIntError) -> WireError {
+        WireError::NumberTooLarge
     }
 }

@@ -1,10 +1,14 @@
-//! Fields, split off the front of a message's bytes.
-ghost use Rattle.warg_protobuf.specs.Reading.{Gives};
-ghost use Rattle.warg_protobuf.specs.Field.{bytes_at, field_at, payload_at};
+//! Fields, split off the front of a message's bytes, and the values of their payloads.
+ghost use Rattle.std.specs.Prelude.{◌++◌};
+ghost use Rattle.warg_protobuf.specs.Reading.{Gives, outcome, values_read};
+ghost use Rattle.warg_protobuf.specs.Field.{field_at, payload_at};
 ghost use Rattle.warg_protobuf.specs.Private.Lent.{field_view, payload_view};
+ghost use Rattle.warg_protobuf.specs.Private.Taking.{Puts};
+ghost use Rattle.warg_protobuf.specs.Schema.{uint32_in, bytes_in, uint32s_in};
 
 use crate::error::WireError;
 use crate::varint::read_varint;
+use std::alloc::Allocator;
 
 /// What stands behind a tag, by its wire type.
 #[derive(Clone, Copy)]
@@ -22,14 +26,50 @@ pub(crate) struct Field<'a> {
     pub(crate) payload: Payload<'a>,
 }
 
-/// So many bytes at the front, and the bytes after them.
-fn split_bytes(len: u64, bytes: &[u8]) -> Result<(&[u8], &[u8]), WireError>
-    ensures { Gives (λ x. (x.0.now, x.1.now)) result (bytes_at len bytes.now) }
-{
-    if (bytes.len() as u64) < len {
-        return Err(WireError::Truncated);
+impl<'a> Payload<'a> {
+    /// The uint32 of a single field.
+    #[tactic(auto, unfolding(crate::specs::Schema::uint32_in))]
+    pub(crate) fn uint32(self) -> Result<u32, WireError>
+        ensures { Gives (λ n. n) result (uint32_in (payload_view self.entry)) }
+    {
+        match self {
+            Payload::Varint(number) => Ok(u32::try_from(number)?),
+            _ => Err(WireError::WrongWireType),
+        }
     }
-    Ok(bytes.split_at(len as usize))
+
+    /// The bytes of a field of type bytes, or of a message.
+    #[tactic(auto, unfolding(crate::specs::Schema::bytes_in))]
+    pub(crate) fn bytes(self) -> Result<&'a [u8], WireError>
+        ensures { Gives (λ x. x.now) result (bytes_in (payload_view self.entry)) }
+    {
+        match self {
+            Payload::Delimited(bytes) => Ok(bytes),
+            _ => Err(WireError::WrongWireType),
+        }
+    }
+
+    /// Puts the number or the packed numbers of one field at the end of a list.
+    #[tactic(auto, unfolding(crate::specs::Schema::uint32s_in))]
+    pub(crate) fn add_uint32s<A: Allocator>(
+        self,
+        numbers: &mut Vec<u32, A>,
+    ) -> Result<(), WireError>
+        ensures { let read = uint32s_in (payload_view self.entry) in
+            Puts result (outcome read) (numbers.old.items ++ values_read read) numbers.new.items }
+    {
+        if let Payload::Varint(number) = self {
+            numbers.push(u32::try_from(number)?)?;
+            return Ok(());
+        }
+        let mut rest = self.bytes()?;
+        while !rest.is_empty() {
+            let (number, after) = read_varint(rest)?;
+            numbers.push(u32::try_from(number)?)?;
+            rest = after;
+        }
+        Ok(())
+    }
 }
 
 /// The payload of a wire type at the front, and the bytes after it.
@@ -45,17 +85,19 @@ fn read_payload(wire_type: u64, bytes: &[u8]) -> Result<(Payload<'_>, &[u8]), Wi
             Ok((Payload::Varint(number), rest))
         }
         1 => {
-            let (inner, rest) = split_bytes(8, bytes)?;
+            let (inner, rest) = bytes.split_at_checked(8).ok_or(WireError::Truncated)?;
             Ok((Payload::Fixed64(inner), rest))
         }
         2 => {
             let (len, rest) = read_varint(bytes)?;
-            let (inner, rest) = split_bytes(len, rest)?;
+            let (inner, rest) = rest
+                .split_at_checked(len as usize)
+                .ok_or(WireError::Truncated)?;
             Ok((Payload::Delimited(inner), rest))
         }
         3 | 4 => Err(WireError::Group),
         5 => {
-            let (inner, rest) = split_bytes(4, bytes)?;
+            let (inner, rest) = bytes.split_at_checked(4).ok_or(WireError::Truncated)?;
             Ok((Payload::Fixed32(inner), rest))
         }
         _ => Err(WireError::BadWireType),

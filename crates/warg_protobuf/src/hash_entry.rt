@@ -5,7 +5,6 @@ ghost use Rattle.std.specs.Prelude.{◌≡◌, IfOk, length};
 use crate::error::WireError;
 use crate::field::Field;
 use crate::message::Message;
-use crate::reader::{read_bytes, read_uint32};
 use crate::writer::{push_bytes, push_uint32};
 use std::alloc::{AllocError, Allocator, Global};
 use warg_crypto::Hash;
@@ -61,8 +60,8 @@ impl<A: Allocator + Copy> Message<A> for HashEntry<A> {
 
     fn put(&mut self, alloc: A, field: Field<'_>) -> Result<(), WireError> {
         match field.number {
-            1 => self.index = read_uint32(field.payload)?,
-            2 => self.hash = Vec::from_slice(alloc, read_bytes(field.payload)?)?,
+            1 => self.index = field.payload.uint32()?,
+            2 => self.hash = Vec::from_slice(alloc, field.payload.bytes()?)?,
             _ => {}
         }
         Ok(())

@@ -39,7 +39,6 @@ mod map_inclusion_proof;
 mod map_proof_bundle;
 mod message;
 mod optional_hash;
-mod reader;
 mod stack_log;
 mod value_error;
 mod varint;

@@ -5,8 +5,7 @@ ghost use Rattle.warg_protobuf.specs.Spelled.{Decodes, IsEncoded};
 use crate::error::WireError;
 use crate::field::Field;
 use crate::hash_entry::HashEntry;
-use crate::message::{Message, decode_message, encode_message, push_messages, read_element};
-use crate::reader::{read_uint32, read_uint32s};
+use crate::message::{Message, encode_message, push_messages, read_element, read_message};
 use crate::writer::{push_uint32, push_uint32s};
 use std::alloc::{AllocError, Allocator, Global};
 
@@ -52,9 +51,9 @@ impl<A: Allocator + Copy> Message<A> for LogProofBundle<A> {
 
     fn put(&mut self, alloc: A, field: Field<'_>) -> Result<(), WireError> {
         match field.number {
-            1 => self.log_length = read_uint32(field.payload)?,
-            2 => read_uint32s(&mut self.consistent_lengths, field.payload)?,
-            3 => read_uint32s(&mut self.included_indices, field.payload)?,
+            1 => self.log_length = field.payload.uint32()?,
+            2 => field.payload.add_uint32s(&mut self.consistent_lengths)?,
+            3 => field.payload.add_uint32s(&mut self.included_indices)?,
             4 => read_element(alloc, &mut self.hashes, field.payload)?,
             _ => {}
         }
@@ -84,7 +83,7 @@ impl<A: Allocator + Copy> LogProofBundle<A> {
     pub fn decode(alloc: A, bytes: &[u8]) -> Result<Self, WireError>
         ensures { Decodes log_schema log_view bytes.now result }
     {
-        decode_message(alloc, bytes)
+        read_message(alloc, bytes)
     }
 
     /// Writes the message in its one written form. The message stays as it was.

@@ -5,7 +5,7 @@ ghost use Rattle.warg_protobuf.specs.Spelled.{Decodes, IsEncoded};
 use crate::error::WireError;
 use crate::field::Field;
 use crate::map_inclusion_proof::MapInclusionProof;
-use crate::message::{Message, decode_message, encode_message, push_messages, read_element};
+use crate::message::{Message, encode_message, push_messages, read_element, read_message};
 use std::alloc::{AllocError, Allocator, Global};
 
 /// Proofs of a map: of keys that it holds, and of keys that it doesn't hold.
@@ -72,7 +72,7 @@ impl<A: Allocator + Copy> MapProofBundle<A> {
     pub fn decode(alloc: A, bytes: &[u8]) -> Result<Self, WireError>
         ensures { Decodes map_schema map_view bytes.now result }
     {
-        decode_message(alloc, bytes)
+        read_message(alloc, bytes)
     }
 
     /// Writes the message in its one written form. The message stays as it was.

@@ -1,8 +1,8 @@
 //! What all messages share: one loop that reads them, and one that writes them in lists.
 ghost use Rattle.std.specs.Prelude.{◌≡◌, ◌++◌, ◌<◌, ◌^◌, [], List, All, OnOk, IfOk, length, map};
-ghost use Rattle.warg_protobuf.specs.Reading.{Gives, outcome, values_read, as_list};
+ghost use Rattle.warg_protobuf.specs.Reading.{outcome, values_read, as_list};
 ghost use Rattle.warg_protobuf.specs.Field.{Field as AnyField};
-ghost use Rattle.warg_protobuf.specs.Schema.{Schema, check_by, message_of, message_in};
+ghost use Rattle.warg_protobuf.specs.Schema.{Schema, check_by, message_in};
 ghost use Rattle.warg_protobuf.specs.Private.Lent.{field_view, payload_view};
 ghost use Rattle.warg_protobuf.specs.Private.Taking.{Puts, Adds};
 ghost use Rattle.warg_protobuf.specs.Spelled.{Decodes};
@@ -51,9 +51,12 @@ pub(crate) trait Message<A: Allocator + Copy>: Drop {
     ghost adds: { Adds schema.message add };
 }
 
-/// The message of these bytes.
-fn read_message<A: Allocator + Copy, M: Message<A>>(alloc: A, bytes: &[u8]) -> Result<M, WireError>
-    ensures { Gives M.view result (message_of M.schema bytes.now) }
+/// The message of these bytes: what each `decode` promises.
+pub(crate) fn read_message<A: Allocator + Copy, M: Message<A>>(
+    alloc: A,
+    bytes: &[u8],
+) -> Result<M, WireError>
+    ensures { Decodes M.schema M.view bytes.now result }
 {
     let mut message = M::empty(alloc);
     let mut rest = bytes;
@@ -66,7 +69,7 @@ fn read_message<A: Allocator + Copy, M: Message<A>>(alloc: A, bytes: &[u8]) -> R
 }
 
 /// Puts the message that a payload holds at the end of a list.
-#[tactic(auto, unfolding(crate::specs::Schema::message_in))]
+#[tactic(auto, unfolding(crate::specs::Schema::message_in, crate::specs::Schema::bytes_in))]
 pub(crate) fn read_element<A: Allocator + Copy, M: Message<A>>(
     alloc: A,
     messages: &mut Vec<M, A>,
@@ -76,24 +79,9 @@ pub(crate) fn read_element<A: Allocator + Copy, M: Message<A>>(
         let added = map M.view messages.old.items ++ values_read (as_list read) in
         Puts result (outcome read) added (map M.view messages.new.items) }
 {
-    match payload {
-        Payload::Delimited(bytes) => {
-            let message: M = read_message(alloc, bytes)?;
-            messages.push(message)?;
-            Ok(())
-        }
-        _ => Err(WireError::WrongWireType),
-    }
-}
-
-/// What each `decode` promises.
-pub(crate) fn decode_message<A: Allocator + Copy, M: Message<A>>(
-    alloc: A,
-    bytes: &[u8],
-) -> Result<M, WireError>
-    ensures { Decodes M.schema M.view bytes.now result }
-{
-    read_message(alloc, bytes)
+    let message: M = read_message(alloc, payload.bytes()?)?;
+    messages.push(message)?;
+    Ok(())
 }
 
 /// The written form of a message.

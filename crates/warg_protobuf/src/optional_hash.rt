@@ -4,7 +4,6 @@ ghost use Rattle.std.specs.Prelude.{ℕ, List, Option};
 use crate::error::WireError;
 use crate::field::Field;
 use crate::message::Message;
-use crate::reader::read_bytes;
 use crate::writer::push_delimited;
 use std::alloc::{AllocError, Allocator, Global};
 
@@ -39,7 +38,7 @@ impl<A: Allocator + Copy> Message<A> for OptionalHash<A> {
 
     fn put(&mut self, alloc: A, field: Field<'_>) -> Result<(), WireError> {
         match field.number {
-            1 => self.hash = Some(Vec::from_slice(alloc, read_bytes(field.payload)?)?),
+            1 => self.hash = Some(Vec::from_slice(alloc, field.payload.bytes()?)?),
             _ => {}
         }
         Ok(())

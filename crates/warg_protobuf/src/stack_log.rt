@@ -5,8 +5,7 @@ ghost use Rattle.warg_protobuf.specs.Spelled.{Decodes, IsEncoded};
 use crate::error::WireError;
 use crate::field::Field;
 use crate::hash_entry::HashEntry;
-use crate::message::{Message, decode_message, encode_message, push_messages, read_element};
-use crate::reader::read_uint32;
+use crate::message::{Message, encode_message, push_messages, read_element, read_message};
 use crate::writer::push_uint32;
 use std::alloc::{AllocError, Allocator, Global};
 
@@ -46,7 +45,7 @@ impl<A: Allocator + Copy> Message<A> for StackLog<A> {
 
     fn put(&mut self, alloc: A, field: Field<'_>) -> Result<(), WireError> {
         match field.number {
-            1 => self.length = read_uint32(field.payload)?,
+            1 => self.length = field.payload.uint32()?,
             2 => read_element(alloc, &mut self.stack, field.payload)?,
             _ => {}
         }
@@ -74,7 +73,7 @@ impl<A: Allocator + Copy> StackLog<A> {
     pub fn decode(alloc: A, bytes: &[u8]) -> Result<Self, WireError>
         ensures { Decodes stack_schema stack_view bytes.now result }
     {
-        decode_message(alloc, bytes)
+        read_message(alloc, bytes)
     }
 
     /// Writes the message in its one written form. The message stays as it was.

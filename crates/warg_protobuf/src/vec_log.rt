@@ -5,8 +5,7 @@ ghost use Rattle.warg_protobuf.specs.Spelled.{Decodes, IsEncoded};
 use crate::digest_bytes::DigestBytes;
 use crate::error::WireError;
 use crate::field::Field;
-use crate::message::{Message, decode_message, encode_message};
-use crate::reader::{read_bytes, read_uint32};
+use crate::message::{Message, encode_message, read_message};
 use crate::writer::{push_repeated, push_uint32};
 use std::alloc::{AllocError, Allocator, Global};
 
@@ -46,9 +45,9 @@ impl<A: Allocator + Copy> Message<A> for VecLog<A> {
 
     fn put(&mut self, alloc: A, field: Field<'_>) -> Result<(), WireError> {
         match field.number {
-            1 => self.length = read_uint32(field.payload)?,
+            1 => self.length = field.payload.uint32()?,
             2 => {
-                let digest = DigestBytes::from_slice(alloc, read_bytes(field.payload)?)?;
+                let digest = DigestBytes::from_slice(alloc, field.payload.bytes()?)?;
                 self.tree.push(digest)?
             }
             _ => {}
@@ -77,7 +76,7 @@ impl<A: Allocator + Copy> VecLog<A> {
     pub fn decode(alloc: A, bytes: &[u8]) -> Result<Self, WireError>
         ensures { Decodes vec_schema vec_view bytes.now result }
     {
-        decode_message(alloc, bytes)
+        read_message(alloc, bytes)
     }
 
     /// Writes the message in its one written form. The message stays as it was.
