@@ -4,13 +4,13 @@ ghost use Rattle.std.specs.Prelude.{◌≡◌, ◌≢◌, Err};
 ghost use Rattle.warg_protobuf.specs.declared.error.WireError.TheVariants as wire;
 ghost use Rattle.warg_protobuf.specs.declared.value_error.DecodeError.TheVariants as decoding;
 ghost use Rattle.warg_protobuf.specs.Reading.{Answers};
-ghost use Rattle.warg_check.specs.Verdicts.{check_fault, includes, inclusion_verdict, extends, consistency_verdict, key_verdict, absent_verdict};
+ghost use Rattle.warg_check.specs.Verdicts.{check_fault, inclusion_verdict, extends, consistency_verdict, key_verdict, absent_verdict};
 
 use std::alloc::Allocator;
 use thiserror::Error;
 use warg_bundle::{LogProofBundle, MapProofBundle};
 use warg_crypto::{Hash, SupportedDigest, VisitBytes};
-use warg_log::{ConsistencyProof, InclusionProof};
+use warg_log::ConsistencyProof;
 use warg_protobuf::DecodeError;
 
 /// Why there is no verdict.
@@ -57,24 +57,12 @@ pub fn check_inclusion<D: SupportedDigest, V: VisitBytes, A: Allocator + Copy>(
 {
     let bundle = LogProofBundle::<D, V, A>::decode(alloc, bytes)?;
     match bundle.inclusion_proof(at) {
-        Some(proof) => Ok(is_included(&bundle, &proof, value, root)),
+        Some(proof) => Ok(
+            proof
+                .evaluate_value(bundle.hashes(), value)
+                .is_ok_and(|found| found == *root),
+        ),
         None => Err(CheckError::NoSuchProof),
-    }
-}
-
-// Whether an inclusion proof of a bundle evaluates, over the bundle's digests, to the root with the value.
-pub(crate) fn is_included<D: SupportedDigest, V: VisitBytes, A: Allocator>(
-    bundle: &LogProofBundle<D, V, A>,
-    proof: &InclusionProof<D, V>,
-    value: &V,
-    root: &Hash<D>,
-) -> bool
-    requires { proof.now.log_length ≡ bundle.now.log_length }
-    ensures { result ≡ includes D.digest (V.bytes value.now) root.now bundle.now proof.now.leaf }
-{
-    match proof.evaluate_value(bundle.hashes(), value) {
-        Ok(found) => found == *root,
-        Err(_) => false,
     }
 }
 

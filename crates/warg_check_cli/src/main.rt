@@ -9,7 +9,7 @@ mod texts;
 use std::env;
 use std::io::{self, IsTerminal};
 use std::process::ExitCode;
-use texts::text_of;
+use texts::{HINT, text_of};
 use warg_program::{exit_code, run};
 
 fn main(rt: HostRuntime) -> ExitCode {
@@ -19,11 +19,21 @@ fn main(rt: HostRuntime) -> ExitCode {
     }
 }
 
-// Does what the arguments ask for. At most one is taken.
+// Runs the commands of standard input, or does what an argument asks for. At most one is taken. What ends a run is said on
+// standard error.
 fn answer(rt: &HostRuntime) -> io::Result<ExitCode> {
     let words = env::args(rt)?.skip(1).collect::<Vec<String>>(rt.alloc())?;
     let unknown = match words.as_slice() {
-        [] => return Ok(run_commands(rt)),
+        [] => {
+            if rt.stdin().is_terminal() {
+                let _ = rt.eprintln(HINT);
+            }
+            let ended = run(rt.alloc(), &mut rt.stdin(), &mut rt.stdout());
+            if let Err(error) = &ended {
+                let _ = eprintln!(rt; "warg_check: {error}");
+            }
+            return Ok(exit_code(ended));
+        }
         [word] => match text_of(word.as_str()) {
             Some(text) => return rt.print(text).map(|()| ExitCode::SUCCESS),
             None => word,
@@ -33,20 +43,6 @@ fn answer(rt: &HostRuntime) -> io::Result<ExitCode> {
     };
     eprintln!(rt; "warg_check: no argument is called {unknown:?}; see warg_check --help")?;
     Ok(ExitCode::from(2))
-}
-
-// Runs the commands of standard input, and says on standard error what ended the run, if anything did.
-fn run_commands(rt: &HostRuntime) -> ExitCode {
-    if rt.stdin().is_terminal() {
-        let _ = rt.eprintln(
-            "warg_check: reads commands from standard input until its end; see warg_check --help",
-        );
-    }
-    let ended = run(rt.alloc(), &mut rt.stdin(), &mut rt.stdout());
-    if let Err(error) = &ended {
-        let _ = eprintln!(rt; "warg_check: {error}");
-    }
-    exit_code(ended)
 }
 
 fn refuse(rt: &HostRuntime, error: &io::Error) -> ExitCode {

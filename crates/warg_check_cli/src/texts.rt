@@ -9,6 +9,10 @@ pub fn text_of(word: &str) -> Option<&'static str> {
     }
 }
 
+/// What a terminal is told before a run.
+pub const HINT: &str =
+    "warg_check: reads commands from standard input until its end; see warg_check --help";
+
 const VERSION: &str = "warg_check 0.9.2-rattle.1\n";
 
 const HELP: &str = "\

@@ -6,13 +6,12 @@ use Rattle.std.proofs.lemmas.Simd.{map-map}
 use Rattle.std.proofs.lemmas.Slice.Zip.{firsts-zip, seconds-zip}
 use Rattle.std.proofs.lemmas.Nat.{pow_pos}
 use Rattle.std.proofs.lemmas.Bool.{eq-eqb}
-use Rattle.std.proofs.lemmas.Result.{err_from_is_err_and}
 use Rattle.warg_protobuf.specs.HashEntry.{Entry}
 use Rattle.warg_log.specs.Nodes.{end_of, balanced_roots}
 use Rattle.warg_log.specs.Blocks.{Blocks}
 use Rattle.warg_protobuf.specs.Decoding.{first_fault, digest_fault}
 use Rattle.warg_log.specs.Images.{root_entry, stack_message, stack_in}
-use Rattle.warg_protobuf.proofs.ForCallers.{all_weaken, copied_more, taken_whole, digest_passed, digest_met, no_digest_left}
+use Rattle.warg_protobuf.proofs.ForCallers.{all_weaken}
 use Rattle.warg_log.proofs.NodeLemmas.{last_leaf}
 use Rattle.warg_log.proofs.BalancedLemmas.{balanced_first, has_first_over}
 use Rattle.warg_log.proofs.OrderLemmas.{roots_end}
@@ -43,6 +42,3 @@ roots_too_large n above fits =
     let second = has_first_over (0 + 2 ^ 31) (n - 2 ^ 31) (omega arith) in
     let all = rw (balanced_first 31 0 n (omega arith) (omega (arith, fits.0)), second.2) at fits.1 in
     absurd (omega (arith, all.1.0, pow_pos second.0))
-
--- what the reading of digests one by one rests on
-pub ruleset digests_taken = (err_from_is_err_and, copied_more, taken_whole, digest_passed, digest_met, no_digest_left)

@@ -94,7 +94,6 @@ impl<D: SupportedDigest, V: VisitBytes, A: Allocator + Copy> StackLog<D, V, A> {
 }
 
 // The digests of these entries.
-#[tactic(auto, using(warg_protobuf::proofs::ForCallers::mapped_more, warg_protobuf::proofs::ForCallers::mapped_whole, warg_protobuf::proofs::ForCallers::digest_passed, warg_protobuf::proofs::ForCallers::no_digest_left))]
 fn read_blocks<D, A: Allocator>(
     alloc: A,
     entries: &[HashEntry<A>],
@@ -130,7 +129,6 @@ fn are_roots<A: Allocator>(entries: &[HashEntry<A>], count: usize) -> bool
 }
 
 // The entries of the balanced roots of a length, with these digests.
-#[tactic(auto, using(crate::proofs::ImageLemmas::roots_fit))]
 fn entries<D, A: Allocator + Copy>(
     alloc: A,
     count: usize,

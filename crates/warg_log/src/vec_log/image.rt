@@ -91,7 +91,6 @@ impl<D: SupportedDigest, V: VisitBytes, A: Allocator + Copy> VecLog<D, V, A> {
 }
 
 // The hashes with these bytes.
-#[tactic(auto, using(crate::proofs::ImageLemmas::digests_taken))]
 fn read_tree<D, A: Allocator>(
     alloc: A,
     tree: &[DigestBytes<A>],
@@ -146,7 +145,6 @@ fn is_held<D: SupportedDigest>(tree: &[Hash<D>], count: usize, node: Node, space
 }
 
 // The bytes of these digests.
-#[tactic(auto, using(warg_protobuf::proofs::ForCallers::copied_more, warg_protobuf::proofs::ForCallers::taken_whole, warg_protobuf::proofs::ForCallers::all_more, warg_protobuf::proofs::ForCallers::all_whole))]
 fn digests<D, A: Allocator + Copy>(
     alloc: A,
     tree: &[Hash<D>],

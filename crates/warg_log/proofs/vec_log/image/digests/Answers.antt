@@ -1,0 +1,15 @@
+use Rattle.std.proofs.Common.{◌≡◌, ◌∙◌, length}
+use Rattle.warg_protobuf.proofs.ForCallers.{all_more, all_whole, copied_more, taken_whole}
+use Rattle.warg_log.proofs.vec_log.image.digests.Goals as goal
+
+pub places-preserved : goal.places-preserved
+places-preserved g c = record {
+  digests = copied_more c.args.tree.now c.places.hash-index c.hash-item.result c.places.digests.items c.push.new.self.items c.from_array.result c.places-test.true c.hash-item.is c.places.invariant.digests c.in_ok-push.ensures.items (c.from_array.ensures ∙ c.as_ref.ensures);
+  lengths = all_more (λ d. length d ≡ 32) c.args.tree.now c.places.hash-index c.hash-item.result c.places-test.true c.hash-item.is c.places.invariant.lengths (c.len.ensures.bytes ∙ c.len.ensures.value);
+}
+
+pub returns-clause-digests : goal.returns-clause-digests
+returns-clause-digests g c = taken_whole c.args.tree.now c.places.hash-index _ c.places.invariant.digests c.places-test.false
+
+pub returns-clause-lengths : goal.returns-clause-lengths
+returns-clause-lengths g c = all_whole (λ d. length d ≡ 32) c.args.tree.now c.places.hash-index c.places.invariant.lengths c.places-test.false
