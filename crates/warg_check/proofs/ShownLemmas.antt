@@ -1,10 +1,10 @@
 -- The digests of a bundle that was read have 32 bytes.
-use Rattle.std.proofs.Common.{◌≡◌, ℕ, zero, suc, ◌==◌, true, false, List, [], ◌∷◌, length, map, Option, Some, None, Result, Ok, Err, refl, sym, ap, ◌∙◌, subst, slice_index_or, ⊎_elim}
+use Rattle.std.proofs.Common.{◌≡◌, ℕ, zero, suc, ◌==◌, true, false, List, [], ◌∷◌, length, map, Option, Some, None, Result, Ok, Err, refl, subst, slice_index_or, ⊎_elim}
 use Rattle.std.specs.Prelude.{slice_get}
 use Rattle.std.proofs.lemmas.Bool.{eqb-true, cases_Bool}
 use Rattle.warg_protobuf.specs.declared.error.WireError.{WireError}
 use Rattle.warg_protobuf.specs.HashEntry.{Entry}
-use Rattle.warg_protobuf.specs.LogProofBundle.{LogBundle, log_schema}
+use Rattle.warg_protobuf.specs.LogProofBundle.{log_schema}
 use Rattle.warg_protobuf.specs.MapProofBundle.{MapBundle, map_schema}
 use Rattle.warg_protobuf.specs.Schema.{message_of}
 use Rattle.warg_protobuf.specs.declared.value_error.DecodeError.{DecodeError}

@@ -1,21 +1,15 @@
 -- The steps of a verdict.
-use Rattle.std.proofs.Common.{◌≡◌, ℕ, ◌≤◌, ◌<◌, ◌&&◌, Bool, true, false, nat_eq, nat_le, List, ◌∷◌, Option, Some, None, Result, Ok, Err, refl, sym, ap, ◌∙◌, ⊎_elim}
+use Rattle.std.proofs.Common.{◌≡◌, ℕ, ◌&&◌, Bool, true, false, nat_eq, List, Option, Some, None, Result, Ok, Err, refl, sym, ap, ◌∙◌, ⊎_elim}
 use Rattle.std.specs.Prelude.{slice_get}
 use Rattle.std.specs.Cmp.Lexicographic.{pointwise, same_text}
-use Rattle.std.proofs.lemmas.Bool.{le-leb, lt-leb, and_parts, cases_Bool, cases_lt}
-use Rattle.warg_log.specs.declared.node.Node.{Node}
+use Rattle.std.proofs.lemmas.Bool.{and_parts, cases_Bool}
 use Rattle.warg_log.specs.declared.proof.InclusionProofError.{InclusionProofError}
-use Rattle.warg_log.specs.declared.proof.InclusionProofError.TheVariants as Inclusion
 use Rattle.warg_log.specs.declared.consistency.ConsistencyProofError.{ConsistencyProofError}
-use Rattle.warg_log.specs.Nodes.{ExistsAt, end_of}
-use Rattle.warg_log.specs.Cut.{cut_root}
-use Rattle.warg_log.specs.Sparse.{Pairs, held_digest}
-use Rattle.warg_bundle.specs.LogBundles.{Bundle}
 use Rattle.warg_protobuf.specs.declared.value_error.DecodeError.{DecodeError}
 use Rattle.warg_map.specs.Bits.{key_bits}
 use Rattle.warg_map.specs.ProofValue.{proof_value}
 use Rattle.warg_map.specs.Messages.{Peers}
-use Rattle.warg_check.specs.Verdicts.{judged, verdict, is_root, includes, are_roots, leads}
+use Rattle.warg_check.specs.Verdicts.{judged, verdict, is_root, are_roots, leads}
 use Rattle.warg_check.specs.UpdateVerdicts.{leads_both}
 
 -- from a bundle that is read to the verdict on one of its proofs

@@ -1,5 +1,5 @@
 -- Verdicts on the proofs in the bytes of a log bundle or a map bundle.
-use Rattle.std.specs.Prelude.{◌≡◌, ℕ, Bool, false, ◌&&◌, nat_eq, List, ◌∷◌, length, Option, Some, None, Result, Ok, Err, slice_get, slice_index_or}
+use Rattle.std.specs.Prelude.{◌≡◌, ℕ, Bool, false, ◌&&◌, List, length, Option, Some, None, Result, Ok, Err, slice_get, slice_index_or}
 use Rattle.warg_log.specs.declared.node.Node.{Node}
 use Rattle.warg_protobuf.specs.declared.value_error.DecodeError.{DecodeError}
 use Rattle.warg_protobuf.specs.declared.value_error.DecodeError.TheVariants as decoding

@@ -167,10 +167,7 @@ impl<D: SupportedDigest, V: VisitBytes, A: Allocator + Copy> ProofBundle<D, V, A
         let nodes = needed_nodes(alloc, &consistency_proofs, &inclusion_proofs)?;
         let pairs = digests_of(alloc, nodes.as_slice(), hashes)?;
         let consistent_lengths = old_lengths(alloc, &consistency_proofs)?;
-        let included_nodes = inclusion_proofs
-            .iter()
-            .map(|proof| proof.leaf())
-            .collect::<Vec<Node, A>>(alloc)?;
+        let included_nodes = leaves(alloc, &inclusion_proofs)?;
         Ok(ProofBundle {
             log_length,
             consistent_lengths,
@@ -218,11 +215,7 @@ impl<D: SupportedDigest, V: VisitBytes, A: Allocator + Copy> ProofBundle<D, V, A
         ensures wire { (e : _) → result ≢ Err (DecodeError.Wire e) }
     {
         let hashes = read_hashes(alloc, message.hashes.as_slice())?;
-        let included_nodes = message
-            .included_indices
-            .iter()
-            .map(|index| Node(*index as usize))
-            .collect::<Vec<Node, A>>(alloc)?;
+        let included_nodes = read_nodes(alloc, message.included_indices.as_slice())?;
         Ok(ProofBundle {
             log_length: message.log_length,
             consistent_lengths: message.consistent_lengths,
@@ -292,6 +285,20 @@ fn old_lengths<D, V, A: Allocator>(
     Ok(lengths)
 }
 
+// The nodes of these proofs.
+fn leaves<D, V, A: Allocator>(
+    alloc: A,
+    proofs: &[InclusionProof<D, V>],
+) -> Result<Vec<Node, A>, AllocError>
+    ensures { IfOk result (λ nodes. nodes.items ≡ map (λ p. p.leaf) proofs.now) }
+{
+    let mut nodes = Vec::new(alloc);
+    'proofs: for proof in proofs {
+        nodes.push(proof.leaf())?;
+    }
+    Ok(nodes)
+}
+
 // The consistency proofs from these old lengths.
 fn consistency_proofs<D, V, A: Allocator>(
     alloc: A,
@@ -325,6 +332,17 @@ fn inclusion_proofs<D, V, A: Allocator>(
         proofs.push(InclusionProof::new(*node, log_length as usize))?;
     }
     Ok(proofs)
+}
+
+// The nodes of these numbers.
+fn read_nodes<A: Allocator>(alloc: A, indices: &[u32]) -> Result<Vec<Node, A>, AllocError>
+    ensures { IfOk result (λ nodes. nodes.items ≡ map (λ n. record { 0 = n }) indices.now) }
+{
+    let mut nodes = Vec::new(alloc);
+    'indices: for index in indices {
+        nodes.push(Node(*index as usize))?;
+    }
+    Ok(nodes)
 }
 
 // The digests of these entries, by node.
