@@ -1,5 +1,5 @@
 -- Lemmas on lines, words and numbers.
-use Rattle.std.proofs.Common.{◌≡◌, ◌≢◌, ℕ, zero, suc, ◌+◌, ◌-◌, ◌*◌, ◌^◌, ◌<◌, ◌≤◌, ◌&&◌, ◌==◌, Bool, true, false, List, [], ◌∷◌, ◌++◌, length, take, drop, get_or, Option, Some, None, refl, sym, ◌∙◌, ap, arith, add-one, le-leb, lt-ltb, le-ltb, ne_eqb, option_map, take_all, le_refl, length-append, length-drop, unwrap_or}
+use Rattle.std.proofs.Common.{◌≡◌, ◌≢◌, ℕ, zero, suc, ◌+◌, ◌-◌, ◌*◌, ◌^◌, ◌<◌, ◌≤◌, ◌&&◌, ◌==◌, Bool, true, false, List, [], ◌∷◌, ◌++◌, length, take, drop, get_or, Option, Some, None, refl, sym, ◌∙◌, ap, arith, add-one, le-leb, lt-ltb, le-ltb, ne_eqb, option_map, take_all, le_refl, length-drop}
 use Rattle.std.proofs.Math.Seq.{take-suc, drop-cons}
 use Rattle.std.proofs.lemmas.Bool.{eq-eqb, eqb-true, cond_both}
 use Rattle.std.proofs.lemmas.List.{take-append-drop}
@@ -119,15 +119,12 @@ unfolding lines_of
 lines_whole b [] lacks = rw (ne_eqb b 10 lacks.0) refl
 lines_whole b (c ∷ line) lacks = rw (ne_eqb b 10 lacks.0, lines_whole c line lacks.1) refl
 
--- the first line, and those of what stands behind its LF, which is less
-pub lines_after : (bytes front behind : List ℕ) (rest : Option (List ℕ)) → 0 < length bytes → IsFirstPart 10 bytes front rest → behind ≡ unwrap_or rest []
-    → (lines_of bytes ≡ front ∷ lines_of behind) × (length behind < length bytes)
-unfolding lines_of
-lines_after bytes front behind (Some rest) some parts is = rw (parts.0, is) (lines_front front rest parts.1, omega (arith, length-append front (10 ∷ rest)))
-lines_after bytes [] behind None some parts is = absurd (omega (arith, ap length parts.0))
-lines_after bytes (b ∷ front) behind None some parts is = rw (parts.0, is) (lines_whole b front parts.1, omega arith)
+-- the first line, and those of what stands behind its LF
+pub lines_more : (bytes front rest : List ℕ) → IsFirstPart 10 bytes front (Some rest) → lines_of bytes ≡ front ∷ lines_of rest
+lines_more bytes front rest parts = rw parts.0 (lines_front front rest parts.1)
 
--- what stands behind, as contracts see it
-pub seen_or : {A : Type 0} (seen : A → List ℕ) (o : Option A) (default : A) → seen (unwrap_or o default) ≡ unwrap_or (option_map seen o) (seen default)
-seen_or seen None default = refl
-seen_or seen (Some x) default = refl
+-- a last line without an LF
+pub lines_end : (bytes front : List ℕ) → 0 < length bytes → IsFirstPart 10 bytes front None → lines_of bytes ≡ front ∷ lines_of []
+unfolding lines_of
+lines_end bytes [] some parts = absurd (omega (arith, ap length parts.0))
+lines_end bytes (b ∷ front) some parts = rw parts.0 (lines_whole b front parts.1)

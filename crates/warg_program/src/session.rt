@@ -10,7 +10,7 @@ ghost use Rattle.warg_program.specs.Text.{is_not_bad, refusal, bytes_or_refusal,
 
 use crate::command::{Command, Kind};
 use crate::program::RunError;
-use crate::words::{LogLength, Unread, split_first};
+use crate::words::{LogLength, Unread, next_line};
 use std::alloc::Allocator;
 use std::fmt::Write;
 use warg_bundle::{BundleError, LogProofBundle};
@@ -329,8 +329,8 @@ pub(super) fn answers<A: Allocator + Copy>(
     let mut rest = input;
     let mut number = 0usize;
     while !rest.is_empty() {
-        let (line, after) = split_first(rest, b'\n');
-        rest = after.unwrap_or(&[]);
+        let (line, after) = next_line(rest);
+        rest = after;
         number += 1;
         let good = session.line(number, line)?;
         if !good {

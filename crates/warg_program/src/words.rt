@@ -153,15 +153,29 @@ impl<'a> Words<'a> {
     }
 }
 
-/// What stands before the first separator, and what stands behind it, if there is one.
+// What stands before the first `separator`, and what stands behind it, if there is one.
 #[tactic(auto, using(crate::proofs::WordLemmas::none_lacks))]
-pub(super) fn split_first(bytes: &[u8], separator: u8) -> (&[u8], Option<&[u8]>)
+fn split_first(bytes: &[u8], separator: u8) -> (&[u8], Option<&[u8]>)
     ensures { IsFirstPart separator bytes.now result.0.now
         (option_map (λ rest. rest.now) result.1) }
 {
     match memchr(separator, bytes) {
         Some(i) => (&bytes[..i], Some(&bytes[i + 1..])),
         None => (bytes, None),
+    }
+}
+
+#[tactic(auto, using(crate::proofs::WordLemmas::lines_more, crate::proofs::WordLemmas::lines_end))]
+/// The first line of some bytes, and what stands behind it.
+pub(super) fn next_line(bytes: &[u8]) -> (&[u8], &[u8])
+    requires { 0 < length bytes.now }
+    ensures lines { lines_of bytes.now ≡ result.0.now ∷ lines_of result.1.now }
+    ensures shorter { length result.1.now < length bytes.now }
+{
+    let (line, rest) = split_first(bytes, b'\n');
+    match rest {
+        Some(rest) => (line, rest),
+        None => (line, &[]),
     }
 }
 
