@@ -92,8 +92,11 @@ sibling_right x odd =
     (omega (arith, node_is x, scaled, pow_pos), omega (arith, node_is x, scaled, pow_pos))
 
 -- the children of a branch
-pub child_nodes : (x : ℕ) → 0 < height_of x → (2 ^ (height_of x - 1) ≤ x) × IsNode (x - 2 ^ (height_of x - 1)) (height_of x - 1) (2 * place_of x) × IsNode (x + 2 ^ (height_of x - 1)) (height_of x - 1) (2 * place_of x + 1)
-child_nodes x some = let at = rw (parts 1 (height_of x) (omega arith)) at (node_is x) in (omega (arith, at, pow_pos), omega (arith, at, pow_pos), omega (arith, at))
+pub child_nodes : (x : ℕ) → 0 < height_of x → (2 ^ height_of x / 2 ≤ x) × IsNode (x - 2 ^ height_of x / 2) (height_of x - 1) (2 * place_of x) × IsNode (x + 2 ^ height_of x / 2) (height_of x - 1) (2 * place_of x + 1)
+child_nodes x some =
+    let at = rw (parts 1 (height_of x) (omega arith)) at (node_is x) in
+    let half : 2 ^ height_of x / 2 ≡ 2 ^ (height_of x - 1) = omega (arith, parts 1 (height_of x) (omega arith)) in
+    rw half (omega (arith, at, pow_pos), omega (arith, at, pow_pos), omega (arith, at))
 
 -- the last leaf below a node
 pub last_leaf : (x : ℕ) → x + (2 ^ height_of x - 1) + 2 ≡ 2 * end_of x

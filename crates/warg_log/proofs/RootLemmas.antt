@@ -1,10 +1,14 @@
 -- Roots of lists of leaf digests.
-use Rattle.std.proofs.Common.{◌≡◌, ℕ, zero, suc, ◌+◌, ◌-◌, ◌*◌, ◌^◌, ◌<◌, ◌≤◌, ⊎_elim, List, [], ◌∷◌, length, take, drop, refl, sym, ap, ◌∙◌, arith, lit≤, lit<, add-zero, length-drop, length-take-le, slice_index_or}
+use Rattle.std.proofs.Common.{◌≡◌, ℕ, zero, suc, ◌+◌, ◌-◌, ◌*◌, ◌/◌, ◌^◌, ◌<◌, ◌≤◌, max, ⊎_elim, List, [], ◌∷◌, length, take, drop, refl, sym, ap, ◌∙◌, arith, lit≤, lit<, add-zero, length-drop, length-take-le, slice_index_or}
 use Rattle.std.proofs.Math.Nat.{add-suc, add_comm, pow-suc, pow-le-pow_right}
-use Rattle.std.proofs.lemmas.Bool.{le-leb, lt-leb, cases_lt}
-use Rattle.std.proofs.lemmas.Nat.{pow_pos}
+use Rattle.std.specs.Int.{is_power_of_two}
+use Rattle.std.specs.Int.RustNames.{count_ones}
+use Rattle.std.specs.Bool.{Decides}
+use Rattle.std.proofs.lemmas.Bool.{le-leb, lt-leb, cases_lt, eq-eqb, eqb-true}
+use Rattle.std.proofs.lemmas.Nat.{pow_pos, ones_cat, ones_le_self, zero_from_ones}
 use Rattle.warg_crypto.specs.Tree.{branch}
 use Rattle.warg_log.specs.Tree.{front_within, front_of, root_within, root_of, root_over}
+use Rattle.warg_log.specs.Cut.{IsFull}
 use Rattle.warg_log.proofs.NodeLemmas.{pow_below_pow}
 
 pub below_pow : (n : ℕ) → n < 2 ^ n
@@ -69,6 +73,27 @@ exponent_below (suc f) n more most = ⊎_elim (λ above. (f, above, most)) (λ l
 -- the front of a range of more than one leaf
 pub front_is : (n : ℕ) → 1 < n → (h : ℕ) × (front_of n ≡ 2 ^ h) × (2 ^ h < n) × (n ≤ 2 ^ suc h)
 front_is n more = let e = exponent_below n n more (omega (arith, below_pow)) in (e.0, front_of_is e.0 n e.1 e.2, e.1, e.2)
+
+-- half of the least power of two that isn't below a number, as a program finds it
+pub front_of_half : (n r : ℕ) → 1 < n → IsFull r → n ≤ r → r / 2 < max 1 n → front_of n ≡ r / 2
+front_of_half n r more (zero, is) low high = absurd (omega arith)
+front_of_half n r more (suc h, is) low high =
+    let half : r / 2 ≡ 2 ^ h = omega (arith, is, pow-suc 2 h) in
+    front_of_is h n (omega arith) (omega arith) ∙ sym half
+
+-- a power of two has one binary digit that is set, and no other number does
+one_digit : count_ones 1 ≡ 1
+one_digit = grind (arith, ones_le_self 1, zero_from_ones 1)
+
+pub power_decides : (n : ℕ) → Decides (is_power_of_two n) (IsFull n)
+power_decides zero = (λ e. absurd (omega (arith, eqb-true _ _ e, ones_le_self 0)), λ full. absurd (omega (arith, full, pow_pos full.0)))
+power_decides (suc m) =
+    let e = exponent_below (suc m) (suc (suc m)) (omega arith) (below_pow (suc m)) in
+    let whole : 1 * 2 ^ e.0 + (suc m - 2 ^ e.0) ≡ suc m = omega arith in
+    let digits = rw whole at (ones_cat e.0 1 (suc m - 2 ^ e.0) (omega (arith, pow-suc))) in (
+      λ one. (e.0, omega (arith, zero_from_ones (suc m - 2 ^ e.0) (omega (arith, digits, one_digit, eqb-true _ _ one)))),
+      λ full. eq-eqb _ _ (rw full.1 (let same : 1 * 2 ^ full.0 + 0 ≡ 2 ^ full.0 = omega arith in omega (arith, rw same at (ones_cat full.0 1 0 (pow_pos full.0)), one_digit, ones_le_self 0))),
+    )
 
 -- a power of two is known by the powers around it
 pub same_power : (n r h : ℕ) → 2 ^ r ≤ n → n < 2 * 2 ^ r → n ≡ 2 ^ h → n ≡ 2 ^ r

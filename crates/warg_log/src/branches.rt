@@ -1,36 +1,15 @@
-//! How an evaluation joins the digests of a range's two parts, and a cache of the branches that it joined.
+//! The branches that one consistency proof's evaluation joins, each hashed once.
 
-ghost use Rattle.std.specs.Prelude.{◌≡◌, ⊤, ℕ, ◌<◌, ◌∷◌, ◌++◌, [], List, IsTrue, IsSome, IfSome, ◌↔◌};
-ghost use Rattle.std.specs.List.{AllByRecursion};
+ghost use Rattle.std.specs.Prelude.{◌≡◌, ◌<◌, IsTrue, IfSome, ◌↔◌};
 ghost use Rattle.warg_crypto.specs.Tree.{branch};
+ghost use Rattle.warg_log.specs.Cut.{cut_over};
 
 use crate::leaf_range::LeafRange;
+use crate::log::LogData;
+use crate::node::Node;
 use arrayvec::ArrayVec;
-use warg_crypto::{Hash, SupportedDigest, hash_branch};
-
-// Gives the digest of the branch of a range's two parts.
-pub(crate) trait Join<D: SupportedDigest> {
-    // What it remembers is true.
-    ghost is_true: { Self → Type 0 };
-
-    fn join(&mut self, range: &LeafRange, left: &Hash<D>, right: &Hash<D>) -> Hash<D>
-        requires true_so_far { is_true self.old }
-        requires parts { 1 < range.now.count }
-        ensures value { result ≡ branch D.digest left.now right.now }
-        ensures kept { is_true self.new };
-}
-
-// Hashes each branch, and remembers none.
-#[derive(Drop)]
-pub(crate) struct NoCache;
-
-impl<D: SupportedDigest> Join<D> for NoCache {
-    ghost is_true = { λ _. ⊤ };
-
-    fn join(&mut self, _range: &LeafRange, left: &Hash<D>, right: &Hash<D>) -> Hash<D> {
-        hash_branch(left, right)
-    }
-}
+use std::marker::Model;
+use warg_crypto::{Hash, SupportedDigest, VisitBytes, hash_branch};
 
 // A branch that was hashed.
 #[derive(Drop)]
@@ -76,16 +55,28 @@ fn slot_of(count: usize) -> usize
 // Hashes each branch once: it remembers the branches that it joined, and for each slot the last of them. The
 // ranges that the paths of one consistency proof share are the last ones of their slots.
 #[derive(Drop)]
-pub(crate) struct BranchCache<D> {
+pub(crate) struct BranchCache<D: SupportedDigest> {
     joined: ArrayVec<Branch<D>, REMEMBERED>,
     last: [usize; SLOTS],
 }
 
+// Contracts see how many branches it remembers. Each has the digest of its two parts' branch.
+impl<D: SupportedDigest> Model for BranchCache<D> {
+    ghost use Rattle.std.specs.Prelude.{◌≡◌, ℕ, length};
+    ghost use Rattle.std.specs.List.{AllByRecursion};
+    ghost use Rattle.warg_crypto.specs.Tree.{branch};
+
+    ghost Value = { ℕ };
+
+    ghost view = { λ c. length c.joined.items };
+
+    ghost invariant = { λ c. AllByRecursion (λ b. b.digest ≡ branch D.digest b.left b.right)
+        c.joined.items };
+}
+
 impl<D: SupportedDigest> BranchCache<D> {
-    pub(crate) fn new() -> Self
-        ensures { AllByRecursion (λ b. b.digest
-            ≡ branch D.digest b.left b.right) result.joined.items }
-    {
+    // A cache that remembers no branch.
+    pub(crate) fn new() -> Self {
         BranchCache {
             joined: ArrayVec::new(),
             last: [0; SLOTS],
@@ -94,9 +85,7 @@ impl<D: SupportedDigest> BranchCache<D> {
 
     // The digest of the branch, if it is the last one of the slot.
     fn find(&self, slot: usize, left: &Hash<D>, right: &Hash<D>) -> Option<Hash<D>>
-        requires slot { slot < 128 }
-        requires true_so_far { AllByRecursion
-            (λ b. b.digest ≡ branch D.digest b.left b.right) self.now.joined.items }
+        requires { slot < 128 }
         ensures { IfSome result (λ digest. digest ≡ branch D.digest left.now right.now) }
     {
         let branch = self.joined.as_slice().get(self.last[slot])?;
@@ -105,13 +94,12 @@ impl<D: SupportedDigest> BranchCache<D> {
         }
         None
     }
-}
 
-impl<D: SupportedDigest> Join<D> for BranchCache<D> {
-    ghost is_true = { λ s. AllByRecursion (λ b. b.digest ≡ branch D.digest b.left b.right)
-        s.joined.items };
-
-    fn join(&mut self, range: &LeafRange, left: &Hash<D>, right: &Hash<D>) -> Hash<D> {
+    // The digest of the branch of a range's two parts.
+    fn join(&mut self, range: &LeafRange, left: &Hash<D>, right: &Hash<D>) -> Hash<D>
+        requires { 1 < range.now.count }
+        ensures { result ≡ branch D.digest left.now right.now }
+    {
         let slot = slot_of(range.count);
         if let Some(digest) = self.find(slot, left, right) {
             return digest;
@@ -127,4 +115,30 @@ impl<D: SupportedDigest> Join<D> for BranchCache<D> {
         }
         digest
     }
+}
+
+// The cut root of one range, as `range_root` says, by branches that are hashed once.
+#[tactic(auto, using(crate::proofs::WayLemmas::target_decides, crate::proofs::CutLemmas::cut_over_target, crate::proofs::CutLemmas::cut_read, crate::proofs::CutLemmas::cut_split))]
+pub(crate) fn range_root_by<D: SupportedDigest, V: VisitBytes, L: LogData<D, V>>(
+    branches: &mut BranchCache<D>,
+    hashes: &L,
+    target: &LeafRange,
+    hash: &Hash<D>,
+    range: &LeafRange,
+) -> Option<Hash<D>>
+    ensures { result
+        ≡ cut_over D.digest
+        (L.digest_at
+        hashes.now) hash.now target.now.start target.now.count range.now.start range.now.count }
+{
+    if range == target {
+        return Some(hash.copied());
+    }
+    if range.is_read(target) {
+        return hashes.hash_for(Node::over(range));
+    }
+    let (front, rest) = range.split();
+    let left = range_root_by(branches, hashes, target, hash, &front)?;
+    let right = range_root_by(branches, hashes, target, hash, &rest)?;
+    Some(branches.join(range, &left, &right))
 }

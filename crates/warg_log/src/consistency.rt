@@ -3,16 +3,14 @@
 ghost use Rattle.std.specs.Prelude.{◌≡◌, ◌≢◌, ⊤, ℕ, ◌+◌, ◌*◌, ◌^◌, ◌<◌, ◌≤◌, ◌↔◌, ◌⊎◌, List, IfOk, All, map};
 ghost use Rattle.std.specs.List.{AllByRecursion};
 ghost use Rattle.warg_log.specs.Nodes.{balanced_roots, end_of};
-ghost use Rattle.warg_crypto.specs.Tree.{branch};
 ghost use Rattle.warg_log.specs.Consistency.{root_to, new_root_of, consistency};
 
 use crate::balanced_roots::BalancedRoots;
-use crate::branches::{BranchCache, Join};
-use crate::leaf_range::LeafRange;
+use crate::branches::{BranchCache, range_root_by};
+use crate::leaf_range::{LeafRange, stored_root};
 use crate::log::LogData;
 use crate::node::Node;
 use crate::proof::{InclusionProof, InclusionProofError};
-use crate::root::{range_root_by, stored_root};
 use std::alloc::{AllocError, Allocator};
 use std::marker::{Model, PhantomData};
 use thiserror::Error;
@@ -239,13 +237,9 @@ fn root_from<D: SupportedDigest, V: VisitBytes, L: LogData<D, V>>(
     root: Node,
     whole: &LeafRange,
 ) -> Result<Hash<D>, ConsistencyProofError>
-    requires true_branches { AllByRecursion (λ b.
-        b.digest ≡ branch D.digest b.left b.right) branches.old.joined.items }
     requires ends { end_of root.0 ≤ 2 ^ 63 }
     requires whole { whole.now.start ≡ 0 }
-    ensures value { result ≡ root_to D.digest (L.digest_at hashes.now) whole.now.count root.0 }
-    ensures kept { AllByRecursion (λ b. b.digest
-        ≡ branch D.digest b.left b.right) branches.new.joined.items }
+    ensures { result ≡ root_to D.digest (L.digest_at hashes.now) whole.now.count root.0 }
 {
     match hashes.hash_for(root) {
         Some(hash) => match range_root_by(branches, hashes, &root.leaf_range(), &hash, whole) {

@@ -1,8 +1,12 @@
-//! Ranges of leaves, and how the tree's recursion splits them.
+//! Ranges of leaves, how the tree's recursion splits them, and the roots to which digests lead over them.
 
 ghost use Rattle.std.specs.Prelude.{◌≡◌, ℕ, ◌+◌, ◌-◌, ◌*◌, ◌^◌, ◌<◌, ◌≤◌, ◌⊎◌, ◌↔◌, IsTrue};
 ghost use Rattle.warg_log.specs.Tree.{front_of};
-ghost use Rattle.warg_log.specs.Cut.{is_beside, IsFull};
+ghost use Rattle.warg_log.specs.Cut.{is_beside, IsFull, cut_over, old_over};
+
+use crate::log::LogData;
+use crate::node::Node;
+use warg_crypto::{Hash, SupportedDigest, VisitBytes, hash_branch};
 
 /// Leaves in a row, at least one: a range of the recursion of RFC 6962, section 2.1, which splits the
 /// leaves of a log at the greatest power of two below their count.
@@ -15,14 +19,6 @@ pub struct LeafRange {
     pub count: usize,
     ghost some: { 0 < count },
     ghost fits: { start + count ≤ 2 ^ 63 },
-}
-
-// The power of two with this exponent.
-pub(crate) fn power_of_two(exponent: u32) -> usize
-    requires { exponent < 64 }
-    ensures { result ≡ 2 ^ exponent }
-{
-    1 << exponent
 }
 
 impl LeafRange {
@@ -45,7 +41,7 @@ impl LeafRange {
         ensures count { (h : ℕ) × (result.count ≡ 2 ^ h) × (2 ^ h ≤ length - start)
             × (length - start < 2 ^ (h + 1)) }
     {
-        LeafRange::new(start, power_of_two((length - start).ilog2()))
+        LeafRange::new(start, 1 << (length - start).ilog2())
     }
 
     /// The leaf after the last one.
@@ -56,17 +52,18 @@ impl LeafRange {
     }
 
     /// Whether the range has a power of two of leaves.
+    #[tactic(auto, using(crate::proofs::RootLemmas::power_decides))]
     pub fn is_full(&self) -> bool
         ensures { IsTrue result ↔ IsFull self.now.count }
     {
-        self.count == power_of_two(self.count.ilog2())
+        self.count.is_power_of_two()
     }
 
     /// Whether the range has no leaf of the other one.
     pub fn is_beside(&self, other: &LeafRange) -> bool
         ensures { result ≡ is_beside other.now.start other.now.count self.now.start self.now.count }
     {
-        self.end() <= other.start || other.end() <= self.start
+        self.start + self.count <= other.start || other.start + other.count <= self.start
     }
 
     // Whether an evaluation with this target reads the range's digest: the range is one leaf, or has a
@@ -81,7 +78,7 @@ impl LeafRange {
 
     /// The two parts of the range in the tree's recursion: the first leaves, as many as the greatest
     /// power of two below the count, and the rest.
-    #[tactic(auto, using(crate::proofs::RootLemmas::front_of_is, std::proofs::lemmas::Nat::pow_pos))]
+    #[tactic(auto, using(crate::proofs::RootLemmas::front_of_half))]
     pub fn split(&self) -> (LeafRange, LeafRange)
         requires { 1 < self.now.count }
         ensures front { (result.0.start ≡ self.now.start)
@@ -90,10 +87,57 @@ impl LeafRange {
             × (result.1.count ≡ self.now.count - front_of self.now.count) }
         ensures smaller { (result.0.count < self.now.count) × (result.1.count < self.now.count) }
     {
-        let count = power_of_two((self.count - 1).ilog2());
+        let count = self.count.next_power_of_two() / 2;
         (
             LeafRange::new(self.start, count),
             LeafRange::new(self.start + count, self.count - count),
         )
     }
+}
+
+/// The cut root of one range: the root of the range's leaves by the data's digests, with `hash` in the
+/// place of the target. None exactly if the data lacks a digest that it reads. It takes no memory.
+///
+/// It goes down the recursion of RFC 6962, section 2.1: it reads the digest of a range that misses the
+/// target and has a power of two of leaves, and hashes the branch of the two parts of any other range.
+#[tactic(auto, using(crate::proofs::WayLemmas::target_decides, crate::proofs::CutLemmas::cut_over_target, crate::proofs::CutLemmas::cut_read, crate::proofs::CutLemmas::cut_split))]
+pub fn range_root<D: SupportedDigest, V: VisitBytes, L: LogData<D, V>>(
+    hashes: &L,
+    target: &LeafRange,
+    hash: &Hash<D>,
+    range: &LeafRange,
+) -> Option<Hash<D>>
+    ensures { result
+        ≡ cut_over D.digest
+        (L.digest_at
+        hashes.now) hash.now target.now.start target.now.count range.now.start range.now.count }
+{
+    if range == target {
+        return Some(hash.copied());
+    }
+    if range.is_read(target) {
+        return hashes.hash_for(Node::over(range));
+    }
+    let (front, rest) = range.split();
+    let left = range_root(hashes, target, hash, &front)?;
+    let right = range_root(hashes, target, hash, &rest)?;
+    Some(hash_branch(&left, &right))
+}
+
+/// The old root of one range: the root of the range's leaves by the digests that the data holds for the
+/// range's balanced roots. None exactly if the data lacks one of them. It takes no memory.
+#[tactic(auto, using(crate::proofs::CutLemmas::old_over_full, crate::proofs::CutLemmas::old_over_parts))]
+pub fn stored_root<D: SupportedDigest, V: VisitBytes, L: LogData<D, V>>(
+    hashes: &L,
+    range: &LeafRange,
+) -> Option<Hash<D>>
+    ensures { result ≡ old_over D.digest (L.digest_at hashes.now) range.now.start range.now.count }
+{
+    if range.is_full() {
+        return hashes.hash_for(Node::over(range));
+    }
+    let (front, rest) = range.split();
+    let left = stored_root(hashes, &front)?;
+    let right = stored_root(hashes, &rest)?;
+    Some(hash_branch(&left, &right))
 }

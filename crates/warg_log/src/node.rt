@@ -3,7 +3,7 @@
 ghost use Rattle.std.specs.Prelude.{◌≡◌, ℕ, ◌+◌, ◌-◌, ◌*◌, ◌/◌, ◌%◌, ◌^◌, ◌<◌, ◌≤◌, ◌↔◌, IsTrue, IsNone, IfSome};
 ghost use Rattle.warg_log.specs.Nodes.{IsNode, ExistsAt, height_of, place_of, sibling_place, start_of, end_of, node_over};
 
-use crate::leaf_range::{LeafRange, power_of_two};
+use crate::leaf_range::LeafRange;
 use warg_crypto::Side;
 
 /// A node of a log's tree by its number: a leaf, or a branch over a power of two of leaves.
@@ -83,7 +83,7 @@ impl Node {
         requires { height_of self.now.0 < 64 }
         ensures { result ≡ 2 ^ height_of self.now.0 }
     {
-        power_of_two(self.height())
+        1 << self.height()
     }
 
     /// The side of its parent on which the node stands: left where its place among the nodes of its
@@ -147,15 +147,16 @@ impl Node {
     }
 
     /// The two nodes one lower that stand for the first and the second half of a branch's leaves.
-    #[tactic(auto, using(crate::proofs::NodeLemmas::by_start, crate::proofs::NodeLemmas::child_nodes, crate::proofs::NodeLemmas::parts, crate::proofs::NodeLemmas::room))]
+    #[tactic(auto, using(crate::proofs::NodeLemmas::by_start, crate::proofs::NodeLemmas::child_nodes, crate::proofs::NodeLemmas::room))]
     pub fn children(&self) -> (Node, Node)
         requires branch { 0 < height_of self.now.0 }
         requires low { height_of self.now.0 < 64 }
         ensures left { IsNode result.0.0 (height_of self.now.0 - 1) (2 * place_of self.now.0) }
         ensures right { IsNode result.1.0 (height_of self.now.0 - 1) (2 * place_of self.now.0 + 1) }
     {
-        let distance = power_of_two(self.height() - 1);
-        (Node(self.0 - distance), Node(self.0 + distance))
+        let Node(number) = *self;
+        let distance = self.distance() / 2;
+        (Node(number - distance), Node(number + distance))
     }
 
     /// The last leaf below the node.
@@ -177,11 +178,12 @@ impl Node {
     }
 
     /// Whether a log of this length has the node: all leaves below it are in the log.
-    #[tactic(auto, using(std::proofs::lemmas::Grind::common_steps, crate::proofs::NodeLemmas::low_by_end))]
+    #[tactic(auto, using(std::proofs::lemmas::Grind::common_steps, crate::proofs::NodeLemmas::low_by_end, crate::proofs::NodeLemmas::room))]
     pub fn exists_at_length(&self, length: usize) -> bool
         ensures { IsTrue result ↔ ExistsAt self.now.0 length }
     {
-        self.height() < 64 && self.rightmost_descendent().0 / 2 < length
+        let height = self.height();
+        height < 64 && (self.0 + ((1 << height) - 1)) / 2 < length
     }
 
     /// The first node of a height, at most the node's own, to the right of the node's leaves.
@@ -192,7 +194,7 @@ impl Node {
         ensures height { height_of result.0 ≡ height }
         ensures start { start_of result.0 ≡ end_of self.now.0 }
     {
-        Node(self.rightmost_descendent().0 + 2 + (power_of_two(height) - 1))
+        Node(self.rightmost_descendent().0 + 2 + Node::first_node_with_height(height).0)
     }
 
     /// The node of a height that stands for the first leaves of all, `2^height` of them.
@@ -200,7 +202,7 @@ impl Node {
         requires { height < 64 }
         ensures { IsNode result.0 height 0 }
     {
-        Node(power_of_two(height) - 1)
+        Node((1 << height) - 1)
     }
 
     /// The leaves below the node.
@@ -210,7 +212,7 @@ impl Node {
         ensures start { result.start ≡ start_of self.now.0 }
         ensures count { result.count ≡ 2 ^ height_of self.now.0 }
     {
-        let count = self.distance();
+        let count = 1 << self.height();
         LeafRange::new((self.0 - (count - 1)) / 2, count)
     }
 }

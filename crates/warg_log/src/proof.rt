@@ -10,10 +10,9 @@ ghost use Rattle.warg_log.specs.Walks.{needed, needed_over, siblings_up, IsWalk,
 ghost use Rattle.warg_log.specs.Claims.{same_walk};
 
 use crate::balanced_roots::BalancedRoots;
-use crate::leaf_range::LeafRange;
+use crate::leaf_range::{LeafRange, range_root};
 use crate::log::LogData;
 use crate::node::Node;
-use crate::root::range_root;
 use std::alloc::{AllocError, Allocator, Global};
 use std::marker::{Model, PhantomData};
 use thiserror::Error;
