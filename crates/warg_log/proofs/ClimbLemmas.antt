@@ -6,14 +6,15 @@ use Rattle.std.proofs.lemmas.Nat.{pow_pos}
 use Rattle.std.proofs.lemmas.Bool.{cases_Bool}
 use Rattle.std.proofs.lemmas.List.{map-append}
 use Rattle.warg_log.specs.Nodes.{height_of, place_of, start_of, end_of, node_over, number_of, balanced_over, balanced_roots, Follow, Fall}
-use Rattle.warg_log.specs.Cut.{top_of, cut_over, cut_root, old_root, IsFull}
+use Rattle.warg_log.specs.Ranges.{Range, leaves_from, range_of}
+use Rattle.warg_log.specs.Cut.{Evaluation, with_node, top_of, cut_over, cut_root, old_root, IsFull}
 use Rattle.warg_log.specs.Walks.{climbed, joined_all}
 use Rattle.warg_protobuf.proofs.ForCallers.{all_weaken}
 use Rattle.warg_log.proofs.NodeLemmas.{node_is, only_number, over_at, over_ends}
-use Rattle.warg_log.proofs.CutLemmas.{cut_over_read, cut_over-split, nothing_beside}
+use Rattle.warg_log.proofs.CutLemmas.{nothing, cut_over_read, cut_over-split, nothing_beside}
 use Rattle.warg_log.proofs.WayLemmas.{IsBeside, missed}
 use Rattle.warg_log.proofs.BalancedLemmas.{end_is, balanced_first, none_left, roots, roots_follow}
-use Rattle.warg_log.proofs.OrderLemmas.{roots_end, above, climb, not_power}
+use Rattle.warg_log.proofs.OrderLemmas.{roots_end, above, block, climb, not_power}
 
 -- ---- only the balanced roots follow one another with heights that fall
 
@@ -37,59 +38,63 @@ balanced_roots_only n h ts follow fall = let all : n - 0 ≡ n = omega arith in 
 
 -- ---- a cut root joins those of the balanced roots
 
-module _ (H : List ℕ → List ℕ) (F : ℕ → Option (List ℕ)) (x : List ℕ) (s w : ℕ) where
+module _ (H : List ℕ → List ℕ) (e : Evaluation) where
   -- what stands over a node's range
   abbrev range_cut : ℕ → Option (List ℕ)
-  range_cut r = cut_over H F x s w (start_of r) (2 ^ height_of r)
+  range_cut t = cut_over H e (range_of t)
 
   abbrev Covers : ℕ → ℕ → List ℕ → Type 0
   Covers a n [] = n ≡ 0
-  Covers a n (t ∷ ts) = (0 < n) × (cut_over H F x s w a n ≡ joined_all H (map range_cut (t ∷ ts)))
+  Covers a n (t ∷ ts) = (0 < n) × (cut_over H e (leaves_from a n) ≡ joined_all H (map range_cut (t ∷ ts)))
 
-  covers_first : (0 < w → IsFull w) → (h c m : ℕ) (ts : List ℕ) → m < 2 ^ h → Covers (c * 2 ^ h + 2 ^ h) m ts → Covers (c * 2 ^ h) (2 ^ h + m) (node_over (c * 2 ^ h) (2 ^ h) ∷ ts)
+  covers_first : (0 < e.target.count → IsFull e.target.count) → (h c m : ℕ) (ts : List ℕ) → m < 2 ^ h → Covers (c * 2 ^ h + 2 ^ h) m ts → Covers (c * 2 ^ h) (2 ^ h + m) (node_over (c * 2 ^ h) (2 ^ h) ∷ ts)
   covers_first full h c m [] lt none = (omega (arith, pow_pos h), grind (arith, none, over_at h c))
   covers_first full h c m (u ∷ us) lt rest =
       let more : 2 ^ h < 2 ^ h + m = omega (arith, rest.0) in
       let part : (k : ℕ) → 2 ^ h + m ≡ 2 ^ k → ⊥ = λ k. not_power h k (2 ^ h + m) more (omega (arith, pow-suc)) in
-      let split = cut_over-split H F x s w h (c * 2 ^ h) (2 ^ h + m) more (omega (arith, pow-suc)) (λ _ same. let f = full (omega (arith, same)) in part f.0 (same ∙ f.1)) (λ e _. part (suc h) e) in
+      let range = leaves_from (c * 2 ^ h) (2 ^ h + m) in
+      let other : range ≡ e.target → ⊥ = λ same. let width : 2 ^ h + m ≡ e.target.count = ap (λ (r : Range). r.count) same in let f = full (omega arith) in part f.0 (width ∙ f.1) in
+      let split = cut_over-split H e range h more (omega (arith, pow-suc)) other (λ f _. part (suc h) f) in
       (omega arith, grind (arith, split, rest.1, over_at h c))
 
-  cut_roots : (0 < w → IsFull w) → (n : ℕ) → 0 < n → cut_over H F x s w 0 n ≡ joined_all H (map range_cut (balanced_roots n))
+  cut_roots : (0 < e.target.count → IsFull e.target.count) → (n : ℕ) → 0 < n → cut_over H e (leaves_from 0 n) ≡ joined_all H (map range_cut (balanced_roots n))
   cut_roots full n some = covered (balanced_roots n) (roots Covers (record { none = λ a. refl; first = covers_first full }) n)
     where
-      covered : (ts : List ℕ) → Covers 0 n ts → cut_over H F x s w 0 n ≡ joined_all H (map range_cut ts)
+      covered : (ts : List ℕ) → Covers 0 n ts → cut_over H e (leaves_from 0 n) ≡ joined_all H (map range_cut ts)
       covered [] none = absurd (omega arith)
       covered (t ∷ ts) all = all.1
 
   -- nodes that miss the target are read
   abbrev Misses : ℕ → Type 0
-  Misses r = IsBeside s w (start_of r) (2 ^ height_of r)
+  Misses t = IsBeside e.target (range_of t)
 
-  all_read : (ts : List ℕ) → AllByRecursion Misses ts → map range_cut ts ≡ map F ts
+  all_read : (ts : List ℕ) → AllByRecursion Misses ts → map range_cut ts ≡ map e.held ts
   all_read [] all = refl
   all_read (t ∷ ts) all =
-      let read = cut_over_read H F x s w (start_of t) (2 ^ height_of t) (missed s w (start_of t) (2 ^ height_of t) (pow_pos (height_of t)) all.0) (inr ((height_of t, refl), all.0)) in
+      let read = cut_over_read H e (range_of t) (missed e.target (range_of t) (pow_pos (height_of t)) all.0) (inr ((height_of t, refl), all.0)) in
       rw (read, all_read ts all.1, ← only_number t (height_of t) (place_of t) (node_is t)) refl
 
   -- all roots but the one above the target miss it
-  after_beside : (a e : ℕ) (ts : List ℕ) → s + w ≤ a → Follow a e ts → AllByRecursion Misses ts
-  after_beside a e [] le follow = tt
-  after_beside a e (t ∷ ts) le follow = (inr (omega (arith, follow.0)), after_beside (end_of t) e ts (omega (arith, follow.0, end_is t)) follow.1)
+  after_beside : (a n : ℕ) (ts : List ℕ) → e.target.start + e.target.count ≤ a → Follow a n ts → AllByRecursion Misses ts
+  after_beside a n [] le follow = tt
+  after_beside a n (t ∷ ts) le follow = (inr (omega (arith, follow.0)), after_beside (end_of t) n ts (omega (arith, follow.0, end_is t)) follow.1)
 
-  others_beside : (a e t : ℕ) (left right : List ℕ) → start_of t ≤ s → s + w ≤ end_of t → Follow a e (left ++ t ∷ right) → (a ≤ s) × AllByRecursion Misses left × AllByRecursion Misses right
-  others_beside a e t [] right low high follow = (omega (arith, follow.0), tt, after_beside (end_of t) e right high follow.1)
-  others_beside a e t (l ∷ left) right low high follow =
-      let rest = others_beside (end_of l) e t left right low high follow.1 in
+  others_beside : (a n t : ℕ) (left right : List ℕ) → start_of t ≤ e.target.start → e.target.start + e.target.count ≤ end_of t → Follow a n (left ++ t ∷ right)
+      → (a ≤ e.target.start) × AllByRecursion Misses left × AllByRecursion Misses right
+  others_beside a n t [] right low high follow = (omega (arith, follow.0), tt, after_beside (end_of t) n right high follow.1)
+  others_beside a n t (l ∷ left) right low high follow =
+      let rest = others_beside (end_of l) n t left right low high follow.1 in
       (omega (arith, follow.0, end_is l, rest.0), (inl (omega (arith, end_is l, rest.0)), rest.1), rest.2)
 
 pub old_root-joined : (H : List ℕ → List ℕ) (F : ℕ → Option (List ℕ)) (n : ℕ) → 0 < n → old_root H F n ≡ joined_all H (map F (balanced_roots n))
 old_root-joined H F n some =
-    let free = all_weaken (λ t. end_of t ≤ n) (Misses H F (H []) 0 0) (λ t _. nothing_beside (start_of t) (2 ^ height_of t)) (balanced_roots n) (roots_end n n (omega arith)) in
-    cut_roots H F (H []) 0 0 (λ lt. absurd (omega arith)) n some ∙ ap (joined_all H) (all_read H F (H []) 0 0 (balanced_roots n) free)
+    let old : Evaluation = record { held = F; target = nothing; digest = H [] } in
+    let free = all_weaken (λ t. end_of t ≤ n) (Misses H old) (λ t _. nothing_beside (range_of t)) (balanced_roots n) (roots_end n n (omega arith)) in
+    cut_roots H old (λ lt. absurd (omega arith)) n some ∙ ap (joined_all H) (all_read H old (balanced_roots n) free)
 
 -- up to a balanced root
 climb_cut : (H : List ℕ → List ℕ) (F : ℕ → Option (List ℕ)) (x : List ℕ) (k j c : ℕ)
-    → cut_over H F x (j * 2 ^ k) (2 ^ k) (j / 2 ^ c * 2 ^ (k + c)) (2 ^ (k + c)) ≡ climbed H F (Some x) k j c
+    → cut_over H (record { held = F; target = block k j; digest = x }) (block (k + c) (j / 2 ^ c)) ≡ climbed H F (Some x) k j c
 unfolding top_of
 climb_cut H F x k j c = climb k j (λ d way. top_of H F x way ≡ climbed H F (Some x) k j d) refl
     (λ d way is. ⊎_elim (λ (t : (j / 2 ^ d % 2 == 0) ≡ true). rw (t, is) refl) (λ (f : (j / 2 ^ d % 2 == 0) ≡ false). rw (f, is) refl) (cases_Bool (j / 2 ^ d % 2 == 0))) c
@@ -98,12 +103,11 @@ pub cut_root_walk : (H : List ℕ → List ℕ) (F : ℕ → Option (List ℕ)) 
     → balanced_roots n ≡ left ++ number_of (height_of t + c) (place_of t / 2 ^ c) ∷ right
     → cut_root H F t x n ≡ joined_all H (map F left ++ climbed H F (Some x) (height_of t) (place_of t) c ∷ map F right)
 cut_root_walk H F t x n c left right some split =
-    let s = start_of t in
-    let w = 2 ^ height_of t in
+    let e = with_node F t x in
     let k = height_of t + c in
     let i = place_of t / 2 ^ c in
     let at = over_at k i in
     let within = above c (height_of t) (place_of t) in
-    let beside = others_beside H F x s w 0 n (number_of k i) left right (grind (arith, at, within)) (omega (arith, over_ends k i, within)) (rw split at (roots_follow n)) in
-    let here : range_cut H F x s w (number_of k i) ≡ climbed H F (Some x) (height_of t) (place_of t) c = rw (at.0, at.1) (climb_cut H F x (height_of t) (place_of t) c) in
-    cut_roots H F x s w (λ _. (height_of t, refl)) n some ∙ rw (split, map-append, here, all_read H F x s w left beside.1, all_read H F x s w right beside.2) refl
+    let beside = others_beside H e 0 n (number_of k i) left right (grind (arith, at, within)) (omega (arith, over_ends k i, within)) (rw split at (roots_follow n)) in
+    let here : range_cut H e (number_of k i) ≡ climbed H F (Some x) (height_of t) (place_of t) c = rw (at.0, at.1) (climb_cut H F x (height_of t) (place_of t) c) in
+    cut_roots H e (λ _. (height_of t, refl)) n some ∙ rw (split, map-append, here, all_read H e left beside.1, all_read H e right beside.2) refl

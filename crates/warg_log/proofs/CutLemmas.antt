@@ -1,60 +1,74 @@
 -- Cut roots.
-use Rattle.std.proofs.Common.{◌≡◌, ℕ, suc, false, ◌+◌, ◌-◌, ◌*◌, ◌^◌, ◌<◌, ◌≤◌, List, [], length, take, drop, Option, Some, refl, sym, ap, ◌∙◌, arith, ◌⊎◌, inl, inr, IsTrue}
+use Rattle.std.proofs.Common.{◌≡◌, ℕ, suc, true, false, ◌+◌, ◌-◌, ◌*◌, ◌^◌, ◌<◌, ◌≤◌, List, [], length, take, drop, Option, Some, refl, sym, ap, ◌∙◌, arith, ◌⊎◌, inl, inr, IsTrue}
 use Rattle.std.proofs.Math.Nat.{add-sub_of_le}
 use Rattle.std.proofs.lemmas.List.{length-drop, length-take-le, drop-drop, drop-take, take-take}
 use Rattle.std.proofs.lemmas.Bool.{le-leb}
-use Rattle.warg_log.specs.Nodes.{height_of, start_of, node_over}
+use Rattle.warg_log.specs.Nodes.{node_over}
+use Rattle.warg_log.specs.Ranges.{Range, leaves_from, range_of, front_part, rest_part}
 use Rattle.warg_crypto.specs.Tree.{branch}
-use Rattle.warg_log.specs.Tree.{front_of, root_of, own_digest, leaves_below, root_over}
-use Rattle.warg_log.specs.Cut.{joined, is_target, is_beside, top_of, cut_over, cut_root, IsFull, old_over, old_root}
+use Rattle.warg_log.specs.Tree.{root_of, own_digest, leaves_below, root_over}
+use Rattle.warg_log.specs.Cut.{Evaluation, joined, is_target, is_beside, top_of, cut_over, cut_root, IsFull, old_over, old_root}
 use Rattle.warg_log.proofs.NodeLemmas.{over_at}
 use Rattle.warg_log.proofs.RootLemmas.{below_pow, root_of_split}
-use Rattle.warg_log.proofs.WayLemmas.{IsBeside, is_other, is_beside_so, way_over_target, way_over-read, way_over-split, way_over_parts, ways}
+use Rattle.warg_log.proofs.WayLemmas.{first, behind, IsBeside, target_decides, is_other, is_beside_so, way_over_target, way_over-read, way_over-split, way_over_parts, ways}
 
 -- the range of the target, a range that is read, and any other, split at its front
-module _ (H : List ℕ → List ℕ) (F : ℕ → Option (List ℕ)) (x : List ℕ) (s w : ℕ) where
-  pub cut_over_target : cut_over H F x s w s w ≡ Some x
+module _ (H : List ℕ → List ℕ) (e : Evaluation) where
+  pub cut_over_target : cut_over H e e.target ≡ Some e.digest
   unfolding top_of
-  cut_over_target = ap (top_of H F x) (way_over_target s w)
+  cut_over_target = ap (top_of H e.held e.digest) (way_over_target e.target)
 
-  pub cut_over_read : (a n : ℕ) → (a ≡ s → n ≡ w → ⊥) → (n ≡ 1) ⊎ (IsFull n × IsBeside s w a n) → cut_over H F x s w a n ≡ F (node_over a n)
+  pub cut_over_read : (r : Range) → (r ≡ e.target → ⊥) → (r.count ≡ 1) ⊎ (IsFull r.count × IsBeside e.target r) → cut_over H e r ≡ e.held (node_over r.start r.count)
   unfolding top_of
-  cut_over_read a n other read = ap (top_of H F x) (way_over-read s w a n other read)
+  cut_over_read r other read = ap (top_of H e.held e.digest) (way_over-read e.target r other read)
 
-  pub cut_over-split : (h a n : ℕ) → 2 ^ h < n → n ≤ 2 ^ suc h → (a ≡ s → n ≡ w → ⊥) → (n ≡ 2 ^ suc h → IsBeside s w a n → ⊥)
-      → cut_over H F x s w a n ≡ joined H (cut_over H F x s w a (2 ^ h)) (cut_over H F x s w (a + 2 ^ h) (n - 2 ^ h))
+  pub cut_over-split : (r : Range) (h : ℕ) → 2 ^ h < r.count → r.count ≤ 2 ^ suc h → (r ≡ e.target → ⊥) → (r.count ≡ 2 ^ suc h → IsBeside e.target r → ⊥)
+      → cut_over H e r ≡ joined H (cut_over H e (first h r)) (cut_over H e (behind h r))
   unfolding top_of
-  cut_over-split h a n more most other apart = ap (top_of H F x) (way_over-split s w h a n more most other apart)
+  cut_over-split r h more most other apart = ap (top_of H e.held e.digest) (way_over-split e.target r h more most other apart)
 
-  pub cut_over_parts : (a n : ℕ) → 1 < n → (a ≡ s → n ≡ w → ⊥) → (IsFull n → IsTrue (is_beside s w a n) → ⊥)
-      → cut_over H F x s w a n ≡ joined H (cut_over H F x s w a (front_of n)) (cut_over H F x s w (a + front_of n) (n - front_of n))
+  pub cut_over_parts : (r : Range) → 1 < r.count → (r ≡ e.target → ⊥) → (IsFull r.count → IsTrue (is_beside e.target r) → ⊥)
+      → cut_over H e r ≡ joined H (cut_over H e (front_part r)) (cut_over H e (rest_part r))
   unfolding top_of
-  cut_over_parts a n more other apart = ap (top_of H F x) (way_over_parts s w a n more other apart)
+  cut_over_parts r more other apart = ap (top_of H e.held e.digest) (way_over_parts e.target r more other apart)
 
-  -- as a program tests it
-  pub cut_read : (a n : ℕ) → is_target s w a n ≡ false → (n ≡ 1) ⊎ (IsFull n × IsTrue (is_beside s w a n)) → cut_over H F x s w a n ≡ F (node_over a n)
-  cut_read a n apart (inl one) = cut_over_read a n (is_other s w a n apart) (inl one)
-  cut_read a n apart (inr full) = cut_over_read a n (is_other s w a n apart) (inr (full.0, is_beside_so s w a n full.1))
+-- as a program tests it
+module _ (H : List ℕ → List ℕ) (F : ℕ → Option (List ℕ)) (t : Range) (x : List ℕ) where
+  abbrev e : Evaluation
+  e = record { held = F; target = t; digest = x }
 
-  pub cut_split : (a n : ℕ) → 0 < n → is_target s w a n ≡ false → ((n ≡ 1) ⊎ (IsFull n × IsTrue (is_beside s w a n)) → ⊥)
-      → cut_over H F x s w a n ≡ joined H (cut_over H F x s w a (front_of n)) (cut_over H F x s w (a + front_of n) (n - front_of n))
-  cut_split a n some apart unread =
-      let many : n ≡ 1 → ⊥ = λ one. unread (inl one) in
-      cut_over_parts a n (omega arith) (is_other s w a n apart) (λ full beside. unread (inr (full, beside)))
+  pub cut_found : (r : Range) → is_target t r ≡ true → cut_over H e r ≡ Some x
+  cut_found r is = rw ((target_decides t r).0 is) (cut_over_target H e)
+
+  pub cut_read : (r : Range) → is_target t r ≡ false → (r.count ≡ 1) ⊎ (IsFull r.count × IsTrue (is_beside t r)) → cut_over H e r ≡ F (node_over r.start r.count)
+  cut_read r apart (inl one) = cut_over_read H e r (is_other t r apart) (inl one)
+  cut_read r apart (inr full) = cut_over_read H e r (is_other t r apart) (inr (full.0, is_beside_so t r full.1))
+
+  pub cut_split : (r : Range) → 0 < r.count → is_target t r ≡ false → ((r.count ≡ 1) ⊎ (IsFull r.count × IsTrue (is_beside t r)) → ⊥)
+      → cut_over H e r ≡ joined H (cut_over H e (front_part r)) (cut_over H e (rest_part r))
+  cut_split r some apart unread =
+      let many : r.count ≡ 1 → ⊥ = λ one. unread (inl one) in
+      cut_over_parts H e r (omega arith) (is_other t r apart) (λ full beside. unread (inr (full, beside)))
 
 -- the old root of a range of a power of two, and of any other
-pub nothing_beside : (a n : ℕ) → IsBeside 0 0 a n
-nothing_beside a n = inr (let le : 0 + 0 ≤ a = omega arith in le)
+abbrev pub nothing : Range
+nothing = leaves_from 0 0
+
+pub nothing_beside : (r : Range) → IsBeside nothing r
+nothing_beside r = inr (let le : 0 + 0 ≤ r.start = omega arith in le)
+
+not_nothing : (r : Range) → 0 < r.count → r ≡ nothing → ⊥
+not_nothing r some same = omega (arith, ap (λ (x : Range). x.count) same)
 
 module _ (H : List ℕ → List ℕ) (F : ℕ → Option (List ℕ)) where
-  pub old_over_full : (a n : ℕ) → 0 < n → IsFull n → old_over H F a n ≡ F (node_over a n)
-  old_over_full a n some full = cut_over_read H F (H []) 0 0 a n (λ _ e. omega arith) (inr (full, nothing_beside a n))
+  pub old_over_full : (r : Range) → 0 < r.count → IsFull r.count → old_over H F r ≡ F (node_over r.start r.count)
+  old_over_full r some full = cut_over_read H _ r (not_nothing r some) (inr (full, nothing_beside r))
 
-  pub old_over-split : (h a n : ℕ) → 2 ^ h < n → n ≤ 2 ^ suc h → (n ≡ 2 ^ suc h → ⊥) → old_over H F a n ≡ joined H (old_over H F a (2 ^ h)) (old_over H F (a + 2 ^ h) (n - 2 ^ h))
-  old_over-split h a n more most part = cut_over-split H F (H []) 0 0 h a n more most (λ _ e. omega arith) (λ full _. part full)
+  pub old_over-split : (r : Range) (h : ℕ) → 2 ^ h < r.count → r.count ≤ 2 ^ suc h → (r.count ≡ 2 ^ suc h → ⊥) → old_over H F r ≡ joined H (old_over H F (first h r)) (old_over H F (behind h r))
+  old_over-split r h more most part = cut_over-split H _ r h more most (not_nothing r (omega arith)) (λ full _. part full)
 
-  pub old_over_parts : (a n : ℕ) → 1 < n → (IsFull n → ⊥) → old_over H F a n ≡ joined H (old_over H F a (front_of n)) (old_over H F (a + front_of n) (n - front_of n))
-  old_over_parts a n more part = cut_over_parts H F (H []) 0 0 a n more (λ _ e. omega arith) (λ full _. part full)
+  pub old_over_parts : (r : Range) → 1 < r.count → (IsFull r.count → ⊥) → old_over H F r ≡ joined H (old_over H F (front_part r)) (old_over H F (rest_part r))
+  old_over_parts r more part = cut_over_parts H _ r more (not_nothing r (omega arith)) (λ full _. part full)
 
 -- the root over a range of more than 2 ^ h leaves, and at most twice as many
 pub root_over_split : (H : List ℕ → List ℕ) (ds : List (List ℕ)) (h a n : ℕ) → 2 ^ h < n → n ≤ 2 ^ suc h → a + n ≤ length ds
@@ -71,20 +85,21 @@ own_over : (H : List ℕ → List ℕ) (ds : List (List ℕ)) (k c : ℕ) → c 
 own_over H ds k c fits = let at = over_at k c in rw (at.0, at.1, le-leb ((c + 1) * 2 ^ k) (length ds) (omega arith)) refl
 
 -- over a log's own digests, with the target's own digest, the cut root is the plain root
-pub own_at : (H : List ℕ → List ℕ) (ds : List (List ℕ)) (x : List ℕ) (s w h c a n : ℕ) → x ≡ root_over H ds s w → a ≡ c * 2 ^ h
-    → 0 < n → n ≤ 2 ^ h → a + n ≤ length ds → cut_over H (own_digest H ds) x s w a n ≡ Some (root_over H ds a n)
+pub own_at : (H : List ℕ → List ℕ) (ds : List (List ℕ)) (x : List ℕ) (t r : Range) (h c : ℕ) → x ≡ root_over H ds t.start t.count → r.start ≡ c * 2 ^ h
+    → 0 < r.count → r.count ≤ 2 ^ h → r.start + r.count ≤ length ds
+    → cut_over H (record { held = own_digest H ds; target = t; digest = x }) r ≡ Some (root_over H ds r.start r.count)
 unfolding top_of
-own_at H ds x s w h c a n own start = ways s w 0 (λ a n way. a + n ≤ length ds → top_of H (own_digest H ds) x way ≡ Some (root_over H ds a n)) (record {
+own_at H ds x t r h c own start = ways t 0 (λ r way. r.start + r.count ≤ length ds → top_of H (own_digest H ds) x way ≡ Some (root_over H ds r.start r.count)) (record {
   target = λ _ _. ap Some own;
   node = λ k c a start fits. let at : a ≡ c * 2 ^ k = omega arith in rw at (own_over H ds k c (omega arith));
-  parts = λ h a n left right more most _ l r fits. rw (l (omega arith), r (omega arith)) (ap Some (sym (root_over_split H ds h a n more most fits)));
-}) h c a n (omega arith)
+  parts = λ h r left right more most _ p q fits. rw (p (omega arith), q (omega arith)) (ap Some (sym (root_over_split H ds h r.start r.count more most fits)));
+}) h c r (omega arith)
 
 -- over a log's own digests, with the node's own digest, the cut root is the plain root
 pub cut_root_own : (H : List ℕ → List ℕ) (ds : List (List ℕ)) (t n : ℕ) (x : List ℕ) → x ≡ root_of H (leaves_below t ds) → 0 < n → n ≤ length ds
     → cut_root H (own_digest H ds) t x n ≡ Some (root_of H (take n ds))
-cut_root_own H ds t n x own some fits = own_at H ds x (start_of t) (2 ^ height_of t) n 0 0 n own (omega arith) some (omega (arith, below_pow)) (omega arith)
+cut_root_own H ds t n x own some fits = own_at H ds x (range_of t) (leaves_from 0 n) n 0 own (omega arith) some (omega (arith, below_pow)) (omega arith)
 
 -- over a log's own digests, the old root is the plain root: no leaves have the digest of no bytes
 pub old_root_own : (H : List ℕ → List ℕ) (ds : List (List ℕ)) (m : ℕ) → 0 < m → m ≤ length ds → old_root H (own_digest H ds) m ≡ Some (root_of H (take m ds))
-old_root_own H ds m some fits = own_at H ds (H []) 0 0 m 0 0 m refl (omega arith) some (omega (arith, below_pow)) (omega arith)
+old_root_own H ds m some fits = own_at H ds (H []) nothing (leaves_from 0 m) m 0 refl (omega arith) some (omega (arith, below_pow)) (omega arith)

@@ -6,11 +6,11 @@ use Rattle.warg_log.specs.declared.node.Node.{Node}
 use Rattle.warg_log.specs.Claims.{same_node}
 use Rattle.std.proofs.lemmas.Nat.{pow_pos}
 use Rattle.warg_protobuf.proofs.ForCallers.{all_weaken}
-use Rattle.warg_log.specs.Nodes.{IsNode, ExistsAt, height_of, place_of, start_of, end_of, node_over, balanced_over, balanced_roots}
+use Rattle.warg_log.specs.Nodes.{IsNode, ExistsAt, height_of, place_of, end_of, node_over, balanced_over, balanced_roots}
 use Rattle.warg_crypto.specs.Tree.{branch}
-use Rattle.warg_log.specs.Ranges.{IsAligned}
+use Rattle.warg_log.specs.Ranges.{Range, leaves_from, range_of, front_part, rest_part, IsAligned}
 use Rattle.warg_log.specs.Tree.{front_of, root_over, own_digest}
-use Rattle.warg_log.specs.Cut.{is_target, joined, Way, at_target, at_node, at_parts, top_of, cut_over, cut_root, old_over, IsFull}
+use Rattle.warg_log.specs.Cut.{Evaluation, with_own, is_target, joined, Way, at_target, at_node, at_parts, top_of, cut_over, cut_root, old_over, IsFull}
 use Rattle.warg_log.specs.Walks.{needed, needed_between}
 use Rattle.warg_log.specs.Consistency.{consistency, IsConsistent}
 use Rattle.warg_log.specs.Inclusion.{inclusion}
@@ -34,8 +34,16 @@ below_pow = powers.below_pow
 pub pow_below_pow : (a b : ℕ) → 2 ^ a < 2 ^ b → a < b
 pow_below_pow = nodes.pow_below_pow
 
+-- a range is known by where it starts and by its count
+pub same_range : (r t : Range) → r.start ≡ t.start → r.count ≡ t.count → r ≡ t
+same_range = ways.same_range
+
+-- the range misses the target
+abbrev pub IsBeside : Range → Range → Type 0
+IsBeside t r = (r.start + r.count ≤ t.start) ⊎ (t.start + t.count ≤ r.start)
+
 -- whether a range is the target
-pub target_decides : (s w a n : ℕ) → Decides (is_target s w a n) ((a ≡ s) × (n ≡ w))
+pub target_decides : (t r : Range) → Decides (is_target t r) (r ≡ t)
 target_decides = ways.target_decides
 
 -- a number is the node of one height and one place
@@ -78,24 +86,24 @@ balanced_parts a n more part =
     rw f.1 (balanced.balanced_first f.0 a n (omega (arith, f.2)) (grind (arith, f.3, λ (e : n ≡ 2 ^ suc f.0). part (suc f.0, e))))
 
 -- the cut root of the target is the digest in its place
-pub cut_target : (H : List ℕ → List ℕ) (F : ℕ → Option (List ℕ)) (x : List ℕ) (s w : ℕ) → cut_over H F x s w s w ≡ Some x
+pub cut_target : (H : List ℕ → List ℕ) (e : Evaluation) → cut_over H e e.target ≡ Some e.digest
 cut_target = cuts.cut_over_target
 
 -- the cut root of a range that isn't read is the branch over those of its parts
-pub cut_parts : (H : List ℕ → List ℕ) (F : ℕ → Option (List ℕ)) (x : List ℕ) (s w a n : ℕ) → 1 < n → (a ≡ s → n ≡ w → ⊥) → (IsFull n → (a + n ≤ s) ⊎ (s + w ≤ a) → ⊥)
-    → cut_over H F x s w a n ≡ joined H (cut_over H F x s w a (front_of n)) (cut_over H F x s w (a + front_of n) (n - front_of n))
-cut_parts H F x s w a n more other apart = cuts.cut_over_parts H F x s w a n more other (λ full beside. apart full (ways.is_beside_so s w a n beside))
+pub cut_parts : (H : List ℕ → List ℕ) (e : Evaluation) (r : Range) → 1 < r.count → (r ≡ e.target → ⊥) → (IsFull r.count → IsBeside e.target r → ⊥)
+    → cut_over H e r ≡ joined H (cut_over H e (front_part r)) (cut_over H e (rest_part r))
+cut_parts H e r more other apart = cuts.cut_over_parts H e r more other (λ full beside. apart full (ways.is_beside_so e.target r beside))
 
 -- the cut root of a range that misses the target is its old root
-pub cut_old : (H : List ℕ → List ℕ) (F : ℕ → Option (List ℕ)) (x : List ℕ) (s w a n : ℕ) → 0 < w → 0 < n → (a + n ≤ s) ⊎ (s + w ≤ a) → cut_over H F x s w a n ≡ old_over H F a n
+pub cut_old : (H : List ℕ → List ℕ) (e : Evaluation) (r : Range) → 0 < e.target.count → 0 < r.count → IsBeside e.target r → cut_over H e r ≡ old_over H e.held r
 unfolding top_of
-cut_old H F x s w a n target some = ways.ways_from s w a (λ a n way. ways.IsBeside s w a n → top_of H F x way ≡ old_over H F a n) (record {
+cut_old H e r target some = ways.ways_from e.target r.start (λ r way. IsBeside e.target r → top_of H e.held e.digest way ≡ old_over H e.held r) (record {
   target = λ leaves beside. absurd (omega arith);
-  node = λ k c a _ _. sym (cuts.old_over_full H F a (2 ^ k) (pow_pos k) (k, refl));
-  parts = λ h a n left right more most apart l r beside.
-      rw (l (ways.front_missed s w a n (2 ^ h) (omega arith) beside), r (ways.rest_missed s w a n (2 ^ h) (omega arith) beside))
-      (sym (cuts.old_over-split H F h a n more most (λ e. apart e beside)));
-}) n some
+  node = λ k c a _ _. sym (cuts.old_over_full H e.held (leaves_from a (2 ^ k)) (pow_pos k) (k, refl));
+  parts = λ h r left right more most apart p q beside.
+      rw (p (ways.front_missed e.target r (2 ^ h) (omega arith) beside), q (ways.rest_missed e.target r (2 ^ h) (omega arith) beside))
+      (sym (cuts.old_over-split H e.held r h more most (λ f. apart f beside)));
+}) r.count some
 
 -- a cut root is one of the digests
 joined_is_branch : (H : List ℕ → List ℕ) (p q : Option (List ℕ)) (r : List ℕ) → joined H p q ≡ Some r → (m : List ℕ) × (H m ≡ r)
@@ -111,28 +119,28 @@ top_of-size H F x gives holds own (at_node t) r e = holds t r e
 top_of-size H F x gives holds own (at_parts misses left right) r e = let p = joined_is_branch H (top_of H F x left) (top_of H F x right) r e in rw (← p.1) (gives p.0)
 
 -- where all digests have 32 bytes, so has each cut root
-pub cut_size : (H : List ℕ → List ℕ) (F : ℕ → Option (List ℕ)) (x : List ℕ) (s w a n : ℕ) (r : List ℕ) → ((m : List ℕ) → length (H m) ≡ 32)
-    → ((t : ℕ) (d : List ℕ) → F t ≡ Some d → length d ≡ 32) → length x ≡ 32 → cut_over H F x s w a n ≡ Some r → length r ≡ 32
-cut_size H F x s w a n r gives holds own = top_of-size H F x gives holds own _ r
+pub cut_size : (H : List ℕ → List ℕ) (e : Evaluation) (r : Range) (root : List ℕ) → ((m : List ℕ) → length (H m) ≡ 32)
+    → ((t : ℕ) (d : List ℕ) → e.held t ≡ Some d → length d ≡ 32) → length e.digest ≡ 32 → cut_over H e r ≡ Some root → length root ≡ 32
+cut_size H e r root gives holds own = top_of-size H e.held e.digest gives holds own _ root
 
 -- over a log's own digests the cut root of a range of its recursion is the root over it
-pub cut_own_range : (H : List ℕ → List ℕ) (ds : List (List ℕ)) (s w a n : ℕ) → 0 < n → IsAligned a n → a + n ≤ length ds
-    → cut_over H (own_digest H ds) (root_over H ds s w) s w a n ≡ Some (root_over H ds a n)
-cut_own_range H ds s w a n some aligned = cuts.own_at H ds _ s w aligned.height aligned.place a n refl aligned.start some aligned.most
+pub cut_own_range : (H : List ℕ → List ℕ) (ds : List (List ℕ)) (t r : Range) → 0 < r.count → IsAligned r.start r.count → r.start + r.count ≤ length ds
+    → cut_over H (with_own H ds t) r ≡ Some (root_over H ds r.start r.count)
+cut_own_range H ds t r some aligned = cuts.own_at H ds _ t r aligned.height aligned.place refl aligned.start some aligned.most
 
 -- the old root of a power of two of leaves is the digest that is held for them
-pub old_full : (H : List ℕ → List ℕ) (F : ℕ → Option (List ℕ)) (a n : ℕ) → IsFull n → old_over H F a n ≡ F (node_over a n)
-old_full H F a n full = let some : 0 < n = rw full.1 (pow_pos full.0) in cuts.old_over_full H F a n some full
+pub old_full : (H : List ℕ → List ℕ) (F : ℕ → Option (List ℕ)) (r : Range) → IsFull r.count → old_over H F r ≡ F (node_over r.start r.count)
+old_full H F r full = cuts.old_over_full H F r (rw full.1 (pow_pos full.0)) full
 
 -- the old root of other leaves is the branch over those of the two parts
-pub old_parts : (H : List ℕ → List ℕ) (F : ℕ → Option (List ℕ)) (a n : ℕ) → 1 < n → (IsFull n → ⊥)
-    → old_over H F a n ≡ joined H (old_over H F a (front_of n)) (old_over H F (a + front_of n) (n - front_of n))
+pub old_parts : (H : List ℕ → List ℕ) (F : ℕ → Option (List ℕ)) (r : Range) → 1 < r.count → (IsFull r.count → ⊥)
+    → old_over H F r ≡ joined H (old_over H F (front_part r)) (old_over H F (rest_part r))
 old_parts = cuts.old_over_parts
 
 -- over a log's own digests the old root of a range of its recursion is the root over it
-pub old_own_range : (H : List ℕ → List ℕ) (ds : List (List ℕ)) (a n : ℕ) → 0 < n → IsAligned a n → a + n ≤ length ds
-    → old_over H (own_digest H ds) a n ≡ Some (root_over H ds a n)
-old_own_range H ds a n some aligned = cuts.own_at H ds _ 0 0 aligned.height aligned.place a n refl aligned.start some aligned.most
+pub old_own_range : (H : List ℕ → List ℕ) (ds : List (List ℕ)) (r : Range) → 0 < r.count → IsAligned r.start r.count → r.start + r.count ≤ length ds
+    → old_over H (own_digest H ds) r ≡ Some (root_over H ds r.start r.count)
+old_own_range H ds r some aligned = cuts.own_at H ds _ cuts.nothing r aligned.height aligned.place refl aligned.start some aligned.most
 
 -- an inclusion proof leads to a root exactly if its node exists and this is the cut root
 pub inclusion_leads : (H : List ℕ → List ℕ) (F : ℕ → Option (List ℕ)) (p : InclusionClaim) (x root : List ℕ)
@@ -149,7 +157,7 @@ consistency_then = evaluations.consistency-then
 
 -- the needed nodes exist at the length
 pub needed_exist : (t n : ℕ) → 0 < n → AllByRecursion (λ x. ExistsAt x n) (needed t n)
-needed_exist t n some = all_weaken (orders.Lies 0 n) _ (λ x p. p.1) (needed t n) (orders.needed_within (start_of t) (2 ^ height_of t) n some).lie
+needed_exist t n some = all_weaken (orders.Lies 0 n) _ (λ x p. p.1) (needed t n) (orders.needed_within (range_of t) n some).lie
 
 -- the balanced roots of a length exist at it
 pub roots_exist : (n : ℕ) → AllByRecursion (λ t. end_of t ≤ n) (balanced_roots n)

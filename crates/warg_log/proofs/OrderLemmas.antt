@@ -8,36 +8,37 @@ use Rattle.std.proofs.lemmas.List.{length-append, append-nil}
 use Rattle.std.proofs.lemmas.Bool.{ne_eqb, eq-eqb, cond_both, cases_lt, cases_eq}
 use Rattle.std.proofs.lemmas.Nat.{pow_pos, pow-add, shl-shr, shr-shr, le-div, div_below}
 use Rattle.warg_log.specs.Nodes.{height_of, start_of, end_of, sibling_place, node_over, number_of, balanced_within, balanced_over, balanced_roots}
-use Rattle.warg_log.specs.Cut.{Way, at_target, at_node, at_parts, way_over, is_beside}
+use Rattle.warg_log.specs.Ranges.{Range, leaves_from}
+use Rattle.warg_log.specs.Cut.{Way, at_target, at_node, at_parts, way_over, is_beside, IsFull}
 use Rattle.warg_log.specs.Walks.{read_on, needed_over, siblings_up}
 use Rattle.warg_protobuf.proofs.ForCallers.{all_append, all_weaken}
 use Rattle.warg_log.proofs.RootLemmas.{same_power}
 use Rattle.warg_log.proofs.BalancedLemmas.{balanced_none, balanced_first, balanced_full, roots}
-use Rattle.warg_log.proofs.WayLemmas.{IsBeside, beside_decides, beside_false, missed, front_missed, rest_missed, way_over_target, way_over-read, way_over-split, ways_from}
+use Rattle.warg_log.proofs.WayLemmas.{first, IsBeside, beside_decides, beside_false, missed, front_missed, rest_missed, way_over_target, way_over-read, way_over-split, ways_from}
 use Rattle.warg_log.proofs.NodeLemmas.{over_at, over_ends, pow_below_pow}
 
 pub reverse-cons : (xs : List ℕ) (x : ℕ) → reverse (x ∷ xs) ≡ reverse xs ++ x ∷ []
 reverse-cons xs x = reverse_onto xs x []
 
 -- the way down a power of two of leaves that miss the target, which needs its own node
-way_over-beside : (s w h a : ℕ) → IsBeside s w a (2 ^ h) → way_over s w a (2 ^ h) ≡ at_node (node_over a (2 ^ h))
-way_over-beside s w h a beside = way_over-read s w a (2 ^ h) (missed s w a (2 ^ h) (pow_pos h) beside) (inr ((h, refl), beside))
+way_over-beside : (t r : Range) → IsFull r.count → IsBeside t r → way_over t r ≡ at_node (node_over r.start r.count)
+way_over-beside t r full beside = way_over-read t r (missed t r (rw full.1 (pow_pos full.0)) beside) (inr (full, beside))
 
-pub need_full : (s w h a : ℕ) → IsBeside s w a (2 ^ h) → needed_over s w a (2 ^ h) ≡ node_over a (2 ^ h) ∷ []
+pub need_full : (t r : Range) → IsFull r.count → IsBeside t r → needed_over t r ≡ node_over r.start r.count ∷ []
 unfolding read_on
-need_full s w h a beside = ap read_on (way_over-beside s w h a beside)
+need_full t r full beside = ap read_on (way_over-beside t r full beside)
 
 -- of leaves that miss the target the balanced roots are needed, from right to left
-pub need_beside_roots : (s w a n : ℕ) → 0 < n → IsBeside s w a n → needed_over s w a n ≡ reverse (balanced_over a n)
+pub need_beside_roots : (t : Range) (a n : ℕ) → 0 < n → IsBeside t (leaves_from a n) → needed_over t (leaves_from a n) ≡ reverse (balanced_over a n)
 unfolding read_on
-need_beside_roots s w a n some = ways_from s w a (λ a n way. IsBeside s w a n → read_on way ≡ reverse (balanced_over a n)) (record {
+need_beside_roots t a n some = ways_from t a (λ r way. IsBeside t r → read_on way ≡ reverse (balanced_over r.start r.count)) (record {
   target = λ leaves beside. absurd (omega arith);
   node = λ k c a _ _. sym (ap (λ l. reverse l) (balanced_full k a));
-  parts = λ h a n left right more most apart l r beside.
-      let part : n ≡ 2 ^ suc h → ⊥ = λ e. apart e beside in
-      let front = front_missed s w a n (2 ^ h) (omega arith) beside in
-      rw ((beside_decides s w a (2 ^ h)).1 front, l front, r (rest_missed s w a n (2 ^ h) (omega arith) beside), balanced_full h a, balanced_first h a n (omega arith) (omega arith))
-      (sym (reverse-cons (balanced_over (a + 2 ^ h) (n - 2 ^ h)) (node_over a (2 ^ h))));
+  parts = λ h r left right more most apart p q beside.
+      let part : r.count ≡ 2 ^ suc h → ⊥ = λ e. apart e beside in
+      let front = front_missed t r (2 ^ h) (omega arith) beside in
+      rw ((beside_decides t (first h r)).1 front, p front, q (rest_missed t r (2 ^ h) (omega arith) beside), balanced_full h r.start, balanced_first h r.start r.count (omega arith) (omega arith))
+      (sym (reverse-cons (balanced_over (r.start + 2 ^ h) (r.count - 2 ^ h)) (node_over r.start (2 ^ h))));
 }) n some
 
 -- the range of the node that stands d heights above the j-th one of height k
@@ -48,9 +49,13 @@ above d k j =
     let high : (j + 1) * 2 ^ k ≤ (j / 2 ^ d * 2 ^ d + 2 ^ d) * 2 ^ k = mul-le-mul_right (2 ^ k) (let le : j + 1 ≤ j / 2 ^ d * 2 ^ d + 2 ^ d = omega arith in le) in
     rw (pow-add 2 k d) (omega arith, omega arith)
 
+-- the leaves below the j-th node of height k
+abbrev pub block : ℕ → ℕ → Range
+block k j = leaves_from (j * 2 ^ k) (2 ^ k)
+
 -- it is a given one, where that begins at or before the j-th of height k, and doesn't miss it
 pub lies_in_first : (k j h c n : ℕ) → n < 2 ^ suc h → c * 2 ^ h ≤ j * 2 ^ k → j * 2 ^ k + 2 ^ k ≤ c * 2 ^ h + n
-    → (IsBeside (j * 2 ^ k) (2 ^ k) (c * 2 ^ h) (2 ^ h) → ⊥) → (k ≤ h) × (j / 2 ^ (h - k) ≡ c)
+    → (IsBeside (block k j) (block h c) → ⊥) → (k ≤ h) × (j / 2 ^ (h - k) ≡ c)
 lies_in_first k j h c n high starts ends inside =
     let low = pow_below_pow k (suc h) (omega arith) in
     let sum : k + (h - k) ≡ h = omega arith in
@@ -61,36 +66,36 @@ lies_in_first k j h c n high starts ends inside =
 abbrev pub up : ℕ → ℕ → Way → Way
 up h i way = if i % 2 == 0 then at_parts false way (at_node (number_of h (sibling_place i))) else at_parts true (at_node (number_of h (sibling_place i))) way
 
-way_up : (s w h i : ℕ) → 0 < w → i * 2 ^ h ≤ s → s + w ≤ i * 2 ^ h + 2 ^ h → way_over s w (i / 2 * 2 ^ suc h) (2 ^ suc h) ≡ up h i (way_over s w (i * 2 ^ h) (2 ^ h))
-way_up s w h i some low high =
-    let split = λ (a : ℕ). way_over-split s w h a (2 ^ suc h) (omega (arith, pow-suc, pow_pos)) (omega arith) (λ _ e. omega (arith, pow-suc)) in
+way_up : (t : Range) (h i : ℕ) → 0 < t.count → i * 2 ^ h ≤ t.start → t.start + t.count ≤ i * 2 ^ h + 2 ^ h → way_over t (block (suc h) (i / 2)) ≡ up h i (way_over t (block h i))
+way_up t h i some low high =
+    let split = λ (a : ℕ). way_over-split t (leaves_from a (2 ^ suc h)) h (omega (arith, pow-suc, pow_pos)) (omega arith) (λ same. omega (arith, pow-suc, ap (λ (x : Range). x.count) same)) in
     let wide = ap (λ p. i / 2 * p) (pow-suc 2 h) in
     ⊎_elim
     (λ (even : i % 2 ≡ 0).
     let half = ap (λ m. m * 2 ^ h) (let is : i ≡ 2 * (i / 2) = omega arith in is) in
     let first = split (i * 2 ^ h) (λ _ b. omega (arith, pow-suc)) in
-    rw (eq-eqb (i % 2) 0 even) (grind (arith, half, wide, pow-suc 2 h, first, beside_false s w (i * 2 ^ h) (2 ^ h) (λ b. omega arith), way_over-beside s w h ((i + 1) * 2 ^ h) (inr (omega arith)))))
+    rw (eq-eqb (i % 2) 0 even) (grind (arith, half, wide, pow-suc 2 h, first, beside_false t (block h i) (λ b. omega arith), way_over-beside t (block h (i + 1)) (h, refl) (inr (omega arith)))))
     (λ (odd : i % 2 ≡ 0 → ⊥).
     let less : i - 1 + 1 ≡ i = omega arith in
     let half = ap (λ m. m * 2 ^ h) (let is : i ≡ 2 * (i / 2) + 1 = omega arith in is) in
     let next : (i - 1) * 2 ^ h + 2 ^ h ≡ i * 2 ^ h = omega (arith, ap (λ m. m * 2 ^ h) less) in
-    let beside : IsBeside s w ((i - 1) * 2 ^ h) (2 ^ h) = inl (rw next low) in
+    let beside : IsBeside t (block h (i - 1)) = inl (rw next low) in
     let first = split ((i - 1) * 2 ^ h) (λ _ b. omega (arith, pow-suc, next)) in
-    rw (ne_eqb (i % 2) 0 odd) (grind (arith, half, next, wide, pow-suc 2 h, first, (beside_decides s w ((i - 1) * 2 ^ h) (2 ^ h)).1 beside, way_over-beside s w h ((i - 1) * 2 ^ h) beside)))
+    rw (ne_eqb (i % 2) 0 odd) (grind (arith, half, next, wide, pow-suc 2 h, first, (beside_decides t (block h (i - 1))).1 beside, way_over-beside t (block h (i - 1)) (h, refl) beside)))
     (cases_eq (i % 2) 0)
 
 -- P holds of the way to the j-th node of height k from each node above it where it holds at that node and, if it does at one, at the next
 pub climb : (k j : ℕ) (P : ℕ → Way → Type 0) → P 0 at_target → ((d : ℕ) (way : Way) → P d way → P (suc d) (up (k + d) (j / 2 ^ d) way))
-    → (d : ℕ) → P d (way_over (j * 2 ^ k) (2 ^ k) (j / 2 ^ d * 2 ^ (k + d)) (2 ^ (k + d)))
-climb k j P here step zero = let same : j / 2 ^ 0 ≡ j = omega arith in rw (same, add-zero, way_over_target) here
+    → (d : ℕ) → P d (way_over (block k j) (block (k + d) (j / 2 ^ d)))
+climb k j P here step zero = let same : j / 2 ^ 0 ≡ j = omega arith in rw (same, add-zero, way_over_target (block k j)) here
 climb k j P here step (suc d) =
     let next : k + suc d ≡ suc (k + d) = omega arith in
     let half : j / 2 ^ suc d ≡ j / 2 ^ d / 2 = let next : suc d ≡ d + 1 = omega arith in rw next (sym (shr-shr j d 1)) in
     let at = above d k j in
-    rw (next, half, way_up (j * 2 ^ k) (2 ^ k) (k + d) (j / 2 ^ d) (pow_pos k) at.0 at.1) (step d _ (climb k j P here step d))
+    rw (next, half, way_up (block k j) (k + d) (j / 2 ^ d) (pow_pos k) at.0 at.1) (step d _ (climb k j P here step d))
 
 -- around the target, in the range of the node above it, the siblings on the way up are needed
-need_around : (d k j : ℕ) → needed_over (j * 2 ^ k) (2 ^ k) (j / 2 ^ d * 2 ^ (k + d)) (2 ^ (k + d)) ≡ siblings_up d k j
+need_around : (d k j : ℕ) → needed_over (block k j) (block (k + d) (j / 2 ^ d)) ≡ siblings_up d k j
 unfolding read_on
 need_around d k j = climb k j (λ d way. read_on way ≡ siblings_up d k j) refl
     (λ d way is. cond_both (j / 2 ^ d % 2 == 0) _ _ (λ w. read_on w ≡ siblings_up (suc d) k j) (λ _. rw is refl) (λ _. rw is refl)) d
@@ -100,26 +105,26 @@ pub not_power : (h k n : ℕ) → 2 ^ h < n → n < 2 ^ suc h → n ≡ 2 ^ k �
 not_power h k n low high is = let same : n ≡ 2 ^ h = same_power n h k (omega arith) (omega (arith, pow-suc)) is in omega arith
 
 -- the first balanced root misses the target: it comes last
-pub walk_beside : (k j h a n : ℕ) → 2 ^ h ≤ n → n < 2 ^ suc h → j * 2 ^ k + 2 ^ k ≤ a + n → a ≤ j * 2 ^ k → IsBeside (j * 2 ^ k) (2 ^ k) a (2 ^ h)
-    → needed_over (j * 2 ^ k) (2 ^ k) a n ≡ needed_over (j * 2 ^ k) (2 ^ k) (a + 2 ^ h) (n - 2 ^ h) ++ node_over a (2 ^ h) ∷ []
+pub walk_beside : (k j h a n : ℕ) → 2 ^ h ≤ n → n < 2 ^ suc h → j * 2 ^ k + 2 ^ k ≤ a + n → a ≤ j * 2 ^ k → IsBeside (block k j) (leaves_from a (2 ^ h))
+    → needed_over (block k j) (leaves_from a n) ≡ needed_over (block k j) (leaves_from (a + 2 ^ h) (n - 2 ^ h)) ++ node_over a (2 ^ h) ∷ []
 unfolding read_on
 walk_beside k j h a n low high ends starts front =
     let pos : 0 < 2 ^ k = pow_pos k in
     let more : 2 ^ h < n = omega arith in
-    ap read_on (way_over-split (j * 2 ^ k) (2 ^ k) h a n more (omega arith) (λ _ e. not_power h k n more high e) (λ e _. omega arith))
-    ∙ rw ((beside_decides (j * 2 ^ k) (2 ^ k) a (2 ^ h)).1 front, way_over-beside (j * 2 ^ k) (2 ^ k) h a front) refl
+    ap read_on (way_over-split (block k j) (leaves_from a n) h more (omega arith) (λ same. not_power h k n more high (ap (λ (x : Range). x.count) same)) (λ e _. omega arith))
+    ∙ rw ((beside_decides (block k j) (leaves_from a (2 ^ h))).1 front, way_over-beside (block k j) (leaves_from a (2 ^ h)) (h, refl) front) refl
 
 -- the first balanced root holds the target: the siblings come first, and then the other roots
 pub walk_around : (d k j n : ℕ) → 2 ^ (k + d) ≤ n → n < 2 ^ suc (k + d)
-    → needed_over (j * 2 ^ k) (2 ^ k) (j / 2 ^ d * 2 ^ (k + d)) n ≡ siblings_up d k j ++ reverse (balanced_over (j / 2 ^ d * 2 ^ (k + d) + 2 ^ (k + d)) (n - 2 ^ (k + d)))
+    → needed_over (block k j) (leaves_from (j / 2 ^ d * 2 ^ (k + d)) n) ≡ siblings_up d k j ++ reverse (balanced_over (j / 2 ^ d * 2 ^ (k + d) + 2 ^ (k + d)) (n - 2 ^ (k + d)))
 unfolding read_on
 walk_around d k j n low high = ⊎_elim
     (λ (more : 2 ^ (k + d) < n).
     let pos : 0 < 2 ^ k = pow_pos k in
     let at = above d k j in
-    let inside = beside_false (j * 2 ^ k) (2 ^ k) (j / 2 ^ d * 2 ^ (k + d)) (2 ^ (k + d)) (λ b. omega (arith, at)) in
-    let rest = need_beside_roots (j * 2 ^ k) (2 ^ k) (j / 2 ^ d * 2 ^ (k + d) + 2 ^ (k + d)) (n - 2 ^ (k + d)) (omega arith) (inr at.1) in
-    ap read_on (way_over-split (j * 2 ^ k) (2 ^ k) (k + d) (j / 2 ^ d * 2 ^ (k + d)) n more (omega arith) (λ _ e. not_power (k + d) k n more high e) (λ e _. omega arith))
+    let inside = beside_false (block k j) (block (k + d) (j / 2 ^ d)) (λ b. omega (arith, at)) in
+    let rest = need_beside_roots (block k j) (j / 2 ^ d * 2 ^ (k + d) + 2 ^ (k + d)) (n - 2 ^ (k + d)) (omega arith) (inr at.1) in
+    ap read_on (way_over-split (block k j) (leaves_from (j / 2 ^ d * 2 ^ (k + d)) n) (k + d) more (omega arith) (λ same. not_power (k + d) k n more high (ap (λ (x : Range). x.count) same)) (λ e _. omega arith))
     ∙ rw (inside, need_around d k j, rest) refl)
     (λ (most : n ≤ 2 ^ (k + d)).
     let full : n ≡ 2 ^ (k + d) = omega arith in
@@ -170,15 +175,15 @@ within_both a m e xs ys low high left right =
     )
 
 -- so do the needed nodes of a length, and its balanced roots
-pub needed_within : (s w n : ℕ) → 0 < n → IsWithin 0 n (needed_over s w 0 n)
+pub needed_within : (t : Range) (n : ℕ) → 0 < n → IsWithin 0 n (needed_over t (leaves_from 0 n))
 unfolding read_on IsDistinct
-needed_within s w n some = let all : 0 + n ≡ n = omega arith in rw all at (ways_from s w 0 (λ a n way. IsWithin a (a + n) (read_on way)) (record {
+needed_within t n some = let all : 0 + n ≡ n = omega arith in rw all at (ways_from t 0 (λ r way. IsWithin r.start (r.start + r.count) (read_on way)) (record {
   target = λ _. record { lie = tt; distinct = tt };
   node = λ k c a start. let at : a ≡ c * 2 ^ k = omega arith in rw at (within_one k c);
-  parts = λ h a n left right more most _ l r.
-      let end : a + 2 ^ h + (n - 2 ^ h) ≡ a + n = omega arith in
-      let both = within_both a (a + 2 ^ h) (a + n) (read_on left) (read_on right) (omega arith) (omega arith) l (rw end at r) in
-      cond_both (is_beside s w a (2 ^ h)) _ _ (IsWithin a (a + n)) (λ _. both.1) (λ _. both.0);
+  parts = λ h r left right more most _ p q.
+      let end : r.start + 2 ^ h + (r.count - 2 ^ h) ≡ r.start + r.count = omega arith in
+      let both = within_both r.start (r.start + 2 ^ h) (r.start + r.count) (read_on left) (read_on right) (omega arith) (omega arith) p (rw end at q) in
+      cond_both (is_beside t (first h r)) _ _ (IsWithin r.start (r.start + r.count)) (λ _. both.1) (λ _. both.0);
 }) n some)
 
 pub roots_within : (n : ℕ) → IsWithin 0 n (balanced_roots n)

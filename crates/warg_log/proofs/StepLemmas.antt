@@ -7,7 +7,7 @@ use Rattle.std.proofs.lemmas.List.{map_push, append-nil, length-append, length-m
 use Rattle.std.proofs.lemmas.Nat.{pow_pos, pow-add, shr-shr}
 use Rattle.warg_log.specs.declared.node.Node.{Node}
 use Rattle.warg_log.specs.Nodes.{IsNode, ExistsAt, height_of, place_of, start_of, end_of, sibling_place, node_over, number_of, balanced_over}
-use Rattle.warg_log.specs.Ranges.{IsAligned}
+use Rattle.warg_log.specs.Ranges.{leaves_from, range_of, IsAligned}
 use Rattle.warg_log.specs.Walks.{needed, needed_over, siblings_up, IsWalk, IsWalkOver}
 use Rattle.warg_protobuf.proofs.ForCallers.{all_parts}
 use Rattle.warg_log.proofs.WayLemmas.{IsBeside, is_beside_so, is_beside_true}
@@ -49,9 +49,9 @@ aligned_next a e n aligned first =
 -- the first balanced root of the leaves from a up to e, of n leaves, misses the node x
 pub record HasMissed (x a e n : ℕ) : Type 0 where
   pub later : a + n ≤ start_of x
-  pub needs : needed_over (start_of x) (2 ^ height_of x) a (e - a) ≡ needed_over (start_of x) (2 ^ height_of x) (a + n) (e - (a + n)) ++ node_over a n ∷ []
+  pub needs : needed_over (range_of x) (leaves_from a (e - a)) ≡ needed_over (range_of x) (leaves_from (a + n) (e - (a + n))) ++ node_over a n ∷ []
 
-pub missed_first : (x a e n : ℕ) → IsFirst a e n → a ≤ start_of x → end_of x ≤ e → IsBeside (start_of x) (2 ^ height_of x) a n → HasMissed x a e n
+pub missed_first : (x a e n : ℕ) → IsFirst a e n → a ≤ start_of x → end_of x ≤ e → IsBeside (range_of x) (leaves_from a n) → HasMissed x a e n
 missed_first x a e n first starts ends beside = record {
   later = omega (arith, pow_pos);
   needs = rw (first.1, sub-add-eq) (walk_beside (height_of x) (place_of x) first.0 a (e - a) first.2 (rw add-one at first.3) (omega arith) starts (rw first.1 at beside));
@@ -72,11 +72,11 @@ walk_grows x a e n initial lower upper xs ys first walk pushed = record {
 -- the first balanced root of the leaves from a up to e, of n leaves, holds the node x: it has height h
 pub record HasFound (x a e n h : ℕ) : Type 0 where
   pub low : height_of x ≤ h
-  pub needs : needed_over (start_of x) (2 ^ height_of x) a (e - a) ≡ siblings_up (h - height_of x) (height_of x) (place_of x) ++ reverse (balanced_over (a + n) (e - (a + n)))
+  pub needs : needed_over (range_of x) (leaves_from a (e - a)) ≡ siblings_up (h - height_of x) (height_of x) (place_of x) ++ reverse (balanced_over (a + n) (e - (a + n)))
   pub roots : balanced_over a (e - a) ≡ number_of (height_of x + (h - height_of x)) (place_of x / 2 ^ (h - height_of x)) ∷ balanced_over (a + n) (e - (a + n))
 
 pub found_first : (x a e n h : ℕ) → IsAligned a (e - a) → IsFirst a e n → a ≤ start_of x → end_of x ≤ e → 2 ^ h ≤ n → n < 2 * 2 ^ h
-    → (IsBeside (start_of x) (2 ^ height_of x) a n → ⊥) → HasFound x a e n h
+    → (IsBeside (range_of x) (leaves_from a n) → ⊥) → HasFound x a e n h
 found_first x a e n h aligned first starts ends below above inside =
     let width : n ≡ 2 ^ h = same_power n h first.0 below above first.1 in
     let c = root_start a e n aligned first in
@@ -93,7 +93,7 @@ found_first x a e n h aligned first starts ends below above inside =
 
 -- the siblings, and then the roots right of them
 pub record HasBegun (x a m : ℕ) (nodes : List ℕ) (i j : ℕ) : Type 0 where
-  pub needs : nodes ≡ needed_over (start_of x) (2 ^ height_of x) a m
+  pub needs : nodes ≡ needed_over (range_of x) (leaves_from a m)
   pub fits : i ≤ j
   pub walk : IsWalkOver x a m nodes i (j - i) 0
 
@@ -130,7 +130,7 @@ walk_whole x n i l j zs over count =
     (omega arith, omega arith, rw (← upper) (rw sub-zero at walk))
 
 pub needed_once : (x n : ℕ) → ExistsAt x n → IsDistinct nat_eq (needed x n)
-needed_once x n exists = (needed_within (start_of x) (2 ^ height_of x) n (omega (arith, pow_pos))).distinct
+needed_once x n exists = (needed_within (range_of x) n (omega (arith, pow_pos))).distinct
 
 -- a length of b binary digits has at most b balanced roots, and below each at most b - 1 siblings on the way up
 pub walk_most : (x n b i l upper : ℕ) (nodes : List ℕ) → IsWalkOver x 0 n nodes i l upper → n < 2 ^ b → length nodes ≤ 2 * (b - 1)

@@ -1,5 +1,5 @@
 -- The way of an evaluation down a range.
-use Rattle.std.proofs.Common.{◌≡◌, ℕ, zero, suc, ◌+◌, ◌-◌, ◌*◌, ◌^◌, ◌<◌, ◌≤◌, ◌==◌, ◌&&◌, true, false, if◌then◌else◌, refl, sym, ◌∙◌, arith, ⊎_elim, ◌⊎◌}
+use Rattle.std.proofs.Common.{◌≡◌, ℕ, zero, suc, ◌+◌, ◌-◌, ◌*◌, ◌^◌, ◌<◌, ◌≤◌, ◌==◌, ◌&&◌, true, false, if◌then◌else◌, refl, sym, ap, ◌∙◌, arith, ⊎_elim, ◌⊎◌}
 use Rattle.std.specs.Prelude.{IsTrue}
 use Rattle.std.specs.Bool.{Decides}
 use Rattle.std.proofs.Math.Nat.{pow-suc}
@@ -7,126 +7,140 @@ use Rattle.std.proofs.lemmas.Bool.{le-leb, lt-leb, leb-true, false_from_ne_true,
 use Rattle.std.proofs.lemmas.Bool.Decides.{Decides-and, Decides-or, Decides-eqb}
 use Rattle.std.proofs.lemmas.Nat.{pow_pos}
 use Rattle.warg_log.specs.Nodes.{node_over}
-use Rattle.warg_log.specs.Tree.{front_of}
+use Rattle.warg_log.specs.Ranges.{Range, leaves_from, front_part, rest_part}
 use Rattle.warg_log.specs.Cut.{is_target, is_beside, Way, at_target, at_node, at_parts, way_within, way_over, IsFull}
 use Rattle.warg_log.proofs.RootLemmas.{below_pow, settled_at, front_is}
 
+-- the first 2 ^ h leaves of a range, and those behind them
+abbrev pub first : ℕ → Range → Range
+first h r = leaves_from r.start (2 ^ h)
+
+abbrev pub behind : ℕ → Range → Range
+behind h r = leaves_from (r.start + 2 ^ h) (r.count - 2 ^ h)
+
+-- a range is known by where it starts and by its count
+pub same_range : (r t : Range) → r.start ≡ t.start → r.count ≡ t.count → r ≡ t
+same_range r t e f = ap (λ a. leaves_from a r.count) e ∙ ap (leaves_from t.start) f
+
 -- the range misses the target
-abbrev pub IsBeside : ℕ → ℕ → ℕ → ℕ → Type 0
-IsBeside s w a n = (a + n ≤ s) ⊎ (s + w ≤ a)
+abbrev pub IsBeside : Range → Range → Type 0
+IsBeside t r = (r.start + r.count ≤ t.start) ⊎ (t.start + t.count ≤ r.start)
 
 -- the tests
-pub target_decides : (s w a n : ℕ) → Decides (is_target s w a n) ((a ≡ s) × (n ≡ w))
-target_decides s w a n = Decides-and _ _ (Decides-eqb a s) (Decides-eqb n w)
+pub target_decides : (t r : Range) → Decides (is_target t r) (r ≡ t)
+target_decides t r =
+    let both = Decides-and _ _ (Decides-eqb r.start t.start) (Decides-eqb r.count t.count) in
+    (λ e. let p = both.0 e in same_range r t p.0 p.1, λ same. both.1 (ap (λ (x : Range). x.start) same, ap (λ (x : Range). x.count) same))
 
-pub beside_decides : (s w a n : ℕ) → Decides (is_beside s w a n) (IsBeside s w a n)
-beside_decides s w a n = Decides-or _ _ (leb-true (a + n) s, le-leb (a + n) s) (leb-true (s + w) a, le-leb (s + w) a)
+pub beside_decides : (t r : Range) → Decides (is_beside t r) (IsBeside t r)
+beside_decides t r = Decides-or _ _ (leb-true (r.start + r.count) t.start, le-leb (r.start + r.count) t.start) (leb-true (t.start + t.count) r.start, le-leb (t.start + t.count) r.start)
 
-read_decides : (s w h a n : ℕ) → Decides (n == 2 ^ suc h && is_beside s w a n) ((n ≡ 2 ^ suc h) × IsBeside s w a n)
-read_decides s w h a n = Decides-and _ _ (Decides-eqb n (2 ^ suc h)) (beside_decides s w a n)
+read_decides : (t r : Range) (h : ℕ) → Decides (r.count == 2 ^ suc h && is_beside t r) ((r.count ≡ 2 ^ suc h) × IsBeside t r)
+read_decides t r h = Decides-and _ _ (Decides-eqb r.count (2 ^ suc h)) (beside_decides t r)
 
-pub is_other : (s w a n : ℕ) → is_target s w a n ≡ false → a ≡ s → n ≡ w → ⊥
-is_other s w a n apart e f = false≢true (sym apart ∙ (target_decides s w a n).1 (e, f))
+pub is_other : (t r : Range) → is_target t r ≡ false → r ≡ t → ⊥
+is_other t r apart same = false≢true (sym apart ∙ (target_decides t r).1 same)
 
-target_false : (s w a n : ℕ) → (a ≡ s → n ≡ w → ⊥) → is_target s w a n ≡ false
-target_false s w a n other = false_from_ne_true (is_target s w a n) (λ e. let p = (target_decides s w a n).0 e in other p.0 p.1)
+target_false : (t r : Range) → (r ≡ t → ⊥) → is_target t r ≡ false
+target_false t r other = false_from_ne_true (is_target t r) (λ e. other ((target_decides t r).0 e))
 
-pub is_beside_true : (s w a n : ℕ) → IsBeside s w a n → IsTrue (is_beside s w a n)
-is_beside_true s w a n beside = (beside_decides s w a n).1 beside
+pub is_beside_true : (t r : Range) → IsBeside t r → IsTrue (is_beside t r)
+is_beside_true t r beside = (beside_decides t r).1 beside
 
-pub is_beside_so : (s w a n : ℕ) → IsTrue (is_beside s w a n) → IsBeside s w a n
-is_beside_so s w a n beside = (beside_decides s w a n).0 beside
+pub is_beside_so : (t r : Range) → IsTrue (is_beside t r) → IsBeside t r
+is_beside_so t r beside = (beside_decides t r).0 beside
 
-pub beside_false : (s w a n : ℕ) → (IsBeside s w a n → ⊥) → is_beside s w a n ≡ false
-beside_false s w a n inside = false_from_ne_true (is_beside s w a n) (λ e. inside ((beside_decides s w a n).0 e))
+pub beside_false : (t r : Range) → (IsBeside t r → ⊥) → is_beside t r ≡ false
+beside_false t r inside = false_from_ne_true (is_beside t r) (λ e. inside ((beside_decides t r).0 e))
 
 -- what misses the target isn't it, and no part of it is
-pub missed : (s w a n : ℕ) → 0 < n → IsBeside s w a n → a ≡ s → n ≡ w → ⊥
-missed s w a n leaves beside e f = omega arith
+pub missed : (t r : Range) → 0 < r.count → IsBeside t r → r ≡ t → ⊥
+missed t r leaves beside same = omega (arith, ap (λ (x : Range). x.start) same, ap (λ (x : Range). x.count) same)
 
-pub front_missed : (s w a n f : ℕ) → f ≤ n → IsBeside s w a n → IsBeside s w a f
-front_missed s w a n f le beside = grind arith
+pub front_missed : (t r : Range) (f : ℕ) → f ≤ r.count → IsBeside t r → IsBeside t (leaves_from r.start f)
+front_missed t r f le beside = grind arith
 
-pub rest_missed : (s w a n f : ℕ) → f ≤ n → IsBeside s w a n → IsBeside s w (a + f) (n - f)
-rest_missed s w a n f le beside = grind arith
+pub rest_missed : (t r : Range) (f : ℕ) → f ≤ r.count → IsBeside t r → IsBeside t (leaves_from (r.start + f) (r.count - f))
+rest_missed t r f le beside = grind arith
 
 -- the recursion without a height
-way_at : (s w h a n : ℕ) → n ≤ 2 ^ h → way_over s w a n ≡ way_within s w h a n
+way_at : (t : Range) (h : ℕ) (r : Range) → r.count ≤ 2 ^ h → way_over t r ≡ way_within t h r
 unfolding way_within
-way_at s w h a n le = settled_at (λ k. way_within s w k a n) n n h (λ k low. rw (le-leb n (2 ^ k) low) refl) (omega (arith, below_pow)) le
+way_at t h r le = settled_at (λ k. way_within t k r) r.count r.count h (λ k low. rw (le-leb r.count (2 ^ k) low) refl) (omega (arith, below_pow)) le
 
-way_more : (s w h a n : ℕ) → 2 ^ h < n → n ≤ 2 ^ suc h
-    → way_over s w a n ≡ (if is_target s w a n
+way_more : (t r : Range) (h : ℕ) → 2 ^ h < r.count → r.count ≤ 2 ^ suc h
+    → way_over t r ≡ (if is_target t r
     then at_target
-    else if n == 2 ^ suc h && is_beside s w a n
-    then at_node (node_over a n)
-    else at_parts (is_beside s w a (2 ^ h)) (way_over s w a (2 ^ h)) (way_over s w (a + 2 ^ h) (n - 2 ^ h)))
+    else if r.count == 2 ^ suc h && is_beside t r
+    then at_node (node_over r.start r.count)
+    else at_parts (is_beside t (first h r)) (way_over t (first h r)) (way_over t (behind h r)))
 unfolding way_within
-way_more s w h a n more most =
-    rw (way_at s w h a (2 ^ h) (omega arith), way_at s w h (a + 2 ^ h) (n - 2 ^ h) (omega (arith, pow-suc))) (way_at s w (suc h) a n most ∙ rw (lt-leb n (2 ^ h) more) refl)
+way_more t r h more most =
+    rw (way_at t h (first h r) (omega arith), way_at t h (behind h r) (omega (arith, pow-suc))) (way_at t (suc h) r most ∙ rw (lt-leb r.count (2 ^ h) more) refl)
 
 -- the target's own range
-pub way_over_target : (s w : ℕ) → way_over s w s w ≡ at_target
+pub way_over_target : (t : Range) → way_over t t ≡ at_target
 unfolding way_within
-way_over_target s w =
-    let yes : is_target s w s w ≡ true = (target_decides s w s w).1 (refl, refl) in
-    ⊎_elim (λ more. let f = front_is w more in way_more s w f.0 s w f.2 f.3 ∙ rw yes refl) (λ low. way_at s w 0 s w low ∙ rw yes refl) (cases_lt 1 w)
+way_over_target t =
+    let yes : is_target t t ≡ true = (target_decides t t).1 refl in
+    ⊎_elim (λ more. let f = front_is t.count more in way_more t t f.0 f.2 f.3 ∙ rw yes refl) (λ low. way_at t 0 t low ∙ rw yes refl) (cases_lt 1 t.count)
 
 -- a range that is read
-full_read : (s w k a : ℕ) → (a ≡ s → 2 ^ k ≡ w → ⊥) → IsBeside s w a (2 ^ k) → way_over s w a (2 ^ k) ≡ at_node (node_over a (2 ^ k))
+full_read : (t r : Range) (k : ℕ) → r.count ≡ 2 ^ k → (r ≡ t → ⊥) → IsBeside t r → way_over t r ≡ at_node (node_over r.start r.count)
 unfolding way_within
-full_read s w zero a other beside = way_at s w 0 a 1 (omega arith) ∙ rw (target_false s w a 1 other) refl
-full_read s w (suc k) a other beside =
-    way_more s w k a (2 ^ suc k) (omega (arith, pow_pos, pow-suc)) (omega arith)
-    ∙ rw (target_false s w a (2 ^ suc k) other, (read_decides s w k a (2 ^ suc k)).1 (refl, beside)) refl
+full_read t r zero width other beside = way_at t 0 r (omega arith) ∙ rw (target_false t r other) refl
+full_read t r (suc k) width other beside =
+    way_more t r k (omega (arith, pow_pos, pow-suc)) (omega arith) ∙ rw (target_false t r other, (read_decides t r k).1 (width, beside)) refl
 
-pub way_over-read : (s w a n : ℕ) → (a ≡ s → n ≡ w → ⊥) → (n ≡ 1) ⊎ (IsFull n × IsBeside s w a n) → way_over s w a n ≡ at_node (node_over a n)
+pub way_over-read : (t r : Range) → (r ≡ t → ⊥) → (r.count ≡ 1) ⊎ (IsFull r.count × IsBeside t r) → way_over t r ≡ at_node (node_over r.start r.count)
 unfolding way_within
-way_over-read s w a n other read = ⊎_elim
-    (λ one. way_at s w 0 a n (omega arith) ∙ rw (target_false s w a n other) refl)
-    (λ p. rw p.0.1 (full_read s w p.0.0 a (rw p.0.1 at other) (rw p.0.1 at p.1))) read
+way_over-read t r other read = ⊎_elim
+    (λ one. way_at t 0 r (omega arith) ∙ rw (target_false t r other) refl)
+    (λ (p : IsFull r.count × IsBeside t r). full_read t r p.0.0 p.0.1 other p.1) read
 
 -- any other range
-pub way_over-split : (s w h a n : ℕ) → 2 ^ h < n → n ≤ 2 ^ suc h → (a ≡ s → n ≡ w → ⊥) → (n ≡ 2 ^ suc h → IsBeside s w a n → ⊥)
-    → way_over s w a n ≡ at_parts (is_beside s w a (2 ^ h)) (way_over s w a (2 ^ h)) (way_over s w (a + 2 ^ h) (n - 2 ^ h))
-way_over-split s w h a n more most other apart =
-    let read : (n == 2 ^ suc h && is_beside s w a n) ≡ false = false_from_ne_true _ (λ e. let p = (read_decides s w h a n).0 e in apart p.0 p.1) in
-    way_more s w h a n more most ∙ rw (target_false s w a n other, read) refl
+pub way_over-split : (t r : Range) (h : ℕ) → 2 ^ h < r.count → r.count ≤ 2 ^ suc h → (r ≡ t → ⊥) → (r.count ≡ 2 ^ suc h → IsBeside t r → ⊥)
+    → way_over t r ≡ at_parts (is_beside t (first h r)) (way_over t (first h r)) (way_over t (behind h r))
+way_over-split t r h more most other apart =
+    let read : (r.count == 2 ^ suc h && is_beside t r) ≡ false = false_from_ne_true _ (λ e. let p = (read_decides t r h).0 e in apart p.0 p.1) in
+    way_more t r h more most ∙ rw (target_false t r other, read) refl
 
-pub way_over_parts : (s w a n : ℕ) → 1 < n → (a ≡ s → n ≡ w → ⊥) → (IsFull n → IsTrue (is_beside s w a n) → ⊥)
-    → way_over s w a n ≡ at_parts (is_beside s w a (front_of n)) (way_over s w a (front_of n)) (way_over s w (a + front_of n) (n - front_of n))
-way_over_parts s w a n more other apart =
-    let f = front_is n more in
-    rw f.1 (way_over-split s w f.0 a n f.2 f.3 other (λ width beside. apart (suc f.0, width) (is_beside_true s w a n beside)))
+pub way_over_parts : (t r : Range) → 1 < r.count → (r ≡ t → ⊥) → (IsFull r.count → IsTrue (is_beside t r) → ⊥)
+    → way_over t r ≡ at_parts (is_beside t (front_part r)) (way_over t (front_part r)) (way_over t (rest_part r))
+way_over_parts t r more other apart =
+    let f = front_is r.count more in
+    rw f.1 (way_over-split t r f.0 f.2 f.3 other (λ width beside. apart (suc f.0, width) (is_beside_true t r beside)))
 
 -- P holds of each range and the way down it where it holds of the target, of a node that is read and, if it holds of
 -- both parts, of a range that is split; the ranges begin a multiple of their width behind the leaf o
-pub record Rule (s w o : ℕ) (P : ℕ → ℕ → Way → Type 0) : Type 0 where
-  pub target : 0 < w → P s w at_target
-  pub node : (k c a : ℕ) → a ≡ o + c * 2 ^ k → P a (2 ^ k) (at_node (node_over a (2 ^ k)))
-  pub parts : (h a n : ℕ) (left right : Way) → 2 ^ h < n → n ≤ 2 ^ suc h → (n ≡ 2 ^ suc h → IsBeside s w a n → ⊥) → P a (2 ^ h) left → P (a + 2 ^ h) (n - 2 ^ h) right
-      → P a n (at_parts (is_beside s w a (2 ^ h)) left right)
+pub record Rule (t : Range) (o : ℕ) (P : Range → Way → Type 0) : Type 0 where
+  pub target : 0 < t.count → P t at_target
+  pub node : (k c a : ℕ) → a ≡ o + c * 2 ^ k → P (leaves_from a (2 ^ k)) (at_node (node_over a (2 ^ k)))
+  pub parts : (h : ℕ) (r : Range) (left right : Way) → 2 ^ h < r.count → r.count ≤ 2 ^ suc h → (r.count ≡ 2 ^ suc h → IsBeside t r → ⊥) → P (first h r) left → P (behind h r) right
+      → P r (at_parts (is_beside t (first h r)) left right)
 
-at_end : (s w o : ℕ) (P : ℕ → ℕ → Way → Type 0) → Rule s w o P → (a n : ℕ) → 0 < n → is_target s w a n ≡ true → P a n at_target
-at_end s w o P R a n some t = let p = (target_decides s w a n).0 t in rw (p.0, p.1) (R.target (rw p.1 at some))
+at_end : (t : Range) (o : ℕ) (P : Range → Way → Type 0) → Rule t o P → (r : Range) → 0 < r.count → is_target t r ≡ true → P r at_target
+at_end t o P R r some e = let same = (target_decides t r).0 e in rw same (R.target (rw same at some))
 
-pub ways : (s w o : ℕ) (P : ℕ → ℕ → Way → Type 0) → Rule s w o P → (h c a n : ℕ) → a ≡ o + c * 2 ^ h → 0 < n → n ≤ 2 ^ h → P a n (way_over s w a n)
+read_at : (t : Range) (o : ℕ) (P : Range → Way → Type 0) → Rule t o P → (k c : ℕ) (r : Range) → r.start ≡ o + c * 2 ^ k → r.count ≡ 2 ^ k → P r (at_node (node_over r.start r.count))
+read_at t o P R k c r start width = let same : r ≡ leaves_from r.start (2 ^ k) = ap (leaves_from r.start) width in rw same (R.node k c r.start start)
+
+pub ways : (t : Range) (o : ℕ) (P : Range → Way → Type 0) → Rule t o P → (h c : ℕ) (r : Range) → r.start ≡ o + c * 2 ^ h → 0 < r.count → r.count ≤ 2 ^ h → P r (way_over t r)
 unfolding way_within
-ways s w o P R zero c a n start some most =
-    let one : n ≡ 2 ^ 0 = omega arith in
-    rw (way_at s w 0 a n most) (cond_both (is_target s w a n) at_target (at_node (node_over a n)) (P a n) (at_end s w o P R a n some) (λ _. rw one (R.node 0 c a start)))
-ways s w o P R (suc h) c a n start some most =
+ways t o P R zero c r start some most =
+    rw (way_at t 0 r most) (cond_both (is_target t r) at_target (at_node (node_over r.start r.count)) (P r) (at_end t o P R r some) (λ _. read_at t o P R 0 c r start (omega arith)))
+ways t o P R (suc h) c r start some most =
     let twice : 2 ^ suc h ≡ 2 ^ h * 2 = pow-suc 2 h in
-    let at_left : a ≡ o + 2 * c * 2 ^ h = start ∙ rw twice (omega arith) in
+    let at_left : r.start ≡ o + 2 * c * 2 ^ h = start ∙ rw twice (omega arith) in
     ⊎_elim
-    (λ more. rw (way_more s w h a n more most) (cond_both (is_target s w a n) _ _ (P a n) (at_end s w o P R a n some) (λ _.
-    cond_both (n == 2 ^ suc h && is_beside s w a n) _ _ (P a n)
-    (λ r. let full : n ≡ 2 ^ suc h = ((read_decides s w h a n).0 r).0 in rw full (R.node (suc h) c a start))
-    (λ r. R.parts h a n _ _ more most (λ e b. false≢true (sym r ∙ (read_decides s w h a n).1 (e, b)))
-    (ways s w o P R h (2 * c) a (2 ^ h) at_left (pow_pos h) (omega arith))
-    (ways s w o P R h (2 * c + 1) (a + 2 ^ h) (n - 2 ^ h) (omega arith) (omega arith) (omega arith))))))
-    (λ low. ways s w o P R h (2 * c) a n at_left some low)
-    (cases_lt (2 ^ h) n)
+    (λ more. rw (way_more t r h more most) (cond_both (is_target t r) _ _ (P r) (at_end t o P R r some) (λ _.
+    cond_both (r.count == 2 ^ suc h && is_beside t r) _ _ (P r)
+    (λ e. read_at t o P R (suc h) c r start ((read_decides t r h).0 e).0)
+    (λ e. R.parts h r _ _ more most (λ f b. false≢true (sym e ∙ (read_decides t r h).1 (f, b)))
+    (ways t o P R h (2 * c) (first h r) at_left (pow_pos h) (omega arith))
+    (ways t o P R h (2 * c + 1) (behind h r) (omega arith) (omega arith) (omega arith))))))
+    (λ low. ways t o P R h (2 * c) r at_left some low)
+    (cases_lt (2 ^ h) r.count)
 
-pub ways_from : (s w o : ℕ) (P : ℕ → ℕ → Way → Type 0) → Rule s w o P → (n : ℕ) → 0 < n → P o n (way_over s w o n)
-ways_from s w o P R n some = ways s w o P R n 0 o n (omega arith) some (omega (arith, below_pow))
+pub ways_from : (t : Range) (o : ℕ) (P : Range → Way → Type 0) → Rule t o P → (n : ℕ) → 0 < n → P (leaves_from o n) (way_over t (leaves_from o n))
+ways_from t o P R n some = ways t o P R n 0 (leaves_from o n) (omega arith) some (omega (arith, below_pow))

@@ -1,21 +1,27 @@
--- The tree with a digest put in the place of one node, from the digests of other nodes. A range is
--- given by its first leaf a and its count n of leaves, the target by s and w. F has a digest for some
--- of the nodes.
+-- The tree with a digest put in the place of one node, the target, from the digests of other nodes.
 use Rattle.std.specs.Prelude.{◌≡◌, ℕ, zero, suc, ◌+◌, ◌-◌, ◌^◌, Bool, ◌&&◌, ◌||◌, ◌==◌, nat_le, if◌then◌else◌, List, [], Option, Some}
-use Rattle.warg_log.specs.Nodes.{height_of, start_of, node_over}
+use Rattle.warg_log.specs.Nodes.{node_over}
+use Rattle.warg_log.specs.Ranges.{Range, leaves_from, range_of}
+use Rattle.warg_log.specs.Tree.{root_over, own_digest}
 use Rattle.warg_crypto.specs.Tree.{branch, where_both}
 
 -- The digest of a branch, where both its parts have one.
 abbrev pub joined : (List ℕ → List ℕ) → Option (List ℕ) → Option (List ℕ) → Option (List ℕ)
 joined H = where_both (branch H)
 
+-- What an evaluation goes by: the digests that are held for some nodes, the target, and the digest in its place.
+pub record Evaluation : Type 0 where
+  pub held : ℕ → Option (List ℕ)
+  pub target : Range
+  pub digest : List ℕ
+
 -- The range is the target.
-abbrev pub is_target : ℕ → ℕ → ℕ → ℕ → Bool
-is_target s w a n = a == s && n == w
+abbrev pub is_target : Range → Range → Bool
+is_target target range = range.start == target.start && range.count == target.count
 
 -- The range misses the target.
-abbrev pub is_beside : ℕ → ℕ → ℕ → ℕ → Bool
-is_beside s w a n = nat_le (a + n) s || nat_le (s + w) a
+abbrev pub is_beside : Range → Range → Bool
+is_beside target range = nat_le (range.start + range.count) target.start || nat_le (target.start + target.count) range.start
 
 -- How an evaluation goes down a range: the range is the target, or a node whose digest is read, or it has
 -- two parts. Of these it says whether the first one misses the target.
@@ -28,35 +34,44 @@ pub data Way : Type 0 where
 -- the target and has a power of two of leaves is read, and any other but the target is split behind its
 -- first leaves, as many as the greatest power of two below its count. `laws::cut_target`, `cut_beside` and
 -- `cut_parts` state this recursion, and `needed_target`, `needed_beside` and `needed_parts` what it reads.
-unfoldable pub way_within : ℕ → ℕ → ℕ → ℕ → ℕ → Way
-way_within s w zero a n = if is_target s w a n then at_target else at_node (node_over a n)
-way_within s w (suc h) a n =
-    if nat_le n (2 ^ h)
-    then way_within s w h a n
-    else if is_target s w a n
+unfoldable pub way_within : Range → ℕ → Range → Way
+way_within target zero range = if is_target target range then at_target else at_node (node_over range.start range.count)
+way_within target (suc h) range =
+    let front = leaves_from range.start (2 ^ h) in
+    if nat_le range.count (2 ^ h)
+    then way_within target h range
+    else if is_target target range
     then at_target
-    else if n == 2 ^ suc h && is_beside s w a n
-    then at_node (node_over a n)
-    else at_parts (is_beside s w a (2 ^ h)) (way_within s w h a (2 ^ h)) (way_within s w h (a + 2 ^ h) (n - 2 ^ h))
+    else if range.count == 2 ^ suc h && is_beside target range
+    then at_node (node_over range.start range.count)
+    else at_parts (is_beside target front) (way_within target h front) (way_within target h (leaves_from (range.start + 2 ^ h) (range.count - 2 ^ h)))
 
 -- The way down any range: n leaves are at most 2 ^ n.
-abbrev pub way_over : ℕ → ℕ → ℕ → ℕ → Way
-way_over s w a n = way_within s w n a n
+abbrev pub way_over : Range → Range → Way
+way_over target range = way_within target range.count range
 
--- What a way comes to: x at the target, F's digest at a node, and the branch of two parts. None where F lacks
--- a digest.
+-- What a way comes to: the digest x at the target, that which F holds at a node, and the branch of two parts. None
+-- where F lacks a digest.
 unfoldable pub top_of : (List ℕ → List ℕ) → (ℕ → Option (List ℕ)) → List ℕ → Way → Option (List ℕ)
 top_of H F x at_target = Some x
 top_of H F x (at_node t) = F t
 top_of H F x (at_parts misses left right) = joined H (top_of H F x left) (top_of H F x right)
 
 -- The cut root of a range: what the way down it comes to.
-abbrev pub cut_over : (List ℕ → List ℕ) → (ℕ → Option (List ℕ)) → List ℕ → ℕ → ℕ → ℕ → ℕ → Option (List ℕ)
-cut_over H F x s w a n = top_of H F x (way_over s w a n)
+abbrev pub cut_over : (List ℕ → List ℕ) → Evaluation → Range → Option (List ℕ)
+cut_over H e range = top_of H e.held e.digest (way_over e.target range)
+
+-- The evaluation over the digests F with the digest x at the node t.
+abbrev pub with_node : (ℕ → Option (List ℕ)) → ℕ → List ℕ → Evaluation
+with_node F t x = record { held = F; target = range_of t; digest = x }
+
+-- The evaluation over a log's own digests, with the target's own digest.
+abbrev pub with_own : (List ℕ → List ℕ) → List (List ℕ) → Range → Evaluation
+with_own H ds t = record { held = own_digest H ds; target = t; digest = root_over H ds t.start t.count }
 
 -- The cut root at length n, for the node t and the digest x in its place.
 abbrev pub cut_root : (List ℕ → List ℕ) → (ℕ → Option (List ℕ)) → ℕ → List ℕ → ℕ → Option (List ℕ)
-cut_root H F t x n = cut_over H F x (start_of t) (2 ^ height_of t) 0 n
+cut_root H F t x n = cut_over H (with_node F t x) (leaves_from 0 n)
 
 -- The range has a power of two of leaves.
 abbrev pub IsFull : ℕ → Type 0
@@ -65,9 +80,9 @@ IsFull n = (h : ℕ) × (n ≡ 2 ^ h)
 -- The old root of a range: F's digest where the range has a power of two of leaves, else the branch of its
 -- parts. It is the cut root for a target of no leaves, which each range misses. `laws::old_full` and
 -- `old_parts` state the recursion.
-abbrev pub old_over : (List ℕ → List ℕ) → (ℕ → Option (List ℕ)) → ℕ → ℕ → Option (List ℕ)
-old_over H F a n = cut_over H F (H []) 0 0 a n
+abbrev pub old_over : (List ℕ → List ℕ) → (ℕ → Option (List ℕ)) → Range → Option (List ℕ)
+old_over H F range = cut_over H (record { held = F; target = leaves_from 0 0; digest = H [] }) range
 
 -- The old root at a length: that of all its leaves.
 abbrev pub old_root : (List ℕ → List ℕ) → (ℕ → Option (List ℕ)) → ℕ → Option (List ℕ)
-old_root H F m = old_over H F 0 m
+old_root H F m = old_over H F (leaves_from 0 m)

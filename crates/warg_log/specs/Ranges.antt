@@ -1,5 +1,28 @@
--- Ranges of the tree's recursion. A range is given by its first leaf a and its count n of leaves.
-use Rattle.std.specs.Prelude.{◌≡◌, ℕ, ◌*◌, ◌^◌, ◌≤◌}
+-- Ranges of leaves, and how the tree's recursion splits them.
+use Rattle.std.specs.Prelude.{◌≡◌, ℕ, ◌+◌, ◌-◌, ◌*◌, ◌^◌, ◌≤◌}
+use Rattle.warg_log.specs.Nodes.{height_of, start_of}
+use Rattle.warg_log.specs.Tree.{front_of}
+
+-- Leaves in a row, by the first one, counted from 0, and their number.
+pub record Range : Type 0 where
+  pub start : ℕ
+  pub count : ℕ
+
+-- The n leaves from a on.
+abbrev pub leaves_from : ℕ → ℕ → Range
+leaves_from a n = record { start = a; count = n }
+
+-- The leaves below a node.
+abbrev pub range_of : ℕ → Range
+range_of t = leaves_from (start_of t) (2 ^ height_of t)
+
+-- The two parts of a range of more than one leaf (RFC 6962, section 2.1): the first leaves, as many as the greatest
+-- power of two below the count, and the rest.
+abbrev pub front_part : Range → Range
+front_part range = leaves_from range.start (front_of range.count)
+
+abbrev pub rest_part : Range → Range
+rest_part range = leaves_from (range.start + front_of range.count) (range.count - front_of range.count)
 
 -- The range is one that the recursion over some log could meet: at most a power of two of leaves, from a
 -- multiple of it on.

@@ -1,7 +1,8 @@
 -- The nodes that the cut root reads.
 use Rattle.std.specs.Prelude.{◌≡◌, ℕ, zero, suc, length, reverse, ◌/◌, ◌%◌, ◌+◌, ◌^◌, ◌==◌, if◌then◌else◌, List, [], ◌∷◌, ◌++◌, Option, None, IsSome}
 use Rattle.std.specs.List.{flat_map}
-use Rattle.warg_log.specs.Nodes.{height_of, place_of, sibling_place, start_of, number_of, balanced_over, balanced_roots}
+use Rattle.warg_log.specs.Nodes.{height_of, place_of, sibling_place, number_of, balanced_over, balanced_roots}
+use Rattle.warg_log.specs.Ranges.{Range, leaves_from, range_of}
 use Rattle.warg_log.specs.Tree.{from_right}
 use Rattle.warg_log.specs.Cut.{joined, Way, at_target, at_node, at_parts, way_over}
 
@@ -13,12 +14,12 @@ read_on (at_node t) = t ∷ []
 read_on (at_parts misses left right) = if misses then read_on right ++ read_on left else read_on left ++ read_on right
 
 -- The nodes at which cut_over reads.
-abbrev pub needed_over : ℕ → ℕ → ℕ → ℕ → List ℕ
-needed_over s w a n = read_on (way_over s w a n)
+abbrev pub needed_over : Range → Range → List ℕ
+needed_over target range = read_on (way_over target range)
 
 -- The needed nodes of the node t at length n: those at which cut_root reads.
 abbrev pub needed : ℕ → ℕ → List ℕ
-needed t n = needed_over (start_of t) (2 ^ height_of t) 0 n
+needed t n = needed_over (range_of t) (leaves_from 0 n)
 
 -- Each of the nodes has a digest.
 abbrev pub IsKnown : (ℕ → Option (List ℕ)) → List ℕ → Type 0

@@ -118,7 +118,7 @@ impl<D: SupportedDigest> BranchCache<D> {
 }
 
 // The cut root of one range, as `range_root` says, by branches that are hashed once.
-#[tactic(auto, using(crate::proofs::WayLemmas::target_decides, crate::proofs::CutLemmas::cut_over_target, crate::proofs::CutLemmas::cut_read, crate::proofs::CutLemmas::cut_split))]
+#[tactic(auto, using(crate::proofs::CutLemmas::cut_found, crate::proofs::CutLemmas::cut_read, crate::proofs::CutLemmas::cut_split))]
 pub(crate) fn range_root_by<D: SupportedDigest, V: VisitBytes, L: LogData<D, V>>(
     branches: &mut BranchCache<D>,
     hashes: &L,
@@ -126,10 +126,11 @@ pub(crate) fn range_root_by<D: SupportedDigest, V: VisitBytes, L: LogData<D, V>>
     hash: &Hash<D>,
     range: &LeafRange,
 ) -> Option<Hash<D>>
-    ensures { result
-        ≡ cut_over D.digest
-        (L.digest_at
-        hashes.now) hash.now target.now.start target.now.count range.now.start range.now.count }
+    ensures { result ≡ cut_over D.digest (record {
+      held = L.digest_at hashes.now;
+      target = target.now;
+      digest = hash.now;
+    }) range.now }
 {
     if range == target {
         return Some(hash.copied());

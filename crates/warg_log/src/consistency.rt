@@ -3,6 +3,7 @@
 ghost use Rattle.std.specs.Prelude.{◌≡◌, ◌≢◌, ⊤, ℕ, ◌+◌, ◌*◌, ◌^◌, ◌<◌, ◌≤◌, ◌↔◌, ◌⊎◌, List, IfOk, All, map};
 ghost use Rattle.std.specs.List.{AllByRecursion};
 ghost use Rattle.warg_log.specs.Nodes.{balanced_roots, end_of};
+ghost use Rattle.warg_log.specs.Ranges.{leaves_from};
 ghost use Rattle.warg_log.specs.Consistency.{root_to, new_root_of, consistency};
 
 use crate::balanced_roots::BalancedRoots;
@@ -238,7 +239,7 @@ fn root_from<D: SupportedDigest, V: VisitBytes, L: LogData<D, V>>(
     whole: &LeafRange,
 ) -> Result<Hash<D>, ConsistencyProofError>
     requires ends { end_of root.0 ≤ 2 ^ 63 }
-    requires whole { whole.now.start ≡ 0 }
+    requires whole { whole.now ≡ leaves_from 0 whole.now.count }
     ensures { result ≡ root_to D.digest (L.digest_at hashes.now) whole.now.count root.0 }
 {
     match hashes.hash_for(root) {

@@ -3,15 +3,15 @@
 //! Read them beside the definitions: they state the standard's own words (RFC 6962, section 2.1) where
 //! a definition takes another road, and they are all that a proof about the definitions needs.
 
-ghost use Rattle.std.specs.Prelude.{◌≡◌, ℕ, ◌+◌, ◌-◌, ◌*◌, ◌/◌, ◌%◌, ◌^◌, ◌<◌, ◌≤◌, ◌⊎◌, ◌↔◌, List, [], ◌∷◌, ◌++◌, length, take, drop, map, Option, Some, None, Ok, Err, IsSome, IsTrue, slice_index_or};
+ghost use Rattle.std.specs.Prelude.{◌≡◌, ◌≢◌, ℕ, ◌+◌, ◌-◌, ◌*◌, ◌/◌, ◌%◌, ◌^◌, ◌<◌, ◌≤◌, ◌⊎◌, ◌↔◌, List, [], ◌∷◌, ◌++◌, length, take, drop, map, Option, Some, None, Ok, Err, IsSome, IsTrue, slice_index_or};
 ghost use Rattle.std.specs.List.{AllByRecursion};
 ghost use Rattle.std.specs.Ordering.{nat_cmp, ordering_then};
 ghost use Rattle.std.specs.Cmp.Lexicographic.{slice_cmp};
 ghost use Rattle.warg_log.specs.Nodes.{IsNode, ExistsAt, sibling_place, height_of, place_of, start_of, end_of, node_over, number_of, balanced_over, balanced_roots, Follow, Fall};
 ghost use Rattle.warg_crypto.specs.Tree.{branch, leaf_digest};
-ghost use Rattle.warg_log.specs.Ranges.{IsAligned};
+ghost use Rattle.warg_log.specs.Ranges.{Range, front_part, rest_part, IsAligned};
 ghost use Rattle.warg_log.specs.Tree.{front_of, root_of, root_over, leaves_of, leaves_below, own_digest};
-ghost use Rattle.warg_log.specs.Cut.{joined, cut_over, cut_root, old_over, old_root, IsFull, is_beside};
+ghost use Rattle.warg_log.specs.Cut.{Evaluation, joined, cut_over, cut_root, with_own, old_over, old_root, IsFull, is_beside};
 ghost use Rattle.warg_log.specs.Walks.{needed, needed_over, climbed, joined_all, IsKnown};
 ghost use Rattle.warg_log.specs.Blocks.{Blocks, StandsFor, joined_blocks, pushed};
 ghost use Rattle.warg_log.specs.Consistency.{consistency, IsConsistent};
@@ -95,52 +95,49 @@ pub fn balanced_parts()
 /// The cut root of the target's own range is the digest in its place.
 #[tactic(auto, using(crate::proofs::ForCallers::cut_target))]
 pub fn cut_target()
-    ensures { (H : List ℕ → List ℕ) (F : ℕ → Option (List ℕ)) (x : List ℕ) (s w : ℕ)
-        → cut_over H F x s w s w ≡ Some x }
+    ensures { (H : List ℕ → List ℕ) (e : Evaluation) → cut_over H e e.target ≡ Some e.digest }
 {}
 
 /// The cut root of a range that misses the target and has a power of two of leaves is the digest that
 /// is held for it.
 #[tactic(auto, using(crate::proofs::CutLemmas::cut_over_read, crate::proofs::WayLemmas::is_beside_so))]
 pub fn cut_beside()
-    ensures { (H : List ℕ → List ℕ) (F : ℕ → Option (List ℕ)) (x : List ℕ) (s w a n : ℕ) → 0 < w
-        → IsFull n → IsTrue (is_beside s w a n) → cut_over H F x s w a n ≡ F (node_over a n) }
+    ensures { (H : List ℕ → List ℕ) (e : Evaluation) (r : Range) → 0 < e.target.count
+        → IsFull r.count → IsTrue (is_beside e.target r)
+        → cut_over H e r ≡ e.held (node_over r.start r.count) }
 {}
 
 /// The cut root of any other range is the branch over those of its two parts.
 #[tactic(auto, using(crate::proofs::CutLemmas::cut_over_parts))]
 pub fn cut_parts()
-    ensures { (H : List ℕ → List ℕ) (F : ℕ → Option (List ℕ)) (x : List ℕ) (s w a n : ℕ) → 1 < n
-        → (a ≡ s → n ≡ w → ⊥) → (IsFull n → IsTrue (is_beside s w a n) → ⊥)
-        → cut_over H F x s w a n ≡ joined H (cut_over H F x s w a (front_of n))
-        (cut_over H F x s w (a + front_of n) (n - front_of n)) }
+    ensures { (H : List ℕ → List ℕ) (e : Evaluation) (r : Range) → 1 < r.count → r ≢ e.target
+        → (IsFull r.count → IsTrue (is_beside e.target r) → ⊥)
+        → cut_over H e r ≡ joined H (cut_over H e (front_part r)) (cut_over H e (rest_part r)) }
 {}
 
 /// The target's own range needs no node.
 #[tactic(auto, using(crate::proofs::WayLemmas::way_over_target), unfolding(crate::specs::Walks::read_on))]
 pub fn needed_target()
-    ensures { (s w : ℕ) → needed_over s w s w ≡ [] }
+    ensures { (t : Range) → needed_over t t ≡ [] }
 {}
 
 /// A range that misses the target and has a power of two of leaves needs the node over it.
 #[tactic(auto, using(crate::proofs::OrderLemmas::need_full, crate::proofs::WayLemmas::is_beside_so))]
 pub fn needed_beside()
-    ensures { (s w a n : ℕ) → 0 < w → IsFull n → IsTrue (is_beside s w a n)
-        → needed_over s w a n ≡ node_over a n ∷ [] }
+    ensures { (t r : Range) → 0 < t.count → IsFull r.count → IsTrue (is_beside t r)
+        → needed_over t r ≡ node_over r.start r.count ∷ [] }
 {}
 
 /// Any other range needs what its two parts need: the rest's nodes stand first where the first part misses
 /// the target, and else the first part's.
 #[tactic(auto, using(crate::proofs::WayLemmas::way_over_parts), unfolding(crate::specs::Walks::read_on))]
 pub fn needed_parts()
-    ensures rest_first { (s w a n : ℕ) → 1 < n → (a ≡ s → n ≡ w → ⊥)
-        → (IsFull n → IsTrue (is_beside s w a n) → ⊥) → IsTrue (is_beside s w a (front_of n))
-        → needed_over s w a n ≡ needed_over s w (a + front_of n)
-        (n - front_of n) ++ needed_over s w a (front_of n) }
-    ensures front_first { (s w a n : ℕ) → 1 < n → (a ≡ s → n ≡ w → ⊥)
-        → (IsFull n → IsTrue (is_beside s w a n) → ⊥) → (IsTrue (is_beside s w a (front_of n)) → ⊥)
-        → needed_over s w a n ≡ needed_over s w a (front_of n) ++ needed_over s w (a + front_of n)
-        (n - front_of n) }
+    ensures rest_first { (t r : Range) → 1 < r.count → r ≢ t
+        → (IsFull r.count → IsTrue (is_beside t r) → ⊥) → IsTrue (is_beside t (front_part r))
+        → needed_over t r ≡ needed_over t (rest_part r) ++ needed_over t (front_part r) }
+    ensures front_first { (t r : Range) → 1 < r.count → r ≢ t
+        → (IsFull r.count → IsTrue (is_beside t r) → ⊥) → (IsTrue (is_beside t (front_part r)) → ⊥)
+        → needed_over t r ≡ needed_over t (front_part r) ++ needed_over t (rest_part r) }
 {}
 
 /// The needed nodes exist at the length.
@@ -182,9 +179,9 @@ pub fn cut_own()
 /// range of the recursion does: its cut root is the root over it, whichever the target is.
 #[tactic(auto, using(crate::proofs::ForCallers::cut_own_range))]
 pub fn cut_own_range()
-    ensures { (H : List ℕ → List ℕ) (ds : List (List ℕ)) (s w a n : ℕ) → 0 < n → IsAligned a n
-        → a + n ≤ length ds
-        → cut_over H (own_digest H ds) (root_over H ds s w) s w a n ≡ Some (root_over H ds a n) }
+    ensures { (H : List ℕ → List ℕ) (ds : List (List ℕ)) (t r : Range) → 0 < r.count
+        → IsAligned r.start r.count → r.start + r.count ≤ length ds
+        → cut_over H (with_own H ds t) r ≡ Some (root_over H ds r.start r.count) }
 {}
 
 /// An inclusion proof leads to a root exactly if its node exists at its length and this is the cut root. Else it
@@ -216,16 +213,16 @@ pub fn own_inclusion()
 /// The old root of a range of a power of two of leaves is the digest that is held for it.
 #[tactic(auto, using(crate::proofs::ForCallers::old_full))]
 pub fn old_full()
-    ensures { (H : List ℕ → List ℕ) (F : ℕ → Option (List ℕ)) (a n : ℕ) → IsFull n
-        → old_over H F a n ≡ F (node_over a n) }
+    ensures { (H : List ℕ → List ℕ) (F : ℕ → Option (List ℕ)) (r : Range) → IsFull r.count
+        → old_over H F r ≡ F (node_over r.start r.count) }
 {}
 
 /// The old root of any other range is the branch over those of its two parts.
 #[tactic(auto, using(crate::proofs::ForCallers::old_parts))]
 pub fn old_parts()
-    ensures { (H : List ℕ → List ℕ) (F : ℕ → Option (List ℕ)) (a n : ℕ) → 1 < n → (IsFull n → ⊥)
-        → old_over H F a n ≡ joined H (old_over H F a (front_of n))
-        (old_over H F (a + front_of n) (n - front_of n)) }
+    ensures { (H : List ℕ → List ℕ) (F : ℕ → Option (List ℕ)) (r : Range) → 1 < r.count
+        → (IsFull r.count → ⊥)
+        → old_over H F r ≡ joined H (old_over H F (front_part r)) (old_over H F (rest_part r)) }
 {}
 
 /// Over a log's own digests, the old root at each length up to the log's is the root of that many
@@ -239,9 +236,9 @@ pub fn old_own()
 /// The same of a range that begins at a multiple of a power of two and has at most so many leaves.
 #[tactic(auto, using(crate::proofs::ForCallers::old_own_range))]
 pub fn old_own_range()
-    ensures { (H : List ℕ → List ℕ) (ds : List (List ℕ)) (a n : ℕ) → 0 < n → IsAligned a n
-        → a + n ≤ length ds
-        → old_over H (own_digest H ds) a n ≡ Some (root_over H ds a n) }
+    ensures { (H : List ℕ → List ℕ) (ds : List (List ℕ)) (r : Range) → 0 < r.count
+        → IsAligned r.start r.count → r.start + r.count ≤ length ds
+        → old_over H (own_digest H ds) r ≡ Some (root_over H ds r.start r.count) }
 {}
 
 /// A consistency proof evaluates to two roots exactly if these meet it.

@@ -1,11 +1,12 @@
 //! Ranges of leaves, how the tree's recursion splits them, and the roots to which digests lead over them.
 
 ghost use Rattle.std.specs.Prelude.{◌≡◌, ℕ, ◌+◌, ◌-◌, ◌*◌, ◌^◌, ◌<◌, ◌≤◌, ◌⊎◌, ◌↔◌, IsTrue};
-ghost use Rattle.warg_log.specs.Tree.{front_of};
+ghost use Rattle.warg_log.specs.Ranges.{leaves_from, front_part, rest_part};
 ghost use Rattle.warg_log.specs.Cut.{is_beside, IsFull, cut_over, old_over};
 
 use crate::log::LogData;
 use crate::node::Node;
+use std::marker::Model;
 use warg_crypto::{Hash, SupportedDigest, VisitBytes, hash_branch};
 
 /// Leaves in a row, at least one: a range of the recursion of RFC 6962, section 2.1, which splits the
@@ -17,8 +18,20 @@ use warg_crypto::{Hash, SupportedDigest, VisitBytes, hash_branch};
 pub struct LeafRange {
     pub start: usize,
     pub count: usize,
-    ghost some: { 0 < count },
-    ghost fits: { start + count ≤ 2 ^ 63 },
+}
+
+// Contracts see a range as where it starts and its count.
+impl Model for LeafRange {
+    ghost use Rattle.std.specs.Prelude.{◌+◌, ◌^◌, ◌<◌, ◌≤◌};
+    ghost use Rattle.warg_log.specs.Ranges.{Range};
+
+    ghost Value = { Range };
+
+    ghost view = { λ r. record { start = r.start; count = r.count } };
+
+    ghost invariant = { λ r. (0 < r.count) × (r.start + r.count ≤ 2 ^ 63) };
+
+    ghost inverse = { λ r. record { start = r.start; count = r.count } };
 }
 
 impl LeafRange {
@@ -26,8 +39,7 @@ impl LeafRange {
     pub fn new(start: usize, count: usize) -> LeafRange
         requires some { 0 < count }
         requires fits { start + count ≤ 2 ^ 63 }
-        ensures start { result.start ≡ start }
-        ensures count { result.count ≡ count }
+        ensures { result ≡ leaves_from start count }
     {
         LeafRange { start, count }
     }
@@ -54,14 +66,15 @@ impl LeafRange {
     /// Whether the range has a power of two of leaves.
     #[tactic(auto, using(crate::proofs::RootLemmas::power_decides))]
     pub fn is_full(&self) -> bool
-        ensures { IsTrue result ↔ IsFull self.now.count }
+        ensures full { IsTrue result ↔ IsFull self.now.count }
+        ensures some { 0 < self.now.count }
     {
         self.count.is_power_of_two()
     }
 
     /// Whether the range has no leaf of the other one.
     pub fn is_beside(&self, other: &LeafRange) -> bool
-        ensures { result ≡ is_beside other.now.start other.now.count self.now.start self.now.count }
+        ensures { result ≡ is_beside other.now self.now }
     {
         self.start + self.count <= other.start || other.start + other.count <= self.start
     }
@@ -69,9 +82,9 @@ impl LeafRange {
     // Whether an evaluation with this target reads the range's digest: the range is one leaf, or has a
     // power of two of leaves and misses the target.
     pub(crate) fn is_read(&self, target: &LeafRange) -> bool
-        ensures { IsTrue result ↔ ((self.now.count ≡ 1)
-            ⊎ (IsFull self.now.count × IsTrue
-            (is_beside target.now.start target.now.count self.now.start self.now.count))) }
+        ensures read { IsTrue result ↔ ((self.now.count ≡ 1)
+            ⊎ (IsFull self.now.count × IsTrue (is_beside target.now self.now))) }
+        ensures some { 0 < self.now.count }
     {
         self.count == 1 || self.is_full() && self.is_beside(target)
     }
@@ -81,10 +94,8 @@ impl LeafRange {
     #[tactic(auto, using(crate::proofs::RootLemmas::front_of_half))]
     pub fn split(&self) -> (LeafRange, LeafRange)
         requires { 1 < self.now.count }
-        ensures front { (result.0.start ≡ self.now.start)
-            × (result.0.count ≡ front_of self.now.count) }
-        ensures rest { (result.1.start ≡ self.now.start + front_of self.now.count)
-            × (result.1.count ≡ self.now.count - front_of self.now.count) }
+        ensures front { result.0 ≡ front_part self.now }
+        ensures rest { result.1 ≡ rest_part self.now }
         ensures smaller { (result.0.count < self.now.count) × (result.1.count < self.now.count) }
     {
         let count = self.count.next_power_of_two() / 2;
@@ -100,17 +111,18 @@ impl LeafRange {
 ///
 /// It goes down the recursion of RFC 6962, section 2.1: it reads the digest of a range that misses the
 /// target and has a power of two of leaves, and hashes the branch of the two parts of any other range.
-#[tactic(auto, using(crate::proofs::WayLemmas::target_decides, crate::proofs::CutLemmas::cut_over_target, crate::proofs::CutLemmas::cut_read, crate::proofs::CutLemmas::cut_split))]
+#[tactic(auto, using(crate::proofs::CutLemmas::cut_found, crate::proofs::CutLemmas::cut_read, crate::proofs::CutLemmas::cut_split))]
 pub fn range_root<D: SupportedDigest, V: VisitBytes, L: LogData<D, V>>(
     hashes: &L,
     target: &LeafRange,
     hash: &Hash<D>,
     range: &LeafRange,
 ) -> Option<Hash<D>>
-    ensures { result
-        ≡ cut_over D.digest
-        (L.digest_at
-        hashes.now) hash.now target.now.start target.now.count range.now.start range.now.count }
+    ensures { result ≡ cut_over D.digest (record {
+      held = L.digest_at hashes.now;
+      target = target.now;
+      digest = hash.now;
+    }) range.now }
 {
     if range == target {
         return Some(hash.copied());
@@ -131,7 +143,7 @@ pub fn stored_root<D: SupportedDigest, V: VisitBytes, L: LogData<D, V>>(
     hashes: &L,
     range: &LeafRange,
 ) -> Option<Hash<D>>
-    ensures { result ≡ old_over D.digest (L.digest_at hashes.now) range.now.start range.now.count }
+    ensures { result ≡ old_over D.digest (L.digest_at hashes.now) range.now }
 {
     if range.is_full() {
         return hashes.hash_for(Node::over(range));

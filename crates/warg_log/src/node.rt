@@ -1,6 +1,7 @@
 //! The nodes of a log's tree, by their numbers.
 
 ghost use Rattle.std.specs.Prelude.{◌≡◌, ℕ, ◌+◌, ◌-◌, ◌*◌, ◌/◌, ◌%◌, ◌^◌, ◌<◌, ◌≤◌, ◌↔◌, IsTrue, IsNone, IfSome};
+ghost use Rattle.warg_log.specs.Ranges.{range_of};
 ghost use Rattle.warg_log.specs.Nodes.{IsNode, ExistsAt, height_of, place_of, sibling_place, start_of, end_of, node_over};
 
 use crate::leaf_range::LeafRange;
@@ -209,8 +210,7 @@ impl Node {
     #[tactic(auto, using(std::proofs::lemmas::Nat::pow_pos, crate::proofs::NodeLemmas::by_start, crate::proofs::NodeLemmas::low_by_end))]
     pub fn leaf_range(&self) -> LeafRange
         requires { end_of self.now.0 ≤ 2 ^ 63 }
-        ensures start { result.start ≡ start_of self.now.0 }
-        ensures count { result.count ≡ 2 ^ height_of self.now.0 }
+        ensures { result ≡ range_of self.now.0 }
     {
         let count = 1 << self.height();
         LeafRange::new((self.0 - (count - 1)) / 2, count)

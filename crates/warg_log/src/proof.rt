@@ -3,7 +3,7 @@
 ghost use Rattle.std.specs.Prelude.{◌≡◌, ◌≢◌, ⊤, ℕ, ◌+◌, ◌-◌, ◌*◌, ◌^◌, ◌<◌, ◌≤◌, ◌∷◌, [], ◌++◌, ◌↔◌, None, Some, IfOk, OnOk, map, length, reverse, nat_eq};
 ghost use Rattle.std.specs.List.{IsDistinct};
 ghost use Rattle.warg_crypto.specs.Tree.{leaf_digest};
-ghost use Rattle.warg_log.specs.Ranges.{IsAligned};
+ghost use Rattle.warg_log.specs.Ranges.{leaves_from, range_of, IsAligned};
 ghost use Rattle.warg_log.specs.Nodes.{ExistsAt, height_of, place_of, start_of, end_of};
 ghost use Rattle.warg_log.specs.Inclusion.{inclusion};
 ghost use Rattle.warg_log.specs.Walks.{needed, needed_over, siblings_up, IsWalk, IsWalkOver};
@@ -288,7 +288,7 @@ fn add_walk<A: Allocator>(
     requires ends { end_of leaf.0 ≤ end }
     requires fits { end ≤ 2 ^ 63 }
     ensures needed { OnOk result (map (λ x. x.0) nodes.new.items
-        ≡ needed_over (start_of leaf.0) (2 ^ height_of leaf.0) start (end - start)) }
+        ≡ needed_over (range_of leaf.0) (leaves_from start (end - start))) }
     ensures order { IfOk result (λ parts. (upper : ℕ)
         × IsWalkOver leaf.0 start (end - start)
         (map (λ x. x.0) nodes.new.items) parts.initial parts.lower upper) }

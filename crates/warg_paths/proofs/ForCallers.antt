@@ -1,6 +1,6 @@
 -- Lemmas for the proofs of the crates above, over public definitions alone.
 use Rattle.std.proofs.Common.{◌≡◌, ℕ, ◌+◌, ◌-◌, ◌<◌, ◌≤◌, List, [], ◌∷◌, ◌++◌, length, reverse, slice_index_or, Option, Some, None}
-use Rattle.warg_log.specs.Ranges.{IsAligned}
+use Rattle.warg_log.specs.Ranges.{Range, front_part, rest_part, IsAligned}
 use Rattle.warg_log.specs.Tree.{front_of, root_of, root_over, own_digest}
 use Rattle.warg_log.specs.Cut.{joined, old_over}
 use Rattle.warg_paths.specs.Paths.{beside, inclusion_of, inclusion_over, inclusion_root, root_down, roots_down, one_root, twice, grown, both_over}
@@ -9,20 +9,20 @@ use Rattle.warg_paths.proofs.MakeLemmas as making
 use Rattle.warg_paths.proofs.LawLemmas as laws
 
 -- the path of one leaf is empty
-pub path_one : (R : ℕ → ℕ → Option (List ℕ)) (m a : ℕ) → inclusion_over R m a 1 ≡ Some []
+pub path_one : (R : Range → Option (List ℕ)) (m : ℕ) (r : Range) → r.count ≡ 1 → inclusion_over R m r ≡ Some []
 path_one = making.inclusion_one
 
 -- the path of a leaf in the first part
-pub path_front : (R : ℕ → ℕ → Option (List ℕ)) (m a n : ℕ) → 1 < n → m < front_of n → inclusion_over R m a n ≡ beside (inclusion_over R m a (front_of n)) (R (a + front_of n) (n - front_of n))
+pub path_front : (R : Range → Option (List ℕ)) (m : ℕ) (r : Range) → 1 < r.count → m < front_of r.count → inclusion_over R m r ≡ beside (inclusion_over R m (front_part r)) (R (rest_part r))
 path_front = making.inclusion_front
 
 -- the path of a leaf in the rest
-pub path_rest : (R : ℕ → ℕ → Option (List ℕ)) (m a n : ℕ) → 1 < n → front_of n ≤ m → inclusion_over R m a n ≡ beside (inclusion_over R (m - front_of n) (a + front_of n) (n - front_of n)) (R a (front_of n))
+pub path_rest : (R : Range → Option (List ℕ)) (m : ℕ) (r : Range) → 1 < r.count → front_of r.count ≤ m → inclusion_over R m r ≡ beside (inclusion_over R (m - front_of r.count) (rest_part r)) (R (front_part r))
 path_rest = making.inclusion_rest
 
 -- a log's own path of a leaf in a range leads to the range's root
-pub own_path_leads : (H : List ℕ → List ℕ) (ds : List (List ℕ)) (m a n : ℕ) (path : List (List ℕ)) → m < n → IsAligned a n → a + n ≤ length ds
-    → inclusion_over (old_over H (own_digest H ds)) m a n ≡ Some path → root_down H m n (slice_index_or ds (a + m) []) (reverse path) ≡ Some (root_over H ds a n)
+pub own_path_leads : (H : List ℕ → List ℕ) (ds : List (List ℕ)) (m : ℕ) (r : Range) (path : List (List ℕ)) → m < r.count → IsAligned r.start r.count → r.start + r.count ≤ length ds
+    → inclusion_over (old_over H (own_digest H ds)) m r ≡ Some path → root_down H m r.count (slice_index_or ds (r.start + m) []) (reverse path) ≡ Some (root_over H ds r.start r.count)
 own_path_leads = laws.own_path_leads
 
 -- a log's own path of a leaf is there, and leads to its root

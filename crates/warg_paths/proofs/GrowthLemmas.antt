@@ -4,6 +4,7 @@ use Rattle.std.proofs.lemmas.Bool.{lt-ltb, le-leb, cases_lt}
 use Rattle.std.proofs.Math.Nat.{pow-suc}
 use Rattle.std.proofs.lemmas.Nat.{pow_pos}
 use Rattle.warg_crypto.specs.Tree.{branch}
+use Rattle.warg_log.specs.Ranges.{Range, leaves_from}
 use Rattle.warg_log.specs.Tree.{front_of, root_of, root_over, own_digest}
 use Rattle.warg_log.specs.Cut.{old_over}
 use Rattle.warg_log.proofs.ForCallers.{below_pow, front_of_is, root_over_parts, old_own_range}
@@ -31,10 +32,10 @@ led_rest : (H : List ℕ → List ℕ) (old : Option (List ℕ)) (m n : ℕ) (pa
 led_rest H old m n None top less rest = refl
 led_rest H old m n (Some path) top less rest = both_rest H old m n top path less rest
 
-led_end : (H : List ℕ → List ℕ) (whole : Bool) (R : ℕ → ℕ → Option (List ℕ)) (a n : ℕ) (root : List ℕ) → R a n ≡ Some root
-    → led H (known whole root) n n (path_at_end R whole a n) ≡ Some (root, root)
-led_end H true R a n root is = both_one H (Some root) n []
-led_end H false R a n root is = rw is (both_one H None n (root ∷ []))
+led_end : (H : List ℕ → List ℕ) (whole : Bool) (R : Range → Option (List ℕ)) (r : Range) (root : List ℕ) → R r ≡ Some root
+    → led H (known whole root) r.count r.count (path_at_end R whole r) ≡ Some (root, root)
+led_end H true R r root is = both_one H (Some root) r.count []
+led_end H false R r root is = rw is (both_one H None r.count (root ∷ []))
 
 -- the parts of a range that begins at a multiple begin at multiples of half as much
 front_at : (a c h : ℕ) → a ≡ c * 2 ^ suc h → a ≡ (2 * c) * 2 ^ h
@@ -44,19 +45,19 @@ rest_at : (a c h : ℕ) → a ≡ c * 2 ^ suc h → a + 2 ^ h ≡ (2 * c + 1) * 
 rest_at a c h at = omega (arith, front_at a c h at)
 
 -- over a log's own digests a range's stored root is the root over it
-stored : (H : List ℕ → List ℕ) (ds : List (List ℕ)) (h a c n : ℕ) → a ≡ c * 2 ^ h → 0 < n → n ≤ 2 ^ h → a + n ≤ length ds → old_over H (own_digest H ds) a n ≡ Some (root_over H ds a n)
-stored H ds h a c n at some most = old_own_range H ds a n some (record { height = h; place = c; start = at; most = most })
+stored : (H : List ℕ → List ℕ) (ds : List (List ℕ)) (h a c n : ℕ) → a ≡ c * 2 ^ h → 0 < n → n ≤ 2 ^ h → a + n ≤ length ds → old_over H (own_digest H ds) (leaves_from a n) ≡ Some (root_over H ds a n)
+stored H ds h a c n at some most = old_own_range H ds (leaves_from a n) some (record { height = h; place = c; start = at; most = most })
 
 -- the path over all leaves of a range
 all : (H : List ℕ → List ℕ) (ds : List (List ℕ)) (h a c : ℕ) (whole : Bool) (m n : ℕ) → a ≡ c * 2 ^ h → m ≡ n → 0 < n → n ≤ 2 ^ h → a + n ≤ length ds
-    → led H (known whole (root_over H ds a m)) m n (consistency_over (old_over H (own_digest H ds)) whole m a n) ≡ Some (root_over H ds a m, root_over H ds a n)
+    → led H (known whole (root_over H ds a m)) m n (consistency_over (old_over H (own_digest H ds)) whole m (leaves_from a n)) ≡ Some (root_over H ds a m, root_over H ds a n)
 all H ds h a c whole m n at same some most fits =
-    rw (same, consistency_end (old_over H (own_digest H ds)) whole a n some)
-    (led_end H whole (old_over H (own_digest H ds)) a n (root_over H ds a n) (stored H ds h a c n at some most fits))
+    rw (same, consistency_end (old_over H (own_digest H ds)) whole n (leaves_from a n) some refl)
+    (led_end H whole (old_over H (own_digest H ds)) (leaves_from a n) (root_over H ds a n) (stored H ds h a c n at some most fits))
 
 -- over a log's own digests the path leads to the roots over both ranges
 own_leads : (H : List ℕ → List ℕ) (ds : List (List ℕ)) (h a c : ℕ) (whole : Bool) (m n : ℕ) → a ≡ c * 2 ^ h → 0 < m → m ≤ n → n ≤ 2 ^ h → a + n ≤ length ds
-    → led H (known whole (root_over H ds a m)) m n (consistency_over (old_over H (own_digest H ds)) whole m a n) ≡ Some (root_over H ds a m, root_over H ds a n)
+    → led H (known whole (root_over H ds a m)) m n (consistency_over (old_over H (own_digest H ds)) whole m (leaves_from a n)) ≡ Some (root_over H ds a m, root_over H ds a n)
 own_leads H ds zero a c whole m n at some order most fits = all H ds zero a c whole m n at (omega arith) (omega arith) most fits
 own_leads H ds (suc h) a c whole m n at some order most fits = elim (cases_lt (2 ^ h) n) [
   | inr low ↦ own_leads H ds h a (2 * c) whole m n (front_at a c h at) some order low fits
@@ -64,18 +65,18 @@ own_leads H ds (suc h) a c whole m n at some order most fits = elim (cases_lt (2
     | inr same ↦ all H ds (suc h) a c whole m n at (omega arith) (omega arith) most fits
     | inl less ↦ elim (cases_lt (2 ^ h) m) [
       | inr low ↦
-          rw (consistency_front R whole m a n some less (rw (front more) low), front more, stored H ds h (a + 2 ^ h) (2 * c + 1) (n - 2 ^ h) (rest_at a c h at) (omega arith) (omega (arith, pow-suc 2 h)) (omega (arith, pow_pos h)))
-          (led_front H (known whole (root_over H ds a m)) m n (consistency_over R whole m a (2 ^ h)) (root_over H ds (a + 2 ^ h) (n - 2 ^ h)) less (rw (front more) low)
+          rw (consistency_front R whole m (leaves_from a n) some less (rw (front more) low), front more, stored H ds h (a + 2 ^ h) (2 * c + 1) (n - 2 ^ h) (rest_at a c h at) (omega arith) (omega (arith, pow-suc 2 h)) (omega (arith, pow_pos h)))
+          (led_front H (known whole (root_over H ds a m)) m n (consistency_over R whole m (leaves_from a (2 ^ h))) (root_over H ds (a + 2 ^ h) (n - 2 ^ h)) less (rw (front more) low)
           ∙ rw (front more, own_leads H ds h a (2 * c) whole m (2 ^ h) (front_at a c h at) some low (omega arith) (omega arith), parts n more most fits) refl)
       | inl high ↦
-          rw (consistency_rest R whole m a n less (rw (front more) high), front more, stored H ds h a (2 * c) (2 ^ h) (front_at a c h at) (pow_pos h) (omega arith) (omega arith))
-          (led_rest H (known whole (root_over H ds a m)) m n (consistency_over R false (m - 2 ^ h) (a + 2 ^ h) (n - 2 ^ h)) (root_over H ds a (2 ^ h)) less (rw (front more) high)
+          rw (consistency_rest R whole m (leaves_from a n) less (rw (front more) high), front more, stored H ds h a (2 * c) (2 ^ h) (front_at a c h at) (pow_pos h) (omega arith) (omega arith))
+          (led_rest H (known whole (root_over H ds a m)) m n (consistency_over R false (m - 2 ^ h) (leaves_from (a + 2 ^ h) (n - 2 ^ h))) (root_over H ds a (2 ^ h)) less (rw (front more) high)
           ∙ rw (front more, own_leads H ds h (a + 2 ^ h) (2 * c + 1) false (m - 2 ^ h) (n - 2 ^ h) (rest_at a c h at) (omega arith) (omega arith) (omega (arith, pow-suc 2 h)) (omega arith), parts n more most fits, parts m high (omega arith) (omega arith)) refl)
     ]
   ]
 ]
   where
-    R : ℕ → ℕ → Option (List ℕ)
+    R : Range → Option (List ℕ)
     R = old_over H (own_digest H ds)
 
     front : 2 ^ h < n → front_of n ≡ 2 ^ h

@@ -1,11 +1,11 @@
 -- Where paths lead.
-use Rattle.std.proofs.Common.{◌≡◌, inl, inr, ℕ, zero, suc, ◌+◌, ◌-◌, ◌*◌, ◌<◌, ◌≤◌, List, [], length, reverse, take, slice_index_or, Option, Some, None, refl, sym, ap, ◌∙◌, arith, add-zero}
+use Rattle.std.proofs.Common.{◌≡◌, inl, inr, ℕ, zero, suc, ◌+◌, ◌-◌, ◌*◌, ◌<◌, ◌≤◌, List, [], length, reverse, take, slice_index_or, Option, Some, None, refl, sym, ap, ◌∙◌, arith}
 use Rattle.std.proofs.lemmas.Bool.{lt-ltb, cases_lt}
 use Rattle.std.proofs.Math.Seq.{take-length}
-use Rattle.warg_log.specs.Ranges.{IsAligned}
+use Rattle.warg_log.specs.Ranges.{Range, leaves_from, front_part, rest_part, IsAligned}
 use Rattle.warg_log.specs.Tree.{front_of, root_of, root_over, own_digest}
-use Rattle.warg_log.specs.Cut.{joined, cut_over, cut_root, old_over}
-use Rattle.warg_log.proofs.ForCallers.{below_pow, node_at, root_over_one, cut_target, cut_parts, cut_old, cut_own_range}
+use Rattle.warg_log.specs.Cut.{Evaluation, joined, cut_over, cut_root, old_over}
+use Rattle.warg_log.proofs.ForCallers.{below_pow, same_range, node_at, root_over_one, cut_target, cut_parts, cut_old, cut_own_range}
 use Rattle.warg_paths.specs.Paths.{beside, inclusion_over, inclusion_of, inclusion_root, root_down, led_to}
 use Rattle.warg_paths.proofs.PathLemmas.{root_one, root_front, root_rest}
 use Rattle.warg_paths.proofs.MakeLemmas.{parts_fewer, inclusion_one, inclusion_front, inclusion_rest}
@@ -33,36 +33,42 @@ led_rest H m n x None (Some t) more rest = refl
 led_rest H m n x (Some path) None more rest = refl
 led_rest H m n x (Some path) (Some t) more rest = root_rest H m n x t path more rest
 
+-- the evaluation with the digest x at the leaf in place m
+abbrev at_leaf : (ℕ → Option (List ℕ)) → ℕ → List ℕ → Evaluation
+at_leaf F m x = record { held = F; target = leaves_from m 1; digest = x }
+
 -- a path of a part leads to the part's cut root
-climbs : (H : List ℕ → List ℕ) (F : ℕ → Option (List ℕ)) (x : List ℕ) (steps m a n : ℕ) → n ≤ steps → m < n
-    → led H m n x (inclusion_over (old_over H F) m a n) ≡ cut_over H F x (a + m) 1 a n
-climbs H F x zero m a n enough inside = absurd (omega arith)
-climbs H F x (suc steps) m a n enough inside = elim (cases_lt 1 n) [
-  | inr few ↦ one m n (omega arith) (omega arith)
+climbs : (H : List ℕ → List ℕ) (F : ℕ → Option (List ℕ)) (x : List ℕ) (steps m : ℕ) (r : Range) → r.count ≤ steps → m < r.count
+    → led H m r.count x (inclusion_over (old_over H F) m r) ≡ cut_over H (at_leaf F (r.start + m) x) r
+climbs H F x zero m r enough inside = absurd (omega arith)
+climbs H F x (suc steps) m r enough inside = elim (cases_lt 1 r.count) [
+  | inr few ↦
+      let none : m ≡ 0 = omega arith in
+      let one : r.count ≡ 1 = omega arith in
+      let here : r ≡ leaves_from (r.start + m) 1 = same_range r (leaves_from (r.start + m) 1) (omega arith) one in
+      rw (inclusion_one (old_over H F) m r one, one, none) (root_one H 0 x [] refl) ∙ sym (ap (cut_over H (at_leaf F (r.start + m) x)) here ∙ cut_target H (at_leaf F (r.start + m) x))
   | inl more ↦
-      let few = parts_fewer n more in
-      let split : cut_over H F x (a + m) 1 a n ≡ joined H (cut_over H F x (a + m) 1 a (front_of n)) (cut_over H F x (a + m) 1 (a + front_of n) (n - front_of n)) =
-      cut_parts H F x (a + m) 1 a n more (λ _ e. omega arith) (λ _ b. elim b [ inl l ↦ omega arith | inr r ↦ omega arith ]) in
-      elim (cases_lt m (front_of n)) [
+      let few = parts_fewer r.count more in
+      let e = at_leaf F (r.start + m) x in
+      let split : cut_over H e r ≡ joined H (cut_over H e (front_part r)) (cut_over H e (rest_part r)) =
+      cut_parts H e r more (λ same. omega (arith, ap (λ (r : Range). r.count) same)) (λ _ b. elim b [ inl l ↦ omega arith | inr r ↦ omega arith ]) in
+      elim (cases_lt m (front_of r.count)) [
         | inl front ↦
-            ap (led H m n x) (inclusion_front (old_over H F) m a n more front)
-            ∙ led_front H m n x (inclusion_over (old_over H F) m a (front_of n)) (old_over H F (a + front_of n) (n - front_of n)) more front
-            ∙ ap (λ l. joined H l (old_over H F (a + front_of n) (n - front_of n))) (climbs H F x steps m a (front_of n) (omega (arith, few.1)) front)
-            ∙ ap (λ r. joined H (cut_over H F x (a + m) 1 a (front_of n)) r) (sym (cut_old H F x (a + m) 1 (a + front_of n) (n - front_of n) (omega arith) (omega (arith, few.1)) (inr (omega (arith, front)))))
+            ap (led H m r.count x) (inclusion_front (old_over H F) m r more front)
+            ∙ led_front H m r.count x (inclusion_over (old_over H F) m (front_part r)) (old_over H F (rest_part r)) more front
+            ∙ ap (λ l. joined H l (old_over H F (rest_part r))) (climbs H F x steps m (front_part r) (omega (arith, few.1)) front)
+            ∙ ap (λ d. joined H (cut_over H e (front_part r)) d) (sym (cut_old H e (rest_part r) (omega arith) (omega (arith, few.1)) (inr (omega (arith, front)))))
             ∙ sym split
         | inr rest ↦
-            let at : (a + front_of n) + (m - front_of n) ≡ a + m = omega (arith, rest) in
-            ap (led H m n x) (inclusion_rest (old_over H F) m a n more rest)
-            ∙ led_rest H m n x (inclusion_over (old_over H F) (m - front_of n) (a + front_of n) (n - front_of n)) (old_over H F a (front_of n)) more rest
-            ∙ ap (λ r. joined H (old_over H F a (front_of n)) r) (climbs H F x steps (m - front_of n) (a + front_of n) (n - front_of n) (omega (arith, few.2)) (omega (arith, rest)))
-            ∙ ap (λ s. joined H (old_over H F a (front_of n)) (cut_over H F x s 1 (a + front_of n) (n - front_of n))) at
-            ∙ ap (λ l. joined H l (cut_over H F x (a + m) 1 (a + front_of n) (n - front_of n))) (sym (cut_old H F x (a + m) 1 a (front_of n) (omega arith) few.0 (inl (omega (arith, rest)))))
+            let at : (r.start + front_of r.count) + (m - front_of r.count) ≡ r.start + m = omega (arith, rest) in
+            ap (led H m r.count x) (inclusion_rest (old_over H F) m r more rest)
+            ∙ led_rest H m r.count x (inclusion_over (old_over H F) (m - front_of r.count) (rest_part r)) (old_over H F (front_part r)) more rest
+            ∙ ap (λ d. joined H (old_over H F (front_part r)) d) (climbs H F x steps (m - front_of r.count) (rest_part r) (omega (arith, few.2)) (omega (arith, rest)))
+            ∙ ap (λ s. joined H (old_over H F (front_part r)) (cut_over H (at_leaf F s x) (rest_part r))) at
+            ∙ ap (λ l. joined H l (cut_over H e (rest_part r))) (sym (cut_old H e (front_part r) (omega arith) few.0 (inl (omega (arith, rest)))))
             ∙ sym split
       ]
 ]
-  where
-    one : (m n : ℕ) → m ≡ 0 → n ≡ 1 → led H m n x (inclusion_over (old_over H F) m a n) ≡ cut_over H F x (a + m) 1 a n
-    one m n first only = rw (first, only, inclusion_one (old_over H F) 0 a, add-zero) (root_one H 0 x [] refl ∙ sym (cut_target H F x a 1))
 
 led_is : (H : List ℕ → List ℕ) (m n : ℕ) (x : List ℕ) (path : Option (List (List ℕ))) → m < n → led_to H m n x path ≡ led H m n x path
 led_is H m n x None inside = refl
@@ -73,20 +79,20 @@ pub leads_as_proof : (H : List ℕ → List ℕ) (F : ℕ → Option (List ℕ))
     → led_to H m n x (inclusion_of (old_over H F) m n) ≡ cut_root H F (2 * m) x n
 leads_as_proof H F m n x inside =
     let leaf = node_at (2 * m) 0 m (omega arith) in
-    led_is H m n x (inclusion_of (old_over H F) m n) inside ∙ climbs H F x n m 0 n (omega arith) inside
-    ∙ rw (leaf.0, leaf.1) (ap (λ s. cut_over H F x s 1 0 n) (omega arith))
+    led_is H m n x (inclusion_of (old_over H F) m n) inside ∙ climbs H F x n m (leaves_from 0 n) (omega arith) inside
+    ∙ rw (leaf.0, leaf.1) (ap (λ s. cut_over H (at_leaf F s x) (leaves_from 0 n)) (omega arith))
 
 -- a log's own path of a leaf in a range leads to the range's root
-own_climbs : (H : List ℕ → List ℕ) (ds : List (List ℕ)) (m a n : ℕ) → m < n → IsAligned a n → a + n ≤ length ds
-    → led H m n (slice_index_or ds (a + m) []) (inclusion_over (old_over H (own_digest H ds)) m a n) ≡ Some (root_over H ds a n)
-own_climbs H ds m a n inside aligned fits =
-    climbs H (own_digest H ds) (slice_index_or ds (a + m) []) n m a n (omega arith) inside
-    ∙ ap (λ d. cut_over H (own_digest H ds) d (a + m) 1 a n) (sym (root_over_one H ds (a + m) (omega arith)))
-    ∙ cut_own_range H ds (a + m) 1 a n (omega arith) aligned fits
+own_climbs : (H : List ℕ → List ℕ) (ds : List (List ℕ)) (m : ℕ) (r : Range) → m < r.count → IsAligned r.start r.count → r.start + r.count ≤ length ds
+    → led H m r.count (slice_index_or ds (r.start + m) []) (inclusion_over (old_over H (own_digest H ds)) m r) ≡ Some (root_over H ds r.start r.count)
+own_climbs H ds m r inside aligned fits =
+    climbs H (own_digest H ds) (slice_index_or ds (r.start + m) []) r.count m r (omega arith) inside
+    ∙ ap (λ d. cut_over H (at_leaf (own_digest H ds) (r.start + m) d) r) (sym (root_over_one H ds (r.start + m) (omega arith)))
+    ∙ cut_own_range H ds (leaves_from (r.start + m) 1) r (omega arith) aligned fits
 
-pub own_path_leads : (H : List ℕ → List ℕ) (ds : List (List ℕ)) (m a n : ℕ) (path : List (List ℕ)) → m < n → IsAligned a n → a + n ≤ length ds
-    → inclusion_over (old_over H (own_digest H ds)) m a n ≡ Some path → root_down H m n (slice_index_or ds (a + m) []) (reverse path) ≡ Some (root_over H ds a n)
-own_path_leads H ds m a n path inside aligned fits is = rw is at (own_climbs H ds m a n inside aligned fits)
+pub own_path_leads : (H : List ℕ → List ℕ) (ds : List (List ℕ)) (m : ℕ) (r : Range) (path : List (List ℕ)) → m < r.count → IsAligned r.start r.count → r.start + r.count ≤ length ds
+    → inclusion_over (old_over H (own_digest H ds)) m r ≡ Some path → root_down H m r.count (slice_index_or ds (r.start + m) []) (reverse path) ≡ Some (root_over H ds r.start r.count)
+own_path_leads H ds m r path inside aligned fits is = rw is at (own_climbs H ds m r inside aligned fits)
 
 -- a log's own path of a leaf leads to its root
 pub own_leads : (H : List ℕ → List ℕ) (ds : List (List ℕ)) (m n : ℕ) → m < n → n ≤ length ds
@@ -94,7 +100,7 @@ pub own_leads : (H : List ℕ → List ℕ) (ds : List (List ℕ)) (m n : ℕ) �
 own_leads H ds m n inside fits =
     let at : 0 + m ≡ m = omega arith in
     let aligned : IsAligned 0 n = record { height = n; place = 0; start = omega arith; most = omega (arith, below_pow n) } in
-    led_is H m n (slice_index_or ds m []) (inclusion_of (old_over H (own_digest H ds)) m n) inside ∙ rw at at (own_climbs H ds m 0 n inside aligned (omega arith))
+    led_is H m n (slice_index_or ds m []) (inclusion_of (old_over H (own_digest H ds)) m n) inside ∙ rw at at (own_climbs H ds m (leaves_from 0 n) inside aligned (omega arith))
 
 pub own_path_is : (H : List ℕ → List ℕ) (ds : List (List ℕ)) (m : ℕ) → m < length ds
     → (path : List (List ℕ)) × (inclusion_of (old_over H (own_digest H ds)) m (length ds) ≡ Some path) × (inclusion_root H m (length ds) (slice_index_or ds m []) path ≡ Some (root_of H ds))

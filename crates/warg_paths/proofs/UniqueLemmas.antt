@@ -7,6 +7,7 @@ use Rattle.std.proofs.lemmas.Bool.Decides.{eqb_tells}
 use Rattle.std.proofs.lemmas.List.{reverse-reverse, reverse-append, length-append}
 use Rattle.warg_crypto.specs.Collisions.{AreHashes, SomeCollision, Anywhere}
 use Rattle.warg_crypto.specs.Tree.{branch}
+use Rattle.warg_log.specs.Ranges.{Range, leaves_from, front_part, rest_part}
 use Rattle.warg_log.specs.Tree.{front_of}
 use Rattle.warg_crypto.proofs.ForCallers.{HasSize, same_or_not, branch_parts}
 use Rattle.warg_log.specs.Cut.{joined}
@@ -53,31 +54,31 @@ parts_low h n more most =
     (low, omega (arith, low, f.2))
 
 -- the path of one leaf has no digest
-short_one : (R : ℕ → ℕ → Option (List ℕ)) (h m a n : ℕ) (path : List (List ℕ)) → n ≡ 1 → inclusion_over R m a n ≡ Some path → length path ≤ h
-short_one R h m a n path only is =
-    let whole : Some [] ≡ Some path = sym (ap (inclusion_over R m a) only ∙ inclusion_one R m a) ∙ is in
+short_one : (R : Range → Option (List ℕ)) (h m : ℕ) (r : Range) (path : List (List ℕ)) → r.count ≡ 1 → inclusion_over R m r ≡ Some path → length path ≤ h
+short_one R h m r path only is =
+    let whole : Some [] ≡ Some path = sym (inclusion_one R m r only) ∙ is in
     let none : [] ≡ path = cc in
     omega (arith, ap length none)
 
 -- a path has at most as many digests as the exponent of a power of two that isn't below the count
-short_over : (R : ℕ → ℕ → Option (List ℕ)) (h m a n : ℕ) (path : List (List ℕ)) → m < n → n ≤ 2 ^ h → inclusion_over R m a n ≡ Some path → length path ≤ h
-short_over R zero m a n path inside most is = short_one R zero m a n path (omega arith) is
-short_over R (suc h) m a n path inside most is = elim (cases_lt 1 n) [
-  | inr few ↦ short_one R (suc h) m a n path (omega arith) is
+short_over : (R : Range → Option (List ℕ)) (h m : ℕ) (r : Range) (path : List (List ℕ)) → m < r.count → r.count ≤ 2 ^ h → inclusion_over R m r ≡ Some path → length path ≤ h
+short_over R zero m r path inside most is = short_one R zero m r path (omega arith) is
+short_over R (suc h) m r path inside most is = elim (cases_lt 1 r.count) [
+  | inr few ↦ short_one R (suc h) m r path (omega arith) is
   | inl more ↦
-      let low = parts_low h n more most in
-      elim (cases_lt m (front_of n)) [
+      let low = parts_low h r.count more most in
+      elim (cases_lt m (front_of r.count)) [
         | inl front ↦
-            let b = beside_parts _ _ path (sym (inclusion_front R m a n more front) ∙ is) in
-            omega (arith, one_longer b.below b.last path b.is, short_over R h m a (front_of n) b.below front low.0 b.path_is)
+            let b = beside_parts _ _ path (sym (inclusion_front R m r more front) ∙ is) in
+            omega (arith, one_longer b.below b.last path b.is, short_over R h m (front_part r) b.below front low.0 b.path_is)
         | inr rest ↦
-            let b = beside_parts _ _ path (sym (inclusion_rest R m a n more rest) ∙ is) in
-            omega (arith, one_longer b.below b.last path b.is, short_over R h (m - front_of n) (a + front_of n) (n - front_of n) b.below (omega (arith, rest)) low.1 b.path_is)
+            let b = beside_parts _ _ path (sym (inclusion_rest R m r more rest) ∙ is) in
+            omega (arith, one_longer b.below b.last path b.is, short_over R h (m - front_of r.count) (rest_part r) b.below (omega (arith, rest)) low.1 b.path_is)
       ]
 ]
 
-pub short : (R : ℕ → ℕ → Option (List ℕ)) (m n h : ℕ) (path : List (List ℕ)) → m < n → n ≤ 2 ^ h → inclusion_of R m n ≡ Some path → length path ≤ h
-short R m n h path = short_over R h m 0 n path
+pub short : (R : Range → Option (List ℕ)) (m n h : ℕ) (path : List (List ℕ)) → m < n → n ≤ 2 ^ h → inclusion_of R m n ≡ Some path → length path ≤ h
+short R m n h path = short_over R h m (leaves_from 0 n) path
 
 -- the five cases of the way down
 down_one : (H : List ℕ → List ℕ) (m n : ℕ) (x root : List ℕ) → n ≡ 1 → root_down H m n x [] ≡ Some root → x ≡ root

@@ -1,8 +1,8 @@
 -- Inclusion and consistency paths (RFC 6962, sections 2.1.1 and 2.1.2; in RFC 9162, 2.1.3.1 and 2.1.4.1). A path
--- is a list of digests from the bottom up. R has the root of each range of leaves by its first leaf and its
--- count, if there is one.
-use Rattle.std.specs.Prelude.{ℕ, zero, suc, ◌+◌, ◌-◌, ◌==◌, Bool, true, false, ◌&&◌, nat_le, nat_lt, if◌then◌else◌, List, [], ◌∷◌, ◌++◌, reverse, Option, Some, None}
+-- is a list of digests from the bottom up. R has the root of each range of leaves, if there is one.
+use Rattle.std.specs.Prelude.{ℕ, zero, suc, ◌-◌, ◌==◌, Bool, true, false, ◌&&◌, nat_le, nat_lt, if◌then◌else◌, List, [], ◌∷◌, ◌++◌, reverse, Option, Some, None}
 use Rattle.warg_crypto.specs.Tree.{branch}
+use Rattle.warg_log.specs.Ranges.{Range, leaves_from, front_part, rest_part}
 use Rattle.warg_log.specs.Tree.{front_of}
 use Rattle.warg_log.specs.Cut.{joined}
 
@@ -11,48 +11,48 @@ abbrev pub beside : Option (List (List ℕ)) → Option (List ℕ) → Option (L
 beside (Some path) (Some top) = Some (path ++ top ∷ [])
 beside _ _ = None
 
--- The path of leaf m of the n leaves from a on: that in the part which has the leaf, and then the root of the
--- other part. So many steps are enough as there are leaves.
-unfoldable pub path_within : (ℕ → ℕ → Option (List ℕ)) → ℕ → ℕ → ℕ → ℕ → Option (List (List ℕ))
-path_within R zero m a n = Some []
-path_within R (suc steps) m a n =
-    if nat_le n 1
+-- The path of a range's leaf m: that in the part which has the leaf, and then the root of the other part. So many
+-- steps are enough as there are leaves.
+unfoldable pub path_within : (Range → Option (List ℕ)) → ℕ → ℕ → Range → Option (List (List ℕ))
+path_within R zero m range = Some []
+path_within R (suc steps) m range =
+    if nat_le range.count 1
     then Some []
-    else if nat_lt m (front_of n)
-    then beside (path_within R steps m a (front_of n)) (R (a + front_of n) (n - front_of n))
-    else beside (path_within R steps (m - front_of n) (a + front_of n) (n - front_of n)) (R a (front_of n))
+    else if nat_lt m (front_of range.count)
+    then beside (path_within R steps m (front_part range)) (R (rest_part range))
+    else beside (path_within R steps (m - front_of range.count) (rest_part range)) (R (front_part range))
 
--- The inclusion path of leaf m of the n leaves from a on.
-abbrev pub inclusion_over : (ℕ → ℕ → Option (List ℕ)) → ℕ → ℕ → ℕ → Option (List (List ℕ))
-inclusion_over R m a n = path_within R n m a n
+-- The inclusion path of a range's leaf m.
+abbrev pub inclusion_over : (Range → Option (List ℕ)) → ℕ → Range → Option (List (List ℕ))
+inclusion_over R m range = path_within R range.count m range
 
 -- The inclusion path of leaf m of n.
-abbrev pub inclusion_of : (ℕ → ℕ → Option (List ℕ)) → ℕ → ℕ → Option (List (List ℕ))
-inclusion_of R m n = inclusion_over R m 0 n
+abbrev pub inclusion_of : (Range → Option (List ℕ)) → ℕ → ℕ → Option (List (List ℕ))
+inclusion_of R m n = inclusion_over R m (leaves_from 0 n)
 
 -- The path over leaves that are all old: nothing where they are the whole old log, whose root is known, and else
 -- their root.
-abbrev pub path_at_end : (ℕ → ℕ → Option (List ℕ)) → Bool → ℕ → ℕ → Option (List (List ℕ))
-path_at_end R whole a n = if whole then Some [] else beside (Some []) (R a n)
+abbrev pub path_at_end : (Range → Option (List ℕ)) → Bool → Range → Option (List (List ℕ))
+path_at_end R whole range = if whole then Some [] else beside (Some []) (R range)
 
--- The path from the first m of the n leaves from a on to all of them. Where these m are the whole old log, their
--- root is known, and else it leads the path. So many steps are enough as there are leaves.
-unfoldable pub growth_within : (ℕ → ℕ → Option (List ℕ)) → ℕ → Bool → ℕ → ℕ → ℕ → Option (List (List ℕ))
-growth_within R zero whole m a n = Some []
-growth_within R (suc steps) whole m a n =
-    if m == n
-    then path_at_end R whole a n
-    else if nat_le m (front_of n)
-    then beside (growth_within R steps whole m a (front_of n)) (R (a + front_of n) (n - front_of n))
-    else beside (growth_within R steps false (m - front_of n) (a + front_of n) (n - front_of n)) (R a (front_of n))
+-- The path from the first m leaves of a range to all of them. Where these m are the whole old log, their root is
+-- known, and else it leads the path. So many steps are enough as there are leaves.
+unfoldable pub growth_within : (Range → Option (List ℕ)) → ℕ → Bool → ℕ → Range → Option (List (List ℕ))
+growth_within R zero whole m range = Some []
+growth_within R (suc steps) whole m range =
+    if m == range.count
+    then path_at_end R whole range
+    else if nat_le m (front_of range.count)
+    then beside (growth_within R steps whole m (front_part range)) (R (rest_part range))
+    else beside (growth_within R steps false (m - front_of range.count) (rest_part range)) (R (front_part range))
 
--- The consistency path from the first m of the n leaves from a on to all of them.
-abbrev pub consistency_over : (ℕ → ℕ → Option (List ℕ)) → Bool → ℕ → ℕ → ℕ → Option (List (List ℕ))
-consistency_over R whole m a n = growth_within R n whole m a n
+-- The consistency path from the first m leaves of a range to all of them.
+abbrev pub consistency_over : (Range → Option (List ℕ)) → Bool → ℕ → Range → Option (List (List ℕ))
+consistency_over R whole m range = growth_within R range.count whole m range
 
 -- The consistency path from m leaves to n.
-abbrev pub consistency_of : (ℕ → ℕ → Option (List ℕ)) → ℕ → ℕ → Option (List (List ℕ))
-consistency_of R m n = consistency_over R true m 0 n
+abbrev pub consistency_of : (Range → Option (List ℕ)) → ℕ → ℕ → Option (List (List ℕ))
+consistency_of R m n = consistency_over R true m (leaves_from 0 n)
 
 -- The root of n leaves by the digest x of leaf m and the digests of a path, the topmost first.
 unfoldable pub root_down : (List ℕ → List ℕ) → ℕ → ℕ → List ℕ → List (List ℕ) → Option (List ℕ)

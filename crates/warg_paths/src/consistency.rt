@@ -1,6 +1,7 @@
 //! Consistency paths.
 
 ghost use Rattle.std.specs.Prelude.{◌≡◌, ◌≢◌, ℕ, ◌+◌, ◌^◌, ◌<◌, ◌≤◌, ◌⊎◌, ◌↔◌, List, [], reverse, Option, Some, None, Err, IfOk, IsTrue};
+ghost use Rattle.warg_log.specs.Ranges.{Range};
 ghost use Rattle.warg_log.specs.Cut.{old_over};
 ghost use Rattle.warg_paths.specs.Paths.{beside, path_at_end, consistency_over, consistency_of, consistency_roots, subproof_roots, roots_down, one_root};
 
@@ -50,6 +51,7 @@ struct OldPart {
 }
 
 // The path from the old leaves of a range to all of them, with room for `above` more digests.
+#[tactic(auto, using(crate::proofs::MakeLemmas::consistency_end))]
 fn path_over<D: SupportedDigest, V: VisitBytes, L: LogData<D, V>, A: Allocator>(
     alloc: A,
     hashes: &L,
@@ -61,11 +63,10 @@ fn path_over<D: SupportedDigest, V: VisitBytes, L: LogData<D, V>, A: Allocator>(
     requires inside { old.length ≤ range.now.count }
     requires room { above + range.now.count ≤ 2 ^ 63 }
     ensures not_known { (result ≡ Err PathError.HashNotKnown)
-        ↔ (consistency_over (old_over D.digest
-        (L.digest_at hashes.now)) old.is_whole old.length range.now.start range.now.count ≡ None) }
+        ↔ (consistency_over (old_over D.digest (L.digest_at hashes.now)) old.is_whole old.length
+        range.now ≡ None) }
     ensures ok { IfOk result (λ path. consistency_over
-        (old_over D.digest
-        (L.digest_at hashes.now)) old.is_whole old.length range.now.start range.now.count
+        (old_over D.digest (L.digest_at hashes.now)) old.is_whole old.length range.now
         ≡ Some path.items) }
     ensures in_range { result ≢ Err PathError.OutOfRange }
 {
@@ -92,12 +93,9 @@ fn path_at_end<D: SupportedDigest, V: VisitBytes, L: LogData<D, V>, A: Allocator
 ) -> Result<Vec<Hash<D>, A>, PathError>
     requires { above < 2 ^ 63 }
     ensures not_known { (result ≡ Err PathError.HashNotKnown)
-        ↔
-        (path_at_end
-        (old_over D.digest (L.digest_at hashes.now)) is_whole range.now.start range.now.count
-        ≡ None) }
-    ensures ok { IfOk result (λ path. path_at_end
-        (old_over D.digest (L.digest_at hashes.now)) is_whole range.now.start range.now.count
+        ↔ (path_at_end (old_over D.digest (L.digest_at hashes.now)) is_whole range.now ≡ None) }
+    ensures ok { IfOk result (λ path.
+        path_at_end (old_over D.digest (L.digest_at hashes.now)) is_whole range.now
         ≡ Some path.items) }
     ensures in_range { result ≢ Err PathError.OutOfRange }
 {
@@ -125,14 +123,14 @@ struct Turn {
 
 impl Turn {
     // The way to the end of the range's old leaves.
+    #[tactic(auto, using(crate::proofs::MakeLemmas::consistency_front, crate::proofs::MakeLemmas::consistency_rest))]
     fn to_end(range: &LeafRange, old: OldPart) -> Turn
         requires some { 0 < old.length }
         requires inside { old.length < range.now.count }
-        ensures path { (R : ℕ → ℕ → Option (List ℕ))
-            → consistency_over R old.is_whole old.length range.now.start range.now.count
-            ≡ beside
-            (consistency_over R result.old.is_whole result.old.length result.part.start
-            result.part.count) (R result.beside.start result.beside.count) }
+        ensures path { (R : Range → Option (List ℕ))
+            → consistency_over R old.is_whole old.length range.now ≡ beside
+            (consistency_over R result.old.is_whole result.old.length result.part)
+            (R result.beside) }
         ensures some { 0 < result.old.length }
         ensures inside { result.old.length ≤ result.part.count }
         ensures smaller { result.part.count < range.now.count }

@@ -2,6 +2,7 @@
 
 ghost use Rattle.std.specs.Prelude.{◌≡◌, ◌≢◌, ℕ, ◌+◌, ◌^◌, ◌<◌, ◌≤◌, ◌↔◌, ◌∷◌, List, reverse, Option, Some, None, Err, IfOk, IsTrue};
 ghost use Rattle.warg_crypto.specs.Tree.{leaf_digest};
+ghost use Rattle.warg_log.specs.Ranges.{Range};
 ghost use Rattle.warg_log.specs.Cut.{old_over};
 ghost use Rattle.warg_paths.specs.Paths.{beside, inclusion_over, inclusion_of, inclusion_root, root_down};
 
@@ -39,6 +40,7 @@ pub fn inclusion_path<D: SupportedDigest, V: VisitBytes, L: LogData<D, V>, A: Al
 }
 
 // The path of the leaf at `index` of the range's leaves, with room for `above` more digests.
+#[tactic(auto, using(crate::proofs::MakeLemmas::inclusion_one))]
 fn path_over<D: SupportedDigest, V: VisitBytes, L: LogData<D, V>, A: Allocator>(
     alloc: A,
     hashes: &L,
@@ -49,10 +51,9 @@ fn path_over<D: SupportedDigest, V: VisitBytes, L: LogData<D, V>, A: Allocator>(
     requires inside { index < range.now.count }
     requires room { above + range.now.count ≤ 2 ^ 63 }
     ensures not_known { (result ≡ Err PathError.HashNotKnown)
-        ↔ (inclusion_over (old_over D.digest
-        (L.digest_at hashes.now)) index range.now.start range.now.count ≡ None) }
-    ensures ok { IfOk result (λ path. inclusion_over
-        (old_over D.digest (L.digest_at hashes.now)) index range.now.start range.now.count
+        ↔ (inclusion_over (old_over D.digest (L.digest_at hashes.now)) index range.now ≡ None) }
+    ensures ok { IfOk result (λ path.
+        inclusion_over (old_over D.digest (L.digest_at hashes.now)) index range.now
         ≡ Some path.items) }
     ensures in_range { result ≢ Err PathError.OutOfRange }
 {
@@ -79,13 +80,12 @@ struct Turn {
 
 impl Turn {
     // The way to the leaf at `index` of the range's leaves.
+    #[tactic(auto, using(crate::proofs::MakeLemmas::inclusion_front, crate::proofs::MakeLemmas::inclusion_rest))]
     fn to_leaf(range: &LeafRange, index: usize) -> Turn
         requires some { 1 < range.now.count }
         requires inside { index < range.now.count }
-        ensures path { (R : ℕ → ℕ → Option (List ℕ))
-            → inclusion_over R index range.now.start range.now.count
-            ≡ beside (inclusion_over R result.index result.part.start result.part.count)
-            (R result.beside.start result.beside.count) }
+        ensures path { (R : Range → Option (List ℕ)) → inclusion_over R index range.now
+            ≡ beside (inclusion_over R result.index result.part) (R result.beside) }
         ensures inside { result.index < result.part.count }
         ensures smaller { result.part.count < range.now.count }
     {

@@ -1,6 +1,7 @@
 //! Laws of the paths: the contract of each function is the law, and it has no effect.
 
 ghost use Rattle.std.specs.Prelude.{◌≡◌, ℕ, ◌+◌, ◌-◌, ◌*◌, ◌^◌, ◌<◌, ◌≤◌, ◌⊎◌, Bool, true, false, List, [], ◌∷◌, length, take, Option, Some, slice_index_or};
+ghost use Rattle.warg_log.specs.Ranges.{Range, front_part, rest_part};
 ghost use Rattle.warg_log.specs.Tree.{front_of, root_of, own_digest};
 ghost use Rattle.warg_log.specs.Cut.{cut_root, old_over};
 ghost use Rattle.warg_crypto.specs.Collisions.{GivesHashes, AreHashes, SomeCollision, Anywhere};
@@ -8,40 +9,39 @@ ghost use Rattle.warg_paths.specs.Paths.{beside, inclusion_over, inclusion_of, p
 
 /// The inclusion path of one leaf is empty (RFC 6962, section 2.1.1).
 pub fn inclusion_of_one()
-    ensures { (R : ℕ → ℕ → Option (List ℕ)) (m a : ℕ) → inclusion_over R m a 1 ≡ Some [] }
+    ensures { (R : Range → Option (List ℕ)) (m : ℕ) (r : Range) → r.count ≡ 1
+        → inclusion_over R m r ≡ Some [] }
 {}
 
 /// The inclusion path of a leaf among the first k of more leaves, k the greatest power of two below their number,
 /// is its path there and then the root of the rest; that of any other leaf is its path in the rest and then the
 /// root of the first k (RFC 6962, section 2.1.1).
 pub fn inclusion_of_more()
-    ensures front { (R : ℕ → ℕ → Option (List ℕ)) (m a n : ℕ) → 1 < n → m < front_of n
-        → inclusion_over R m a n ≡ beside (inclusion_over R m a (front_of n))
-        (R (a + front_of n) (n - front_of n)) }
-    ensures rest { (R : ℕ → ℕ → Option (List ℕ)) (m a n : ℕ) → 1 < n → front_of n ≤ m
-        → inclusion_over R m a n ≡ beside (inclusion_over R (m - front_of n) (a + front_of n)
-        (n - front_of n)) (R a (front_of n)) }
+    ensures front { (R : Range → Option (List ℕ)) (m : ℕ) (r : Range) → 1 < r.count
+        → m < front_of r.count
+        → inclusion_over R m r ≡ beside (inclusion_over R m (front_part r)) (R (rest_part r)) }
+    ensures rest { (R : Range → Option (List ℕ)) (m : ℕ) (r : Range) → 1 < r.count
+        → front_of r.count ≤ m → inclusion_over R m r
+        ≡ beside (inclusion_over R (m - front_of r.count) (rest_part r)) (R (front_part r)) }
 {}
 
 /// The consistency path of all leaves is empty where their root is known, and else that root (RFC 6962,
 /// section 2.1.2).
 pub fn consistency_of_all()
-    ensures { (R : ℕ → ℕ → Option (List ℕ)) (whole : Bool) (a n : ℕ) → 0 < n
-        → consistency_over R whole n a n ≡ path_at_end R whole a n }
+    ensures { (R : Range → Option (List ℕ)) (whole : Bool) (r : Range) → 0 < r.count
+        → consistency_over R whole r.count r ≡ path_at_end R whole r }
 {}
 
 /// The consistency path of the first m of more leaves: where they end in the first k, their path there and then
 /// the root of the rest; else the path in the rest, where they are no whole log, and then the root of the first k
 /// (RFC 6962, section 2.1.2).
 pub fn consistency_of_more()
-    ensures front { (R : ℕ → ℕ → Option (List ℕ)) (whole : Bool) (m a n : ℕ) → 0 < m → m < n
-        → m ≤ front_of n
-        → consistency_over R whole m a n ≡ beside (consistency_over R whole m a (front_of n))
-        (R (a + front_of n) (n - front_of n)) }
-    ensures rest { (R : ℕ → ℕ → Option (List ℕ)) (whole : Bool) (m a n : ℕ) → m < n → front_of n < m
-        → consistency_over R whole m a n ≡ beside
-        (consistency_over R false (m - front_of n) (a + front_of n) (n - front_of n))
-        (R a (front_of n)) }
+    ensures front { (R : Range → Option (List ℕ)) (whole : Bool) (m : ℕ) (r : Range) → 0 < m
+        → m < r.count → m ≤ front_of r.count → consistency_over R whole m r
+        ≡ beside (consistency_over R whole m (front_part r)) (R (rest_part r)) }
+    ensures rest { (R : Range → Option (List ℕ)) (whole : Bool) (m : ℕ) (r : Range) → m < r.count
+        → front_of r.count < m → consistency_over R whole m r
+        ≡ beside (consistency_over R false (m - front_of r.count) (rest_part r)) (R (front_part r)) }
 {}
 
 /// An inclusion path and an inclusion proof of one leaf over one data lead to one root, or both to none.
@@ -87,6 +87,6 @@ pub fn consistency_path_is_unique()
 
 /// An inclusion path of a log of at most 2^h entries has at most h digests, so one of at most 2^63 has 63.
 pub fn path_is_short()
-    ensures { (R : ℕ → ℕ → Option (List ℕ)) (m n h : ℕ) (path : List (List ℕ)) → m < n → n ≤ 2 ^ h
+    ensures { (R : Range → Option (List ℕ)) (m n h : ℕ) (path : List (List ℕ)) → m < n → n ≤ 2 ^ h
         → inclusion_of R m n ≡ Some path → length path ≤ h }
 {}

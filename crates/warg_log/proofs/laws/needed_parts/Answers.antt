@@ -6,4 +6,4 @@ use Rattle.warg_log.proofs.laws.needed_parts.Goals as goal
 
 pub returns-clause-front_first : goal.returns-clause-front_first
 unfolding read_on
-returns-clause-front_first c s w a n more other apart around = ap read_on (way_over_parts s w a n more other apart) ∙ rw (false_from_ne_true _ around)
+returns-clause-front_first c t r more other apart around = ap read_on (way_over_parts t r more other apart) ∙ rw (false_from_ne_true _ around)
