@@ -72,21 +72,17 @@ impl LeafRange {
         self.count.is_power_of_two()
     }
 
-    /// Whether the range has no leaf of the other one.
-    pub fn is_beside(&self, other: &LeafRange) -> bool
-        ensures { result ≡ is_beside other.now self.now }
-    {
-        self.start + self.count <= other.start || other.start + other.count <= self.start
-    }
-
     // Whether an evaluation with this target reads the range's digest: the range is one leaf, or has a
     // power of two of leaves and misses the target.
+    #[tactic(auto, using(crate::proofs::RootLemmas::power_decides))]
     pub(crate) fn is_read(&self, target: &LeafRange) -> bool
         ensures read { IsTrue result ↔ ((self.now.count ≡ 1)
             ⊎ (IsFull self.now.count × IsTrue (is_beside target.now self.now))) }
         ensures some { 0 < self.now.count }
     {
-        self.count == 1 || self.is_full() && self.is_beside(target)
+        let is_beside = self.start + self.count <= target.start
+            || target.start + target.count <= self.start;
+        self.count == 1 || self.count.is_power_of_two() && is_beside
     }
 
     /// The two parts of the range in the tree's recursion: the first leaves, as many as the greatest
@@ -99,10 +95,15 @@ impl LeafRange {
         ensures smaller { (result.0.count < self.now.count) × (result.1.count < self.now.count) }
     {
         let count = self.count.next_power_of_two() / 2;
-        (
-            LeafRange::new(self.start, count),
-            LeafRange::new(self.start + count, self.count - count),
-        )
+        let front = LeafRange {
+            start: self.start,
+            count,
+        };
+        let rest = LeafRange {
+            start: self.start + count,
+            count: self.count - count,
+        };
+        (front, rest)
     }
 }
 

@@ -213,6 +213,9 @@ impl Node {
         ensures { result ≡ range_of self.now.0 }
     {
         let count = 1 << self.height();
-        LeafRange::new((self.0 - (count - 1)) / 2, count)
+        LeafRange {
+            start: (self.0 - (count - 1)) / 2,
+            count,
+        }
     }
 }

@@ -167,7 +167,10 @@ impl<D: SupportedDigest, V: VisitBytes> InclusionProof<D, V> {
         if !self.leaf.exists_at_length(self.log_length) {
             return Err(InclusionProofError::LeafTooNew);
         }
-        let whole = LeafRange::new(0, self.log_length);
+        let whole = LeafRange {
+            start: 0,
+            count: self.log_length,
+        };
         match range_root(hashes, &self.leaf.leaf_range(), &hash, &whole) {
             Some(root) => Ok(root),
             None => Err(InclusionProofError::HashNotKnown),
@@ -294,7 +297,7 @@ fn add_walk<A: Allocator>(
         (map (λ x. x.0) nodes.new.items) parts.initial parts.lower upper) }
 {
     let root = LeafRange::first_root(start, end);
-    if root.is_beside(&leaf.leaf_range()) {
+    if root.end() <= leaf.leaf_range().start {
         let parts = add_walk(nodes, leaf, root.end(), end)?;
         nodes.push(Node::over(&root))?;
         return Ok(parts);
