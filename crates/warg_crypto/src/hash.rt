@@ -15,7 +15,7 @@ use thiserror::Error;
 /// Equality, order and `Hash` go by the bytes, for every `D`.
 #[derive_where(PartialEq, Eq, PartialOrd, Ord, Hash)]
 pub struct Hash<D> {
-    bytes: [u8; 32],
+    pub(crate) bytes: [u8; 32],
     of: PhantomData<D>,
 }
 

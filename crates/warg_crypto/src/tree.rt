@@ -32,9 +32,10 @@ impl<D> VisitBytes for Branch<'_, D> {
     ghost bytes = { λ branch. branch_input branch.0.now branch.1.now };
 
     fn visit<W: ByteVisitor>(&self, to: &mut W) {
+        let Branch(left, right) = *self;
         to.visit_bytes(&[1]);
-        to.visit_bytes(self.0.bytes());
-        to.visit_bytes(self.1.bytes());
+        to.visit_bytes(&left.bytes);
+        to.visit_bytes(&right.bytes);
     }
 }
 

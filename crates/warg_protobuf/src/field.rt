@@ -72,49 +72,40 @@ impl<'a> Payload<'a> {
     }
 }
 
-/// The payload of a wire type at the front, and the bytes after it.
-// Inlined, as the two calls around it, so that a payload isn't handed on through memory.
+/// The field at the front, and the bytes after it.
+// Inlined, as the call in it, so that a payload isn't handed on through memory.
 #[inline(always)]
-#[tactic(auto, unfolding(crate::specs::Field::payload_at))]
-fn read_payload(wire_type: u64, bytes: &[u8]) -> Result<(Payload<'_>, &[u8]), WireError>
-    ensures { Gives (λ x. (payload_view x.0, x.1.now)) result (payload_at wire_type bytes.now) }
+#[tactic(auto, unfolding(crate::specs::Field::field_at, crate::specs::Field::payload_at))]
+pub(crate) fn read_field(bytes: &[u8]) -> Result<(Field<'_>, &[u8]), WireError>
+    ensures { Gives (λ x. (field_view x.0, x.1.now)) result (field_at bytes.now) }
 {
-    match wire_type {
+    let (tag, bytes) = read_varint(bytes)?;
+    let number = tag / 8;
+    if tag >= 1 << 32 || number == 0 {
+        return Err(WireError::BadTag);
+    }
+    let (payload, rest) = match tag % 8 {
         0 => {
-            let (number, rest) = read_varint(bytes)?;
-            Ok((Payload::Varint(number), rest))
+            let (value, rest) = read_varint(bytes)?;
+            (Payload::Varint(value), rest)
         }
         1 => {
             let (inner, rest) = bytes.split_at_checked(8).ok_or(WireError::Truncated)?;
-            Ok((Payload::Fixed64(inner), rest))
+            (Payload::Fixed64(inner), rest)
         }
         2 => {
             let (len, rest) = read_varint(bytes)?;
             let (inner, rest) = rest
                 .split_at_checked(len as usize)
                 .ok_or(WireError::Truncated)?;
-            Ok((Payload::Delimited(inner), rest))
+            (Payload::Delimited(inner), rest)
         }
-        3 | 4 => Err(WireError::Group),
+        3 | 4 => return Err(WireError::Group),
         5 => {
             let (inner, rest) = bytes.split_at_checked(4).ok_or(WireError::Truncated)?;
-            Ok((Payload::Fixed32(inner), rest))
+            (Payload::Fixed32(inner), rest)
         }
-        _ => Err(WireError::BadWireType),
-    }
-}
-
-/// The field at the front, and the bytes after it.
-#[inline(always)]
-#[tactic(auto, unfolding(crate::specs::Field::field_at))]
-pub(crate) fn read_field(bytes: &[u8]) -> Result<(Field<'_>, &[u8]), WireError>
-    ensures { Gives (λ x. (field_view x.0, x.1.now)) result (field_at bytes.now) }
-{
-    let (tag, rest) = read_varint(bytes)?;
-    let number = tag / 8;
-    if tag >= 1 << 32 || number == 0 {
-        return Err(WireError::BadTag);
-    }
-    let (payload, rest) = read_payload(tag % 8, rest)?;
+        _ => return Err(WireError::BadWireType),
+    };
     Ok((Field { number, payload }, rest))
 }

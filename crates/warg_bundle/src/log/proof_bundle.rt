@@ -215,7 +215,10 @@ impl<D: SupportedDigest, V: VisitBytes, A: Allocator + Copy> ProofBundle<D, V, A
         ensures wire { (e : _) → result ≢ Err (DecodeError.Wire e) }
     {
         let hashes = read_hashes(alloc, message.hashes.as_slice())?;
-        let included_nodes = read_nodes(alloc, message.included_indices.as_slice())?;
+        let mut included_nodes = Vec::new(alloc);
+        'indices: for index in &message.included_indices {
+            included_nodes.push(Node(*index as usize))?;
+        }
         Ok(ProofBundle {
             log_length: message.log_length,
             consistent_lengths: message.consistent_lengths,
@@ -332,17 +335,6 @@ fn inclusion_proofs<D, V, A: Allocator>(
         proofs.push(InclusionProof::new(*node, log_length as usize))?;
     }
     Ok(proofs)
-}
-
-// The nodes of these numbers.
-fn read_nodes<A: Allocator>(alloc: A, indices: &[u32]) -> Result<Vec<Node, A>, AllocError>
-    ensures { IfOk result (λ nodes. nodes.items ≡ map (λ n. record { 0 = n }) indices.now) }
-{
-    let mut nodes = Vec::new(alloc);
-    'indices: for index in indices {
-        nodes.push(Node(*index as usize))?;
-    }
-    Ok(nodes)
 }
 
 // The digests of these entries, by node.
