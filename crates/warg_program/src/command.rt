@@ -4,7 +4,7 @@ ghost use Rattle.warg_program.specs.Words.{words_of};
 ghost use Rattle.warg_program.specs.Private.Says.{Says};
 ghost use Rattle.warg_program.specs.Orders.{order_of, push_in, log_in, include_in, consistent_in, bundle_in, verify_in, insert_in, map_in, prove_in, absent_in};
 
-use crate::words::{LogLength, Unread, Words};
+use crate::words::{LogLength, Unread, Words, split_first};
 use std::alloc::Allocator;
 use std::marker::Model;
 use warg_crypto::{Hash, Sha256};
@@ -63,13 +63,13 @@ impl<A: Allocator> Model for Command<A> {
 }
 
 impl<A: Allocator + Copy> Command<A> {
-    #[tactic(auto, unfolding(crate::specs::Orders::order_of))]
+    #[tactic(auto, using(crate::proofs::WordLemmas::words_next), unfolding(crate::specs::Orders::order_of))]
     /// The command that a line spells: its name decides, and the command reads the words behind it.
     pub(super) fn parse(alloc: A, line: &[u8]) -> Result<Command<A>, Unread>
         ensures { Says result (order_of (words_of line.now)) }
     {
-        let mut words = Words::of(line);
-        let name = words.word()?;
+        let (name, rest) = split_first(line, b' ');
+        let words = Words { rest };
         if name == b"push".as_slice() {
             return Command::push(alloc, words);
         }

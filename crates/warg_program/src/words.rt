@@ -2,7 +2,7 @@
 
 ghost use Rattle.std.specs.Prelude.{◌≡◌, ◌^◌, ◌<◌, ◌≤◌, [], ◌∷◌, length, Some, None, Err, IfOk};
 ghost use Rattle.std.specs.Option.{option_map};
-ghost use Rattle.warg_program.specs.Words.{lines_of, words_of, number_in, length_in, hex_bytes_in, root_in};
+ghost use Rattle.warg_program.specs.Words.{lines_of, number_in, length_in, hex_bytes_in, root_in};
 ghost use Rattle.warg_program.specs.Orders.{first_says, none_left};
 ghost use Rattle.warg_program.specs.Private.Parts.{IsFirstPart};
 ghost use Rattle.warg_program.specs.Private.Says.{Says};
@@ -35,7 +35,8 @@ impl From<AllocError> for Unread {
 /// The words of a line that aren't read yet.
 #[derive(Drop)]
 pub(super) struct Words<'a> {
-    rest: Option<&'a [u8]>,
+    /// What stands behind the space after the last word that was read, if there is one.
+    pub(super) rest: Option<&'a [u8]>,
 }
 
 // Contracts see the words as a list.
@@ -50,13 +51,6 @@ impl<'a> Model for Words<'a> {
 }
 
 impl<'a> Words<'a> {
-    /// The words of a line.
-    pub(super) fn of(line: &'a [u8]) -> Words<'a>
-        ensures { result ≡ words_of line.now }
-    {
-        Words { rest: Some(line) }
-    }
-
     #[tactic(auto, using(crate::proofs::WordLemmas::words_next))]
     /// The next word.
     pub(super) fn word(&mut self) -> Result<&'a [u8], Unread>
@@ -153,9 +147,9 @@ impl<'a> Words<'a> {
     }
 }
 
-// What stands before the first `separator`, and what stands behind it, if there is one.
+/// What stands before the first `separator`, and what stands behind it, if there is one.
 #[tactic(auto, using(crate::proofs::WordLemmas::none_lacks))]
-fn split_first(bytes: &[u8], separator: u8) -> (&[u8], Option<&[u8]>)
+pub(super) fn split_first(bytes: &[u8], separator: u8) -> (&[u8], Option<&[u8]>)
     ensures { IsFirstPart separator bytes.now result.0.now
         (option_map (λ rest. rest.now) result.1) }
 {
