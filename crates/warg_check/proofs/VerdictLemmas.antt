@@ -1,7 +1,8 @@
 -- The steps of a verdict.
-use Rattle.std.proofs.Common.{◌≡◌, ℕ, ◌&&◌, Bool, true, false, nat_eq, List, Option, Some, None, Result, Ok, Err, refl, sym, ap, ◌∙◌, ⊎_elim}
+use Rattle.std.proofs.Common.{◌≡◌, ℕ, ◌&&◌, Bool, true, false, nat_eq, List, Option, Some, None, Result, Ok, Err, length, get_or, refl, sym, ap, ◌∙◌, ⊎_elim, ◌<◌}
 use Rattle.std.specs.Prelude.{slice_get}
 use Rattle.std.specs.Cmp.Lexicographic.{pointwise, same_text}
+use Rattle.std.proofs.lemmas.Option.{slice_get_read}
 use Rattle.std.proofs.lemmas.Bool.{and_parts, cases_Bool}
 use Rattle.warg_log.specs.declared.proof.InclusionProofError.{InclusionProofError}
 use Rattle.warg_log.specs.declared.consistency.ConsistencyProofError.{ConsistencyProofError}
@@ -24,6 +25,15 @@ evaluated root found holds same = rw same (⊎_elim
     (λ (t : pointwise nat_eq found root ≡ true). rw t refl)
     (λ (t : pointwise nat_eq found root ≡ false). rw t refl)
     (cases_Bool (pointwise nat_eq found root)))
+
+-- the proof at a place
+pub at_place : {P : Type 0} (all taken : List P) (at : ℕ) (proof : P) → taken ≡ all → at < length taken → proof ≡ get_or taken at proof → slice_get all at ≡ Some proof
+at_place all taken at proof same within is = rw (← same) (slice_get_read taken (length taken) at proof refl within is)
+
+-- peers that were evaluated
+pub leads_to : (H : List ℕ → List ℕ) (leaf key root : List ℕ) (peers : Peers) (found : List ℕ) (holds : Bool) → found ≡ proof_value H peers leaf (key_bits H key)
+    → holds ≡ (pointwise nat_eq found root && true) → leads H leaf key root peers ≡ holds
+leads_to H leaf key root peers found holds is same = rw (same, is) (⊎_elim (λ t. rw t refl) (λ f. rw f refl) (cases_Bool (pointwise nat_eq (proof_value H peers leaf (key_bits H key)) root)))
 
 -- what a verdict that is true says
 true_judged : {P : Type 0} (holds : P → Bool) (o : Option P) → judged holds o ≡ Ok true → (proof : P) × (holds proof ≡ true) × (o ≡ Some proof)
