@@ -7,7 +7,7 @@ use Rattle.std.proofs.lemmas.Bool.{cases_Bool}
 use Rattle.std.proofs.lemmas.List.{map-append}
 use Rattle.warg_log.specs.Nodes.{height_of, place_of, start_of, end_of, node_over, number_of, balanced_over, balanced_roots, Follow, Fall}
 use Rattle.warg_log.specs.Ranges.{Range, leaves_from, range_of}
-use Rattle.warg_log.specs.Cut.{Evaluation, with_node, top_of, cut_over, cut_root, old_root, IsFull}
+use Rattle.warg_log.specs.Cut.{Evaluation, with_target, top_of, cut_over, cut_root, old_root, IsFull}
 use Rattle.warg_log.specs.Walks.{climbed, joined_all}
 use Rattle.warg_protobuf.proofs.ForCallers.{all_weaken}
 use Rattle.warg_log.proofs.NodeLemmas.{node_is, only_number, over_at, over_ends}
@@ -88,13 +88,13 @@ module _ (H : List ℕ → List ℕ) (e : Evaluation) where
 
 pub old_root-joined : (H : List ℕ → List ℕ) (F : ℕ → Option (List ℕ)) (n : ℕ) → 0 < n → old_root H F n ≡ joined_all H (map F (balanced_roots n))
 old_root-joined H F n some =
-    let old : Evaluation = record { held = F; target = nothing; digest = H [] } in
+    let old : Evaluation = with_target F nothing (H []) in
     let free = all_weaken (λ t. end_of t ≤ n) (Misses H old) (λ t _. nothing_beside (range_of t)) (balanced_roots n) (roots_end n n (omega arith)) in
     cut_roots H old (λ lt. absurd (omega arith)) n some ∙ ap (joined_all H) (all_read H old (balanced_roots n) free)
 
 -- up to a balanced root
 climb_cut : (H : List ℕ → List ℕ) (F : ℕ → Option (List ℕ)) (x : List ℕ) (k j c : ℕ)
-    → cut_over H (record { held = F; target = block k j; digest = x }) (block (k + c) (j / 2 ^ c)) ≡ climbed H F (Some x) k j c
+    → cut_over H (with_target F (block k j) x) (block (k + c) (j / 2 ^ c)) ≡ climbed H F (Some x) k j c
 unfolding top_of
 climb_cut H F x k j c = climb k j (λ d way. top_of H F x way ≡ climbed H F (Some x) k j d) refl
     (λ d way is. ⊎_elim (λ (t : (j / 2 ^ d % 2 == 0) ≡ true). rw (t, is) refl) (λ (f : (j / 2 ^ d % 2 == 0) ≡ false). rw (f, is) refl) (cases_Bool (j / 2 ^ d % 2 == 0))) c
@@ -103,7 +103,7 @@ pub cut_root_walk : (H : List ℕ → List ℕ) (F : ℕ → Option (List ℕ)) 
     → balanced_roots n ≡ left ++ number_of (height_of t + c) (place_of t / 2 ^ c) ∷ right
     → cut_root H F t x n ≡ joined_all H (map F left ++ climbed H F (Some x) (height_of t) (place_of t) c ∷ map F right)
 cut_root_walk H F t x n c left right some split =
-    let e = with_node F t x in
+    let e = with_target F (range_of t) x in
     let k = height_of t + c in
     let i = place_of t / 2 ^ c in
     let at = over_at k i in

@@ -4,7 +4,7 @@ use Rattle.std.proofs.lemmas.Bool.{lt-ltb, cases_lt}
 use Rattle.std.proofs.Math.Seq.{take-length}
 use Rattle.warg_log.specs.Ranges.{Range, leaves_from, front_part, rest_part, IsAligned}
 use Rattle.warg_log.specs.Tree.{front_of, root_of, root_over, own_digest}
-use Rattle.warg_log.specs.Cut.{Evaluation, joined, cut_over, cut_root, old_over}
+use Rattle.warg_log.specs.Cut.{Evaluation, with_target, joined, cut_over, cut_root, old_over}
 use Rattle.warg_log.proofs.ForCallers.{below_pow, same_range, node_at, root_over_one, cut_target, cut_parts, cut_old, cut_own_range}
 use Rattle.warg_paths.specs.Paths.{beside, inclusion_over, inclusion_of, inclusion_root, root_down, led_to}
 use Rattle.warg_paths.proofs.PathLemmas.{root_one, root_front, root_rest}
@@ -35,7 +35,7 @@ led_rest H m n x (Some path) (Some t) more rest = root_rest H m n x t path more 
 
 -- the evaluation with the digest x at the leaf in place m
 abbrev at_leaf : (ℕ → Option (List ℕ)) → ℕ → List ℕ → Evaluation
-at_leaf F m x = record { held = F; target = leaves_from m 1; digest = x }
+at_leaf F m x = with_target F (leaves_from m 1) x
 
 -- a path of a part leads to the part's cut root
 climbs : (H : List ℕ → List ℕ) (F : ℕ → Option (List ℕ)) (x : List ℕ) (steps m : ℕ) (r : Range) → r.count ≤ steps → m < r.count

@@ -4,13 +4,13 @@ use Rattle.std.proofs.lemmas.Bool.{cases_lt}
 use Rattle.std.proofs.lemmas.Bool.Decides.{nat_tests}
 use Rattle.warg_crypto.proofs.ForCallers.{same_or_not}
 use Rattle.warg_log.specs.Tree.{front_of, leaves_of, root_of, root_over, own_digest}
-use Rattle.warg_log.specs.Cut.{cut_over}
+use Rattle.warg_log.specs.Cut.{Evaluation, with_target, cut_over}
 use Rattle.warg_witness.specs.Ranges.{IsAround}
 use Rattle.warg_witness.specs.Claims.{Begins, IsMet, IsEntry, IsRootBelow, IsAgreement, IsConsistencyMet}
 use Rattle.warg_crypto.specs.Tree.{branch_input}
 use Rattle.warg_crypto.specs.Collisions.{SomeCollision}
 use Rattle.warg_witness.specs.Laws.{HoldsHashes}
-use Rattle.warg_log.specs.Ranges.{IsAligned}
+use Rattle.warg_log.specs.Ranges.{leaves_from, range_of, IsAligned}
 use Rattle.warg_witness.specs.Private.Ranges.{IsNodeRange}
 use Rattle.warg_witness.specs.Private.Divergence.{HaveOneDigest, MeetAt, DivergesAt, IsDivergence}
 use Rattle.warg_witness.specs.Private.RangeClimbs.{IsRangeClimb}
@@ -49,11 +49,17 @@ difference (x ∷ old) (y ∷ new) order other = elim (same_or_not x y) [
 
 -- two evaluations with digests at a range go up to it
 module _ (H : Digest) (F : Data) (x : List ℕ) (G : Data) (y : List ℕ) (s w : ℕ) where
+  abbrev e : Evaluation
+  e = with_target F (leaves_from s w) x
+
+  abbrev f : Evaluation
+  f = with_target G (leaves_from s w) y
+
   climbed : HasSize H → HoldsHashes F → HoldsHashes G → length x ≡ 32 → length y ≡ 32 → IsNodeRange s w → (k a n : ℕ) → n ≤ k → IsAligned a n → IsAround s w a n
-      → (d e : List ℕ) → cut_over H F x s w a n ≡ Some d → cut_over H G y s w a n ≡ Some e
+      → (p q : List ℕ) → cut_over H e (leaves_from a n) ≡ Some p → cut_over H f (leaves_from a n) ≡ Some q
       → (first : List ℕ) × (second : List ℕ) × (p : SomeDivergence) × IsRangeClimb H F x G y s w a n first second p
-  climbed gives holds holds' size size' node zero a n le aligned around d e is is' = let some = node_some node in absurd (omega arith)
-  climbed gives holds holds' size size' node (suc k) a n le aligned around d e is is' = elim (target_or_other s w a n) [
+  climbed gives holds holds' size size' node zero a n le aligned around p q is is' = let some = node_some node in absurd (omega arith)
+  climbed gives holds holds' size size' node (suc k) a n le aligned around p q is is' = elim (target_or_other s w a n) [
     | inl here ↦ (x, y, Target, ranges_start here.0 here.1 refl refl refl)
     | inr other ↦
         let more : 1 < n = let wide = wider around other in let some = node_some node in omega arith in
@@ -61,8 +67,8 @@ module _ (H : Digest) (F : Data) (x : List ℕ) (G : Data) (y : List ℕ) (s w :
         let first = sides_there H (node_some node) around other F x sides is in
         let second = sides_there H (node_some node) around other G y sides is' in
         let below = climbed gives holds holds' size size' node k b m (omega arith) (side_aligned b m aligned more (near_side sides)) at first.0 second.0 first.2 second.2 in
-        let near = cut_size H F x s w b m _ gives holds size below.3.first_is ∙ sym (cut_size H G y s w b m _ gives holds' size' below.3.second_is) in
-        let far = cut_size H F x s w c j _ gives holds size first.3 ∙ sym (cut_size H G y s w c j _ gives holds' size' second.3) in
+        let near = cut_size H e (leaves_from b m) _ gives holds size below.3.first_is ∙ sym (cut_size H f (leaves_from b m) _ gives holds' size' below.3.second_is) in
+        let far = cut_size H e (leaves_from c j) _ gives holds size first.3 ∙ sym (cut_size H f (leaves_from c j) _ gives holds' size' second.3) in
         let step = up_somewhere right below.2 near far in
         (H _, H _, step.0, ranges_up H (node_some node) around other F x G y sides below.3 first.3 second.3 step.1)
   ]
@@ -112,7 +118,7 @@ module _ (H : Digest) where
 
   -- an evaluation that leads to the root of a tree, and that tree
   from_tree : {F : Data} {x : List ℕ} (entries : List (List ℕ)) {s w : ℕ} {P : List ℕ → List ℕ → Type 0} → HasSize H → HoldsHashes F → length x ≡ 32 → IsNodeRange s w
-      → s + w ≤ length (leaves_of H entries) → cut_over H F x s w 0 (length (leaves_of H entries)) ≡ Some (root_of H (leaves_of H entries))
+      → s + w ≤ length (leaves_of H entries) → cut_over H (with_target F (leaves_from s w) x) (leaves_from 0 (length (leaves_of H entries))) ≡ Some (root_of H (leaves_of H entries))
       → ((first second : List ℕ) → DivergesFrom H F x (leaves_of H entries) s w first second → P first second) → (Meets H x (leaves_of H entries) s w → SomeCollision H P) → SomeCollision H P
   from_tree {F} {x} entries {s} {w} gives holds size node within leads place meets =
       let ds = leaves_of H entries in
@@ -122,7 +128,7 @@ module _ (H : Digest) where
 
   -- a claim that is met leads to the root of the tree
   leads_to : {F : Data} {p : InclusionClaim} {digest : List ℕ} {entries : List (List ℕ)} → IsMet H F p digest entries → let ds = leaves_of H entries in let node = p.leaf.0 in
-      (start_of node + 2 ^ height_of node ≤ length ds) × (cut_over H F digest (start_of node) (2 ^ height_of node) 0 (length ds) ≡ Some (root_of H ds))
+      (start_of node + 2 ^ height_of node ≤ length ds) × (cut_over H (with_target F (range_of node) digest) (leaves_from 0 (length ds)) ≡ Some (root_of H ds))
   leads_to {F} {p} {digest} {entries} met = let at = (inclusion_leads H F p digest _).0 met.is in grind (arith, length-leaves H entries)
 
   pub value_collides : (F : Data) (p : InclusionClaim) (value : List ℕ) (entries : List (List ℕ)) → HasSize H → HoldsHashes F → IsMet H F p (H (0 ∷ value)) entries

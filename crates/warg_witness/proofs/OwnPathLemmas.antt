@@ -2,7 +2,7 @@
 use Rattle.std.proofs.Common.{◌≡◌, ℕ, ◌+◌, ◌-◌, ◌<◌, ◌≤◌, List, [], ◌∷◌, ◌++◌, length, map, reverse, get_or, slice_index_or, Option, Some, inl, inr, refl, sym, ap, ◌∙◌, arith}
 use Rattle.std.proofs.lemmas.Bool.{lt-leb, lt-ltb, le-ltb, cases_lt}
 use Rattle.std.proofs.lemmas.List.{reverse-reverse, reverse-append, length-reverse, same_from_push, length-map}
-use Rattle.warg_log.specs.Ranges.{IsAligned}
+use Rattle.warg_log.specs.Ranges.{Range, leaves_from, IsAligned}
 use Rattle.warg_log.specs.Tree.{front_of, leaves_of, root_over, own_digest}
 use Rattle.warg_log.specs.Cut.{old_over}
 use Rattle.warg_log.proofs.ForCallers.{old_own_range, front_is_greatest, root_over_one}
@@ -24,7 +24,7 @@ use Rattle.warg_witness.proofs.ShownLemmas.{Shows}
 use Rattle.warg_witness.proofs.ConsistencyLemmas.{entry_at}
 
 -- the stored roots of a tree's own ranges
-abbrev Roots : Digest → List (List ℕ) → ℕ → ℕ → Option (List ℕ)
+abbrev Roots : Digest → List (List ℕ) → Range → Option (List ℕ)
 Roots H tree = old_over H (own_digest H tree)
 
 -- a range on the way to a leaf of the tree has that leaf, and the digests left there are the tree's own path in it
@@ -33,7 +33,7 @@ record IsOwn (H : Digest) (tree : List (List ℕ)) (place m a n : ℕ) (ds : Lis
   within : a + n ≤ length tree
   at : a + m ≡ place
   aligned : IsAligned a n
-  path : inclusion_over (Roots H tree) m a n ≡ Some (reverse ds)
+  path : inclusion_over (Roots H tree) m (leaves_from a n) ≡ Some (reverse ds)
 
 -- a path with one more digest
 beside_is : (path : Option (List (List ℕ))) (top : Option (List ℕ)) (below : List (List ℕ)) (d : List ℕ) → beside path top ≡ Some (below ++ d ∷ []) → (path ≡ Some below) × (top ≡ Some d)
@@ -42,16 +42,16 @@ beside_is _ _ below d is = absurd (cc)
 
 -- the path in the part that has the leaf, and the root beside it
 own_front : {H : Digest} {tree : List (List ℕ)} {place m a n : ℕ} {t : List ℕ} {ds : List (List ℕ)} → 1 < n → m < front_of n → IsOwn H tree place m a n (t ∷ ds)
-    → (inclusion_over (Roots H tree) m a (front_of n) ≡ Some (reverse ds)) × (Roots H tree (a + front_of n) (n - front_of n) ≡ Some t)
-own_front {H} {tree} {place} {m} {a} {n} {t} {ds} more lt own = beside_is _ _ (reverse ds) t (sym (path_front (Roots H tree) m a n more lt) ∙ own.path ∙ ap Some (reverse-append (t ∷ []) ds))
+    → (inclusion_over (Roots H tree) m (leaves_from a (front_of n)) ≡ Some (reverse ds)) × (Roots H tree (leaves_from (a + front_of n) (n - front_of n)) ≡ Some t)
+own_front {H} {tree} {place} {m} {a} {n} {t} {ds} more lt own = beside_is _ _ (reverse ds) t (sym (path_front (Roots H tree) m (leaves_from a n) more lt) ∙ own.path ∙ ap Some (reverse-append (t ∷ []) ds))
 
 own_rest : {H : Digest} {tree : List (List ℕ)} {place m a n : ℕ} {t : List ℕ} {ds : List (List ℕ)} → 1 < n → front_of n ≤ m → IsOwn H tree place m a n (t ∷ ds)
-    → (inclusion_over (Roots H tree) (m - front_of n) (a + front_of n) (n - front_of n) ≡ Some (reverse ds)) × (Roots H tree a (front_of n) ≡ Some t)
-own_rest {H} {tree} {place} {m} {a} {n} {t} {ds} more le own = beside_is _ _ (reverse ds) t (sym (path_rest (Roots H tree) m a n more le) ∙ own.path ∙ ap Some (reverse-append (t ∷ []) ds))
+    → (inclusion_over (Roots H tree) (m - front_of n) (leaves_from (a + front_of n) (n - front_of n)) ≡ Some (reverse ds)) × (Roots H tree (leaves_from a (front_of n)) ≡ Some t)
+own_rest {H} {tree} {place} {m} {a} {n} {t} {ds} more le own = beside_is _ _ (reverse ds) t (sym (path_rest (Roots H tree) m (leaves_from a n) more le) ∙ own.path ∙ ap Some (reverse-append (t ∷ []) ds))
 
 -- where a digest is left, the range has more than one leaf
 own_more : {H : Digest} {tree : List (List ℕ)} {place m a n : ℕ} {t : List ℕ} {ds : List (List ℕ)} → IsOwn H tree place m a n (t ∷ ds) → 1 < n
-own_more {H} {tree} {place} {m} {a} {n} {t} {ds} own = grind (arith, path_one (Roots H tree) m a, length-reverse (t ∷ ds), own.inside, own.path)
+own_more {H} {tree} {place} {m} {a} {n} {t} {ds} own = grind (arith, path_one (Roots H tree) m (leaves_from a n), length-reverse (t ∷ ds), own.inside, own.path)
 
 module _ (H : Digest) (tree own : List (List ℕ)) (place : ℕ) (inside : place < length tree) (own_is : inclusion_of (Roots H tree) place (length tree) ≡ Some own) where
   own_on_way : {m a n : ℕ} {ds : List (List ℕ)} → IsOnWay place 0 (length tree) (reverse own) m a n ds → IsOwn H tree place m a n ds
@@ -88,14 +88,14 @@ module _ (H : Digest) (tree own : List (List ℕ)) (place : ℕ) (inside : place
       let is : turn_input H (slice_index_or tree place []) m n t ds ≡ Some (tree_input H tree a n) = elim (cases_lt m (front_of n)) [
         | inl lt ↦
             let part = own_front more lt own in
-            let below = rw (own.at, reverse-reverse ds) at (own_path_leads H tree m a (front_of n) (reverse ds) lt left (omega (arith, f.1)) part.0) in
-            let top = sym part.1 ∙ old_own_range H tree (a + front_of n) (n - front_of n) (omega (arith, f.1)) right (omega (arith, f.1)) in
+            let below = rw (own.at, reverse-reverse ds) at (own_path_leads H tree m (leaves_from a (front_of n)) (reverse ds) lt left (omega (arith, f.1)) part.0) in
+            let top = sym part.1 ∙ old_own_range H tree (leaves_from (a + front_of n) (n - front_of n)) (omega (arith, f.1)) right (omega (arith, f.1)) in
             let same : t ≡ root_over H tree (a + front_of n) (n - front_of n) = cc in rw (lt-ltb m (front_of n) lt, below, same) refl
         | inr le ↦
             let part = own_rest more le own in
             let at : a + front_of n + (m - front_of n) ≡ place = let h = own.at in omega arith in
-            let below = rw (at, reverse-reverse ds) at (own_path_leads H tree (m - front_of n) (a + front_of n) (n - front_of n) (reverse ds) (let h = own.inside in omega arith) right (omega (arith, f.1)) part.0) in
-            let top = sym part.1 ∙ old_own_range H tree a (front_of n) (omega (arith, f.2)) left (omega (arith, f.1)) in
+            let below = rw (at, reverse-reverse ds) at (own_path_leads H tree (m - front_of n) (leaves_from (a + front_of n) (n - front_of n)) (reverse ds) (let h = own.inside in omega arith) right (omega (arith, f.1)) part.0) in
+            let top = sym part.1 ∙ old_own_range H tree (leaves_from a (front_of n)) (omega (arith, f.2)) left (omega (arith, f.1)) in
             let same : t ≡ root_over H tree a (front_of n) = cc in rw (le-ltb m (front_of n) le, below, same) refl
       ] in (more, is)
 

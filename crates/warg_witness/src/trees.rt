@@ -87,6 +87,7 @@ pub(crate) fn divergence_below<D: SupportedDigest, V: VisitBytes, A: Allocator>(
         (root_over D.digest trees.now.new place 1)
         place 1 range.now.start range.now.count result }
 {
+    prove!(range.start <= place);
     let leaf = LeafRange::new(place, 1);
     let old = plain_digest(&trees.old, &leaf);
     let new = plain_digest(&trees.new, &leaf);

@@ -1,6 +1,7 @@
 -- Where two trees that have one digest at a range diverge, on the way down to a target in both.
 use Rattle.std.specs.Prelude.{◌≡◌, ℕ, List, Option, Some}
-use Rattle.warg_log.specs.Cut.{cut_over}
+use Rattle.warg_log.specs.Ranges.{leaves_from}
+use Rattle.warg_log.specs.Cut.{with_target, cut_over}
 use Rattle.warg_witness.specs.Ranges.{IsPart, IsAround}
 use Rattle.warg_crypto.specs.Collisions.{Collides}
 use Rattle.warg_crypto.specs.Tree.{branch_input}
@@ -11,8 +12,8 @@ use Rattle.warg_witness.specs.declared.climb.Divergence.TheVariants.{Target, Bra
 -- Two evaluations have one digest at a range.
 pub record HaveOneDigest (H : List ℕ → List ℕ) (F : ℕ → Option (List ℕ)) (x : List ℕ) (G : ℕ → Option (List ℕ)) (y : List ℕ) (s w a n : ℕ) : Type 0 where
   pub digest : List ℕ
-  pub first : cut_over H F x s w a n ≡ Some digest
-  pub second : cut_over H G y s w a n ≡ Some digest
+  pub first : cut_over H (with_target F (leaves_from s w) x) (leaves_from a n) ≡ Some digest
+  pub second : cut_over H (with_target G (leaves_from s w) y) (leaves_from a n) ≡ Some digest
 
 -- At a range that is not the target's own, the two evaluations' inputs differ and have one digest.
 pub record DivergesAt (H : List ℕ → List ℕ) (F : ℕ → Option (List ℕ)) (x : List ℕ) (G : ℕ → Option (List ℕ)) (y : List ℕ) (s w a₀ n₀ : ℕ) (first second : List ℕ) : Type 0 where

@@ -2,7 +2,8 @@
 use Rattle.std.specs.Prelude.{◌≡◌, ℕ, ◌+◌, ◌^◌, ◌≤◌, List, length, Option, Some, Contains}
 use Rattle.warg_log.specs.Nodes.{height_of, start_of, node_over, balanced_roots}
 use Rattle.warg_log.specs.Tree.{leaves_of, root_of, root_over, own_digest}
-use Rattle.warg_log.specs.Cut.{cut_over}
+use Rattle.warg_log.specs.Ranges.{leaves_from}
+use Rattle.warg_log.specs.Cut.{with_target, cut_over}
 use Rattle.warg_log.specs.Claims.{InclusionClaim}
 use Rattle.warg_witness.specs.Private.Ranges.{IsNodeRange}
 use Rattle.warg_witness.specs.Claims.{IsMet, IsConsistencyMet}
@@ -33,5 +34,5 @@ pub record LeadsToBoth (H : List ℕ → List ℕ) (F : ℕ → Option (List ℕ
   pub in_old : s + w ≤ length old_tree
   pub in_new : s + w ≤ length new_tree
   pub held : F (node_over s w) ≡ Some x
-  pub to_old : cut_over H F x s w 0 (length old_tree) ≡ Some (root_of H old_tree)
-  pub to_new : cut_over H F x s w 0 (length new_tree) ≡ Some (root_of H new_tree)
+  pub to_old : cut_over H (with_target F (leaves_from s w) x) (leaves_from 0 (length old_tree)) ≡ Some (root_of H old_tree)
+  pub to_new : cut_over H (with_target F (leaves_from s w) x) (leaves_from 0 (length new_tree)) ≡ Some (root_of H new_tree)

@@ -3,11 +3,11 @@
 ghost use Rattle.std.specs.Prelude.{◌≡◌, ℕ, ◌+◌, ◌^◌, ◌<◌, ◌≤◌, ◌↔◌, List, [], ◌∷◌, length, map, None, Some, Ok, Err, IfOk, IsTrue, MatchOption, IfSome, Contains};
 ghost use Rattle.warg_log.specs.Nodes.{node_over, balanced_over};
 ghost use Rattle.warg_log.specs.Tree.{leaves_of, root_of, root_over, own_digest};
-ghost use Rattle.warg_log.specs.Cut.{cut_over};
+ghost use Rattle.warg_log.specs.Cut.{with_target, cut_over};
 ghost use Rattle.warg_log.specs.Consistency.{IsConsistent, consistency};
 ghost use Rattle.warg_log.specs.declared.consistency.ConsistencyProofError.{ConsistencyProofError};
 ghost use Rattle.warg_witness.specs.Ranges.{IsAround};
-ghost use Rattle.warg_log.specs.Ranges.{IsAligned};
+ghost use Rattle.warg_log.specs.Ranges.{leaves_from, IsAligned};
 ghost use Rattle.warg_witness.specs.Private.Ranges.{IsNodeRange};
 ghost use Rattle.warg_witness.specs.Findings.{Finds};
 ghost use Rattle.warg_witness.specs.Claims.{Begins, IsConsistencyMet};
@@ -135,9 +135,8 @@ fn divergence_from<D: SupportedDigest, V: VisitBytes, L: LogData<D, V>, A: Alloc
     requires node { IsNodeRange node.now.start node.now.count }
     requires within { node.now.start + node.now.count ≤ length tree.now }
     requires fits { length tree.now ≤ 2 ^ 63 }
-    requires met { cut_over D.digest
-        (L.digest_at hashes.now) hash.now node.now.start node.now.count 0 (length tree.now)
-        ≡ Some (root_of D.digest tree.now) }
+    requires met { cut_over D.digest (with_target (L.digest_at hashes.now) node.now hash.now)
+        (leaves_from 0 (length tree.now)) ≡ Some (root_of D.digest tree.now) }
     ensures { IsDivergence D.digest (L.digest_at hashes.now) hash.now (own_digest D.digest tree.now)
         (root_over D.digest tree.now node.now.start node.now.count)
         node.now.start node.now.count 0 (length tree.now) result }
