@@ -5,8 +5,8 @@ use Rattle.warg_log.specs.Tree.{front_of, leaves_of, root_of, root_over, own_dig
 use Rattle.warg_log.specs.Cut.{Evaluation, with_target, cut_over, old_over, IsFull}
 use Rattle.warg_witness.specs.Ranges.{IsPart}
 use Rattle.warg_witness.specs.Inputs.{old_input, cut_input}
-use Rattle.warg_log.specs.Ranges.{leaves_from, IsAligned}
-use Rattle.warg_witness.proofs.RangeLemmas.{Digest, Data, starts, counts, whole_aligned, node_some, part_in}
+use Rattle.warg_log.specs.Ranges.{Range, leaves_from, front_part, rest_part, IsAligned}
+use Rattle.warg_witness.proofs.RangeLemmas.{Digest, Data, whole_aligned, node_some, part_in}
 use Rattle.warg_witness.proofs.RootLemmas.{Root, node_bounds, rest_aligned, by_root, root_stands, root_at_part}
 use Rattle.std.proofs.lemmas.List.{length-map, get_or-map, get_or-take}
 use Rattle.std.proofs.lemmas.List.Elements.{All-from_recursion, All-contains}
@@ -19,42 +19,41 @@ use Rattle.warg_witness.specs.Private.Divergence.{MeetAt, DivergesAt}
 use Rattle.warg_witness.proofs.CutLemmas.{length-leaves, DivergesFrom, own_second}
 use Rattle.warg_witness.proofs.ShownLemmas.{Shows, hash_placed}
 use Rattle.warg_witness.proofs.BothLemmas.{both_placed, both_meet}
-use Rattle.warg_log.proofs.ForCallers.{cut_old, cut_parts, cut_target, front_is_greatest, old_full, old_parts}
+use Rattle.warg_log.proofs.ForCallers.{starts, counts, cut_old, cut_parts, cut_target, front_is_greatest, old_full, old_parts}
 
 -- The cut root and the old root of a range are one, and so are their inputs, unless it is the target; then it isn't full.
-abbrev ReadAlike : Digest → Data → List ℕ → ℕ → ℕ → ℕ → ℕ → Type 0
-ReadAlike H F x s w a n = (old_over H F (leaves_from a n) ≡ cut_over H (with_target F (leaves_from s w) x) (leaves_from a n)) × ((a ≡ s → n ≡ w → ⊥) → (IsFull n → ⊥) × (old_input H F a n ≡ cut_input H F x s w a n))
+abbrev ReadAlike : Digest → Evaluation → Range → Type 0
+ReadAlike H e r = (old_over H e.held r ≡ cut_over H e r) × ((r ≡ e.target → ⊥) → (IsFull r.count → ⊥) × (old_input H e.held r ≡ cut_input H e r))
 
 -- so are those around a balanced root, with the digest that is held for it
 module _ (H : Digest) (F : Data) (x : List ℕ) (s w : ℕ) where
   abbrev e : Evaluation
   e = with_target F (leaves_from s w) x
 
-  both_sides : (a n : ℕ) → 1 < n → (IsFull n → ⊥) → (a ≡ s → n ≡ w → ⊥) → old_over H F (leaves_from a (front_of n)) ≡ cut_over H e (leaves_from a (front_of n))
-      → old_over H F (leaves_from (a + front_of n) (n - front_of n)) ≡ cut_over H e (leaves_from (a + front_of n) (n - front_of n)) → ReadAlike H F x s w a n
-  both_sides a n more not_full other left right = grind (arith, old_parts H F (leaves_from a n) more not_full, cut_parts H e (leaves_from a n) more (λ same. other (starts same) (counts same)) (λ is _. not_full is))
+  both_sides : (r : Range) → 1 < r.count → (IsFull r.count → ⊥) → (r ≡ e.target → ⊥) → old_over H F (front_part r) ≡ cut_over H e (front_part r)
+      → old_over H F (rest_part r) ≡ cut_over H e (rest_part r) → ReadAlike H e r
+  both_sides r more not_full other left right = grind (arith, old_parts H F r more not_full, cut_parts H e r more other (λ is _. not_full is))
 
-  pub old_is_cut : {a n : ℕ} → F (node_over s w) ≡ Some x → Root s w a n → 0 < n → IsAligned a n → ReadAlike H F x s w a n
-  old_is_cut {a} {n} held root some aligned = by_root s w (λ b k. ReadAlike H F x s w b k) at_full at_front at_rest a n some aligned root
+  pub old_is_cut : {a n : ℕ} → F (node_over s w) ≡ Some x → Root s w a n → 0 < n → IsAligned a n → ReadAlike H e (leaves_from a n)
+  old_is_cut {a} {n} held root some aligned = by_root s w (λ b k. ReadAlike H e (leaves_from b k)) at_full at_front at_rest a n some aligned root
     where
-      at_full : (b k : ℕ) → IsFull k → s ≡ b → w ≡ k → ReadAlike H F x s w b k
-      at_full b k is start count =
-          let here : IsFull w = rw count is in
-          rw (sym start, sym count) (grind (arith, old_full H F (leaves_from s w) here, cut_target H e))
+      at_full : (b k : ℕ) → IsFull k → s ≡ b → w ≡ k → ReadAlike H e (leaves_from b k)
+      at_full b k is start count = let here : IsFull w = rw count is in rw (sym start, sym count) (old_full H F e.target here ∙ held ∙ sym (cut_target H e), λ other. absurd (other refl))
 
-      at_front : (b k : ℕ) → 1 < k → (IsFull k → ⊥) → s ≡ b → w ≡ front_of k → ReadAlike H F x s w b k
+      at_front : (b k : ℕ) → 1 < k → (IsFull k → ⊥) → s ≡ b → w ≡ front_of k → ReadAlike H e (leaves_from b k)
       at_front b k more not_full start count =
           let f = front_is_greatest k more in
-          let here = old_full H F (leaves_from s w) (f.0.0, count ∙ f.0.1) ∙ held ∙ sym (cut_target H e) in
+          let here = old_full H F e.target (f.0.0, count ∙ f.0.1) ∙ held ∙ sym (cut_target H e) in
           rw (sym start)
-          (both_sides s k more not_full (λ _ width. omega arith) (rw (← count) here) (sym (cut_old H e _ (omega arith) (omega arith) (inr (omega arith)))))
+          (both_sides (leaves_from s k) more not_full (λ same. omega (arith, counts same)) (rw (← count) here) (sym (cut_old H e _ (omega arith) (omega arith) (inr (omega arith)))))
 
-      at_rest : (b k : ℕ) → IsAligned b k → 1 < k → (IsFull k → ⊥) → Root s w (b + front_of k) (k - front_of k) → ReadAlike H F x s w (b + front_of k) (k - front_of k) → ReadAlike H F x s w b k
+      at_rest : (b k : ℕ) → IsAligned b k → 1 < k → (IsFull k → ⊥) → Root s w (b + front_of k) (k - front_of k)
+          → ReadAlike H e (leaves_from (b + front_of k) (k - front_of k)) → ReadAlike H e (leaves_from b k)
       at_rest b k aligned' more not_full below alike =
           let f = front_is_greatest k more in
           let at = root_stands below (omega arith) (rest_aligned aligned' more) in
           let wide = node_some root.node in
-          both_sides b k more not_full (λ start _. omega arith) (sym (cut_old H e _ wide (omega arith) (inl at.around.starts))) alike.0
+          both_sides (leaves_from b k) more not_full (λ same. omega (arith, starts same)) (sym (cut_old H e _ wide (omega arith) (inl at.around.starts))) alike.0
 
 -- what was read of a list of entries at a place, and a tree's leaf, which is the digest of its entry
 pub entry_at : {V : Type 0} (f : V → List ℕ) (entries : List V) (i : ℕ) {e : V} → i < length entries → e ≡ get_or entries i e → get_or (map f entries) i [] ≡ f e
@@ -92,7 +91,7 @@ module _ {H : Digest} {F : Data} {m n : ℕ} {old new old_tree new_tree : List (
   old_placed first second diverges =
       let some = node_some at.node in
       let here = root_at_part root diverges.part diverges.around in
-      let same = (old_is_cut H F x s w at.held here (omega arith) (part_in diverges.part).1).1 diverges.other in
+      let same = (old_is_cut H F x s w at.held here (omega arith) (part_in diverges.part).1).1 (λ e. diverges.other (starts e) (counts e)) in
       let own = own_second H old old_tree is.old_is (node_some at.node) diverges in
       let evaluation = same.1 ∙ diverges.first_input in inl (search (own, same.0, evaluation))
 

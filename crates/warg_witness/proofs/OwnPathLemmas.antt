@@ -43,11 +43,13 @@ beside_is _ _ below d is = absurd (cc)
 -- the path in the part that has the leaf, and the root beside it
 own_front : {H : Digest} {tree : List (List ℕ)} {place m a n : ℕ} {t : List ℕ} {ds : List (List ℕ)} → 1 < n → m < front_of n → IsOwn H tree place m a n (t ∷ ds)
     → (inclusion_over (Roots H tree) m (leaves_from a (front_of n)) ≡ Some (reverse ds)) × (Roots H tree (leaves_from (a + front_of n) (n - front_of n)) ≡ Some t)
-own_front {H} {tree} {place} {m} {a} {n} {t} {ds} more lt own = beside_is _ _ (reverse ds) t (sym (path_front (Roots H tree) m (leaves_from a n) more lt) ∙ own.path ∙ ap Some (reverse-append (t ∷ []) ds))
+own_front {H} {tree} {place} {m} {a} {n} {t} {ds} more lt own = beside_is _ _ (reverse ds) t (sym (path_front (Roots H tree) m (leaves_from a n) more lt) ∙ own.path
+    ∙ ap Some (reverse-append (t ∷ []) ds))
 
 own_rest : {H : Digest} {tree : List (List ℕ)} {place m a n : ℕ} {t : List ℕ} {ds : List (List ℕ)} → 1 < n → front_of n ≤ m → IsOwn H tree place m a n (t ∷ ds)
     → (inclusion_over (Roots H tree) (m - front_of n) (leaves_from (a + front_of n) (n - front_of n)) ≡ Some (reverse ds)) × (Roots H tree (leaves_from a (front_of n)) ≡ Some t)
-own_rest {H} {tree} {place} {m} {a} {n} {t} {ds} more le own = beside_is _ _ (reverse ds) t (sym (path_rest (Roots H tree) m (leaves_from a n) more le) ∙ own.path ∙ ap Some (reverse-append (t ∷ []) ds))
+own_rest {H} {tree} {place} {m} {a} {n} {t} {ds} more le own = beside_is _ _ (reverse ds) t (sym (path_rest (Roots H tree) m (leaves_from a n) more le) ∙ own.path
+    ∙ ap Some (reverse-append (t ∷ []) ds))
 
 -- where a digest is left, the range has more than one leaf
 own_more : {H : Digest} {tree : List (List ℕ)} {place m a n : ℕ} {t : List ℕ} {ds : List (List ℕ)} → IsOwn H tree place m a n (t ∷ ds) → 1 < n
@@ -94,7 +96,8 @@ module _ (H : Digest) (tree own : List (List ℕ)) (place : ℕ) (inside : place
         | inr le ↦
             let part = own_rest more le own in
             let at : a + front_of n + (m - front_of n) ≡ place = let h = own.at in omega arith in
-            let below = rw (at, reverse-reverse ds) at (own_path_leads H tree (m - front_of n) (leaves_from (a + front_of n) (n - front_of n)) (reverse ds) (let h = own.inside in omega arith) right (omega (arith, f.1)) part.0) in
+            let below = rw (at, reverse-reverse ds) at (own_path_leads H tree (m - front_of n) (leaves_from (a + front_of n) (n - front_of n)) (reverse ds)
+                (let h = own.inside in omega arith) right (omega (arith, f.1)) part.0) in
             let top = sym part.1 ∙ old_own_range H tree (leaves_from a (front_of n)) (omega (arith, f.2)) left (omega (arith, f.1)) in
             let same : t ≡ root_over H tree a (front_of n) = cc in rw (le-ltb m (front_of n) le, below, same) refl
       ] in (more, is)

@@ -6,7 +6,7 @@ use Rattle.warg_log.specs.Cut.{IsFull}
 use Rattle.warg_log.specs.Tree.{front_of}
 use Rattle.warg_witness.specs.Ranges.{IsPart, IsAround}
 use Rattle.warg_witness.specs.Ranges.IsPart.{whole, front, rest}
-use Rattle.warg_log.specs.Ranges.{Range, IsAligned}
+use Rattle.warg_log.specs.Ranges.{IsAligned}
 use Rattle.warg_witness.specs.Private.Ranges.{IsNodeRange, AreSides}
 use Rattle.warg_log.proofs.ForCallers.{below_pow, front_is_greatest}
 
@@ -16,13 +16,6 @@ Digest = List ℕ → List ℕ
 
 abbrev pub Data : Type 0
 Data = ℕ → Option (List ℕ)
-
--- ranges that are one start at one leaf, and have one count
-pub starts : {r t : Range} → r ≡ t → r.start ≡ t.start
-starts same = ap (λ (r : Range). r.start) same
-
-pub counts : {r t : Range} → r ≡ t → r.count ≡ t.count
-counts same = ap (λ (r : Range). r.count) same
 
 -- a multiple of a power of two is one of each lower power
 pub multiple : (c k h : ℕ) → k ≤ h → c * 2 ^ h ≡ c * 2 ^ (h - k) * 2 ^ k

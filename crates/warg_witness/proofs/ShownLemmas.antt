@@ -4,6 +4,8 @@ use Rattle.std.proofs.lemmas.Nat.{pow_pos}
 use Rattle.std.proofs.lemmas.Bool.Decides.{nat_tests}
 use Rattle.std.proofs.lemmas.Result.{IfOk-weaker}
 use Rattle.warg_log.specs.Nodes.{height_of, start_of}
+use Rattle.warg_log.specs.Ranges.{leaves_from}
+use Rattle.warg_log.specs.Cut.{with_target}
 use Rattle.warg_log.specs.Tree.{leaves_of}
 use Rattle.warg_log.specs.Claims.{InclusionClaim}
 use Rattle.warg_witness.specs.Claims.{IsEntry}
@@ -43,10 +45,11 @@ leaf_same : (H : Digest) (value : List ℕ) (entries : List (List ℕ)) (s w : �
 leaf_same H value entries s w some e = grind (arith, nat_tests)
 
 -- the evaluation's input around a value, at the value and elsewhere
-value_here : (H : Digest) (F : Data) (v : List ℕ) (s w : ℕ) → value_input H F v s w s w ≡ Some (0 ∷ v)
+value_here : (H : Digest) (F : Data) (v : List ℕ) (s w : ℕ) → value_input H F (leaves_from s w) v (leaves_from s w) ≡ Some (0 ∷ v)
 value_here H F v s w = grind (arith, nat_tests)
 
-value_above : (H : Digest) (F : Data) (v : List ℕ) (s w a n : ℕ) → (a ≡ s → n ≡ w → ⊥) → value_input H F v s w a n ≡ cut_input H F (H (0 ∷ v)) s w a n
+value_above : (H : Digest) (F : Data) (v : List ℕ) (s w a n : ℕ) → (a ≡ s → n ≡ w → ⊥)
+    → value_input H F (leaves_from s w) v (leaves_from a n) ≡ cut_input H (with_target F (leaves_from s w) (H (0 ∷ v))) (leaves_from a n)
 value_above H F v s w a n other = grind (arith, nat_tests)
 
 module _ (H : Digest) (F : Data) (entries ds : List (List ℕ)) (is : ds ≡ leaves_of H entries) (node : ℕ) where

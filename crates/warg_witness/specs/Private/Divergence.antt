@@ -22,8 +22,8 @@ pub record DivergesAt (H : List ℕ → List ℕ) (F : ℕ → Option (List ℕ)
   pub part : IsPart a₀ n₀ from count
   pub around : IsAround s w from count
   pub other : from ≡ s → count ≡ w → ⊥
-  pub first_input : cut_input H F x s w from count ≡ Some first
-  pub second_input : cut_input H G y s w from count ≡ Some second
+  pub first_input : cut_input H (with_target F (leaves_from s w) x) (leaves_from from count) ≡ Some first
+  pub second_input : cut_input H (with_target G (leaves_from s w) y) (leaves_from from count) ≡ Some second
   pub differ : first ≡ second → ⊥
   pub same : H first ≡ H second
 

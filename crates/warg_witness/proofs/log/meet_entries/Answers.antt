@@ -1,8 +1,7 @@
 use Rattle.std.proofs.Common.{length, sym, ◌∙◌, ap, arith}
 use Rattle.std.proofs.lemmas.List.{length-map}
 use Rattle.std.proofs.lemmas.Nat.{pow_pos}
-use Rattle.warg_log.proofs.ForCallers.{inclusion_leads}
-use Rattle.warg_witness.proofs.RangeLemmas.{starts, counts}
+use Rattle.warg_log.proofs.ForCallers.{starts, counts, inclusion_leads}
 use Rattle.warg_witness.proofs.CutLemmas.{length-leaves, have_root, root_led}
 use Rattle.warg_witness.proofs.log.meet_entries.Goals as goal
 
