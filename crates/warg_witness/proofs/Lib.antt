@@ -2,10 +2,7 @@ pub mod RangeLemmas
 pub mod ClimbLemmas
 pub mod CutLemmas
 pub mod HashLemmas
-pub mod ShownLemmas
-pub mod BothLemmas
 pub mod RootLemmas
-pub mod ConsistencyLemmas
 pub mod CollisionLemmas
 pub mod CompareLemmas
 pub mod PathLemmas
@@ -21,3 +18,4 @@ pub mod RecordLemmas
 pub mod OwnPathLemmas
 pub mod PathClimbLemmas
 pub mod GrowthLemmas
+pub mod ShownLemmas

@@ -6,22 +6,20 @@ use Rattle.warg_log.specs.Ranges.{IsAligned}
 use Rattle.warg_log.specs.Tree.{front_of, leaves_of, root_over, own_digest}
 use Rattle.warg_log.specs.Cut.{old_over}
 use Rattle.warg_log.proofs.ForCallers.{old_own_range, front_is_greatest, root_over_one}
-use Rattle.warg_crypto.specs.Tree.{branch_input}
 use Rattle.warg_witness.specs.Inputs.{plain_input}
 use Rattle.warg_paths.specs.Paths.{beside, inclusion_of, inclusion_over}
 use Rattle.warg_paths.proofs.ForCallers.{path_one, path_front, path_rest, own_path_leads}
 use Rattle.warg_witness.specs.PathClaims.{IsRecord}
 use Rattle.warg_witness.specs.PathPlaced.{IsOnWay, turn_input, IsRecordPlaced}
 use Rattle.warg_witness.specs.PathPlaced.IsOnWay.{whole, front, rest}
-use Rattle.warg_witness.specs.Private.Divergence.{inputs_of}
+use Rattle.warg_witness.specs.Private.Divergence.{Shows, inputs_of}
 use Rattle.warg_witness.specs.Private.PathDivergence.{IsPathMeeting, tree_input}
-use Rattle.warg_witness.specs.Private.PathClimbs.{PathsPart, DivergesFromTree}
-use Rattle.warg_witness.specs.declared.climb.Divergence.{Divergence}
-use Rattle.warg_witness.specs.declared.climb.Divergence.TheVariants.{Target, Branch}
+use Rattle.warg_witness.specs.Private.PathClimbs.{PathsDiverge, PathsMeet, DivergesFromTree}
+use Rattle.warg_witness.specs.declared.divergence.Divergence.{Divergence}
 use Rattle.warg_witness.proofs.RangeLemmas.{Digest, whole_aligned, side_aligned}
 use Rattle.warg_witness.proofs.CutLemmas.{length-leaves, plain_digest_is}
-use Rattle.warg_witness.proofs.ShownLemmas.{Shows}
-use Rattle.warg_witness.proofs.ConsistencyLemmas.{entry_at}
+use Rattle.warg_witness.proofs.ClimbLemmas.{shown}
+use Rattle.warg_witness.proofs.ShownLemmas.{entry_at}
 
 -- the stored roots of a tree's own ranges
 abbrev Roots : Digest → List (List ℕ) → ℕ → ℕ → Option (List ℕ)
@@ -102,33 +100,28 @@ module _ (H : Digest) (tree own : List (List ℕ)) (place : ℕ) (inside : place
 -- what a divergence of a path from the tree over the entries shows, where the claim is false
 record_shown : {D : Type 0} (H : Digest) (index : ℕ) (path : List (List ℕ)) (value : List ℕ) (entries : List (List ℕ)) (p : Divergence D) → index < length entries → (IsRecord index value entries → ⊥)
     → DivergesFromTree H (H (0 ∷ value)) path (leaves_of H entries) index p → Shows H (IsRecordPlaced H index path value entries) (inputs_of p (0 ∷ value) (0 ∷ get_or entries index []))
-record_shown {D} H index path value entries p inside other is = at_way p (is.diverges index 0 (length tree) (reverse path) (reverse is.own) whole whole)
-  where
-    tree : List (List ℕ)
-    tree = leaves_of H entries
-
-    count : length tree ≡ length entries
-    count = length-leaves H entries
-
-    at_way : (p : Divergence D) → PathsPart H (H (0 ∷ value)) (reverse path) (slice_index_or tree index []) (reverse is.own) index 0 (length tree) (0 + index) p
-        → Shows H (IsRecordPlaced H index path value entries) (inputs_of p (0 ∷ value) (0 ∷ get_or entries index []))
-    at_way Target here = (
-      record { differ = λ e. other (cc); same = here.same ∙ sym (root_over_one H tree index (omega (arith, count))) ∙ plain_digest_is H entries index 1 (omega arith) (omega arith) },
-      let way = rw count at here.on_way in
-          let plain = ap (λ i. 0 ∷ get_or entries i []) (let at : index ≡ 0 + index = omega arith in at) in search (way, plain),
-    )
-    at_way (Branch l r l' r') here =
-        let own = own_input H tree is.own index (omega (arith, count)) is.own_is here.other_on_way in
-        let both : Some (branch_input l' r') ≡ Some (tree_input H tree here.from here.count) = sym here.second_evaluation ∙ own.1 in
-        let second : branch_input l' r' ≡ plain_input H entries here.from here.count = rw (lt-leb here.count 1 own.0) (cc) in (
-          record { differ = here.differ; same = here.same },
-          let way = rw count at here.on_way in search (way, here, second),
-        )
+record_shown {D} H index path value entries p inside other is =
+    let tree = leaves_of H entries in
+    let count = length-leaves H entries in
+    shown p
+    (λ first second (here : PathsDiverge H (H (0 ∷ value)) (reverse path) (get_or (leaves_of H entries) index []) (reverse is.own) index 0 (length (leaves_of H entries)) first second).
+    let own = own_input H tree is.own index (omega (arith, count)) is.own_is here.other_on_way in
+    let both : Some second ≡ Some (tree_input H tree here.from here.count) = sym here.second_evaluation ∙ own.1 in
+    let plain : second ≡ plain_input H entries here.from here.count = rw (lt-leb here.count 1 own.0) (cc) in
+    let way = rw count at here.on_way in search (way, here, plain))
+    (0 ∷ value) (0 ∷ get_or entries index [])
+    (λ (here : PathsMeet (H (0 ∷ value)) (reverse path) (get_or (leaves_of H entries) index []) (reverse is.own) index 0 (length (leaves_of H entries)) (0 + index)).
+    let way = rw count at here.on_way in
+    let plain = ap (λ i. 0 ∷ get_or entries i []) (let at : index ≡ 0 + index = omega arith in at) in record {
+      collides = record { differ = λ e. other (cc); same = here.same ∙ sym (root_over_one H tree index (omega (arith, count))) ∙ plain_digest_is H entries index 1 (omega arith) (omega arith) };
+      placed = search (way, plain);
+    })
+    (is.diverges index 0 (length tree) (reverse path) (reverse is.own) whole whole)
 
 -- the same, of entries that are read
-pub read_shown : {V D : Type 0} (bytes : V → List ℕ) (H : Digest) (index : ℕ) (path : List (List ℕ)) (value : List ℕ) (entries : List V) (tree : List (List ℕ)) {e : V} (p : Divergence D)
+pub entry_shown : {V D : Type 0} (bytes : V → List ℕ) (H : Digest) (index : ℕ) (path : List (List ℕ)) (value : List ℕ) (entries : List V) (tree : List (List ℕ)) {e : V} (p : Divergence D)
     → IsPathMeeting H index path (H (0 ∷ value)) (map bytes entries) tree → e ≡ get_or entries index e → (value ≡ bytes e → ⊥)
     → DivergesFromTree H (H (0 ∷ value)) path tree index p → Shows H (IsRecordPlaced H index path value (map bytes entries)) (inputs_of p (0 ∷ value) (0 ∷ bytes e))
-read_shown bytes H index path value entries tree p met is other diverges =
+entry_shown bytes H index path value entries tree p met is other diverges =
     let entry = entry_at bytes entries index (rw (length-map entries bytes) at met.inside) is in
     rw (← entry) (record_shown H index path value (map bytes entries) p met.inside (λ e. other (sym e ∙ entry)) (rw met.tree_is at diverges))

@@ -5,11 +5,11 @@ use Rattle.warg_map.specs.ProofValue.{peer_of, proof_value}
 use Rattle.warg_crypto.specs.Tree.{input_beside}
 use Rattle.warg_witness.specs.Laws.{HoldsPeers}
 use Rattle.warg_witness.specs.MapInputs.{fork_input}
-use Rattle.warg_witness.specs.Private.MapPaths.{DivergesNowhere, IsPathDivergence, IsClimb}
-use Rattle.warg_witness.specs.declared.climb.Divergence.{Divergence}
-use Rattle.warg_witness.specs.declared.climb.Divergence.TheVariants.{Target, Branch}
+use Rattle.warg_witness.specs.Private.MapPaths.{DivergesOnPath, DivergesNowhere, IsPathDivergence, IsClimb}
+use Rattle.warg_witness.specs.declared.divergence.Divergence.{Divergence}
+use Rattle.warg_witness.specs.declared.divergence.Divergence.TheVariants.{Target}
 use Rattle.warg_witness.specs.Private.Climbs.{IsUp}
-use Rattle.warg_witness.proofs.ClimbLemmas.{up_somewhere, up_diverges}
+use Rattle.warg_witness.proofs.ClimbLemmas.{parts_placed, up_somewhere, up_parts}
 use Rattle.warg_witness.proofs.CollisionLemmas.{SomeDivergence}
 use Rattle.warg_map.proofs.ForCallers.{last_bits-more, last_bits-none, length-last_bits}
 use Rattle.warg_map.specs.Bits.{bit_at, last_bits}
@@ -18,29 +18,6 @@ use Rattle.warg_crypto.proofs.ForCallers.{HasSize}
 -- one bit more with the same digest beside it
 fork_same : (b : Bool) (peer peer' value value' : List ℕ) → peer ≡ peer' → value ≡ value' → input_beside b peer value ≡ input_beside b peer' value'
 fork_same b peer peer' value value' p v = rw (p, v) refl
-
-nowhere_more : (H : List ℕ → List ℕ) (P : List (Option (List ℕ))) (x : List ℕ) (Q : List (Option (List ℕ))) (y : List ℕ) (b : Bool) (bits : List Bool) → peer_of H P (length bits) ≡ peer_of H Q (length bits)
-    → DivergesNowhere H P x Q y bits → DivergesNowhere H P x Q y (b ∷ bits)
-unfolding proof_value
-nowhere_more H P x Q y b bits peers is = record {
-  same = is.same;
-  beside = λ leaf. ap H (fork_same b _ _ _ _ peers (is.beside leaf));
-}
-
--- what diverges below a bit diverges above it
-widened_path : {D : Type 0} (H : List ℕ → List ℕ) (P : List (Option (List ℕ))) (x : List ℕ) (Q : List (Option (List ℕ))) (y : List ℕ) (b : Bool) (bits : List Bool) (p : Divergence D)
-    → peer_of H P (length bits) ≡ peer_of H Q (length bits) → IsPathDivergence H P x Q y bits p → IsPathDivergence H P x Q y (b ∷ bits) p
-widened_path H P x Q y b bits Target peers is = nowhere_more H P x Q y b bits peers is
-widened_path H P x Q y b bits (Branch l r l' r') peers is = record {
-  above = b ∷ is.above;
-  bit = is.bit;
-  below = is.below;
-  split = ap (λ q. b ∷ q) is.split;
-  first_input = is.first_input;
-  second_input = is.second_input;
-  differ = is.differ;
-  same = is.same;
-}
 
 -- one bit up
 pub climb_up : {D : Type 0} {H : List ℕ → List ℕ} {P : List (Option (List ℕ))} {x : List ℕ} {Q : List (Option (List ℕ))} {y : List ℕ} {b : Bool} {bits : List Bool} {first second peer peer' above above' : List ℕ}
@@ -52,17 +29,10 @@ climb_up {D} {H} {P} {x} {Q} {y} {b} {bits} {p = p} at at' climb up =
     let others = fork_same b _ _ _ _ at' (sym climb.second_is) in record {
       first_is = up.first_is ∙ ap H (sym inputs);
       second_is = up.second_is ∙ ap H (sym others);
-      diverges = up_diverges (IsPathDivergence H P x Q y (b ∷ bits)) up (λ same beside. widened_path H P x Q y b bits p (at ∙ beside ∙ sym at') (climb.diverges same))
-          (λ collides. record {
-            above = [];
-            bit = b;
-            below = bits;
-            split = refl;
-            first_input = sym inputs;
-            second_input = sym others;
-            differ = collides.differ;
-            same = collides.same;
-          });
+      diverges = up_parts (DivergesOnPath H P x Q y (b ∷ bits)) (DivergesNowhere H P x Q y (b ∷ bits)) up
+          (λ same beside. parts_placed H p (λ _ _ is. record { above = b ∷ is.above; bit = is.bit; below = is.below; split = ap (λ q. b ∷ q) is.split; first_input = is.first_input; second_input = is.second_input })
+          (λ is. record { same = is.same; beside = λ leaf. ap H (fork_same b _ _ _ _ (at ∙ beside ∙ sym at') (is.beside leaf)) }) (climb.diverges same))
+          (record { above = []; bit = b; below = bits; split = refl; first_input = sym inputs; second_input = sym others });
     }
 
 -- at the leaf

@@ -3,6 +3,7 @@ use Rattle.std.proofs.Common.{◌≡◌, ℕ, suc, ◌+◌, ◌-◌, ◌*◌, �
 use Rattle.std.proofs.lemmas.Nat.{pow-add, pow_pos, pow_below, row_fits, mul-le}
 use Rattle.std.proofs.lemmas.Bool.{cases_lt}
 use Rattle.warg_log.specs.Cut.{IsFull}
+use Rattle.warg_log.specs.Nodes.{height_of, place_of, start_of}
 use Rattle.warg_log.specs.Tree.{front_of}
 use Rattle.warg_witness.specs.Ranges.{IsPart, IsAround}
 use Rattle.warg_witness.specs.Ranges.IsPart.{whole, front, rest}
@@ -31,6 +32,10 @@ leaf_node {a} one = record { height = 0; place = a; start = omega arith; count =
 
 pub node_aligned : {s w : ℕ} → IsNodeRange s w → IsAligned s w
 node_aligned node = record { height = node.height; place = node.place; start = node.start; most = omega arith }
+
+-- a node's leaves are a node's range
+pub node_range : (node : ℕ) → IsNodeRange (start_of node) (2 ^ height_of node)
+node_range node = record { height = height_of node; place = place_of node; start = refl; count = refl }
 
 pub leaf_aligned : {a n : ℕ} → n ≡ 1 → IsAligned a n
 leaf_aligned one = node_aligned (leaf_node one)

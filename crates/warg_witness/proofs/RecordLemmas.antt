@@ -1,5 +1,5 @@
 -- Where a path leads, and the tree over given entries.
-use Rattle.std.proofs.Common.{◌≡◌, ℕ, ◌-◌, ◌^◌, ◌<◌, ◌≤◌, List, [], ◌∷◌, ◌++◌, length, map, reverse, get_or, Some, refl, sym, ap, ◌∙◌, arith}
+use Rattle.std.proofs.Common.{◌≡◌, ℕ, ◌-◌, ◌<◌, ◌≤◌, List, [], ◌∷◌, ◌++◌, length, map, reverse, get_or, Some, refl, sym, ap, ◌∙◌, arith}
 use Rattle.std.proofs.lemmas.Bool.Decides.{nat_tests}
 use Rattle.std.proofs.lemmas.Bool.{lt-leb, lt-ltb, le-ltb}
 use Rattle.std.proofs.lemmas.List.{reverse-append, length-map}
@@ -12,7 +12,7 @@ use Rattle.warg_witness.specs.PathClaims.{IsRecord}
 use Rattle.warg_witness.specs.Private.PathDivergence.{IsPathMeeting}
 use Rattle.warg_witness.proofs.RangeLemmas.{Digest}
 use Rattle.warg_witness.proofs.CutLemmas.{length-leaves}
-use Rattle.warg_witness.proofs.ConsistencyLemmas.{entry_at}
+use Rattle.warg_witness.proofs.ShownLemmas.{entry_at}
 
 -- a path that leads somewhere, from a place that is there
 pub leads_inside : (H : Digest) (m n : ℕ) (x root : List ℕ) (path : List (List ℕ)) → inclusion_root H m n x path ≡ Some root → (m < n) × (root_down H m n x (reverse path) ≡ Some root)

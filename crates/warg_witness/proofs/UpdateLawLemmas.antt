@@ -13,8 +13,8 @@ use Rattle.warg_witness.specs.Laws.{HoldsPeers}
 use Rattle.warg_witness.specs.MapClaims.{IsKeyMet}
 use Rattle.warg_witness.specs.MapPlaced.{IsPlacedAtPrefix}
 use Rattle.warg_witness.specs.UpdateClaims.{IsUpdated, Step, insertions_of, LeadThrough, CollidesAtStep}
-use Rattle.warg_witness.proofs.CollisionLemmas.{shown_collides}
-use Rattle.warg_witness.proofs.KeyLemmas.{path_shown, prefix_placed}
+use Rattle.warg_witness.proofs.CollisionLemmas.{some_collision}
+use Rattle.warg_witness.proofs.KeyLemmas.{prefix_placed}
 use Rattle.warg_witness.proofs.KeyLawLemmas.{diverged_from_plain}
 use Rattle.warg_witness.proofs.UpdateLemmas.{grown_root_is}
 
@@ -23,7 +23,7 @@ pub update_collides : (H : List ℕ → List ℕ) (peers : List (Option (List �
     → IsKeyMet H peers key old insertions → ¬ (IsUpdated H peers key new insertions) → SomeCollision H (IsPlacedAtPrefix H peers old key insertions)
 update_collides H peers key old new insertions digests holds met untrue =
     let (p, diverges) = diverged_from_plain H peers key old insertions digests holds met in
-    shown_collides _ (path_shown p [] [] (prefix_placed H peers key old insertions) (λ _ nowhere. absurd (untrue (nowhere.beside (leaf_digest H new) ∙ grown_root_is H insertions key new))) diverges)
+    some_collision p (prefix_placed H peers key old insertions) (λ nowhere. absurd (untrue (nowhere.beside (leaf_digest H new) ∙ grown_root_is H insertions key new))) diverges
 
 -- one insertion more
 pub inserted_push : (H : List ℕ → List ℕ) (m : SparseMap) (es : List (List ℕ × List ℕ)) (key value : List ℕ) → inserted H m (es ++ (key, value) ∷ []) ≡ insert (inserted H m es) (key_bits H key) (leaf_digest H value)

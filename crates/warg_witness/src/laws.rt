@@ -27,6 +27,7 @@ use std::alloc::Allocator;
 use warg_crypto::SupportedDigest;
 
 /// A value's claim that is met and isn't true gives a collision.
+#[tactic(auto, using(crate::proofs::CollisionLemmas::value_collides))]
 pub fn value_or_collision()
     ensures { (H : List ℕ → List ℕ) (F : ℕ → Option (List ℕ)) (proof : InclusionClaim)
         (value : List ℕ)
@@ -36,6 +37,7 @@ pub fn value_or_collision()
 {}
 
 /// A hash's claim that is met and isn't true gives a collision.
+#[tactic(auto, using(crate::proofs::CollisionLemmas::hash_collides))]
 pub fn hash_or_collision()
     ensures { (H : List ℕ → List ℕ) (F : ℕ → Option (List ℕ)) (proof : InclusionClaim)
         (hash : List ℕ)
@@ -45,6 +47,7 @@ pub fn hash_or_collision()
 {}
 
 /// Two different values that lead to one root over two data give a collision.
+#[tactic(auto, using(crate::proofs::CollisionLemmas::agreement_collides))]
 pub fn agreement_or_collision()
     ensures { (H : List ℕ → List ℕ) (proof : InclusionClaim)
         (F : ℕ → Option (List ℕ)) (value : List ℕ)

@@ -1,6 +1,7 @@
 use Rattle.std.proofs.Common.{length, sym, ◌∙◌, ap, arith}
 use Rattle.std.proofs.lemmas.List.{length-map}
 use Rattle.warg_log.proofs.ForCallers.{inclusion_leads}
+use Rattle.warg_witness.proofs.RangeLemmas.{node_aligned, node_range}
 use Rattle.warg_witness.proofs.CutLemmas.{length-leaves, have_root, root_led}
 use Rattle.warg_witness.proofs.log.meet_entries.Goals as goal
 
@@ -25,6 +26,8 @@ returns-clause-met g c =
       tree_is = c.in_ok-tree.ensures.tree;
       start_is = start;
       count_is = width;
+      aligned = rw (start, width) (node_aligned (node_range _));
+      within = omega (arith, c.plain_digest-plain.ensures);
       plain_is = rw (c.in_ok-tree.ensures.tree, start, width) at c.plain_digest-plain.ensures;
       diverges = met.diverges;
     }
