@@ -1,5 +1,5 @@
--- What a false claim or an agreement of a key shows.
-use Rattle.std.proofs.Common.{◌≡◌, ℕ, List, [], ◌∷◌, Option, Some, None, IfOk, get_or, inl, inr, refl, sym, ap, ◌∙◌, arith}
+-- What a false claim or an agreement of a key shows, and one insertion more.
+use Rattle.std.proofs.Common.{◌≡◌, ℕ, List, [], ◌∷◌, Option, Some, None, IfOk, get_or, inl, inr, refl, sym, ap, ◌∙◌, arith, Bool, not, ◌++◌, length, MatchOption, IsTrue, ◌↔◌, is_some}
 use Rattle.std.proofs.lemmas.List.{append-nil, length-map, get_or-map}
 use Rattle.std.specs.Option.{IfSome}
 use Rattle.std.specs.FinMap.{get}
@@ -18,10 +18,11 @@ use Rattle.warg_crypto.specs.Collisions.{GivesHashes}
 use Rattle.warg_witness.specs.Private.Divergence.{Shows, inputs_of}
 use Rattle.warg_witness.specs.declared.divergence.Divergence.{Divergence}
 use Rattle.warg_witness.specs.declared.divergence.Divergence.TheVariants.{Target}
-use Rattle.warg_witness.proofs.LastLemmas.{last_with-is, last_of_digest, pair_at, length-pair_bytes}
+use Rattle.warg_witness.proofs.InsertionLemmas.{last_with-is, last_of_digest, pair_at, length-pair_bytes, last_with-push}
 use Rattle.warg_witness.proofs.ClimbLemmas.{shown}
-use Rattle.warg_witness.proofs.PlainPathLemmas.{plain_value, plain_leaf_is, plain_input_is, length-plain_peers}
-use Rattle.warg_map.proofs.ForCallers.{all_bits, same_bits-true, same_digest}
+use Rattle.warg_witness.proofs.PathLemmas.{plain_value, plain_leaf_is, plain_input_is, length-plain_peers}
+use Rattle.warg_map.proofs.ForCallers.{all_bits, same_bits-true, same_digest, last_held, root-same, same_bits-itself}
+use Rattle.std.proofs.lemmas.Bool.{false_from_ne_true}
 
 -- what two proofs of a key with other values show
 pub key_agreement_shown : {D : Type 0} (H : List ℕ → List ℕ) (key : List ℕ) (P : List (Option (List ℕ))) (v : List ℕ) (Q : List (Option (List ℕ))) (u : List ℕ) (p : Divergence D)
@@ -107,3 +108,25 @@ pub collided : {D E : Type 0} {H : List ℕ → List ℕ} {key value : List ℕ}
     → ((peers : List (Option (List ℕ))) → IsKeyMeeting H peers key value insertions divergence last → ShowsKey H peers key value insertions pair) → IfOk r (λ c. c ≡ pair)
     → IfOk r (λ c. (peers : List (Option (List ℕ))) → IsKeyMeeting H peers key value insertions divergence last → IsKeyPlaced H peers value key insertions c.0 c.1)
 collided pair r shows same = IfOk-weaker r _ _ (λ c e peers met. rw e (shows peers met).placed) same
+
+-- the plain peers of bits are made of what is held under others
+plain_peers-same : (H : List ℕ → List ℕ) (held grown : List Bool → Option (List ℕ)) (bits : List Bool) → ((q : List Bool) → ¬ (q ≡ bits) → grown q ≡ held q) → plain_peers H held bits ≡ plain_peers H grown bits
+unfolding plain_peers
+plain_peers-same H held grown [] h = refl
+plain_peers-same H held grown (b ∷ bits) h =
+    let below = plain_peers-same H (λ q. held (b ∷ q)) (λ q. grown (b ∷ q)) bits (λ q other. h (b ∷ q) (λ e. other (cc))) in
+    let beside = root-same H (length bits) (λ q. held (not b ∷ q)) (λ q. grown (not b ∷ q)) (λ q. sym (h (not b ∷ q) (λ e. grind arith))) in
+    rw (below, beside) refl
+
+module _ (H : List ℕ → List ℕ) (insertions : List (List ℕ × List ℕ)) (key value : List ℕ) where
+  -- what is held under other bits is what was held
+  held_elsewhere : (q : List Bool) → ¬ (q ≡ key_bits H key) → get (map_of H (insertions ++ (key, value) ∷ [])) q ≡ get (map_of H insertions) q
+  held_elsewhere q other = rw (last_held H q (insertions ++ (key, value) ∷ []), last_held H q insertions, last_with-push, false_from_ne_true (same_bits q (key_bits H key)) (λ t. other (same_bits-true q (key_bits H key) t))) refl
+
+  -- from a value the plain peers of a key lead to the plain root with the value inserted too
+  pub grown_root_is : proof_value H (plain_peers H (get (map_of H insertions)) (key_bits H key)) (leaf_digest H value) (key_bits H key) ≡ sparse_root H 256 (map_of H (insertions ++ (key, value) ∷ []))
+  grown_root_is = rw (plain_peers-same H _ _ (key_bits H key) held_elsewhere) (rw (last_with-push, same_bits-itself) at (plain_root_is H (insertions ++ (key, value) ∷ []) key))
+
+-- whether two evaluations meet
+pub meets_exactly : {X A : Type 0} {P : X → Type 0} (met : Option X) → MatchOption met (A → ⊥) P → ((x : X) → P x → A) → IsTrue (is_some met) ↔ A
+meets_exactly met is meets = grind arith

@@ -13,14 +13,13 @@ use Rattle.warg_witness.specs.Private.Compared.{IsAt, DiffersFirst}
 use Rattle.warg_witness.specs.Private.Meeting.{IsMeeting, LeadsToBoth}
 use Rattle.warg_witness.specs.Private.Divergence.{MeetAt, DivergesAt, IsDivergence, Shows, inputs_of}
 use Rattle.warg_witness.specs.declared.divergence.Divergence.{Divergence}
-use Rattle.warg_witness.proofs.RangeLemmas.{Digest, Data, part_in, IsPart-trans, wider, whole_aligned, node_some}
+use Rattle.warg_witness.proofs.RangeLemmas.{Digest, Data, part_in, IsPart-trans, wider, whole_aligned, node_some, Root, node_bounds, rest_aligned, by_root, root_stands, root_at_part}
 use Rattle.warg_witness.proofs.ClimbLemmas.{shown}
 use Rattle.warg_witness.proofs.CutLemmas.{length-leaves, DivergesFrom, Meets, plain_digest_is, own_second, own_input}
 use Rattle.warg_log.proofs.ForCallers.{pow_below_pow, cut_old, cut_parts, cut_target, front_is_greatest, old_full, old_parts}
 use Rattle.warg_log.specs.Cut.{cut_over, old_over, IsFull}
 use Rattle.warg_witness.specs.Ranges.{IsPart}
 use Rattle.warg_log.specs.Ranges.{IsAligned}
-use Rattle.warg_witness.proofs.RootLemmas.{Root, node_bounds, rest_aligned, by_root, root_stands, root_at_part}
 use Rattle.std.proofs.lemmas.List.{length-map, get_or-map, get_or-take}
 use Rattle.std.proofs.lemmas.List.Elements.{All-from_recursion, All-contains}
 use Rattle.warg_log.specs.Consistency.{LeadsTo, IsConsistent}

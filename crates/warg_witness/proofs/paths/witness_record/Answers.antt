@@ -1,6 +1,5 @@
 use Rattle.std.proofs.Common.{arith}
-use Rattle.warg_witness.proofs.RecordLemmas.{read_other}
-use Rattle.warg_witness.proofs.OwnPathLemmas.{entry_shown}
+use Rattle.warg_witness.proofs.RecordLemmas.{read_other, entry_shown}
 use Rattle.warg_witness.proofs.paths.witness_record.Goals as goal
 
 pub collide-requires : goal.collide-requires

@@ -1,9 +1,8 @@
 use Rattle.std.proofs.Common.{sym, ◌∙◌, arith}
 use Rattle.std.proofs.lemmas.Bool.{false≢true}
 use Rattle.warg_map.proofs.ForCallers.{length-last_bits}
-use Rattle.warg_witness.proofs.PlainPathLemmas.{length-plain_peers}
-use Rattle.warg_witness.proofs.KeyLemmas.{plain_root_is, prefix_placed}
-use Rattle.warg_witness.proofs.UpdateLemmas.{grown_root_is, meets_exactly}
+use Rattle.warg_witness.proofs.PathLemmas.{length-plain_peers}
+use Rattle.warg_witness.proofs.KeyLemmas.{plain_root_is, prefix_placed, grown_root_is, meets_exactly}
 use Rattle.warg_witness.proofs.map.update.witness_update.Goals as goal
 
 pub invariant_of-old_tree : goal.invariant_of-old_tree

@@ -1,5 +1,5 @@
 use Rattle.std.proofs.Common.{arith}
-use Rattle.warg_witness.proofs.PathClimbLemmas.{record_agreement_shown}
+use Rattle.warg_witness.proofs.RecordLemmas.{record_agreement_shown}
 use Rattle.warg_witness.proofs.paths.agreement.agree_record.Goals as goal
 
 pub collide-requires : goal.collide-requires

@@ -1,7 +1,6 @@
 use Rattle.std.proofs.Common.{◌≡◌, length, arith}
 use Rattle.std.proofs.lemmas.Bool.Decides.{nat_tests}
-use Rattle.warg_witness.proofs.RecordLemmas.{turned}
-use Rattle.warg_witness.proofs.PathClimbLemmas.{climb_starts, first_short, second_short, one_long, paths_nowhere, paths_up}
+use Rattle.warg_witness.proofs.RecordLemmas.{turned, climb_starts, first_short, second_short, one_long, paths_nowhere, paths_up}
 use Rattle.warg_witness.proofs.paths.climbing.+climb_paths.Goals as goal
 use Rattle.warg_witness.proofs.paths.climbing.+climb_paths.Goals.{else-is_empty-via-then-is_empty+else-is_empty-2, else-is_empty-via-else-is_empty}
 

@@ -1,6 +1,6 @@
 use Rattle.std.proofs.Common.{arith}
 use Rattle.std.specs.Cmp.Lexicographic.{bytes_decides}
-use Rattle.warg_witness.proofs.PathClimbLemmas.{climbs_meet}
+use Rattle.warg_witness.proofs.RecordLemmas.{climbs_meet}
 use Rattle.warg_witness.proofs.paths.climbing.meet_paths.Goals as goal
 
 pub returns-then-eq : goal.returns-then-eq

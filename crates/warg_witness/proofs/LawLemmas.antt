@@ -1,22 +1,21 @@
 -- What the laws state: a claim that is met and isn't true gives a collision.
-use Rattle.std.proofs.Common.{◌≡◌, ℕ, zero, suc, ◌+◌, ◌-◌, ◌<◌, ◌≤◌, ◌⊎◌, inl, inr, List, [], ◌∷◌, length, get_or, refl, sym, ◌∙◌, arith, ◌^◌, Some}
+use Rattle.std.proofs.Common.{◌≡◌, ℕ, zero, suc, ◌+◌, ◌-◌, ◌<◌, ◌≤◌, ◌⊎◌, inl, inr, List, [], ◌∷◌, length, get_or, refl, sym, ◌∙◌, arith, ◌^◌, Some, Bool, not, ◌++◌, Option, None, append_assoc}
 use Rattle.std.proofs.lemmas.Bool.{cases_lt}
 use Rattle.std.proofs.lemmas.Bool.Decides.{nat_tests}
-use Rattle.warg_crypto.proofs.ForCallers.{same_or_not}
+use Rattle.warg_crypto.proofs.ForCallers.{same_or_not, HasSize, sizes}
 use Rattle.warg_log.specs.Tree.{front_of, leaves_of, root_of, root_over, own_digest}
 use Rattle.warg_log.specs.Cut.{cut_over}
 use Rattle.warg_witness.specs.Ranges.{IsAround}
 use Rattle.warg_witness.specs.Claims.{Begins, IsMet, IsEntry, IsRootBelow, IsAgreement, IsConsistencyMet}
 use Rattle.warg_crypto.specs.Collisions.{GivesHashes, SomeCollision}
-use Rattle.warg_witness.specs.Laws.{HoldsHashes}
+use Rattle.warg_witness.specs.Laws.{HoldsHashes, HoldsPeers}
 use Rattle.warg_log.specs.Ranges.{IsAligned}
 use Rattle.warg_witness.specs.Private.Ranges.{IsNodeRange}
 use Rattle.warg_witness.specs.Private.Divergence.{HaveOneDigest, IsDivergence, Parts, Shows, inputs}
 use Rattle.warg_witness.specs.Private.RangeClimbs.{IsRangeClimb}
 use Rattle.warg_witness.specs.declared.divergence.Divergence.{Divergence}
-use Rattle.warg_witness.proofs.RangeLemmas.{Digest, node_range, Data, more_than_one, node_some, wider, near_side, side_aligned, side_around, leaf_node, node_aligned, whole_aligned}
+use Rattle.warg_witness.proofs.RangeLemmas.{Digest, node_range, Data, more_than_one, node_some, wider, near_side, side_aligned, side_around, leaf_node, node_aligned, whole_aligned, Root, full_node, full_or_not, front_node, rest_aligned, root_full, root_front, root_rest}
 use Rattle.warg_witness.proofs.ClimbLemmas.{shown, up_somewhere}
-use Rattle.warg_witness.proofs.RootLemmas.{Root, full_node, full_or_not, front_node, rest_aligned, root_full, root_front, root_rest}
 use Rattle.warg_witness.proofs.CutLemmas.{ranges_start, sides_there, ranges_up, length-leaves, have_root, have_range, plain_digest_is}
 use Rattle.std.proofs.lemmas.Nat.{pow_pos}
 use Rattle.warg_log.specs.Nodes.{height_of, start_of, node_over}
@@ -25,7 +24,26 @@ use Rattle.warg_witness.specs.declared.divergence.Divergence.TheVariants.{Target
 use Rattle.warg_witness.proofs.ShownLemmas.{entry_from, value_placed, value_meets, hash_placed, agreement_shown, root_leads, old_placed, new_placed, below_shown}
 use Rattle.warg_log.specs.Claims.{InclusionClaim}
 use Rattle.warg_log.proofs.ForCallers.{cut_size, front_is_greatest, inclusion_leads}
-use Rattle.warg_crypto.proofs.ForCallers.{HasSize, sizes}
+use Rattle.std.proofs.lemmas.Grind.{common_steps}
+use Rattle.std.specs.FinMap.{get, insert, empty}
+use Rattle.std.specs.Option.{IfSome}
+use Rattle.warg_crypto.specs.EmptyTrees.{empty_root}
+use Rattle.warg_map.specs.Bits.{key_bits}
+use Rattle.warg_crypto.specs.Tree.{leaf_digest}
+use Rattle.warg_map.specs.Sparse.{root_of_levels, map_of, SparseMap, sparse_root, inserted}
+use Rattle.warg_map.specs.Peers.{Proves}
+use Rattle.warg_map.specs.Last.{last_under}
+use Rattle.warg_witness.specs.MapClaims.{value_in, IsKeyAgreement, IsLastValue, IsKeyMet}
+use Rattle.warg_witness.specs.MapPlaced.{IsKeyPlaced, IsKeyAgreementPlaced, IsPlacedAtPrefix}
+use Rattle.warg_witness.specs.Private.MapPaths.{plain_peers, IsPathDivergence, IsClimb}
+use Rattle.warg_map.specs.ProofValue.{peer_of, proof_value}
+use Rattle.warg_witness.specs.MapInputs.{fork_input}
+use Rattle.warg_witness.proofs.PathLemmas.{no_bits, climb_up}
+use Rattle.warg_witness.proofs.KeyLemmas.{DivergesFromPlain, key_agreement_shown, plain_root_is, key_shown, last_differs, keys_shown, prefix_placed, grown_root_is}
+use Rattle.warg_map.proofs.ForCallers.{all_bits, last_held, root_at_prefix}
+use Rattle.std.proofs.lemmas.List.{append-nil, map-append}
+use Rattle.std.specs.List.{AllByRecursion}
+use Rattle.warg_witness.specs.UpdateClaims.{IsUpdated, Step, insertions_of, LeadThrough, CollidesAtStep}
 
 -- a range is the target or not
 target_or_other : (s w a n : ℕ) → ((a ≡ s) × (n ≡ w)) ⊎ (a ≡ s → n ≡ w → ⊥)
@@ -164,3 +182,119 @@ module _ (H : Digest) where
       (root_size old place 1 gives (omega arith) (omega arith)) (root_size new place 1 gives (omega arith) (omega arith)) (leaf_node refl)
       (node_aligned at.node) root.3 (have_range H ds es place 1 (node_aligned at.node) (node_some at.node) at.in_old at.in_new (sym in_old.same ∙ in_new.same)) in
       shown_collides _ (below_shown refl refl at place in_new.part found.2 below.0 below.1)) from_new.1) from_old.1
+
+-- the values and the peers have 32 bytes
+value_len : (H : List ℕ → List ℕ) (P : List (Option (List ℕ))) (x : List ℕ) → HasSize H → length x ≡ 32 → (bits : List Bool) → length (proof_value H P x bits) ≡ 32
+unfolding proof_value
+value_len H P x gives size [] = size
+value_len H P x gives size (b ∷ bits) = gives (fork_input H P x b bits)
+
+empty_len : (H : List ℕ → List ℕ) → HasSize H → (k : ℕ) → length (empty_root H k) ≡ 32
+unfolding empty_root
+empty_len H gives zero = gives (0 ∷ [])
+empty_len H gives (suc k) = gives (1 ∷ (empty_root H k ++ empty_root H k))
+
+peer_len : (H : List ℕ → List ℕ) (P : List (Option (List ℕ))) → HasSize H → HoldsPeers P → (i : ℕ) → length (peer_of H P i) ≡ 32
+peer_len H P gives holds i = grind (arith, empty_len H gives i, holds (i - (256 - length P)))
+
+-- two evaluations of one root diverge at a branch, or have one leaf digest
+module _ (H : List ℕ → List ℕ) (P : List (Option (List ℕ))) (x : List ℕ) (Q : List (Option (List ℕ))) (y : List ℕ) (gives : HasSize H) (holds : HoldsPeers P) (holds' : HoldsPeers Q)
+    (size : length x ≡ 32) (size' : length y ≡ 32) where
+  climbed_on_path : (bits : List Bool) → (p : SomeDivergence) × IsClimb H P x Q y bits (proof_value H P x bits) (proof_value H Q y bits) p
+  unfolding proof_value
+  climbed_on_path [] = (Target, no_bits H P x Q y)
+  climbed_on_path (b ∷ bits) =
+      let below = climbed_on_path bits in
+      let values = value_len H P x gives size bits ∙ sym (value_len H Q y gives size' bits) in
+      let peers = peer_len H P gives holds (length bits) ∙ sym (peer_len H Q gives holds' (length bits)) in
+      let up = up_somewhere b below.0 values peers in (up.0, climb_up refl refl below.1 up.1)
+
+  pub diverged_on_path : (bits : List Bool) → proof_value H P x bits ≡ proof_value H Q y bits → (p : SomeDivergence) × IsPathDivergence H P x Q y bits p
+  diverged_on_path bits e = let climb = climbed_on_path bits in (climb.0, climb.1.diverges e)
+
+-- What is held has 32 bytes.
+abbrev HaveSize : (List Bool → Option (List ℕ)) → Type 0
+HaveSize held = (bits : List Bool) → IfSome (held bits) (λ digest. length digest ≡ 32)
+
+module _ (H : List ℕ → List ℕ) (gives : HasSize H) where
+  -- a root has 32 bytes where each leaf digest has
+  root_len : (k : ℕ) (held : List Bool → Option (List ℕ)) → HaveSize held → length (root_of_levels H k held) ≡ 32
+  unfolding root_of_levels empty_root
+  root_len zero held h = grind (arith, h [])
+  root_len (suc k) held h = gives _
+
+  -- so have the plain peers
+  holds_plain : (held : List Bool → Option (List ℕ)) → HaveSize held → (bits : List Bool) → HoldsPeers (plain_peers H held bits)
+  unfolding plain_peers
+  holds_plain held h [] place other e = absurd (cc)
+  holds_plain held h (b ∷ bits) place other e =
+      grind (arith, common_steps, root_len (length bits) (λ q. held (not b ∷ q)) (λ q. h (not b ∷ q)), holds_plain (λ q. held (b ∷ q)) (λ q. h (b ∷ q)) bits place other)
+
+  held_len : (insertions : List (List ℕ × List ℕ)) → HaveSize (get (map_of H insertions))
+  held_len insertions q = rw last_held (grind (arith, gives))
+
+-- an agreement of two values, and a claim of a key, that are met and aren't true
+pub key_agreement_collides : (H : List ℕ → List ℕ) (key : List ℕ) (P : List (Option (List ℕ))) (v : List ℕ) (Q : List (Option (List ℕ))) (u : List ℕ) → GivesHashes H → HoldsPeers P → HoldsPeers Q
+    → IsKeyAgreement H key P v Q u → (v ≡ u → ⊥) → SomeCollision H (IsKeyAgreementPlaced H key P v Q u)
+key_agreement_collides H key P v Q u digests holds holds' met other =
+    let gives = sizes digests in
+    let (p, diverges) = diverged_on_path H P _ Q _ gives holds holds' (gives _) (gives _) (key_bits H key) met in
+    shown_collides _ (key_agreement_shown H key P v Q u p diverges other)
+
+-- a claim of a key that is met diverges from the plain tree somewhere
+pub diverged_from_plain : (H : List ℕ → List ℕ) (peers : List (Option (List ℕ))) (key value : List ℕ) (insertions : List (List ℕ × List ℕ)) → GivesHashes H → HoldsPeers peers → IsKeyMet H peers key value insertions
+    → (p : SomeDivergence) × DivergesFromPlain H peers key value insertions p
+diverged_from_plain H peers key value insertions digests holds met =
+    let gives = sizes digests in
+    diverged_on_path H peers _ _ _ gives holds (holds_plain H gives (get (map_of H insertions)) (held_len H gives insertions) (key_bits H key)) (gives _) (gives _) (key_bits H key) (met ∙ sym (plain_root_is H insertions key))
+
+pub key_collides : (H : List ℕ → List ℕ) (peers : List (Option (List ℕ))) (key value : List ℕ) (insertions : List (List ℕ × List ℕ)) → GivesHashes H → HoldsPeers peers
+    → IsKeyMet H peers key value insertions → (IsLastValue key value insertions → ⊥) → SomeCollision H (IsKeyPlaced H peers value key insertions)
+key_collides H peers key value insertions digests holds met untrue = elim (same_or_not value (value_in (last_under H (key_bits H key) insertions))) [
+  | inl same ↦ of_keys (last_under H (key_bits H key) insertions) refl same
+  | inr other ↦
+      let (p, diverges) = diverged_from_plain H peers key value insertions digests holds met in
+      shown_collides _ (key_shown H peers key value insertions p _ diverges refl other)
+]
+  where
+    of_keys : (o : Option (List ℕ × List ℕ)) → last_under H (key_bits H key) insertions ≡ o → value ≡ value_in o → SomeCollision H (IsKeyPlaced H peers value key insertions)
+    of_keys None last same = absurd (last_differs H peers key value insertions untrue None last tt same)
+    of_keys (Some e) last same = shown_collides _ (keys_shown H peers key value insertions untrue e digests last same)
+
+-- a map's own proof of a key meets the key's claim
+pub own_met : (H : List ℕ → List ℕ) (insertions : List (List ℕ × List ℕ)) (key value : List ℕ) (peers : List (Option (List ℕ)))
+    → last_under H (key_bits H key) insertions ≡ Some (key, value) → length peers ≤ 256 → Proves H 256 (map_of H insertions) (key_bits H key) peers → IsKeyMet H peers key value insertions
+own_met H insertions key value peers last few proves =
+    let n = all_bits H key in
+    rw n at (root_at_prefix H (map_of H insertions) [] (key_bits H key) peers (leaf_digest H value) (omega arith) few proves (rw (last_held, last) refl))
+
+-- a claim that is met and isn't true
+pub update_collides : (H : List ℕ → List ℕ) (peers : List (Option (List ℕ))) (key old new : List ℕ) (insertions : List (List ℕ × List ℕ)) → GivesHashes H → HoldsPeers peers
+    → IsKeyMet H peers key old insertions → ¬ (IsUpdated H peers key new insertions) → SomeCollision H (IsPlacedAtPrefix H peers old key insertions)
+update_collides H peers key old new insertions digests holds met untrue =
+    let (p, diverges) = diverged_from_plain H peers key old insertions digests holds met in
+    some_collision p (prefix_placed H peers key old insertions) (λ nowhere. absurd (untrue (nowhere.beside (leaf_digest H new) ∙ grown_root_is H insertions key new))) diverges
+
+-- one insertion more
+pub inserted_push : (H : List ℕ → List ℕ) (m : SparseMap) (es : List (List ℕ × List ℕ)) (key value : List ℕ) → inserted H m (es ++ (key, value) ∷ []) ≡ insert (inserted H m es) (key_bits H key) (leaf_digest H value)
+unfolding inserted
+inserted_push H m [] key value = refl
+inserted_push H m (e ∷ es) key value = inserted_push H (insert m (key_bits H e.0) (leaf_digest H e.1)) es key value
+
+-- a list of steps, behind others that led to the plain root
+steps_lead : (H : List ℕ → List ℕ) → GivesHashes H → (before steps : List Step) (root end : List ℕ) → AllByRecursion (λ (s : Step). HoldsPeers s.peers) steps
+    → root ≡ sparse_root H 256 (map_of H (insertions_of before)) → LeadThrough H root steps end
+    → (end ≡ sparse_root H 256 (map_of H (insertions_of (before ++ steps)))) ⊎ CollidesAtStep H (before ++ steps)
+unfolding LeadThrough
+steps_lead H digests before [] root end all is through = inl (rw append-nil (sym through ∙ is))
+steps_lead H digests before (s ∷ steps) root end all is through =
+    let (next, from_old, from_new, rest) = through in
+    elim (same_or_not (proof_value H s.peers (leaf_digest H s.new_value) (key_bits H s.key)) (sparse_root H 256 (map_of H (insertions_of before ++ (s.key, s.new_value) ∷ [])))) [
+      | inl updated ↦ rw append_assoc at (steps_lead H digests (before ++ s ∷ []) steps next end all.1 (rw map-append (sym from_new ∙ updated)) rest)
+      | inr untrue ↦ inr (record { before = before; step = s; after = steps; split = refl; collision = update_collides H s.peers s.key s.old_value s.new_value (insertions_of before) digests all.0 (from_old ∙ is) untrue })
+    ]
+
+pub steps_end : (H : List ℕ → List ℕ) (steps : List Step) (root : List ℕ) → GivesHashes H → AllByRecursion (λ (s : Step). HoldsPeers s.peers) steps
+    → LeadThrough H (sparse_root H 256 empty) steps root → (root ≡ sparse_root H 256 (map_of H (insertions_of steps))) ⊎ CollidesAtStep H steps
+unfolding inserted
+steps_end H steps root digests all through = steps_lead H digests [] steps (sparse_root H 256 empty) root all refl through
