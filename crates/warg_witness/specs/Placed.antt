@@ -1,7 +1,7 @@
 -- Where the two byte lists of a collision stand.
 use Rattle.std.specs.Prelude.{◌≡◌, ℕ, ◌^◌, ◌⊎◌, List, length, Option, Some, Contains}
-use Rattle.warg_log.specs.Nodes.{height_of, start_of, balanced_roots}
 use Rattle.warg_log.specs.Ranges.{leaves_from, range_of}
+use Rattle.warg_log.specs.Nodes.{height_of, start_of, balanced_roots}
 use Rattle.warg_log.specs.Cut.{with_target, IsFull}
 use Rattle.warg_witness.specs.Ranges.{IsPart, IsAround}
 use Rattle.warg_witness.specs.Inputs.{plain_input, cut_input, value_input, old_input}

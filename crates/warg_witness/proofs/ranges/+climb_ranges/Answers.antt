@@ -1,6 +1,6 @@
 use Rattle.std.proofs.Common.{sym, ◌∙◌, arith}
-use Rattle.warg_log.proofs.ForCallers.{starts, counts, target_decides}
 use Rattle.warg_witness.proofs.RangeLemmas.{node_some}
+use Rattle.warg_log.proofs.ForCallers.{starts, counts, target_decides}
 use Rattle.warg_witness.proofs.CutLemmas.{ranges_start, sides_lack, ranges_up}
 use Rattle.warg_witness.proofs.ranges.+climb_ranges.Goals as goal
 
@@ -11,8 +11,7 @@ returns-then-eq g t c =
 
 pub returns-in_err-climb : goal.returns-in_err-climb
 returns-in_err-climb g t c =
-    rw c.from_residual.ensures (sides_lack _ (node_some c.requires.node) c.requires.around (grind arith) _ _ _ _ c.sides_around-held.ensures.sides
-        (λ t u z v near _ other _. c.in_err-climb.ensures t z near other))
+    rw c.from_residual.ensures (sides_lack _ (node_some c.requires.node) c.requires.around (grind arith) _ _ _ _ c.sides_around-held.ensures.sides (λ t u z v near _ other _. c.in_err-climb.ensures t z near other))
 
 pub returns-in_err-first_beside : goal.returns-in_err-first_beside
 returns-in_err-first_beside g t c =
