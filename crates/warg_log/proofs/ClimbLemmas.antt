@@ -7,12 +7,12 @@ use Rattle.std.proofs.lemmas.Bool.{cases_Bool}
 use Rattle.std.proofs.lemmas.List.{map-append}
 use Rattle.warg_log.specs.Nodes.{height_of, place_of, start_of, end_of, node_over, number_of, balanced_over, balanced_roots, Follow, Fall}
 use Rattle.warg_log.specs.Ranges.{Range, leaves_from, range_of}
-use Rattle.warg_log.specs.Cut.{Evaluation, with_node, top_of, cut_over, cut_root, old_root, IsFull}
+use Rattle.warg_log.specs.Cut.{Evaluation, with_target, top_of, cut_over, cut_root, old_root, IsFull}
 use Rattle.warg_log.specs.Walks.{climbed, joined_all}
 use Rattle.warg_protobuf.proofs.ForCallers.{all_weaken}
 use Rattle.warg_log.proofs.NodeLemmas.{node_is, only_number, over_at, over_ends}
 use Rattle.warg_log.proofs.CutLemmas.{nothing, cut_over_read, cut_over-split, nothing_beside}
-use Rattle.warg_log.proofs.WayLemmas.{IsBeside, missed}
+use Rattle.warg_log.proofs.WayLemmas.{counts, IsBeside, missed}
 use Rattle.warg_log.proofs.BalancedLemmas.{end_is, balanced_first, none_left, roots, roots_follow}
 use Rattle.warg_log.proofs.OrderLemmas.{roots_end, above, block, climb, not_power}
 
@@ -47,13 +47,14 @@ module _ (H : List ℕ → List ℕ) (e : Evaluation) where
   Covers a n [] = n ≡ 0
   Covers a n (t ∷ ts) = (0 < n) × (cut_over H e (leaves_from a n) ≡ joined_all H (map range_cut (t ∷ ts)))
 
-  covers_first : (0 < e.target.count → IsFull e.target.count) → (h c m : ℕ) (ts : List ℕ) → m < 2 ^ h → Covers (c * 2 ^ h + 2 ^ h) m ts → Covers (c * 2 ^ h) (2 ^ h + m) (node_over (c * 2 ^ h) (2 ^ h) ∷ ts)
+  covers_first : (0 < e.target.count → IsFull e.target.count) → (h c m : ℕ) (ts : List ℕ) → m < 2 ^ h → Covers (c * 2 ^ h + 2 ^ h) m ts
+      → Covers (c * 2 ^ h) (2 ^ h + m) (node_over (c * 2 ^ h) (2 ^ h) ∷ ts)
   covers_first full h c m [] lt none = (omega (arith, pow_pos h), grind (arith, none, over_at h c))
   covers_first full h c m (u ∷ us) lt rest =
       let more : 2 ^ h < 2 ^ h + m = omega (arith, rest.0) in
       let part : (k : ℕ) → 2 ^ h + m ≡ 2 ^ k → ⊥ = λ k. not_power h k (2 ^ h + m) more (omega (arith, pow-suc)) in
       let range = leaves_from (c * 2 ^ h) (2 ^ h + m) in
-      let other : range ≡ e.target → ⊥ = λ same. let width : 2 ^ h + m ≡ e.target.count = ap (λ (r : Range). r.count) same in let f = full (omega arith) in part f.0 (width ∙ f.1) in
+      let other : range ≡ e.target → ⊥ = λ same. let f = full (omega (arith, counts same)) in part f.0 (counts same ∙ f.1) in
       let split = cut_over-split H e range h more (omega (arith, pow-suc)) other (λ f _. part (suc h) f) in
       (omega arith, grind (arith, split, rest.1, over_at h c))
 
@@ -88,13 +89,13 @@ module _ (H : List ℕ → List ℕ) (e : Evaluation) where
 
 pub old_root-joined : (H : List ℕ → List ℕ) (F : ℕ → Option (List ℕ)) (n : ℕ) → 0 < n → old_root H F n ≡ joined_all H (map F (balanced_roots n))
 old_root-joined H F n some =
-    let old : Evaluation = record { held = F; target = nothing; digest = H [] } in
+    let old : Evaluation = with_target F nothing (H []) in
     let free = all_weaken (λ t. end_of t ≤ n) (Misses H old) (λ t _. nothing_beside (range_of t)) (balanced_roots n) (roots_end n n (omega arith)) in
     cut_roots H old (λ lt. absurd (omega arith)) n some ∙ ap (joined_all H) (all_read H old (balanced_roots n) free)
 
 -- up to a balanced root
 climb_cut : (H : List ℕ → List ℕ) (F : ℕ → Option (List ℕ)) (x : List ℕ) (k j c : ℕ)
-    → cut_over H (record { held = F; target = block k j; digest = x }) (block (k + c) (j / 2 ^ c)) ≡ climbed H F (Some x) k j c
+    → cut_over H (with_target F (block k j) x) (block (k + c) (j / 2 ^ c)) ≡ climbed H F (Some x) k j c
 unfolding top_of
 climb_cut H F x k j c = climb k j (λ d way. top_of H F x way ≡ climbed H F (Some x) k j d) refl
     (λ d way is. ⊎_elim (λ (t : (j / 2 ^ d % 2 == 0) ≡ true). rw (t, is) refl) (λ (f : (j / 2 ^ d % 2 == 0) ≡ false). rw (f, is) refl) (cases_Bool (j / 2 ^ d % 2 == 0))) c
@@ -103,7 +104,7 @@ pub cut_root_walk : (H : List ℕ → List ℕ) (F : ℕ → Option (List ℕ)) 
     → balanced_roots n ≡ left ++ number_of (height_of t + c) (place_of t / 2 ^ c) ∷ right
     → cut_root H F t x n ≡ joined_all H (map F left ++ climbed H F (Some x) (height_of t) (place_of t) c ∷ map F right)
 cut_root_walk H F t x n c left right some split =
-    let e = with_node F t x in
+    let e = with_target F (range_of t) x in
     let k = height_of t + c in
     let i = place_of t / 2 ^ c in
     let at = over_at k i in

@@ -7,10 +7,10 @@ use Rattle.warg_log.specs.Nodes.{node_over}
 use Rattle.warg_log.specs.Ranges.{Range, leaves_from, range_of, front_part, rest_part}
 use Rattle.warg_crypto.specs.Tree.{branch}
 use Rattle.warg_log.specs.Tree.{root_of, own_digest, leaves_below, root_over}
-use Rattle.warg_log.specs.Cut.{Evaluation, joined, is_target, is_beside, top_of, cut_over, cut_root, IsFull, old_over, old_root}
+use Rattle.warg_log.specs.Cut.{Evaluation, with_target, joined, is_target, is_beside, top_of, cut_over, cut_root, IsFull, old_over, old_root}
 use Rattle.warg_log.proofs.NodeLemmas.{over_at}
 use Rattle.warg_log.proofs.RootLemmas.{below_pow, root_of_split}
-use Rattle.warg_log.proofs.WayLemmas.{first, behind, IsBeside, target_decides, is_other, is_beside_so, way_over_target, way_over-read, way_over-split, way_over_parts, ways}
+use Rattle.warg_log.proofs.WayLemmas.{first, behind, counts, IsBeside, target_decides, is_other, is_beside_so, way_over_target, way_over-read, way_over-split, way_over_parts, ways}
 
 -- the range of the target, a range that is read, and any other, split at its front
 module _ (H : List ℕ → List ℕ) (e : Evaluation) where
@@ -35,7 +35,7 @@ module _ (H : List ℕ → List ℕ) (e : Evaluation) where
 -- as a program tests it
 module _ (H : List ℕ → List ℕ) (F : ℕ → Option (List ℕ)) (t : Range) (x : List ℕ) where
   abbrev e : Evaluation
-  e = record { held = F; target = t; digest = x }
+  e = with_target F t x
 
   pub cut_found : (r : Range) → is_target t r ≡ true → cut_over H e r ≡ Some x
   cut_found r is = rw ((target_decides t r).0 is) (cut_over_target H e)
@@ -58,13 +58,14 @@ pub nothing_beside : (r : Range) → IsBeside nothing r
 nothing_beside r = inr (let le : 0 + 0 ≤ r.start = omega arith in le)
 
 not_nothing : (r : Range) → 0 < r.count → r ≡ nothing → ⊥
-not_nothing r some same = omega (arith, ap (λ (x : Range). x.count) same)
+not_nothing r some same = omega (arith, counts same)
 
 module _ (H : List ℕ → List ℕ) (F : ℕ → Option (List ℕ)) where
   pub old_over_full : (r : Range) → 0 < r.count → IsFull r.count → old_over H F r ≡ F (node_over r.start r.count)
   old_over_full r some full = cut_over_read H _ r (not_nothing r some) (inr (full, nothing_beside r))
 
-  pub old_over-split : (r : Range) (h : ℕ) → 2 ^ h < r.count → r.count ≤ 2 ^ suc h → (r.count ≡ 2 ^ suc h → ⊥) → old_over H F r ≡ joined H (old_over H F (first h r)) (old_over H F (behind h r))
+  pub old_over-split : (r : Range) (h : ℕ) → 2 ^ h < r.count → r.count ≤ 2 ^ suc h → (r.count ≡ 2 ^ suc h → ⊥)
+      → old_over H F r ≡ joined H (old_over H F (first h r)) (old_over H F (behind h r))
   old_over-split r h more most part = cut_over-split H _ r h more most (not_nothing r (omega arith)) (λ full _. part full)
 
   pub old_over_parts : (r : Range) → 1 < r.count → (IsFull r.count → ⊥) → old_over H F r ≡ joined H (old_over H F (front_part r)) (old_over H F (rest_part r))
@@ -87,7 +88,7 @@ own_over H ds k c fits = let at = over_at k c in rw (at.0, at.1, le-leb ((c + 1)
 -- over a log's own digests, with the target's own digest, the cut root is the plain root
 pub own_at : (H : List ℕ → List ℕ) (ds : List (List ℕ)) (x : List ℕ) (t r : Range) (h c : ℕ) → x ≡ root_over H ds t.start t.count → r.start ≡ c * 2 ^ h
     → 0 < r.count → r.count ≤ 2 ^ h → r.start + r.count ≤ length ds
-    → cut_over H (record { held = own_digest H ds; target = t; digest = x }) r ≡ Some (root_over H ds r.start r.count)
+    → cut_over H (with_target (own_digest H ds) t x) r ≡ Some (root_over H ds r.start r.count)
 unfolding top_of
 own_at H ds x t r h c own start = ways t 0 (λ r way. r.start + r.count ≤ length ds → top_of H (own_digest H ds) x way ≡ Some (root_over H ds r.start r.count)) (record {
   target = λ _ _. ap Some own;

@@ -15,6 +15,10 @@ pub record Evaluation : Type 0 where
   pub target : Range
   pub digest : List ℕ
 
+-- The evaluation over the digests F with the digest x in the target's place.
+abbrev pub with_target : (ℕ → Option (List ℕ)) → Range → List ℕ → Evaluation
+with_target F target x = record { held = F; target = target; digest = x }
+
 -- The range is the target.
 abbrev pub is_target : Range → Range → Bool
 is_target target range = range.start == target.start && range.count == target.count
@@ -61,17 +65,13 @@ top_of H F x (at_parts misses left right) = joined H (top_of H F x left) (top_of
 abbrev pub cut_over : (List ℕ → List ℕ) → Evaluation → Range → Option (List ℕ)
 cut_over H e range = top_of H e.held e.digest (way_over e.target range)
 
--- The evaluation over the digests F with the digest x at the node t.
-abbrev pub with_node : (ℕ → Option (List ℕ)) → ℕ → List ℕ → Evaluation
-with_node F t x = record { held = F; target = range_of t; digest = x }
-
 -- The evaluation over a log's own digests, with the target's own digest.
 abbrev pub with_own : (List ℕ → List ℕ) → List (List ℕ) → Range → Evaluation
-with_own H ds t = record { held = own_digest H ds; target = t; digest = root_over H ds t.start t.count }
+with_own H ds target = with_target (own_digest H ds) target (root_over H ds target.start target.count)
 
 -- The cut root at length n, for the node t and the digest x in its place.
 abbrev pub cut_root : (List ℕ → List ℕ) → (ℕ → Option (List ℕ)) → ℕ → List ℕ → ℕ → Option (List ℕ)
-cut_root H F t x n = cut_over H (with_node F t x) (leaves_from 0 n)
+cut_root H F t x n = cut_over H (with_target F (range_of t) x) (leaves_from 0 n)
 
 -- The range has a power of two of leaves.
 abbrev pub IsFull : ℕ → Type 0
@@ -81,7 +81,7 @@ IsFull n = (h : ℕ) × (n ≡ 2 ^ h)
 -- parts. It is the cut root for a target of no leaves, which each range misses. `laws::old_full` and
 -- `old_parts` state the recursion.
 abbrev pub old_over : (List ℕ → List ℕ) → (ℕ → Option (List ℕ)) → Range → Option (List ℕ)
-old_over H F range = cut_over H (record { held = F; target = leaves_from 0 0; digest = H [] }) range
+old_over H F range = cut_over H (with_target F (leaves_from 0 0) (H [])) range
 
 -- The old root at a length: that of all its leaves.
 abbrev pub old_root : (List ℕ → List ℕ) → (ℕ → Option (List ℕ)) → ℕ → Option (List ℕ)

@@ -2,7 +2,7 @@
 
 ghost use Rattle.std.specs.Prelude.{◌≡◌, ◌<◌, IsTrue, IfSome, ◌↔◌};
 ghost use Rattle.warg_crypto.specs.Tree.{branch};
-ghost use Rattle.warg_log.specs.Cut.{cut_over};
+ghost use Rattle.warg_log.specs.Cut.{with_target, cut_over};
 
 use crate::leaf_range::LeafRange;
 use crate::log::LogData;
@@ -126,11 +126,8 @@ pub(crate) fn range_root_by<D: SupportedDigest, V: VisitBytes, L: LogData<D, V>>
     hash: &Hash<D>,
     range: &LeafRange,
 ) -> Option<Hash<D>>
-    ensures { result ≡ cut_over D.digest (record {
-      held = L.digest_at hashes.now;
-      target = target.now;
-      digest = hash.now;
-    }) range.now }
+    ensures { result ≡ cut_over D.digest
+        (with_target (L.digest_at hashes.now) target.now hash.now) range.now }
 {
     if range == target {
         return Some(hash.copied());

@@ -2,7 +2,7 @@
 
 ghost use Rattle.std.specs.Prelude.{◌≡◌, ℕ, ◌+◌, ◌-◌, ◌*◌, ◌^◌, ◌<◌, ◌≤◌, ◌⊎◌, ◌↔◌, IsTrue};
 ghost use Rattle.warg_log.specs.Ranges.{leaves_from, front_part, rest_part};
-ghost use Rattle.warg_log.specs.Cut.{is_beside, IsFull, cut_over, old_over};
+ghost use Rattle.warg_log.specs.Cut.{is_beside, IsFull, with_target, cut_over, old_over};
 
 use crate::log::LogData;
 use crate::node::Node;
@@ -119,11 +119,8 @@ pub fn range_root<D: SupportedDigest, V: VisitBytes, L: LogData<D, V>>(
     hash: &Hash<D>,
     range: &LeafRange,
 ) -> Option<Hash<D>>
-    ensures { result ≡ cut_over D.digest (record {
-      held = L.digest_at hashes.now;
-      target = target.now;
-      digest = hash.now;
-    }) range.now }
+    ensures { result ≡ cut_over D.digest
+        (with_target (L.digest_at hashes.now) target.now hash.now) range.now }
 {
     if range == target {
         return Some(hash.copied());
@@ -144,7 +141,8 @@ pub fn stored_root<D: SupportedDigest, V: VisitBytes, L: LogData<D, V>>(
     hashes: &L,
     range: &LeafRange,
 ) -> Option<Hash<D>>
-    ensures { result ≡ old_over D.digest (L.digest_at hashes.now) range.now }
+    ensures root { result ≡ old_over D.digest (L.digest_at hashes.now) range.now }
+    ensures some { 0 < range.now.count }
 {
     if range.is_full() {
         return hashes.hash_for(Node::over(range));

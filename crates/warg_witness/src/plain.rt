@@ -3,9 +3,7 @@
 ghost use Rattle.std.specs.Prelude.{◌≡◌, ℕ, ◌+◌, ◌^◌, ◌<◌, ◌≤◌, List, length, map, IfOk};
 ghost use Rattle.warg_log.specs.Tree.{leaves_of, root_of, root_over};
 ghost use Rattle.warg_log.specs.Ranges.{IsAligned};
-ghost use Rattle.warg_witness.specs.Inputs.{plain_input};
 
-use crate::collision::{branch_bytes, leaf_bytes};
 use std::alloc::{AllocError, Allocator};
 use warg_crypto::{Hash, SupportedDigest, VisitBytes};
 use warg_log::{LeafRange, VecLog, push_all, stored_root};
@@ -18,7 +16,8 @@ pub(crate) fn plain_tree<D: SupportedDigest, V: VisitBytes, A: Allocator>(
     requires { length entries.now ≤ 2 ^ 63 }
     ensures tree { IfOk result (λ plain. plain.0
         ≡ leaves_of D.digest (map V.bytes entries.now)) }
-    ensures root { IfOk result (λ plain. plain.1 ≡ root_of D.digest plain.0) }
+    ensures root { IfOk result (λ plain. plain.1
+        ≡ root_of D.digest (leaves_of D.digest (map V.bytes entries.now))) }
 {
     let mut tree = VecLog::default(alloc);
     let checkpoint = push_all(&mut tree, entries)?;
@@ -26,6 +25,7 @@ pub(crate) fn plain_tree<D: SupportedDigest, V: VisitBytes, A: Allocator>(
 }
 
 /// The root over a range of the tree.
+#[tactic(auto, using(warg_log::proofs::ForCallers::old_own_range))]
 pub(crate) fn plain_digest<D: SupportedDigest, V: VisitBytes, A: Allocator>(
     tree: &VecLog<D, V, A>,
     range: &LeafRange,
@@ -38,29 +38,4 @@ pub(crate) fn plain_digest<D: SupportedDigest, V: VisitBytes, A: Allocator>(
         Some(digest) => digest,
         None => unreachable!(),
     }
-}
-
-/// What the digest function takes at a range of the tree over the entries.
-#[tactic(auto, using(crate::proofs::RangeLemmas::beside_aligned))]
-pub(crate) fn plain_bytes<D: SupportedDigest, V: VisitBytes, A: Allocator + Copy>(
-    alloc: A,
-    tree: &VecLog<D, V, A>,
-    entries: &[V],
-    range: &LeafRange,
-) -> Result<Vec<u8, A>, AllocError>
-    requires tree { tree.now ≡ leaves_of D.digest (map V.bytes entries.now) }
-    requires aligned { IsAligned range.now.start range.now.count }
-    requires within { range.now.start + range.now.count ≤ length entries.now }
-    ensures { IfOk result (λ bytes. bytes.items
-        ≡ plain_input D.digest (map V.bytes entries.now) range.now.start range.now.count) }
-{
-    if range.count == 1 {
-        return leaf_bytes(alloc, &entries[range.start]);
-    }
-    let (front, rest) = range.split();
-    branch_bytes(
-        alloc,
-        &plain_digest(tree, &front),
-        &plain_digest(tree, &rest),
-    )
 }

@@ -8,8 +8,8 @@ ghost use Rattle.warg_log.specs.Ranges.{IsAligned};
 ghost use Rattle.warg_witness.specs.Private.Compared.{IsFirstDifference};
 ghost use Rattle.warg_witness.specs.Private.Divergence.{IsDivergence};
 
-use crate::climb::Divergence;
 use crate::compare::have_same_bytes;
+use crate::divergence::Divergence;
 use crate::plain::plain_digest;
 use crate::ranges::meet_ranges;
 use std::alloc::{AllocError, Allocator};
@@ -25,7 +25,7 @@ pub(crate) struct Trees<D: SupportedDigest, V: VisitBytes, A: Allocator> {
 
 // Whether an old and a new entry at one place have the same bytes. They don't where their leaf digests
 // differ; else their bytes are compared.
-#[tactic(auto, using(crate::proofs::RangeLemmas::leaf_aligned))]
+#[tactic(auto, using(crate::proofs::RangeLemmas::leaf_aligned, warg_log::proofs::ForCallers::root_over_one, crate::proofs::HashLemmas::hashes_decide))]
 fn is_same_entry<D: SupportedDigest, V: VisitBytes, A: Allocator>(
     trees: &Trees<D, V, A>,
     place: usize,
@@ -87,6 +87,7 @@ pub(crate) fn divergence_below<D: SupportedDigest, V: VisitBytes, A: Allocator>(
         (root_over D.digest trees.now.new place 1)
         place 1 range.now.start range.now.count result }
 {
+    prove!(range.start <= place);
     let leaf = LeafRange::new(place, 1);
     let old = plain_digest(&trees.old, &leaf);
     let new = plain_digest(&trees.new, &leaf);

@@ -7,7 +7,8 @@ ghost use Rattle.warg_paths.specs.Paths.{roots_down};
 ghost use Rattle.warg_witness.specs.Ranges.{IsAround};
 ghost use Rattle.warg_witness.specs.Private.TreeDivergence.{LeadsOver, IsGrowth, IsTreeDivergence};
 
-use crate::climb::{Climb, Divergence};
+use crate::climb::Climb;
+use crate::divergence::Divergence;
 use crate::plain::plain_digest;
 use crate::trees::{Trees, divergence_below};
 use std::alloc::Allocator;
@@ -33,8 +34,7 @@ fn growth_at<D: SupportedDigest, V: VisitBytes, A: Allocator>(
     requires aligned { IsAligned shared.now.start shared.now.count }
     requires in_old { shared.now.start + shared.now.count ≤ length trees.now.old }
     requires in_new { shared.now.start + shared.now.count ≤ length trees.now.new }
-    ensures shared { (result.shared.start ≡ shared.now.start)
-        × (result.shared.count ≡ shared.now.count) }
+    ensures shared { result.shared ≡ shared.now }
     ensures first { (result.old.first ≡ digest.now) × (result.new.first ≡ digest.now) }
     ensures old { result.old.second
         ≡ root_over D.digest trees.now.old shared.now.start shared.now.count }
@@ -88,9 +88,10 @@ fn climb_growth<D: SupportedDigest, V: VisitBytes, A: Allocator>(
             new: growth.new.up(false, top, &new_rest),
         });
     }
-    let old_rest = LeafRange::new(rest.start, old_length - front.count);
+    let old_count = old_length - front.count;
+    let old_rest = LeafRange::new(rest.start, old_count);
     if place < rest.start {
-        let (old, new) = roots_of_subproof(None, old_rest.count, rest.count, below)?;
+        let (old, new) = roots_of_subproof(None, old_count, rest.count, below)?;
         let growth = growth_at(trees, &front, top);
         return Some(Growth {
             shared: front,
@@ -100,7 +101,7 @@ fn climb_growth<D: SupportedDigest, V: VisitBytes, A: Allocator>(
             new: growth.new.up(false, &new, &plain_digest(&trees.new, &rest)),
         });
     }
-    let growth = climb_growth(trees, place, None, old_rest.count, &rest, below)?;
+    let growth = climb_growth(trees, place, None, old_count, &rest, below)?;
     Some(Growth {
         shared: growth.shared,
         old: growth.old.up(true, top, &plain_digest(&trees.old, &front)),
@@ -133,10 +134,10 @@ pub(super) fn growth_divergence<D: SupportedDigest, V: VisitBytes, A: Allocator>
     let Some(Growth { shared, old, new }) = growth else {
         unreachable!()
     };
-    if !old.divergence.is_target() {
+    if let Divergence::Branch(_) = &old.divergence {
         return old.divergence;
     }
-    if !new.divergence.is_target() {
+    if let Divergence::Branch(_) = &new.divergence {
         return new.divergence;
     }
     divergence_below(trees, &shared, place)

@@ -1,29 +1,29 @@
-use Rattle.std.proofs.Common.{◌≡◌, suc, ◌-◌, ◌++◌, ◌∷◌, [], refl, ap, ◌∙◌, arith, ⊎_elim}
+use Rattle.std.proofs.Common.{◌≡◌, suc, ◌-◌, ◌++◌, ◌∷◌, [], refl, ◌∙◌, arith, ⊎_elim}
 use Rattle.std.proofs.lemmas.List.{map_push}
 use Rattle.std.proofs.lemmas.Nat.{pow_pos}
 use Rattle.warg_log.specs.Nodes.{height_of, node_over}
-use Rattle.warg_log.specs.Ranges.{Range, leaves_from, range_of}
+use Rattle.warg_log.proofs.WayLemmas.{counts, starts}
 use Rattle.warg_log.proofs.StepLemmas.{HasFound, numbers, walk_grows, found_first, HasBegun, walk_begins}
 use Rattle.warg_log.proofs.proof.+add_walk.Goals as goal
 use Rattle.warg_log.proofs.proof.+add_walk.Goals.{In_ok-push, After-ilog2, After-len}
 
 pushed : (g : _) (t : _) (c : In_ok-push g t) → numbers c.push.new.self.items ≡ numbers c.add_walk.new.nodes.items ++ node_over c.args.start c.first_root.result.count ∷ []
-pushed g t c = rw (c.in_ok-push.ensures.items, map_push, c.over.ensures, ap (λ (r : Range). r.start) c.root.view_is, ap (λ (r : Range). r.count) c.root.view_is, c.first_root.ensures.start) refl
+pushed g t c = rw (c.in_ok-push.ensures.items, map_push, c.over.ensures, starts c.root.view_is, counts c.root.view_is, c.first_root.ensures.start) refl
 
 pub returns-then-end-leaf_range-clause-order : goal.returns-then-end-leaf_range-clause-order
 returns-then-end-leaf_range-clause-order g t c =
     let walk = c.in_ok-parts.ensures.order in
     let at = goal.at.returns-then-end-leaf_range-clause-order g t c in
-    (suc walk.0, walk_grows _ _ _ _ _ _ _ _ _ c.first_root.ensures.count (rw (c.end-then-end-leaf_range.ensures, ap (λ (r : Range). r.start) c.root.view_is, ap (λ (r : Range). r.count) c.root.view_is, c.first_root.ensures.start) at walk.1) (pushed g t at.In_ok-push))
+    (suc walk.0, walk_grows _ _ _ _ _ _ _ _ _ c.first_root.ensures.count (rw (c.end-then-end-leaf_range.ensures, starts c.root.view_is, counts c.root.view_is, c.first_root.ensures.start) at walk.1) (pushed g t at.In_ok-push))
 
 found : (g : _) (t : _) (c : After-ilog2 g t) → HasFound c.args.leaf.0 c.args.start c.args.end c.first_root.result.count c.ilog2.result
 found g t c =
-    let starts = ap (λ (r : Range). r.start) c.root.view_is in
-    let counts = ap (λ (r : Range). r.count) c.root.view_is in
-    let leaf = ap (λ (r : Range). r.start) (c.leaf_range-2.view_is ∙ c.leaf_range.ensures) in
+    let start_is = starts c.root.view_is in
+    let same = counts c.root.view_is in
+    let leaf = starts (c.leaf_range-2.view_is ∙ c.leaf_range.ensures) in
     let behind = c.if-end-leaf_range.false in
-    found_first _ _ _ _ _ c.requires.aligned c.first_root.ensures.count c.requires.starts c.requires.ends (rw counts at c.ilog2.ensures.power_le) (rw counts at c.ilog2.ensures.next_power_gt)
-    (λ beside. ⊎_elim (λ low. omega (arith, low, leaf, behind, c.end.ensures, starts, counts, c.first_root.ensures.start)) (λ high. omega (arith, high, c.requires.starts, pow_pos (height_of c.args.leaf.0))) beside)
+    found_first _ _ _ _ _ c.requires.aligned c.first_root.ensures.count c.requires.starts c.requires.ends (rw same at c.ilog2.ensures.power_le) (rw same at c.ilog2.ensures.next_power_gt)
+    (λ beside. ⊎_elim (λ low. omega (arith, low, leaf, behind, c.end.ensures, start_is, same, c.first_root.ensures.start)) (λ high. omega (arith, high, c.requires.starts, pow_pos (height_of c.args.leaf.0))) beside)
 
 pub add_siblings-requires-clause-above : goal.add_siblings-requires-clause-above
 add_siblings-requires-clause-above g t c = (found g t (goal.at.add_siblings-requires-clause-above g t c).After-ilog2).low
@@ -31,7 +31,7 @@ add_siblings-requires-clause-above g t c = (found g t (goal.at.add_siblings-requ
 begun : (g : _) (t : _) (c : After-len g t) → HasFound c.args.leaf.0 c.args.start c.args.end c.first_root.result.count c.ilog2.result
     → HasBegun c.args.leaf.0 c.args.start (c.args.end - c.args.start) (numbers c.add_roots.new.nodes.items) c.len-initial.result c.len.result
 begun g t c found = walk_begins _ _ _ _ _ _ _ _ _ _ found c.requires.empty c.in_ok-add_siblings.ensures (c.len-initial.ensures ∙ c.add_siblings.new.nodes.ok.0)
-    (rw (c.between.ensures, c.end-2.ensures, ap (λ (r : Range). r.start) c.root.view_is, ap (λ (r : Range). r.count) c.root.view_is, c.first_root.ensures.start) at c.in_ok-add_roots.ensures) (c.len.ensures ∙ c.add_roots.new.nodes.ok.0)
+    (rw (c.between.ensures, c.end-2.ensures, starts c.root.view_is, counts c.root.view_is, c.first_root.ensures.start) at c.in_ok-add_roots.ensures) (c.len.ensures ∙ c.add_roots.new.nodes.ok.0)
 
 pub overflow_sub-lower : goal.overflow_sub-lower
 overflow_sub-lower g t c = let at = goal.at.overflow_sub-lower g t c in (begun g t at.After-len (found g t at.After-ilog2)).fits
