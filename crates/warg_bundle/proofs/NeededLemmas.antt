@@ -15,7 +15,7 @@ use Rattle.std.proofs.lemmas.Bool.{eq-eqb, eqb-true, ne_eqb, ltb-false, leb-true
 use Rattle.warg_log.specs.declared.node.Node.{Node}
 use Rattle.warg_bundle.specs.declared.log.error.BundleError.{BundleError}
 use Rattle.warg_bundle.specs.declared.log.error.BundleError.TheVariants.{HashNotFound}
-use Rattle.warg_log.specs.Nodes.{ExistsAt, end_of, height_of, balanced_roots}
+use Rattle.warg_log.specs.Nodes.{ExistsAt, end_of, balanced_roots}
 use Rattle.warg_log.specs.Walks.{needed, needed_between}
 use Rattle.warg_log.specs.Sparse.{IsAscending}
 use Rattle.warg_log.specs.Claims.{InclusionClaim, ConsistencyClaim}

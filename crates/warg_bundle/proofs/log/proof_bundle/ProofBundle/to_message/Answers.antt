@@ -1,11 +1,16 @@
+use Rattle.std.proofs.Common.{◌∙◌, refl, ap}
+use Rattle.warg_bundle.specs.LogBundles.{log_bundle_in}
 use Rattle.warg_bundle.proofs.BundleLemmas.{bundle_again}
 use Rattle.warg_bundle.proofs.log.proof_bundle.ProofBundle.to_message.Goals as goal
 
+pub returns-clause-ok : goal.returns-clause-ok
+returns-clause-ok g c =
+    rw (← c.self.view_is, c.in_ok-consistent_lengths.ensures.items, c.as_slice.ensures.value, c.in_ok-included_indices.ensures, c.as_slice-2.ensures.value, c.in_ok-hashes.ensures.entries, c.pairs-pairs.ensures.value) refl
+
 pub returns-clause-again : goal.returns-clause-again
 returns-clause-again g c =
-    let lengths = rw c.pairs-pairs.ensures.value at c.in_ok-hashes.ensures.lengths in
-    rw (← c.self.view_is, c.in_ok-consistent_lengths.ensures.items, c.as_slice.ensures.value, c.in_ok-included_indices.ensures, c.as_slice-2.ensures.value, c.in_ok-hashes.ensures.entries, c.pairs-pairs.ensures.value)
-    (bundle_again _ c.pairs-pairs.ensures.ascending lengths)
+    ap log_bundle_in (returns-clause-ok g c)
+    ∙ rw (← c.self.view_is) (bundle_again _ c.pairs-pairs.ensures.ascending (rw c.pairs-pairs.ensures.value at c.in_ok-hashes.ensures.lengths))
 
 pub returns-clause-fits : goal.returns-clause-fits
 returns-clause-fits g c = (
