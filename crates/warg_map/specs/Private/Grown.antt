@@ -1,7 +1,7 @@
 -- Leaves that are put into a tree: leaf digests, each with its key digest, in the order of their insertion.
-use Rattle.std.specs.Prelude.{◌≡◌, ℕ, Bool, true, false, not, List, [], ◌∷◌, filter}
+use Rattle.std.specs.Prelude.{◌≡◌, ℕ, ◌+◌, Bool, true, false, not, List, [], ◌∷◌, filter}
 use Rattle.std.specs.List.{AllByRecursion}
-use Rattle.std.specs.FinMap.{insert}
+use Rattle.std.specs.FinMap.{insert, len}
 use Rattle.warg_map.specs.Bits.{bit_at, bits_from, last_bits}
 use Rattle.warg_map.specs.Sparse.{SparseMap}
 use Rattle.warg_map.specs.Private.Lone.{Lone}
@@ -23,3 +23,8 @@ is_bit false x = not x
 -- The leaves whose key digests have a bit at a place, in order.
 unfoldable pub on_side : ℕ → Bool → List Lone → List Lone
 on_side at b es = filter (λ e. is_bit b (bit_at e.key at)) es
+
+-- The tree of k levels with leaves put into a map, and how many of their key digests are new to it.
+pub record IsPut (k : ℕ) (m : SparseMap) (es : List Lone) (link : ℕ × SparseMap) (fresh : ℕ) : Type 0 where
+  pub seen : link ≡ (k, with_leaves k m es)
+  pub count : len m + fresh ≡ len link.1
