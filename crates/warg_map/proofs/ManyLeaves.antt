@@ -1,5 +1,6 @@
 -- Laws of leaves that are put into a tree.
 use Rattle.std.proofs.Common.{◌≡◌, ℕ, length, ◌+◌, ◌-◌, ◌<◌, ◌≤◌, Bool, true, false, cond, not, List, [], ◌∷◌, ◌++◌, refl, sym, ap, ◌∙◌, subst, arith, take, get_or, ◌⊎◌, inl, inr, ⊎_elim, length-append}
+use Rattle.std.specs.List.{AllByRecursion}
 use Rattle.std.specs.FinMap.{insert, empty, contains_key, len, len-insert}
 use Rattle.std.proofs.lemmas.List.{take_more, take_all, append-nil, length_push}
 use Rattle.std.proofs.lemmas.List.Elements.{filter-append}
@@ -106,6 +107,9 @@ pub split_at_last : (es : List Lone) (n : ℕ) (e : Lone) → n ≡ length es �
 split_at_last es n e len some is =
     let up : n ≡ n - 1 + 1 = omega (arith, len, some) in
     sym (take_all n es (omega (arith, len))) ∙ ap (λ j. take j es) up ∙ take_more es (n - 1) e (omega (arith, len, some)) ∙ ap (λ x. take (n - 1) es ++ x ∷ []) (sym is)
+
+pub share_last : (key : List ℕ) (i n : ℕ) (es fs : List Lone) (e : Lone) → es ≡ fs ++ e ∷ [] → ShareBits key i n es → ShareBits e.key i n es
+share_last key i n es fs e is share = subst (λ bits. AllByRecursion (λ x. bits_from x.key i n ≡ bits) es) (sym (all_parts _ fs (e ∷ []) (rw is at share)).1.0) share
 
 -- leaves on a side
 pub some_near : (es fs : List Lone) (e : Lone) (key : List ℕ) (at : ℕ) → es ≡ fs ++ e ∷ [] → key ≡ e.key → 0 < length (on_side at (bit_at key at) es)

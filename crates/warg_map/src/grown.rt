@@ -1,11 +1,11 @@
 //! Leaves that are put into a tree, in order, so that a branch above several of them is hashed once.
 
-ghost use Rattle.std.specs.Prelude.{◌≡◌, ℕ, ◌+◌, ◌-◌, ◌^◌, ◌<◌, ◌≤◌, ◌⊎◌, ◌∷◌, [], not, length, IfOk};
+ghost use Rattle.std.specs.Prelude.{◌≡◌, ℕ, ◌+◌, ◌-◌, ◌^◌, ◌<◌, ◌≤◌, ◌⊎◌, ◌∷◌, [], not, List, length, IfOk};
 ghost use Rattle.std.specs.FinMap as map;
 ghost use Rattle.warg_crypto.specs.Sides.{side_bit};
 ghost use Rattle.warg_map.specs.Bits.{bit_at, bits_from};
 ghost use Rattle.warg_map.specs.Private.Under.{join_at, under, HoldsKey};
-ghost use Rattle.warg_map.specs.Private.Grown.{ShareBits, on_side, IsPut};
+ghost use Rattle.warg_map.specs.Private.Grown.{ShareBits, on_side, IsParting, IsPut};
 ghost use Rattle.warg_map.specs.Private.Seen.{MayCarry};
 
 use crate::link::Link;
@@ -57,6 +57,45 @@ fn parted<D: SupportedDigest, A: Allocator + Copy>(
         }
     }
     Ok((near, far))
+}
+
+/// Where leaves part from the bits of a key digest.
+#[derive(Drop)]
+enum Parting<D: SupportedDigest, A: Allocator> {
+    /// Nowhere: all these have the bits.
+    Nowhere(Vec<Singleton<D>, A>),
+    /// Behind so many bits that all share. The near ones have the key's next bit, which goes to the side.
+    Behind {
+        shared: usize,
+        side: Side,
+        near: Vec<Singleton<D>, A>,
+        far: Vec<Singleton<D>, A>,
+    },
+}
+
+// Where the first of the leaves part from `len` bits of a key digest, from bit `from` on.
+fn first_parting<D: SupportedDigest, A: Allocator + Copy>(
+    alloc: A,
+    leaves: Vec<Singleton<D>, A>,
+    key: &Hash<D>,
+    from: usize,
+    len: usize,
+) -> Result<Parting<D, A>, AllocError>
+    requires { from + len ≤ 256 }
+    ensures { IfOk result (IsParting key.now from len leaves.items) }
+{
+    let shared = shared_by_all(key, &leaves, from, len);
+    if shared == len {
+        return Ok(Parting::Nowhere(leaves));
+    }
+    let side = side_at(key, from + shared);
+    let (near, far) = parted(alloc, leaves, side, from + shared)?;
+    Ok(Parting::Behind {
+        shared,
+        side,
+        near,
+        far,
+    })
 }
 
 /// A tree with leaves put into it, and how many of their key digests are new to it.
@@ -137,6 +176,25 @@ impl<D: SupportedDigest, A: Allocator + Copy> Filled<D, A> {
     }
 }
 
+// The tree below `depth` bits that holds these leaves, all of one key digest: the last.
+fn alone<D: SupportedDigest, A: Allocator + Copy>(
+    alloc: A,
+    leaves: &[Singleton<D>],
+    depth: usize,
+) -> Result<Filled<D, A>, AllocError>
+    requires depth { depth ≤ 256 }
+    requires some { 0 < length leaves.now }
+    requires one { (key : List ℕ) × ShareBits key depth (256 - depth) leaves.now }
+    ensures { IfOk result (λ p. IsPut (256 - depth) map.empty leaves.now p.link p.fresh) }
+{
+    let last = &leaves[leaves.len() - 1];
+    // In the whole tree a lone key stands below a stem of one bit, and in a lower one below none.
+    let len = 1_usize.saturating_sub(depth);
+    let lone = Rc::new(alloc, last.with_height(256 - depth - len))?;
+    let link = Link::new(Node::Singleton(lone));
+    Filled { link, fresh: 1 }.with_stem(alloc, last.key(), depth, len)
+}
+
 // The tree below `depth` bits that holds these leaves, the last under a key digest.
 fn grown<D: SupportedDigest, A: Allocator + Copy>(
     alloc: A,
@@ -147,22 +205,21 @@ fn grown<D: SupportedDigest, A: Allocator + Copy>(
     requires some { 0 < length leaves.items }
     ensures { IfOk result (λ p. IsPut (256 - depth) map.empty leaves.items p.link p.fresh) }
 {
-    let last = &leaves[leaves.len() - 1];
-    let shared = shared_by_all(last.key(), &leaves, depth, 256 - depth);
-    if shared == 256 - depth {
-        // In the whole tree a lone key stands below a stem of one bit, and in a lower one below none.
-        let len = 1_usize.saturating_sub(depth);
-        let lone = Rc::new(alloc, last.with_height(256 - depth - len))?;
-        let link = Link::new(Node::Singleton(lone));
-        return Filled { link, fresh: 1 }.with_stem(alloc, last.key(), depth, len);
+    let key = leaves[leaves.len() - 1].key().copied();
+    match first_parting(alloc, leaves, &key, depth, 256 - depth)? {
+        Parting::Nowhere(leaves) => alone(alloc, &leaves, depth),
+        Parting::Behind {
+            shared,
+            side,
+            near,
+            far,
+        } => {
+            let at = depth + shared;
+            let near = grown(alloc, near, at + 1)?;
+            let far = grown(alloc, far, at + 1)?;
+            Filled::beside(alloc, side, near, far)?.with_stem(alloc, &key, depth, shared)
+        }
     }
-    let key = last.key().copied();
-    let at = depth + shared;
-    let side = side_at(&key, at);
-    let (near, far) = parted(alloc, leaves, side, at)?;
-    let near = grown(alloc, near, at + 1)?;
-    let far = grown(alloc, far, at + 1)?;
-    Filled::beside(alloc, side, near, far)?.with_stem(alloc, &key, depth, shared)
 }
 
 // What stands below the bits of a stem up to bit `from`, with leaves put there. The stem is cut where the first leaf parts
@@ -181,17 +238,23 @@ fn spread_stem<D: SupportedDigest, A: Allocator + Copy>(
         IfOk result (λ p. IsPut (256 - from) (under bits stem.now.below.1) leaves.items p.link p.fresh) }
 {
     let len = stem.from + stem.len - from;
-    let shared = shared_by_all(&stem.key, &leaves, from, len);
-    if shared == len {
-        let below = spread(alloc, &stem.below, leaves, from + len)?;
-        return below.with_stem(alloc, &stem.key, from, len);
+    match first_parting(alloc, leaves, &stem.key, from, len)? {
+        Parting::Nowhere(leaves) => {
+            let below = spread(alloc, &stem.below, leaves, from + len)?;
+            below.with_stem(alloc, &stem.key, from, len)
+        }
+        Parting::Behind {
+            shared,
+            side,
+            near,
+            far,
+        } => {
+            let at = from + shared;
+            let near = spread_stem(alloc, stem, near, at + 1)?;
+            let far = grown(alloc, far, at + 1)?;
+            Filled::beside(alloc, side, near, far)?.with_stem(alloc, &stem.key, from, shared)
+        }
     }
-    let at = from + shared;
-    let side = side_at(&stem.key, at);
-    let (near, far) = parted(alloc, leaves, side, at)?;
-    let near = spread_stem(alloc, stem, near, at + 1)?;
-    let far = grown(alloc, far, at + 1)?;
-    Filled::beside(alloc, side, near, far)?.with_stem(alloc, &stem.key, from, shared)
 }
 
 /// A link's tree with leaf digests put under their key digests, in order. A branch above several of them is hashed once: a

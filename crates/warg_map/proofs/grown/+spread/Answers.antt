@@ -1,17 +1,17 @@
-use Rattle.std.proofs.Common.{◌≡◌, ℕ, ◌+◌, ◌-◌, ◌<◌, ◌≤◌, length, arith, rules, refl, sym, ap, ◌∙◌, inl, inr, false}
+use Rattle.std.proofs.Common.{◌≡◌, ◌+◌, ◌-◌, ◌<◌, arith, rules, refl, ap, ◌∙◌, inl, inr, false}
 use Rattle.std.specs.FinMap.{empty}
 use Rattle.std.proofs.lemmas.List.{nil_from_length}
 use Rattle.std.proofs.lemmas.Result.{IfOk-weaker}
 use Rattle.warg_crypto.specs.Sides.{side_bit}
 use Rattle.warg_map.specs.Bits.{bits_from}
 use Rattle.warg_map.specs.Private.Under.{join_at, under, HoldsKey}
-use Rattle.warg_map.specs.Private.Grown.{IsPut}
+use Rattle.warg_map.specs.Private.Grown.{IsApart, IsPut}
 use Rattle.warg_map.specs.declared.node.Node.TheVariants.{Fork, Singleton, Stem}
 use Rattle.warg_map.proofs.TreeForm.{of_content}
 use Rattle.warg_map.proofs.BitsInFront.{holds-under}
 use Rattle.warg_map.proofs.LeavesBelowNodes.{IsPutBeside, put_beside, put_same, put_below_bits, put_none, put_beside_lone, in_fork, in_stem, cut_stem, carries_holds, carries_more}
 use Rattle.warg_map.proofs.grown.+spread.Goals as goal
-use Rattle.warg_map.proofs.grown.+spread.Goals.{spread-After-with_height, spread-In_ok-link-in-Singleton, spread-In_ok-right-in-Fork, spread_stem-In_ok-far}
+use Rattle.warg_map.proofs.grown.+spread.Goals.{spread-After-with_height, spread-In_ok-link-in-Singleton, spread-In_ok-right-in-Fork, spread_stem-In-Behind, spread_stem-In_ok-far-in-Behind}
 
 pub spread-returns-then-is_empty : goal.spread-returns-then-is_empty
 spread-returns-then-is_empty g t c =
@@ -66,45 +66,46 @@ spread-returns-in-Stem g t c = rw (in_stem c.node.result.now _ c.args.link.now c
 pub spread_stem-with_stem-requires : goal.spread_stem-with_stem-requires
 spread_stem-with_stem-requires g t c =
     let at : c.args.from + (c.args.stem.now.from + c.args.stem.now.len - c.args.from) + c.args.stem.now.below.0 ≡ 256 = omega (arith, c.requires.level, c.requires.place.1) in
-    let low : c.in_ok-below.below.link.0 ≡ 256 - (c.args.from + (c.args.stem.now.from + c.args.stem.now.len - c.args.from)) = ap (λ d. d.0) c.in_ok-below.ensures.seen in
-    record { height = omega (arith, at, low); below = λ _. carries_more c.args.stem.now.key _ c.args.stem.now.below _ c.args.leaves.items _ at c.requires.carries c.in_ok-below.ensures }
+    let low : c.in_ok-below-in-Nowhere.below.link.0 ≡ 256 - (c.args.from + (c.args.stem.now.from + c.args.stem.now.len - c.args.from)) = ap (λ d. d.0) c.in_ok-below-in-Nowhere.ensures.seen in
+    record { height = omega (arith, at, low); below = λ _. carries_more c.args.stem.now.key _ c.args.stem.now.below _ c.in-Nowhere.leaves.items _ at c.requires.carries c.in_ok-below-in-Nowhere.ensures }
 
-pub spread_stem-returns-then-shared-len : goal.spread_stem-returns-then-shared-len
-spread_stem-returns-then-shared-len g t c =
+pub spread_stem-returns-in_ok-below-in-Nowhere : goal.spread_stem-returns-in_ok-below-in-Nowhere
+spread_stem-returns-in_ok-below-in-Nowhere g t c =
     let s = c.args.stem.now in
-    let share = rw (c.deref.ensures.value, c.if-shared-len.true) at c.shared_by_all-shared.ensures.same in
-    IfOk-weaker c.with_stem.result _ _ (λ p e. put_below_bits s.key c.args.from _ s.below.1 _ c.in_ok-below.below.link _ _ _ c.args.leaves.items (omega (arith, c.requires.level, c.requires.place.1)) share refl c.in_ok-below.ensures (ap (λ r. r.link) e) (ap (λ r. r.fresh) e)) c.with_stem.ensures
+    let whole = rw c.in-Nowhere.is at c.in_ok-leaves.ensures in
+    let below : IsPut (256 - (c.args.from + (c.args.stem.now.from + c.args.stem.now.len - c.args.from))) c.args.stem.now.below.1 c.args.leaves.items c.in_ok-below-in-Nowhere.below.link c.in_ok-below-in-Nowhere.below.fresh = rw whole.0 at c.in_ok-below-in-Nowhere.ensures in
+    IfOk-weaker c.with_stem.result _ _ (λ p e. put_below_bits s.key c.args.from _ s.below.1 _ c.in_ok-below-in-Nowhere.below.link _ _ _ c.args.leaves.items (omega (arith, c.requires.level, c.requires.place.1)) whole.1 refl below (ap (λ r. r.link) e) (ap (λ r. r.fresh) e)) c.with_stem.ensures
 
 -- where the first leaf parts from it
-place : (g : _) (t : _) (c : spread_stem-In_ok-far g t) → c.args.from + c.shared_by_all-shared.result < c.args.stem.now.from + c.args.stem.now.len
-place g t c = omega (arith, c.shared_by_all-shared.ensures.at_most, c.if-shared-len.false, c.requires.place.1)
+apart : (g : _) (t : _) (c : spread_stem-In-Behind g t) → let s = c.args.stem.now in IsApart s.key c.args.from (s.from + s.len - c.args.from) c.args.leaves.items c.in-Behind.shared (side_bit c.in-Behind.side) c.in-Behind.near.items c.in-Behind.far.items
+apart g t c = rw c.in-Behind.is at c.in_ok-leaves.ensures
 
-put_cut : (g : _) (t : _) (c : spread_stem-In_ok-far g t) → let s = c.args.stem.now in let at = c.args.from + c.shared_by_all-shared.result in let near = c.in_ok-near-2.near in let far = c.in_ok-far.far in
-    IsPutBeside (side_bit c.side_at-side.result) at (under (bits_from s.key (at + 1) (s.from + s.len - (at + 1))) s.below.1) empty near.link far.link near.fresh far.fresh c.args.leaves.items c.in_ok-near.near.items c.in_ok-near.far.items
+put_cut : (g : _) (t : _) (c : spread_stem-In_ok-far-in-Behind g t) → let s = c.args.stem.now in let at = c.args.from + c.in-Behind.shared in let near = c.in_ok-near-in-Behind.near in let far = c.in_ok-far-in-Behind.far in
+    IsPutBeside (side_bit c.in-Behind.side) at (under (bits_from s.key (at + 1) (s.from + s.len - (at + 1))) s.below.1) empty near.link far.link near.fresh far.fresh c.args.leaves.items c.in-Behind.near.items c.in-Behind.far.items
 put_cut g t c =
     let s = c.args.stem.now in
-    let lt = place g t c in
-    let some : 0 < length c.in_ok-near.far.items = rw (c.in_ok-near.ensures.1, c.side_at-side.ensures) (rw c.deref.ensures.value at (c.shared_by_all-shared.ensures.apart (omega (arith, lt)))) in
-    put_beside _ (c.args.from + c.shared_by_all-shared.result) _ empty _ _ _ _ c.args.leaves.items _ _ (omega (arith, lt, c.requires.level)) c.in_ok-near-2.ensures c.in_ok-far.ensures c.in_ok-near.ensures.0 c.in_ok-near.ensures.1
-    (inl (holds-under _ s.below.1 (carries_holds s.key s.below c.requires.carries))) (inr some)
+    let a = apart g t (goal.at.spread_stem-In_ok-far-in-Behind g t c).In-Behind in
+    put_beside _ (c.args.from + c.in-Behind.shared) _ empty _ _ _ _ c.args.leaves.items _ _ (omega (arith, a.less, c.requires.level)) c.in_ok-near-in-Behind.ensures c.in_ok-far-in-Behind.ensures a.near_is a.far_is
+    (inl (holds-under _ s.below.1 (carries_holds s.key s.below c.requires.carries))) (inr a.some)
 
 pub spread_stem-beside-requires : goal.spread_stem-beside-requires
 spread_stem-beside-requires g t c =
-    let p = put_cut g t (goal.at.spread_stem-beside-requires g t c).In_ok-far in
+    let p = put_cut g t (goal.at.spread_stem-beside-requires g t c).In_ok-far-in-Behind in
     record { heights = (p.heights.0, p.heights.1); hold = p.hold; fits = search (rules, p.few.0, p.few.1) }
 
-pub spread_stem-with_stem-requires-2 : goal.spread_stem-with_stem-requires-2
-spread_stem-with_stem-requires-2 g t c =
-    let p = put_cut g t (goal.at.spread_stem-with_stem-requires-2 g t c).In_ok-far in
-    rw c.in_ok-beside.ensures (record { height = omega (arith, p.heights.2); below = λ _. inl p.splits })
+pub spread_stem-with_stem-requires-in-Behind : goal.spread_stem-with_stem-requires-in-Behind
+spread_stem-with_stem-requires-in-Behind g t c =
+    let p = put_cut g t (goal.at.spread_stem-with_stem-requires-in-Behind g t c).In_ok-far-in-Behind in
+    rw c.in_ok-beside-in-Behind.ensures (record { height = omega (arith, p.heights.2); below = λ _. inl p.splits })
 
-pub spread_stem-returns : goal.spread_stem-returns
-spread_stem-returns g t c =
+pub spread_stem-returns-in_ok-beside-in-Behind : goal.spread_stem-returns-in_ok-beside-in-Behind
+spread_stem-returns-in_ok-beside-in-Behind g t c =
     let s = c.args.stem.now in
-    let n = c.shared_by_all-shared.result in
-    let now = (goal.at.spread_stem-returns g t c).In_ok-far in
-    let lt = place g t now in
-    let share = rw c.deref.ensures.value at c.shared_by_all-shared.ensures.same in
-    let cut = cut_stem s.key c.args.from (c.args.from + n) (s.from + s.len - c.args.from) n (s.from + s.len - (c.args.from + n + 1)) s.below.1 (side_bit c.side_at-side.result) (omega (arith, lt)) refl (omega (arith, lt)) c.side_at-side.ensures in
-    let fork : IsPut (256 - (c.args.from + c.shared_by_all-shared.result)) (join_at (side_bit c.side_at-side.result) (under (bits_from c.args.stem.now.key (c.args.from + c.shared_by_all-shared.result + 1) (c.args.stem.now.from + c.args.stem.now.len - (c.args.from + c.shared_by_all-shared.result + 1))) c.args.stem.now.below.1) empty) c.args.leaves.items c.in_ok-beside.field-0.link c.in_ok-beside.field-0.fresh = rw c.in_ok-beside.ensures (put_cut g t now).put in
-    IfOk-weaker c.with_stem-2.result _ _ (λ p e. put_below_bits s.key c.args.from n _ _ _ _ _ _ c.args.leaves.items (omega (arith, lt, c.requires.level)) share cut fork (ap (λ r. r.link) e) (ap (λ r. r.fresh) e)) c.with_stem-2.ensures
+    let n = c.in-Behind.shared in
+    let at = c.args.from + c.in-Behind.shared in
+    let now = (goal.at.spread_stem-returns-in_ok-beside-in-Behind g t c).In_ok-far-in-Behind in
+    let a = apart g t (goal.at.spread_stem-In_ok-far-in-Behind g t now).In-Behind in
+    let fork = c.in_ok-beside-in-Behind.field-0 in
+    let cut = cut_stem s.key c.args.from at (s.from + s.len - c.args.from) n (s.from + s.len - (at + 1)) s.below.1 (side_bit c.in-Behind.side) a.less refl (omega (arith, a.less)) a.bit in
+    let below : IsPut (256 - (c.args.from + c.in-Behind.shared)) (join_at (side_bit c.in-Behind.side) (under (bits_from c.args.stem.now.key (c.args.from + c.in-Behind.shared + 1) (c.args.stem.now.from + c.args.stem.now.len - (c.args.from + c.in-Behind.shared + 1))) c.args.stem.now.below.1) empty) c.args.leaves.items c.in_ok-beside-in-Behind.field-0.link c.in_ok-beside-in-Behind.field-0.fresh = rw c.in_ok-beside-in-Behind.ensures (put_cut g t now).put in
+    IfOk-weaker c.with_stem-in-Behind.result _ _ (λ p e. put_below_bits s.key c.args.from n _ _ fork.link _ fork.fresh _ c.args.leaves.items (omega (arith, a.less, c.requires.level)) a.same cut below (ap (λ r. r.link) e) (ap (λ r. r.fresh) e)) c.with_stem-in-Behind.ensures

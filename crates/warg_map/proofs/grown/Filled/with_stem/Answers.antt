@@ -1,4 +1,4 @@
-use Rattle.std.proofs.Common.{◌≡◌, ◌+◌, ◌∙◌, arith}
+use Rattle.std.proofs.Common.{◌+◌, ◌∙◌, arith}
 use Rattle.warg_map.specs.declared.node.Node.TheVariants.{Stem}
 use Rattle.warg_map.specs.Bits.{bits_from}
 use Rattle.warg_map.specs.Private.Under.{under}
