@@ -16,26 +16,6 @@ use std::alloc::{AllocError, Allocator};
 use std::rc::Rc;
 use warg_crypto::{Hash, Side, SupportedDigest};
 
-// How many of `len` bits from bit `from` on all the leaves' key digests share with one.
-fn shared_by_all<D: SupportedDigest>(
-    key: &Hash<D>,
-    leaves: &[Singleton<D>],
-    from: usize,
-    len: usize,
-) -> usize
-    requires { from + len ≤ 256 }
-    ensures at_most { result ≤ len }
-    ensures same { ShareBits key.now from result leaves.now }
-    ensures apart { result < len → 0 < length
-        (on_side (from + result) (not (bit_at key.now (from + result))) leaves.now) }
-{
-    let mut shared = len;
-    for leaf in leaves {
-        shared = shared_bits(key, leaf.key(), from, shared);
-    }
-    shared
-}
-
 // The leaves whose key digests go to a side at a place, and the others, each in their order.
 fn parted<D: SupportedDigest, A: Allocator + Copy>(
     alloc: A,
@@ -84,7 +64,10 @@ fn first_parting<D: SupportedDigest, A: Allocator + Copy>(
     requires { from + len ≤ 256 }
     ensures { IfOk result (IsParting key.now from len leaves.items) }
 {
-    let shared = shared_by_all(key, &leaves, from, len);
+    let mut shared = len;
+    for leaf in &leaves {
+        shared = shared_bits(key, leaf.key(), from, shared);
+    }
     if shared == len {
         return Ok(Parting::Nowhere(leaves));
     }
