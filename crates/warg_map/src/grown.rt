@@ -159,25 +159,6 @@ impl<D: SupportedDigest, A: Allocator + Copy> Filled<D, A> {
     }
 }
 
-// The tree below `depth` bits that holds these leaves, all of one key digest: the last.
-fn alone<D: SupportedDigest, A: Allocator + Copy>(
-    alloc: A,
-    leaves: &[Singleton<D>],
-    depth: usize,
-) -> Result<Filled<D, A>, AllocError>
-    requires depth { depth ≤ 256 }
-    requires some { 0 < length leaves.now }
-    requires one { (key : List ℕ) × ShareBits key depth (256 - depth) leaves.now }
-    ensures { IfOk result (λ p. IsPut (256 - depth) map.empty leaves.now p.link p.fresh) }
-{
-    let last = &leaves[leaves.len() - 1];
-    // In the whole tree a lone key stands below a stem of one bit, and in a lower one below none.
-    let len = 1_usize.saturating_sub(depth);
-    let lone = Rc::new(alloc, last.with_height(256 - depth - len))?;
-    let link = Link::new(Node::Singleton(lone));
-    Filled { link, fresh: 1 }.with_stem(alloc, last.key(), depth, len)
-}
-
 // The tree below `depth` bits that holds these leaves, the last under a key digest.
 fn grown<D: SupportedDigest, A: Allocator + Copy>(
     alloc: A,
@@ -190,7 +171,14 @@ fn grown<D: SupportedDigest, A: Allocator + Copy>(
 {
     let key = leaves[leaves.len() - 1].key().copied();
     match first_parting(alloc, leaves, &key, depth, 256 - depth)? {
-        Parting::Nowhere(leaves) => alone(alloc, &leaves, depth),
+        Parting::Nowhere(leaves) => {
+            let last = &leaves[leaves.len() - 1];
+            // In the whole tree a lone key stands below a stem of one bit, and in a lower one below none.
+            let len = 1_usize.saturating_sub(depth);
+            let lone = Rc::new(alloc, last.with_height(256 - depth - len))?;
+            let link = Link::new(Node::Singleton(lone));
+            Filled { link, fresh: 1 }.with_stem(alloc, last.key(), depth, len)
+        }
         Parting::Behind {
             shared,
             side,
