@@ -1,13 +1,14 @@
 -- Laws of leaves that are put into a tree.
 use Rattle.std.proofs.Common.{◌≡◌, ℕ, length, ◌+◌, ◌-◌, ◌<◌, ◌≤◌, Bool, true, false, cond, not, List, [], ◌∷◌, ◌++◌, refl, sym, ap, ◌∙◌, subst, arith, take, get_or, ◌⊎◌, inl, inr, ⊎_elim, length-append}
-use Rattle.std.specs.FinMap.{insert, empty, contains_key, len, len-empty, len-insert}
+use Rattle.std.specs.List.{AllByRecursion}
+use Rattle.std.specs.FinMap.{insert, empty, contains_key, len, len-insert}
 use Rattle.std.proofs.lemmas.List.{take_more, take_all, append-nil, length_push}
 use Rattle.std.proofs.lemmas.List.Elements.{filter-append}
 use Rattle.std.proofs.lemmas.Bool.{cases_lt}
 use Rattle.warg_protobuf.proofs.ForCallers.{all_parts}
 use Rattle.warg_map.specs.Private.Lone.{Lone}
 use Rattle.warg_map.specs.Bits.{bit_at, bits_from, last_bits}
-use Rattle.warg_map.specs.Sparse.{SparseMap, HasLevels, bits_cmp}
+use Rattle.warg_map.specs.Sparse.{SparseMap, HasLevels}
 use Rattle.warg_map.specs.Private.Under.{join_at, under, HoldsKey}
 use Rattle.warg_map.specs.Private.Grown.{with_leaves, ShareBits, is_bit, on_side}
 use Rattle.warg_map.proofs.HeldKeys.{levels-insert}
@@ -92,9 +93,6 @@ with_leaves-holds k m es (inl h) = (h.0, with_leaves-held k m es h.0 h.1)
 with_leaves-holds k m [] (inr h) = absurd (omega arith)
 with_leaves-holds k m (e ∷ es) (inr h) = (last_bits e.key k, with_leaves-held k (insert m (last_bits e.key k) e.value) es (last_bits e.key k) (contains_key-insert_same m (last_bits e.key k) e.value))
 
-pub has_last : (k : ℕ) (m : SparseMap) (l : ℕ × SparseMap) (es fs : List Lone) (e : Lone) (key : List ℕ) → l ≡ (k, with_leaves k m es) → es ≡ fs ++ e ∷ [] → key ≡ e.key → contains_key l.1 (last_bits key l.0) ≡ true
-has_last k m l es fs e key h is ek = rw (h, is, ek, with_leaves-push k m fs e) (contains_key-insert_same (with_leaves k m fs) (last_bits e.key k) e.value)
-
 -- how many keys are held
 pub len-with_leaves : (k : ℕ) (m : SparseMap) (es : List Lone) → (len m ≤ len (with_leaves k m es)) × (len (with_leaves k m es) ≤ len m + length es)
 unfolding with_leaves
@@ -104,17 +102,14 @@ len-with_leaves k m (e ∷ es) =
     let one = len-insert bits_total m (last_bits e.key k) e.value in
     (grind (arith, h.0, one), grind (arith, h.1, one))
 
-pub few_new : (k n : ℕ) (m : SparseMap) (link : ℕ × SparseMap) (es : List Lone) → link ≡ (k, with_leaves k m es) → len m + n ≡ len link.1 → n ≤ length es
-few_new k n m link es l c = let most = len-with_leaves k m es in let is = rw l at c in omega (arith, most.1, is)
-
-pub few_grown : (k n : ℕ) (link : ℕ × SparseMap) (es : List Lone) → link ≡ (k, with_leaves k empty es) → n ≡ len link.1 → n ≤ length es
-few_grown k n link es l c = let z = len-empty bits_cmp (List ℕ) in few_new k n empty link es l (omega (arith, z, c))
-
 -- the last leaf
 pub split_at_last : (es : List Lone) (n : ℕ) (e : Lone) → n ≡ length es → 0 < length es → e ≡ get_or es (n - 1) e → es ≡ take (n - 1) es ++ e ∷ []
 split_at_last es n e len some is =
     let up : n ≡ n - 1 + 1 = omega (arith, len, some) in
     sym (take_all n es (omega (arith, len))) ∙ ap (λ j. take j es) up ∙ take_more es (n - 1) e (omega (arith, len, some)) ∙ ap (λ x. take (n - 1) es ++ x ∷ []) (sym is)
+
+pub share_last : (key : List ℕ) (i n : ℕ) (es fs : List Lone) (e : Lone) → es ≡ fs ++ e ∷ [] → ShareBits key i n es → ShareBits e.key i n es
+share_last key i n es fs e is share = subst (λ bits. AllByRecursion (λ x. bits_from x.key i n ≡ bits) es) (sym (all_parts _ fs (e ∷ []) (rw is at share)).1.0) share
 
 -- leaves on a side
 pub some_near : (es fs : List Lone) (e : Lone) (key : List ℕ) (at : ℕ) → es ≡ fs ++ e ∷ [] → key ≡ e.key → 0 < length (on_side at (bit_at key at) es)

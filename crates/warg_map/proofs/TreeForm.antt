@@ -1,5 +1,5 @@
 -- The form of the tree.
-use Rattle.std.proofs.Common.{◌≡◌, ℕ, ◌+◌, ◌-◌, ◌<◌, Bool, true, false, List, [], ◌∷◌, ◌++◌, length, refl, sym, ap, ◌∙◌, subst, arith, ◌⊎◌, inl, inr}
+use Rattle.std.proofs.Common.{◌≡◌, ℕ, ◌+◌, ◌-◌, ◌<◌, Bool, true, false, List, [], ◌∷◌, ◌++◌, length, refl, sym, ap, ◌∙◌, subst, arith, inl, inr}
 use Rattle.std.specs.FinMap.{insert, empty, contains_key, get-insert, get-empty}
 use Rattle.std.specs.declared.rc.Rc.{Rc}
 use Rattle.warg_map.specs.declared.node.Node.{Node}
@@ -8,7 +8,7 @@ use Rattle.warg_map.specs.declared.node.Stem.{Stem as Stem'}
 use Rattle.warg_map.specs.Bits.{bits_from, last_bits}
 use Rattle.warg_map.specs.Sparse.{SparseMap, bits_cmp}
 use Rattle.warg_map.specs.Private.Under.{join_at, under, HoldsKey, Splits}
-use Rattle.warg_map.specs.Private.Seen.{seen, IsWellFormed, IsSeen, IsBelow}
+use Rattle.warg_map.specs.Private.Seen.{seen, IsWellFormed, IsSeen, IsBelow, MayCarry}
 use Rattle.warg_map.proofs.SparseTree.{bits_total, tied, get-join_true, get-join_false, contains_key-insert_same}
 use Rattle.warg_map.proofs.BitsInFront.{under-append, under-none, under_same, lone-append, get-under_head, no_some}
 use Rattle.warg_map.proofs.KeyBits.{length-bits_from, bits_from-none, bits_from-append, bits_left-split, last_bits-at}
@@ -41,10 +41,7 @@ pub stem_holds : (len : ℕ) (below : ℕ × SparseMap) → IsBelow len below �
 stem_holds len below (inl s) = (false ∷ s.0.0, s.0.1)
 stem_holds len below (inr o) = (o.2.0, rw o.2.2 (contains_key-insert_same empty o.2.0 o.2.1))
 
--- what may stand below the bits of a new stem: below the top, a node that splits, or a tree of 255 levels that holds the key
-abbrev MayCarry : List ℕ → ℕ × SparseMap → Type 0
-MayCarry key link = Splits link.1 ⊎ ((link.0 ≡ 255) × (contains_key link.1 (last_bits key 255) ≡ true))
-
+-- what may stand below the bits of a new stem
 stands_below : {D A : _} (node : Node D A) (key : List ℕ) (from len : ℕ) → IsWellFormed node → ((s : Rc (Stem' D A) A) → node ≡ Stem s → ⊥) → ¬ (len ≡ 0) → from + len + (seen node).0 ≡ 256 → MayCarry key (seen node) → IsBelow len (seen node)
 stands_below (Fork f) key from len w n z h b = inl (splits_join false f.value.left.1 f.value.right.1 w.formed.0 w.formed.1)
 stands_below (Singleton s) key from len w n z h (inl t) = absurd (lone_no_split _ _ t)
@@ -62,7 +59,7 @@ with_new_stem node s link key from len w sn n z h below is =
     let stands = subst (IsBelow len) sn (stands_below node key from len w n z (rw (← sn) at h) (rw (← sn) at below)) in
     record {
       seen_as = rw is refl;
-      well_formed = record { level = rw is h; formed = rw is (omega (arith, z), stands) };
+      well_formed = record { level = rw is h; formed = rw is (omega (arith, z), stands, below) };
     }
 
 pub with_longer_stem : {D A : _} (node : Node D A) (lower s : Rc (Stem' D A) A) (link : ℕ × SparseMap) (key : List ℕ) (from len : ℕ) → node ≡ Stem lower → IsWellFormed node → seen node ≡ link → ¬ (len ≡ 0) → from + len + link.0 ≡ 256 → MayCarry key link
@@ -84,11 +81,12 @@ with_longer_stem node lower s link key from len at_node wf sn z high below is =
     let whole : last_bits key (k + l) ≡ bits_from key (from + len) l ++ bits_from key (from + len + l) k = last_bits-at key (from + len) (k + l) h ∙ ap (bits_from key (from + len)) swap ∙ bits_from-append key (from + len) l k in
     let same : bits_from key (from + len) l ≡ own = under_same _ _ (bits_from key (from + len + l) k) m (length-bits_from key (from + len) l ∙ sym length_own) (rw whole at has) in
     let sum : k + (len + l) ≡ k + l + len = omega arith in
+    let stands = elim w.formed.1 as (λ _. IsBelow (len + l) (k, m) × MayCarry key (k, m)) [ inl s ↦ (inl s, inl s) | inr o ↦ absurd (omega (arith, o.0, o.1, z, h)) ] in
     rw (← top) (record {
       seen_as = rw (is, bits_from-append key from len l, under-append (bits_from key from len) (bits_from key (from + len) l) m, same, sum) refl;
       well_formed = record {
         level = rw is (omega (arith, h));
-        formed = rw is (omega (arith, z), elim w.formed.1 as (λ _. IsBelow (len + l) (k, m)) [ inl s ↦ inl s | inr o ↦ absurd (omega (arith, o.0, o.1, z, h)) ]);
+        formed = rw is (omega (arith, z), stands.0, stands.1);
       };
     })
 

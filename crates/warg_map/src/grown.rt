@@ -1,40 +1,20 @@
 //! Leaves that are put into a tree, in order, so that a branch above several of them is hashed once.
 
-ghost use Rattle.std.specs.Prelude.{◌≡◌, ℕ, ◌+◌, ◌-◌, ◌<◌, ◌≤◌, ◌⊎◌, ◌∷◌, [], not, length, IfOk};
+ghost use Rattle.std.specs.Prelude.{◌≡◌, ℕ, ◌+◌, ◌-◌, ◌^◌, ◌<◌, ◌≤◌, ◌⊎◌, ◌∷◌, [], not, List, length, IfOk};
 ghost use Rattle.std.specs.FinMap as map;
 ghost use Rattle.warg_crypto.specs.Sides.{side_bit};
 ghost use Rattle.warg_map.specs.Bits.{bit_at, bits_from};
-ghost use Rattle.warg_map.specs.Private.Under.{under, Splits};
-ghost use Rattle.warg_map.specs.Private.Grown.{with_leaves, ShareBits, on_side};
-ghost use Rattle.warg_map.specs.Private.Seen.{IsBelow};
+ghost use Rattle.warg_map.specs.Private.Under.{join_at, under, HoldsKey};
+ghost use Rattle.warg_map.specs.Private.Grown.{ShareBits, on_side, IsParting, IsPut};
+ghost use Rattle.warg_map.specs.Private.Seen.{MayCarry};
 
 use crate::link::Link;
-use crate::node::{Node, Stem};
+use crate::node::{Fork, Node, Stem};
 use crate::path::{shared_bits, side_at};
 use crate::singleton::Singleton;
 use std::alloc::{AllocError, Allocator};
 use std::rc::Rc;
 use warg_crypto::{Hash, Side, SupportedDigest};
-
-// How many of `len` bits from bit `from` on all the leaves' key digests share with one.
-fn shared_by_all<D: SupportedDigest>(
-    key: &Hash<D>,
-    leaves: &[Singleton<D>],
-    from: usize,
-    len: usize,
-) -> usize
-    requires { from + len ≤ 256 }
-    ensures at_most { result ≤ len }
-    ensures same { ShareBits key.now from result leaves.now }
-    ensures apart { result < len → 0 < length
-        (on_side (from + result) (not (bit_at key.now (from + result))) leaves.now) }
-{
-    let mut shared = len;
-    for leaf in leaves {
-        shared = shared_bits(key, leaf.key(), from, shared);
-    }
-    shared
-}
 
 // The leaves whose key digests go to a side at a place, and the others, each in their order.
 fn parted<D: SupportedDigest, A: Allocator + Copy>(
@@ -59,110 +39,227 @@ fn parted<D: SupportedDigest, A: Allocator + Copy>(
     Ok((near, far))
 }
 
-// The tree below `depth` bits that holds these leaves, the last under a key digest, and how many key digests they have.
+/// Where leaves part from the bits of a key digest.
+#[derive(Drop)]
+enum Parting<D: SupportedDigest, A: Allocator> {
+    /// Nowhere: all these have the bits.
+    Nowhere(Vec<Singleton<D>, A>),
+    /// Behind so many bits that all share. The near ones have the key's next bit, which goes to the side.
+    Behind {
+        shared: usize,
+        side: Side,
+        near: Vec<Singleton<D>, A>,
+        far: Vec<Singleton<D>, A>,
+    },
+}
+
+// Where the first of the leaves part from `len` bits of a key digest, from bit `from` on.
+fn first_parting<D: SupportedDigest, A: Allocator + Copy>(
+    alloc: A,
+    leaves: Vec<Singleton<D>, A>,
+    key: &Hash<D>,
+    from: usize,
+    len: usize,
+) -> Result<Parting<D, A>, AllocError>
+    requires { from + len ≤ 256 }
+    ensures { IfOk result (IsParting key.now from len leaves.items) }
+{
+    let mut shared = len;
+    for leaf in &leaves {
+        shared = shared_bits(key, leaf.key(), from, shared);
+    }
+    if shared == len {
+        return Ok(Parting::Nowhere(leaves));
+    }
+    let side = side_at(key, from + shared);
+    let (near, far) = parted(alloc, leaves, side, from + shared)?;
+    Ok(Parting::Behind {
+        shared,
+        side,
+        near,
+        far,
+    })
+}
+
+/// A tree with leaves put into it, and how many of their key digests are new to it.
+#[derive(Drop)]
+pub(crate) struct Filled<D: SupportedDigest, A: Allocator> {
+    pub(crate) link: Link<D, A>,
+    pub(crate) fresh: usize,
+}
+
+impl<D: SupportedDigest, A: Allocator + Copy> Filled<D, A> {
+    // The fork of two trees, the first on a side and the second on the other.
+    fn beside(
+        alloc: A,
+        side: Side,
+        near: Filled<D, A>,
+        far: Filled<D, A>,
+    ) -> Result<Filled<D, A>, AllocError>
+        requires heights { (near.link.0 ≡ far.link.0) × (near.link.0 < 256) }
+        requires hold { HoldsKey near.link.1 × HoldsKey far.link.1 }
+        requires fits { near.fresh + far.fresh < 2 ^ 64 }
+        ensures { IfOk result (λ p. p ≡ record {
+          link = (near.link.0 + 1, join_at (side_bit side) near.link.1 far.link.1);
+          fresh = near.fresh + far.fresh;
+        }) }
+    {
+        let fresh = near.fresh + far.fresh;
+        let fork = match side {
+            Side::Left => Fork {
+                left: near.link,
+                right: far.link,
+            },
+            Side::Right => Fork {
+                left: far.link,
+                right: near.link,
+            },
+        };
+        let link = Link::new(Node::Fork(Rc::new(alloc, fork)?));
+        Ok(Filled { link, fresh })
+    }
+
+    // The tree with a stem of `len` bits of `key` above it, from bit `from` on. Below the top it may be a stem that holds
+    // the key, which becomes longer.
+    fn with_stem(
+        self,
+        alloc: A,
+        key: &Hash<D>,
+        from: usize,
+        len: usize,
+    ) -> Result<Filled<D, A>, AllocError>
+        requires height { from + len + self.link.0 ≡ 256 }
+        requires below { 0 < len → MayCarry key.now self.link }
+        ensures { IfOk result (λ p. p ≡ record {
+          link = (self.link.0 + len, under (bits_from key.now from len) self.link.1);
+          fresh = self.fresh;
+        }) }
+    {
+        if len == 0 {
+            return Ok(self);
+        }
+        let Filled { link, fresh } = self;
+        let key = key.copied();
+        let stem = match link.node() {
+            Node::Stem(lower) => Stem {
+                key,
+                from,
+                len: len + lower.len,
+                below: lower.below.clone()?,
+            },
+            _ => Stem {
+                key,
+                from,
+                len,
+                below: link,
+            },
+        };
+        let link = Link::new(Node::Stem(Rc::new(alloc, stem)?));
+        Ok(Filled { link, fresh })
+    }
+}
+
+// The tree below `depth` bits that holds these leaves, the last under a key digest.
 fn grown<D: SupportedDigest, A: Allocator + Copy>(
     alloc: A,
     leaves: Vec<Singleton<D>, A>,
     depth: usize,
-) -> Result<(Link<D, A>, usize), AllocError>
+) -> Result<Filled<D, A>, AllocError>
     requires depth { depth ≤ 256 }
     requires some { 0 < length leaves.items }
-    ensures seen { IfOk result
-        (λ p. p.0 ≡ (256 - depth, with_leaves (256 - depth) map.empty leaves.items)) }
-    ensures count { IfOk result (λ p. p.1 ≡ map.len p.0.1) }
+    ensures { IfOk result (λ p. IsPut (256 - depth) map.empty leaves.items p.link p.fresh) }
 {
-    let last = &leaves[leaves.len() - 1];
-    let shared = shared_by_all(last.key(), &leaves, depth, 256 - depth);
-    if shared == 256 - depth {
-        // In the whole tree a lone key stands below a stem of one bit, and in a lower one below none.
-        let len = 1_usize.saturating_sub(depth);
-        let lone = Rc::new(alloc, last.with_height(256 - depth - len))?;
-        let link = Link::new(Node::Singleton(lone));
-        return Ok((link.with_stem(alloc, last.key(), depth, len)?, 1));
+    let key = leaves[leaves.len() - 1].key().copied();
+    match first_parting(alloc, leaves, &key, depth, 256 - depth)? {
+        Parting::Nowhere(leaves) => {
+            let last = &leaves[leaves.len() - 1];
+            // In the whole tree a lone key stands below a stem of one bit, and in a lower one below none.
+            let len = 1_usize.saturating_sub(depth);
+            let lone = Rc::new(alloc, last.with_height(256 - depth - len))?;
+            let link = Link::new(Node::Singleton(lone));
+            Filled { link, fresh: 1 }.with_stem(alloc, last.key(), depth, len)
+        }
+        Parting::Behind {
+            shared,
+            side,
+            near,
+            far,
+        } => {
+            let at = depth + shared;
+            let near = grown(alloc, near, at + 1)?;
+            let far = grown(alloc, far, at + 1)?;
+            Filled::beside(alloc, side, near, far)?.with_stem(alloc, &key, depth, shared)
+        }
     }
-    let key = last.key().copied();
-    let at = depth + shared;
-    let side = side_at(&key, at);
-    let (near, far) = parted(alloc, leaves, side, at)?;
-    let (near, inner) = grown(alloc, near, at + 1)?;
-    let (far, outer) = grown(alloc, far, at + 1)?;
-    let fork = Link::beside(alloc, side, near, far)?;
-    Ok((fork.with_stem(alloc, &key, depth, shared)?, inner + outer))
 }
 
-// What stands below the bits of a stem up to bit `from` after leaves are put there, and how many of their key digests are
-// new. The stem is cut where the first leaf parts from it.
+// What stands below the bits of a stem up to bit `from`, with leaves put there. The stem is cut where the first leaf parts
+// from it.
 #[cycle(spread)]
 fn spread_stem<D: SupportedDigest, A: Allocator + Copy>(
     alloc: A,
     stem: &Stem<D, A>,
     leaves: Vec<Singleton<D>, A>,
     from: usize,
-) -> Result<(Link<D, A>, usize), AllocError>
+) -> Result<Filled<D, A>, AllocError>
     requires level { stem.now.from + stem.now.len + stem.now.below.0 ≡ 256 }
-    requires below { IsBelow stem.now.len stem.now.below }
+    requires carries { MayCarry stem.now.key stem.now.below }
     requires place { (stem.now.from ≤ from) × (from ≤ stem.now.from + stem.now.len) }
-    requires some { stem.now.from < from ⊎ (0 < length leaves.items) }
-    ensures seen { IfOk result (λ p. p.0 ≡ (
-      256 - from,
-      with_leaves (256 - from)
-          (under (bits_from stem.now.key from (stem.now.from + stem.now.len - from))
-          stem.now.below.1) leaves.items,
-    )) }
-    ensures count { IfOk result (λ p. map.len stem.now.below.1 + p.1 ≡ map.len p.0.1) }
+    ensures { let bits = bits_from stem.now.key from (stem.now.from + stem.now.len - from) in
+        IfOk result (λ p. IsPut (256 - from) (under bits stem.now.below.1) leaves.items p.link p.fresh) }
 {
     let len = stem.from + stem.len - from;
-    if leaves.is_empty() {
-        let below = stem.below.clone()?;
-        return Ok((below.with_stem(alloc, &stem.key, from, len)?, 0));
+    match first_parting(alloc, leaves, &stem.key, from, len)? {
+        Parting::Nowhere(leaves) => {
+            let below = spread(alloc, &stem.below, leaves, from + len)?;
+            below.with_stem(alloc, &stem.key, from, len)
+        }
+        Parting::Behind {
+            shared,
+            side,
+            near,
+            far,
+        } => {
+            let at = from + shared;
+            let near = spread_stem(alloc, stem, near, at + 1)?;
+            let far = grown(alloc, far, at + 1)?;
+            Filled::beside(alloc, side, near, far)?.with_stem(alloc, &stem.key, from, shared)
+        }
     }
-    let key = leaves[leaves.len() - 1].key().copied();
-    let shared = shared_by_all(&stem.key, &leaves, from, len);
-    if shared == len {
-        let (below, fresh) = spread(alloc, &stem.below, leaves, from + len)?;
-        return Ok((below.with_stem(alloc, &key, from, len)?, fresh));
-    }
-    let at = from + shared;
-    let side = side_at(&stem.key, at);
-    let (near, far) = parted(alloc, leaves, side, at)?;
-    let (near, inner) = spread_stem(alloc, stem, near, at + 1)?;
-    let (far, outer) = grown(alloc, far, at + 1)?;
-    let fork = Link::beside(alloc, side, near, far)?;
-    Ok((fork.with_stem(alloc, &key, from, shared)?, inner + outer))
 }
 
-/// The link after leaf digests are put under their key digests, in order, and how many of these are new. A branch above
-/// several of them is hashed once: a lone key goes in front of those that meet it, and a stem is cut where the first of
-/// them parts from it.
+/// A link's tree with leaf digests put under their key digests, in order. A branch above several of them is hashed once: a
+/// lone key goes in front of those that meet it, and a stem is cut where the first of them parts from it.
 #[cycle(spread)]
 pub(crate) fn spread<D: SupportedDigest, A: Allocator + Copy>(
     alloc: A,
     link: &Link<D, A>,
     mut leaves: Vec<Singleton<D>, A>,
     depth: usize,
-) -> Result<(Link<D, A>, usize), AllocError>
+) -> Result<Filled<D, A>, AllocError>
     requires { link.now.0 + depth ≡ 256 }
-    ensures seen { IfOk result
-        (λ p. p.0 ≡ (link.now.0, with_leaves link.now.0 link.now.1 leaves.items)) }
-    ensures count { IfOk result (λ p. map.len link.now.1 + p.1 ≡ map.len p.0.1) }
+    ensures { IfOk result (λ p. IsPut (256 - depth) link.now.1 leaves.items p.link p.fresh) }
 {
     if leaves.is_empty() {
-        return Ok((link.clone()?, 0));
+        let link = link.clone()?;
+        return Ok(Filled { link, fresh: 0 });
     }
     match link.node() {
         Node::Empty => grown(alloc, leaves, depth),
         Node::Singleton(lone) => {
             leaves.insert(0, lone.as_ref().with_height(256 - depth))?;
-            let (link, count) = grown(alloc, leaves, depth)?;
-            Ok((link, count - 1))
+            let Filled { link, fresh } = grown(alloc, leaves, depth)?;
+            Ok(Filled {
+                link,
+                fresh: fresh - 1,
+            })
         }
         Node::Fork(fork) => {
             let fork = fork.as_ref();
             let (near, far) = parted(alloc, leaves, Side::Left, depth)?;
-            let (left, lefts) = spread(alloc, &fork.left, near, depth + 1)?;
-            let (right, rights) = spread(alloc, &fork.right, far, depth + 1)?;
-            let fork = Link::beside(alloc, Side::Left, left, right)?;
-            Ok((fork, lefts + rights))
+            let left = spread(alloc, &fork.left, near, depth + 1)?;
+            let right = spread(alloc, &fork.right, far, depth + 1)?;
+            Filled::beside(alloc, Side::Left, left, right)
         }
         Node::Stem(stem) => spread_stem(alloc, stem.as_ref(), leaves, depth),
     }

@@ -3,7 +3,7 @@
 ghost use Rattle.std.specs.Prelude.{◌≡◌, ℕ};
 ghost use Rattle.warg_map.specs.Sparse.{sparse_root};
 
-use crate::node::{Fork, Node, Stem, stem_digest};
+use crate::node::{Node, stem_digest};
 use crate::singleton::Singleton;
 use std::alloc::{AllocError, Allocator, Global};
 use std::marker::Model;
@@ -79,74 +79,6 @@ impl<D: SupportedDigest, A: Allocator> Link<D, A> {
         ensures well_formed { IsWellFormed result.now }
     {
         &self.node
-    }
-}
-
-impl<D: SupportedDigest, A: Allocator + Copy> Link<D, A> {
-    ghost use Rattle.std.specs.Prelude.{◌+◌, ◌-◌, ◌<◌, ◌≤◌, ◌⊎◌, true, IfOk};
-    ghost use Rattle.std.specs.FinMap as map;
-    ghost use Rattle.warg_crypto.specs.Sides.{side_bit};
-    ghost use Rattle.warg_map.specs.Bits.{bits_from, last_bits};
-    ghost use Rattle.warg_map.specs.Private.Under.{join_at, under, HoldsKey, Splits};
-
-    /// The fork of two links, the first on a side and the second on the other.
-    pub(crate) fn beside(
-        alloc: A,
-        side: Side,
-        near: Link<D, A>,
-        far: Link<D, A>,
-    ) -> Result<Link<D, A>, AllocError>
-        requires heights { (near.0 ≡ far.0) × (near.0 < 256) }
-        requires hold { HoldsKey near.1 × HoldsKey far.1 }
-        ensures { IfOk result (λ l. l ≡ (near.0 + 1, join_at (side_bit side) near.1 far.1)) }
-    {
-        let fork = match side {
-            Side::Left => Fork {
-                left: near,
-                right: far,
-            },
-            Side::Right => Fork {
-                left: far,
-                right: near,
-            },
-        };
-        Ok(Link::new(Node::Fork(Rc::new(alloc, fork)?)))
-    }
-
-    /// The link with a stem of `len` bits of `key` above it, from bit `from` on. Below the top it may be a stem that holds
-    /// the key, which becomes longer.
-    pub(crate) fn with_stem(
-        self,
-        alloc: A,
-        key: &Hash<D>,
-        from: usize,
-        len: usize,
-    ) -> Result<Link<D, A>, AllocError>
-        requires height { from + len + self.0 ≡ 256 }
-        requires below { 0 < len → Splits self.1
-            ⊎ ((self.0 ≡ 255) × (map.contains_key self.1 (last_bits key.now 255) ≡ true)) }
-        ensures { IfOk result
-            (λ l. l ≡ (self.0 + len, under (bits_from key.now from len) self.1)) }
-    {
-        if len == 0 {
-            return Ok(self);
-        }
-        let key = key.copied();
-        let stem = match self.node() {
-            Node::Stem(lower) => Stem {
-                key,
-                from,
-                len: len + lower.len,
-                below: lower.below.clone()?,
-            },
-            _ => Stem {
-                key,
-                from,
-                len,
-                below: self,
-            },
-        };
-        Ok(Link::new(Node::Stem(Rc::new(alloc, stem)?)))
     }
 }
 

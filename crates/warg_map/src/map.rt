@@ -309,10 +309,10 @@ impl<D: SupportedDigest, K: VisitBytes + Drop, V: VisitBytes + Drop, A: Allocato
         requires { map.len (with_leaves 256 self.now leaves.items) ≤ usize.MAX }
         ensures { IfOk result (λ m. m ≡ with_leaves 256 self.now leaves.items) }
     {
-        let (link, fresh) = spread(self.alloc, &self.link, leaves, 0)?;
+        let grown = spread(self.alloc, &self.link, leaves, 0)?;
         Ok(Map {
-            link,
-            count: self.count + fresh,
+            link: grown.link,
+            count: self.count + grown.fresh,
             alloc: self.alloc,
             key: PhantomData,
             value: PhantomData,

@@ -7,8 +7,9 @@ use crate::lines::Lines;
 use crate::lock::Lock;
 use crate::progress::Progress;
 use crate::refusal::Refusal;
-use warg_crypto::hash_empty;
+use warg_crypto::{Sha256, hash_empty};
 use warg_log::Checkpoint;
+use warg_tiles::CheckpointText;
 
 /// Makes a log of no entries. `LogThere` where the folder has one.
 pub fn init(rt: &HostRuntime, folder: &Folder, origin: &str) -> Result<(), Refusal> {
@@ -32,10 +33,19 @@ pub fn append(rt: &HostRuntime, folder: &Folder) -> Result<(), Refusal> {
     }
     let _lock = Lock::take(rt, folder)?;
     let text = read_checkpoint(rt, folder)?;
-    let mut log = GrowingLog::open(rt, folder, &text)?;
-    push_lines(rt, folder, &mut log)?;
-    let checkpoint = log.write_edge(rt, folder)?;
+    let checkpoint = append_lines(rt, folder, &text)?;
     write_checkpoint(rt, folder, text.origin(), checkpoint)
+}
+
+// Adds the entries of standard input to the log, but for its checkpoint, which is the answer.
+fn append_lines(
+    rt: &HostRuntime,
+    folder: &Folder,
+    text: &CheckpointText<Sha256>,
+) -> Result<Checkpoint<Sha256>, Refusal> {
+    let mut log = GrowingLog::open(rt, folder, text)?;
+    push_lines(rt, folder, &mut log)?;
+    log.write_edge(rt, folder)
 }
 
 // Adds an entry for each line of standard input.

@@ -35,14 +35,28 @@ pub fn read_checkpoint(
     folder: &Folder,
 ) -> Result<CheckpointText<Sha256>, Refusal> {
     // An append writes the copy behind the checkpoint, so it is read first.
-    let newest = read_text(rt, folder, NEWEST)?;
-    let Some(text) = read_text(rt, folder, CHECKPOINT)? else {
-        return Err(Refusal::NoLog(folder.name(rt.alloc())?));
-    };
+    let newest = read_newest(rt, folder)?;
+    let text = read_served(rt, folder)?;
     if let Some(newest) = newest {
-        check_newest(rt, folder, &text.checkpoint(), &newest.checkpoint())?;
+        check_newest(rt, folder, &text.checkpoint(), &newest)?;
     }
     Ok(text)
+}
+
+// The newest checkpoint that the log has had, if its copy is there.
+fn read_newest(rt: &HostRuntime, folder: &Folder) -> Result<Option<Checkpoint<Sha256>>, Refusal> {
+    match read_text(rt, folder, NEWEST)? {
+        Some(text) => Ok(Some(text.checkpoint())),
+        None => Ok(None),
+    }
+}
+
+// The checkpoint that is served.
+fn read_served(rt: &HostRuntime, folder: &Folder) -> Result<CheckpointText<Sha256>, Refusal> {
+    match read_text(rt, folder, CHECKPOINT)? {
+        Some(text) => Ok(text),
+        None => Err(Refusal::NoLog(folder.name(rt.alloc())?)),
+    }
 }
 
 // Refuses a checkpoint that is shorter than the newest one, or another of its length.

@@ -46,14 +46,18 @@ fn main(rt: HostRuntime) -> ExitCode {
 // Does what the arguments ask for.
 fn answer(rt: &HostRuntime) -> Result<ExitCode, Refusal> {
     let words = commandline(rt)?;
-    let matches = match command(rt.alloc())?.try_get_matches_from(words.as_slice()) {
-        Ok(matches) => matches,
-        Err(error) if error.use_stderr() => return Err(Refusal::of_arguments(rt.alloc(), &error)),
+    match command(rt.alloc())?.try_get_matches_from(words.as_slice()) {
+        Ok(matches) => run_command(rt, &matches),
+        Err(error) if error.use_stderr() => Err(Refusal::of_arguments(rt.alloc(), &error)),
         Err(help) => {
             written(rt, help.print(rt))?;
-            return Ok(ExitCode::SUCCESS);
+            Ok(ExitCode::SUCCESS)
         }
-    };
+    }
+}
+
+// Does what a command asks for.
+fn run_command(rt: &HostRuntime, matches: &ArgMatches<'_>) -> Result<ExitCode, Refusal> {
     match matches.subcommand() {
         Some(("verify", _)) => print_verdict(rt, verify(rt)?),
         Some((name, asked)) => over_folder(rt, name, asked),

@@ -1,6 +1,6 @@
 //! The commands that make paths out of the folder's tiles.
 
-ghost use Rattle.std.specs.Prelude.{◌≡◌, Some, IfSome};
+ghost use Rattle.std.specs.Prelude.{◌≡◌, ◌^◌, ◌<◌, ◌≤◌, Some, IfSome};
 ghost use Rattle.warg_crypto.specs.Digests.{sha256};
 ghost use Rattle.warg_paths.specs.Paths.{consistency_roots};
 
@@ -43,17 +43,28 @@ pub fn prove(
     if index >= length {
         return Err(out_of_range("INDEX has to be below the length,", length));
     }
+    inclusion(rt, folder, index, length, &checkpoint)
+}
+
+// The inclusion path of an entry at a length, once it leads to the checkpoint's root.
+fn inclusion(
+    rt: &HostRuntime,
+    folder: &Folder,
+    index: usize,
+    length: usize,
+    checkpoint: &Checkpoint<Sha256>,
+) -> Result<Path, Refusal>
+    requires inside { index < length }
+    requires fits { length ≤ 2 ^ 63 }
+{
     let mut tiles = Fetched::new(rt.alloc());
     let named = tiles_for_inclusion(rt.alloc(), index, length)?;
     tiles.fetch(rt, folder, named.as_slice(), checkpoint.length())?;
     let leaf = tiles.leaf(rt, folder, index, checkpoint.length())?;
-    let path = made(
-        rt,
-        folder,
-        inclusion_path(rt.alloc(), tiles.data(), index, length),
-    )?;
+    let path = inclusion_path(rt.alloc(), tiles.data(), index, length);
+    let path = made(rt, folder, path)?;
     let root = root_of_inclusion(index, length, &leaf, path.as_slice());
-    check_root(rt, folder, &mut tiles, length, root, &checkpoint)?;
+    check_root(rt, folder, &mut tiles, length, root, checkpoint)?;
     Ok(path)
 }
 
@@ -73,20 +84,47 @@ pub fn consistency(
     if old == 0 || old > new {
         return Err(out_of_range("OLD has to be between 1 and", new));
     }
+    growth(rt, folder, old, new, &checkpoint)
+}
+
+// The consistency path from an old length to a new one, once it leads to the checkpoint's root.
+fn growth(
+    rt: &HostRuntime,
+    folder: &Folder,
+    old: usize,
+    new: usize,
+    checkpoint: &Checkpoint<Sha256>,
+) -> Result<Path, Refusal>
+    requires some { 0 < old }
+    requires order { old ≤ new }
+    requires fits { new ≤ 2 ^ 63 }
+{
     let mut tiles = Fetched::new(rt.alloc());
-    let named = tiles_for_consistency(rt.alloc(), old, new)?;
-    tiles.fetch(rt, folder, named.as_slice(), checkpoint.length())?;
-    let path = made(
-        rt,
-        folder,
-        consistency_path(rt.alloc(), tiles.data(), old, new),
-    )?;
+    let path = fetched_growth(rt, folder, &mut tiles, old, new, checkpoint.length())?;
     let root = match stored_root(tiles.data(), &LeafRange::new(0, old)) {
         Some(root) => new_root(old, new, &root, path.as_slice()),
         None => None,
     };
-    check_root(rt, folder, &mut tiles, new, root, &checkpoint)?;
+    check_root(rt, folder, &mut tiles, new, root, checkpoint)?;
     Ok(path)
+}
+
+// The consistency path by the tiles of a log of some length, which are read.
+fn fetched_growth(
+    rt: &HostRuntime,
+    folder: &Folder,
+    tiles: &mut Fetched,
+    old: usize,
+    new: usize,
+    length: usize,
+) -> Result<Path, Refusal>
+    requires order { old ≤ new }
+    requires fits { new ≤ 2 ^ 63 }
+{
+    let named = tiles_for_consistency(rt.alloc(), old, new)?;
+    tiles.fetch(rt, folder, named.as_slice(), length)?;
+    let path = consistency_path(rt.alloc(), tiles.data(), old, new);
+    made(rt, folder, path)
 }
 
 fn out_of_range(rule: &'static str, bound: usize) -> Refusal {
@@ -150,10 +188,7 @@ fn is_beginning(
     if old_length >= length || length > GREATEST_LENGTH {
         return Ok(false);
     }
-    let named = tiles_for_consistency(rt.alloc(), old_length, length)?;
-    tiles.fetch(rt, folder, named.as_slice(), length)?;
-    let path = consistency_path(rt.alloc(), tiles.data(), old_length, length);
-    let path = made(rt, folder, path)?;
+    let path = fetched_growth(rt, folder, tiles, old_length, length, length)?;
     Ok(check_tree(old, checkpoint, path.as_slice()))
 }
 

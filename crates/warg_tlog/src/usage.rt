@@ -118,15 +118,28 @@ const COMMANDS: [Usage; 7] = [
 
 /// The command line.
 pub fn command<'a>(alloc: Global) -> Result<Command<'a>, AllocError> {
-    let mut command = Command::new(alloc, "warg_tlog")
+    let mut command = program(alloc);
+    for usage in &COMMANDS {
+        command = with_subcommand(alloc, command, usage)?;
+    }
+    Ok(command)
+}
+
+// The program, without its commands.
+fn program<'a>(alloc: Global) -> Command<'a> {
+    Command::new(alloc, "warg_tlog")
         .version("0.9.2-rattle.1")
         .about(ABOUT)
         .after_help(AFTER)
-        .subcommand_required(true);
-    for usage in &COMMANDS {
-        command = command.subcommand(subcommand(alloc, usage)?)?;
-    }
-    Ok(command)
+        .subcommand_required(true)
+}
+
+fn with_subcommand<'a>(
+    alloc: Global,
+    command: Command<'a>,
+    usage: &Usage,
+) -> Result<Command<'a>, AllocError> {
+    command.subcommand(subcommand(alloc, usage)?)
 }
 
 fn subcommand<'a>(alloc: Global, usage: &Usage) -> Result<Command<'a>, AllocError> {
@@ -147,7 +160,10 @@ fn about<'a>(alloc: Global, usage: &Usage) -> Command<'a> {
 
 fn argument<'a>(alloc: Global, word: &Word) -> Arg<'a> {
     let (kind, name, value, help) = *word;
-    let argument = Arg::new(alloc, name).value_name(value).help(help);
+    of_kind(Arg::new(alloc, name).value_name(value).help(help), kind)
+}
+
+fn of_kind<'a>(argument: Arg<'a>, kind: Kind) -> Arg<'a> {
     match kind {
         Kind::Text => argument.required(true),
         Kind::Number => argument.required(true).value_parser(value_parser!(usize)),

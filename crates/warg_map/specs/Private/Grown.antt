@@ -1,7 +1,10 @@
 -- Leaves that are put into a tree: leaf digests, each with its key digest, in the order of their insertion.
-use Rattle.std.specs.Prelude.{◌≡◌, ℕ, Bool, true, false, not, List, [], ◌∷◌, filter}
+use Rattle.std.specs.Prelude.{◌≡◌, ℕ, ◌+◌, ◌<◌, length, Bool, true, false, not, List, [], ◌∷◌, filter}
 use Rattle.std.specs.List.{AllByRecursion}
-use Rattle.std.specs.FinMap.{insert}
+use Rattle.std.specs.FinMap.{insert, len}
+use Rattle.warg_crypto.specs.Sides.{side_bit}
+use Rattle.warg_map.specs.declared.grown.Parting.{Parting}
+use Rattle.warg_map.specs.declared.grown.Parting.TheVariants.{Nowhere, Behind}
 use Rattle.warg_map.specs.Bits.{bit_at, bits_from, last_bits}
 use Rattle.warg_map.specs.Sparse.{SparseMap}
 use Rattle.warg_map.specs.Private.Lone.{Lone}
@@ -23,3 +26,22 @@ is_bit false x = not x
 -- The leaves whose key digests have a bit at a place, in order.
 unfoldable pub on_side : ℕ → Bool → List Lone → List Lone
 on_side at b es = filter (λ e. is_bit b (bit_at e.key at)) es
+
+-- Behind so many of the n bits of a key digest from bit i on, which all leaves share, some go to the other side than the key's next bit.
+pub record IsApart (key : List ℕ) (i n : ℕ) (es : List Lone) (shared : ℕ) (b : Bool) (near far : List Lone) : Type 0 where
+  pub less : shared < n
+  pub same : ShareBits key i shared es
+  pub bit : b ≡ bit_at key (i + shared)
+  pub near_is : near ≡ on_side (i + shared) b es
+  pub far_is : far ≡ on_side (i + shared) (not b) es
+  pub some : 0 < length far
+
+-- Where leaves first part from the n bits of a key digest from bit i on.
+abbrev pub IsParting : {D A : _} → List ℕ → ℕ → ℕ → List Lone → Parting D A → Type 0
+IsParting key i n es (Nowhere leaves) = (leaves.items ≡ es) × ShareBits key i n es
+IsParting key i n es (Behind shared side near far) = IsApart key i n es shared (side_bit side) near.items far.items
+
+-- The tree of k levels with leaves put into a map, and how many of their key digests are new to it.
+pub record IsPut (k : ℕ) (m : SparseMap) (es : List Lone) (link : ℕ × SparseMap) (fresh : ℕ) : Type 0 where
+  pub seen : link ≡ (k, with_leaves k m es)
+  pub count : len m + fresh ≡ len link.1

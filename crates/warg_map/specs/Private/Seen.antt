@@ -1,9 +1,9 @@
 -- What a node of the tree stands for.
-use Rattle.std.specs.Prelude.{◌≡◌, ℕ, ◌+◌, ◌≤◌, ◌<◌, false, cond, nat_eq, ◌⊎◌}
-use Rattle.std.specs.FinMap.{empty, len}
+use Rattle.std.specs.Prelude.{◌≡◌, ℕ, ◌+◌, ◌≤◌, ◌<◌, List, true, false, cond, nat_eq, ◌⊎◌}
+use Rattle.std.specs.FinMap.{empty, len, contains_key}
 use Rattle.warg_map.specs.declared.node.Node.{Node}
 use Rattle.warg_map.specs.declared.node.Node.TheVariants.{Fork, Singleton, Stem, Empty}
-use Rattle.warg_map.specs.Bits.{bits_from}
+use Rattle.warg_map.specs.Bits.{bits_from, last_bits}
 use Rattle.warg_map.specs.Sparse.{SparseMap}
 use Rattle.warg_map.specs.Count.{nodes}
 use Rattle.warg_map.specs.Peers.{lone_peers}
@@ -39,11 +39,15 @@ IsLevel Empty = Unit {0}
 abbrev pub IsBelow : ℕ → ℕ × SparseMap → Type 0
 IsBelow len below = Splits below.1 ⊎ ((len ≡ 1) × (below.0 ≡ 255) × IsLone below.1)
 
--- The form of the tree: a fork holds a key on each side; a stem has bits, and below them what may stand there; and an empty node is that of the whole empty map.
+-- What may stand below the bits of a key digest: a fork, or, below the top, a tree of 255 levels that holds the key.
+abbrev pub MayCarry : List ℕ → ℕ × SparseMap → Type 0
+MayCarry key below = Splits below.1 ⊎ ((below.0 ≡ 255) × (contains_key below.1 (last_bits key 255) ≡ true))
+
+-- The form of the tree: a fork holds a key on each side; a stem has bits, and below them what may stand there, under its key; and an empty node is that of the whole empty map.
 abbrev pub IsFormed : {D A : _} → Node D A → Type 0
 IsFormed (Fork f) = HoldsKey f.value.left.1 × HoldsKey f.value.right.1
 IsFormed (Singleton s) = s.value.height < 256
-IsFormed (Stem s) = (0 < s.value.len) × IsBelow s.value.len s.value.below
+IsFormed (Stem s) = (0 < s.value.len) × IsBelow s.value.len s.value.below × MayCarry s.value.key s.value.below
 IsFormed Empty = Unit {0}
 
 -- A node that may stand in a map's tree.
