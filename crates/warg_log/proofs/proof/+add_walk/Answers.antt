@@ -2,7 +2,7 @@ use Rattle.std.proofs.Common.{◌≡◌, suc, ◌-◌, ◌++◌, ◌∷◌, [], 
 use Rattle.std.proofs.lemmas.List.{map_push}
 use Rattle.std.proofs.lemmas.Nat.{pow_pos}
 use Rattle.warg_log.specs.Nodes.{height_of, node_over}
-use Rattle.warg_log.specs.Ranges.{Range, leaves_from, range_of}
+use Rattle.warg_log.specs.Ranges.{Range}
 use Rattle.warg_log.proofs.StepLemmas.{HasFound, numbers, walk_grows, found_first, HasBegun, walk_begins}
 use Rattle.warg_log.proofs.proof.+add_walk.Goals as goal
 use Rattle.warg_log.proofs.proof.+add_walk.Goals.{In_ok-push, After-ilog2, After-len}
