@@ -1,5 +1,5 @@
 -- Messages of logs that keep the digest of every node.
-use Rattle.std.proofs.Common.{◌≡◌, ◌↔◌, ℕ, zero, suc, ◌+◌, ◌-◌, ◌*◌, ◌/◌, ◌%◌, ◌^◌, ◌<◌, ◌≤◌, false, nat_eq, List, [], ◌∷◌, length, get_or, Ok, refl, sym, ap, ◌∙◌, arith, ⊎_elim}
+use Rattle.std.proofs.Common.{◌≡◌, ◌↔◌, ℕ, zero, suc, ◌+◌, ◌-◌, ◌*◌, ◌/◌, ◌%◌, ◌^◌, ◌<◌, ◌≤◌, true, false, nat_eq, List, [], ◌∷◌, length, get_or, None, Ok, refl, sym, ap, ◌∙◌, arith, ⊎_elim}
 use Rattle.std.specs.Bool.{Decides}
 use Rattle.std.specs.List.{AllByRecursion}
 use Rattle.std.specs.Cmp.Lexicographic.{pointwise, pointwise_decides, bytes_decides}
@@ -9,6 +9,7 @@ use Rattle.std.proofs.lemmas.List.{ext_get_or, get_or_read}
 use Rattle.std.proofs.lemmas.Bool.{cases_lt, cases_eq, false≢true}
 use Rattle.std.proofs.lemmas.Bool.Decides.{Decides-and, Decides-eqb}
 use Rattle.warg_protobuf.specs.VecLog.{VecImage}
+use Rattle.warg_protobuf.specs.Decoding.{first_fault, digest_fault}
 use Rattle.warg_log.specs.Nodes.{IsNode, height_of, place_of, end_of, number_of}
 use Rattle.warg_crypto.specs.Tree.{branch}
 use Rattle.warg_log.specs.Tree.{leaves_in, slice_of, digest_or_spacer}
@@ -28,6 +29,10 @@ module _ (H : List ℕ → List ℕ) (n : ℕ) (tree : List (List ℕ)) where
 
   pub vec_again : length (leaves_in tree) ≡ n → tree ≡ slice_of H (leaves_in tree) → AllByRecursion (λ d. length d ≡ 32) tree → vec_in H (record { length = n; tree = tree }) ≡ Ok (leaves_in tree)
   vec_again count slice lens = rw (all_good tree lens, slice_decides.1 (count, slice)) refl
+
+  pub log_read : (read : List (List ℕ)) → read ≡ tree → first_fault digest_fault tree ≡ None → is_slice_of_length H n read ≡ true
+      → (vec_in H (record { length = n; tree = tree }) ≡ Ok (leaves_in read)) × (vec_message H (leaves_in read) ≡ record { length = n; tree = tree })
+  log_read read is good test = let p = slice_decides.0 (rw is at test) in rw is (rw (good, slice_decides.1 p) refl, message_is p.0 p.1)
 
 -- ---- the leaves of a tree
 leaves_in-length : (t : List (List ℕ)) → length (leaves_in t) ≡ (length t + 1) / 2

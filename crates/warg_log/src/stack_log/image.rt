@@ -61,7 +61,6 @@ impl<D: SupportedDigest, V: VisitBytes, A: Allocator + Copy> StackLog<D, V, A> {
 
     /// The log's message, which holds the same log. `TooLarge` exactly if the length or a balanced root's
     /// number is above `u32::MAX`, which is above 2^31 entries, before any growth.
-    #[tactic(auto, using(std::proofs::lemmas::Result::err_from_is_err_and, crate::proofs::ImageLemmas::roots_fit, crate::proofs::ImageLemmas::roots_too_large))]
     pub fn to_message(&self) -> Result<Message<A>, EncodeError>
         ensures ok { IfOk result (λ message. stack_view message ≡ stack_message self.now) }
         ensures again { IfOk result (λ message. stack_in (stack_view message) ≡ Ok self.now) }

@@ -1,4 +1,5 @@
-use Rattle.std.proofs.Common.{refl, sym, ap, ◌∙◌, ⊎_elim, inl, inr, map}
+use Rattle.std.proofs.Common.{◌≡◌, refl, sym, ap, ◌∙◌, ⊎_elim, inl, inr, map, arith}
+use Rattle.std.proofs.lemmas.List.{length-map}
 use Rattle.std.specs.Cmp.Lexicographic.{bytes_decides}
 use Rattle.std.proofs.lemmas.Result.{err_from_is_err_and}
 use Rattle.std.proofs.lemmas.Simd.{map-map}
@@ -7,6 +8,7 @@ use Rattle.warg_protobuf.specs.StackLog.{StackImage}
 use Rattle.warg_log.specs.Nodes.{balanced_roots}
 use Rattle.warg_log.proofs.ImageLemmas.{numbers_zip, zip_entries}
 use Rattle.warg_log.proofs.stack_log.StackLog.from_message.Goals as goal
+use Rattle.warg_log.proofs.stack_log.StackLog.from_message.Goals.{Else-not-are_roots}
 
 pub returns-in_err-digests-clause-exact : goal.returns-in_err-digests-clause-exact
 returns-in_err-digests-clause-exact g c =
@@ -26,15 +28,23 @@ returns-then-not-are_roots-clause-none g c = λ e b count is.
     let other = rw c.as_slice-2.ensures.value at (sym c.are_roots.ensures ∙ c.if-not-are_roots.true) in
     absurd (cc)
 
+numbers : (g : _) (c : Else-not-are_roots g) → map (λ e. e.index) c.args.message.stack.items ≡ balanced_roots c.args.message.length
+numbers g c = (bytes_decides _ _).0 (rw c.as_slice-2.ensures.value at (sym c.are_roots.ensures ∙ c.if-not-are_roots.false))
+
+pub invariant_of-result : goal.invariant_of-result
+invariant_of-result g c =
+    let read = rw c.as_slice.ensures.value at c.in_ok-digests.ensures.ok in
+    (rw (read, ← numbers g c, length-map, length-map) refl, omega arith)
+
 pub returns : goal.returns
 returns g c =
     let good = rw c.as_slice.ensures.value at c.in_ok-digests.ensures.good in
     let read = rw c.as_slice.ensures.value at c.in_ok-digests.ensures.ok in
     let same = rw c.as_slice-2.ensures.value at (sym c.are_roots.ensures ∙ c.if-not-are_roots.false) in
-    let numbers = (bytes_decides (map (λ e. e.index) c.args.message.stack.items) (balanced_roots c.args.message.length)).0 same in
+    let listed = numbers g (goal.at.returns g c).Else-not-are_roots in
     record {
       exact = rw (map-map, good, map-map, same, read) refl;
-      message = rw (read, ← numbers, ← map-map (λ (e : Entry). e.hash) entry_view c.args.message.stack.items, ← map-map (λ (e : Entry). e.index) entry_view c.args.message.stack.items, zip_entries) refl;
+      message = rw (read, ← listed, ← map-map (λ (e : Entry). e.hash) entry_view c.args.message.stack.items, ← map-map (λ (e : Entry). e.index) entry_view c.args.message.stack.items, zip_entries) refl;
       none = λ e. absurd (cc);
       wire = λ e is. absurd (cc);
     }
