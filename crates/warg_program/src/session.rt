@@ -1,6 +1,7 @@
 //! A run of commands: the log that they push to, the map that they insert into, and the text that answers them.
 
-ghost use Rattle.std.specs.Prelude.{◌≡◌, ◌≢◌, ℕ, ◌≤◌, ◌^◌, [], ◌∷◌, ◌++◌, length, IfOk, IfErr, OnOk, codes, string_bytes};
+ghost use Rattle.std.specs.Prelude.{◌≡◌, ◌≢◌, ℕ, ◌≤◌, ◌^◌, [], ◌∷◌, ◌++◌, length, IfOk, IfErr, IfSome, IsSome, OnOk, codes, string_bytes};
+ghost use Rattle.hex.specs.Hex.{encode_lower};
 ghost use Rattle.warg_bundle.specs.LogBundles.{bundle_message};
 ghost use Rattle.warg_program.specs.Words.{lines_of};
 ghost use Rattle.warg_program.specs.Orders.{line_of, push, log, include, consistent, bundle, verify, insert, map, prove, absent};
@@ -136,11 +137,9 @@ impl<A: Allocator + Copy> Session<A> {
     {
         let proof = self.log.prove_inclusion(node, log_length.value);
         match proof.evaluate_value(&self.log, value) {
-            Ok(root) => writeln!(self.text, "root {root}")?,
-            Err(InclusionProofError::LeafTooNew) => writeln!(self.text, "refused leaf too new")?,
-            Err(InclusionProofError::HashNotKnown) => {
-                writeln!(self.text, "refused hash not known")?
-            }
+            Ok(root) => self.say_root("root", &root)?,
+            Err(InclusionProofError::LeafTooNew) => self.say("refused leaf too new")?,
+            Err(InclusionProofError::HashNotKnown) => self.say("refused hash not known")?,
             Err(InclusionProofError::Memory) => return Err(RunError::Memory),
         }
         Ok(())
@@ -188,7 +187,7 @@ impl<A: Allocator + Copy> Session<A> {
                 let digits = hex::encode(self.alloc, bytes.as_slice())?;
                 writeln!(self.text, "bundle {digits}")?;
             }
-            Err(EncodeError::TooLarge) => writeln!(self.text, "refused too large")?,
+            Err(EncodeError::TooLarge) => self.say("refused too large")?,
             Err(EncodeError::Memory) => return Err(RunError::Memory),
         }
         Ok(())
@@ -208,8 +207,8 @@ impl<A: Allocator + Copy> Session<A> {
     {
         match check_inclusion(self.alloc, bundle.as_slice(), 0, value, root) {
             Ok(verdict) => writeln!(self.text, "{verdict}")?,
-            Err(CheckError::Decode(_)) => writeln!(self.text, "refused not decoded")?,
-            Err(CheckError::NoSuchProof) => writeln!(self.text, "refused no such proof")?,
+            Err(CheckError::Decode(_)) => self.say("refused not decoded")?,
+            Err(CheckError::NoSuchProof) => self.say("refused no such proof")?,
             Err(CheckError::Memory) => return Err(RunError::Memory),
         }
         Ok(())
@@ -252,9 +251,9 @@ impl<A: Allocator + Copy> Session<A> {
         match self.map.prove(copy)? {
             Some(proof) => {
                 let root = proof.evaluate(key, value);
-                writeln!(self.text, "root {root}")?;
+                self.say_root("root", &root)?;
             }
-            None => writeln!(self.text, "absent")?,
+            None => self.say("absent")?,
         }
         Ok(())
     }
@@ -268,9 +267,9 @@ impl<A: Allocator + Copy> Session<A> {
         match self.map.prove_absence(copy)? {
             Some(absence) => {
                 let root = absence.evaluate_absent(key);
-                writeln!(self.text, "empty {root}")?;
+                self.say_root("empty", &root)?;
             }
-            None => writeln!(self.text, "refused present")?,
+            None => self.say("refused present")?,
         }
         Ok(())
     }
@@ -280,38 +279,70 @@ impl<A: Allocator + Copy> Session<A> {
         ensures named { OnOk result (fault ≢ BundleError.Memory) }
         ensures errors { IfErr result (λ error. error ≡ RunError.Memory) }
     {
-        match fault {
-            BundleError::Consistency(fault) => self.refuse(fault)?,
-            BundleError::Inclusion(_) => writeln!(self.text, "refused leaf too new")?,
-            BundleError::DifferentRoots => writeln!(self.text, "refused different roots")?,
-            BundleError::NoProofs => writeln!(self.text, "refused no proofs")?,
-            BundleError::TooLarge => writeln!(self.text, "refused too large")?,
-            BundleError::HashNotFound => writeln!(self.text, "refused hash not known")?,
-            BundleError::Memory => return Err(RunError::Memory),
+        match bundle_refusal(&fault) {
+            Some(text) => self.say(text),
+            None => Err(RunError::Memory),
         }
-        Ok(())
     }
 
     fn refuse(&mut self, fault: ConsistencyProofError) -> Result<(), RunError>
         ensures ok { OnOk result (AddsText self.old self.new (refusal fault ++ 10 ∷ [])) }
         ensures errors { IfErr result (λ error. error ≡ RunError.Memory) }
     {
-        match fault {
-            ConsistencyProofError::PointsOutOfOrder => {
-                writeln!(self.text, "refused points out of order")?
-            }
-            ConsistencyProofError::HashNotKnown | ConsistencyProofError::InclusionError(_) => {
-                writeln!(self.text, "refused hash not known")?
-            }
-            ConsistencyProofError::DivergingRoots => {
-                writeln!(self.text, "refused diverging roots")?
-            }
-            ConsistencyProofError::OldLengthZero => {
-                writeln!(self.text, "refused old length zero")?
-            }
-            ConsistencyProofError::Memory => return Err(RunError::Memory),
+        match refusal(&fault) {
+            Some(text) => self.say(text),
+            None => Err(RunError::Memory),
         }
+    }
+
+    // Answers by a word and a root.
+    fn say_root(&mut self, word: &str, root: &Hash<Sha256>) -> Result<(), RunError>
+        ensures ok { OnOk result (AddsText self.old self.new
+            (word.now ++ 32 ∷ (encode_lower root.now ++ 10 ∷ []))) }
+        ensures errors { IfErr result (λ error. error ≡ RunError.Memory) }
+    {
+        writeln!(self.text, "{word} {root}")?;
         Ok(())
+    }
+
+    // Answers by a line of text.
+    fn say(&mut self, text: &str) -> Result<(), RunError>
+        ensures ok { OnOk result (AddsText self.old self.new (text.now ++ 10 ∷ [])) }
+        ensures errors { IfErr result (λ error. error ≡ RunError.Memory) }
+    {
+        writeln!(self.text, "{text}")?;
+        Ok(())
+    }
+}
+
+// Why there is no bundle, unless memory was refused.
+fn bundle_refusal(fault: &BundleError) -> Option<&'static str>
+    ensures text { IfSome result (λ text. text.now ≡ bundle_refusal fault.now) }
+    ensures named { IsSome result → fault.now ≢ BundleError.Memory }
+{
+    match fault {
+        BundleError::Consistency(fault) => refusal(fault),
+        BundleError::Inclusion(_) => Some("refused leaf too new"),
+        BundleError::DifferentRoots => Some("refused different roots"),
+        BundleError::NoProofs => Some("refused no proofs"),
+        BundleError::TooLarge => Some("refused too large"),
+        BundleError::HashNotFound => Some("refused hash not known"),
+        BundleError::Memory => None,
+    }
+}
+
+// Why a consistency proof leads to no roots, unless memory was refused.
+fn refusal(fault: &ConsistencyProofError) -> Option<&'static str>
+    ensures { IfSome result (λ text. text.now ≡ refusal fault.now) }
+{
+    match fault {
+        ConsistencyProofError::PointsOutOfOrder => Some("refused points out of order"),
+        ConsistencyProofError::HashNotKnown | ConsistencyProofError::InclusionError(_) => {
+            Some("refused hash not known")
+        }
+        ConsistencyProofError::DivergingRoots => Some("refused diverging roots"),
+        ConsistencyProofError::OldLengthZero => Some("refused old length zero"),
+        ConsistencyProofError::Memory => None,
     }
 }
 

@@ -20,26 +20,32 @@ pub fn audit(rt: &HostRuntime, folder: &Folder) -> Result<Checkpoint<Sha256>, Re
     ensures { IfOk result IsOfEntries }
 {
     let checkpoint = read_checkpoint(rt, folder)?.checkpoint();
-    let mut log = TileLog::new(rt.alloc());
-    let mut progress = Progress::new();
-    'bundles: for number in 0..checkpoint.length().div_ceil(256) {
-        let width = (checkpoint.length() - 256 * number).min(256);
-        push_bundle(
-            rt,
-            folder,
-            &mut log,
-            &Tile::new(0, number, width),
-            &mut progress,
-        )?;
-        compare_tiles(rt, folder, log.take_full().as_slice())?;
-    }
-    compare_tiles(rt, folder, log.partial(rt.alloc())?.as_slice())?;
-    let found = log.checkpoint();
+    let found = remade(rt, folder, checkpoint.length())?.checkpoint();
     if found == checkpoint {
         return Ok(found);
     }
     let fault = "has another root than the log's entries";
     Err(folder.damaged(rt.alloc(), "checkpoint", fault))
+}
+
+// The log of so many entries, as the bundles have them. Each tile is compared as soon as it is made.
+fn remade(
+    rt: &HostRuntime,
+    folder: &Folder,
+    length: usize,
+) -> Result<TileLog<Sha256, Vec<u8>>, Refusal>
+    ensures { IfOk result HasEntries }
+{
+    let mut log = TileLog::new(rt.alloc());
+    let mut progress = Progress::new();
+    'bundles: for number in 0..length.div_ceil(256) {
+        let width = (length - 256 * number).min(256);
+        let tile = Tile::new(0, number, width);
+        push_bundle(rt, folder, &mut log, &tile, &mut progress)?;
+        compare_tiles(rt, folder, log.take_full().as_slice())?;
+    }
+    compare_tiles(rt, folder, log.partial(rt.alloc())?.as_slice())?;
+    Ok(log)
 }
 
 // Adds the entries of a bundle.

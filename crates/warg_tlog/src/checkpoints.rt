@@ -116,15 +116,23 @@ pub fn write_checkpoint(
     origin: &[u8],
     checkpoint: Checkpoint<Sha256>,
 ) -> Result<(), Refusal> {
-    let text = match CheckpointText::new(rt.alloc(), origin, checkpoint) {
-        Ok(text) => text,
-        Err(CheckpointTextError::Memory) => return Err(Refusal::Memory),
-        Err(_) => return Err(origin_refused(rt)),
-    };
-    let bytes = text.write(rt.alloc())?;
+    let bytes = text_of(rt, origin, checkpoint)?.write(rt.alloc())?;
     folder.write(rt, CHECKPOINT, bytes.as_slice())?;
     let _ = folder.write(rt, NEWEST, bytes.as_slice());
     Ok(())
+}
+
+// The text that says a checkpoint.
+fn text_of(
+    rt: &HostRuntime,
+    origin: &[u8],
+    checkpoint: Checkpoint<Sha256>,
+) -> Result<CheckpointText<Sha256>, Refusal> {
+    match CheckpointText::new(rt.alloc(), origin, checkpoint) {
+        Ok(text) => Ok(text),
+        Err(CheckpointTextError::Memory) => Err(Refusal::Memory),
+        Err(_) => Err(origin_refused(rt)),
+    }
 }
 
 fn origin_refused(rt: &HostRuntime) -> Refusal {

@@ -40,12 +40,17 @@ impl Fetched {
         length: usize,
     ) -> Result<(), Refusal> {
         'tiles: for tile in tiles {
-            let tile = tile_at(tile, length);
-            if !self.tiles.contains(&tile) {
-                let stored = read_tile(rt, folder, tile)?;
-                self.tiles.push(tile)?;
-                self.data.insert(stored.tile, stored.digests)?;
-            }
+            self.fetch_one(rt, folder, tile_at(tile, length))?;
+        }
+        Ok(())
+    }
+
+    // Reads a tile, unless it was read.
+    fn fetch_one(&mut self, rt: &HostRuntime, folder: &Folder, tile: Tile) -> Result<(), Refusal> {
+        if !self.tiles.contains(&tile) {
+            let stored = read_tile(rt, folder, tile)?;
+            self.tiles.push(tile)?;
+            self.data.insert(stored.tile, stored.digests)?;
         }
         Ok(())
     }

@@ -52,17 +52,27 @@ fn write<M: Memory>(
     behind: Option<&[u8]>,
     to: &mut Answer,
 ) -> Result<(), AllocError> {
-    let checkpoint = text.checkpoint();
     to.bytes(text.origin())?;
-    to.shown(&checkpoint.length())?;
-    to.hash(&checkpoint.root())?;
-    let mut extensions = List::new(to.alloc());
-    for extension in text.extensions() {
-        extensions.push(hex::encode(to.alloc(), extension.as_slice())?)?;
-    }
-    to.list(extensions)?;
+    write_checkpoint(&text.checkpoint(), to)?;
+    write_extensions(text.extensions(), to)?;
     match behind {
         Some(behind) => to.bytes(behind),
         None => to.word("-"),
     }
+}
+
+fn write_checkpoint(checkpoint: &Checkpoint<Sha256>, to: &mut Answer) -> Result<(), AllocError> {
+    to.shown(&checkpoint.length())?;
+    to.hash(&checkpoint.root())
+}
+
+fn write_extensions<M: Memory>(
+    extensions: &[Vec<u8, M>],
+    to: &mut Answer,
+) -> Result<(), AllocError> {
+    let mut list = List::new(to.alloc());
+    for extension in extensions {
+        list.push(hex::encode(to.alloc(), extension.as_slice())?)?;
+    }
+    to.list(list)
 }

@@ -102,17 +102,47 @@ fn grown<D: SupportedDigest, M: Memory, K: Kind<D>>(
     memory: M,
     entries: &Entries,
 ) -> Result<K, Wrong> {
+    let log = pushed(empty, memory, entries)?;
+    let plain = beginning(entries, entries.items.len())?;
+    Wrong::unless(log.is(&plain, entries), "another log")?;
+    check_at_once(other, memory, entries, &plain)?;
+    check_clone(&log, memory, entries, &plain)?;
+    Ok(log)
+}
+
+// The log of the entries, pushed one by one.
+fn pushed<D: SupportedDigest, M: Memory, K: Kind<D>>(
+    empty: K,
+    memory: M,
+    entries: &Entries,
+) -> Result<K, Wrong> {
     let mut log = empty;
     for entry in entries.items.as_slice() {
         push(&mut log, memory, entries, entry)?;
     }
-    let plain = beginning(entries, entries.items.len())?;
-    Wrong::unless(log.is(&plain, entries), "another log")?;
-    let other = pushed_at_once(other, memory, entries)?;
-    Wrong::unless(other.is(&plain, entries), "pushed at once, another log")?;
-    let clone = cloned(&log, memory)?;
-    Wrong::unless(clone.is(&plain, entries), "another clone")?;
     Ok(log)
+}
+
+// A fault unless the entries, pushed at once, give the plain log.
+fn check_at_once<D: SupportedDigest, M: Memory, K: Kind<D>>(
+    empty: K,
+    memory: M,
+    entries: &Entries,
+    plain: &BytesLog<D>,
+) -> Result<(), Wrong> {
+    let log = pushed_at_once(empty, memory, entries)?;
+    Wrong::unless(log.is(plain, entries), "pushed at once, another log")
+}
+
+// A fault unless a clone of the log is the plain one.
+fn check_clone<D: SupportedDigest, M: Memory, K: Kind<D>>(
+    log: &K,
+    memory: M,
+    entries: &Entries,
+    plain: &BytesLog<D>,
+) -> Result<(), Wrong> {
+    let clone = cloned(log, memory)?;
+    Wrong::unless(clone.is(plain, entries), "another clone")
 }
 
 // The log of the first entries, as many as `count`.

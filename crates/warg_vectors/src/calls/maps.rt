@@ -143,23 +143,32 @@ fn proof_at<'a, D: SupportedDigest, M: Memory>(
     }
 }
 
-// Extends a map by some pairs, which gives the map that is wanted. Where it is refused, it is extended again.
+// Extends a map by some pairs, which gives the map that is wanted.
 fn extend<'a, D: SupportedDigest, M: Memory>(
     map: &BytesMap<'a, D, M>,
     wanted: &BytesMap<'a, D, M>,
     memory: M,
     pairs: &'a [Insertion],
 ) -> Result<(), Wrong> {
+    let extended = extended(map, memory, pairs)?;
+    Wrong::unless(Seen::of(wanted).is(&extended), "extended, another map")
+}
+
+// The map with some pairs more. Where it is refused, it is extended again.
+fn extended<'a, D: SupportedDigest, M: Memory>(
+    map: &BytesMap<'a, D, M>,
+    memory: M,
+    pairs: &'a [Insertion],
+) -> Result<BytesMap<'a, D, M>, Wrong> {
     let before = Seen::of(map);
-    let extended = match map.extend(slices_of(pairs)) {
+    match map.extend(slices_of(pairs)) {
         Err(MapError::Memory) => {
             memory.grant();
             Wrong::unless(before.is(map), "a refused extension changed the map")?;
-            map.extend(slices_of(pairs))?
+            Ok(map.extend(slices_of(pairs))?)
         }
-        ended => ended?,
-    };
-    Wrong::unless(Seen::of(wanted).is(&extended), "extended, another map")
+        ended => Ok(ended?),
+    }
 }
 
 // The pairs, as an iterator that is dropped with what is left of it.
@@ -251,14 +260,23 @@ fn proved<'a, D: SupportedDigest, M: Memory>(
     let map = grown(memory, &given.0)?;
     let proof = asked(&map, memory, given.1.as_slice(), absent)?;
     if let Some(proof) = &proof {
-        let root = if absent {
-            proof.evaluate_absent(&given.1.as_slice())
-        } else {
-            honest_root(proof, given)
-        };
+        let root = root_from(proof, given, absent);
         Wrong::unless(root == *map.root(), "a proof that leads to another root")?;
     }
     Ok(proof)
+}
+
+// The root to which a proof of the key leads, or of its absence.
+fn root_from<'a, D: SupportedDigest, A: Allocator>(
+    proof: &MapProof<'a, D, A>,
+    given: &'a Question,
+    absent: bool,
+) -> Hash<D> {
+    if absent {
+        proof.evaluate_absent(&given.1.as_slice())
+    } else {
+        honest_root(proof, given)
+    }
 }
 
 // The root to which a proof leads from the value that was last inserted under the digest of the key.

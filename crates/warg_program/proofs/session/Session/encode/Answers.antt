@@ -14,7 +14,7 @@ returns-in_ok-writeln-in-Ok-clause-ok g c =
     let are : encode_lower bytes ≡ digits = sym (rw c.as_slice.ensures.value at c.in_ok-digits-in-Ok.ensures) in
     rw (shown, are) (refl, refl, c.in_ok-writeln-in-Ok.ensures.bytes)
 
-pub returns-in_ok-writeln-in-Err-TooLarge-clause-ok : goal.returns-in_ok-writeln-in-Err-TooLarge-clause-ok
-returns-in_ok-writeln-in-Err-TooLarge-clause-ok g c =
+pub returns-in_ok-say-in-Err-TooLarge-clause-ok : goal.returns-in_ok-say-in-Err-TooLarge-clause-ok
+returns-in_ok-say-in-Err-TooLarge-clause-ok g c =
     let shown = too_large_shown c.args.bundle.now (c.encode.result ≡ Err TooLarge) c.encode.ensures.too_large (c.in-Err-TooLarge.is ∙ ap Err c.in-Err-TooLarge.field-0-is) in
-    rw shown (refl, refl, c.in_ok-writeln-in-Err-TooLarge.ensures.bytes)
+    rw shown c.in_ok-say-in-Err-TooLarge.ensures.ok
