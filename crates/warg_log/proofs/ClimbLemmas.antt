@@ -12,7 +12,7 @@ use Rattle.warg_log.specs.Walks.{climbed, joined_all}
 use Rattle.warg_protobuf.proofs.ForCallers.{all_weaken}
 use Rattle.warg_log.proofs.NodeLemmas.{node_is, only_number, over_at, over_ends}
 use Rattle.warg_log.proofs.CutLemmas.{nothing, cut_over_read, cut_over-split, nothing_beside}
-use Rattle.warg_log.proofs.WayLemmas.{IsBeside, missed}
+use Rattle.warg_log.proofs.WayLemmas.{counts, IsBeside, missed}
 use Rattle.warg_log.proofs.BalancedLemmas.{end_is, balanced_first, none_left, roots, roots_follow}
 use Rattle.warg_log.proofs.OrderLemmas.{roots_end, above, block, climb, not_power}
 
@@ -47,13 +47,14 @@ module _ (H : List ℕ → List ℕ) (e : Evaluation) where
   Covers a n [] = n ≡ 0
   Covers a n (t ∷ ts) = (0 < n) × (cut_over H e (leaves_from a n) ≡ joined_all H (map range_cut (t ∷ ts)))
 
-  covers_first : (0 < e.target.count → IsFull e.target.count) → (h c m : ℕ) (ts : List ℕ) → m < 2 ^ h → Covers (c * 2 ^ h + 2 ^ h) m ts → Covers (c * 2 ^ h) (2 ^ h + m) (node_over (c * 2 ^ h) (2 ^ h) ∷ ts)
+  covers_first : (0 < e.target.count → IsFull e.target.count) → (h c m : ℕ) (ts : List ℕ) → m < 2 ^ h → Covers (c * 2 ^ h + 2 ^ h) m ts
+      → Covers (c * 2 ^ h) (2 ^ h + m) (node_over (c * 2 ^ h) (2 ^ h) ∷ ts)
   covers_first full h c m [] lt none = (omega (arith, pow_pos h), grind (arith, none, over_at h c))
   covers_first full h c m (u ∷ us) lt rest =
       let more : 2 ^ h < 2 ^ h + m = omega (arith, rest.0) in
       let part : (k : ℕ) → 2 ^ h + m ≡ 2 ^ k → ⊥ = λ k. not_power h k (2 ^ h + m) more (omega (arith, pow-suc)) in
       let range = leaves_from (c * 2 ^ h) (2 ^ h + m) in
-      let other : range ≡ e.target → ⊥ = λ same. let width : 2 ^ h + m ≡ e.target.count = ap (λ (r : Range). r.count) same in let f = full (omega arith) in part f.0 (width ∙ f.1) in
+      let other : range ≡ e.target → ⊥ = λ same. let f = full (omega (arith, counts same)) in part f.0 (counts same ∙ f.1) in
       let split = cut_over-split H e range h more (omega (arith, pow-suc)) other (λ f _. part (suc h) f) in
       (omega arith, grind (arith, split, rest.1, over_at h c))
 

@@ -10,7 +10,7 @@ use Rattle.warg_log.specs.Tree.{root_of, own_digest, leaves_below, root_over}
 use Rattle.warg_log.specs.Cut.{Evaluation, with_target, joined, is_target, is_beside, top_of, cut_over, cut_root, IsFull, old_over, old_root}
 use Rattle.warg_log.proofs.NodeLemmas.{over_at}
 use Rattle.warg_log.proofs.RootLemmas.{below_pow, root_of_split}
-use Rattle.warg_log.proofs.WayLemmas.{first, behind, IsBeside, target_decides, is_other, is_beside_so, way_over_target, way_over-read, way_over-split, way_over_parts, ways}
+use Rattle.warg_log.proofs.WayLemmas.{first, behind, counts, IsBeside, target_decides, is_other, is_beside_so, way_over_target, way_over-read, way_over-split, way_over_parts, ways}
 
 -- the range of the target, a range that is read, and any other, split at its front
 module _ (H : List ℕ → List ℕ) (e : Evaluation) where
@@ -58,13 +58,14 @@ pub nothing_beside : (r : Range) → IsBeside nothing r
 nothing_beside r = inr (let le : 0 + 0 ≤ r.start = omega arith in le)
 
 not_nothing : (r : Range) → 0 < r.count → r ≡ nothing → ⊥
-not_nothing r some same = omega (arith, ap (λ (x : Range). x.count) same)
+not_nothing r some same = omega (arith, counts same)
 
 module _ (H : List ℕ → List ℕ) (F : ℕ → Option (List ℕ)) where
   pub old_over_full : (r : Range) → 0 < r.count → IsFull r.count → old_over H F r ≡ F (node_over r.start r.count)
   old_over_full r some full = cut_over_read H _ r (not_nothing r some) (inr (full, nothing_beside r))
 
-  pub old_over-split : (r : Range) (h : ℕ) → 2 ^ h < r.count → r.count ≤ 2 ^ suc h → (r.count ≡ 2 ^ suc h → ⊥) → old_over H F r ≡ joined H (old_over H F (first h r)) (old_over H F (behind h r))
+  pub old_over-split : (r : Range) (h : ℕ) → 2 ^ h < r.count → r.count ≤ 2 ^ suc h → (r.count ≡ 2 ^ suc h → ⊥)
+      → old_over H F r ≡ joined H (old_over H F (first h r)) (old_over H F (behind h r))
   old_over-split r h more most part = cut_over-split H _ r h more most (not_nothing r (omega arith)) (λ full _. part full)
 
   pub old_over_parts : (r : Range) → 1 < r.count → (IsFull r.count → ⊥) → old_over H F r ≡ joined H (old_over H F (front_part r)) (old_over H F (rest_part r))

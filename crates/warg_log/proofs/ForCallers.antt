@@ -38,6 +38,13 @@ pow_below_pow = nodes.pow_below_pow
 pub same_range : (r t : Range) → r.start ≡ t.start → r.count ≡ t.count → r ≡ t
 same_range = ways.same_range
 
+-- ranges that are one start at one leaf, and have one count
+pub starts : {r t : Range} → r ≡ t → r.start ≡ t.start
+starts = ways.starts
+
+pub counts : {r t : Range} → r ≡ t → r.count ≡ t.count
+counts = ways.counts
+
 -- the range misses the target
 abbrev pub IsBeside : Range → Range → Type 0
 IsBeside t r = (r.start + r.count ≤ t.start) ⊎ (t.start + t.count ≤ r.start)

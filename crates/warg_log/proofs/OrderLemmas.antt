@@ -14,7 +14,7 @@ use Rattle.warg_log.specs.Walks.{read_on, needed_over, siblings_up}
 use Rattle.warg_protobuf.proofs.ForCallers.{all_append, all_weaken}
 use Rattle.warg_log.proofs.RootLemmas.{same_power}
 use Rattle.warg_log.proofs.BalancedLemmas.{balanced_none, balanced_first, balanced_full, roots}
-use Rattle.warg_log.proofs.WayLemmas.{first, IsBeside, beside_decides, beside_false, missed, front_missed, rest_missed, way_over_target, way_over-read, way_over-split, ways_from}
+use Rattle.warg_log.proofs.WayLemmas.{first, counts, IsBeside, beside_decides, beside_false, missed, front_missed, rest_missed, way_over_target, way_over-read, way_over-split, ways_from}
 use Rattle.warg_log.proofs.NodeLemmas.{over_at, over_ends, pow_below_pow}
 
 pub reverse-cons : (xs : List ℕ) (x : ℕ) → reverse (x ∷ xs) ≡ reverse xs ++ x ∷ []
@@ -37,7 +37,8 @@ need_beside_roots t a n some = ways_from t a (λ r way. IsBeside t r → read_on
   parts = λ h r left right more most apart p q beside.
       let part : r.count ≡ 2 ^ suc h → ⊥ = λ e. apart e beside in
       let front = front_missed t r (2 ^ h) (omega arith) beside in
-      rw ((beside_decides t (first h r)).1 front, p front, q (rest_missed t r (2 ^ h) (omega arith) beside), balanced_full h r.start, balanced_first h r.start r.count (omega arith) (omega arith))
+      let rest = rest_missed t r (2 ^ h) (omega arith) beside in
+      rw ((beside_decides t (first h r)).1 front, p front, q rest, balanced_full h r.start, balanced_first h r.start r.count (omega arith) (omega arith))
       (sym (reverse-cons (balanced_over (r.start + 2 ^ h) (r.count - 2 ^ h)) (node_over r.start (2 ^ h))));
 }) n some
 
@@ -68,13 +69,14 @@ up h i way = if i % 2 == 0 then at_parts false way (at_node (number_of h (siblin
 
 way_up : (t : Range) (h i : ℕ) → 0 < t.count → i * 2 ^ h ≤ t.start → t.start + t.count ≤ i * 2 ^ h + 2 ^ h → way_over t (block (suc h) (i / 2)) ≡ up h i (way_over t (block h i))
 way_up t h i some low high =
-    let split = λ (a : ℕ). way_over-split t (leaves_from a (2 ^ suc h)) h (omega (arith, pow-suc, pow_pos)) (omega arith) (λ same. omega (arith, pow-suc, ap (λ (x : Range). x.count) same)) in
+    let split = λ (a : ℕ). way_over-split t (leaves_from a (2 ^ suc h)) h (omega (arith, pow-suc, pow_pos)) (omega arith) (λ same. omega (arith, pow-suc, counts same)) in
     let wide = ap (λ p. i / 2 * p) (pow-suc 2 h) in
     ⊎_elim
     (λ (even : i % 2 ≡ 0).
     let half = ap (λ m. m * 2 ^ h) (let is : i ≡ 2 * (i / 2) = omega arith in is) in
     let first = split (i * 2 ^ h) (λ _ b. omega (arith, pow-suc)) in
-    rw (eq-eqb (i % 2) 0 even) (grind (arith, half, wide, pow-suc 2 h, first, beside_false t (block h i) (λ b. omega arith), way_over-beside t (block h (i + 1)) (h, refl) (inr (omega arith)))))
+    let next = way_over-beside t (block h (i + 1)) (h, refl) (inr (omega arith)) in
+    rw (eq-eqb (i % 2) 0 even) (grind (arith, half, wide, pow-suc 2 h, first, beside_false t (block h i) (λ b. omega arith), next)))
     (λ (odd : i % 2 ≡ 0 → ⊥).
     let less : i - 1 + 1 ≡ i = omega arith in
     let half = ap (λ m. m * 2 ^ h) (let is : i ≡ 2 * (i / 2) + 1 = omega arith in is) in
@@ -111,7 +113,7 @@ unfolding read_on
 walk_beside k j h a n low high ends starts front =
     let pos : 0 < 2 ^ k = pow_pos k in
     let more : 2 ^ h < n = omega arith in
-    ap read_on (way_over-split (block k j) (leaves_from a n) h more (omega arith) (λ same. not_power h k n more high (ap (λ (x : Range). x.count) same)) (λ e _. omega arith))
+    ap read_on (way_over-split (block k j) (leaves_from a n) h more (omega arith) (λ same. not_power h k n more high (counts same)) (λ e _. omega arith))
     ∙ rw ((beside_decides (block k j) (leaves_from a (2 ^ h))).1 front, way_over-beside (block k j) (leaves_from a (2 ^ h)) (h, refl) front) refl
 
 -- the first balanced root holds the target: the siblings come first, and then the other roots
@@ -124,7 +126,7 @@ walk_around d k j n low high = ⊎_elim
     let at = above d k j in
     let inside = beside_false (block k j) (block (k + d) (j / 2 ^ d)) (λ b. omega (arith, at)) in
     let rest = need_beside_roots (block k j) (j / 2 ^ d * 2 ^ (k + d) + 2 ^ (k + d)) (n - 2 ^ (k + d)) (omega arith) (inr at.1) in
-    ap read_on (way_over-split (block k j) (leaves_from (j / 2 ^ d * 2 ^ (k + d)) n) (k + d) more (omega arith) (λ same. not_power (k + d) k n more high (ap (λ (x : Range). x.count) same)) (λ e _. omega arith))
+    ap read_on (way_over-split (block k j) (leaves_from (j / 2 ^ d * 2 ^ (k + d)) n) (k + d) more (omega arith) (λ same. not_power (k + d) k n more high (counts same)) (λ e _. omega arith))
     ∙ rw (inside, need_around d k j, rest) refl)
     (λ (most : n ≤ 2 ^ (k + d)).
     let full : n ≡ 2 ^ (k + d) = omega arith in

@@ -22,6 +22,13 @@ behind h r = leaves_from (r.start + 2 ^ h) (r.count - 2 ^ h)
 pub same_range : (r t : Range) → r.start ≡ t.start → r.count ≡ t.count → r ≡ t
 same_range r t e f = ap (λ a. leaves_from a r.count) e ∙ ap (leaves_from t.start) f
 
+-- ranges that are one start at one leaf, and have one count
+pub starts : {r t : Range} → r ≡ t → r.start ≡ t.start
+starts same = ap (λ (r : Range). r.start) same
+
+pub counts : {r t : Range} → r ≡ t → r.count ≡ t.count
+counts same = ap (λ (r : Range). r.count) same
+
 -- the range misses the target
 abbrev pub IsBeside : Range → Range → Type 0
 IsBeside t r = (r.start + r.count ≤ t.start) ⊎ (t.start + t.count ≤ r.start)
@@ -30,7 +37,7 @@ IsBeside t r = (r.start + r.count ≤ t.start) ⊎ (t.start + t.count ≤ r.star
 pub target_decides : (t r : Range) → Decides (is_target t r) (r ≡ t)
 target_decides t r =
     let both = Decides-and _ _ (Decides-eqb r.start t.start) (Decides-eqb r.count t.count) in
-    (λ e. let p = both.0 e in same_range r t p.0 p.1, λ same. both.1 (ap (λ (x : Range). x.start) same, ap (λ (x : Range). x.count) same))
+    (λ e. let p = both.0 e in same_range r t p.0 p.1, λ same. both.1 (starts same, counts same))
 
 pub beside_decides : (t r : Range) → Decides (is_beside t r) (IsBeside t r)
 beside_decides t r = Decides-or _ _ (leb-true (r.start + r.count) t.start, le-leb (r.start + r.count) t.start) (leb-true (t.start + t.count) r.start, le-leb (t.start + t.count) r.start)
@@ -55,7 +62,7 @@ beside_false t r inside = false_from_ne_true (is_beside t r) (λ e. inside ((bes
 
 -- what misses the target isn't it, and no part of it is
 pub missed : (t r : Range) → 0 < r.count → IsBeside t r → r ≡ t → ⊥
-missed t r leaves beside same = omega (arith, ap (λ (x : Range). x.start) same, ap (λ (x : Range). x.count) same)
+missed t r leaves beside same = omega (arith, starts same, counts same)
 
 pub front_missed : (t r : Range) (f : ℕ) → f ≤ r.count → IsBeside t r → IsBeside t (leaves_from r.start f)
 front_missed t r f le beside = grind arith

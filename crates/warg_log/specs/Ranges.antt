@@ -16,11 +16,12 @@ leaves_from a n = record { start = a; count = n }
 abbrev pub range_of : ℕ → Range
 range_of t = leaves_from (start_of t) (2 ^ height_of t)
 
--- The two parts of a range of more than one leaf (RFC 6962, section 2.1): the first leaves, as many as the greatest
--- power of two below the count, and the rest.
+-- The first part of a range of more than one leaf (RFC 6962, section 2.1): as many leaves as the greatest power of
+-- two below its count.
 abbrev pub front_part : Range → Range
 front_part range = leaves_from range.start (front_of range.count)
 
+-- The other part: the rest of the leaves.
 abbrev pub rest_part : Range → Range
 rest_part range = leaves_from (range.start + front_of range.count) (range.count - front_of range.count)
 

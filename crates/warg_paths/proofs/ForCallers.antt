@@ -17,7 +17,8 @@ pub path_front : (R : Range → Option (List ℕ)) (m : ℕ) (r : Range) → 1 <
 path_front = making.inclusion_front
 
 -- the path of a leaf in the rest
-pub path_rest : (R : Range → Option (List ℕ)) (m : ℕ) (r : Range) → 1 < r.count → front_of r.count ≤ m → inclusion_over R m r ≡ beside (inclusion_over R (m - front_of r.count) (rest_part r)) (R (front_part r))
+pub path_rest : (R : Range → Option (List ℕ)) (m : ℕ) (r : Range) → 1 < r.count → front_of r.count ≤ m
+    → inclusion_over R m r ≡ beside (inclusion_over R (m - front_of r.count) (rest_part r)) (R (front_part r))
 path_rest = making.inclusion_rest
 
 -- a log's own path of a leaf in a range leads to the range's root

@@ -45,7 +45,8 @@ rest_at : (a c h : ℕ) → a ≡ c * 2 ^ suc h → a + 2 ^ h ≡ (2 * c + 1) * 
 rest_at a c h at = omega (arith, front_at a c h at)
 
 -- over a log's own digests a range's stored root is the root over it
-stored : (H : List ℕ → List ℕ) (ds : List (List ℕ)) (h a c n : ℕ) → a ≡ c * 2 ^ h → 0 < n → n ≤ 2 ^ h → a + n ≤ length ds → old_over H (own_digest H ds) (leaves_from a n) ≡ Some (root_over H ds a n)
+stored : (H : List ℕ → List ℕ) (ds : List (List ℕ)) (h a c n : ℕ) → a ≡ c * 2 ^ h → 0 < n → n ≤ 2 ^ h → a + n ≤ length ds
+    → old_over H (own_digest H ds) (leaves_from a n) ≡ Some (root_over H ds a n)
 stored H ds h a c n at some most = old_own_range H ds (leaves_from a n) some (record { height = h; place = c; start = at; most = most })
 
 -- the path over all leaves of a range
@@ -65,12 +66,15 @@ own_leads H ds (suc h) a c whole m n at some order most fits = elim (cases_lt (2
     | inr same ↦ all H ds (suc h) a c whole m n at (omega arith) (omega arith) most fits
     | inl less ↦ elim (cases_lt (2 ^ h) m) [
       | inr low ↦
-          rw (consistency_front R whole m (leaves_from a n) some less (rw (front more) low), front more, stored H ds h (a + 2 ^ h) (2 * c + 1) (n - 2 ^ h) (rest_at a c h at) (omega arith) (omega (arith, pow-suc 2 h)) (omega (arith, pow_pos h)))
+          let rest = stored H ds h (a + 2 ^ h) (2 * c + 1) (n - 2 ^ h) (rest_at a c h at) (omega arith) (omega (arith, pow-suc 2 h)) (omega (arith, pow_pos h)) in
+          rw (consistency_front R whole m (leaves_from a n) some less (rw (front more) low), front more, rest)
           (led_front H (known whole (root_over H ds a m)) m n (consistency_over R whole m (leaves_from a (2 ^ h))) (root_over H ds (a + 2 ^ h) (n - 2 ^ h)) less (rw (front more) low)
           ∙ rw (front more, own_leads H ds h a (2 * c) whole m (2 ^ h) (front_at a c h at) some low (omega arith) (omega arith), parts n more most fits) refl)
       | inl high ↦
-          rw (consistency_rest R whole m (leaves_from a n) less (rw (front more) high), front more, stored H ds h a (2 * c) (2 ^ h) (front_at a c h at) (pow_pos h) (omega arith) (omega arith))
-          (led_rest H (known whole (root_over H ds a m)) m n (consistency_over R false (m - 2 ^ h) (leaves_from (a + 2 ^ h) (n - 2 ^ h))) (root_over H ds a (2 ^ h)) less (rw (front more) high)
+          let first = stored H ds h a (2 * c) (2 ^ h) (front_at a c h at) (pow_pos h) (omega arith) (omega arith) in
+          let path = consistency_over R false (m - 2 ^ h) (leaves_from (a + 2 ^ h) (n - 2 ^ h)) in
+          rw (consistency_rest R whole m (leaves_from a n) less (rw (front more) high), front more, first)
+          (led_rest H (known whole (root_over H ds a m)) m n path (root_over H ds a (2 ^ h)) less (rw (front more) high)
           ∙ rw (front more, own_leads H ds h (a + 2 ^ h) (2 * c + 1) false (m - 2 ^ h) (n - 2 ^ h) (rest_at a c h at) (omega arith) (omega arith) (omega (arith, pow-suc 2 h)) (omega arith), parts n more most fits, parts m high (omega arith) (omega arith)) refl)
     ]
   ]

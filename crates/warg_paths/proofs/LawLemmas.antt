@@ -5,7 +5,7 @@ use Rattle.std.proofs.Math.Seq.{take-length}
 use Rattle.warg_log.specs.Ranges.{Range, leaves_from, front_part, rest_part, IsAligned}
 use Rattle.warg_log.specs.Tree.{front_of, root_of, root_over, own_digest}
 use Rattle.warg_log.specs.Cut.{Evaluation, with_target, joined, cut_over, cut_root, old_over}
-use Rattle.warg_log.proofs.ForCallers.{below_pow, same_range, node_at, root_over_one, cut_target, cut_parts, cut_old, cut_own_range}
+use Rattle.warg_log.proofs.ForCallers.{below_pow, same_range, counts, node_at, root_over_one, cut_target, cut_parts, cut_old, cut_own_range}
 use Rattle.warg_paths.specs.Paths.{beside, inclusion_over, inclusion_of, inclusion_root, root_down, led_to}
 use Rattle.warg_paths.proofs.PathLemmas.{root_one, root_front, root_rest}
 use Rattle.warg_paths.proofs.MakeLemmas.{parts_fewer, inclusion_one, inclusion_front, inclusion_rest}
@@ -51,7 +51,7 @@ climbs H F x (suc steps) m r enough inside = elim (cases_lt 1 r.count) [
       let few = parts_fewer r.count more in
       let e = at_leaf F (r.start + m) x in
       let split : cut_over H e r ≡ joined H (cut_over H e (front_part r)) (cut_over H e (rest_part r)) =
-      cut_parts H e r more (λ same. omega (arith, ap (λ (r : Range). r.count) same)) (λ _ b. elim b [ inl l ↦ omega arith | inr r ↦ omega arith ]) in
+      cut_parts H e r more (λ same. omega (arith, counts same)) (λ _ b. elim b [ inl l ↦ omega arith | inr r ↦ omega arith ]) in
       elim (cases_lt m (front_of r.count)) [
         | inl front ↦
             ap (led H m r.count x) (inclusion_front (old_over H F) m r more front)

@@ -19,7 +19,7 @@ path_enough R (suc s) zero m r low high = rw (le-leb r.count 1 (omega arith)) re
 path_enough R (suc s) (suc t) m r low high = elim (cases_lt 1 r.count) [
   | inl more ↦
       let few = parts_fewer r.count more in
-      rw (lt-leb r.count 1 more, path_enough R s t m (front_part r) (omega (arith, few.1)) (omega (arith, few.1)), path_enough R s t (m - front_of r.count) (rest_part r) (omega (arith, few.2)) (omega (arith, few.2))) refl
+      rw (lt-leb r.count 1 more, path_enough R s t m (front_part r) (omega arith) (omega arith), path_enough R s t (m - front_of r.count) (rest_part r) (omega arith) (omega arith)) refl
   | inr one ↦ rw (le-leb r.count 1 one) refl
 ]
 
@@ -30,7 +30,7 @@ unfolding path_within
 inclusion_front R m r more front =
     let few = parts_fewer r.count more in
     path_enough R r.count (suc r.count) m r (omega arith) (omega arith)
-    ∙ rw (lt-leb r.count 1 more, lt-ltb m (front_of r.count) front, path_enough R r.count (front_of r.count) m (front_part r) (omega (arith, few.1)) (omega arith)) refl
+    ∙ rw (lt-leb r.count 1 more, lt-ltb m (front_of r.count) front, path_enough R r.count (front_of r.count) m (front_part r) (omega arith) (omega arith)) refl
 
 -- the path of a leaf in the rest
 pub inclusion_rest : (R : Range → Option (List ℕ)) (m : ℕ) (r : Range) → 1 < r.count → front_of r.count ≤ m
@@ -39,9 +39,10 @@ unfolding path_within
 inclusion_rest R m r more rest =
     let few = parts_fewer r.count more in
     path_enough R r.count (suc r.count) m r (omega arith) (omega arith)
-    ∙ rw (lt-leb r.count 1 more, le-ltb m (front_of r.count) rest, path_enough R r.count (r.count - front_of r.count) (m - front_of r.count) (rest_part r) (omega (arith, few.2)) (omega arith)) refl
+    ∙ rw (lt-leb r.count 1 more, le-ltb m (front_of r.count) rest, path_enough R r.count (r.count - front_of r.count) (m - front_of r.count) (rest_part r) (omega arith) (omega arith)) refl
 
-growth_enough : (R : Range → Option (List ℕ)) (s t : ℕ) (whole : Bool) (m : ℕ) (r : Range) → 0 < m → m ≤ r.count → r.count ≤ s → r.count ≤ t → growth_within R s whole m r ≡ growth_within R t whole m r
+growth_enough : (R : Range → Option (List ℕ)) (s t : ℕ) (whole : Bool) (m : ℕ) (r : Range) → 0 < m → m ≤ r.count → r.count ≤ s → r.count ≤ t
+    → growth_within R s whole m r ≡ growth_within R t whole m r
 unfolding growth_within
 growth_enough R zero t whole m r some order low high = absurd (omega arith)
 growth_enough R (suc s) zero whole m r some order low high = absurd (omega arith)
@@ -49,8 +50,8 @@ growth_enough R (suc s) (suc t) whole m r some order low high = elim (cases_lt m
   | inl less ↦
       let few = parts_fewer r.count (omega arith) in
       rw (ne_eqb m r.count (λ e. omega arith)) (elim (cases_lt (front_of r.count) m) [
-        | inl rest ↦ rw (lt-leb m (front_of r.count) rest, growth_enough R s t false (m - front_of r.count) (rest_part r) (omega arith) (omega arith) (omega (arith, few.2)) (omega (arith, few.2))) refl
-        | inr front ↦ rw (le-leb m (front_of r.count) front, growth_enough R s t whole m (front_part r) some front (omega (arith, few.1)) (omega (arith, few.1))) refl
+        | inl rest ↦ rw (lt-leb m (front_of r.count) rest, growth_enough R s t false (m - front_of r.count) (rest_part r) (omega arith) (omega arith) (omega arith) (omega arith)) refl
+        | inr front ↦ rw (le-leb m (front_of r.count) front, growth_enough R s t whole m (front_part r) some front (omega arith) (omega arith)) refl
       ])
   | inr whole ↦ rw (eq-eqb m r.count (omega arith)) refl
 ]
@@ -66,8 +67,8 @@ pub consistency_front : (R : Range → Option (List ℕ)) (whole : Bool) (m : �
 unfolding growth_within
 consistency_front R whole m r some less front =
     let few = parts_fewer r.count (omega arith) in
-    growth_enough R r.count (suc r.count) whole m r some (omega arith) (omega arith) (omega arith)
-    ∙ rw (ne_eqb m r.count (λ e. omega arith), le-leb m (front_of r.count) front, growth_enough R r.count (front_of r.count) whole m (front_part r) some front (omega (arith, few.1)) (omega arith)) refl
+    let below = growth_enough R r.count (front_of r.count) whole m (front_part r) some front (omega arith) (omega arith) in
+    growth_enough R r.count (suc r.count) whole m r some (omega arith) (omega arith) (omega arith) ∙ rw (ne_eqb m r.count (λ e. omega arith), le-leb m (front_of r.count) front, below) refl
 
 -- the path where the old leaves end in the rest
 pub consistency_rest : (R : Range → Option (List ℕ)) (whole : Bool) (m : ℕ) (r : Range) → m < r.count → front_of r.count < m
@@ -75,8 +76,8 @@ pub consistency_rest : (R : Range → Option (List ℕ)) (whole : Bool) (m : ℕ
 unfolding growth_within
 consistency_rest R whole m r less rest =
     let few = parts_fewer r.count (omega arith) in
-    growth_enough R r.count (suc r.count) whole m r (omega arith) (omega arith) (omega arith) (omega arith)
-    ∙ rw (ne_eqb m r.count (λ e. omega arith), lt-leb m (front_of r.count) rest, growth_enough R r.count (r.count - front_of r.count) false (m - front_of r.count) (rest_part r) (omega arith) (omega arith) (omega (arith, few.2)) (omega arith)) refl
+    let below = growth_enough R r.count (r.count - front_of r.count) false (m - front_of r.count) (rest_part r) (omega arith) (omega arith) (omega arith) (omega arith) in
+    growth_enough R r.count (suc r.count) whole m r (omega arith) (omega arith) (omega arith) (omega arith) ∙ rw (ne_eqb m r.count (λ e. omega arith), lt-leb m (front_of r.count) rest, below) refl
 
 -- the path of one leaf is empty
 pub inclusion_one : (R : Range → Option (List ℕ)) (m : ℕ) (r : Range) → r.count ≡ 1 → inclusion_over R m r ≡ Some []

@@ -1,9 +1,9 @@
-use Rattle.std.proofs.Common.{◌≡◌, suc, ◌-◌, ◌++◌, ◌∷◌, [], refl, ap, ◌∙◌}
+use Rattle.std.proofs.Common.{◌≡◌, suc, ◌-◌, ◌++◌, ◌∷◌, [], refl, ◌∙◌}
 use Rattle.std.proofs.lemmas.Bool.{false≢true}
 use Rattle.std.proofs.lemmas.List.{map_push}
 use Rattle.warg_log.specs.Nodes.{node_over}
-use Rattle.warg_log.specs.Ranges.{Range, leaves_from, range_of}
-use Rattle.warg_log.proofs.WayLemmas.{is_beside_true}
+use Rattle.warg_log.specs.Ranges.{leaves_from, range_of}
+use Rattle.warg_log.proofs.WayLemmas.{counts, is_beside_true}
 use Rattle.warg_log.proofs.StepLemmas.{HasFound, numbers, walk_grows, found_first, HasBegun, walk_begins}
 use Rattle.warg_log.proofs.proof.+add_walk.Goals as goal
 use Rattle.warg_log.proofs.proof.+add_walk.Goals.{In_ok-push, After-ilog2, After-len}
@@ -19,8 +19,9 @@ returns-then-is_beside-clause-order g t c =
 
 found : (g : _) (t : _) (c : After-ilog2 g t) → HasFound c.args.leaf.0 c.args.start c.args.end c.first_root-root.result.count c.ilog2.result
 found g t c =
-    let same = ap (λ (r : Range). r.count) c.root.view_is in
-    found_first _ _ _ _ _ c.requires.aligned c.first_root-root.ensures.count c.requires.starts c.requires.ends (rw same at c.ilog2.ensures.power_le) (rw same at c.ilog2.ensures.next_power_gt)
+    let same = counts c.root.view_is in
+    found_first _ _ _ _ _ c.requires.aligned c.first_root-root.ensures.count c.requires.starts c.requires.ends (rw same at c.ilog2.ensures.power_le)
+    (rw same at c.ilog2.ensures.next_power_gt)
     (λ b. false≢true (c.if-is_beside.ensures ∙ rw (c.first_root-root.ensures.start, c.leaf_range.ensures)
     (is_beside_true (range_of c.args.leaf.0) (leaves_from c.args.start c.first_root-root.result.count) b)))
 
