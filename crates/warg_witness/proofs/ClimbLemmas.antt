@@ -1,44 +1,55 @@
--- One step up of two evaluations.
-use Rattle.std.proofs.Common.{◌≡◌, ℕ, Bool, true, false, cond, List, length, Option, Some, inl, inr, refl, sym, ◌∙◌}
+-- Where two evaluations part that go up side by side, and what that shows.
+use Rattle.std.proofs.Common.{◌≡◌, ℕ, Bool, true, false, cond, List, length, Option, Some, ◌⊎◌, inl, inr, refl, sym, ap, ◌∙◌}
 use Rattle.warg_crypto.proofs.ForCallers.{branch_parts, same_or_not}
-use Rattle.warg_crypto.specs.Collisions.{Collides}
-use Rattle.warg_crypto.specs.Tree.{input_beside}
+use Rattle.warg_crypto.specs.Tree.{branch_input, input_beside}
 use Rattle.warg_log.specs.Cut.{joined}
 use Rattle.warg_witness.specs.Private.Climbs.{DivergesUp, IsUp}
-use Rattle.warg_witness.specs.declared.climb.Divergence.{Divergence}
-use Rattle.warg_witness.specs.declared.climb.Divergence.TheVariants.{Branch}
+use Rattle.warg_witness.specs.Private.Divergence.{Parts, Shows, inputs_of}
+use Rattle.warg_witness.specs.declared.divergence.Divergence.{Divergence}
+use Rattle.warg_witness.specs.declared.divergence.Divergence.TheVariants.{Target, Branch}
 
-module _ {D : Type 0} {H : List ℕ → List ℕ} (b : Bool) {x u y v : List ℕ} {p : Divergence D} where
-  -- a step with equal parts, and one with different ones
-  pub up_same : (cond b u x ≡ cond b v y) × (cond b x u ≡ cond b y v) → IsUp H b x u y v p (H (input_beside b u x)) (H (input_beside b v y)) p
-  up_same same = record { first_is = refl; second_is = refl; diverges = at b same }
-    where
-      at : (b : Bool) → (cond b u x ≡ cond b v y) × (cond b x u ≡ cond b y v) → DivergesUp b x u y v p p
-      at true same = inl (same.1, same.0, refl)
-      at false same = inl (same.0, same.1, refl)
+-- where two evaluations part, what stands in one place stands in another
+pub parts_placed : {D : Type 0} (H : List ℕ → List ℕ) {P Q : List ℕ → List ℕ → Type 0} {A B : Type 0} (p : Divergence D) → ((l r : List ℕ) → P l r → Q l r) → (A → B) → Parts H P A p → Parts H Q B p
+parts_placed H Target placed meet is = meet is
+parts_placed H (Branch branches) placed meet is = record { collides = is.collides; placed = placed _ _ is.placed }
 
-  pub up_differs : length (cond b u x) ≡ length (cond b v y) → ((cond b u x ≡ cond b v y) × (cond b x u ≡ cond b y v) → ⊥)
-      → IsUp H b x u y v p (H (input_beside b u x)) (H (input_beside b v y)) (Branch (cond b u x) (cond b x u) (cond b v y) (cond b y v))
-  up_differs sizes differ = record { first_is = refl; second_is = refl; diverges = inr ((λ e. differ (branch_parts _ _ _ _ sizes e)), refl) }
+-- they show their branches' inputs, or those that are given
+pub shown : {D : Type 0} {H : List ℕ → List ℕ} {P Q : List ℕ → List ℕ → Type 0} {A : Type 0} (p : Divergence D) → ((l r : List ℕ) → P l r → Q l r) → (first second : List ℕ) → (A → Shows H Q (first, second))
+    → Parts H P A p → Shows H Q (inputs_of p first second)
+shown Target placed first second meet is = meet is
+shown (Branch branches) placed first second meet is = record { collides = is.collides; placed = placed _ _ is.placed }
+
+-- a step up, with the digests on both sides of each branch
+pub up_is : {D : Type 0} {H : List ℕ → List ℕ} (b : Bool) {x u y v d e : List ℕ} {p q : Divergence D} {sides : (List ℕ × List ℕ) × (List ℕ × List ℕ)} → sides ≡ cond b ((u, x), (v, y)) ((x, u), (y, v))
+    → d ≡ H (branch_input sides.0.0 sides.0.1) → e ≡ H (branch_input sides.1.0 sides.1.1) → length sides.0.0 ≡ length sides.1.0
+    → ((sides.0 ≡ sides.1) × (q ≡ p)) ⊎ ((sides.0 ≡ sides.1 → ⊥) × (q ≡ Branch (record { first = sides.0; second = sides.1 }))) → IsUp H b x u y v p d e q
+up_is true is d_is e_is sizes (inl same) = record { first_is = d_is ∙ rw is refl; second_is = e_is ∙ rw is refl; diverges = let parts = rw is at same.0 in inl (ap (λ q. q.1) parts, ap (λ q. q.0) parts, same.1) }
+up_is false is d_is e_is sizes (inl same) = record { first_is = d_is ∙ rw is refl; second_is = e_is ∙ rw is refl; diverges = let parts = rw is at same.0 in inl (ap (λ q. q.0) parts, ap (λ q. q.1) parts, same.1) }
+up_is true is d_is e_is sizes (inr other) = record { first_is = d_is ∙ rw is refl; second_is = e_is ∙ rw is refl; diverges = inr ((λ e. let parts = branch_parts _ _ _ _ (rw is at sizes) e in rw is at other.0 (cc)), rw is at other.1) }
+up_is false is d_is e_is sizes (inr other) = record { first_is = d_is ∙ rw is refl; second_is = e_is ∙ rw is refl; diverges = inr ((λ e. let parts = branch_parts _ _ _ _ (rw is at sizes) e in rw is at other.0 (cc)), rw is at other.1) }
 
 -- a step from digests of one length, with digests of one length beside them
 pub up_somewhere : {D : Type 0} {H : List ℕ → List ℕ} (b : Bool) {x u y v : List ℕ} (p : Divergence D) → length x ≡ length y → length u ≡ length v
     → (q : Divergence D) × IsUp H b x u y v p (H (input_beside b u x)) (H (input_beside b v y)) q
 up_somewhere b {x} {u} {y} {v} p sizes others = elim (same_or_not (input_beside b u x) (input_beside b v y)) [
-  | inl same ↦ (p, up_same b (branch_parts _ _ _ _ (size b) same))
-  | inr differ ↦ (Branch (cond b u x) (cond b x u) (cond b v y) (cond b y v), record { first_is = refl; second_is = refl; diverges = inr (differ, refl) })
+  | inl same ↦ (p, record { first_is = refl; second_is = refl; diverges = below b (branch_parts _ _ _ _ (size b) same) })
+  | inr differ ↦ (_, record { first_is = refl; second_is = refl; diverges = inr (differ, refl) })
 ]
   where
     size : (b : Bool) → length (cond b u x) ≡ length (cond b v y)
     size true = others
     size false = sizes
 
--- where two evaluations come to one digest they diverge below, from one digest and with one beside it, or at inputs that collide
-pub up_diverges : {D : Type 0} {H : List ℕ → List ℕ} {b : Bool} {x u y v first second : List ℕ} {p q : Divergence D} (P : Divergence D → Type 0) → IsUp H b x u y v p first second q
-    → (x ≡ y → u ≡ v → P p) → (Collides H (input_beside b u x, input_beside b v y) → P (Branch (cond b u x) (cond b x u) (cond b v y) (cond b y v))) → first ≡ second → P q
-up_diverges P up below here one = elim up.diverges [
+    below : (b : Bool) → (cond b u x ≡ cond b v y) × (cond b x u ≡ cond b y v) → DivergesUp b x u y v p p
+    below true same = inl (same.1, same.0, refl)
+    below false same = inl (same.0, same.1, refl)
+
+-- where two evaluations come to one digest they part below, from one digest and with one beside it, or at the branches here
+pub up_parts : {D : Type 0} {H : List ℕ → List ℕ} {b : Bool} {x u y v d e : List ℕ} {p q : Divergence D} (P : List ℕ → List ℕ → Type 0) (A : Type 0) → IsUp H b x u y v p d e q
+    → (x ≡ y → u ≡ v → Parts H P A p) → P (input_beside b u x) (input_beside b v y) → d ≡ e → Parts H P A q
+up_parts P A up below here one = elim up.diverges [
   | inl same ↦ rw same.2 (below same.0 same.1)
-  | inr other ↦ rw other.1 (here (record { differ = other.0; same = sym up.first_is ∙ one ∙ up.second_is }))
+  | inr other ↦ rw other.1 (record { collides = record { differ = other.0; same = sym up.first_is ∙ one ∙ up.second_is }; placed = here })
 ]
 
 -- a branch that is there has both its parts

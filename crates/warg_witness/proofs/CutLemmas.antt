@@ -5,20 +5,20 @@ use Rattle.std.proofs.lemmas.List.{length-map, get_or-map}
 use Rattle.std.proofs.lemmas.Bool.Decides.{nat_tests}
 use Rattle.warg_crypto.specs.Tree.{branch_input, input_beside, where_both}
 use Rattle.warg_log.specs.Tree.{front_of, leaves_of, root_of, root_over, own_digest}
-use Rattle.warg_log.specs.Cut.{joined, with_target, with_own, cut_over}
+use Rattle.warg_log.specs.Cut.{with_target, with_own, joined, cut_over}
 use Rattle.warg_log.specs.Ranges.{leaves_from, IsAligned}
-use Rattle.warg_log.proofs.ForCallers.{cut_own_range, cut_parts, cut_target, front_is_greatest, root_over_one, root_over_parts}
+use Rattle.warg_log.proofs.ForCallers.{starts, counts, cut_own_range, cut_parts, cut_target, front_is_greatest, root_over_one, root_over_parts}
 use Rattle.warg_witness.specs.Ranges.{IsPart, IsAround}
 use Rattle.warg_witness.specs.Ranges.IsPart.{whole}
 use Rattle.warg_witness.specs.Inputs.{plain_input, cut_input}
 use Rattle.warg_witness.specs.Private.Climbs.{IsUp}
-use Rattle.warg_witness.specs.Private.Divergence.{HaveOneDigest, MeetAt, DivergesAt, IsDivergence}
+use Rattle.warg_witness.specs.Private.Divergence.{HaveOneDigest, MeetAt, DivergesAt}
 use Rattle.warg_witness.specs.Private.RangeClimbs.{LackDigest, IsRangeClimb}
 use Rattle.warg_witness.specs.Private.Ranges.{AreSides}
-use Rattle.warg_witness.specs.declared.climb.Divergence.{Divergence}
-use Rattle.warg_witness.specs.declared.climb.Divergence.TheVariants.{Target, Branch}
-use Rattle.warg_witness.proofs.ClimbLemmas.{up_diverges, both_there}
-use Rattle.warg_witness.proofs.RangeLemmas.{Digest, Data, starts, counts, wider, near_side, side_is_part, IsPart-trans, whole_aligned, side_aligned, part_in}
+use Rattle.warg_witness.specs.declared.divergence.Divergence.{Divergence}
+use Rattle.warg_witness.specs.declared.divergence.Divergence.TheVariants.{Target}
+use Rattle.warg_witness.proofs.ClimbLemmas.{parts_placed, up_parts, both_there}
+use Rattle.warg_witness.proofs.RangeLemmas.{Digest, Data, wider, near_side, side_is_part, IsPart-trans, whole_aligned, side_aligned, part_in}
 
 -- both evaluations at the target
 pub ranges_start : {D : Type 0} {H : Digest} {F : Data} {x : List ℕ} {G : Data} {y : List ℕ} {s w a n : ℕ} {first second : List ℕ} {p : Divergence D} → a ≡ s → n ≡ w → first ≡ x → second ≡ y → p ≡ Target
@@ -28,12 +28,6 @@ ranges_start {D} {H} {F} {x} {G} {y} {s} {w} from count first second target = rw
   second_is = cut_target H (with_target G (leaves_from s w) y);
   diverges = λ same. record { same = same; part = whole };
 })
-
--- what diverges in a part of a range diverges in the range
-widened : {D : Type 0} (H : Digest) (F : Data) (x : List ℕ) (G : Data) (y : List ℕ) (s w : ℕ) {a n b m : ℕ} (p : Divergence D)
-    → IsPart a n b m → IsDivergence H F x G y s w b m p → IsDivergence H F x G y s w a n p
-widened H F x G y s w Target outer is = search (IsPart-trans, outer, is)
-widened H F x G y s w (Branch l r l' r') outer is = search (IsPart-trans, outer, is)
 
 -- a branch is the digest of its input
 joined_input : (H : Digest) (left right : Option (List ℕ)) (i : List ℕ) → where_both branch_input left right ≡ Some i → joined H left right ≡ Some (H i)
@@ -47,7 +41,8 @@ module _ (H : Digest) {s w a n : ℕ} (some : 0 < w) (around : IsAround s w a n)
 
     -- the cut root of a range around a target is the branch over its sides
     cut_around : root_at a n ≡ joined H (root_at a (front_of n)) (root_at (a + front_of n) (n - front_of n))
-    cut_around = let more = wider around other in cut_parts H (with_target F (leaves_from s w) x) (leaves_from a n) (omega arith) (λ same. other (starts same) (counts same)) (λ _ beside. omega arith)
+    cut_around = let more = wider around other in cut_parts H (with_target F (leaves_from s w) x) (leaves_from a n) (omega arith) (λ same. other (starts same) (counts same))
+        (λ _ beside. omega arith)
 
     -- so a digest at the range takes one at each side
     pub sides_there : {right : Bool} {b m c k : ℕ} {d : List ℕ} → AreSides right a n b m c k → root_at a n ≡ Some d
@@ -59,7 +54,7 @@ module _ (H : Digest) {s w a n : ℕ} (some : 0 < w) (around : IsAround s w a n)
 
     -- and those at the sides make the range's input and its digest
     sides_input : {right : Bool} {b m c k : ℕ} {t u : List ℕ} → AreSides right a n b m c k → root_at b m ≡ Some t → root_at c k ≡ Some u
-        → cut_input H F x s w a n ≡ Some (input_beside right u t)
+        → cut_input H (with_target F (leaves_from s w) x) (leaves_from a n) ≡ Some (input_beside right u t)
     sides_input {right = false} sides near far = rw (rw (sides.start, sides.count) at near, rw (sides.other_start, sides.other_count) at far)
     sides_input {right = true} sides near far = rw (rw (sides.start, sides.count) at near, rw (sides.other_start, sides.other_count) at far)
 
@@ -79,8 +74,9 @@ module _ (H : Digest) {s w a n : ℕ} (some : 0 < w) (around : IsAround s w a n)
         let more = wider around other in record {
           first_is = sides_root F x sides climb.first_is far ∙ ap Some (sym up.first_is);
           second_is = sides_root G y sides climb.second_is other_far ∙ ap Some (sym up.second_is);
-          diverges = up_diverges (IsDivergence H F x G y s w a n) up (λ same _. widened H F x G y s w p (side_is_part b m whole (omega arith) (near_side sides)) (climb.diverges same))
-              (λ collides. search (whole, around, other, sides_input F x sides climb.first_is far, sides_input G y sides climb.second_is other_far, collides));
+          diverges = up_parts (DivergesAt H F x G y s w a n) (MeetAt x y s w a n) up
+              (λ same _. let outer = side_is_part b m whole (omega arith) (near_side sides) in parts_placed H p (λ _ _ is. search (IsPart-trans, outer, is)) (λ is. search (IsPart-trans, outer, is)) (climb.diverges same))
+              (search (whole, around, other, sides_input F x sides climb.first_is far, sides_input G y sides climb.second_is other_far));
         }
 
 -- the leaves are as many as the entries
@@ -123,7 +119,7 @@ module _ (H : Digest) where
 
   -- over the entries' own digests the evaluation's input at a range is the plain one, as where an evaluation diverges from the tree
   pub own_input : (entries : List (List ℕ)) (s w : ℕ) {a n : ℕ} (second : List ℕ) → IsPart 0 (length entries) a n → 1 < n
-      → cut_input H (own_digest H (leaves_of H entries)) (root_over H (leaves_of H entries) s w) s w a n ≡ Some second → second ≡ plain_input H entries a n
+      → cut_input H (with_own H (leaves_of H entries) (leaves_from s w)) (leaves_from a n) ≡ Some second → second ≡ plain_input H entries a n
   own_input entries s w {a} {n} second part more is =
       let at = part_in part in
       let f = front_is_greatest n more in

@@ -3,7 +3,6 @@ use Rattle.std.proofs.Common.{◌≡◌, ℕ, Bool, ◌+◌, ◌-◌, ◌<◌, �
 use Rattle.std.specs.Option.{is_some}
 use Rattle.std.proofs.lemmas.Nat.{pow_pos}
 use Rattle.std.proofs.lemmas.List.{length-map}
-use Rattle.std.proofs.lemmas.Bool.Decides.{nat_tests}
 use Rattle.std.proofs.lemmas.Bool.{lt-leb, le-leb, lt-ltb, ne_eqb}
 use Rattle.warg_crypto.specs.Tree.{branch_input, input_beside}
 use Rattle.warg_log.specs.Tree.{front_of, leaves_of, root_of, root_over, own_digest}
@@ -14,22 +13,19 @@ use Rattle.warg_witness.specs.Ranges.{IsPart, IsAround}
 use Rattle.warg_witness.specs.Ranges.IsPart.{whole as part_whole, front as part_front, rest as part_rest}
 use Rattle.warg_witness.specs.Inputs.{plain_input}
 use Rattle.warg_witness.specs.PathClaims.{IsTreeMet}
-use Rattle.warg_crypto.specs.Collisions.{Collides}
-use Rattle.warg_witness.specs.TreePlaced.{IsOnGrowth, old_turn_input, new_turn_input}
+use Rattle.warg_witness.specs.TreePlaced.{IsOnGrowth, IsTurn, IsTreePlaced, old_turn_input, new_turn_input}
 use Rattle.warg_witness.specs.TreePlaced.IsOnGrowth.{whole, front, rest}
 use Rattle.warg_witness.specs.Private.Compared.{DiffersFirst}
-use Rattle.warg_witness.specs.Private.Divergence.{IsDivergence, inputs_of}
+use Rattle.warg_witness.specs.Private.Divergence.{IsDivergence, Shows, inputs_of}
 use Rattle.warg_witness.specs.Private.PathDivergence.{tree_input}
 use Rattle.warg_witness.specs.Private.Climbs.{IsUp}
-use Rattle.warg_witness.specs.Private.TreeDivergence.{IsTreeMeeting, LeadsOver, IsOnWayOver, IsTreeShown, IsTreeDivergence, PartsOnGrowth, IsGrowth}
-use Rattle.warg_witness.specs.declared.climb.Divergence.{Divergence}
-use Rattle.warg_witness.specs.declared.climb.Divergence.TheVariants.{Target, Branch}
-use Rattle.warg_witness.proofs.ClimbLemmas.{up_diverges}
+use Rattle.warg_witness.specs.Private.TreeDivergence.{IsTreeMeeting, LeadsOver, IsOnWayOver, IsTreeDivergence, PartsOnGrowth, IsGrowth}
+use Rattle.warg_witness.specs.declared.divergence.Divergence.{Divergence}
+use Rattle.warg_witness.specs.declared.divergence.Divergence.TheVariants.{Target}
+use Rattle.warg_witness.proofs.ClimbLemmas.{parts_placed, up_parts}
 use Rattle.warg_witness.proofs.RangeLemmas.{Digest, IsPart-trans}
-use Rattle.warg_witness.proofs.ShownLemmas.{shown}
-use Rattle.warg_witness.proofs.ConsistencyLemmas.{entry_at}
+use Rattle.warg_witness.proofs.ShownLemmas.{both_shown, read_shown}
 use Rattle.warg_witness.proofs.RecordLemmas.{whole_root}
-use Rattle.warg_witness.proofs.BothLemmas.{both_placed, both_meet}
 
 -- two roots are the same one by one
 pair_parts : (p q : List ℕ × List ℕ) → Some p ≡ Some q → (p.0 ≡ q.0) × (p.1 ≡ q.1)
@@ -130,38 +126,28 @@ module _ (H : Digest) (known : Option (List ℕ)) (m n : ℕ) (top : List ℕ) (
   rest_none high none = rw (rest_turn high, none) refl
 
 module _ (H : Digest) (old_tree new_tree : List (List ℕ)) (place : ℕ) (known : Option (List ℕ)) (m a n : ℕ) (top : List ℕ) (below : List (List ℕ)) (some : 0 < m) (more : m < n) where
+  -- Where a collision at the range stands, of all entries and all paths for which it is on the way.
+  abbrev Placed : List ℕ → List ℕ → Type 0
+  Placed first second = (path old new : List (List ℕ)) → IsOnWayOver H path old new old_tree new_tree place known m a n (top ∷ below) → IsTreePlaced H path old new first second
+
   -- what parts below parts here
   widened : {D : Type 0} {known' : Option (List ℕ)} {m' a' n' : ℕ} (x y : List ℕ) (p : Divergence D)
       → ((known₀ : Option (List ℕ)) (m₀ n₀ : ℕ) (ds₀ : List (List ℕ)) → IsOnGrowth known₀ m₀ n₀ ds₀ known m a n (top ∷ below) → IsOnGrowth known₀ m₀ n₀ ds₀ known' m' a' n' below)
       → PartsOnGrowth H old_tree new_tree place known' m' a' n' below x y p → PartsOnGrowth H old_tree new_tree place known m a n (top ∷ below) x y p
-  widened x y Target down is = is
-  widened x y (Branch l r l' r') down is = λ path old new way. is path old new (record { old_is = way.old_is; new_is = way.new_is; differ = way.differ; on_way = down _ _ _ _ way.on_way })
+  widened x y p down = parts_placed H p (λ first second is path old new way. is path old new (record { old_is = way.old_is; new_is = way.new_is; differ = way.differ; on_way = down _ _ _ _ way.on_way })) (λ same. same)
 
-  -- what inputs of the evaluation and of a tree at the range show, where they collide
-  old_here : {i j : List ℕ} → front_of n < m → old_turn_input H m n top below ≡ Some i → j ≡ tree_input H old_tree a m → Collides H (i, j) → (path old new : List (List ℕ))
-      → IsOnWayOver H path old new old_tree new_tree place known m a n (top ∷ below) → IsTreeShown H path old new (i, j)
-  old_here high evaluation plain collides path old new way =
+  -- where inputs of the evaluation and of a tree at the range stand
+  old_here : {i j : List ℕ} → front_of n < m → old_turn_input H m n top below ≡ Some i → j ≡ tree_input H old_tree a m → (path old new : List (List ℕ))
+      → IsOnWayOver H path old new old_tree new_tree place known m a n (top ∷ below) → IsTreePlaced H path old new i j
+  old_here high evaluation plain path old new way =
       let split = front_some n (omega arith) in
-      let is = plain ∙ plain_is H old old_tree a m way.old_is (omega arith) in record {
-        collides = collides;
-        placed = inl (record {
-          known = known;
-          old_count = m;
-          from = a;
-          count = n;
-          top = top;
-          below = below;
-          turn = record { on_way = way.on_way; more = more };
-          in_rest = high;
-          evaluation = evaluation;
-          plain = is;
-        });
-      }
+      let is = plain ∙ plain_is H old old_tree a m way.old_is (omega arith) in
+      let turn : IsTurn H path old new known m a n top below = record { on_way = way.on_way; more = more } in inl (search (turn, high, evaluation, is))
 
-  new_here : {i j : List ℕ} → new_turn_input H known m n top below ≡ Some i → j ≡ tree_input H new_tree a n → Collides H (i, j) → (path old new : List (List ℕ))
-      → IsOnWayOver H path old new old_tree new_tree place known m a n (top ∷ below) → IsTreeShown H path old new (i, j)
-  new_here evaluation plain collides path old new way =
-      let is = plain ∙ plain_is H new new_tree a n way.new_is (omega arith) in record { collides = collides; placed = inr (inl (search (way, more, evaluation, is))) }
+  new_here : {i j : List ℕ} → new_turn_input H known m n top below ≡ Some i → j ≡ tree_input H new_tree a n → (path old new : List (List ℕ))
+      → IsOnWayOver H path old new old_tree new_tree place known m a n (top ∷ below) → IsTreePlaced H path old new i j
+  new_here evaluation plain path old new way =
+      let is = plain ∙ plain_is H new new_tree a n way.new_is (omega arith) in inr (inl (search (way, more, evaluation, is)))
 
   module _ (in_old : a + m ≤ length old_tree) (in_new : a + n ≤ length new_tree) where
     -- up from the first part
@@ -177,7 +163,7 @@ module _ (H : Digest) (old_tree new_tree : List (List ℕ)) (place : ℕ) (known
           new_part = IsPart-trans (part_front a n part_whole (omega arith)) growth.new_part;
           digest = growth.digest;
           old_parts = λ e. widened _ _ p (λ _ _ _ _ way. front _ _ _ _ _ _ way more low) (growth.old_parts e);
-          new_parts = up_diverges (PartsOnGrowth H old_tree new_tree place known m a n (top ∷ below) growth.digest (root_over H new_tree b k)) up
+          new_parts = up_parts Placed (growth.digest ≡ root_over H new_tree b k) up
               (λ same _. widened _ _ q (λ _ _ _ _ way. front _ _ _ _ _ _ way more low) (growth.new_parts same)) (new_here (rw (le-leb m (front_of n) low, growth.roots) refl) plain);
         }
 
@@ -203,9 +189,9 @@ module _ (H : Digest) (old_tree new_tree : List (List ℕ)) (place : ℕ) (known
         old_part = old_part;
         new_part = new_part;
         digest = digest;
-        old_parts = up_diverges (PartsOnGrowth H old_tree new_tree place known m a n (top ∷ below) digest (root_over H old_tree b k)) old_up (λ same _. old_parts same)
+        old_parts = up_parts Placed (digest ≡ root_over H old_tree b k) old_up (λ same _. old_parts same)
             (old_here high (rw led (ap Some (sym old_first))) old_second);
-        new_parts = up_diverges (PartsOnGrowth H old_tree new_tree place known m a n (top ∷ below) digest (root_over H new_tree b k)) new_up (λ same _. new_parts same)
+        new_parts = up_parts Placed (digest ≡ root_over H new_tree b k) new_up (λ same _. new_parts same)
             (new_here (rw (lt-leb m (front_of n) high, led) (ap Some (sym new_first))) new_second);
       }
 
@@ -235,8 +221,8 @@ shared_shown {H = H} {place = place} {b = b} {k = k} growth some r diverges = λ
     let parts = growth_parts way.on_way some in
     let in_old = IsPart-trans parts.0 growth.old_part in
     let in_new = IsPart-trans parts.1 growth.new_part in
-    let pair = shown r _ _ (both_placed H old new place b k in_old in_new) (λ _ meets. both_meet H old new place b k in_old in_new meets way.differ) (rw (way.old_is, way.new_is) at diverges) in
-    record { collides = pair.0; placed = inr (inr pair.1) }
+    let pair = both_shown H old new place b k in_old in_new r (rw (way.old_is, way.new_is) at diverges) way.differ in
+    record { collides = pair.collides; placed = inr (inr pair.placed) }
 
 -- a path that leads to the roots of the trees over entries leads to them over all leaves, and what a divergence from there shows, of entries that are read
 module _ {V : Type 0} (bytes : V → List ℕ) (H : Digest) (path : List (List ℕ)) (old new : List V) (old_tree new_tree : List (List ℕ))
@@ -256,10 +242,7 @@ module _ {V : Type 0} (bytes : V → List ℕ) (H : Digest) (path : List (List �
 
   pub growth_shown : {D : Type 0} {e d : V} (place : ℕ) (p : Divergence D) → DiffersFirst (map bytes old) (map bytes new) place → e ≡ get_or old place e → d ≡ get_or new place d
       → IsTreeDivergence H old_tree new_tree place (Some (root_over H old_tree 0 (length old))) (length old) 0 (length new) (reverse path) p
-      → IsTreeShown H path (map bytes old) (map bytes new) (inputs_of p (0 ∷ bytes e) (0 ∷ bytes d))
+      → Shows H (IsTreePlaced H path (map bytes old) (map bytes new)) (inputs_of p (0 ∷ bytes e) (0 ∷ bytes d))
   growth_shown place p differs e_is d_is diverges =
-      let within = differs.within in
-      let order = meeting.order in
-      let old_entry = entry_at bytes old place (omega (arith, length-map old bytes)) e_is in
-      let new_entry = entry_at bytes new place (omega (arith, length-map old bytes, length-map new bytes)) d_is in
-      rw (← old_entry, ← new_entry) (diverges path (map bytes old) (map bytes new) (record { old_is = meeting.old_is; new_is = meeting.new_is; differ = differs.differ; on_way = whole_way }))
+      read_shown bytes old new p differs (let order = meeting.order in omega (arith, length-map old bytes, length-map new bytes)) e_is d_is
+      (diverges path (map bytes old) (map bytes new) (record { old_is = meeting.old_is; new_is = meeting.new_is; differ = differs.differ; on_way = whole_way }))

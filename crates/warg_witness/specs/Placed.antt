@@ -1,7 +1,8 @@
 -- Where the two byte lists of a collision stand.
 use Rattle.std.specs.Prelude.{◌≡◌, ℕ, ◌^◌, ◌⊎◌, List, length, Option, Some, Contains}
+use Rattle.warg_log.specs.Ranges.{leaves_from, range_of}
 use Rattle.warg_log.specs.Nodes.{height_of, start_of, balanced_roots}
-use Rattle.warg_log.specs.Cut.{IsFull}
+use Rattle.warg_log.specs.Cut.{with_target, IsFull}
 use Rattle.warg_witness.specs.Ranges.{IsPart, IsAround}
 use Rattle.warg_witness.specs.Inputs.{plain_input, cut_input, value_input, old_input}
 
@@ -12,7 +13,7 @@ pub record IsValuePlaced (H : List ℕ → List ℕ) (F : ℕ → Option (List �
   pub count : ℕ
   pub part : IsPart 0 (length entries) from count
   pub around : IsAround (start_of node) (2 ^ height_of node) from count
-  pub evaluation : value_input H F value (start_of node) (2 ^ height_of node) from count ≡ Some first
+  pub evaluation : value_input H F (range_of node) value (leaves_from from count) ≡ Some first
   pub plain : second ≡ plain_input H entries from count
 
 -- For a hash at a node: the same, at a range that is not the node's own.
@@ -22,7 +23,7 @@ pub record IsHashPlaced (H : List ℕ → List ℕ) (F : ℕ → Option (List �
   pub part : IsPart 0 (length entries) from count
   pub around : IsAround (start_of node) (2 ^ height_of node) from count
   pub other : from ≡ start_of node → count ≡ 2 ^ height_of node → ⊥
-  pub evaluation : cut_input H F hash (start_of node) (2 ^ height_of node) from count ≡ Some first
+  pub evaluation : cut_input H (with_target F (range_of node) hash) (leaves_from from count) ≡ Some first
   pub plain : second ≡ plain_input H entries from count
 
 -- For an agreement on a node at length n: the two evaluations' inputs at one range, in the order given.
@@ -31,8 +32,8 @@ pub record IsAgreementPlaced (H : List ℕ → List ℕ) (F : ℕ → Option (Li
   pub count : ℕ
   pub part : IsPart 0 n from count
   pub around : IsAround (start_of node) (2 ^ height_of node) from count
-  pub first_evaluation : value_input H F value (start_of node) (2 ^ height_of node) from count ≡ Some first
-  pub second_evaluation : value_input H G other_value (start_of node) (2 ^ height_of node) from count ≡ Some second
+  pub first_evaluation : value_input H F (range_of node) value (leaves_from from count) ≡ Some first
+  pub second_evaluation : value_input H G (range_of node) other_value (leaves_from from count) ≡ Some second
 
 -- For consistency, on the old side: the old root's input (first) and the old plain input (second) at one
 -- range, which isn't of a power of two of leaves.
@@ -41,7 +42,7 @@ pub record IsPlacedInOld (H : List ℕ → List ℕ) (F : ℕ → Option (List �
   pub count : ℕ
   pub part : IsPart 0 (length old) from count
   pub split : IsFull count → ⊥
-  pub evaluation : old_input H F from count ≡ Some first
+  pub evaluation : old_input H F (leaves_from from count) ≡ Some first
   pub plain : second ≡ plain_input H old from count
 
 -- On the new side: the evaluation's input (first), with a balanced root of the old length m and the digest
@@ -56,7 +57,7 @@ pub record IsPlacedInNew (H : List ℕ → List ℕ) (F : ℕ → Option (List �
   pub part : IsPart 0 (length new) from count
   pub around : IsAround (start_of root) (2 ^ height_of root) from count
   pub other : from ≡ start_of root → count ≡ 2 ^ height_of root → ⊥
-  pub evaluation : cut_input H F digest (start_of root) (2 ^ height_of root) from count ≡ Some first
+  pub evaluation : cut_input H (with_target F (range_of root) digest) (leaves_from from count) ≡ Some first
   pub plain : second ≡ plain_input H new from count
 
 -- In both trees: the old plain input (first) and the new one (second) at one range of both.

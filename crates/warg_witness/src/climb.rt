@@ -1,32 +1,10 @@
-//! Two evaluations that go up one way side by side, and where they diverge.
+//! Two evaluations that go up one way side by side.
 
-ghost use Rattle.std.specs.Prelude.{◌≡◌, ◌↔◌, IsTrue, if◌then◌else◌};
+ghost use Rattle.std.specs.Prelude.{◌≡◌};
 ghost use Rattle.warg_witness.specs.Private.Climbs.{IsUp};
 
+use crate::divergence::{Branches, Divergence};
 use warg_crypto::{Hash, SupportedDigest, hash_branch};
-
-/// Where two trees diverge that have one digest at a range.
-#[derive(Drop)]
-pub(crate) enum Divergence<D> {
-    /// Nowhere: they have one digest at the target too.
-    Target,
-    /// At a branch with these digests on both sides.
-    Branch {
-        first_left: Hash<D>,
-        first_right: Hash<D>,
-        second_left: Hash<D>,
-        second_right: Hash<D>,
-    },
-}
-
-impl<D> Divergence<D> {
-    /// Whether the trees diverge nowhere.
-    pub(crate) fn is_target(&self) -> bool
-        ensures { IsTrue result ↔ (self.now ≡ Divergence.Target) }
-    {
-        matches!(self, Divergence::Target)
-    }
-}
 
 /// Two evaluations along one way, as far as they have come up from the bottom.
 #[derive(Drop)]
@@ -56,40 +34,21 @@ impl<D: SupportedDigest> Climb<D> {
         ensures { IsUp D.digest right self.first first_beside.now self.second second_beside.now
             self.divergence result.first result.second result.divergence }
     {
-        let Climb {
-            first,
-            second,
-            divergence,
-        } = self;
-        let (first_left, first_right) = left_and_right(right, first, first_beside.copied());
-        let (second_left, second_right) = left_and_right(right, second, second_beside.copied());
-        let first = hash_branch(&first_left, &first_right);
-        let second = hash_branch(&second_left, &second_right);
-        prove_eq!(first_left.len(), second_left.len());
-        if first_left == second_left && first_right == second_right {
-            return Climb {
-                first,
-                second,
-                divergence,
-            };
-        }
+        let (first_beside, second_beside) = (first_beside.copied(), second_beside.copied());
+        let (first, second) = if right {
+            ((first_beside, self.first), (second_beside, self.second))
+        } else {
+            ((self.first, first_beside), (self.second, second_beside))
+        };
+        prove_eq!(first.0.len(), second.0.len());
         Climb {
-            first,
-            second,
-            divergence: Divergence::Branch {
-                first_left,
-                first_right,
-                second_left,
-                second_right,
+            first: hash_branch(&first.0, &first.1),
+            second: hash_branch(&second.0, &second.1),
+            divergence: if first == second {
+                self.divergence
+            } else {
+                Divergence::Branch(Branches { first, second })
             },
         }
     }
-}
-
-// The two digests of a branch, with `near` on the right or on the left.
-fn left_and_right<D>(right: bool, near: Hash<D>, far: Hash<D>) -> (Hash<D>, Hash<D>)
-    ensures left { result.0 ≡ (if right then far else near) }
-    ensures right { result.1 ≡ (if right then near else far) }
-{
-    if right { (far, near) } else { (near, far) }
 }

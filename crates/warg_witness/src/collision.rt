@@ -1,11 +1,11 @@
 //! Collisions, and what a witness found.
 
-ghost use Rattle.std.specs.Prelude.{◌≡◌, ℕ, List, [], ◌∷◌, ◌++◌, IfOk};
-ghost use Rattle.warg_crypto.specs.Tree.{branch_input, leaf_input};
+ghost use Rattle.std.specs.Prelude.{◌≡◌, ℕ, List, IfOk};
+ghost use Rattle.warg_crypto.specs.Collisions.{Collides};
 
 use std::alloc::{AllocError, Allocator, Global};
 use std::marker::{Model, PhantomData};
-use warg_crypto::{Branch, Hash, Leaf, SupportedDigest, VisitBytes, bytes_of};
+use warg_crypto::{SupportedDigest, VisitBytes, bytes_of};
 
 /// Two byte strings that differ and have equal digests.
 #[derive(Drop)]
@@ -53,20 +53,25 @@ impl<D: SupportedDigest, A: Allocator> Eq for Collision<D, A> {
     ghost laws = { Prim.search (comparing, rules) };
 }
 
-impl<D: SupportedDigest, A: Allocator> Collision<D, A> {
-    pub(crate) fn new(first: Vec<u8, A>, second: Vec<u8, A>) -> Collision<D, A>
-        requires differ { first.items ≡ second.items → ⊥ }
-        requires same { D.digest first.items ≡ D.digest second.items }
-        ensures first { result.0 ≡ first.items }
-        ensures second { result.1 ≡ second.items }
+impl<D: SupportedDigest, A: Allocator + Copy> Collision<D, A> {
+    // The collision of two values, by their bytes.
+    pub(crate) fn of<V: VisitBytes, W: VisitBytes>(
+        alloc: A,
+        first: &V,
+        second: &W,
+    ) -> Result<Collision<D, A>, AllocError>
+        requires { Collides D.digest (V.bytes first.now, W.bytes second.now) }
+        ensures { IfOk result (λ c. c ≡ (V.bytes first.now, W.bytes second.now)) }
     {
-        Collision {
-            first,
-            second,
+        Ok(Collision {
+            first: bytes_of(alloc, first)?,
+            second: bytes_of(alloc, second)?,
             of: PhantomData,
-        }
+        })
     }
+}
 
+impl<D: SupportedDigest, A: Allocator> Collision<D, A> {
     /// The first byte string. It differs from the second one, and both have one digest.
     pub fn first(&self) -> &[u8]
         ensures value { result.now ≡ self.now.0 }
@@ -96,25 +101,4 @@ pub enum Finding<D: SupportedDigest, A: Allocator = Global> {
     NotMet,
     /// The claim is met and false.
     Collision(Collision<D, A>),
-}
-
-/// What the digest function takes at a leaf.
-pub(crate) fn leaf_bytes<V: VisitBytes, A: Allocator>(
-    alloc: A,
-    value: &V,
-) -> Result<Vec<u8, A>, AllocError>
-    ensures { IfOk result (λ bytes. bytes.items ≡ leaf_input (V.bytes value.now)) }
-{
-    bytes_of(alloc, &Leaf(value))
-}
-
-/// What the digest function takes at a branch.
-pub(crate) fn branch_bytes<D, A: Allocator>(
-    alloc: A,
-    left: &Hash<D>,
-    right: &Hash<D>,
-) -> Result<Vec<u8, A>, AllocError>
-    ensures { IfOk result (λ bytes. bytes.items ≡ branch_input left.now right.now) }
-{
-    bytes_of(alloc, &Branch(left, right))
 }

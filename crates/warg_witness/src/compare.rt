@@ -35,19 +35,6 @@ impl ByteVisitor for Window<'_> {
     }
 }
 
-// Whether a piece stands at a place of a value's bytes.
-fn stands_at<V: VisitBytes>(value: &V, place: usize, piece: &[u8]) -> bool
-    ensures { IsTrue result ↔ StandsAt place piece.now (V.bytes value.now) }
-{
-    let mut window = Window {
-        skip: place,
-        rest: piece,
-        same: true,
-    };
-    value.visit(&mut window);
-    window.same && window.rest.is_empty()
-}
-
 // Looks for the bytes that it takes at the front of another value's.
 #[derive(Drop)]
 struct Front<'a, V> {
@@ -68,10 +55,19 @@ impl<V: VisitBytes> ByteVisitor for Front<'_, V> {
         ↔ IsFront (m ++ more)) };
 
     fn visit_bytes(&mut self, bytes: &[u8]) {
+        if !self.same {
+            return;
+        }
         let Some(count) = self.count else {
             return;
         };
-        self.same = self.same && stands_at(self.of, count, bytes);
+        let mut window = Window {
+            skip: count,
+            rest: bytes,
+            same: true,
+        };
+        self.of.visit(&mut window);
+        self.same = window.same && window.rest.is_empty();
         self.count = count.checked_add(bytes.len());
     }
 }

@@ -27,6 +27,7 @@ use std::alloc::Allocator;
 use warg_crypto::SupportedDigest;
 
 /// A value's claim that is met and isn't true gives a collision.
+#[tactic(auto, using(crate::proofs::LawLemmas::value_collides))]
 pub fn value_or_collision()
     ensures { (H : List ℕ → List ℕ) (F : ℕ → Option (List ℕ)) (proof : InclusionClaim)
         (value : List ℕ)
@@ -36,6 +37,7 @@ pub fn value_or_collision()
 {}
 
 /// A hash's claim that is met and isn't true gives a collision.
+#[tactic(auto, using(crate::proofs::LawLemmas::hash_collides))]
 pub fn hash_or_collision()
     ensures { (H : List ℕ → List ℕ) (F : ℕ → Option (List ℕ)) (proof : InclusionClaim)
         (hash : List ℕ)
@@ -45,6 +47,7 @@ pub fn hash_or_collision()
 {}
 
 /// Two different values that lead to one root over two data give a collision.
+#[tactic(auto, using(crate::proofs::LawLemmas::agreement_collides))]
 pub fn agreement_or_collision()
     ensures { (H : List ℕ → List ℕ) (proof : InclusionClaim)
         (F : ℕ → Option (List ℕ)) (value : List ℕ)
@@ -62,7 +65,7 @@ pub fn consistency_or_collision()
 {}
 
 /// Two different values that two proofs of one key lead to one root give a collision.
-#[tactic(auto, using(crate::proofs::KeyLawLemmas::key_agreement_collides))]
+#[tactic(auto, using(crate::proofs::LawLemmas::key_agreement_collides))]
 pub fn key_agreement_or_collision()
     ensures { (H : List ℕ → List ℕ) (key : List ℕ) (peers : List (Option (List ℕ))) (value : List ℕ)
         (other_peers : List (Option (List ℕ))) (other : List ℕ) → GivesHashes H → HoldsPeers peers
@@ -72,7 +75,7 @@ pub fn key_agreement_or_collision()
 {}
 
 /// A key's claim that is met and isn't true gives a collision.
-#[tactic(auto, using(crate::proofs::KeyLawLemmas::key_collides))]
+#[tactic(auto, using(crate::proofs::LawLemmas::key_collides))]
 pub fn key_or_collision()
     ensures { (H : List ℕ → List ℕ) (peers : List (Option (List ℕ))) (key value : List ℕ)
         (insertions : List (List ℕ × List ℕ)) → GivesHashes H → HoldsPeers peers
@@ -81,7 +84,7 @@ pub fn key_or_collision()
 {}
 
 /// An absence's claim that is met and isn't true gives a collision.
-#[tactic(auto, using(crate::proofs::KeyLawLemmas::key_collides), unfolding(warg_crypto::specs::EmptyTrees::empty_root))]
+#[tactic(auto, using(crate::proofs::LawLemmas::key_collides), unfolding(warg_crypto::specs::EmptyTrees::empty_root))]
 pub fn absence_or_collision()
     ensures { (H : List ℕ → List ℕ) (peers : List (Option (List ℕ))) (key : List ℕ)
         (insertions : List (List ℕ × List ℕ)) → GivesHashes H → HoldsPeers peers
@@ -90,7 +93,7 @@ pub fn absence_or_collision()
 {}
 
 /// An update's claim that is met and isn't true gives a collision.
-#[tactic(auto, using(crate::proofs::UpdateLawLemmas::update_collides))]
+#[tactic(auto, using(crate::proofs::LawLemmas::update_collides))]
 pub fn update_or_collision()
     ensures { (H : List ℕ → List ℕ) (peers : List (Option (List ℕ)))
         (key old_value new_value : List ℕ)
@@ -102,7 +105,7 @@ pub fn update_or_collision()
 /// Steps that lead from the empty map's root to another end at the root of the map of exactly these insertions, in their
 /// order, or two byte strings collide at one of the steps. So whoever checks each step knows that nothing else was
 /// inserted, changed or removed.
-#[tactic(auto, using(crate::proofs::UpdateLawLemmas::steps_end))]
+#[tactic(auto, using(crate::proofs::LawLemmas::steps_end))]
 pub fn steps_or_collision()
     ensures { (H : List ℕ → List ℕ) (steps : List Step) (root : List ℕ) → GivesHashes H
         → AllByRecursion (λ s. HoldsPeers s.peers) steps

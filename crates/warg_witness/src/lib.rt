@@ -8,9 +8,9 @@
 #![tactic(auto)]
 
 mod climb;
-mod collide;
 mod collision;
 mod compare;
+mod divergence;
 pub mod laws;
 mod log;
 mod map;

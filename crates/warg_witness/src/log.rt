@@ -1,31 +1,24 @@
 //! Witnesses for the log's proofs.
 
-ghost use Rattle.std.specs.Prelude.{◌≡◌, ◌≢◌, ℕ, ◌+◌, ◌^◌, ◌≤◌, ◌↔◌, List, [], ◌∷◌, length, map, None, Ok, Err, IfOk, IsTrue, MatchOption};
-ghost use Rattle.warg_crypto.specs.Tree.{leaf_input, leaf_digest};
+ghost use Rattle.std.specs.Prelude.{◌≡◌, ◌≢◌, ◌+◌, length, map, None, Ok, Err, IfOk, MatchOption};
+ghost use Rattle.warg_crypto.specs.Tree.{leaf_digest};
 ghost use Rattle.warg_log.specs.Inclusion.{inclusion};
 ghost use Rattle.warg_log.specs.declared.proof.InclusionProofError.{InclusionProofError};
-ghost use Rattle.warg_log.specs.Tree.{leaves_of};
-ghost use Rattle.warg_witness.specs.Private.Ranges.{IsNodeRange};
-ghost use Rattle.warg_witness.specs.Private.Compared.{IsAt};
-ghost use Rattle.warg_witness.specs.Inputs.{plain_input};
 ghost use Rattle.warg_witness.specs.Findings.{Finds};
 ghost use Rattle.warg_witness.specs.Claims.{IsMet, IsEntry, IsRootBelow, IsAgreement};
 ghost use Rattle.warg_witness.specs.Placed.{IsValuePlaced, IsHashPlaced, IsAgreementPlaced};
-ghost use Rattle.warg_crypto.specs.Collisions.{Collides};
-ghost use Rattle.warg_witness.specs.Private.Divergence.{DivergesAtBranch, inputs_of};
 ghost use Rattle.warg_witness.specs.Private.Meeting.{IsMeeting};
 
 mod consistency;
 
-use crate::climb::Divergence;
-use crate::collide::{collide_branch, collide_values};
-use crate::collision::{Collision, Finding, leaf_bytes};
+use crate::collision::Finding;
 use crate::compare::have_same_bytes;
-use crate::plain::{plain_bytes, plain_digest, plain_tree};
+use crate::divergence::Divergence;
+use crate::plain::{plain_digest, plain_tree};
 use crate::ranges::meet_ranges;
 pub use consistency::witness_consistency;
 use std::alloc::{AllocError, Allocator};
-use warg_crypto::{Hash, SupportedDigest, VisitBytes, hash_leaf};
+use warg_crypto::{Branch, Hash, Leaf, SupportedDigest, VisitBytes, hash_leaf};
 use warg_log::{InclusionProof, LeafRange, LogData, VecLog};
 
 /// A proof whose evaluation leads to the root of the given entries.
@@ -81,47 +74,6 @@ fn meet_entries<D: SupportedDigest, V: VisitBytes, L: LogData<D, V>, A: Allocato
     }))
 }
 
-// Whether the claim of a value is true: the node is a leaf, and its entry has the value's bytes.
-fn is_entry<D: SupportedDigest, V: VisitBytes, A: Allocator>(
-    met: &Meeting<D, V, A>,
-    value: &V,
-    entries: &[V],
-) -> Result<bool, AllocError>
-    requires { met.now.target.start + met.now.target.count ≤ length entries.now }
-    ensures { IfOk result (λ is. IsTrue is ↔ IsAt (V.bytes value.now)
-        (map V.bytes entries.now) met.now.target.start met.now.target.count) }
-{
-    if met.target.count != 1 {
-        return Ok(false);
-    }
-    have_same_bytes(value, &entries[met.target.start])
-}
-
-// The collision that a false claim of a value shows: where the evaluation diverges from the tree, or at the node.
-fn collide<D: SupportedDigest, V: VisitBytes, A: Allocator + Copy>(
-    alloc: A,
-    met: &Meeting<D, V, A>,
-    value: &V,
-    entries: &[V],
-) -> Result<Collision<D, A>, AllocError>
-    requires tree { met.now.tree ≡ leaves_of D.digest (map V.bytes entries.now) }
-    requires node { IsNodeRange met.now.target.start met.now.target.count }
-    requires within { met.now.target.start + met.now.target.count ≤ length entries.now }
-    requires collides { Collides D.digest (inputs_of met.now.divergence
-        (leaf_input (V.bytes value.now)) (plain_input D.digest
-        (map V.bytes entries.now) met.now.target.start met.now.target.count)) }
-    ensures { IfOk result (λ c. c ≡ inputs_of met.now.divergence (leaf_input (V.bytes value.now))
-        (plain_input D.digest
-        (map V.bytes entries.now) met.now.target.start met.now.target.count)) }
-{
-    if !met.divergence.is_target() {
-        return collide_branch(alloc, &met.divergence);
-    }
-    let first = leaf_bytes(alloc, value)?;
-    let second = plain_bytes(alloc, &met.tree, entries, &met.target)?;
-    Ok(Collision::new(first, second))
-}
-
 /// Whether a proof's claim about a value is true of the entries: the node is a leaf, and its entry has the
 /// value's bytes.
 ///
@@ -140,6 +92,7 @@ fn collide<D: SupportedDigest, V: VisitBytes, A: Allocator + Copy>(
 ///     Finding::Holds | Finding::NotMet => (),
 /// }
 /// ```
+#[tactic(auto, using(crate::proofs::RangeLemmas::beside_aligned))]
 pub fn witness_value<D: SupportedDigest, V: VisitBytes, L: LogData<D, V>, A: Allocator + Copy>(
     alloc: A,
     proof: &InclusionProof<D, V>,
@@ -162,10 +115,22 @@ pub fn witness_value<D: SupportedDigest, V: VisitBytes, L: LogData<D, V>, A: All
     let Some(met) = meet_entries(alloc, proof, hashes, &hash, entries)? else {
         return Ok(Finding::NotMet);
     };
-    if is_entry(&met, value, entries)? {
+    let target = met.target;
+    if target.count != 1 {
+        let (front, rest) = target.split();
+        let left = plain_digest(&met.tree, &front);
+        let right = plain_digest(&met.tree, &rest);
+        let pair = met
+            .divergence
+            .collide(alloc, &Leaf(value), &Branch(&left, &right))?;
+        return Ok(Finding::Collision(pair));
+    }
+    let entry = &entries[target.start];
+    if have_same_bytes(value, entry)? {
         return Ok(Finding::Holds);
     }
-    Ok(Finding::Collision(collide(alloc, &met, value, entries)?))
+    let pair = met.divergence.collide(alloc, &Leaf(value), &Leaf(entry))?;
+    Ok(Finding::Collision(pair))
 }
 
 /// Whether a proof's claim about a hash is true of the entries: the hash is the root of the entries below
@@ -198,10 +163,13 @@ pub fn witness_hash<D: SupportedDigest, V: VisitBytes, L: LogData<D, V>, A: Allo
     let Some(met) = meet_entries(alloc, proof, hashes, &hash, entries)? else {
         return Ok(Finding::NotMet);
     };
+    let Divergence::Branch(branches) = &met.divergence else {
+        return Ok(Finding::Holds);
+    };
     if hash == met.plain {
         return Ok(Finding::Holds);
     }
-    Ok(Finding::Collision(collide_branch(alloc, &met.divergence)?))
+    Ok(Finding::Collision(branches.collide(alloc)?))
 }
 
 /// Whether two evaluations of one proof, over two data and with two values, that lead to one root, whichever
@@ -262,6 +230,6 @@ pub fn agree_value<
     if have_same_bytes(first_value, second_value)? {
         return Ok(Finding::Holds);
     }
-    let pair = collide_values(alloc, &divergence, first_value, second_value)?;
+    let pair = divergence.collide(alloc, &Leaf(first_value), &Leaf(second_value))?;
     Ok(Finding::Collision(pair))
 }

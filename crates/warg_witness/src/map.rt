@@ -9,7 +9,6 @@ ghost use Rattle.warg_witness.specs.MapClaims.{value_in, IsKeyMet, IsAbsenceMet,
 ghost use Rattle.warg_witness.specs.MapPlaced.{IsKeyPlaced, IsKeyAgreementPlaced};
 ghost use Rattle.warg_witness.specs.Private.MapMeeting.{IsKeyMeeting};
 ghost use Rattle.warg_witness.specs.Private.MapPaths.{IsLastPlace};
-ghost use Rattle.warg_crypto.specs.Collisions.{Collides};
 
 mod empty;
 mod keys;
@@ -18,17 +17,16 @@ mod path;
 mod tree;
 mod update;
 
-use crate::climb::Divergence;
-use crate::collide::{collide_branch, collide_values};
 use crate::collision::{Collision, Finding};
 use crate::compare::have_same_bytes;
+use crate::divergence::Divergence;
 use empty::empty_trees;
 use last::is_last_value;
 use path::{Evaluation, meet_on_path};
 use std::alloc::{AllocError, Allocator};
 use tree::plain_path;
 pub use update::witness_update;
-use warg_crypto::{Hash, SupportedDigest, VisitBytes, bytes_of, hash_leaf};
+use warg_crypto::{Hash, Leaf, SupportedDigest, VisitBytes, hash_leaf};
 use warg_map::Proof;
 
 // A proof that leads to the plain root of given insertions.
@@ -99,20 +97,6 @@ fn meet_insertions<
     }))
 }
 
-// The collision of two keys of one digest.
-fn collide_keys<D: SupportedDigest, K: VisitBytes, A: Allocator + Copy>(
-    alloc: A,
-    claimed: &K,
-    inserted: &K,
-) -> Result<Collision<D, A>, AllocError>
-    requires { Collides D.digest (K.bytes claimed.now, K.bytes inserted.now) }
-    ensures { IfOk result (λ c. c ≡ (K.bytes claimed.now, K.bytes inserted.now)) }
-{
-    let first = bytes_of(alloc, claimed)?;
-    let second = bytes_of(alloc, inserted)?;
-    Ok(Collision::new(first, second))
-}
-
 // The collision that a false claim of a key shows: where the evaluation diverges from the plain tree, at the leaf, or
 // the key with another one of its digest.
 fn collide<D: SupportedDigest, K: VisitBytes, V: VisitBytes, W: VisitBytes, A: Allocator + Copy>(
@@ -133,17 +117,17 @@ fn collide<D: SupportedDigest, K: VisitBytes, V: VisitBytes, W: VisitBytes, A: A
         → IsKeyPlaced D.digest peers (W.bytes value.now) (K.bytes key.now)
         (pair_bytes K.bytes V.bytes insertions.now) c.0 c.1) }
 {
-    if !met.divergence.is_target() {
-        return collide_branch(alloc, &met.divergence);
+    if let Divergence::Branch(branches) = &met.divergence {
+        return branches.collide(alloc);
     }
     let Some(place) = met.last else {
-        return collide_values(alloc, &met.divergence, value, &());
+        return Collision::of(alloc, &Leaf(value), &Leaf(&()));
     };
     let (inserted, last) = &insertions[place];
     if have_same_bytes(value, last)? {
-        return collide_keys(alloc, key, inserted);
+        return Collision::of(alloc, key, inserted);
     }
-    collide_values(alloc, &met.divergence, value, last)
+    Collision::of(alloc, &Leaf(value), &Leaf(last))
 }
 
 // What a proof's peers and a value, or no bytes, show of a key.
@@ -282,6 +266,6 @@ pub fn agree_key<
     if have_same_bytes(first_value, second_value)? {
         return Ok(Finding::Holds);
     }
-    let pair = collide_values(alloc, &divergence, first_value, second_value)?;
+    let pair = divergence.collide(alloc, &Leaf(first_value), &Leaf(second_value))?;
     Ok(Finding::Collision(pair))
 }

@@ -16,16 +16,15 @@ mod climbing;
 mod growth;
 mod tree;
 
-use crate::climb::Divergence;
-use crate::collide::collide_values;
 use crate::collision::Finding;
 use crate::compare::have_same_bytes;
+use crate::divergence::Divergence;
 use crate::plain::{plain_digest, plain_tree};
 pub use agreement::agree_record;
 use climbing::meet_paths;
 use std::alloc::{AllocError, Allocator};
 pub use tree::witness_tree;
-use warg_crypto::{Hash, SupportedDigest, VisitBytes, hash_leaf};
+use warg_crypto::{Hash, Leaf, SupportedDigest, VisitBytes, hash_leaf};
 use warg_log::{LeafRange, VecLog};
 use warg_paths::{PathError, inclusion_path, root_of_inclusion};
 
@@ -126,6 +125,6 @@ pub fn witness_record<D: SupportedDigest, V: VisitBytes, A: Allocator + Copy>(
         return Ok(Finding::Holds);
     }
     let divergence = divergence_from_tree(alloc, index, path, &leaf, &tree)?;
-    let pair = collide_values(alloc, &divergence, value, entry)?;
+    let pair = divergence.collide(alloc, &Leaf(value), &Leaf(entry))?;
     Ok(Finding::Collision(pair))
 }

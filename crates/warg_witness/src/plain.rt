@@ -3,9 +3,7 @@
 ghost use Rattle.std.specs.Prelude.{◌≡◌, ℕ, ◌+◌, ◌^◌, ◌<◌, ◌≤◌, List, length, map, IfOk};
 ghost use Rattle.warg_log.specs.Tree.{leaves_of, root_of, root_over};
 ghost use Rattle.warg_log.specs.Ranges.{IsAligned};
-ghost use Rattle.warg_witness.specs.Inputs.{plain_input};
 
-use crate::collision::{branch_bytes, leaf_bytes};
 use std::alloc::{AllocError, Allocator};
 use warg_crypto::{Hash, SupportedDigest, VisitBytes};
 use warg_log::{LeafRange, VecLog, push_all, stored_root};
@@ -38,29 +36,4 @@ pub(crate) fn plain_digest<D: SupportedDigest, V: VisitBytes, A: Allocator>(
         Some(digest) => digest,
         None => unreachable!(),
     }
-}
-
-/// What the digest function takes at a range of the tree over the entries.
-#[tactic(auto, using(crate::proofs::RangeLemmas::beside_aligned))]
-pub(crate) fn plain_bytes<D: SupportedDigest, V: VisitBytes, A: Allocator + Copy>(
-    alloc: A,
-    tree: &VecLog<D, V, A>,
-    entries: &[V],
-    range: &LeafRange,
-) -> Result<Vec<u8, A>, AllocError>
-    requires tree { tree.now ≡ leaves_of D.digest (map V.bytes entries.now) }
-    requires aligned { IsAligned range.now.start range.now.count }
-    requires within { range.now.start + range.now.count ≤ length entries.now }
-    ensures { IfOk result (λ bytes. bytes.items
-        ≡ plain_input D.digest (map V.bytes entries.now) range.now.start range.now.count) }
-{
-    if range.count == 1 {
-        return leaf_bytes(alloc, &entries[range.start]);
-    }
-    let (front, rest) = range.split();
-    branch_bytes(
-        alloc,
-        &plain_digest(tree, &front),
-        &plain_digest(tree, &rest),
-    )
 }

@@ -7,13 +7,14 @@ ghost use Rattle.warg_witness.specs.Private.RangeClimbs.{LackDigest, IsRangeClim
 ghost use Rattle.warg_witness.specs.Private.Ranges.{IsNodeRange, AreSides};
 ghost use Rattle.warg_witness.specs.Ranges.{IsAround};
 
-use crate::climb::{Climb, Divergence};
+use crate::climb::Climb;
+use crate::divergence::Divergence;
 use warg_crypto::{Hash, SupportedDigest, VisitBytes};
 use warg_log::{LeafRange, LogData, range_root};
 
-// The part of a larger range that has the target, the part beside it, and whether the first is the one on the right.
+/// The part of a larger range that has the target, the part beside it, and whether the first is the one on the right.
 #[tactic(auto, using(crate::proofs::RangeLemmas::beside_aligned))]
-fn sides_around(target: &LeafRange, range: &LeafRange) -> (LeafRange, LeafRange, bool)
+pub(crate) fn sides_around(target: &LeafRange, range: &LeafRange) -> (LeafRange, LeafRange, bool)
     requires node { IsNodeRange target.now.start target.now.count }
     requires aligned { IsAligned range.now.start range.now.count }
     requires around { IsAround target.now.start target.now.count range.now.start range.now.count }

@@ -8,8 +8,8 @@ ghost use Rattle.warg_log.specs.Ranges.{IsAligned};
 ghost use Rattle.warg_witness.specs.Private.Compared.{IsFirstDifference};
 ghost use Rattle.warg_witness.specs.Private.Divergence.{IsDivergence};
 
-use crate::climb::Divergence;
 use crate::compare::have_same_bytes;
+use crate::divergence::Divergence;
 use crate::plain::plain_digest;
 use crate::ranges::meet_ranges;
 use std::alloc::{AllocError, Allocator};

@@ -7,7 +7,7 @@ use Rattle.warg_map.specs.Sparse.{map_of}
 use Rattle.warg_map.specs.Last.{last_under}
 use Rattle.warg_witness.specs.MapClaims.{value_in, IsKeyMet}
 use Rattle.warg_witness.specs.Private.MapPaths.{IsPathDivergence, IsLastPlace, plain_peers}
-use Rattle.warg_witness.specs.declared.climb.Divergence.{Divergence}
+use Rattle.warg_witness.specs.declared.divergence.Divergence.{Divergence}
 
 -- The claim of a key is met; the evaluation diverges from the plain tree as said on the way to the key's leaf; and
 -- the last insertion under the key's digest stands at the place.

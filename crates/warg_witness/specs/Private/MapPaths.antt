@@ -8,13 +8,12 @@ use Rattle.warg_map.specs.Bits.{key_bits}
 use Rattle.warg_map.specs.Sparse.{root_of_levels}
 use Rattle.warg_map.specs.Last.{last_under}
 use Rattle.warg_map.specs.ProofValue.{proof_value}
-use Rattle.warg_crypto.specs.Tree.{branch_input}
 use Rattle.warg_witness.specs.MapInputs.{fork_input}
-use Rattle.warg_witness.specs.declared.climb.Divergence.{Divergence}
-use Rattle.warg_witness.specs.declared.climb.Divergence.TheVariants.{Target, Branch}
+use Rattle.warg_witness.specs.declared.divergence.Divergence.{Divergence}
+use Rattle.warg_witness.specs.Private.Divergence.{Parts}
 
--- At a branch on the way along the bits, the inputs of the evaluations by the peers P from the leaf digest x and
--- by Q from y differ and have one digest.
+-- The inputs of the evaluations by the peers P from the leaf digest x and by Q from y, at a branch on the way along the
+-- bits.
 pub record DivergesOnPath (H : List ℕ → List ℕ) (P : List (Option (List ℕ))) (x : List ℕ) (Q : List (Option (List ℕ))) (y : List ℕ) (bits : List Bool) (first second : List ℕ) : Type 0 where
   pub above : List Bool
   pub bit : Bool
@@ -22,8 +21,6 @@ pub record DivergesOnPath (H : List ℕ → List ℕ) (P : List (Option (List �
   pub split : bits ≡ above ++ bit ∷ below
   pub first_input : first ≡ fork_input H P x bit below
   pub second_input : second ≡ fork_input H Q y bit below
-  pub differ : first ≡ second → ⊥
-  pub same : H first ≡ H second
 
 -- The two evaluations have one leaf digest, and one digest at each place beside the bits: from any one leaf digest both
 -- lead to one value.
@@ -31,11 +28,9 @@ pub record DivergesNowhere (H : List ℕ → List ℕ) (P : List (Option (List �
   pub same : x ≡ y
   pub beside : (leaf : List ℕ) → proof_value H P leaf bits ≡ proof_value H Q leaf bits
 
--- The two evaluations diverge nowhere, or they diverge at a branch.
+-- The two evaluations diverge nowhere, or they diverge at such a branch.
 abbrev pub IsPathDivergence : {D : _} → (List ℕ → List ℕ) → List (Option (List ℕ)) → List ℕ → List (Option (List ℕ)) → List ℕ → List Bool → Divergence D → Type 0
-IsPathDivergence H P x Q y bits Target = DivergesNowhere H P x Q y bits
-IsPathDivergence H P x Q y bits (Branch first_left first_right second_left second_right) =
-    DivergesOnPath H P x Q y bits (branch_input first_left first_right) (branch_input second_left second_right)
+IsPathDivergence H P x Q y bits p = Parts H (DivergesOnPath H P x Q y bits) (DivergesNowhere H P x Q y bits) p
 
 -- Two evaluations as far as these bits, up from the leaf: both values, and, where they are one, where they diverge.
 pub record IsClimb {D : _} (H : List ℕ → List ℕ) (P : List (Option (List ℕ))) (x : List ℕ) (Q : List (Option (List ℕ))) (y : List ℕ) (bits : List Bool) (first second : List ℕ) (divergence : Divergence D) : Type 0 where

@@ -4,16 +4,15 @@ use Rattle.std.specs.Prelude.{◌≡◌, ℕ, ◌+◌, List, [], ◌∷◌, leng
 use Rattle.warg_log.specs.Tree.{own_digest}
 use Rattle.warg_log.specs.Cut.{old_over}
 use Rattle.warg_paths.specs.Paths.{inclusion_of, inclusion_root, root_down}
-use Rattle.warg_crypto.specs.Tree.{branch_input}
 use Rattle.warg_witness.specs.PathPlaced.{IsOnWay, turn_input}
-use Rattle.warg_witness.specs.declared.climb.Divergence.{Divergence}
-use Rattle.warg_witness.specs.declared.climb.Divergence.TheVariants.{Target, Branch}
+use Rattle.warg_witness.specs.declared.divergence.Divergence.{Divergence}
+use Rattle.warg_witness.specs.Private.Divergence.{Parts}
 
 -- One of two paths leads to no digest over n leaves, the first from the digest x of leaf m and the second from y.
 abbrev pub LeadNowhere : (List ℕ → List ℕ) → List ℕ → List (List ℕ) → List ℕ → List (List ℕ) → ℕ → ℕ → Type 0
 LeadNowhere H x digests y other_digests m n = (first second : List ℕ) → root_down H m n x digests ≡ Some first → root_down H m n y other_digests ≡ Some second → ⊥
 
--- At a range of more than one leaf on the way, the two evaluations' inputs differ and have one digest.
+-- The two evaluations' inputs at a range of more than one leaf on the way.
 pub record PathsDiverge (H : List ℕ → List ℕ) (x : List ℕ) (digests₀ : List (List ℕ)) (y : List ℕ) (other_digests₀ : List (List ℕ)) (m₀ a₀ n₀ : ℕ) (first second : List ℕ) : Type 0 where
   pub leaf : ℕ
   pub from : ℕ
@@ -26,8 +25,6 @@ pub record PathsDiverge (H : List ℕ → List ℕ) (x : List ℕ) (digests₀ :
   pub other_on_way : IsOnWay m₀ a₀ n₀ other_digests₀ leaf from count (other_top ∷ other_below)
   pub first_evaluation : turn_input H x leaf count top below ≡ Some first
   pub second_evaluation : turn_input H y leaf count other_top other_below ≡ Some second
-  pub differ : first ≡ second → ⊥
-  pub same : H first ≡ H second
 
 -- The two evaluations have one digest at the leaf at a place, where no digests are left.
 pub record PathsMeet (x : List ℕ) (digests₀ : List (List ℕ)) (y : List ℕ) (other_digests₀ : List (List ℕ)) (m₀ a₀ n₀ place : ℕ) : Type 0 where
@@ -35,11 +32,9 @@ pub record PathsMeet (x : List ℕ) (digests₀ : List (List ℕ)) (y : List ℕ
   pub other_on_way : IsOnWay m₀ a₀ n₀ other_digests₀ 0 place 1 []
   pub same : x ≡ y
 
--- They diverge nowhere, and have one digest at the leaf, or they diverge at a branch.
+-- They diverge nowhere, and have one digest at the leaf, or they diverge at such a range.
 abbrev pub PathsPart : {D : _} → (List ℕ → List ℕ) → List ℕ → List (List ℕ) → List ℕ → List (List ℕ) → ℕ → ℕ → ℕ → ℕ → Divergence D → Type 0
-PathsPart H x digests₀ y other_digests₀ m₀ a₀ n₀ place Target = PathsMeet x digests₀ y other_digests₀ m₀ a₀ n₀ place
-PathsPart H x digests₀ y other_digests₀ m₀ a₀ n₀ place (Branch first_left first_right second_left second_right) =
-    PathsDiverge H x digests₀ y other_digests₀ m₀ a₀ n₀ (branch_input first_left first_right) (branch_input second_left second_right)
+PathsPart H x digests₀ y other_digests₀ m₀ a₀ n₀ place p = Parts H (PathsDiverge H x digests₀ y other_digests₀ m₀ a₀ n₀) (PathsMeet x digests₀ y other_digests₀ m₀ a₀ n₀ place) p
 
 -- So of each way on which the n leaves from a on are, by both paths.
 abbrev pub IsPathsDivergence : {D : _} → (List ℕ → List ℕ) → List ℕ → List (List ℕ) → List ℕ → List (List ℕ) → ℕ → ℕ → ℕ → Divergence D → Type 0

@@ -3,7 +3,7 @@ use Rattle.std.specs.Prelude.{◌≡◌, ℕ, List, Option, Some}
 use Rattle.warg_log.specs.Ranges.{leaves_from}
 use Rattle.warg_log.specs.Cut.{with_target, cut_over}
 use Rattle.warg_witness.specs.Private.Divergence.{HaveOneDigest, IsDivergence}
-use Rattle.warg_witness.specs.declared.climb.Divergence.{Divergence}
+use Rattle.warg_witness.specs.declared.divergence.Divergence.{Divergence}
 
 -- One of the two evaluations has no digest at a range.
 abbrev pub LackDigest : (List ℕ → List ℕ) → (ℕ → Option (List ℕ)) → List ℕ → (ℕ → Option (List ℕ)) → List ℕ → ℕ → ℕ → ℕ → ℕ → Type 0

@@ -3,14 +3,11 @@
 use Rattle.std.specs.Prelude.{◌≡◌, ℕ, ◌<◌, ◌≤◌, ◌^◌, List, [], ◌∷◌, length, reverse, Option, Some, slice_index_or}
 use Rattle.warg_log.specs.Tree.{leaves_of, root_of, root_over}
 use Rattle.warg_paths.specs.Paths.{roots_down}
-use Rattle.warg_crypto.specs.Tree.{branch_input}
 use Rattle.warg_witness.specs.PathClaims.{IsTreeMet}
 use Rattle.warg_witness.specs.Ranges.{IsPart, IsAround}
 use Rattle.warg_witness.specs.TreePlaced.{IsOnGrowth, IsTreePlaced}
-use Rattle.warg_crypto.specs.Collisions.{Collides}
-use Rattle.warg_witness.specs.Private.Divergence.{inputs_of}
-use Rattle.warg_witness.specs.declared.climb.Divergence.{Divergence}
-use Rattle.warg_witness.specs.declared.climb.Divergence.TheVariants.{Target, Branch}
+use Rattle.warg_witness.specs.Private.Divergence.{Parts, Shows, inputs_of}
+use Rattle.warg_witness.specs.declared.divergence.Divergence.{Divergence}
 
 -- The path leads from the root of the tree over the old entries to the roots of both trees, which can be numbered.
 pub record IsTreeMeeting (H : List ℕ → List ℕ) (path old new old_tree new_tree : List (List ℕ)) : Type 0 where
@@ -33,22 +30,16 @@ pub record IsOnWayOver (H : List ℕ → List ℕ) (path old new old_tree new_tr
   pub differ : slice_index_or old place [] ≡ slice_index_or new place [] → ⊥
   pub on_way : IsOnGrowth (Some (root_of H (leaves_of H old))) (length old) (length new) (reverse path) known m a n digests
 
--- A pair of byte lists collides, and stands where a path shows collisions.
-pub record IsTreeShown (H : List ℕ → List ℕ) (path old new : List (List ℕ)) (pair : List ℕ × List ℕ) : Type 0 where
-  pub collides : Collides H pair
-  pub placed : IsTreePlaced H path old new pair.0 pair.1
-
 -- Of all entries and all paths for which it is such a range, the divergence shows a collision, or both entries do.
 abbrev pub IsTreeDivergence : {D : _} → (List ℕ → List ℕ) → List (List ℕ) → List (List ℕ) → ℕ → Option (List ℕ) → ℕ → ℕ → ℕ → List (List ℕ) → Divergence D → Type 0
 IsTreeDivergence H old_tree new_tree place known m a n digests p = (path old new : List (List ℕ)) → IsOnWayOver H path old new old_tree new_tree place known m a n digests
-    → IsTreeShown H path old new (inputs_of p (0 ∷ slice_index_or old place []) (0 ∷ slice_index_or new place []))
+    → Shows H (IsTreePlaced H path old new) (inputs_of p (0 ∷ slice_index_or old place []) (0 ∷ slice_index_or new place []))
 
 -- An evaluation and a tree go up together from one digest, or diverge at a branch, which of all such entries and paths
 -- shows a collision.
 abbrev pub PartsOnGrowth : {D : _} → (List ℕ → List ℕ) → List (List ℕ) → List (List ℕ) → ℕ → Option (List ℕ) → ℕ → ℕ → ℕ → List (List ℕ) → List ℕ → List ℕ → Divergence D → Type 0
-PartsOnGrowth H old_tree new_tree place known m a n digests x y Target = x ≡ y
-PartsOnGrowth H old_tree new_tree place known m a n digests x y (Branch l r l' r') =
-    (path old new : List (List ℕ)) → IsOnWayOver H path old new old_tree new_tree place known m a n digests → IsTreeShown H path old new (branch_input l r, branch_input l' r')
+PartsOnGrowth H old_tree new_tree place known m a n digests x y p =
+    Parts H (λ first second. (path old new : List (List ℕ)) → IsOnWayOver H path old new old_tree new_tree place known m a n digests → IsTreePlaced H path old new first second) (x ≡ y) p
 
 -- What is left of a path leads to the roots o and v of the first m of the n leaves from a on and of all, where those of
 -- the trees are o' and v'. The k leaves from b on, with the place, are a range of both, and where o is o' the evaluation

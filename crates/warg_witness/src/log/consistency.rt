@@ -12,18 +12,16 @@ ghost use Rattle.warg_witness.specs.Private.Ranges.{IsNodeRange};
 ghost use Rattle.warg_witness.specs.Findings.{Finds};
 ghost use Rattle.warg_witness.specs.Claims.{Begins, IsConsistencyMet};
 ghost use Rattle.warg_witness.specs.Placed.{IsConsistencyPlaced};
-ghost use Rattle.warg_witness.specs.Private.Compared.{DiffersFirst};
 ghost use Rattle.warg_witness.specs.Private.Divergence.{IsDivergence};
-ghost use Rattle.warg_witness.specs.Private.Meeting.{IsConsistencyMeeting, LeadsToBoth};
+ghost use Rattle.warg_witness.specs.Private.Meeting.{IsConsistencyDivergence, IsConsistencyMeeting, LeadsToBoth};
 
-use crate::climb::Divergence;
-use crate::collide::collide_branch;
-use crate::collision::{Collision, Finding, leaf_bytes};
+use crate::collision::Finding;
+use crate::divergence::Divergence;
 use crate::plain::{plain_digest, plain_tree};
 use crate::ranges::meet_ranges;
 use crate::trees::{Trees, divergence_below, first_difference};
 use std::alloc::{AllocError, Allocator};
-use warg_crypto::{Hash, SupportedDigest, VisitBytes};
+use warg_crypto::{Hash, Leaf, SupportedDigest, VisitBytes};
 use warg_log::{ConsistencyProof, LeafRange, LogData, Node, VecLog};
 
 // Whether the entries are as many as the proof's lengths say.
@@ -58,8 +56,6 @@ fn meet_trees<D: SupportedDigest, V: VisitBytes, L: LogData<D, V>, A: Allocator 
         (λ trees. IsConsistencyMeeting D.digest
         (L.digest_at hashes.now) proof.now.old_length proof.now.new_length
         (map V.bytes old.now) (map V.bytes new.now) trees.old trees.new)) }
-    ensures fits { IfOk result (λ met. IfSome met
-        (λ _. (length old.now ≤ 2 ^ 63) × (length new.now ≤ 2 ^ 63))) }
 {
     if !have_lengths(proof, old, new) {
         return Ok(None);
@@ -82,7 +78,7 @@ fn meet_trees<D: SupportedDigest, V: VisitBytes, L: LogData<D, V>, A: Allocator 
 }
 
 // The balanced root of a range that has the leaf at `place`.
-#[tactic(auto, using(crate::proofs::RootLemmas::root_full, crate::proofs::RootLemmas::full_node, crate::proofs::RootLemmas::front_node, crate::proofs::RootLemmas::rest_aligned, crate::proofs::RootLemmas::root_rest))]
+#[tactic(auto, using(crate::proofs::RangeLemmas::root_full, crate::proofs::RangeLemmas::full_node, crate::proofs::RangeLemmas::front_node, crate::proofs::RangeLemmas::rest_aligned, crate::proofs::RangeLemmas::root_rest))]
 fn root_around(place: usize, range: &LeafRange) -> LeafRange
     requires starts { range.now.start ≤ place }
     requires ends { place < range.now.start + range.now.count }
@@ -149,42 +145,30 @@ fn divergence_from<D: SupportedDigest, V: VisitBytes, L: LogData<D, V>, A: Alloc
     }
 }
 
-// The collision that a difference at `place` shows: where the evaluation diverges from the old tree or from the
-// new one on the way to the balanced root of the old length that has the place, else where both trees diverge
-// below it, or at the entries themselves.
-fn collide_at<D: SupportedDigest, V: VisitBytes, L: LogData<D, V>, A: Allocator + Copy>(
-    alloc: A,
+// Where the evaluation diverges from the old tree or from the new one, on the way to the balanced root of the old
+// length that has the leaf at `place`, else where both trees diverge below it.
+fn divergence_at<D: SupportedDigest, V: VisitBytes, L: LogData<D, V>, A: Allocator>(
     hashes: &L,
     trees: &Trees<D, V, A>,
     place: usize,
-    old: &[V],
-    new: &[V],
-) -> Result<Collision<D, A>, AllocError>
-    requires fits { length new.now ≤ 2 ^ 63 }
-    requires met { IsConsistencyMeeting D.digest (L.digest_at hashes.now) (length old.now)
-        (length new.now) (map V.bytes old.now)
-        (map V.bytes new.now) trees.now.old trees.now.new }
-    requires differ { DiffersFirst (map V.bytes old.now)
-        (map V.bytes new.now) place }
-    ensures { IfOk result (λ c. IsConsistencyPlaced D.digest (L.digest_at hashes.now)
-        (map V.bytes old.now) (map V.bytes new.now) c.0 c.1) }
+) -> Divergence<D>
+    requires place { place < length trees.now.old }
+    requires fits { length trees.now.new ≤ 2 ^ 63 }
+    requires met { IsConsistent D.digest (L.digest_at hashes.now) (length trees.now.old)
+        (length trees.now.new) (root_of D.digest trees.now.old) (root_of D.digest trees.now.new) }
+    ensures { IsConsistencyDivergence D.digest (L.digest_at hashes.now) trees.now.old trees.now.new
+        place result }
 {
     let (root, hash) = held_root(hashes, trees, place);
     let from_old = divergence_from(hashes, &hash, &root, &trees.old);
-    if !from_old.is_target() {
-        return collide_branch(alloc, &from_old);
+    if let Divergence::Branch(_) = &from_old {
+        return from_old;
     }
     let from_new = divergence_from(hashes, &hash, &root, &trees.new);
-    if !from_new.is_target() {
-        return collide_branch(alloc, &from_new);
+    if let Divergence::Branch(_) = &from_new {
+        return from_new;
     }
-    let below = divergence_below(trees, &root, place);
-    if !below.is_target() {
-        return collide_branch(alloc, &below);
-    }
-    let first = leaf_bytes(alloc, &old[place])?;
-    let second = leaf_bytes(alloc, &new[place])?;
-    Ok(Collision::new(first, second))
+    divergence_below(trees, &root, place)
 }
 
 /// Whether a consistency proof's claim is true of the entries: the new entries begin with the old ones, byte
@@ -233,6 +217,7 @@ pub fn witness_consistency<
     let Some(place) = first_difference(&trees, old, new)? else {
         return Ok(Finding::Holds);
     };
-    let collision = collide_at(alloc, hashes, &trees, place, old, new)?;
-    Ok(Finding::Collision(collision))
+    let divergence = divergence_at(hashes, &trees, place);
+    let pair = divergence.collide(alloc, &Leaf(&old[place]), &Leaf(&new[place]))?;
+    Ok(Finding::Collision(pair))
 }

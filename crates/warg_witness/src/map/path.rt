@@ -6,7 +6,8 @@ ghost use Rattle.warg_map.specs.Bits.{bit_at, last_bits};
 ghost use Rattle.warg_map.specs.ProofValue.{peer_of, proof_value};
 ghost use Rattle.warg_witness.specs.Private.MapPaths.{MeetsOnPath};
 
-use crate::climb::{Climb, Divergence};
+use crate::climb::Climb;
+use crate::divergence::Divergence;
 use warg_crypto::{Hash, SupportedDigest};
 
 /// Bit `at` of a digest, from the most significant bit of its first byte.

@@ -7,8 +7,8 @@ ghost use Rattle.warg_witness.specs.MapClaims.{IsKeyMet};
 ghost use Rattle.warg_witness.specs.MapPlaced.{IsPlacedAtPrefix};
 ghost use Rattle.warg_witness.specs.UpdateClaims.{IsUpdated};
 
-use crate::collide::collide_branch;
 use crate::collision::Finding;
+use crate::divergence::Divergence;
 use crate::map::empty::empty_trees;
 use crate::map::path::{Evaluation, meet_on_path};
 use crate::map::plain_leaf;
@@ -63,6 +63,9 @@ pub fn witness_update<
     let Some(divergence) = meet_on_path(&digest, old, old_tree) else {
         return Ok(Finding::NotMet);
     };
+    let Divergence::Branch(branches) = &divergence else {
+        return Ok(Finding::Holds);
+    };
     let new = Evaluation {
         peers: proof.peers(),
         leaf: hash_leaf(new_value),
@@ -71,8 +74,8 @@ pub fn witness_update<
         peers: &plain.peers,
         leaf: hash_leaf(new_value),
     };
-    if divergence.is_target() || meet_on_path(&digest, new, new_tree).is_some() {
+    if meet_on_path(&digest, new, new_tree).is_some() {
         return Ok(Finding::Holds);
     }
-    Ok(Finding::Collision(collide_branch(alloc, &divergence)?))
+    Ok(Finding::Collision(branches.collide(alloc)?))
 }

@@ -6,11 +6,10 @@ ghost use Rattle.warg_witness.specs.PathClaims.{IsRecordAgreement};
 ghost use Rattle.warg_witness.specs.PathPlaced.{IsRecordAgreementPlaced};
 
 use super::climbing::meet_paths;
-use crate::collide::collide_values;
 use crate::collision::Finding;
 use crate::compare::have_same_bytes;
 use std::alloc::{AllocError, Allocator};
-use warg_crypto::{Hash, SupportedDigest, VisitBytes, hash_leaf};
+use warg_crypto::{Hash, Leaf, SupportedDigest, VisitBytes, hash_leaf};
 
 /// Whether two paths of the place `index`, from 0, of `length` entries, from two values, that lead to one root,
 /// whichever it is, are of the same value: for a client that holds no entries.
@@ -58,6 +57,6 @@ pub fn agree_record<D: SupportedDigest, V: VisitBytes, A: Allocator + Copy>(
     if have_same_bytes(first_value, second_value)? {
         return Ok(Finding::Holds);
     }
-    let pair = collide_values(alloc, &divergence, first_value, second_value)?;
+    let pair = divergence.collide(alloc, &Leaf(first_value), &Leaf(second_value))?;
     Ok(Finding::Collision(pair))
 }

@@ -1,28 +1,34 @@
 //! Two evaluations along inclusion paths of one place, side by side.
 
-ghost use Rattle.std.specs.Prelude.{ℕ, ◌^◌, ◌<◌, ◌≤◌, reverse, MatchOption};
+ghost use Rattle.std.specs.Prelude.{◌≡◌, ℕ, ◌-◌, ◌^◌, ◌<◌, ◌≤◌, reverse, MatchOption};
+ghost use Rattle.warg_log.specs.Ranges.{IsAligned};
+ghost use Rattle.warg_witness.specs.Ranges.{IsAround};
 ghost use Rattle.warg_witness.specs.Private.PathClimbs.{LeadNowhere, IsPathClimb, NeverMeet, IsPathsMeeting};
 
-use crate::climb::{Climb, Divergence};
+use crate::climb::Climb;
+use crate::divergence::Divergence;
+use crate::ranges::sides_around;
 use warg_crypto::{Hash, SupportedDigest};
 use warg_log::LeafRange;
 
-// Both evaluations from the leaf at `index` of a range's leaves up to the range. None where a path has another length
-// than that of this place.
+// Both evaluations from a leaf of a range up to the range. None where a path has another length than that of this leaf.
+#[tactic(auto, using(crate::proofs::RangeLemmas::leaf_node))]
 fn climb_paths<D: SupportedDigest>(
-    index: usize,
+    leaf: &LeafRange,
     range: &LeafRange,
     first_leaf: &Hash<D>,
     first_path: &[Hash<D>],
     second_leaf: &Hash<D>,
     second_path: &[Hash<D>],
 ) -> Option<Climb<D>>
-    requires { index < range.now.count }
+    requires one { leaf.now.count ≡ 1 }
+    requires aligned { IsAligned range.now.start range.now.count }
+    requires around { IsAround leaf.now.start leaf.now.count range.now.start range.now.count }
     ensures { MatchOption result
         (LeadNowhere D.digest first_leaf.now (reverse first_path.now) second_leaf.now
-        (reverse second_path.now) index range.now.count)
+        (reverse second_path.now) (leaf.now.start - range.now.start) range.now.count)
         (λ climb. IsPathClimb D.digest first_leaf.now (reverse first_path.now) second_leaf.now
-        (reverse second_path.now) index range.now.start range.now.count
+        (reverse second_path.now) (leaf.now.start - range.now.start) range.now.start range.now.count
         climb.first climb.second climb.divergence) }
 {
     if range.count == 1 {
@@ -33,31 +39,21 @@ fn climb_paths<D: SupportedDigest>(
     }
     let (first_top, first_below) = first_path.split_last()?;
     let (second_top, second_below) = second_path.split_last()?;
-    let (front, rest) = range.split();
-    if index < front.count {
-        let climb = climb_paths(
-            index,
-            &front,
-            first_leaf,
-            first_below,
-            second_leaf,
-            second_below,
-        )?;
-        return Some(climb.up(false, first_top, second_top));
-    }
+    let (held, _, right) = sides_around(leaf, range);
     let climb = climb_paths(
-        index - front.count,
-        &rest,
+        leaf,
+        &held,
         first_leaf,
         first_below,
         second_leaf,
         second_below,
     )?;
-    Some(climb.up(true, first_top, second_top))
+    Some(climb.up(right, first_top, second_top))
 }
 
 /// Where two evaluations along paths of the place `index` of `length` leaves diverge, or None where they don't lead to one
 /// root. It hashes each branch of both once.
+#[tactic(auto, using(crate::proofs::RangeLemmas::whole_aligned))]
 pub(crate) fn meet_paths<D: SupportedDigest>(
     index: usize,
     length: usize,
@@ -75,9 +71,10 @@ pub(crate) fn meet_paths<D: SupportedDigest>(
     if index >= length {
         return None;
     }
+    let leaf = LeafRange::new(index, 1);
     let whole = LeafRange::new(0, length);
     let climb = climb_paths(
-        index,
+        &leaf,
         &whole,
         first_leaf,
         first_path,

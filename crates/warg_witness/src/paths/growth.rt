@@ -7,7 +7,8 @@ ghost use Rattle.warg_paths.specs.Paths.{roots_down};
 ghost use Rattle.warg_witness.specs.Ranges.{IsAround};
 ghost use Rattle.warg_witness.specs.Private.TreeDivergence.{LeadsOver, IsGrowth, IsTreeDivergence};
 
-use crate::climb::{Climb, Divergence};
+use crate::climb::Climb;
+use crate::divergence::Divergence;
 use crate::plain::plain_digest;
 use crate::trees::{Trees, divergence_below};
 use std::alloc::Allocator;
@@ -133,10 +134,10 @@ pub(super) fn growth_divergence<D: SupportedDigest, V: VisitBytes, A: Allocator>
     let Some(Growth { shared, old, new }) = growth else {
         unreachable!()
     };
-    if !old.divergence.is_target() {
+    if let Divergence::Branch(_) = &old.divergence {
         return old.divergence;
     }
-    if !new.divergence.is_target() {
+    if let Divergence::Branch(_) = &new.divergence {
         return new.divergence;
     }
     divergence_below(trees, &shared, place)

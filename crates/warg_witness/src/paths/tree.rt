@@ -11,12 +11,11 @@ ghost use Rattle.warg_witness.specs.Private.TreeDivergence.{IsTreeMeeting};
 
 use super::MOST_LEAVES;
 use super::growth::growth_divergence;
-use crate::collide::collide_values;
 use crate::collision::Finding;
 use crate::plain::{plain_digest, plain_tree};
 use crate::trees::{Trees, first_difference};
 use std::alloc::{AllocError, Allocator};
-use warg_crypto::{Hash, SupportedDigest, VisitBytes};
+use warg_crypto::{Hash, Leaf, SupportedDigest, VisitBytes};
 use warg_log::LeafRange;
 use warg_paths::roots_of_consistency;
 
@@ -113,6 +112,6 @@ pub fn witness_tree<D: SupportedDigest, V: VisitBytes, A: Allocator + Copy>(
     let old_root = plain_digest(&trees.old, &LeafRange::new(0, old.len()));
     let whole = LeafRange::new(0, new.len());
     let divergence = growth_divergence(&trees, place, Some(old_root), old.len(), &whole, path);
-    let pair = collide_values(alloc, &divergence, &old[place], &new[place])?;
+    let pair = divergence.collide(alloc, &Leaf(&old[place]), &Leaf(&new[place]))?;
     Ok(Finding::Collision(pair))
 }

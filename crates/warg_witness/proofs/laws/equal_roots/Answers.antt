@@ -1,5 +1,5 @@
 use Rattle.std.proofs.Common.{◌∙◌}
-use Rattle.warg_witness.proofs.KeyLawLemmas.{own_met}
+use Rattle.warg_witness.proofs.LawLemmas.{own_met}
 use Rattle.warg_witness.proofs.laws.equal_roots.Goals as goal
 
 pub returns : goal.returns

@@ -1,5 +1,5 @@
 use Rattle.warg_map.proofs.ForCallers.{all_bits, absent_root, absent_replaced_root}
-use Rattle.warg_witness.proofs.UpdateLawLemmas.{inserted_push}
+use Rattle.warg_witness.proofs.LawLemmas.{inserted_push}
 use Rattle.warg_witness.proofs.laws.own_insertion.Goals as goal
 
 pub returns : goal.returns

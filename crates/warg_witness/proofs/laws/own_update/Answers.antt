@@ -1,6 +1,5 @@
 use Rattle.warg_map.proofs.ForCallers.{all_bits, replaced_root}
-use Rattle.warg_witness.proofs.KeyLawLemmas.{own_met}
-use Rattle.warg_witness.proofs.UpdateLawLemmas.{inserted_push}
+use Rattle.warg_witness.proofs.LawLemmas.{own_met, inserted_push}
 use Rattle.warg_witness.proofs.laws.own_update.Goals as goal
 
 pub returns : goal.returns

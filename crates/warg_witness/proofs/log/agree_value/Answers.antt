@@ -11,4 +11,4 @@ returns-clause-found g c =
     let agrees : IsAgreement _ _ _ _ _ _ =
     record { root = met.one.digest; first_is = (inclusion_leads _ _ c.args.proof.now _ _).1 (exists, met.one.first); second_is = (inclusion_leads _ _ c.args.proof.now _ _).1 (exists, met.one.second) } in
     let shown = agreement_shown _ _ _ _ _ _ _ _ (grind arith) met.diverges in
-    (agrees, grind arith, rw c.in_ok-pair.ensures shown.1)
+    (agrees, grind arith, rw c.in_ok-pair.ensures shown.placed)

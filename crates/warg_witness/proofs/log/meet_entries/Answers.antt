@@ -1,8 +1,8 @@
 use Rattle.std.proofs.Common.{length, sym, ◌∙◌, ap, arith}
 use Rattle.std.proofs.lemmas.List.{length-map}
 use Rattle.std.proofs.lemmas.Nat.{pow_pos}
-use Rattle.warg_log.proofs.ForCallers.{inclusion_leads}
-use Rattle.warg_witness.proofs.RangeLemmas.{starts, counts}
+use Rattle.warg_log.proofs.ForCallers.{starts, counts, inclusion_leads}
+use Rattle.warg_witness.proofs.RangeLemmas.{node_aligned, node_range}
 use Rattle.warg_witness.proofs.CutLemmas.{length-leaves, have_root, root_led}
 use Rattle.warg_witness.proofs.log.meet_entries.Goals as goal
 
@@ -26,6 +26,8 @@ returns-clause-met g c =
       tree_is = c.in_ok-tree.ensures.tree;
       start_is = starts target;
       count_is = counts target;
+      aligned = rw target (node_aligned (node_range _));
+      within = omega (arith, starts target, counts target);
       plain_is = rw (c.in_ok-tree.ensures.tree, target) at c.plain_digest-plain.ensures;
       diverges = met.diverges;
     }

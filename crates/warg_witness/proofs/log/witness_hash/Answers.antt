@@ -1,9 +1,10 @@
 use Rattle.std.proofs.Common.{sym, ◌∙◌}
 use Rattle.warg_witness.proofs.HashLemmas.{eq_false}
-use Rattle.warg_witness.proofs.ShownLemmas.{hash_shown}
+use Rattle.warg_witness.proofs.ShownLemmas.{hash_placed}
 use Rattle.warg_witness.proofs.log.witness_hash.Goals as goal
 
 pub returns-clause-found : goal.returns-clause-found
 returns-clause-found g c =
     let meeting = rw c.in-Some.is at c.in_ok-met.ensures.met in
-    (meeting.met, (λ below. eq_false _ _ c.if-eq.ensures (below ∙ sym meeting.plain_is)), rw c.in_ok-collide_branch.ensures (hash_shown meeting (eq_false _ _ c.if-eq.ensures)).1)
+    let placed = hash_placed _ _ _ _ meeting.tree_is _ _ _ _ (rw c.in-Branch.is at meeting.diverges).placed in
+    (meeting.met, (λ below. eq_false _ _ c.if-eq.ensures (below ∙ sym meeting.plain_is)), rw c.in_ok-collide.ensures placed)

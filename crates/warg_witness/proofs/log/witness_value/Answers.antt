@@ -1,18 +1,31 @@
 use Rattle.std.proofs.Common.{arith}
-use Rattle.warg_witness.proofs.ShownLemmas.{entry_from, value_shown}
+use Rattle.warg_log.proofs.ForCallers.{starts, counts}
+use Rattle.warg_witness.proofs.ShownLemmas.{branch_shown, leaf_holds, leaf_shown}
 use Rattle.warg_witness.proofs.log.witness_value.Goals as goal
+
+pub collide-requires : goal.collide-requires
+collide-requires g c =
+    let meeting = rw (c.in-Some.is, c.hash_leaf-hash.ensures) at c.in_ok-met.ensures.met in
+    (branch_shown meeting (omega arith) (rw c.split-front.ensures.front at c.plain_digest-left.ensures) (rw c.split-front.ensures.rest at c.plain_digest-right.ensures)).collides
+
+pub returns-then-target-ne1-clause-found : goal.returns-then-target-ne1-clause-found
+returns-then-target-ne1-clause-found g c =
+    let meeting = rw (c.in-Some.is, c.hash_leaf-hash.ensures) at c.in_ok-met.ensures.met in
+    let shows = branch_shown meeting (omega arith) (rw c.split-front.ensures.front at c.plain_digest-left.ensures) (rw c.split-front.ensures.rest at c.plain_digest-right.ensures) in
+    (meeting.met, (λ is. let leaf = is.leaf in grind (arith, meeting.count_is)), rw c.in_ok-pair.ensures shows.placed)
 
 pub returns-then-branch-clause-found : goal.returns-then-branch-clause-found
 returns-then-branch-clause-found g c =
     let meeting = rw (c.in-Some.is, c.hash_leaf-hash.ensures) at c.in_ok-met.ensures.met in
-    let at = rw (meeting.start_is, meeting.count_is) at (c.in_ok-is_entry.ensures.0 c.if-branch.true) in (meeting.met, entry_from _ at)
+    (meeting.met, leaf_holds g.V.VisitBytes.bytes c.args.entries.now meeting (rw (counts c.target.view_is) at c.if-target-ne1.false) (rw (starts c.target.view_is) at c.index-entries-target.is) (c.in_ok-have_same_bytes.ensures.0 c.if-branch.true))
 
-pub collide-requires-clause-collides : goal.collide-requires-clause-collides
-collide-requires-clause-collides g c =
+pub collide-requires-2 : goal.collide-requires-2
+collide-requires-2 g c =
     let meeting = rw (c.in-Some.is, c.hash_leaf-hash.ensures) at c.in_ok-met.ensures.met in
-    (value_shown meeting (grind arith)).0
+    (leaf_shown g.V.VisitBytes.bytes c.args.entries.now meeting (rw (counts c.target.view_is) at c.if-target-ne1.false) (rw (starts c.target.view_is) at c.index-entries-target.is) (grind arith)).1.collides
 
 pub returns-clause-found : goal.returns-clause-found
 returns-clause-found g c =
     let meeting = rw (c.in-Some.is, c.hash_leaf-hash.ensures) at c.in_ok-met.ensures.met in
-    (meeting.met, grind arith, rw c.in_ok-collide.ensures (value_shown meeting (grind arith)).1)
+    let shows = leaf_shown g.V.VisitBytes.bytes c.args.entries.now meeting (rw (counts c.target.view_is) at c.if-target-ne1.false) (rw (starts c.target.view_is) at c.index-entries-target.is) (grind arith) in
+    (meeting.met, shows.0, rw c.in_ok-pair-2.ensures shows.1.placed)

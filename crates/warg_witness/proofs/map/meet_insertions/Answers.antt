@@ -1,6 +1,6 @@
 use Rattle.std.proofs.Common.{sym, ◌∙◌, arith}
 use Rattle.warg_map.proofs.ForCallers.{length-last_bits}
-use Rattle.warg_witness.proofs.PlainPathLemmas.{length-plain_peers}
+use Rattle.warg_witness.proofs.PathLemmas.{length-plain_peers}
 use Rattle.warg_witness.proofs.KeyLemmas.{plain_root_is}
 use Rattle.warg_witness.proofs.map.meet_insertions.Goals as goal
 

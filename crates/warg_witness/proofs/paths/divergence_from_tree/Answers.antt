@@ -16,7 +16,7 @@ unreachable-requires g c =
 pub unreachable-requires-in-None : goal.unreachable-requires-in-None
 unreachable-requires-in-None g c =
     let own = own_path_is g.D.SupportedDigest.digest c.args.tree.now c.args.index c.requires.inside in
-    let leaf : c.plain_digest-own_leaf.result ≡ slice_index_or c.args.tree.now c.args.index [] = rw (c.new.ensures) at c.plain_digest-own_leaf.ensures ∙ root_over_one g.D.SupportedDigest.digest c.args.tree.now c.args.index c.requires.inside in
+    let leaf : c.plain_digest-own_leaf.result ≡ slice_index_or c.args.tree.now c.args.index [] = rw c.new.ensures at c.plain_digest-own_leaf.ensures ∙ root_over_one g.D.SupportedDigest.digest c.args.tree.now c.args.index c.requires.inside in
     let path : inclusion_of (old_over g.D.SupportedDigest.digest (own_digest g.D.SupportedDigest.digest c.args.tree.now)) c.args.index (length c.args.tree.now) ≡ Some c.in-Ok.own_path.items =
     rw c.length.ensures.value at c.in-Ok.ensures.ok.1 in
     let both : Some own.0 ≡ Some c.in-Ok.own_path.items = sym own.1 ∙ path in
@@ -25,5 +25,5 @@ unreachable-requires-in-None g c =
 
 pub returns : goal.returns
 returns g c =
-    let leaf : c.plain_digest-own_leaf.result ≡ slice_index_or c.args.tree.now c.args.index [] = rw (c.new.ensures) at c.plain_digest-own_leaf.ensures ∙ root_over_one g.D.SupportedDigest.digest c.args.tree.now c.args.index c.requires.inside in
+    let leaf : c.plain_digest-own_leaf.result ≡ slice_index_or c.args.tree.now c.args.index [] = rw c.new.ensures at c.plain_digest-own_leaf.ensures ∙ root_over_one g.D.SupportedDigest.digest c.args.tree.now c.args.index c.requires.inside in
     record { own = c.in-Ok.own_path.items; own_is = rw c.length.ensures.value at c.in-Ok.ensures.ok.1; diverges = (rw (leaf, c.as_slice-own_path.ensures.value, c.length-2.ensures.value) at c.in-Some.ensures).diverges }

@@ -1,6 +1,6 @@
 use Rattle.std.proofs.Common.{sym, ◌∙◌, arith}
-use Rattle.warg_log.proofs.ForCallers.{target_decides}
-use Rattle.warg_witness.proofs.RangeLemmas.{starts, counts, node_some}
+use Rattle.warg_witness.proofs.RangeLemmas.{node_some}
+use Rattle.warg_log.proofs.ForCallers.{starts, counts, target_decides}
 use Rattle.warg_witness.proofs.CutLemmas.{ranges_start, sides_lack, ranges_up}
 use Rattle.warg_witness.proofs.ranges.+climb_ranges.Goals as goal
 

@@ -1,6 +1,6 @@
 use Rattle.std.proofs.Common.{◌<◌, length, sym, ◌∙◌, arith}
 use Rattle.std.proofs.lemmas.List.{length-map, take_more_same}
-use Rattle.warg_witness.proofs.ConsistencyLemmas.{entry_at, leaf_at}
+use Rattle.warg_witness.proofs.ShownLemmas.{entry_at, leaf_at}
 use Rattle.warg_witness.proofs.trees.first_difference.Goals as goal
 
 pub is_same_entry-requires-clause-old_leaf : goal.is_same_entry-requires-clause-old_leaf

@@ -1,5 +1,5 @@
 use Rattle.std.proofs.Common.{arith}
-use Rattle.warg_witness.proofs.RootLemmas.{root_front}
+use Rattle.warg_witness.proofs.RangeLemmas.{root_front}
 use Rattle.warg_witness.proofs.log.consistency.+root_around.Goals as goal
 
 pub returns-then-place-rest-clause-root : goal.returns-then-place-rest-clause-root

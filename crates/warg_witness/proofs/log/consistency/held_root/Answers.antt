@@ -1,6 +1,7 @@
 use Rattle.std.proofs.Common.{◌≡◌}
-use Rattle.warg_witness.proofs.RangeLemmas.{starts, whole_aligned}
-use Rattle.warg_witness.proofs.ConsistencyLemmas.{root_leads}
+use Rattle.warg_log.proofs.ForCallers.{starts}
+use Rattle.warg_witness.proofs.RangeLemmas.{whole_aligned}
+use Rattle.warg_witness.proofs.ShownLemmas.{root_leads}
 use Rattle.warg_witness.proofs.log.consistency.held_root.Goals as goal
 
 pub unreachable-requires : goal.unreachable-requires

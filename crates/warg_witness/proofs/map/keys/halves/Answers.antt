@@ -1,7 +1,7 @@
 use Rattle.std.proofs.Common.{rules, ℕ, ◌<◌, not, List, length}
 use Rattle.std.proofs.lemmas.List.Sorted.{IsPartitionPoint-from_clause}
 use Rattle.warg_map.specs.Bits.{bit_at}
-use Rattle.warg_witness.proofs.KeysLemmas.{are_partitioned, halves_are}
+use Rattle.warg_witness.proofs.InsertionLemmas.{are_partitioned, halves_are}
 use Rattle.warg_witness.proofs.map.keys.halves.Goals as goal
 
 pub returns : goal.returns

@@ -1,6 +1,5 @@
 use Rattle.std.proofs.Common.{◌≡◌, length, sym, ◌∙◌, arith}
-use Rattle.warg_witness.proofs.LastLemmas.{length-pair_bytes}
-use Rattle.warg_witness.proofs.KeysLemmas.{sorted_are}
+use Rattle.warg_witness.proofs.InsertionLemmas.{length-pair_bytes, sorted_are}
 use Rattle.warg_witness.proofs.map.keys.sorted_keys.Goals as goal
 
 pub returns : goal.returns

@@ -1,5 +1,5 @@
 use Rattle.warg_map.specs.Sparse.{pair_bytes}
-use Rattle.warg_witness.proofs.KeysLemmas.{AreListed}
+use Rattle.warg_witness.proofs.InsertionLemmas.{AreListed}
 use Rattle.warg_witness.proofs.map.keys.sorted_keys.Given as goal
 
 abbrev pub invariant-loop-place : goal.invariant-loop-place

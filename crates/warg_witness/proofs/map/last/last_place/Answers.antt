@@ -1,6 +1,6 @@
 use Rattle.std.proofs.Common.{◌≡◌, ◌∙◌, arith}
 use Rattle.warg_map.specs.Last.{last_with}
-use Rattle.warg_witness.proofs.LastLemmas.{last_among}
+use Rattle.warg_witness.proofs.InsertionLemmas.{last_among}
 use Rattle.warg_witness.proofs.map.last.last_place.Goals as goal
 
 pub returns-then-branch : goal.returns-then-branch

@@ -2,8 +2,7 @@ use Rattle.std.proofs.Common.{[], sym, ◌≡◌, ◌+◌, suc, refl, append_ass
 use Rattle.warg_map.specs.Sparse.{pair_bytes, root_of_levels}
 use Rattle.std.proofs.lemmas.List.{append-nil, get_or_default}
 use Rattle.warg_map.proofs.ForCallers.{last_held}
-use Rattle.warg_witness.proofs.LastLemmas.{pair_at}
-use Rattle.warg_witness.proofs.TreeLemmas.{root_none, place_within, last_is, length-push_bit, half_under}
+use Rattle.warg_witness.proofs.InsertionLemmas.{pair_at, root_none, place_within, last_is, length-push_bit, half_under}
 use Rattle.warg_witness.proofs.map.tree.+plain_root.Goals as goal
 
 pub returns-in_default : goal.returns-in_default

@@ -3,7 +3,7 @@ use Rattle.std.proofs.lemmas.List.{append-nil}
 use Rattle.warg_witness.specs.Private.MapPaths.{plain_peers}
 use Rattle.warg_map.proofs.ForCallers.{bits_left-more, bits_left-none, length-last_bits}
 use Rattle.warg_map.specs.Sparse.{pair_bytes}
-use Rattle.warg_witness.proofs.TreeLemmas.{last_place_is, length-push_bit, half_under}
+use Rattle.warg_witness.proofs.InsertionLemmas.{last_place_is, length-push_bit, half_under}
 use Rattle.warg_witness.proofs.map.tree.+push_peers.Goals as goal
 
 pub returns-then-depth-eq256 : goal.returns-then-depth-eq256

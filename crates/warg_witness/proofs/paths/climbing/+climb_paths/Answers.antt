@@ -1,14 +1,13 @@
-use Rattle.std.proofs.Common.{◌≡◌, length, ◌∙◌, arith}
+use Rattle.std.proofs.Common.{◌≡◌, length, arith}
 use Rattle.std.proofs.lemmas.Bool.Decides.{nat_tests}
-use Rattle.warg_witness.proofs.RangeLemmas.{counts}
-use Rattle.warg_witness.proofs.RecordLemmas.{turned}
-use Rattle.warg_witness.proofs.PathClimbLemmas.{climb_starts, first_short, second_short, one_long, front_nowhere, rest_nowhere, front_up, rest_up}
+use Rattle.warg_log.proofs.ForCallers.{counts}
+use Rattle.warg_witness.proofs.RecordLemmas.{turned, climb_starts, first_short, second_short, one_long, paths_nowhere, paths_up}
 use Rattle.warg_witness.proofs.paths.climbing.+climb_paths.Goals as goal
 use Rattle.warg_witness.proofs.paths.climbing.+climb_paths.Goals.{else-is_empty-via-then-is_empty+else-is_empty-2, else-is_empty-via-else-is_empty}
 
 pub returns-then-is_empty-2 : goal.returns-then-is_empty-2
 returns-then-is_empty-2 g t c =
-    climb_starts _ _ _ _ c.args.first_path.now c.args.second_path.now (rw (counts c.range.view_is) at c.if-range-eq1.true) c.requires (grind (arith, nat_tests)) (grind (arith, nat_tests))
+    climb_starts _ _ _ _ c.args.first_path.now c.args.second_path.now (rw (counts c.range.view_is) at c.if-range-eq1.true) (omega arith) (grind (arith, nat_tests)) (grind (arith, nat_tests))
     (grind arith) (grind arith) c.new.ensures.divergence
 
 pub returns-then-range-eq1 : goal.returns-then-range-eq1
@@ -26,21 +25,9 @@ returns-in_err-second_top g t c = rw c.from_residual-in_err-second_top.ensures (
 pub returns-in_err-climb : goal.returns-in_err-climb
 returns-in_err-climb g t c =
     rw (c.from_residual-in_err-climb.ensures, turned _ _ _ c.in_ok-first_top.ensures.cases.0, turned _ _ _ c.in_ok-second_top.ensures.cases.0)
-    (front_nowhere _ _ _ _ _ _ _ _ _ (omega arith) (rw (counts (c.front.view_is ∙ c.split-front.ensures.front)) at c.if-index-front.true) (rw c.split-front.ensures.front at c.in_err-climb.ensures))
-
-pub returns-then-index-front : goal.returns-then-index-front
-returns-then-index-front g t c =
-    rw (turned _ _ _ c.in_ok-first_top.ensures.cases.0, turned _ _ _ c.in_ok-second_top.ensures.cases.0)
-    (front_up _ _ _ _ _ _ _ _ _ _ (omega arith) (rw (counts (c.front.view_is ∙ c.split-front.ensures.front)) at c.if-index-front.true)
-    (rw (c.split-front.ensures.front) at c.in_ok-climb.ensures) c.up.ensures)
-
-pub returns-in_err-climb-2 : goal.returns-in_err-climb-2
-returns-in_err-climb-2 g t c =
-    rw (c.from_residual-in_err-climb-2.ensures, turned _ _ _ c.in_ok-first_top.ensures.cases.0, turned _ _ _ c.in_ok-second_top.ensures.cases.0)
-    (rest_nowhere _ _ _ _ _ _ _ _ _ (omega arith) (rw (counts (c.front.view_is ∙ c.split-front.ensures.front)) at c.if-index-front.false) (rw (counts (c.front.view_is ∙ c.split-front.ensures.front), c.split-front.ensures.rest) at c.in_err-climb-2.ensures))
+    (paths_nowhere c.sides_around-held.ensures.sides (rw c.requires.one at c.sides_around-held.ensures.around) (omega arith) (omega (arith, counts c.range.view_is)) _ _ _ _ _ _ _ c.in_err-climb.ensures)
 
 pub returns : goal.returns
 returns g t c =
     rw (turned _ _ _ c.in_ok-first_top.ensures.cases.0, turned _ _ _ c.in_ok-second_top.ensures.cases.0)
-    (rest_up _ _ _ _ _ _ _ _ _ _ (omega arith) (rw (counts (c.front.view_is ∙ c.split-front.ensures.front)) at c.if-index-front.false)
-    (rw (counts (c.front.view_is ∙ c.split-front.ensures.front), c.split-front.ensures.rest) at c.in_ok-climb-2.ensures) c.up-2.ensures)
+    (paths_up c.sides_around-held.ensures.sides (rw c.requires.one at c.sides_around-held.ensures.around) (omega arith) (omega (arith, counts c.range.view_is)) c.in_ok-climb.ensures c.up.ensures)

@@ -1,4 +1,4 @@
-use Rattle.warg_witness.proofs.ConsistencyLemmas.{differs_not_begins}
+use Rattle.warg_witness.proofs.ShownLemmas.{differs_not_begins}
 use Rattle.warg_witness.proofs.GrowthLemmas.{whole_growth, growth_shown}
 use Rattle.warg_witness.proofs.paths.tree.witness_tree.Goals as goal
 
@@ -8,8 +8,8 @@ growth_divergence-divergence-requires-clause-leads g c =
     rw (c.plain_digest-old_root.ensures, c.new.ensures, c.new-whole.ensures)
     (whole_growth g.V.VisitBytes.bytes _ _ c.args.old.now c.args.new.now _ _ meeting)
 
-pub collide_values-requires : goal.collide_values-requires
-collide_values-requires g c =
+pub collide-requires : goal.collide-requires
+collide-requires g c =
     let meeting = rw c.in-Some.is at c.in_ok-trees.ensures.met in
     let differs = rw c.in-Some-2.is at c.in_ok-place.ensures in
     let diverges = rw (c.plain_digest-old_root.ensures, c.new.ensures, c.new-whole.ensures) at c.growth_divergence-divergence.ensures in

@@ -1,0 +1,306 @@
+-- What the laws state: a claim that is met and isn't true gives a collision.
+use Rattle.std.proofs.Common.{◌≡◌, ℕ, zero, suc, ◌+◌, ◌-◌, ◌<◌, ◌≤◌, ◌⊎◌, inl, inr, List, [], ◌∷◌, length, get_or, refl, sym, ◌∙◌, arith, ◌^◌, Some, Bool, not, ◌++◌, Option, None, append_assoc}
+use Rattle.std.proofs.lemmas.Bool.{cases_lt}
+use Rattle.std.proofs.lemmas.Bool.Decides.{nat_tests}
+use Rattle.warg_crypto.proofs.ForCallers.{same_or_not, HasSize, sizes}
+use Rattle.warg_log.specs.Tree.{front_of, leaves_of, root_of, root_over, own_digest}
+use Rattle.warg_log.specs.Cut.{Evaluation, with_target, cut_over}
+use Rattle.warg_witness.specs.Ranges.{IsAround}
+use Rattle.warg_witness.specs.Claims.{Begins, IsMet, IsEntry, IsRootBelow, IsAgreement, IsConsistencyMet}
+use Rattle.warg_crypto.specs.Collisions.{GivesHashes, SomeCollision}
+use Rattle.warg_witness.specs.Laws.{HoldsHashes, HoldsPeers}
+use Rattle.warg_log.specs.Ranges.{leaves_from, range_of, IsAligned}
+use Rattle.warg_witness.specs.Private.Ranges.{IsNodeRange}
+use Rattle.warg_witness.specs.Private.Divergence.{HaveOneDigest, IsDivergence, Parts, Shows, inputs}
+use Rattle.warg_witness.specs.Private.RangeClimbs.{IsRangeClimb}
+use Rattle.warg_witness.specs.declared.divergence.Divergence.{Divergence}
+use Rattle.warg_witness.proofs.RangeLemmas.{Digest, node_range, Data, more_than_one, node_some, wider, near_side, side_aligned, side_around, leaf_node, node_aligned, whole_aligned, Root, full_node, full_or_not, front_node, rest_aligned, root_full, root_front, root_rest}
+use Rattle.warg_witness.proofs.ClimbLemmas.{shown, up_somewhere}
+use Rattle.warg_witness.proofs.CutLemmas.{ranges_start, sides_there, ranges_up, length-leaves, have_root, have_range, plain_digest_is}
+use Rattle.std.proofs.lemmas.Nat.{pow_pos}
+use Rattle.warg_log.specs.Nodes.{height_of, start_of, node_over}
+use Rattle.warg_witness.specs.Placed.{IsValuePlaced, IsHashPlaced, IsAgreementPlaced, IsConsistencyPlaced}
+use Rattle.warg_witness.specs.declared.divergence.Divergence.TheVariants.{Target, Branch}
+use Rattle.warg_witness.proofs.ShownLemmas.{entry_from, value_placed, value_meets, hash_placed, agreement_shown, root_leads, old_placed, new_placed, below_shown}
+use Rattle.warg_log.specs.Claims.{InclusionClaim}
+use Rattle.warg_log.proofs.ForCallers.{cut_size, front_is_greatest, inclusion_leads}
+use Rattle.std.proofs.lemmas.Grind.{common_steps}
+use Rattle.std.specs.FinMap.{get, insert, empty}
+use Rattle.std.specs.Option.{IfSome}
+use Rattle.warg_crypto.specs.EmptyTrees.{empty_root}
+use Rattle.warg_map.specs.Bits.{key_bits}
+use Rattle.warg_crypto.specs.Tree.{leaf_digest}
+use Rattle.warg_map.specs.Sparse.{root_of_levels, map_of, SparseMap, sparse_root, inserted}
+use Rattle.warg_map.specs.Peers.{Proves}
+use Rattle.warg_map.specs.Last.{last_under}
+use Rattle.warg_witness.specs.MapClaims.{value_in, IsKeyAgreement, IsLastValue, IsKeyMet}
+use Rattle.warg_witness.specs.MapPlaced.{IsKeyPlaced, IsKeyAgreementPlaced, IsPlacedAtPrefix}
+use Rattle.warg_witness.specs.Private.MapPaths.{plain_peers, IsPathDivergence, IsClimb}
+use Rattle.warg_map.specs.ProofValue.{peer_of, proof_value}
+use Rattle.warg_witness.specs.MapInputs.{fork_input}
+use Rattle.warg_witness.proofs.PathLemmas.{no_bits, climb_up}
+use Rattle.warg_witness.proofs.KeyLemmas.{DivergesFromPlain, key_agreement_shown, plain_root_is, key_shown, last_differs, keys_shown, prefix_placed, grown_root_is}
+use Rattle.warg_map.proofs.ForCallers.{all_bits, last_held, root_at_prefix}
+use Rattle.std.proofs.lemmas.List.{append-nil, map-append}
+use Rattle.std.specs.List.{AllByRecursion}
+use Rattle.warg_witness.specs.UpdateClaims.{IsUpdated, Step, insertions_of, LeadThrough, CollidesAtStep}
+
+-- a range is the target or not
+target_or_other : (s w a n : ℕ) → ((a ≡ s) × (n ≡ w)) ⊎ (a ≡ s → n ≡ w → ⊥)
+target_or_other s w a n = grind arith
+
+-- Where two evaluations with one digest at a range diverge.
+abbrev pub SomeDivergence : Type 0
+SomeDivergence = Divergence (Unit {0})
+
+-- entries that don't begin with others differ from them at a place
+pub difference : (old new : List (List ℕ)) → length old ≤ length new → (Begins old new → ⊥) → (place : ℕ) × (place < length old) × (get_or old place [] ≡ get_or new place [] → ⊥)
+difference [] new order other = absurd (other refl)
+difference (x ∷ old) [] order other = absurd (omega arith)
+difference (x ∷ old) (y ∷ new) order other = elim (same_or_not x y) [
+  | inl same ↦ let deeper = difference old new (omega arith) (λ e. other (cc)) in (suc deeper.0, omega arith, deeper.2)
+  | inr differ ↦ (0, omega arith, differ)
+]
+
+-- two evaluations with digests at a range go up to it
+module _ (H : Digest) (F : Data) (x : List ℕ) (G : Data) (y : List ℕ) (s w : ℕ) where
+  abbrev e : Evaluation
+  e = with_target F (leaves_from s w) x
+
+  abbrev f : Evaluation
+  f = with_target G (leaves_from s w) y
+
+  climbed : HasSize H → HoldsHashes F → HoldsHashes G → length x ≡ 32 → length y ≡ 32 → IsNodeRange s w → (k a n : ℕ) → n ≤ k → IsAligned a n → IsAround s w a n
+      → (p q : List ℕ) → cut_over H e (leaves_from a n) ≡ Some p → cut_over H f (leaves_from a n) ≡ Some q
+      → (first : List ℕ) × (second : List ℕ) × (p : SomeDivergence) × IsRangeClimb H F x G y s w a n first second p
+  climbed gives holds holds' size size' node zero a n le aligned around p q is is' = let some = node_some node in absurd (omega arith)
+  climbed gives holds holds' size size' node (suc k) a n le aligned around p q is is' = elim (target_or_other s w a n) [
+    | inl here ↦ (x, y, Target, ranges_start here.0 here.1 refl refl refl)
+    | inr other ↦
+        let more : 1 < n = let wide = wider around other in let some = node_some node in omega arith in
+        let (right, b, m, c, j, sides, at, smaller) = side_around node aligned around other in
+        let first = sides_there H (node_some node) around other F x sides is in
+        let second = sides_there H (node_some node) around other G y sides is' in
+        let below = climbed gives holds holds' size size' node k b m (omega arith) (side_aligned b m aligned more (near_side sides)) at first.0 second.0 first.2 second.2 in
+        let near = cut_size H e (leaves_from b m) _ gives holds size below.3.first_is ∙ sym (cut_size H f (leaves_from b m) _ gives holds' size' below.3.second_is) in
+        let far = cut_size H e (leaves_from c j) _ gives holds size first.3 ∙ sym (cut_size H f (leaves_from c j) _ gives holds' size' second.3) in
+        let step = up_somewhere right below.2 near far in
+        (H _, H _, step.0, ranges_up H (node_some node) around other F x G y sides below.3 first.3 second.3 step.1)
+  ]
+
+-- so two with one digest there diverge somewhere
+diverged : {H : Digest} {F : Data} {x : List ℕ} {G : Data} {y : List ℕ} {s w a n : ℕ} → HasSize H → HoldsHashes F → HoldsHashes G → length x ≡ 32 → length y ≡ 32 → IsNodeRange s w
+    → IsAligned a n → IsAround s w a n → HaveOneDigest H F x G y s w a n → (p : SomeDivergence) × IsDivergence H F x G y s w a n p
+diverged {H} {F} {x} {G} {y} {s} {w} {a} {n} gives holds holds' size size' node aligned around one =
+    let climb = climbed H F x G y s w gives holds holds' size size' node n a n (omega arith) aligned around one.digest one.digest one.first one.second in (climb.2, climb.3.diverges (cc (climb.3.first_is, climb.3.second_is)))
+
+-- the balanced root of a range around a place
+root_found : (place k a n : ℕ) → n ≤ k → IsAligned a n → a ≤ place → place < a + n → (s : ℕ) × (w : ℕ) × Root s w a n × IsAround place 1 s w
+root_found place zero a n le aligned starts ends = absurd (omega arith)
+root_found place (suc k) a n le aligned starts ends = elim (full_or_not n (omega arith)) [
+  | inl is ↦ (a, n, record { node = full_node aligned is; contained = root_full a n is }, omega arith)
+  | inr not_full ↦
+      let more = more_than_one n (omega arith) not_full in
+      let f = front_is_greatest n more in
+      elim (cases_lt place (a + front_of n)) [
+        | inl left ↦ (a, front_of n, record { node = front_node a n aligned more; contained = root_front a n more not_full }, omega arith)
+        | inr right ↦
+            let at = root_found place k (a + front_of n) (n - front_of n) (omega arith) (rest_aligned aligned more) right (omega arith) in
+            (at.0, at.1, record { node = at.2.node; contained = root_rest a n (node_over at.0 at.1) more not_full at.2.contained }, at.3)
+      ]
+]
+
+-- what is shown is a collision
+pub shown_collides : {H : Digest} {P : List ℕ → List ℕ → Type 0} (pair : List ℕ × List ℕ) → Shows H P pair → SomeCollision H P
+shown_collides pair shown = record { first = pair.0; second = pair.1; collide = shown.collides; placed = shown.placed }
+
+-- a divergence is one, or both evaluations meet at the target
+pub some_collision : {D : Type 0} {H : Digest} {P Q : List ℕ → List ℕ → Type 0} {A : Type 0} (p : Divergence D) → ((l r : List ℕ) → P l r → Q l r) → (A → SomeCollision H Q) → Parts H P A p → SomeCollision H Q
+some_collision Target placed meet is = meet is
+some_collision (Branch branches) placed meet is = shown_collides (inputs branches) (record { collides = is.collides; placed = placed _ _ is.placed })
+
+module _ (H : Digest) where
+  -- each root over the entries has 32 bytes, and so has what their log holds
+  root_size : (entries : List (List ℕ)) (a n : ℕ) → HasSize H → 0 < n → a + n ≤ length (leaves_of H entries) → length (root_over H (leaves_of H entries) a n) ≡ 32
+  root_size entries a n gives some within = grind (arith, plain_digest_is H entries a n some, length-leaves H entries)
+
+  own_holds : (entries : List (List ℕ)) → HasSize H → HoldsHashes (own_digest H (leaves_of H entries))
+  own_holds entries gives node digest is = grind (arith, nat_tests, pow_pos (height_of node), root_size entries (start_of node) (2 ^ height_of node) gives)
+
+  -- an evaluation that leads to the root of a tree, and that tree
+  from_tree : {F : Data} {x : List ℕ} (entries : List (List ℕ)) {s w : ℕ} → HasSize H → HoldsHashes F → length x ≡ 32 → IsNodeRange s w
+      → s + w ≤ length (leaves_of H entries) → cut_over H (with_target F (leaves_from s w) x) (leaves_from 0 (length (leaves_of H entries))) ≡ Some (root_of H (leaves_of H entries))
+      → (p : SomeDivergence) × IsDivergence H F x (own_digest H (leaves_of H entries)) (root_over H (leaves_of H entries) s w) s w 0 (length (leaves_of H entries)) p
+  from_tree {F} {x} entries {s} {w} gives holds size node within leads =
+      let ds = leaves_of H entries in
+      let n = length ds in
+      let some = node_some node in
+      diverged gives holds (own_holds entries gives) size (root_size entries s w gives some within) node (whole_aligned n refl) (omega arith) (have_root H ds s w leads (omega arith))
+
+  -- a claim that is met leads to the root of the tree
+  leads_to : {F : Data} {p : InclusionClaim} {digest : List ℕ} {entries : List (List ℕ)} → IsMet H F p digest entries → let ds = leaves_of H entries in let node = p.leaf.0 in
+      (start_of node + 2 ^ height_of node ≤ length ds) × (cut_over H (with_target F (range_of node) digest) (leaves_from 0 (length ds)) ≡ Some (root_of H ds))
+  leads_to {F} {p} {digest} {entries} met = let at = (inclusion_leads H F p digest _).0 met.is in grind (arith, length-leaves H entries)
+
+  pub value_collides : (F : Data) (p : InclusionClaim) (value : List ℕ) (entries : List (List ℕ)) → GivesHashes H → HoldsHashes F → IsMet H F p (H (0 ∷ value)) entries
+      → ¬ (IsEntry value p.leaf.0 entries) → SomeCollision H (IsValuePlaced H F value p.leaf.0 entries)
+  value_collides F p value entries digests holds met untrue =
+      let leads = leads_to met in
+      let (at, diverges) = from_tree entries (sizes digests) holds (sizes digests (0 ∷ value)) (node_range p.leaf.0) leads.0 leads.1 in
+      shown_collides _ (shown at (value_placed H F entries _ refl p.leaf.0 value) _ _ (value_meets H F entries _ refl p.leaf.0 value (λ is. untrue (entry_from p.leaf.0 is))) diverges)
+
+  pub hash_collides : (F : Data) (p : InclusionClaim) (hash : List ℕ) (entries : List (List ℕ)) → GivesHashes H → HoldsHashes F → length hash ≡ 32 → IsMet H F p hash entries
+      → ¬ (IsRootBelow H hash p.leaf.0 entries) → SomeCollision H (IsHashPlaced H F hash p.leaf.0 entries)
+  hash_collides F p hash entries digests holds size met untrue =
+      let leads = leads_to met in
+      let (at, diverges) = from_tree entries (sizes digests) holds size (node_range p.leaf.0) leads.0 leads.1 in
+      some_collision at (hash_placed H F entries _ refl p.leaf.0 hash) (λ meets. absurd (untrue meets.same)) diverges
+
+  pub agreement_collides : (p : InclusionClaim) (F : Data) (value : List ℕ) (G : Data) (other : List ℕ) → GivesHashes H → HoldsHashes F → HoldsHashes G
+      → IsAgreement H p F (H (0 ∷ value)) G (H (0 ∷ other)) → ¬ (value ≡ other) → SomeCollision H (IsAgreementPlaced H F value G other p.leaf.0 p.log_length)
+  agreement_collides p F value G other digests holds holds' met untrue =
+      let n = p.log_length in
+      let first = (inclusion_leads H F p _ met.root).0 met.first_is in
+      let second = (inclusion_leads H G p _ met.root).0 met.second_is in
+      let (at, diverges) = diverged (sizes digests) holds holds' (sizes digests (0 ∷ value)) (sizes digests (0 ∷ other)) (node_range p.leaf.0)
+      (whole_aligned n refl) (omega arith) (record { digest = met.root; first = first.1; second = second.1 }) in
+      shown_collides _ (agreement_shown H F value G other p.leaf.0 n at untrue diverges)
+
+  -- the balanced root around a difference shows a collision
+  pub consistency_collides : (F : Data) (m n : ℕ) (old new : List (List ℕ)) → GivesHashes H → HoldsHashes F → IsConsistencyMet H F m n old new → (Begins old new → ⊥)
+      → SomeCollision H (IsConsistencyPlaced H F old new)
+  consistency_collides F m n old new digests holds met untrue =
+      let gives = sizes digests in
+      let ds = leaves_of H old in
+      let es = leaves_of H new in
+      let found = difference old new (omega arith) untrue in
+      let root = root_found found.0 (length ds) 0 (length ds) (omega arith) (whole_aligned (length ds) refl) (omega arith) (omega (arith, length-leaves H old)) in
+      let leads = root_leads (rw (length-leaves H old, length-leaves H new, met.old_count, met.new_count) met.roots) root.2 in
+      let at = leads.1 in
+      let place = found.0 in
+      let size = holds _ _ at.held in
+      let from_old = from_tree old gives holds size at.node at.in_old at.to_old in
+      let from_new = from_tree new gives holds size at.node at.in_new at.to_new in
+      some_collision from_old.0 (old_placed refl refl at)
+      (λ in_old. some_collision from_new.0 (new_placed refl refl at)
+      (λ in_new.
+      let below = diverged gives (own_holds old gives) (own_holds new gives)
+      (root_size old place 1 gives (omega arith) (omega arith)) (root_size new place 1 gives (omega arith) (omega arith)) (leaf_node refl)
+      (node_aligned at.node) root.3 (have_range H ds es place 1 (node_aligned at.node) (node_some at.node) at.in_old at.in_new (sym in_old.same ∙ in_new.same)) in
+      shown_collides _ (below_shown refl refl at place in_new.part found.2 below.0 below.1)) from_new.1) from_old.1
+
+-- the values and the peers have 32 bytes
+value_len : (H : List ℕ → List ℕ) (P : List (Option (List ℕ))) (x : List ℕ) → HasSize H → length x ≡ 32 → (bits : List Bool) → length (proof_value H P x bits) ≡ 32
+unfolding proof_value
+value_len H P x gives size [] = size
+value_len H P x gives size (b ∷ bits) = gives (fork_input H P x b bits)
+
+empty_len : (H : List ℕ → List ℕ) → HasSize H → (k : ℕ) → length (empty_root H k) ≡ 32
+unfolding empty_root
+empty_len H gives zero = gives (0 ∷ [])
+empty_len H gives (suc k) = gives (1 ∷ (empty_root H k ++ empty_root H k))
+
+peer_len : (H : List ℕ → List ℕ) (P : List (Option (List ℕ))) → HasSize H → HoldsPeers P → (i : ℕ) → length (peer_of H P i) ≡ 32
+peer_len H P gives holds i = grind (arith, empty_len H gives i, holds (i - (256 - length P)))
+
+-- two evaluations of one root diverge at a branch, or have one leaf digest
+module _ (H : List ℕ → List ℕ) (P : List (Option (List ℕ))) (x : List ℕ) (Q : List (Option (List ℕ))) (y : List ℕ) (gives : HasSize H) (holds : HoldsPeers P) (holds' : HoldsPeers Q)
+    (size : length x ≡ 32) (size' : length y ≡ 32) where
+  climbed_on_path : (bits : List Bool) → (p : SomeDivergence) × IsClimb H P x Q y bits (proof_value H P x bits) (proof_value H Q y bits) p
+  unfolding proof_value
+  climbed_on_path [] = (Target, no_bits H P x Q y)
+  climbed_on_path (b ∷ bits) =
+      let below = climbed_on_path bits in
+      let values = value_len H P x gives size bits ∙ sym (value_len H Q y gives size' bits) in
+      let peers = peer_len H P gives holds (length bits) ∙ sym (peer_len H Q gives holds' (length bits)) in
+      let up = up_somewhere b below.0 values peers in (up.0, climb_up refl refl below.1 up.1)
+
+  pub diverged_on_path : (bits : List Bool) → proof_value H P x bits ≡ proof_value H Q y bits → (p : SomeDivergence) × IsPathDivergence H P x Q y bits p
+  diverged_on_path bits e = let climb = climbed_on_path bits in (climb.0, climb.1.diverges e)
+
+-- What is held has 32 bytes.
+abbrev HaveSize : (List Bool → Option (List ℕ)) → Type 0
+HaveSize held = (bits : List Bool) → IfSome (held bits) (λ digest. length digest ≡ 32)
+
+module _ (H : List ℕ → List ℕ) (gives : HasSize H) where
+  -- a root has 32 bytes where each leaf digest has
+  root_len : (k : ℕ) (held : List Bool → Option (List ℕ)) → HaveSize held → length (root_of_levels H k held) ≡ 32
+  unfolding root_of_levels empty_root
+  root_len zero held h = grind (arith, h [])
+  root_len (suc k) held h = gives _
+
+  -- so have the plain peers
+  holds_plain : (held : List Bool → Option (List ℕ)) → HaveSize held → (bits : List Bool) → HoldsPeers (plain_peers H held bits)
+  unfolding plain_peers
+  holds_plain held h [] place other e = absurd (cc)
+  holds_plain held h (b ∷ bits) place other e =
+      grind (arith, common_steps, root_len (length bits) (λ q. held (not b ∷ q)) (λ q. h (not b ∷ q)), holds_plain (λ q. held (b ∷ q)) (λ q. h (b ∷ q)) bits place other)
+
+  held_len : (insertions : List (List ℕ × List ℕ)) → HaveSize (get (map_of H insertions))
+  held_len insertions q = rw last_held (grind (arith, gives))
+
+-- an agreement of two values, and a claim of a key, that are met and aren't true
+pub key_agreement_collides : (H : List ℕ → List ℕ) (key : List ℕ) (P : List (Option (List ℕ))) (v : List ℕ) (Q : List (Option (List ℕ))) (u : List ℕ) → GivesHashes H → HoldsPeers P → HoldsPeers Q
+    → IsKeyAgreement H key P v Q u → (v ≡ u → ⊥) → SomeCollision H (IsKeyAgreementPlaced H key P v Q u)
+key_agreement_collides H key P v Q u digests holds holds' met other =
+    let gives = sizes digests in
+    let (p, diverges) = diverged_on_path H P _ Q _ gives holds holds' (gives _) (gives _) (key_bits H key) met in
+    shown_collides _ (key_agreement_shown H key P v Q u p diverges other)
+
+-- a claim of a key that is met diverges from the plain tree somewhere
+pub diverged_from_plain : (H : List ℕ → List ℕ) (peers : List (Option (List ℕ))) (key value : List ℕ) (insertions : List (List ℕ × List ℕ)) → GivesHashes H → HoldsPeers peers → IsKeyMet H peers key value insertions
+    → (p : SomeDivergence) × DivergesFromPlain H peers key value insertions p
+diverged_from_plain H peers key value insertions digests holds met =
+    let gives = sizes digests in
+    diverged_on_path H peers _ _ _ gives holds (holds_plain H gives (get (map_of H insertions)) (held_len H gives insertions) (key_bits H key)) (gives _) (gives _) (key_bits H key) (met ∙ sym (plain_root_is H insertions key))
+
+pub key_collides : (H : List ℕ → List ℕ) (peers : List (Option (List ℕ))) (key value : List ℕ) (insertions : List (List ℕ × List ℕ)) → GivesHashes H → HoldsPeers peers
+    → IsKeyMet H peers key value insertions → (IsLastValue key value insertions → ⊥) → SomeCollision H (IsKeyPlaced H peers value key insertions)
+key_collides H peers key value insertions digests holds met untrue = elim (same_or_not value (value_in (last_under H (key_bits H key) insertions))) [
+  | inl same ↦ of_keys (last_under H (key_bits H key) insertions) refl same
+  | inr other ↦
+      let (p, diverges) = diverged_from_plain H peers key value insertions digests holds met in
+      shown_collides _ (key_shown H peers key value insertions p _ diverges refl other)
+]
+  where
+    of_keys : (o : Option (List ℕ × List ℕ)) → last_under H (key_bits H key) insertions ≡ o → value ≡ value_in o → SomeCollision H (IsKeyPlaced H peers value key insertions)
+    of_keys None last same = absurd (last_differs H peers key value insertions untrue None last tt same)
+    of_keys (Some e) last same = shown_collides _ (keys_shown H peers key value insertions untrue e digests last same)
+
+-- a map's own proof of a key meets the key's claim
+pub own_met : (H : List ℕ → List ℕ) (insertions : List (List ℕ × List ℕ)) (key value : List ℕ) (peers : List (Option (List ℕ)))
+    → last_under H (key_bits H key) insertions ≡ Some (key, value) → length peers ≤ 256 → Proves H 256 (map_of H insertions) (key_bits H key) peers → IsKeyMet H peers key value insertions
+own_met H insertions key value peers last few proves =
+    let n = all_bits H key in
+    rw n at (root_at_prefix H (map_of H insertions) [] (key_bits H key) peers (leaf_digest H value) (omega arith) few proves (rw (last_held, last) refl))
+
+-- a claim that is met and isn't true
+pub update_collides : (H : List ℕ → List ℕ) (peers : List (Option (List ℕ))) (key old new : List ℕ) (insertions : List (List ℕ × List ℕ)) → GivesHashes H → HoldsPeers peers
+    → IsKeyMet H peers key old insertions → ¬ (IsUpdated H peers key new insertions) → SomeCollision H (IsPlacedAtPrefix H peers old key insertions)
+update_collides H peers key old new insertions digests holds met untrue =
+    let (p, diverges) = diverged_from_plain H peers key old insertions digests holds met in
+    some_collision p (prefix_placed H peers key old insertions) (λ nowhere. absurd (untrue (nowhere.beside (leaf_digest H new) ∙ grown_root_is H insertions key new))) diverges
+
+-- one insertion more
+pub inserted_push : (H : List ℕ → List ℕ) (m : SparseMap) (es : List (List ℕ × List ℕ)) (key value : List ℕ) → inserted H m (es ++ (key, value) ∷ []) ≡ insert (inserted H m es) (key_bits H key) (leaf_digest H value)
+unfolding inserted
+inserted_push H m [] key value = refl
+inserted_push H m (e ∷ es) key value = inserted_push H (insert m (key_bits H e.0) (leaf_digest H e.1)) es key value
+
+-- a list of steps, behind others that led to the plain root
+steps_lead : (H : List ℕ → List ℕ) → GivesHashes H → (before steps : List Step) (root end : List ℕ) → AllByRecursion (λ (s : Step). HoldsPeers s.peers) steps
+    → root ≡ sparse_root H 256 (map_of H (insertions_of before)) → LeadThrough H root steps end
+    → (end ≡ sparse_root H 256 (map_of H (insertions_of (before ++ steps)))) ⊎ CollidesAtStep H (before ++ steps)
+unfolding LeadThrough
+steps_lead H digests before [] root end all is through = inl (rw append-nil (sym through ∙ is))
+steps_lead H digests before (s ∷ steps) root end all is through =
+    let (next, from_old, from_new, rest) = through in
+    elim (same_or_not (proof_value H s.peers (leaf_digest H s.new_value) (key_bits H s.key)) (sparse_root H 256 (map_of H (insertions_of before ++ (s.key, s.new_value) ∷ [])))) [
+      | inl updated ↦ rw append_assoc at (steps_lead H digests (before ++ s ∷ []) steps next end all.1 (rw map-append (sym from_new ∙ updated)) rest)
+      | inr untrue ↦ inr (record { before = before; step = s; after = steps; split = refl; collision = update_collides H s.peers s.key s.old_value s.new_value (insertions_of before) digests all.0 (from_old ∙ is) untrue })
+    ]
+
+pub steps_end : (H : List ℕ → List ℕ) (steps : List Step) (root : List ℕ) → GivesHashes H → AllByRecursion (λ (s : Step). HoldsPeers s.peers) steps
+    → LeadThrough H (sparse_root H 256 empty) steps root → (root ≡ sparse_root H 256 (map_of H (insertions_of steps))) ⊎ CollidesAtStep H steps
+unfolding inserted
+steps_end H steps root digests all through = steps_lead H digests [] steps (sparse_root H 256 empty) root all refl through
