@@ -80,8 +80,8 @@ module _ (H : Digest) {s w a n : ℕ} (some : 0 < w) (around : IsAround s w a n)
         }
 
 -- the leaves are as many as the entries
-pub length-leaves : (H : Digest) (entries : List (List ℕ)) → length (leaves_of H entries) ≡ length entries
-length-leaves H entries = length-map entries (λ e. H (0 ∷ e))
+pub leaves_count : (H : Digest) (entries : List (List ℕ)) → length (leaves_of H entries) ≡ length entries
+leaves_count H entries = length-map entries (λ e. H (0 ∷ e))
 
 -- An evaluation with the digest x at the w leaves from s on and the tree of these leaf digests diverge at these inputs, or have one digest there.
 abbrev pub DivergesFrom : Digest → Data → List ℕ → List (List ℕ) → ℕ → ℕ → List ℕ → List ℕ → Type 0
@@ -115,7 +115,7 @@ module _ (H : Digest) where
   -- the root over a range is the digest of the plain input there
   pub plain_digest_is : (entries : List (List ℕ)) (a n : ℕ) → 0 < n → a + n ≤ length entries → root_over H (leaves_of H entries) a n ≡ H (plain_input H entries a n)
   plain_digest_is entries a n some within =
-      let len = length-leaves H entries in grind (arith, nat_tests, root_over_parts H (leaves_of H entries) a n, root_over_one H (leaves_of H entries) a, get_or-map)
+      let len = leaves_count H entries in grind (arith, nat_tests, root_over_parts H (leaves_of H entries) a n, root_over_one H (leaves_of H entries) a, get_or-map)
 
   -- over the entries' own digests the evaluation's input at a range is the plain one, as where an evaluation diverges from the tree
   pub own_input : (entries : List (List ℕ)) (s w : ℕ) {a n : ℕ} (second : List ℕ) → IsPart 0 (length entries) a n → 1 < n
@@ -123,12 +123,12 @@ module _ (H : Digest) where
   own_input entries s w {a} {n} second part more is =
       let at = part_in part in
       let f = front_is_greatest n more in
-      let len = length-leaves H entries in
+      let len = leaves_count H entries in
       let left = own_cut (leaves_of H entries) s w (side_aligned a (front_of n) at.1 more (inl (refl, refl))) (omega arith) (omega arith) in
       let right = own_cut (leaves_of H entries) s w (side_aligned (a + front_of n) (n - front_of n) at.1 more (inr (refl, refl))) (omega arith) (omega arith) in grind (arith, nat_tests)
 
   pub own_second : {F : Data} {x : List ℕ} (entries ds : List (List ℕ)) {s w : ℕ} {first second : List ℕ} → ds ≡ leaves_of H entries → 0 < w → (diverges : DivergesFrom H F x ds s w first second)
       → IsPart 0 (length entries) diverges.from diverges.count × (second ≡ plain_input H entries diverges.from diverges.count)
   own_second entries ds {s} {w} {first} {second} is some diverges =
-      let part = rw (is, length-leaves H entries) at diverges.part in
+      let part = rw (is, leaves_count H entries) at diverges.part in
       let more = wider diverges.around diverges.other in (part, own_input entries s w second part (omega arith) (rw is at diverges.second_input))

@@ -12,7 +12,6 @@ use Rattle.warg_paths.proofs.ForCallers.{both_one}
 use Rattle.warg_witness.specs.Ranges.{IsPart, IsAround}
 use Rattle.warg_witness.specs.Ranges.IsPart.{whole as part_whole, front as part_front, rest as part_rest}
 use Rattle.warg_witness.specs.Inputs.{plain_input}
-use Rattle.warg_witness.specs.PathClaims.{IsTreeMet}
 use Rattle.warg_witness.specs.TreePlaced.{IsOnGrowth, IsTurn, IsTreePlaced, old_turn_input, new_turn_input}
 use Rattle.warg_witness.specs.TreePlaced.IsOnGrowth.{whole, front, rest}
 use Rattle.warg_witness.specs.Private.Compared.{DiffersFirst}
@@ -47,15 +46,6 @@ some_down H r s (top ∷ below) m n = grind (arith, some_grown, some_down H r s 
 
 pub leads_nowhere : (H : Digest) (m n : ℕ) (r s : List ℕ) (path : List (List ℕ)) → (is_some (consistency_roots H m n r path) ≡ false) ↔ (consistency_roots H m n s path ≡ None)
 leads_nowhere H m n r s path = grind (arith, some_down H r s (reverse path) m n)
-
--- the roots to which a path leads are those of the trees over the entries, where the claim is met, and the claim is met where they are
-module _ {V : Type 0} (bytes : V → List ℕ) (H : Digest) (path : List (List ℕ)) (old new : List V) (r p q : List ℕ) (is : r ≡ root_of H (leaves_of H (map bytes old)))
-    (led : consistency_roots H (length old) (length new) r path ≡ Some (p, q)) where
-  pub met_roots : IsTreeMet H path (map bytes old) (map bytes new) → (p ≡ r) × (q ≡ root_of H (leaves_of H (map bytes new)))
-  met_roots met = grind (arith, length-map old bytes, length-map new bytes)
-
-  pub roots_met : p ≡ r → q ≡ root_of H (leaves_of H (map bytes new)) → IsTreeMet H path (map bytes old) (map bytes new)
-  roots_met old_root new_root = grind (arith, length-map old bytes, length-map new bytes)
 
 -- leaves that end in the rest of a range split where it does
 pub same_front : (m n : ℕ) → 1 < n → front_of n < m → m ≤ n → front_of m ≡ front_of n

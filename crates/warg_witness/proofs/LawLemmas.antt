@@ -16,7 +16,7 @@ use Rattle.warg_witness.specs.Private.RangeClimbs.{IsRangeClimb}
 use Rattle.warg_witness.specs.declared.divergence.Divergence.{Divergence}
 use Rattle.warg_witness.proofs.RangeLemmas.{Digest, node_range, Data, more_than_one, node_some, wider, near_side, side_aligned, side_around, leaf_node, node_aligned, whole_aligned, Root, full_node, full_or_not, front_node, rest_aligned, root_full, root_front, root_rest}
 use Rattle.warg_witness.proofs.ClimbLemmas.{shown, up_somewhere}
-use Rattle.warg_witness.proofs.CutLemmas.{ranges_start, sides_there, ranges_up, length-leaves, have_root, have_range, plain_digest_is}
+use Rattle.warg_witness.proofs.CutLemmas.{ranges_start, sides_there, ranges_up, leaves_count, have_root, have_range, plain_digest_is}
 use Rattle.std.proofs.lemmas.Nat.{pow_pos}
 use Rattle.warg_log.specs.Nodes.{height_of, start_of, node_over}
 use Rattle.warg_witness.specs.Placed.{IsValuePlaced, IsHashPlaced, IsAgreementPlaced, IsConsistencyPlaced}
@@ -122,7 +122,7 @@ some_collision (Branch branches) placed meet is = shown_collides (inputs branche
 module _ (H : Digest) where
   -- each root over the entries has 32 bytes, and so has what their log holds
   root_size : (entries : List (List ℕ)) (a n : ℕ) → HasSize H → 0 < n → a + n ≤ length (leaves_of H entries) → length (root_over H (leaves_of H entries) a n) ≡ 32
-  root_size entries a n gives some within = grind (arith, plain_digest_is H entries a n some, length-leaves H entries)
+  root_size entries a n gives some within = grind (arith, plain_digest_is H entries a n some, leaves_count H entries)
 
   own_holds : (entries : List (List ℕ)) → HasSize H → HoldsHashes (own_digest H (leaves_of H entries))
   own_holds entries gives node digest is = grind (arith, nat_tests, pow_pos (height_of node), root_size entries (start_of node) (2 ^ height_of node) gives)
@@ -140,7 +140,7 @@ module _ (H : Digest) where
   -- a claim that is met leads to the root of the tree
   leads_to : {F : Data} {p : InclusionClaim} {digest : List ℕ} {entries : List (List ℕ)} → IsMet H F p digest entries → let ds = leaves_of H entries in let node = p.leaf.0 in
       (start_of node + 2 ^ height_of node ≤ length ds) × (cut_over H (with_target F (range_of node) digest) (leaves_from 0 (length ds)) ≡ Some (root_of H ds))
-  leads_to {F} {p} {digest} {entries} met = let at = (inclusion_leads H F p digest _).0 met.is in grind (arith, length-leaves H entries)
+  leads_to {F} {p} {digest} {entries} met = let at = (inclusion_leads H F p digest _).0 met.is in grind (arith, leaves_count H entries)
 
   pub value_collides : (F : Data) (p : InclusionClaim) (value : List ℕ) (entries : List (List ℕ)) → GivesHashes H → HoldsHashes F → IsMet H F p (H (0 ∷ value)) entries
       → ¬ (IsEntry value p.leaf.0 entries) → SomeCollision H (IsValuePlaced H F value p.leaf.0 entries)
@@ -174,8 +174,8 @@ module _ (H : Digest) where
       let ds = leaves_of H old in
       let es = leaves_of H new in
       let found = difference old new (omega arith) untrue in
-      let root = root_found found.0 (length ds) 0 (length ds) (omega arith) (whole_aligned (length ds) refl) (omega arith) (omega (arith, length-leaves H old)) in
-      let leads = root_leads (rw (length-leaves H old, length-leaves H new, met.old_count, met.new_count) met.roots) root.2 in
+      let root = root_found found.0 (length ds) 0 (length ds) (omega arith) (whole_aligned (length ds) refl) (omega arith) (omega (arith, leaves_count H old)) in
+      let leads = root_leads (rw (leaves_count H old, leaves_count H new, met.old_count, met.new_count) met.roots) root.2 in
       let at = leads.1 in
       let place = found.0 in
       let size = holds _ _ at.held in

@@ -11,7 +11,7 @@ use Rattle.warg_paths.proofs.ForCallers.{root_short, root_one, root_long, path_o
 use Rattle.warg_witness.specs.PathClaims.{IsRecord}
 use Rattle.warg_witness.specs.Private.PathDivergence.{IsPathMeeting, tree_input}
 use Rattle.warg_witness.proofs.RangeLemmas.{Digest, whole_aligned, side_aligned}
-use Rattle.warg_witness.proofs.CutLemmas.{length-leaves, plain_digest_is}
+use Rattle.warg_witness.proofs.CutLemmas.{leaves_count, plain_digest_is}
 use Rattle.warg_witness.proofs.ShownLemmas.{entry_at}
 use Rattle.warg_crypto.specs.Tree.{input_beside}
 use Rattle.warg_witness.specs.Ranges.{IsAround}
@@ -54,7 +54,7 @@ rest_leads H m n x top below more le = rw (lt-leb n 1 more, le-ltb m (front_of n
 
 -- a path that leads to the root of the tree over the entries leads to the root over all leaves
 pub whole_root : (H : Digest) (entries : List (List ℕ)) → root_of H (leaves_of H entries) ≡ root_over H (leaves_of H entries) 0 (length entries)
-whole_root H entries = rw (← length-leaves H entries) (sym (ap (root_of H) (take-length (leaves_of H entries))))
+whole_root H entries = rw (← leaves_count H entries) (sym (ap (root_of H) (take-length (leaves_of H entries))))
 
 -- an entry that is read and has other bytes than the value
 pub read_other : {V : Type 0} (bytes : V → List ℕ) (H : Digest) (index : ℕ) (path : List (List ℕ)) (value x : List ℕ) (entries : List V) (tree : List (List ℕ)) {e : V}
@@ -234,7 +234,7 @@ record_shown : {D : Type 0} (H : Digest) (index : ℕ) (path : List (List ℕ)) 
     → DivergesFromTree H (H (0 ∷ value)) path (leaves_of H entries) index p → Shows H (IsRecordPlaced H index path value entries) (inputs_of p (0 ∷ value) (0 ∷ get_or entries index []))
 record_shown {D} H index path value entries p inside other is =
     let tree = leaves_of H entries in
-    let count = length-leaves H entries in
+    let count = leaves_count H entries in
     shown p
     (λ first second (here : PathsDiverge H (H (0 ∷ value)) (reverse path) (get_or (leaves_of H entries) index []) (reverse is.own) index 0 (length (leaves_of H entries)) first second).
     let own = own_input H tree is.own index (omega (arith, count)) is.own_is here.other_on_way in

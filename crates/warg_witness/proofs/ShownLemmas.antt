@@ -15,7 +15,7 @@ use Rattle.warg_witness.specs.Private.Divergence.{MeetAt, DivergesAt, IsDivergen
 use Rattle.warg_witness.specs.declared.divergence.Divergence.{Divergence}
 use Rattle.warg_witness.proofs.RangeLemmas.{Digest, Data, part_in, IsPart-trans, wider, whole_aligned, node_some, Root, node_bounds, rest_aligned, by_root, root_stands, root_at_part}
 use Rattle.warg_witness.proofs.ClimbLemmas.{shown}
-use Rattle.warg_witness.proofs.CutLemmas.{length-leaves, DivergesFrom, Meets, plain_digest_is, own_second, own_input}
+use Rattle.warg_witness.proofs.CutLemmas.{leaves_count, DivergesFrom, Meets, plain_digest_is, own_second, own_input}
 use Rattle.warg_log.proofs.ForCallers.{starts, counts, pow_below_pow, cut_old, cut_parts, cut_target, front_is_greatest, old_full, old_parts}
 use Rattle.warg_log.specs.Cut.{Evaluation, with_target, cut_over, old_over, IsFull}
 use Rattle.warg_witness.specs.Ranges.{IsPart}
@@ -58,7 +58,7 @@ module _ (H : Digest) (F : Data) (entries ds : List (List ℕ)) (is : ds ≡ lea
   pub value_meets : (value : List ℕ) → (IsAt value entries (start_of node) (2 ^ height_of node) → ⊥)
       → Meets H (H (0 ∷ value)) ds (start_of node) (2 ^ height_of node) → Shows H (IsValuePlaced H F value node entries) (0 ∷ value, plain_input H entries (start_of node) (2 ^ height_of node))
   value_meets value other meets =
-      let part = rw (is, length-leaves H entries) at meets.part in
+      let part = rw (is, leaves_count H entries) at meets.part in
       let plain = rw is at meets.same ∙ plain_digest_is H entries _ _ (pow_pos (height_of node)) (part_in part).0 in record {
         collides = record { differ = λ e. other (leaf_same H value entries _ _ (pow_pos (height_of node)) e); same = plain };
         placed = search (part, value_here, arith);
@@ -85,7 +85,7 @@ module _ {D : Type 0} {H : Digest} {F : Data} {proof : InclusionClaim} {entries 
 entry_is : {D V : Type 0} {H : Digest} {F : Data} {proof : InclusionClaim} (bytes : V → List ℕ) (entries : List V) {tree : List (List ℕ)} {start count : ℕ} {x plain : List ℕ} {p : Divergence D} {e : V}
     → IsMeeting H F proof x (map bytes entries) tree start count plain p → count ≡ 1 → e ≡ get_or entries start e → get_or (map bytes entries) start [] ≡ bytes e
 entry_is {H = H} bytes entries {start = start} met leaf at =
-    let within = met.within in entry_at bytes entries start (omega (arith, ap length met.tree_is, length-leaves H (map bytes entries), length-map entries bytes)) at
+    let within = met.within in entry_at bytes entries start (omega (arith, ap length met.tree_is, leaves_count H (map bytes entries), length-map entries bytes)) at
 
 module _ {D V : Type 0} {H : Digest} {F : Data} {proof : InclusionClaim} (bytes : V → List ℕ) (entries : List V) {tree : List (List ℕ)} {start count : ℕ} {value plain : List ℕ} {p : Divergence D} {e : V}
     (met : IsMeeting H F proof (H (0 ∷ value)) (map bytes entries) tree start count plain p) (leaf : count ≡ 1) (at : e ≡ get_or entries start e) where
@@ -200,7 +200,7 @@ module _ {H : Digest} {F : Data} {old new old_tree new_tree : List (List ℕ)} (
   pub new_placed : (first second : List ℕ) → DivergesFrom H F x new_tree s w first second → IsConsistencyPlaced H F old new first second
   new_placed first second diverges =
       let numbers = node_bounds at.node in
-      let is_root = rw (old_is, length-leaves H old) at at.root in
+      let is_root = rw (old_is, leaves_count H old) at at.root in
       let hashed = hash_placed H F new new_tree new_is (node_over s w) x first second (rw (numbers.0, numbers.1) diverges) in inr (inl (search (is_root, at.held, hashed)))
 
   -- where both trees have one digest at the root's range
@@ -210,7 +210,7 @@ module _ {H : Digest} {F : Data} {old new old_tree new_tree : List (List ℕ)} (
   below_shown place new_part differ p diverges =
       let some = node_some at.node in
       let old_part = (root_stands (record { node = at.node; contained = at.root }) (omega arith) (whole_aligned (length old_tree) refl)).part in
-      let pair = both_shown H old new place s w (rw (old_is, length-leaves H old) at old_part) (rw (new_is, length-leaves H new) at new_part) p (rw (old_is, new_is) at diverges) differ in
+      let pair = both_shown H old new place s w (rw (old_is, leaves_count H old) at old_part) (rw (new_is, leaves_count H new) at new_part) p (rw (old_is, new_is) at diverges) differ in
       record { collides = pair.collides; placed = inr (inr pair.placed) }
 
 -- what entries show, once they are read

@@ -115,6 +115,7 @@ pub fn steps_or_collision()
 
 /// A map's own proof of a key whose value was inserted last of its digest meets the claim of any update of it, and the
 /// claim is true.
+#[tactic(auto, using(crate::proofs::LawLemmas::own_met, crate::proofs::LawLemmas::inserted_push, warg_map::proofs::ForCallers::all_bits, warg_map::proofs::ForCallers::replaced_root))]
 pub fn own_update()
     ensures { (H : List ℕ → List ℕ) (insertions : List (List ℕ × List ℕ))
         (key old_value new_value : List ℕ)
@@ -125,6 +126,7 @@ pub fn own_update()
 {}
 
 /// A map's own proof that a key's digest isn't held meets the claim of any insertion under it, and the claim is true.
+#[tactic(auto, using(crate::proofs::LawLemmas::inserted_push, warg_map::proofs::ForCallers::all_bits, warg_map::proofs::ForCallers::absent_root, warg_map::proofs::ForCallers::absent_replaced_root))]
 pub fn own_insertion()
     ensures { (H : List ℕ → List ℕ) (insertions : List (List ℕ × List ℕ)) (key value : List ℕ)
         (peers : List (Option (List ℕ)))
@@ -135,6 +137,7 @@ pub fn own_insertion()
 /// Where two maps of insertions have equal roots, each value of the one that its map holds, under the key that was
 /// inserted last of its digest, meets the claim over the other's insertions, by its own proof. So
 /// [`witness_key`](crate::witness_key) returns `Holds` or a collision there.
+#[tactic(auto, using(crate::proofs::LawLemmas::own_met))]
 pub fn equal_roots()
     ensures { (H : List ℕ → List ℕ) (insertions others : List (List ℕ × List ℕ))
         (key value : List ℕ) (peers : List (Option (List ℕ)))

@@ -16,7 +16,8 @@ pub(crate) fn plain_tree<D: SupportedDigest, V: VisitBytes, A: Allocator>(
     requires { length entries.now ≤ 2 ^ 63 }
     ensures tree { IfOk result (λ plain. plain.0
         ≡ leaves_of D.digest (map V.bytes entries.now)) }
-    ensures root { IfOk result (λ plain. plain.1 ≡ root_of D.digest plain.0) }
+    ensures root { IfOk result (λ plain. plain.1
+        ≡ root_of D.digest (leaves_of D.digest (map V.bytes entries.now))) }
 {
     let mut tree = VecLog::default(alloc);
     let checkpoint = push_all(&mut tree, entries)?;
@@ -24,6 +25,7 @@ pub(crate) fn plain_tree<D: SupportedDigest, V: VisitBytes, A: Allocator>(
 }
 
 /// The root over a range of the tree.
+#[tactic(auto, using(warg_log::proofs::ForCallers::old_own_range))]
 pub(crate) fn plain_digest<D: SupportedDigest, V: VisitBytes, A: Allocator>(
     tree: &VecLog<D, V, A>,
     range: &LeafRange,

@@ -25,7 +25,7 @@ pub(crate) struct Trees<D: SupportedDigest, V: VisitBytes, A: Allocator> {
 
 // Whether an old and a new entry at one place have the same bytes. They don't where their leaf digests
 // differ; else their bytes are compared.
-#[tactic(auto, using(crate::proofs::RangeLemmas::leaf_aligned))]
+#[tactic(auto, using(crate::proofs::RangeLemmas::leaf_aligned, warg_log::proofs::ForCallers::root_over_one, crate::proofs::HashLemmas::hashes_decide))]
 fn is_same_entry<D: SupportedDigest, V: VisitBytes, A: Allocator>(
     trees: &Trees<D, V, A>,
     place: usize,

@@ -1,6 +1,0 @@
-use Rattle.std.proofs.Common.{◌∙◌}
-use Rattle.warg_witness.proofs.LawLemmas.{own_met}
-use Rattle.warg_witness.proofs.laws.equal_roots.Goals as goal
-
-pub returns : goal.returns
-returns c H insertions others key value peers same last few proves = own_met H insertions key value peers last few proves ∙ same
