@@ -37,7 +37,7 @@ joined_input H _ _ i is = absurd (cc)
 module _ (H : Digest) {s w a n : ℕ} (some : 0 < w) (around : IsAround s w a n) (other : a ≡ s → n ≡ w → ⊥) where
   module _ (F : Data) (x : List ℕ) where
     -- the cut root of a range around a target is the branch over its sides
-    cut_around : cut_over H F x s w a n ≡ joined H (cut_over H F x s w a (front_of n)) (cut_over H F x s w (a + front_of n) (n - front_of n))
+    pub cut_around : cut_over H F x s w a n ≡ joined H (cut_over H F x s w a (front_of n)) (cut_over H F x s w (a + front_of n) (n - front_of n))
     cut_around = let more = wider around other in cut_parts H F x s w a n (omega arith) other (λ _ beside. omega arith)
 
     -- so a digest at the range takes one at each side
@@ -59,9 +59,9 @@ module _ (H : Digest) {s w a n : ℕ} (some : 0 < w) (around : IsAround s w a n)
     sides_root sides near far = cut_around ∙ joined_input H _ _ _ (sides_input sides near far)
 
   module _ (F : Data) (x : List ℕ) (G : Data) (y : List ℕ) {right : Bool} {b m c k : ℕ} (sides : AreSides right a n b m c k) where
-    -- where a digest lacks at a side, one lacks at the range
-    pub sides_lack : ((t u z v : List ℕ) → cut_over H F x s w b m ≡ Some t → cut_over H F x s w c k ≡ Some u → cut_over H G y s w b m ≡ Some z → cut_over H G y s w c k ≡ Some v → ⊥) → LackDigest H F x G y s w a n
-    sides_lack none = λ d e is other_is. let first = sides_there F x sides is in let second = sides_there G y sides other_is in none _ _ _ _ first.2 first.3 second.2 second.3
+    -- where a digest lacks on the near side, one lacks at the range
+    pub sides_lack : LackDigest H F x G y s w b m → LackDigest H F x G y s w a n
+    sides_lack none = λ d e is other_is. let first = sides_there F x sides is in let second = sides_there G y sides other_is in none _ _ first.2 second.2
 
     -- one branch up
     pub ranges_up : {D : Type 0} {t u z v d e : List ℕ} {p q : Divergence D} → IsRangeClimb H F x G y s w b m t z p → cut_over H F x s w c k ≡ Some u → cut_over H G y s w c k ≡ Some v

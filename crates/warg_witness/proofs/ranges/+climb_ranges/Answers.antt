@@ -10,17 +10,7 @@ returns-then-eq g t c =
 
 pub returns-in_err-climb : goal.returns-in_err-climb
 returns-in_err-climb g t c =
-    rw c.from_residual.ensures (sides_lack _ c.args.target.now.some c.requires.around (grind arith) _ _ _ _ c.sides_around-right.ensures.sides (λ t u z v near _ other _. c.in_err-climb.ensures t z near other))
-
-pub returns-in_err-first_beside : goal.returns-in_err-first_beside
-returns-in_err-first_beside g t c =
-    rw c.from_residual-in_err-first_beside.ensures
-    (sides_lack _ c.args.target.now.some c.requires.around (grind arith) _ _ _ _ c.sides_around-right.ensures.sides (λ t u z v _ far _ _. (cc (c.in_err-first_beside.ensures))))
-
-pub returns-in_err-second_beside : goal.returns-in_err-second_beside
-returns-in_err-second_beside g t c =
-    rw c.from_residual-in_err-second_beside.ensures
-    (sides_lack _ c.args.target.now.some c.requires.around (grind arith) _ _ _ _ c.sides_around-right.ensures.sides (λ t u z v _ _ _ far. (cc (c.in_err-second_beside.ensures))))
+    rw c.from_residual.ensures (sides_lack _ c.args.target.now.some c.requires.around (grind arith) _ _ _ _ c.sides_around-right.ensures.sides c.in_err-climb.ensures)
 
 pub returns : goal.returns
 returns g t c =

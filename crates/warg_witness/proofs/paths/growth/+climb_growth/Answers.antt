@@ -1,10 +1,6 @@
-use Rattle.std.proofs.Common.{rules, ◌+◌, ◌-◌, ◌≤◌, None, length, sym, ◌∙◌, arith, inr}
-use Rattle.warg_log.specs.Ranges.{IsAligned}
-use Rattle.warg_paths.proofs.ForCallers.{both_short}
-use Rattle.warg_witness.specs.Ranges.{IsAround}
-use Rattle.warg_witness.proofs.RangeLemmas.{side_aligned}
+use Rattle.std.proofs.Common.{◌-◌, None, sym, ◌∙◌, arith}
 use Rattle.warg_witness.proofs.RecordLemmas.{turned}
-use Rattle.warg_witness.proofs.GrowthLemmas.{subproof_is, growth_starts, front_none, rest_none, front_up, rest_up, shared_up}
+use Rattle.warg_witness.proofs.GrowthLemmas.{subproof_is, growth_starts, front_up, rest_up, shared_up}
 use Rattle.warg_witness.proofs.paths.growth.+climb_growth.Goals as goal
 
 pub returns-then-old_length-range : goal.returns-then-old_length-range
@@ -13,30 +9,11 @@ returns-then-old_length-range g t c =
     growth_starts _ c.args.trees.now.old c.args.trees.now.new _ _ _ _ _ c.args.path.now c.if-old_length-range.true c.requires.around leads c.growth_at.ensures.shared c.growth_at.ensures.first
     c.growth_at.ensures.old c.growth_at.ensures.new c.growth_at.ensures.targets
 
-pub returns-in_err-top : goal.returns-in_err-top
-returns-in_err-top g t c = rw c.from_residual-in_err-top.ensures (both_short _ _ _ _ c.args.path.now (omega arith) c.in_err-top.ensures.cases)
-
-pub returns-in_err-growth : goal.returns-in_err-growth
-returns-in_err-growth g t c =
-    rw (c.from_residual-in_err-growth.ensures, turned _ _ _ c.in_ok-top.ensures.cases.0)
-    (front_none _ _ _ _ _ _ (omega arith) (rw c.split.ensures.front.1 at c.if-old_length-front.true) (rw c.split.ensures.front.1 at c.in_err-growth.ensures))
-
 pub returns-then-old_length-front : goal.returns-then-old_length-front
 returns-then-old_length-front g t c =
     rw (turned _ _ _ c.in_ok-top.ensures.cases.0)
     (front_up _ c.args.trees.now.old c.args.trees.now.new _ _ _ _ _ _ _ (omega arith) (omega arith) c.requires.in_old c.requires.in_new (rw c.split.ensures.front.1 at c.if-old_length-front.true)
     (rw (c.split.ensures.front.0, c.split.ensures.front.1) at c.in_ok-growth.ensures) (rw (c.split.ensures.rest.0, c.split.ensures.rest.1) at c.plain_digest-new_rest.ensures) c.up.ensures)
-
-pub returns-in_err-old : goal.returns-in_err-old
-returns-in_err-old g t c =
-    let none = sym (subproof_is g.D.SupportedDigest.digest None (c.args.old_length - c.split.result.0.count) c.split.result.1.count c.in_ok-top.below.now (omega arith) (omega arith)) ∙ rw c.new-old_rest.ensures.count at (sym c.in_err-old.ensures) in
-    rw (c.from_residual-in_err-old.ensures, turned _ _ _ c.in_ok-top.ensures.cases.0)
-    (rest_none _ _ _ _ _ _ (omega arith) (rw c.split.ensures.front.1 at c.if-old_length-front.false) (rw (c.split.ensures.front.1, c.split.ensures.rest.1) at none))
-
-pub plain_digest-requires-clause-aligned : goal.plain_digest-requires-clause-aligned
-plain_digest-requires-clause-aligned g t c =
-    let rest : IsAligned c.split.result.1.start c.split.result.1.count = side_aligned _ _ c.requires.aligned (omega arith) (inr c.split.ensures.rest) in
-    record { height = rest.height; place = rest.place; start = c.new-old_rest.ensures.start ∙ rest.start; most = omega arith }
 
 pub returns-then-place-rest : goal.returns-then-place-rest
 returns-then-place-rest g t c =
@@ -47,20 +24,6 @@ returns-then-place-rest g t c =
     (rw (c.split.ensures.front.1, c.split.ensures.rest.1) at led) (record { starts = c.requires.around.starts; ends = omega arith })
     (rw (c.new-old_rest.ensures.start, c.new-old_rest.ensures.count, c.split.ensures.rest.0, c.split.ensures.front.1) at c.plain_digest.ensures) (rw (c.split.ensures.rest.0, c.split.ensures.rest.1) at c.plain_digest-then-place-rest.ensures)
     (rw (at.first.0, at.old, at.targets.0, c.split.ensures.front.0, c.split.ensures.front.1) at c.up-then-place-rest.ensures) (rw (at.first.1, at.new, at.targets.1, c.split.ensures.front.0, c.split.ensures.front.1) at c.up-then-place-rest-2.ensures))
-
-pub climb_growth-requires-2 : goal.climb_growth-requires-2
-climb_growth-requires-2 g t c κs within =
-    let order : c.new-old_rest.result.count ≤ c.split.result.1.count = omega arith in
-    let around : IsAround c.args.place 1 c.split.result.1.start c.new-old_rest.result.count = record { starts = omega arith; ends = omega arith } in
-    let aligned : IsAligned c.split.result.1.start c.split.result.1.count = side_aligned _ _ c.requires.aligned (omega arith) (inr c.split.ensures.rest) in
-    let in_old : c.split.result.1.start + c.new-old_rest.result.count ≤ length c.args.trees.now.old = omega arith in
-    let in_new : c.split.result.1.start + c.split.result.1.count ≤ length c.args.trees.now.new = omega arith in
-    search rules
-
-pub returns-in_err-growth-2 : goal.returns-in_err-growth-2
-returns-in_err-growth-2 g t c =
-    rw (c.from_residual-in_err-growth-2.ensures, turned _ _ _ c.in_ok-top.ensures.cases.0)
-    (rest_none _ _ _ _ _ _ (omega arith) (rw c.split.ensures.front.1 at c.if-old_length-front.false) (rw (c.new-old_rest.ensures.count, c.split.ensures.front.1, c.split.ensures.rest.1) at c.in_err-growth-2.ensures))
 
 pub returns : goal.returns
 returns g t c =
