@@ -40,7 +40,7 @@ module _ (H : Digest) {s w a n : ℕ} (some : 0 < w) (around : IsAround s w a n)
     root_at b m = cut_over H (with_target F (leaves_from s w) x) (leaves_from b m)
 
     -- the cut root of a range around a target is the branch over its sides
-    cut_around : root_at a n ≡ joined H (root_at a (front_of n)) (root_at (a + front_of n) (n - front_of n))
+    pub cut_around : root_at a n ≡ joined H (root_at a (front_of n)) (root_at (a + front_of n) (n - front_of n))
     cut_around = let more = wider around other in cut_parts H (with_target F (leaves_from s w) x) (leaves_from a n) (omega arith) (λ same. other (starts same) (counts same))
         (λ _ beside. omega arith)
 

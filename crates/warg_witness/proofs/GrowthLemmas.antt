@@ -8,7 +8,7 @@ use Rattle.warg_crypto.specs.Tree.{branch_input, input_beside}
 use Rattle.warg_log.specs.Tree.{front_of, leaves_of, root_of, root_over, own_digest}
 use Rattle.warg_log.proofs.ForCallers.{front_is_greatest, front_of_is, root_over_parts}
 use Rattle.warg_paths.specs.Paths.{roots_down, consistency_roots, subproof_roots, one_root, twice, grown, both_over}
-use Rattle.warg_paths.proofs.ForCallers.{both_one}
+use Rattle.warg_paths.proofs.ForCallers.{both_one, both_short, both_front, both_rest}
 use Rattle.warg_witness.specs.Ranges.{IsPart, IsAround}
 use Rattle.warg_witness.specs.Ranges.IsPart.{whole as part_whole, front as part_front, rest as part_rest}
 use Rattle.warg_witness.specs.Inputs.{plain_input}
@@ -46,6 +46,9 @@ some_down H r s (top ∷ below) m n = grind (arith, some_grown, some_down H r s 
 
 pub leads_nowhere : (H : Digest) (m n : ℕ) (r s : List ℕ) (path : List (List ℕ)) → (is_some (consistency_roots H m n r path) ≡ false) ↔ (consistency_roots H m n s path ≡ None)
 leads_nowhere H m n r s path = grind (arith, some_down H r s (reverse path) m n)
+
+-- a path leads nowhere where it is too short or where what is below its topmost digest leads nowhere
+pub ruleset path_none = (both_short, both_front, both_rest)
 
 -- leaves that end in the rest of a range split where it does
 pub same_front : (m n : ℕ) → 1 < n → front_of n < m → m ≤ n → front_of m ≡ front_of n
@@ -107,13 +110,6 @@ module _ (H : Digest) (known : Option (List ℕ)) (m n : ℕ) (top : List ℕ) (
   rest_turn : front_of n < m → roots_down H known m n (top ∷ below) ≡ both_over H top (roots_down H None (m - front_of n) (n - front_of n) below)
   unfolding roots_down
   rest_turn high = rw (ne_eqb m n (λ e. omega arith), lt-leb m (front_of n) high) refl
-
-  -- where the digests below lead nowhere, so do all
-  pub front_none : m ≤ front_of n → roots_down H known m (front_of n) below ≡ None → roots_down H known m n (top ∷ below) ≡ None
-  front_none low none = rw (front_turn low, none) refl
-
-  pub rest_none : front_of n < m → roots_down H None (m - front_of n) (n - front_of n) below ≡ None → roots_down H known m n (top ∷ below) ≡ None
-  rest_none high none = rw (rest_turn high, none) refl
 
 module _ (H : Digest) (old_tree new_tree : List (List ℕ)) (place : ℕ) (known : Option (List ℕ)) (m a n : ℕ) (top : List ℕ) (below : List (List ℕ)) (some : 0 < m) (more : m < n) where
   -- Where a collision at the range stands, of all entries and all paths for which it is on the way.

@@ -12,6 +12,9 @@ hashes_decide = bytes_decides
 pub entries_count : {V : Type 0} (bytes : V → List ℕ) (entries : List V) → length (map bytes entries) ≡ length entries
 entries_count bytes entries = length-map entries bytes
 
+-- what tells whether roots over entries are met
+pub ruleset meets = (hashes_decide, entries_count)
+
 -- hashes that a test found to differ
 pub eq_false : (xs ys : List ℕ) → false ≡ (pointwise nat_eq xs ys && true) → xs ≡ ys → ⊥
 eq_false xs ys is same = grind (arith, bytes_decides)

@@ -40,7 +40,7 @@ use Rattle.warg_map.specs.ProofValue.{peer_of, proof_value}
 use Rattle.warg_witness.specs.MapInputs.{fork_input}
 use Rattle.warg_witness.proofs.PathLemmas.{no_bits, climb_up}
 use Rattle.warg_witness.proofs.KeyLemmas.{DivergesFromPlain, key_agreement_shown, plain_root_is, key_shown, last_differs, keys_shown, prefix_placed, grown_root_is}
-use Rattle.warg_map.proofs.ForCallers.{all_bits, last_held, root_at_prefix}
+use Rattle.warg_map.proofs.ForCallers.{all_bits, last_held, root_at_prefix, absent_root, absent_replaced_root}
 use Rattle.std.proofs.lemmas.List.{append-nil, map-append}
 use Rattle.std.specs.List.{AllByRecursion}
 use Rattle.warg_witness.specs.UpdateClaims.{IsUpdated, Step, insertions_of, LeadThrough, CollidesAtStep}
@@ -286,6 +286,8 @@ pub inserted_push : (H : List ℕ → List ℕ) (m : SparseMap) (es : List (List
 unfolding inserted
 inserted_push H m [] key value = refl
 inserted_push H m (e ∷ es) key value = inserted_push H (insert m (key_bits H e.0) (leaf_digest H e.1)) es key value
+
+pub ruleset proves_absent = (all_bits, absent_root, absent_replaced_root)
 
 -- a list of steps, behind others that led to the plain root
 steps_lead : (H : List ℕ → List ℕ) → GivesHashes H → (before steps : List Step) (root end : List ℕ) → AllByRecursion (λ (s : Step). HoldsPeers s.peers) steps

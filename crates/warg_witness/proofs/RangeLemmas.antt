@@ -90,6 +90,11 @@ side_aligned {a} {n} b m aligned more side =
 pub beside_aligned : {a n b m : ℕ} → IsAligned a n → 1 < n → (b ≡ a + front_of n) × (m ≡ n - front_of n) → IsAligned b m
 beside_aligned aligned more side = side_aligned _ _ aligned more (inr side)
 
+-- so is what begins there and is shorter
+pub shorter_aligned : {a n b m : ℕ} → IsAligned a n → 1 < n → b ≡ a + front_of n → m ≤ n - front_of n → IsAligned b m
+shorter_aligned aligned more start shorter =
+    let rest = beside_aligned aligned more (start, refl) in record { height = rest.height; place = rest.place; start = rest.start; most = omega (arith, rest.most) }
+
 -- of the sides of a range around a target, the one in which the target begins is around it
 pub front_around : {s w a n : ℕ} → IsNodeRange s w → IsAligned a n → IsAround s w a n → (a ≡ s → n ≡ w → ⊥) → s < a + front_of n → s + w ≤ a + front_of n
 front_around {s} {w} {a} {n} node aligned around other left =

@@ -7,7 +7,7 @@ use Rattle.std.proofs.Math.Seq.{take-length}
 use Rattle.warg_log.specs.Tree.{front_of, leaves_of, root_of, root_over, own_digest}
 use Rattle.warg_log.specs.Cut.{joined, old_over}
 use Rattle.warg_paths.specs.Paths.{inclusion_root, root_down, beside, inclusion_of, inclusion_over}
-use Rattle.warg_paths.proofs.ForCallers.{root_short, root_one, root_long, path_one, path_front, path_rest, own_path_leads}
+use Rattle.warg_paths.proofs.ForCallers.{root_one, path_one, path_front, path_rest, own_path_leads}
 use Rattle.warg_witness.specs.PathClaims.{IsRecord}
 use Rattle.warg_witness.specs.Private.PathDivergence.{IsPathMeeting, tree_input}
 use Rattle.warg_witness.proofs.RangeLemmas.{Digest, whole_aligned, side_aligned}
@@ -34,10 +34,6 @@ leads_inside H m n x root path is = grind (arith, nat_tests)
 
 pub inside_leads : (H : Digest) (m n : ℕ) (x : List ℕ) (path : List (List ℕ)) → m < n → inclusion_root H m n x path ≡ root_down H m n x (reverse path)
 inside_leads H m n x path lt = rw (lt-ltb m n lt) refl
-
--- of more leaves, no digests lead nowhere
-pub none_leads : (H : Digest) (m n : ℕ) (x root : List ℕ) (path : List (List ℕ)) → 1 < n → length path ≡ 0 → root_down H m n x (reverse path) ≡ Some root → ⊥
-none_leads H m n x root path more none is = let nowhere = root_short H m n x path more none in cc
 
 -- a path from the topmost digest down
 pub turned : (path below : List (List ℕ)) (top : List ℕ) → path ≡ below ++ top ∷ [] → reverse path ≡ top ∷ reverse below
@@ -123,16 +119,6 @@ module _ {right : Bool} {s a n b k c j : ℕ} (sides : AreSides right a n b k c 
   paths_nowhere H x y t u ds es nowhere = λ first second is other.
       let one = part_there H x t first ds is in
       let two = part_there H y u second es other in nowhere one.0 two.0 one.1 two.1
-
--- where no digests are left of one path, or too many, one path leads nowhere
-pub first_short : (H : Digest) (x y : List ℕ) (path : List (List ℕ)) (es : List (List ℕ)) (m n : ℕ) → 1 < n → length path ≡ 0 → LeadNowhere H x (reverse path) y es m n
-first_short H x y path es m n more none = λ first second is other. none_leads H m n x first path more none is
-
-pub second_short : (H : Digest) (x y : List ℕ) (ds : List (List ℕ)) (path : List (List ℕ)) (m n : ℕ) → 1 < n → length path ≡ 0 → LeadNowhere H x ds y (reverse path) m n
-second_short H x y ds path m n more none = λ first second is other. none_leads H m n y second path more none other
-
-pub one_long : (H : Digest) (x y : List ℕ) (path other_path : List (List ℕ)) (m n : ℕ) → n ≡ 1 → ((length path ≡ 0) × (length other_path ≡ 0) → ⊥) → LeadNowhere H x (reverse path) y (reverse other_path) m n
-one_long H x y path other_path m n one long = λ first second is other. grind (arith, root_long H m x path, root_long H m y other_path)
 
 -- both evaluations over all leaves
 pub climbs_meet : {D : Type 0} {H : Digest} {x y : List ℕ} (path other_path : List (List ℕ)) {m n : ℕ} {first second : List ℕ} {p : Divergence D} → m < n

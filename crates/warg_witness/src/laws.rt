@@ -126,7 +126,7 @@ pub fn own_update()
 {}
 
 /// A map's own proof that a key's digest isn't held meets the claim of any insertion under it, and the claim is true.
-#[tactic(auto, using(crate::proofs::LawLemmas::inserted_push, warg_map::proofs::ForCallers::all_bits, warg_map::proofs::ForCallers::absent_root, warg_map::proofs::ForCallers::absent_replaced_root))]
+#[tactic(auto, using(crate::proofs::LawLemmas::inserted_push, crate::proofs::LawLemmas::proves_absent))]
 pub fn own_insertion()
     ensures { (H : List ℕ → List ℕ) (insertions : List (List ℕ × List ℕ)) (key value : List ℕ)
         (peers : List (Option (List ℕ)))

@@ -34,7 +34,7 @@ pub(crate) struct Meeting<D: SupportedDigest, V: VisitBytes, A: Allocator> {
 }
 
 // The meeting of a proof with a digest at its node with the entries, or None where they don't meet.
-#[tactic(auto, using(crate::proofs::RangeLemmas::whole_aligned, crate::proofs::HashLemmas::hashes_decide, crate::proofs::HashLemmas::entries_count))]
+#[tactic(auto, using(crate::proofs::RangeLemmas::whole_aligned, crate::proofs::HashLemmas::meets))]
 fn meet_entries<D: SupportedDigest, V: VisitBytes, L: LogData<D, V>, A: Allocator + Copy>(
     alloc: A,
     proof: &InclusionProof<D, V>,

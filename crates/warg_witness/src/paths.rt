@@ -32,7 +32,7 @@ use warg_paths::{PathError, inclusion_path, root_of_inclusion};
 const MOST_LEAVES: usize = 1 << 63;
 
 // The tree over the entries, or None where the path doesn't lead from the leaf digest to its root.
-#[tactic(auto, using(crate::proofs::HashLemmas::hashes_decide, crate::proofs::HashLemmas::entries_count, crate::proofs::RecordLemmas::leads_inside))]
+#[tactic(auto, using(crate::proofs::HashLemmas::meets, crate::proofs::RecordLemmas::leads_inside))]
 fn meet_path<D: SupportedDigest, V: VisitBytes, A: Allocator>(
     alloc: A,
     index: usize,

@@ -34,6 +34,7 @@ pub(crate) fn sides_around(target: &LeafRange, range: &LeafRange) -> (LeafRange,
 }
 
 // Both evaluations from the target up to the range. None where a digest lacks in one of them.
+#[tactic(auto, using(crate::proofs::CutLemmas::cut_around))]
 fn climb_ranges<D: SupportedDigest, V: VisitBytes, L: LogData<D, V>, M: LogData<D, V>>(
     first: &L,
     first_hash: &Hash<D>,

@@ -37,7 +37,7 @@ fn have_lengths<D, V>(proof: &ConsistencyProof<D, V>, old: &[V], new: &[V]) -> b
 }
 
 // The trees over the entries, or None where the proof doesn't lead to their roots.
-#[tactic(auto, using(crate::proofs::HashLemmas::hashes_decide, crate::proofs::HashLemmas::entries_count, crate::proofs::CutLemmas::leaves_count, warg_log::proofs::ForCallers::consistency_only, warg_log::proofs::ForCallers::consistency_then))]
+#[tactic(auto, using(crate::proofs::HashLemmas::meets, warg_log::proofs::ForCallers::consistency_only, warg_log::proofs::ForCallers::consistency_then))]
 fn meet_trees<D: SupportedDigest, V: VisitBytes, L: LogData<D, V>, A: Allocator + Copy>(
     alloc: A,
     proof: &ConsistencyProof<D, V>,

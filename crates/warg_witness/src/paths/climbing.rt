@@ -12,7 +12,7 @@ use warg_crypto::{Hash, SupportedDigest};
 use warg_log::LeafRange;
 
 // Both evaluations from a leaf of a range up to the range. None where a path has another length than that of this leaf.
-#[tactic(auto, using(crate::proofs::RangeLemmas::leaf_node))]
+#[tactic(auto, using(crate::proofs::RangeLemmas::leaf_node, warg_paths::proofs::ForCallers::root_long, warg_paths::proofs::ForCallers::root_short))]
 fn climb_paths<D: SupportedDigest>(
     leaf: &LeafRange,
     range: &LeafRange,

@@ -30,7 +30,7 @@ fn leads<D: SupportedDigest>(path: &[Hash<D>], old_length: usize, new_length: us
 }
 
 // The trees over the entries, or None where the path doesn't lead to their roots.
-#[tactic(auto, using(crate::proofs::HashLemmas::hashes_decide, crate::proofs::HashLemmas::entries_count))]
+#[tactic(auto, using(crate::proofs::HashLemmas::meets))]
 fn meet_trees<D: SupportedDigest, V: VisitBytes, A: Allocator + Copy>(
     alloc: A,
     path: &[Hash<D>],

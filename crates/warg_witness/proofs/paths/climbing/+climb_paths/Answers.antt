@@ -1,26 +1,13 @@
-use Rattle.std.proofs.Common.{◌≡◌, length, arith}
+use Rattle.std.proofs.Common.{arith}
 use Rattle.std.proofs.lemmas.Bool.Decides.{nat_tests}
 use Rattle.warg_log.proofs.ForCallers.{counts}
-use Rattle.warg_witness.proofs.RecordLemmas.{turned, climb_starts, first_short, second_short, one_long, paths_nowhere, paths_up}
+use Rattle.warg_witness.proofs.RecordLemmas.{climb_starts, paths_nowhere, paths_up, turned}
 use Rattle.warg_witness.proofs.paths.climbing.+climb_paths.Goals as goal
-use Rattle.warg_witness.proofs.paths.climbing.+climb_paths.Goals.{else-is_empty-via-then-is_empty+else-is_empty-2, else-is_empty-via-else-is_empty}
 
 pub returns-then-is_empty-2 : goal.returns-then-is_empty-2
 returns-then-is_empty-2 g t c =
     climb_starts _ _ _ _ c.args.first_path.now c.args.second_path.now (rw (counts c.range.view_is) at c.if-range-eq1.true) (omega arith) (grind (arith, nat_tests)) (grind (arith, nat_tests))
     (grind arith) (grind arith) c.new.ensures.divergence
-
-pub returns-then-range-eq1 : goal.returns-then-range-eq1
-returns-then-range-eq1 g t c = one_long _ _ _ c.args.first_path.now c.args.second_path.now _ _ (rw (counts c.range.view_is) at c.if-range-eq1.true) (λ (both : (length c.args.first_path.now ≡ 0) × (length c.args.second_path.now ≡ 0)). elim c.else-is_empty.branch [
-  | else-is_empty-via-then-is_empty+else-is_empty-2 w ↦ grind (arith, nat_tests)
-  | else-is_empty-via-else-is_empty w ↦ grind (arith, nat_tests)
-])
-
-pub returns-in_err-first_top : goal.returns-in_err-first_top
-returns-in_err-first_top g t c = rw c.from_residual.ensures (first_short _ _ _ _ _ _ _ (omega (arith, counts c.range.view_is)) c.in_err-first_top.ensures.cases)
-
-pub returns-in_err-second_top : goal.returns-in_err-second_top
-returns-in_err-second_top g t c = rw c.from_residual-in_err-second_top.ensures (second_short _ _ _ _ _ _ _ (omega (arith, counts c.range.view_is)) c.in_err-second_top.ensures.cases)
 
 pub returns-in_err-climb : goal.returns-in_err-climb
 returns-in_err-climb g t c =

@@ -1,12 +1,8 @@
-use Rattle.std.proofs.Common.{rules, ◌≡◌, ◌+◌, ◌-◌, ◌<◌, ◌≤◌, None, length, refl, sym, ◌∙◌, arith, inr}
-use Rattle.warg_log.specs.Ranges.{IsAligned}
+use Rattle.std.proofs.Common.{◌≡◌, ◌-◌, ◌<◌, None, sym, ◌∙◌, arith}
 use Rattle.warg_log.specs.Tree.{front_of}
-use Rattle.warg_paths.proofs.ForCallers.{both_short}
 use Rattle.warg_log.proofs.ForCallers.{starts, counts}
-use Rattle.warg_witness.specs.Ranges.{IsAround}
-use Rattle.warg_witness.proofs.RangeLemmas.{side_aligned}
 use Rattle.warg_witness.proofs.RecordLemmas.{turned}
-use Rattle.warg_witness.proofs.GrowthLemmas.{subproof_is, growth_starts, front_none, rest_none, front_up, rest_up, shared_up}
+use Rattle.warg_witness.proofs.GrowthLemmas.{subproof_is, growth_starts, front_up, rest_up, shared_up}
 use Rattle.warg_witness.proofs.paths.growth.+climb_growth.Goals as goal
 
 pub returns-then-old_length-range : goal.returns-then-old_length-range
@@ -16,15 +12,6 @@ returns-then-old_length-range g t c =
     growth_starts _ c.args.trees.now.old c.args.trees.now.new _ _ _ _ _ c.args.path.now (rw width at c.if-old_length-range.true) c.requires.around (sym same ∙ rw width at (sym c.in_ok-root.ensures))
     (starts c.growth_at.ensures.shared, counts c.growth_at.ensures.shared) c.growth_at.ensures.first c.growth_at.ensures.old c.growth_at.ensures.new c.growth_at.ensures.targets
 
-pub returns-in_err-top : goal.returns-in_err-top
-returns-in_err-top g t c = rw c.from_residual-in_err-top.ensures (both_short _ _ _ _ c.args.path.now (omega (arith, counts c.range.view_is)) c.in_err-top.ensures.cases)
-
-pub returns-in_err-growth : goal.returns-in_err-growth
-returns-in_err-growth g t c =
-    let low = rw (counts (c.front.view_is ∙ c.split-front.ensures.front)) at c.if-old_length-front.true in
-    rw (c.from_residual-in_err-growth.ensures, turned _ _ _ c.in_ok-top.ensures.cases.0)
-    (front_none _ _ _ _ _ _ (omega (arith, counts c.range.view_is)) low (rw c.split-front.ensures.front at c.in_err-growth.ensures))
-
 pub returns-then-old_length-front : goal.returns-then-old_length-front
 returns-then-old_length-front g t c =
     let more : c.args.old_length < c.args.range.now.count = omega (arith, counts c.range.view_is) in
@@ -32,27 +19,6 @@ returns-then-old_length-front g t c =
     rw (turned _ _ _ c.in_ok-top.ensures.cases.0)
     (front_up _ c.args.trees.now.old c.args.trees.now.new _ _ _ _ _ _ _ (omega arith) more c.requires.in_old c.requires.in_new low
     (rw c.split-front.ensures.front at c.in_ok-growth.ensures) (rw c.split-front.ensures.rest at c.plain_digest-new_rest.ensures) c.up.ensures)
-
-pub returns-in_err-old : goal.returns-in_err-old
-returns-in_err-old g t c =
-    let n = c.args.range.now.count in
-    let front : c.front.inside.count ≡ front_of n = counts (c.front.view_is ∙ c.split-front.ensures.front) in
-    let rest = counts (c.rest.view_is ∙ c.split-front.ensures.rest) in
-    let same = subproof_is g.D.SupportedDigest.digest None (c.args.old_length - front_of n) (n - front_of n) c.in_ok-top.below.now (omega arith) (omega arith) in
-    rw (c.from_residual-in_err-old.ensures, turned _ _ _ c.in_ok-top.ensures.cases.0)
-    (rest_none _ _ _ _ _ _ (omega (arith, counts c.range.view_is)) (rw front at c.if-old_length-front.false) (sym same ∙ rw (front, rest) at (sym c.in_err-old.ensures)))
-
-pub plain_digest-requires-clause-aligned : goal.plain_digest-requires-clause-aligned
-plain_digest-requires-clause-aligned g t c =
-    let n = c.args.range.now.count in
-    let more : 1 < n = omega (arith, counts c.range.view_is) in
-    let rest : IsAligned (c.args.range.now.start + front_of n) (n - front_of n) = side_aligned _ _ c.requires.aligned more (inr (refl, refl)) in
-    record {
-      height = rest.height;
-      place = rest.place;
-      start = starts c.new-old_rest.ensures ∙ starts (c.rest.view_is ∙ c.split-front.ensures.rest) ∙ rest.start;
-      most = omega (arith, counts c.new-old_rest.ensures, counts (c.front.view_is ∙ c.split-front.ensures.front));
-    }
 
 pub returns-then-place-rest : goal.returns-then-place-rest
 returns-then-place-rest g t c =
@@ -68,26 +34,6 @@ returns-then-place-rest g t c =
     (rw (c.new-old_rest.ensures, starts rest, front) at c.plain_digest.ensures) (rw c.split-front.ensures.rest at c.plain_digest-then-place-rest.ensures)
     (rw (at.first.0, at.old, at.targets.0, c.split-front.ensures.front) at c.up-then-place-rest.ensures)
     (rw (at.first.1, at.new, at.targets.1, c.split-front.ensures.front) at c.up-then-place-rest-2.ensures))
-
-pub climb_growth-requires-2 : goal.climb_growth-requires-2
-climb_growth-requires-2 g t c κs within =
-    let n = c.args.range.now.count in
-    let m = c.args.old_length - c.front.inside.count in
-    let more : 1 < n = omega (arith, counts c.range.view_is) in
-    let front : c.front.inside.count ≡ front_of n = counts (c.front.view_is ∙ c.split-front.ensures.front) in
-    let rest = c.split-front.ensures.rest in
-    let order : m ≤ c.split-front.result.1.count = omega (arith, counts rest) in
-    let around : IsAround c.args.place 1 c.split-front.result.1.start m = record { starts = omega (arith, starts c.rest.view_is); ends = omega (arith, starts rest) } in
-    let aligned : IsAligned c.split-front.result.1.start c.split-front.result.1.count = side_aligned _ _ c.requires.aligned more (inr (starts rest, counts rest)) in
-    let in_old : c.split-front.result.1.start + m ≤ length c.args.trees.now.old = omega (arith, starts rest) in
-    let in_new : c.split-front.result.1.start + c.split-front.result.1.count ≤ length c.args.trees.now.new = omega (arith, starts rest, counts rest) in
-    search rules
-
-pub returns-in_err-growth-2 : goal.returns-in_err-growth-2
-returns-in_err-growth-2 g t c =
-    let front = counts (c.front.view_is ∙ c.split-front.ensures.front) in
-    rw (c.from_residual-in_err-growth-2.ensures, turned _ _ _ c.in_ok-top.ensures.cases.0)
-    (rest_none _ _ _ _ _ _ (omega (arith, counts c.range.view_is)) (rw front at c.if-old_length-front.false) (rw (front, c.split-front.ensures.rest) at c.in_err-growth-2.ensures))
 
 pub returns : goal.returns
 returns g t c =
