@@ -1,5 +1,5 @@
-use Rattle.std.proofs.Common.{sym, ◌∙◌}
-use Rattle.warg_witness.proofs.HashLemmas.{eq_false}
+use Rattle.std.proofs.Common.{arith}
+use Rattle.warg_witness.proofs.HashLemmas.{hashes_decide}
 use Rattle.warg_witness.proofs.ShownLemmas.{hash_placed}
 use Rattle.warg_witness.proofs.log.witness_hash.Goals as goal
 
@@ -7,4 +7,4 @@ pub returns-clause-found : goal.returns-clause-found
 returns-clause-found g c =
     let meeting = rw c.in-Some.is at c.in_ok-met.ensures.met in
     let placed = hash_placed _ _ _ _ meeting.tree_is _ _ _ _ (rw c.in-Branch.is at meeting.diverges).placed in
-    (meeting.met, (λ below. eq_false _ _ c.if-eq.ensures (below ∙ sym meeting.plain_is)), rw c.in_ok-collide.ensures placed)
+    (meeting.met, (λ below. grind (arith, hashes_decide, meeting.plain_is)), rw c.in_ok-collide.ensures placed)

@@ -1,11 +1,6 @@
-use Rattle.std.proofs.Common.{sym, ◌∙◌, arith}
-use Rattle.warg_map.proofs.ForCallers.{length-last_bits}
-use Rattle.warg_witness.proofs.PathLemmas.{length-plain_peers}
+use Rattle.std.proofs.Common.{sym, ◌∙◌}
 use Rattle.warg_witness.proofs.KeyLemmas.{plain_root_is}
 use Rattle.warg_witness.proofs.map.meet_insertions.Goals as goal
-
-pub invariant_of-tree : goal.invariant_of-tree
-invariant_of-tree g c = record { few = rw (c.deref-2.ensures.value, c.in_ok-plain.ensures.peers, length-plain_peers, length-last_bits) (omega arith) }
 
 pub returns-in_default : goal.returns-in_default
 returns-in_default g c met =

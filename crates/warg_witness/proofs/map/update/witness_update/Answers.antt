@@ -1,12 +1,7 @@
-use Rattle.std.proofs.Common.{sym, ◌∙◌, arith}
+use Rattle.std.proofs.Common.{sym, ◌∙◌}
 use Rattle.std.proofs.lemmas.Bool.{false≢true}
-use Rattle.warg_map.proofs.ForCallers.{length-last_bits}
-use Rattle.warg_witness.proofs.PathLemmas.{length-plain_peers}
 use Rattle.warg_witness.proofs.KeyLemmas.{plain_root_is, prefix_placed, grown_root_is, meets_exactly}
 use Rattle.warg_witness.proofs.map.update.witness_update.Goals as goal
-
-pub invariant_of-old_tree : goal.invariant_of-old_tree
-invariant_of-old_tree g c = record { few = rw (c.deref-2.ensures.value, c.in_ok-plain.ensures.peers, length-plain_peers, length-last_bits) (omega arith) }
 
 pub returns-in_default : goal.returns-in_default
 returns-in_default g c = record {
