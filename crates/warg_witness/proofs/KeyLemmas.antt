@@ -34,6 +34,10 @@ key_agreement_shown H key P v Q u p diverges other = shown p
       placed = record { prefix = key_bits H key; rest = []; bits = sym (append-nil (key_bits H key)); first_evaluation = refl; second_evaluation = refl };
     }) diverges
 
+pub key_agreement_placed : {D : Type 0} (H : List ℕ → List ℕ) (key : List ℕ) (P : List (Option (List ℕ))) (v : List ℕ) (Q : List (Option (List ℕ))) (u : List ℕ) (p : Divergence D)
+    → IsPathDivergence H P (H (0 ∷ v)) Q (H (0 ∷ u)) (key_bits H key) p → (v ≡ u → ⊥) → IsKeyAgreementPlaced H key P v Q u (inputs_of p (0 ∷ v) (0 ∷ u)).0 (inputs_of p (0 ∷ v) (0 ∷ u)).1
+key_agreement_placed H key P v Q u p diverges other = (key_agreement_shown H key P v Q u p diverges other).placed
+
 -- the plain peers of a key lead to the plain root
 pub plain_root_is : (H : List ℕ → List ℕ) (insertions : List (List ℕ × List ℕ)) (key : List ℕ)
     → proof_value H (plain_peers H (get (map_of H insertions)) (key_bits H key)) (leaf_digest H (value_in (last_under H (key_bits H key) insertions))) (key_bits H key) ≡ sparse_root H 256 (map_of H insertions)
@@ -127,6 +131,4 @@ module _ (H : List ℕ → List ℕ) (insertions : List (List ℕ × List ℕ)) 
   pub grown_root_is : proof_value H (plain_peers H (get (map_of H insertions)) (key_bits H key)) (leaf_digest H value) (key_bits H key) ≡ sparse_root H 256 (map_of H (insertions ++ (key, value) ∷ []))
   grown_root_is = rw (plain_peers-same H _ _ (key_bits H key) held_elsewhere) (rw (last_with-push, same_bits-itself) at (plain_root_is H (insertions ++ (key, value) ∷ []) key))
 
--- whether two evaluations meet
-pub meets_exactly : {X A : Type 0} {P : X → Type 0} (met : Option X) → MatchOption met (A → ⊥) P → ((x : X) → P x → A) → IsTrue (is_some met) ↔ A
-meets_exactly met is meets = grind arith
+pub ruleset plain_roots = (plain_root_is, grown_root_is, prefix_placed)

@@ -1,5 +1,5 @@
 -- Two evaluations along one key's bits, and the plain sparse tree beside them.
-use Rattle.std.proofs.Common.{◌≡◌, ℕ, zero, suc, ◌+◌, ◌-◌, ◌<◌, Bool, List, [], ◌∷◌, ◌++◌, length, Option, refl, sym, ap, ◌∙◌, arith, true, false, not, Some, None, unwrap_or, get_or, append_assoc}
+use Rattle.std.proofs.Common.{◌≡◌, ℕ, zero, suc, ◌+◌, ◌-◌, Bool, List, [], ◌∷◌, ◌++◌, length, Option, refl, sym, ap, ◌∙◌, arith, true, false, not, Some, None, unwrap_or, get_or, append_assoc}
 use Rattle.warg_crypto.specs.EmptyTrees.{empty_root}
 use Rattle.warg_map.specs.ProofValue.{peer_of, proof_value}
 use Rattle.warg_crypto.specs.Tree.{input_beside, leaf_digest, branch_input}
@@ -10,7 +10,6 @@ use Rattle.warg_witness.specs.declared.divergence.Divergence.TheVariants.{Target
 use Rattle.warg_witness.specs.Private.Climbs.{IsUp}
 use Rattle.warg_witness.proofs.ClimbLemmas.{parts_placed, up_parts}
 use Rattle.warg_map.proofs.ForCallers.{last_bits-more, last_bits-none, length-last_bits, last_held}
-use Rattle.warg_map.specs.Bits.{bit_at, last_bits}
 use Rattle.std.proofs.lemmas.List.{append-nil, length-append}
 use Rattle.std.proofs.lemmas.Bool.{le-ltb}
 use Rattle.std.specs.Option.{option_map}
@@ -44,23 +43,14 @@ pub no_bits : {D : Type 0} (H : List ℕ → List ℕ) (P : List (Option (List �
 unfolding proof_value
 no_bits H P x Q y = record { first_is = refl; second_is = refl; diverges = λ e. record { same = e; beside = λ leaf. refl } }
 
-pub climb_starts : {D : Type 0} (H : List ℕ → List ℕ) (P : List (Option (List ℕ))) (x : List ℕ) (Q : List (Option (List ℕ))) (y key : List ℕ) → IsClimb {D = D} H P x Q y (last_bits key 0) x y Target
-climb_starts H P x Q y key = rw last_bits-none (no_bits H P x Q y)
-
--- one bit more
-pub climb_more : {D : Type 0} (H : List ℕ → List ℕ) (P : List (Option (List ℕ))) (x : List ℕ) (Q : List (Option (List ℕ))) (y key : List ℕ) (n : ℕ) (b : Bool) (first second : List ℕ) (p : Divergence D)
-    → n < 256 → b ≡ bit_at key (255 - n) → IsClimb H P x Q y (b ∷ last_bits key n) first second p → IsClimb H P x Q y (last_bits key (n + 1)) first second p
-climb_more H P x Q y key n b first second p lt is climb = rw (last_bits-more key n lt, ← is) climb
-
-pub peer_at_height : (H : List ℕ → List ℕ) (P : List (Option (List ℕ))) (key : List ℕ) (n : ℕ) (peer : List ℕ) → peer ≡ peer_of H P n → peer_of H P (length (last_bits key n)) ≡ peer
-peer_at_height H P key n peer is = ap (peer_of H P) (length-last_bits key n) ∙ sym is
-
 pub length-plain_peers : (H : List ℕ → List ℕ) (held : List Bool → Option (List ℕ)) (bits : List Bool) → length (plain_peers H held bits) ≡ length bits
 unfolding plain_peers
 length-plain_peers H held [] = refl
 length-plain_peers H held (b ∷ bits) =
     length-append (plain_peers H (λ q. held (b ∷ q)) bits) (Some (root_of_levels H (length bits) (λ q. held (not b ∷ q))) ∷ [])
     ∙ (let n = length-plain_peers H (λ q. held (b ∷ q)) bits in let e : length (plain_peers H (λ q. held (b ∷ q)) bits) + 1 ≡ suc (length bits) = omega (arith, n) in e)
+
+pub ruleset peers_count = (length-plain_peers, length-last_bits)
 
 at_end : (xs : List (Option (List ℕ))) (y : Option (List ℕ)) (ys : List (Option (List ℕ))) (i : ℕ) → length xs ≡ i → get_or (xs ++ y ∷ ys) i None ≡ y
 at_end [] y ys zero e = refl

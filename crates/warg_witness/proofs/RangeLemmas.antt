@@ -95,6 +95,8 @@ pub shorter_aligned : {a n b m : ℕ} → IsAligned a n → 1 < n → b ≡ a + 
 shorter_aligned aligned more start shorter =
     let rest = beside_aligned aligned more (start, refl) in record { height = rest.height; place = rest.place; start = rest.start; most = omega (arith, rest.most) }
 
+pub ruleset rest_parts = (beside_aligned, shorter_aligned)
+
 -- of the sides of a range around a target, the one in which the target begins is around it
 pub front_around : {s w a n : ℕ} → IsNodeRange s w → IsAligned a n → IsAround s w a n → (a ≡ s → n ≡ w → ⊥) → s < a + front_of n → s + w ≤ a + front_of n
 front_around {s} {w} {a} {n} node aligned around other left =
@@ -173,6 +175,8 @@ root_front a n more not_full = rw (balanced_parts a n more not_full) (0, omega a
 
 pub root_rest : (a n x : ℕ) → 1 < n → (IsFull n → ⊥) → Contains (balanced_over (a + front_of n) (n - front_of n)) x → Contains (balanced_over a n) x
 root_rest a n x more not_full later = rw (balanced_parts a n more not_full) (suc later.0, omega arith, later.2)
+
+pub ruleset root_parts = (root_full, root_rest, full_node, front_node, rest_aligned)
 
 -- the leaves below the node over a range, so that a node is over one range alone
 pub node_bounds : {s w : ℕ} → IsNodeRange s w → (start_of (node_over s w) ≡ s) × (2 ^ height_of (node_over s w) ≡ w)

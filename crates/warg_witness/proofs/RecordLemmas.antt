@@ -13,6 +13,7 @@ use Rattle.warg_witness.specs.Private.PathDivergence.{IsPathMeeting, tree_input}
 use Rattle.warg_witness.proofs.RangeLemmas.{Digest, whole_aligned, side_aligned}
 use Rattle.warg_witness.proofs.CutLemmas.{leaves_count, plain_digest_is}
 use Rattle.warg_witness.proofs.ShownLemmas.{entry_at}
+use Rattle.warg_crypto.specs.Collisions.{Collides}
 use Rattle.warg_crypto.specs.Tree.{input_beside}
 use Rattle.warg_witness.specs.Ranges.{IsAround}
 use Rattle.warg_witness.specs.Private.Ranges.{AreSides}
@@ -139,6 +140,14 @@ pub record_agreement_shown : {D : Type 0} (H : Digest) (index n : ℕ) (path : L
 record_agreement_shown H index n path value other_path other p apart is =
     shown p (λ _ _ is. search is) _ _ (λ meets. record { collides = record { differ = λ e. apart (cc); same = meets.same }; placed = search meets }) (is index 0 n (reverse path) (reverse other_path) whole whole)
 
+pub record_agreement_collides : {D : Type 0} (H : Digest) (index n : ℕ) (path : List (List ℕ)) (value : List ℕ) (other_path : List (List ℕ)) (other : List ℕ) (p : Divergence D) → (value ≡ other → ⊥)
+    → IsPathsMeeting H (H (0 ∷ value)) path (H (0 ∷ other)) other_path index n p → Collides H (inputs_of p (0 ∷ value) (0 ∷ other))
+record_agreement_collides H index n path value other_path other p apart met = (record_agreement_shown H index n path value other_path other p apart met.diverges).collides
+
+pub record_agreement_placed : {D : Type 0} (H : Digest) (index n : ℕ) (path : List (List ℕ)) (value : List ℕ) (other_path : List (List ℕ)) (other : List ℕ) (p : Divergence D) → (value ≡ other → ⊥)
+    → IsPathsMeeting H (H (0 ∷ value)) path (H (0 ∷ other)) other_path index n p → IsRecordAgreementPlaced H index n path value other_path other (inputs_of p (0 ∷ value) (0 ∷ other)).0 (inputs_of p (0 ∷ value) (0 ∷ other)).1
+record_agreement_placed H index n path value other_path other p apart met = (record_agreement_shown H index n path value other_path other p apart met.diverges).placed
+
 -- the stored roots of a tree's own ranges
 abbrev Roots : Digest → List (List ℕ) → Range → Option (List ℕ)
 Roots H tree = old_over H (own_digest H tree)
@@ -174,22 +183,14 @@ module _ (H : Digest) (tree own : List (List ℕ)) (place : ℕ) (inside : place
   own_on_way whole = record { inside = inside; within = omega arith; at = omega arith; aligned = whole_aligned (length tree) refl; path = own_is ∙ ap Some (sym (reverse-reverse own)) }
   own_on_way (front m a n t ds way more lt) =
       let up = own_on_way way in
-      let f = front_is_greatest n more in record {
-        inside = lt;
-        within = let h = up.within in omega (arith, f.1);
-        at = up.at;
-        aligned = side_aligned a (front_of n) up.aligned more (inl (refl, refl));
-        path = (own_front more lt up).0;
-      }
+      let f = front_is_greatest n more in
+      let aligned = side_aligned a (front_of n) up.aligned more (inl (refl, refl)) in
+      let part = own_front more lt up in grind arith
   own_on_way (rest m a n t ds way more le) =
       let up = own_on_way way in
-      let f = front_is_greatest n more in record {
-        inside = let h = up.inside in omega arith;
-        within = let h = up.within in omega (arith, f.1);
-        at = let h = up.at in omega arith;
-        aligned = side_aligned (a + front_of n) (n - front_of n) up.aligned more (inr (refl, refl));
-        path = (own_rest more le up).0;
-      }
+      let f = front_is_greatest n more in
+      let aligned = side_aligned (a + front_of n) (n - front_of n) up.aligned more (inr (refl, refl)) in
+      let part = own_rest more le up in grind arith
 
   -- at such a range of more than one leaf, the input by the tree's own path is the tree's
   own_input : {m a n : ℕ} {t : List ℕ} {ds : List (List ℕ)} → IsOnWay place 0 (length tree) (reverse own) m a n (t ∷ ds)

@@ -10,7 +10,7 @@ use Rattle.warg_witness.specs.Claims.{IsEntry, Begins}
 use Rattle.warg_witness.specs.Inputs.{plain_input, cut_input, value_input, old_input}
 use Rattle.warg_witness.specs.Placed.{IsValuePlaced, IsHashPlaced, IsAgreementPlaced, IsConsistencyPlaced, IsPlacedInBoth}
 use Rattle.warg_witness.specs.Private.Compared.{IsAt, DiffersFirst}
-use Rattle.warg_witness.specs.Private.Meeting.{IsMeeting, LeadsToBoth}
+use Rattle.warg_witness.specs.Private.Meeting.{IsMeeting, IsConsistencyMeeting, IsConsistencyDivergence, LeadsToBoth}
 use Rattle.warg_witness.specs.Private.Divergence.{MeetAt, DivergesAt, IsDivergence, Shows, inputs_of}
 use Rattle.warg_witness.specs.declared.divergence.Divergence.{Divergence}
 use Rattle.warg_witness.proofs.RangeLemmas.{Digest, Data, part_in, IsPart-trans, wider, whole_aligned, node_some, Root, node_bounds, rest_aligned, by_root, root_stands, root_at_part}
@@ -219,6 +219,13 @@ pub read_shown : {D V : Type 0} (bytes : V → List ℕ) (old new : List V) {H :
 read_shown bytes old new {place = place} p differs order e_is d_is shows =
     let within = rw (length-map old bytes) at differs.within in
     rw (← entry_at bytes old place within e_is, ← entry_at bytes new place (omega arith) d_is) shows
+
+pub entries_shown : {D V : Type 0} (bytes : V → List ℕ) (old new : List V) {H : Digest} {F : Data} {m n place : ℕ} {old_tree new_tree : List (List ℕ)} {e d : V} (p : Divergence D)
+    → IsConsistencyMeeting H F m n (map bytes old) (map bytes new) old_tree new_tree → DiffersFirst (map bytes old) (map bytes new) place → IsConsistencyDivergence H F old_tree new_tree place p
+    → e ≡ get_or old place e → d ≡ get_or new place d → Shows H (IsConsistencyPlaced H F (map bytes old) (map bytes new)) (inputs_of p (0 ∷ bytes e) (0 ∷ bytes d))
+entries_shown bytes old new p met differs diverges e_is d_is =
+    let order = met.met.roots.order in
+    read_shown bytes old new p differs (omega (arith, met.met.old_count, met.met.new_count, length-map old bytes, length-map new bytes)) e_is d_is (diverges _ _ met.old_is met.new_is differs.differ)
 
 -- entries that differ from others at a place don't begin them
 pub differs_not_begins : (old new : List (List ℕ)) (place : ℕ) → DiffersFirst old new place → Begins old new → ⊥

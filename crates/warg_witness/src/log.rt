@@ -143,6 +143,7 @@ pub fn witness_value<D: SupportedDigest, V: VisitBytes, L: LogData<D, V>, A: All
 ///
 /// It hashes each leaf and branch of the tree over the entries once, and besides at most three times as many
 /// branches as the proof's evaluation has. Out of memory is the only error.
+#[tactic(auto, using(crate::proofs::HashLemmas::meets, crate::proofs::ShownLemmas::hash_placed))]
 pub fn witness_hash<D: SupportedDigest, V: VisitBytes, L: LogData<D, V>, A: Allocator + Copy>(
     alloc: A,
     proof: &InclusionProof<D, V>,

@@ -57,6 +57,7 @@ fn plain_leaf<D: SupportedDigest, K: VisitBytes, V: VisitBytes>(
 }
 
 // The meeting of a proof with the insertions, or None where they don't meet.
+#[tactic(auto, using(crate::proofs::PathLemmas::peers_count, crate::proofs::KeyLemmas::plain_root_is))]
 fn meet_insertions<
     D: SupportedDigest,
     K: VisitBytes,
@@ -226,6 +227,7 @@ pub fn witness_absent<
 /// values have the same bytes. Else a collision: what the digest function takes in the first and in the second
 /// evaluation at one prefix of the key's bits. Out of memory is the only error. A value of more than `usize::MAX` bytes
 /// counts as that.
+#[tactic(auto, using(crate::proofs::KeyLemmas::key_agreement_placed))]
 pub fn agree_key<
     D: SupportedDigest,
     K: VisitBytes,

@@ -79,7 +79,7 @@ fn meet_trees<D: SupportedDigest, V: VisitBytes, L: LogData<D, V>, A: Allocator 
 }
 
 // The balanced root of a range that has the leaf at `place`.
-#[tactic(auto, using(crate::proofs::RangeLemmas::root_full, crate::proofs::RangeLemmas::full_node, crate::proofs::RangeLemmas::front_node, crate::proofs::RangeLemmas::rest_aligned, crate::proofs::RangeLemmas::root_rest))]
+#[tactic(auto, using(crate::proofs::RangeLemmas::root_parts))]
 fn root_around(place: usize, range: &LeafRange) -> LeafRange
     requires starts { range.now.start ≤ place }
     requires ends { place < range.now.start + range.now.count }

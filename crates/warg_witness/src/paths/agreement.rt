@@ -21,6 +21,7 @@ use warg_crypto::{Hash, Leaf, SupportedDigest, VisitBytes, hash_leaf};
 ///
 /// It hashes both values, and each branch of both evaluations once. Out of memory is the only error. A value of more than
 /// `usize::MAX` bytes counts as that.
+#[tactic(auto, using(crate::proofs::RecordLemmas::record_agreement_collides))]
 pub fn agree_record<D: SupportedDigest, V: VisitBytes, A: Allocator + Copy>(
     alloc: A,
     index: usize,

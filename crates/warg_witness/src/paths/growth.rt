@@ -52,7 +52,7 @@ fn growth_at<D: SupportedDigest, V: VisitBytes, A: Allocator>(
 
 // The evaluation and both trees up to a range, from the part that has the leaf at `place` and one digest in the path.
 // None where the path leads to no roots over the range.
-#[tactic(auto, using(crate::proofs::RangeLemmas::beside_aligned, crate::proofs::RangeLemmas::shorter_aligned, crate::proofs::GrowthLemmas::path_none, crate::proofs::GrowthLemmas::subproof_is))]
+#[tactic(auto, using(crate::proofs::RangeLemmas::rest_parts, crate::proofs::GrowthLemmas::path_none, crate::proofs::GrowthLemmas::subproof_is))]
 fn climb_growth<D: SupportedDigest, V: VisitBytes, A: Allocator>(
     trees: &Trees<D, V, A>,
     place: usize,

@@ -1,8 +1,5 @@
-use Rattle.std.proofs.Common.{◌≡◌, length, Some, slice_index_or, [], sym, ◌∙◌, arith}
-use Rattle.warg_log.specs.Tree.{own_digest}
-use Rattle.warg_log.specs.Cut.{old_over}
+use Rattle.std.proofs.Common.{◌≡◌, Some, sym, ◌∙◌, arith}
 use Rattle.warg_log.proofs.ForCallers.{root_over_one}
-use Rattle.warg_paths.specs.Paths.{inclusion_of}
 use Rattle.warg_paths.proofs.ForCallers.{own_path_is}
 use Rattle.warg_witness.proofs.paths.divergence_from_tree.Goals as goal
 
@@ -17,9 +14,7 @@ pub unreachable-requires-in-None : goal.unreachable-requires-in-None
 unreachable-requires-in-None g c =
     let own = own_path_is g.D.SupportedDigest.digest c.args.tree.now c.args.index c.requires.inside in
     let leaf : c.plain_digest-own_leaf.result ≡ slice_index_or c.args.tree.now c.args.index [] = rw c.new.ensures at c.plain_digest-own_leaf.ensures ∙ root_over_one g.D.SupportedDigest.digest c.args.tree.now c.args.index c.requires.inside in
-    let path : inclusion_of (old_over g.D.SupportedDigest.digest (own_digest g.D.SupportedDigest.digest c.args.tree.now)) c.args.index (length c.args.tree.now) ≡ Some c.in-Ok.own_path.items =
-    rw c.length.ensures.value at c.in-Ok.ensures.ok.1 in
-    let both : Some own.0 ≡ Some c.in-Ok.own_path.items = sym own.1 ∙ path in
+    let path : Some own.0 ≡ Some c.in-Ok.own_path.items = sym own.1 ∙ rw c.length.ensures.value at c.in-Ok.ensures.ok.1 in
     let same : own.0 ≡ c.in-Ok.own_path.items = cc in
     (rw (leaf, c.as_slice-own_path.ensures.value, c.length-2.ensures.value) at c.in-None.ensures) _ c.requires.leads (rw same at own.2)
 
