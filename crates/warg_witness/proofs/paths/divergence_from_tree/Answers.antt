@@ -1,4 +1,4 @@
-use Rattle.std.proofs.Common.{◌≡◌, Some, sym, ◌∙◌, arith}
+use Rattle.std.proofs.Common.{◌≡◌, [], Some, sym, ◌∙◌, arith, slice_index_or}
 use Rattle.warg_log.proofs.ForCallers.{root_over_one}
 use Rattle.warg_paths.proofs.ForCallers.{own_path_is}
 use Rattle.warg_witness.proofs.paths.divergence_from_tree.Goals as goal
