@@ -214,7 +214,7 @@ impl<A: Allocator + Copy> Session<A> {
         Ok(())
     }
 
-    #[tactic(auto, unfolding(crate::specs::Text::answer), using(crate::proofs::MapLemmas::map_after_insert))]
+    #[tactic(auto, unfolding(crate::specs::Text::answer))]
     fn insert(&mut self, key: Vec<u8, A>, value: Vec<u8, A>) -> Result<(), RunError>
         ensures ok { OnOk result (AnswersOrder self.old self.new (insert key.items value.items)) }
         ensures room { OnOk result (FindsRoom self.old (insert key.items value.items)) }
@@ -241,7 +241,7 @@ impl<A: Allocator + Copy> Session<A> {
         Ok(())
     }
 
-    #[tactic(auto, unfolding(crate::specs::Text::answer), using(crate::proofs::MapLemmas::root_with))]
+    #[tactic(auto, unfolding(crate::specs::Text::answer))]
     fn prove(&mut self, key: &Vec<u8, A>, value: &Vec<u8, A>) -> Result<(), RunError>
         ensures ok { OnOk result (AnswersOrder self.old self.new
             (prove key.now.items value.now.items)) }

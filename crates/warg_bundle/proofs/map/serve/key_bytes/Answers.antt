@@ -16,4 +16,5 @@ spells_key H m bits (Presence peers) b bytes p is spells = record { bundle = b; 
 spells_key H m bits (Absence peers) b bytes p is spells = record { bundle = b; spells = spells; proves = record { peers = peers; held = λ h. absurd (cc); absent = λ h. (is, p.1) } }
 
 pub returns-clause-ok : goal.returns-clause-ok
-returns-clause-ok g c = IfOk-weaker c.encode.result _ _ (λ bytes spells. spells_key _ _ _ c.in_ok-proof.proof _ bytes.items c.in_ok-proof.ensures c.in_ok-bundle.ensures spells) c.encode.ensures.again
+returns-clause-ok g c =
+    IfOk-weaker c.encode.result _ _ (λ bytes spells. spells_key _ _ _ c.in_ok-proof.proof _ bytes.items c.in_ok-proof.ensures c.in_ok-bundle.ensures spells) c.encode.ensures.again

@@ -9,4 +9,6 @@ agreed : {X : Type 0} (f : X → ℕ) (xs : List X) (i : ℕ) (x : X) (r : ℕ) 
 agreed f xs i x r roots rest whole lt is next same was = was ∙ rw (next, drop_more xs i x lt, ← is, eq-eqb (f x) r (sym same)) refl
 
 pub entries-preserved : goal.entries-preserved
-entries-preserved g c = agreed (λ e. e.index) c.args.entries.now c.entries.entry-index c.entry-item.result c.in-Some.root.0 _ _ _ c.entries-test.true c.entry-item.is c.in-Some.ensures.steps c.if-root-entry.true c.entries.invariant
+entries-preserved g c =
+    agreed (λ e. e.index) c.args.entries.now c.entries.entry-index c.entry-item.result c.in-Some.root.0 _ _ _
+    c.entries-test.true c.entry-item.is c.in-Some.ensures.steps c.if-root-entry.true c.entries.invariant

@@ -31,4 +31,5 @@ returns-then-not-is_slice-clause-exact g c =
     inr (rw (none, lacks g (goal.at.returns-then-not-is_slice-clause-exact g c).Then-not-is_slice) refl)
 
 pub returns-then-not-is_slice-clause-none : goal.returns-then-not-is_slice-clause-none
-returns-then-not-is_slice-clause-none g c = λ e ds. no_log g.D.SupportedDigest.digest (vec_view c.args.message) ds (lacks g (goal.at.returns-then-not-is_slice-clause-none g c).Then-not-is_slice)
+returns-then-not-is_slice-clause-none g c = λ e ds.
+    no_log g.D.SupportedDigest.digest (vec_view c.args.message) ds (lacks g (goal.at.returns-then-not-is_slice-clause-none g c).Then-not-is_slice)

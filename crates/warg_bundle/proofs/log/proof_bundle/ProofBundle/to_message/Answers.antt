@@ -5,7 +5,15 @@ use Rattle.warg_bundle.proofs.log.proof_bundle.ProofBundle.to_message.Goals as g
 
 pub returns-clause-ok : goal.returns-clause-ok
 returns-clause-ok g c =
-    rw (← c.self.view_is, c.in_ok-consistent_lengths.ensures.items, c.as_slice.ensures.value, c.in_ok-included_indices.ensures, c.as_slice-2.ensures.value, c.in_ok-hashes.ensures.entries, c.pairs-pairs.ensures.value) refl
+    rw (
+      ← c.self.view_is,
+      c.in_ok-consistent_lengths.ensures.items,
+      c.as_slice.ensures.value,
+      c.in_ok-included_indices.ensures,
+      c.as_slice-2.ensures.value,
+      c.in_ok-hashes.ensures.entries,
+      c.pairs-pairs.ensures.value,
+    ) refl
 
 pub returns-clause-again : goal.returns-clause-again
 returns-clause-again g c =
