@@ -201,7 +201,6 @@ impl<D: SupportedDigest, V: VisitBytes, A: Allocator + Copy> LogBuilder<D, V> fo
 }
 
 // The partial tiles of a log of this length, out of its right edge.
-#[tactic(auto, using(crate::proofs::PushLemmas::width_below))]
 fn partial_tiles<D, A: Allocator + Copy>(
     alloc: A,
     edge: &[Hash<D>],
