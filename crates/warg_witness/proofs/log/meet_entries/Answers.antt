@@ -20,6 +20,7 @@ returns-clause-met g c =
     let all = ap length c.in_ok-tree.ensures.tree ∙ leaves_count g.D.SupportedDigest.digest _ ∙ count in
     let leads = (inclusion_leads _ _ c.args.proof.now _ _).0 (sym (rw c.copied.ensures at c.in-Ok.ensures)) in
     let met = rw (c.plain_digest-plain.ensures, start, width, c.new-whole.ensures.start, c.new-whole.ensures.count ∙ c.log_length-2.ensures.value ∙ sym all) at c.in-Some.ensures in
-    let root = (inclusion_leads g.D.SupportedDigest.digest (g.L.LogData.digest_at c.args.hashes.now) c.args.proof.now c.args.hash.now _).1 (leads.0, rw (all, c.in_ok-tree.ensures.tree) at (root_led _ _ _ _ met.one (rw all (omega arith)))) in
+    let root = (inclusion_leads g.D.SupportedDigest.digest (g.L.LogData.digest_at c.args.hashes.now) c.args.proof.now c.args.hash.now _).1
+    (leads.0, rw (all, c.in_ok-tree.ensures.tree) at (root_led _ _ _ _ met.one (rw all (omega arith)))) in
     let aligned = node_aligned (node_range c.args.proof.now.leaf.0) in
     grind arith

@@ -5,12 +5,14 @@ use Rattle.warg_witness.proofs.log.witness_value.Goals as goal
 pub collide-requires : goal.collide-requires
 collide-requires g c =
     let meeting = rw (c.in-Some.is, c.hash_leaf-hash.ensures) at c.in_ok-met.ensures.met in
-    (branch_shown meeting (omega arith) (rw (c.split.ensures.front.0, c.split.ensures.front.1) at c.plain_digest-left.ensures) (rw (c.split.ensures.rest.0, c.split.ensures.rest.1) at c.plain_digest-right.ensures)).collides
+    (branch_shown meeting (omega arith) (rw (c.split.ensures.front.0, c.split.ensures.front.1) at c.plain_digest-left.ensures)
+    (rw (c.split.ensures.rest.0, c.split.ensures.rest.1) at c.plain_digest-right.ensures)).collides
 
 pub returns-then-met-ne1-clause-found : goal.returns-then-met-ne1-clause-found
 returns-then-met-ne1-clause-found g c =
     let meeting = rw (c.in-Some.is, c.hash_leaf-hash.ensures) at c.in_ok-met.ensures.met in
-    let shows = branch_shown meeting (omega arith) (rw (c.split.ensures.front.0, c.split.ensures.front.1) at c.plain_digest-left.ensures) (rw (c.split.ensures.rest.0, c.split.ensures.rest.1) at c.plain_digest-right.ensures) in
+    let shows = branch_shown meeting (omega arith) (rw (c.split.ensures.front.0, c.split.ensures.front.1) at c.plain_digest-left.ensures)
+    (rw (c.split.ensures.rest.0, c.split.ensures.rest.1) at c.plain_digest-right.ensures) in
     (meeting.met, (λ is. let leaf = is.leaf in grind (arith, meeting.count_is)), rw c.in_ok-pair.ensures shows.placed)
 
 pub returns-then-branch-clause-found : goal.returns-then-branch-clause-found
