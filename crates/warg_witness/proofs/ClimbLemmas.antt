@@ -1,5 +1,5 @@
 -- Where two evaluations part that go up side by side, and what that shows.
-use Rattle.std.proofs.Common.{◌≡◌, ℕ, Bool, true, false, cond, List, length, Option, Some, ◌⊎◌, inl, inr, refl, sym, ap, ◌∙◌}
+use Rattle.std.proofs.Common.{◌≡◌, ℕ, Bool, true, false, cond, List, length, Option, Some, ◌⊎◌, inl, inr, refl, sym, ◌∙◌, arith}
 use Rattle.warg_crypto.proofs.ForCallers.{branch_parts, same_or_not}
 use Rattle.warg_crypto.specs.Tree.{branch_input, input_beside}
 use Rattle.warg_log.specs.Cut.{joined}
@@ -23,10 +23,8 @@ shown (Branch branches) placed first second meet is = record { collides = is.col
 pub up_is : {D : Type 0} {H : List ℕ → List ℕ} (b : Bool) {x u y v d e : List ℕ} {p q : Divergence D} {sides : (List ℕ × List ℕ) × (List ℕ × List ℕ)} → sides ≡ cond b ((u, x), (v, y)) ((x, u), (y, v))
     → d ≡ H (branch_input sides.0.0 sides.0.1) → e ≡ H (branch_input sides.1.0 sides.1.1) → length sides.0.0 ≡ length sides.1.0
     → ((sides.0 ≡ sides.1) × (q ≡ p)) ⊎ ((sides.0 ≡ sides.1 → ⊥) × (q ≡ Branch (record { first = sides.0; second = sides.1 }))) → IsUp H b x u y v p d e q
-up_is true is d_is e_is sizes (inl same) = record { first_is = d_is ∙ rw is refl; second_is = e_is ∙ rw is refl; diverges = let parts = rw is at same.0 in inl (ap (λ q. q.1) parts, ap (λ q. q.0) parts, same.1) }
-up_is false is d_is e_is sizes (inl same) = record { first_is = d_is ∙ rw is refl; second_is = e_is ∙ rw is refl; diverges = let parts = rw is at same.0 in inl (ap (λ q. q.0) parts, ap (λ q. q.1) parts, same.1) }
-up_is true is d_is e_is sizes (inr other) = record { first_is = d_is ∙ rw is refl; second_is = e_is ∙ rw is refl; diverges = inr ((λ e. let parts = branch_parts _ _ _ _ (rw is at sizes) e in rw is at other.0 (cc)), rw is at other.1) }
-up_is false is d_is e_is sizes (inr other) = record { first_is = d_is ∙ rw is refl; second_is = e_is ∙ rw is refl; diverges = inr ((λ e. let parts = branch_parts _ _ _ _ (rw is at sizes) e in rw is at other.0 (cc)), rw is at other.1) }
+up_is true is d_is e_is sizes ends = grind (arith, branch_parts)
+up_is false is d_is e_is sizes ends = grind (arith, branch_parts)
 
 -- a step from digests of one length, with digests of one length beside them
 pub up_somewhere : {D : Type 0} {H : List ℕ → List ℕ} (b : Bool) {x u y v : List ℕ} (p : Divergence D) → length x ≡ length y → length u ≡ length v

@@ -75,7 +75,8 @@ module _ (H : Digest) {s w a n : ℕ} (some : 0 < w) (around : IsAround s w a n)
           first_is = sides_root F x sides climb.first_is far ∙ ap Some (sym up.first_is);
           second_is = sides_root G y sides climb.second_is other_far ∙ ap Some (sym up.second_is);
           diverges = up_parts (DivergesAt H F x G y s w a n) (MeetAt x y s w a n) up
-              (λ same _. let outer = side_is_part b m whole (omega arith) (near_side sides) in parts_placed H p (λ _ _ is. search (IsPart-trans, outer, is)) (λ is. search (IsPart-trans, outer, is)) (climb.diverges same))
+              (λ same _. let outer = side_is_part b m whole (omega arith) (near_side sides) in
+              parts_placed H p (λ _ _ is. search (IsPart-trans, outer, is)) (λ is. search (IsPart-trans, outer, is)) (climb.diverges same))
               (search (whole, around, other, sides_input F x sides climb.first_is far, sides_input G y sides climb.second_is other_far));
         }
 

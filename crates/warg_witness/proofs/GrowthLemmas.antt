@@ -120,7 +120,8 @@ module _ (H : Digest) (old_tree new_tree : List (List ℕ)) (place : ℕ) (known
   widened : {D : Type 0} {known' : Option (List ℕ)} {m' a' n' : ℕ} (x y : List ℕ) (p : Divergence D)
       → ((known₀ : Option (List ℕ)) (m₀ n₀ : ℕ) (ds₀ : List (List ℕ)) → IsOnGrowth known₀ m₀ n₀ ds₀ known m a n (top ∷ below) → IsOnGrowth known₀ m₀ n₀ ds₀ known' m' a' n' below)
       → PartsOnGrowth H old_tree new_tree place known' m' a' n' below x y p → PartsOnGrowth H old_tree new_tree place known m a n (top ∷ below) x y p
-  widened x y p down = parts_placed H p (λ first second is path old new way. is path old new (record { old_is = way.old_is; new_is = way.new_is; differ = way.differ; on_way = down _ _ _ _ way.on_way })) (λ same. same)
+  widened x y p down = parts_placed H p
+      (λ first second is path old new way. is path old new (record { old_is = way.old_is; new_is = way.new_is; differ = way.differ; on_way = down _ _ _ _ way.on_way })) (λ same. same)
 
   -- where inputs of the evaluation and of a tree at the range stand
   old_here : {i j : List ℕ} → front_of n < m → old_turn_input H m n top below ≡ Some i → j ≡ tree_input H old_tree a m → (path old new : List (List ℕ))

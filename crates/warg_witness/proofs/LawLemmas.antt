@@ -38,8 +38,7 @@ use Rattle.warg_witness.specs.MapPlaced.{IsKeyPlaced, IsKeyAgreementPlaced, IsPl
 use Rattle.warg_witness.specs.Private.MapPaths.{plain_peers, IsPathDivergence, IsClimb}
 use Rattle.warg_map.specs.ProofValue.{peer_of, proof_value}
 use Rattle.warg_witness.specs.MapInputs.{fork_input}
-use Rattle.warg_witness.proofs.PathLemmas.{no_bits, climb_up}
-use Rattle.warg_witness.proofs.KeyLemmas.{DivergesFromPlain, key_agreement_shown, plain_root_is, key_shown, last_differs, keys_shown, prefix_placed, grown_root_is}
+use Rattle.warg_witness.proofs.KeyLemmas.{no_bits, climb_up, DivergesFromPlain, key_agreement_shown, plain_root_is, key_shown, last_differs, keys_shown, prefix_placed, grown_root_is}
 use Rattle.warg_map.proofs.ForCallers.{all_bits, last_held, root_at_prefix, absent_root, absent_replaced_root}
 use Rattle.std.proofs.lemmas.List.{append-nil, map-append}
 use Rattle.std.specs.List.{AllByRecursion}

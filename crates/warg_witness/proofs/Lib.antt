@@ -5,8 +5,7 @@ pub mod CompareLemmas
 pub mod GrowthLemmas
 pub mod ShownLemmas
 pub mod RecordLemmas
-pub mod KeyLemmas
 pub mod LawLemmas
 pub mod InsertionLemmas
-pub mod PathLemmas
 pub mod RangeLemmas
+pub mod KeyLemmas

@@ -89,7 +89,8 @@ module _ {right : Bool} {s a n b k c j : ℕ} (sides : AreSides right a n b k c 
   -- where a path leads in that part and in the range
   part_led : (H : Digest) (x t d : List ℕ) (ds : List (List ℕ)) → root_down H (s - b) k x ds ≡ Some d
       → (root_down H (s - a) n x (t ∷ ds) ≡ Some (H (input_beside right t d))) × (turn_input H x (s - a) n t ds ≡ Some (input_beside right t d))
-  part_led H x t d ds = in_part right (λ side m b k. root_down H m k x ds ≡ Some d → (root_down H (s - a) n x (t ∷ ds) ≡ Some (H (input_beside side t d))) × (turn_input H x (s - a) n t ds ≡ Some (input_beside side t d))) sides around starts
+  part_led H x t d ds = in_part right (λ side m b k. root_down H m k x ds ≡ Some d
+      → (root_down H (s - a) n x (t ∷ ds) ≡ Some (H (input_beside side t d))) × (turn_input H x (s - a) n t ds ≡ Some (input_beside side t d))) sides around starts
       (λ lt is. (front_leads H (s - a) n x t ds more lt ∙ ap (λ l. joined H l (Some t)) is, rw (lt-ltb (s - a) (front_of n) lt, is) refl))
       (λ le is. (rest_leads H (s - a) n x t ds more le ∙ ap (λ r. joined H (Some t) r) is, rw (le-ltb (s - a) (front_of n) le, is) refl))
 

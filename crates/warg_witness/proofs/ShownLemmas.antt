@@ -183,7 +183,8 @@ module _ (H : Digest) (old new : List (List ℕ)) (place a n : ℕ) (in_old : Is
         placed = search (old_part, new_part);
       }
 
-  pub both_shown : {D : Type 0} (p : Divergence D) → IsDivergence H (own_digest H (leaves_of H old)) (root_over H (leaves_of H old) place 1) (own_digest H (leaves_of H new)) (root_over H (leaves_of H new) place 1) place 1 a n p
+  pub both_shown : {D : Type 0} (p : Divergence D)
+      → IsDivergence H (own_digest H (leaves_of H old)) (root_over H (leaves_of H old) place 1) (own_digest H (leaves_of H new)) (root_over H (leaves_of H new) place 1) place 1 a n p
       → (get_or old place [] ≡ get_or new place [] → ⊥) → Shows H (IsPlacedInBoth H old new) (inputs_of p (0 ∷ get_or old place []) (0 ∷ get_or new place []))
   both_shown p diverges differ = shown p both_placed _ _ (λ meets. both_meet meets differ) diverges
 
@@ -214,8 +215,8 @@ module _ {H : Digest} {F : Data} {old new old_tree new_tree : List (List ℕ)} (
       record { collides = pair.collides; placed = inr (inr pair.placed) }
 
 -- what entries show, once they are read
-pub read_shown : {D V : Type 0} (bytes : V → List ℕ) (old new : List V) {H : Digest} {P : List ℕ → List ℕ → Type 0} {place : ℕ} {e d : V} (p : Divergence D) → DiffersFirst (map bytes old) (map bytes new) place → length old ≤ length new
-    → e ≡ get_or old place e → d ≡ get_or new place d → Shows H P (inputs_of p (0 ∷ get_or (map bytes old) place []) (0 ∷ get_or (map bytes new) place [])) → Shows H P (inputs_of p (0 ∷ bytes e) (0 ∷ bytes d))
+pub read_shown : {D V : Type 0} (bytes : V → List ℕ) (old new : List V) {H : Digest} {P : List ℕ → List ℕ → Type 0} {place : ℕ} {e d : V} (p : Divergence D)
+    → DiffersFirst (map bytes old) (map bytes new) place → length old ≤ length new → e ≡ get_or old place e → d ≡ get_or new place d → Shows H P (inputs_of p (0 ∷ get_or (map bytes old) place []) (0 ∷ get_or (map bytes new) place [])) → Shows H P (inputs_of p (0 ∷ bytes e) (0 ∷ bytes d))
 read_shown bytes old new {place = place} p differs order e_is d_is shows =
     let within = rw (length-map old bytes) at differs.within in
     rw (← entry_at bytes old place within e_is, ← entry_at bytes new place (omega arith) d_is) shows

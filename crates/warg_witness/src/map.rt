@@ -57,7 +57,7 @@ fn plain_leaf<D: SupportedDigest, K: VisitBytes, V: VisitBytes>(
 }
 
 // The meeting of a proof with the insertions, or None where they don't meet.
-#[tactic(auto, using(crate::proofs::PathLemmas::peers_count, crate::proofs::KeyLemmas::plain_root_is))]
+#[tactic(auto, using(crate::proofs::KeyLemmas::peers_count, crate::proofs::KeyLemmas::plain_root_is))]
 fn meet_insertions<
     D: SupportedDigest,
     K: VisitBytes,

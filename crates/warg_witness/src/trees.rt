@@ -49,6 +49,7 @@ fn is_same_entry<D: SupportedDigest, V: VisitBytes, A: Allocator>(
 }
 
 /// The first place at which the new entries have other bytes than the old ones, if there is one.
+#[tactic(auto, using(crate::proofs::ShownLemmas::leaf_at))]
 pub(crate) fn first_difference<D: SupportedDigest, V: VisitBytes, A: Allocator>(
     trees: &Trees<D, V, A>,
     old: &[V],

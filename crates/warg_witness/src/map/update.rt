@@ -27,7 +27,7 @@ use warg_map::Proof;
 ///
 /// It costs what [`witness_key`](crate::witness_key) does, and at most 512 branches more. Out of memory is the only
 /// error.
-#[tactic(auto, using(crate::proofs::PathLemmas::peers_count, crate::proofs::KeyLemmas::plain_roots))]
+#[tactic(auto, using(crate::proofs::KeyLemmas::peers_count, crate::proofs::KeyLemmas::plain_roots))]
 pub fn witness_update<
     D: SupportedDigest,
     K: VisitBytes,

@@ -15,7 +15,8 @@ returns-in_default-last g c =
 
 pub of-requires-then-branch : goal.of-requires-then-branch
 of-requires-then-branch g c =
-    (keys_met _ g.K.VisitBytes.bytes g.V.VisitBytes.bytes _ _ _ _ _ _ c.requires.met.1 c.requires.untrue _ _ g.met.D.SupportedDigest.is_digest c.in-Some.is c.index-insertions-place.is (c.in_ok-have_same_bytes.ensures.0 c.if-branch.true)).collides
+    (keys_met _ g.K.VisitBytes.bytes g.V.VisitBytes.bytes _ _ _ _ _ _ c.requires.met.1 c.requires.untrue _ _ g.met.D.SupportedDigest.is_digest
+    c.in-Some.is c.index-insertions-place.is (c.in_ok-have_same_bytes.ensures.0 c.if-branch.true)).collides
 
 pub returns : goal.returns
 returns g c =

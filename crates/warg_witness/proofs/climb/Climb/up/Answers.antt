@@ -14,5 +14,9 @@ returns g c =
     let kept : c.if-right.self.divergence ≡ c.args.self.divergence = elim c.if-right.branch [ then-right w ↦ rw w.self-is refl | else-right w ↦ rw w.self-is refl ] in
     let ends : ((c.if-right.first.0 ≡ c.if-right.first.1) × (c.if-eq.result ≡ c.args.self.divergence))
     ⊎ ((c.if-right.first.0 ≡ c.if-right.first.1 → ⊥) × (c.if-eq.result ≡ Branch (record { first = c.if-right.first.0; second = c.if-right.first.1 }))) =
-    elim c.if-eq.branch [ then-eq w ↦ inl (grind (arith, bytes_decides), grind arith) | else-eq+in-Branch-1 w ↦ inr (grind (arith, bytes_decides), w.result-is) | else-eq+in-Target-1 w ↦ inr (grind (arith, bytes_decides), w.result-is) ] in
+    elim c.if-eq.branch [
+      | then-eq w ↦ inl (grind (arith, bytes_decides), grind arith)
+      | else-eq+in-Branch-1 w ↦ inr (grind (arith, bytes_decides), w.result-is)
+      | else-eq+in-Target-1 w ↦ inr (grind (arith, bytes_decides), w.result-is)
+    ] in
     rw (← c.copied-first_beside.ensures, ← c.copied-second_beside.ensures) (up_is c.args.right sides c.hash_branch.ensures c.hash_branch-2.ensures (omega arith) ends)

@@ -10,5 +10,6 @@ returns-in_default-clause-met g c met = let ok = consistency_then _ _ _ _ _ _ me
 pub returns-clause-met : goal.returns-clause-met
 returns-clause-met g c =
     let lengths = c.if-not-have_lengths.ensures.same.0 refl in
-    let roots = consistency_only g.D.SupportedDigest.digest (g.L.LogData.digest_at c.args.hashes.now) c.args.proof.now.old_length c.args.proof.now.new_length c.in-Ok.old_root c.in-Ok.new_root (sym c.evaluate.ensures.value ∙ c.in-Ok.is) in
+    let roots = consistency_only g.D.SupportedDigest.digest (g.L.LogData.digest_at c.args.hashes.now) c.args.proof.now.old_length c.args.proof.now.new_length
+    c.in-Ok.old_root c.in-Ok.new_root (sym c.evaluate.ensures.value ∙ c.in-Ok.is) in
     grind (arith, hashes_decide, entries_count, leaves_count)
