@@ -4,6 +4,8 @@ ghost use Rattle.std.specs.Prelude.{◌≡◌, ◌≢◌, ℕ, ◌^◌, ◌<◌,
 ghost use Rattle.std.specs.Fmt.{decimal};
 ghost use Rattle.std.specs.List.{AllByRecursion};
 ghost use Rattle.std.specs.Option.{option_copied};
+ghost use Rattle.base64.specs.Engines.{standard};
+ghost use Rattle.base64.specs.GeneralPurpose.{encode_of};
 ghost use Rattle.warg_crypto.specs.Digests.{IsDigest};
 ghost use Rattle.warg_tiles.specs.CheckpointText.{Said, HasNoNewline, IsLine, CanBeSaid, line, length_line, root_line, lines, behind, text_of, text_before};
 ghost use Rattle.warg_tiles.specs.Private.Texts.{IsExtensionFault};
@@ -160,10 +162,8 @@ impl<D, A: Allocator> CheckpointText<D, A> {
     {
         let mut bytes = Vec::new(alloc);
         push_line(&mut bytes, self.origin.as_slice())?;
-        let length = self.checkpoint.length().to_string(alloc)?;
-        push_line(&mut bytes, length.as_bytes())?;
-        let root = STANDARD.encode(alloc, self.checkpoint.root().bytes())?;
-        push_line(&mut bytes, root.as_bytes())?;
+        push_length(&mut bytes, alloc, self.checkpoint.length())?;
+        push_root(&mut bytes, alloc, &self.checkpoint.root())?;
         push_lines(&mut bytes, self.extensions.as_slice())?;
         Ok(bytes)
     }
@@ -255,6 +255,31 @@ fn root_in<D>(bytes: &[u8]) -> Option<(Hash<D>, &[u8])>
     let root = Hash::try_from(&decoded[..count]).ok()?;
     let _digest = root.bytes();
     Some((root, rest))
+}
+
+// Writes the line of a length.
+fn push_length<A: Allocator + Copy>(
+    bytes: &mut Vec<u8, A>,
+    alloc: A,
+    length: usize,
+) -> Result<(), AllocError>
+    ensures { OnOk result (bytes.new.items ≡ bytes.old.items ++ (decimal length ++ 10 ∷ [])) }
+{
+    let length = length.to_string(alloc)?;
+    push_line(bytes, length.as_bytes())
+}
+
+// Writes the line of a root.
+fn push_root<D, A: Allocator + Copy>(
+    bytes: &mut Vec<u8, A>,
+    alloc: A,
+    root: &Hash<D>,
+) -> Result<(), AllocError>
+    ensures { OnOk result (bytes.new.items
+        ≡ bytes.old.items ++ (encode_of standard root.now ++ 10 ∷ [])) }
+{
+    let root = STANDARD.encode(alloc, root.bytes())?;
+    push_line(bytes, root.as_bytes())
 }
 
 // Writes a line and its newline.
