@@ -241,7 +241,7 @@ impl<A: Allocator + Copy> Session<A> {
         Ok(())
     }
 
-    #[tactic(auto, unfolding(crate::specs::Text::answer))]
+    #[tactic(auto, unfolding(crate::specs::Text::answer), using(crate::proofs::MapLemmas::root_with))]
     fn prove(&mut self, key: &Vec<u8, A>, value: &Vec<u8, A>) -> Result<(), RunError>
         ensures ok { OnOk result (AnswersOrder self.old self.new
             (prove key.now.items value.now.items)) }
