@@ -6,7 +6,7 @@ use Rattle.std.proofs.lemmas.Nat.{pow_pos}
 use Rattle.std.proofs.lemmas.Bool.{cases_Bool}
 use Rattle.std.proofs.lemmas.List.{map-append}
 use Rattle.warg_log.specs.Nodes.{height_of, place_of, start_of, end_of, node_over, number_of, balanced_over, balanced_roots, Follow, Fall}
-use Rattle.warg_log.specs.Ranges.{Range, leaves_from, range_of}
+use Rattle.warg_log.specs.Ranges.{leaves_from, range_of}
 use Rattle.warg_log.specs.Cut.{Evaluation, with_target, top_of, cut_over, cut_root, old_root, IsFull}
 use Rattle.warg_log.specs.Walks.{climbed, joined_all}
 use Rattle.warg_protobuf.proofs.ForCallers.{all_weaken}

@@ -17,7 +17,7 @@ returns-in-Some-clause-verdict g c =
     let get = c.in-Some.ensures.lookup in
     let first = leads_to H old key c.args.old_root.now peers c.evaluate.result c.eq.result c.evaluate.ensures c.eq.ensures in
     let holds : leads_both H key old new c.args.old_root.now c.args.new_root.now peers ≡ c.if-eq.result = elim c.if-eq.branch [
-      then-eq w ↦ rw (first, w.if-eq.true, leads_to H new key c.args.new_root.now peers w.evaluate-then-eq.result w.eq-then-eq.result w.evaluate-then-eq.ensures w.eq-then-eq.ensures) (sym w.result-is)
+      | then-eq w ↦ rw (first, w.if-eq.true, leads_to H new key c.args.new_root.now peers w.evaluate-then-eq.result w.eq-then-eq.result w.evaluate-then-eq.ensures w.eq-then-eq.ensures) (sym w.result-is)
       | else-eq w ↦ rw (first, w.if-eq.false) (sym (w.result-is ∙ w.if-eq.false))
     ] in
     judged_at (λ (b : MapBundle). b.proofs) (λ _. leads_both H key old new c.args.old_root.now c.args.new_root.now) c.args.at (map_bundle_of c.args.bytes.now) c.in_ok-bundle.bundle peers c.if-eq.result

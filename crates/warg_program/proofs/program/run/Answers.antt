@@ -20,5 +20,5 @@ sent f (Ok t) (Some i) old mid new input bs good grown kept is same = rw (← sa
 pub returns-clause-text : goal.returns-clause-text
 returns-clause-text g c =
     sent text_of c.write_all.result (g.R.Read.remaining c.args.reader.now) _ _ _ c.in_ok-input.input.items c.as_bytes.result.now
-        (sym c.is_err.ensures.value ∙ c.if-is_err.false) c.write_all.ensures.bytes c.flush.ensures.bytes
+    (sym c.is_err.ensures.value ∙ c.if-is_err.false) c.write_all.ensures.bytes c.flush.ensures.bytes
     (c.as_bytes.ensures.value ∙ rw c.as_slice.ensures.value at c.in_ok-text.ensures.text) c.in_ok-input.ensures.bytes
