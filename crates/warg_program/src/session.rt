@@ -17,7 +17,9 @@ use std::fmt::Write;
 use warg_bundle::{BundleError, LogProofBundle};
 use warg_check::{CheckError, check_inclusion};
 use warg_crypto::{Hash, Sha256};
-use warg_log::{ConsistencyProofError, InclusionProofError, LogBuilder, LogData, Node, VecLog};
+use warg_log::{
+    ConsistencyProofError, GREATEST_LENGTH, InclusionProofError, LogBuilder, LogData, Node, VecLog,
+};
 use warg_map::{Map, MapError};
 use warg_protobuf::EncodeError;
 
@@ -103,7 +105,7 @@ impl<A: Allocator + Copy> Session<A> {
         ensures room { OnOk result (FindsRoom self.old (push entry.now.items)) }
         ensures errors { IfErr result (Refuses self.old (push entry.now.items)) }
     {
-        if self.log.length() == 1 << 63 {
+        if self.log.length() == GREATEST_LENGTH {
             return Err(RunError::Full);
         }
         let node = self.log.push(entry)?;

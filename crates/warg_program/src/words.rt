@@ -12,6 +12,7 @@ use memchr::memchr;
 use std::alloc::{AllocError, Allocator};
 use std::marker::Model;
 use warg_crypto::{Hash, Sha256};
+use warg_log::GREATEST_LENGTH;
 
 /// Why words aren't read.
 #[derive(Drop)]
@@ -93,7 +94,7 @@ impl<'a> Words<'a> {
         ensures bad { result ≡ Err Unread.BadLine → first_says length_in self.old ≡ None }
     {
         let value = self.number()?;
-        if value > 1 << 63 {
+        if value > GREATEST_LENGTH {
             return Err(Unread::BadLine);
         }
         Ok(LogLength { value })
