@@ -4,6 +4,7 @@ ghost use Rattle.std.specs.Prelude.{◌≡◌, ℕ, ◌-◌, ◌^◌, ◌≤◌,
 ghost use Rattle.warg_log.specs.Nodes.{balanced_roots, balanced_over};
 
 use crate::leaf_range::LeafRange;
+use crate::log::GREATEST_LENGTH;
 use crate::node::Node;
 use std::alloc::{AllocError, Allocator};
 use std::marker::Model;
@@ -31,7 +32,7 @@ impl Model for BalancedRoots {
 impl BalancedRoots {
     // Those of the leaves from `start` up to `end`.
     pub(crate) fn between(start: usize, end: usize) -> BalancedRoots
-        requires { end ≤ 2 ^ 63 }
+        requires { end ≤ GREATEST_LENGTH }
         ensures { result ≡ balanced_over start (end - start) }
     {
         BalancedRoots { start, end }
@@ -39,7 +40,7 @@ impl BalancedRoots {
 
     // Those of a length.
     pub(crate) fn of(length: usize) -> BalancedRoots
-        requires { length ≤ 2 ^ 63 }
+        requires { length ≤ GREATEST_LENGTH }
         ensures { result ≡ balanced_roots length }
     {
         BalancedRoots::between(0, length)
@@ -70,7 +71,7 @@ impl Node {
     /// The balanced roots of a length: the nodes that its binary digits cut from the left, greatest
     /// first. Memory is the only error.
     pub fn broots_for_len<A: Allocator>(alloc: A, length: usize) -> Result<Vec<Node, A>, AllocError>
-        requires { length ≤ 2 ^ 63 }
+        requires { length ≤ GREATEST_LENGTH }
         ensures { IfOk result (λ roots. map (λ x. x.0) roots.items ≡ balanced_roots length) }
     {
         BalancedRoots::of(length).collect(alloc)

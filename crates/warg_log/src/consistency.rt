@@ -9,7 +9,7 @@ ghost use Rattle.warg_log.specs.Consistency.{root_to, new_root_of, consistency};
 use crate::balanced_roots::BalancedRoots;
 use crate::branches::{BranchCache, range_root_by};
 use crate::leaf_range::{LeafRange, stored_root};
-use crate::log::LogData;
+use crate::log::{GREATEST_LENGTH, LogData};
 use crate::node::Node;
 use crate::proof::{InclusionProof, InclusionProofError};
 use std::alloc::{AllocError, Allocator};
@@ -96,8 +96,8 @@ impl<D, V> Clone for ConsistencyProof<D, V> {
 impl<D, V> ConsistencyProof<D, V> {
     /// The proof that the log of an old length is a beginning of that of a new one, both at most 2^63.
     pub fn new(old_length: usize, new_length: usize) -> Self
-        requires old_fits { old_length ≤ 2 ^ 63 }
-        requires new_fits { new_length ≤ 2 ^ 63 }
+        requires old_fits { old_length ≤ GREATEST_LENGTH }
+        requires new_fits { new_length ≤ GREATEST_LENGTH }
         ensures old_length { result.old_length ≡ old_length }
         ensures new_length { result.new_length ≡ new_length }
     {
@@ -111,7 +111,7 @@ impl<D, V> ConsistencyProof<D, V> {
     /// The old length.
     pub fn old_length(&self) -> usize
         ensures value { result ≡ self.now.old_length }
-        ensures most { result ≤ 2 ^ 63 }
+        ensures most { result ≤ GREATEST_LENGTH }
     {
         self.old_length
     }
@@ -119,7 +119,7 @@ impl<D, V> ConsistencyProof<D, V> {
     /// The new length.
     pub fn new_length(&self) -> usize
         ensures value { result ≡ self.now.new_length }
-        ensures most { result ≤ 2 ^ 63 }
+        ensures most { result ≤ GREATEST_LENGTH }
     {
         self.new_length
     }
@@ -217,8 +217,8 @@ fn inclusions_of<D, V, A: Allocator>(
     old_length: usize,
     new_length: usize,
 ) -> Result<Vec<InclusionProof<D, V>, A>, AllocError>
-    requires old_fits { old_length ≤ 2 ^ 63 }
-    requires new_fits { new_length ≤ 2 ^ 63 }
+    requires old_fits { old_length ≤ GREATEST_LENGTH }
+    requires new_fits { new_length ≤ GREATEST_LENGTH }
     ensures leaves { IfOk result (λ proofs. map (λ p. p.leaf.0) proofs.items
         ≡ balanced_roots old_length) }
     ensures lengths { IfOk result (λ proofs.
@@ -238,7 +238,7 @@ fn root_from<D: SupportedDigest, V: VisitBytes, L: LogData<D, V>>(
     root: Node,
     whole: &LeafRange,
 ) -> Result<Hash<D>, ConsistencyProofError>
-    requires ends { end_of root.0 ≤ 2 ^ 63 }
+    requires ends { end_of root.0 ≤ GREATEST_LENGTH }
     requires whole { whole.now ≡ leaves_from 0 whole.now.count }
     ensures { result ≡ root_to D.digest (L.digest_at hashes.now) whole.now.count root.0 }
 {

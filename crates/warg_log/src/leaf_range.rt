@@ -4,7 +4,7 @@ ghost use Rattle.std.specs.Prelude.{◌≡◌, ℕ, ◌+◌, ◌-◌, ◌*◌, �
 ghost use Rattle.warg_log.specs.Ranges.{leaves_from, front_part, rest_part};
 ghost use Rattle.warg_log.specs.Cut.{is_beside, IsFull, with_target, cut_over, old_over};
 
-use crate::log::LogData;
+use crate::log::{GREATEST_LENGTH, LogData};
 use crate::node::Node;
 use std::marker::Model;
 use warg_crypto::{Hash, SupportedDigest, VisitBytes, hash_branch};
@@ -24,12 +24,13 @@ pub struct LeafRange {
 impl Model for LeafRange {
     ghost use Rattle.std.specs.Prelude.{◌+◌, ◌^◌, ◌<◌, ◌≤◌};
     ghost use Rattle.warg_log.specs.Ranges.{Range};
+    ghost use Rattle.warg_log.specs.declared.log.TheConstants.{GREATEST_LENGTH};
 
     ghost Value = { Range };
 
     ghost view = { λ r. record { start = r.start; count = r.count } };
 
-    ghost invariant = { λ r. (0 < r.count) × (r.start + r.count ≤ 2 ^ 63) };
+    ghost invariant = { λ r. (0 < r.count) × (r.start + r.count ≤ GREATEST_LENGTH) };
 
     ghost inverse = { λ r. record { start = r.start; count = r.count } };
 }
@@ -38,7 +39,7 @@ impl LeafRange {
     /// The `count` leaves from `start` on.
     pub fn new(start: usize, count: usize) -> LeafRange
         requires some { 0 < count }
-        requires fits { start + count ≤ 2 ^ 63 }
+        requires fits { start + count ≤ GREATEST_LENGTH }
         ensures { result ≡ leaves_from start count }
     {
         LeafRange { start, count }
@@ -48,7 +49,7 @@ impl LeafRange {
     // greatest power of two that is there.
     pub(crate) fn first_root(start: usize, length: usize) -> LeafRange
         requires some { start < length }
-        requires fits { length ≤ 2 ^ 63 }
+        requires fits { length ≤ GREATEST_LENGTH }
         ensures start { result.start ≡ start }
         ensures count { (h : ℕ) × (result.count ≡ 2 ^ h) × (2 ^ h ≤ length - start)
             × (length - start < 2 ^ (h + 1)) }

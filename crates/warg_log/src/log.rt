@@ -74,11 +74,11 @@ pub trait LogBuilder<D: SupportedDigest, V: VisitBytes> {
         ensures root { (ds : List (List ℕ)) → stands_for self.now ds
             → result.root ≡ root_of D.digest ds }
         ensures length { result.length ≡ len self.now }
-        ensures fits { len self.now ≤ 2 ^ 63 };
+        ensures fits { len self.now ≤ GREATEST_LENGTH };
 
     /// Adds an entry at the end, and returns its leaf's node. A refused push leaves the log as it was.
     fn push(&mut self, entry: &V) -> Result<Node, AllocError>
-        requires { len self.old < 2 ^ 63 }
+        requires { len self.old < GREATEST_LENGTH }
         ensures node { IfOk result (λ node. node.0 ≡ 2 * len self.old) }
         ensures length { OnOk result (len self.new ≡ len self.old + 1) }
         ensures ok { OnOk result (Appends stands_for self.old self.new
@@ -105,7 +105,7 @@ pub trait LogData<D: SupportedDigest, V: VisitBytes> {
     /// The proof that leads from the digest of a node, mostly a leaf, to the root at a length. Neither
     /// has to be one of this data's: the proof's evaluation says whether they are.
     fn prove_inclusion(&self, leaf: Node, log_length: usize) -> InclusionProof<D, V>
-        requires { log_length ≤ 2 ^ 63 }
+        requires { log_length ≤ GREATEST_LENGTH }
         ensures leaf { result.leaf ≡ leaf }
         ensures log_length { result.log_length ≡ log_length }
     {
@@ -115,8 +115,8 @@ pub trait LogData<D: SupportedDigest, V: VisitBytes> {
     /// The proof that the log of an old length is a beginning of that of a new one. Neither has to be one
     /// of this data's, nor the old one the smaller: the proof's evaluation says whether they are.
     fn prove_consistency(&self, old_length: usize, new_length: usize) -> ConsistencyProof<D, V>
-        requires old_fits { old_length ≤ 2 ^ 63 }
-        requires new_fits { new_length ≤ 2 ^ 63 }
+        requires old_fits { old_length ≤ GREATEST_LENGTH }
+        requires new_fits { new_length ≤ GREATEST_LENGTH }
         ensures old_length { result.old_length ≡ old_length }
         ensures new_length { result.new_length ≡ new_length }
     {
@@ -132,7 +132,7 @@ pub fn push_all<D: SupportedDigest, V: VisitBytes, B: LogBuilder<D, V>>(
     log: &mut B,
     entries: &[V],
 ) -> Result<Checkpoint<D>, AllocError>
-    requires { B.len log.old + length entries.now ≤ 2 ^ 63 }
+    requires { B.len log.old + length entries.now ≤ GREATEST_LENGTH }
     ensures ok { OnOk result (Appends B.stands_for log.old log.new
         (leaves_of D.digest (map V.bytes entries.now))) }
     ensures grown { OnOk result (B.len log.new ≡ B.len log.old + length entries.now) }

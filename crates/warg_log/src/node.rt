@@ -5,6 +5,7 @@ ghost use Rattle.warg_log.specs.Ranges.{range_of};
 ghost use Rattle.warg_log.specs.Nodes.{IsNode, ExistsAt, height_of, place_of, sibling_place, start_of, end_of, node_over};
 
 use crate::leaf_range::LeafRange;
+use crate::log::GREATEST_LENGTH;
 use warg_crypto::Side;
 
 /// A node of a log's tree by its number: a leaf, or a branch over a power of two of leaves.
@@ -28,7 +29,7 @@ pub struct Node(pub usize);
 impl Node {
     /// The node of the leaf at an index, from 0.
     pub fn leaf(index: usize) -> Node
-        requires { index < 2 ^ 63 }
+        requires { index < GREATEST_LENGTH }
         ensures { IsNode result.0 0 index }
     {
         Node(2 * index)
@@ -45,7 +46,7 @@ impl Node {
     // The branch whose number lies between those of a leaf, not the first one, and the leaf before it.
     pub(crate) fn branch_before(leaf: usize) -> Node
         requires some { 0 < leaf }
-        requires fits { leaf ≤ 2 ^ 63 }
+        requires fits { leaf ≤ GREATEST_LENGTH }
         ensures { result.0 ≡ 2 * leaf - 1 }
     {
         Node(2 * (leaf - 1) + 1)
@@ -209,7 +210,7 @@ impl Node {
     /// The leaves below the node.
     #[tactic(auto, using(std::proofs::lemmas::Nat::pow_pos, crate::proofs::NodeLemmas::by_start, crate::proofs::NodeLemmas::low_by_end))]
     pub fn leaf_range(&self) -> LeafRange
-        requires { end_of self.now.0 ≤ 2 ^ 63 }
+        requires { end_of self.now.0 ≤ GREATEST_LENGTH }
         ensures { result ≡ range_of self.now.0 }
     {
         let count = 1 << self.height();

@@ -11,7 +11,7 @@ ghost use Rattle.warg_log.specs.Claims.{same_walk};
 
 use crate::balanced_roots::BalancedRoots;
 use crate::leaf_range::{LeafRange, range_root};
-use crate::log::LogData;
+use crate::log::{GREATEST_LENGTH, LogData};
 use crate::node::Node;
 use std::alloc::{AllocError, Allocator, Global};
 use std::marker::{Model, PhantomData};
@@ -74,7 +74,7 @@ impl<D, V> Clone for InclusionProof<D, V> {
 impl<D, V> InclusionProof<D, V> {
     /// The claim that the node's digest is part of the log of this length. A length is at most 2^63.
     pub fn new(leaf: Node, log_length: usize) -> Self
-        requires { log_length ≤ 2 ^ 63 }
+        requires { log_length ≤ GREATEST_LENGTH }
         ensures leaf { result.leaf ≡ leaf }
         ensures log_length { result.log_length ≡ log_length }
     {
@@ -95,7 +95,7 @@ impl<D, V> InclusionProof<D, V> {
     /// The length of the log that has the node.
     pub fn log_length(&self) -> usize
         ensures value { result ≡ self.now.log_length }
-        ensures most { result ≤ 2 ^ 63 }
+        ensures most { result ≤ GREATEST_LENGTH }
     {
         self.log_length
     }
@@ -289,7 +289,7 @@ fn add_walk<A: Allocator>(
     requires aligned { IsAligned start (end - start) }
     requires starts { start ≤ start_of leaf.0 }
     requires ends { end_of leaf.0 ≤ end }
-    requires fits { end ≤ 2 ^ 63 }
+    requires fits { end ≤ GREATEST_LENGTH }
     ensures needed { OnOk result (map (λ x. x.0) nodes.new.items
         ≡ needed_over (range_of leaf.0) (leaves_from start (end - start))) }
     ensures order { IfOk result (λ parts. (upper : ℕ)

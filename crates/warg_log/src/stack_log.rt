@@ -11,7 +11,7 @@ ghost use Rattle.warg_log.specs.Private.Growth.{Grows};
 mod append;
 mod image;
 
-use crate::log::{Checkpoint, LogBuilder};
+use crate::log::{Checkpoint, GREATEST_LENGTH, LogBuilder};
 use crate::node::Node;
 use std::alloc::{AllocError, Allocator, Global};
 use std::marker::{Model, PhantomData};
@@ -30,6 +30,7 @@ pub struct StackLog<D: SupportedDigest, V: VisitBytes, A: Allocator = Global> {
 
 // Contracts see the log as its length and its blocks.
 impl<D: SupportedDigest, V: VisitBytes, A: Allocator> Model for StackLog<D, V, A> {
+    ghost use Rattle.warg_log.specs.declared.log.TheConstants.{GREATEST_LENGTH};
     ghost use Rattle.std.specs.Prelude.{◌≡◌, ◌^◌, ◌≤◌, length};
     ghost use Rattle.warg_log.specs.Nodes.{balanced_roots};
     ghost use Rattle.warg_log.specs.Blocks.{Blocks};
@@ -39,7 +40,7 @@ impl<D: SupportedDigest, V: VisitBytes, A: Allocator> Model for StackLog<D, V, A
     ghost view = { λ l. record { len = l.count; digests = l.blocks.items } };
 
     ghost invariant = { λ l. (length l.blocks.items ≡ length (balanced_roots l.count))
-        × (l.count ≤ 2 ^ 63) };
+        × (l.count ≤ GREATEST_LENGTH) };
 }
 
 impl<D: SupportedDigest, V: VisitBytes, A: Allocator> StackLog<D, V, A> {
@@ -59,7 +60,7 @@ impl<D: SupportedDigest, V: VisitBytes, A: Allocator> StackLog<D, V, A> {
     /// The number of entries, at most [`GREATEST_LENGTH`](crate::GREATEST_LENGTH).
     pub fn length(&self) -> usize
         ensures value { result ≡ self.now.len }
-        ensures fits { self.now.len ≤ 2 ^ 63 }
+        ensures fits { self.now.len ≤ GREATEST_LENGTH }
     {
         self.count
     }
@@ -98,13 +99,13 @@ impl<D: SupportedDigest, V: VisitBytes, A: Allocator> LogBuilder<D, V> for Stack
         ensures blocks { 0 < self.now.len → old_root D.digest (block_at self.now) self.now.len
             ≡ Some result.root }
         ensures length { result.length ≡ self.now.len }
-        ensures fits { self.now.len ≤ 2 ^ 63 }
+        ensures fits { self.now.len ≤ GREATEST_LENGTH }
     {
         Checkpoint::new(root_of_blocks(self.blocks.as_slice()), self.count)
     }
 
     fn push(&mut self, entry: &V) -> Result<Node, AllocError>
-        requires { self.old.len < 2 ^ 63 }
+        requires { self.old.len < GREATEST_LENGTH }
         ensures node { IfOk result (λ node. node.0 ≡ 2 * self.old.len) }
         ensures ok { OnOk result (self.new ≡ pushed D.digest self.old
             (leaf_digest D.digest (V.bytes entry.now))) }

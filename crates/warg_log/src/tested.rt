@@ -45,7 +45,7 @@ impl<D: SupportedDigest, V: VisitBytes, A: Allocator> VecLog<D, V, A> {
         ensures ok { OnOk result (self.new ≡ self.old ++ leaf_digest D.digest
             (V.bytes entry.now) ∷ []) }
         ensures node { IfOk result (λ node. node.0 ≡ 2 * length self.old) }
-        ensures full { (result ≡ Err AppendError.Full) ↔ (length self.old ≡ 2 ^ 63) }
+        ensures full { (result ≡ Err AppendError.Full) ↔ (length self.old ≡ GREATEST_LENGTH) }
         ensures err { OnErr result (self.new ≡ self.old) }
     {
         if self.length() == GREATEST_LENGTH {

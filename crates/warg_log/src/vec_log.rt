@@ -8,7 +8,7 @@ ghost use Rattle.warg_log.specs.Private.Slices.{IsSliceUpTo};
 
 mod image;
 
-use crate::log::{Checkpoint, LogBuilder, LogData};
+use crate::log::{Checkpoint, GREATEST_LENGTH, LogBuilder, LogData};
 use crate::node::Node;
 use std::alloc::{AllocError, Allocator, Global};
 use std::marker::{Model, PhantomData};
@@ -35,6 +35,7 @@ pub struct VecLog<D: SupportedDigest, V: VisitBytes, A: Allocator = Global> {
 
 // Contracts see the log as the list of its leaf digests.
 impl<D: SupportedDigest, V: VisitBytes, A: Allocator> Model for VecLog<D, V, A> {
+    ghost use Rattle.warg_log.specs.declared.log.TheConstants.{GREATEST_LENGTH};
     ghost use Rattle.std.specs.Prelude.{◌≡◌, ◌^◌, ◌≤◌, ℕ, List, [], length};
     ghost use Rattle.warg_log.specs.Tree.{slice_of, leaves_in};
 
@@ -44,7 +45,7 @@ impl<D: SupportedDigest, V: VisitBytes, A: Allocator> Model for VecLog<D, V, A> 
 
     ghost invariant = { λ l. (l.count ≡ length (leaves_in l.tree.items))
         × (l.tree.items ≡ slice_of D.digest (leaves_in l.tree.items)) × (l.spacer ≡ D.digest [])
-        × (l.count ≤ 2 ^ 63) };
+        × (l.count ≤ GREATEST_LENGTH) };
 }
 
 impl<D: SupportedDigest, V: VisitBytes, A: Allocator> VecLog<D, V, A> {
@@ -63,7 +64,7 @@ impl<D: SupportedDigest, V: VisitBytes, A: Allocator> VecLog<D, V, A> {
     /// The number of entries, at most [`GREATEST_LENGTH`](crate::GREATEST_LENGTH).
     pub fn length(&self) -> usize
         ensures value { result ≡ length self.now }
-        ensures fits { length self.now ≤ 2 ^ 63 }
+        ensures fits { length self.now ≤ GREATEST_LENGTH }
     {
         self.count
     }
@@ -119,14 +120,14 @@ impl<D: SupportedDigest, V: VisitBytes, A: Allocator> LogBuilder<D, V> for VecLo
     fn checkpoint(&self) -> Checkpoint<D>
         ensures root { result.root ≡ root_of D.digest self.now }
         ensures length { result.length ≡ length self.now }
-        ensures fits { length self.now ≤ 2 ^ 63 }
+        ensures fits { length self.now ≤ GREATEST_LENGTH }
     {
         Checkpoint::new(self.root(), self.count)
     }
 
     #[tactic(auto, using(crate::proofs::AppendLemmas::room_empty, crate::proofs::AppendLemmas::room_more, crate::proofs::AppendLemmas::appended))]
     fn push(&mut self, entry: &V) -> Result<Node, AllocError>
-        requires { length self.old < 2 ^ 63 }
+        requires { length self.old < GREATEST_LENGTH }
         ensures node { IfOk result (λ node. node.0 ≡ 2 * length self.old) }
         ensures ok { OnOk result (self.new ≡ self.old ++ leaf_digest D.digest
             (V.bytes entry.now) ∷ []) }
@@ -169,7 +170,7 @@ impl<D: SupportedDigest, V: VisitBytes, A: Allocator> LogData<D, V> for VecLog<D
 // trailing zeros.
 fn join_up<D: SupportedDigest, A: Allocator>(tree: &mut Vec<Hash<D>, A>, count: usize)
     requires some { 0 < count }
-    requires fits { count ≤ 2 ^ 63 }
+    requires fits { count ≤ GREATEST_LENGTH }
     requires count { length (leaves_in tree.old.items) ≡ count }
     requires slice { IsSliceUpTo D.digest (leaves_in tree.old.items) tree.old.items 0 }
     ensures leaves { leaves_in tree.new.items ≡ leaves_in tree.old.items }

@@ -9,7 +9,7 @@ use crate::error::PathError;
 use crate::front::front_of;
 use std::alloc::Allocator;
 use warg_crypto::{Hash, SupportedDigest, VisitBytes, hash_branch};
-use warg_log::{Checkpoint, LeafRange, LogData, stored_root};
+use warg_log::{Checkpoint, GREATEST_LENGTH, LeafRange, LogData, stored_root};
 
 /// The consistency path from the first `old_length` entries to the first `new_length`, by the digests that the data
 /// holds: each is the stored root of a part of the new log, from the bottom up (RFC 6962, section 2.1.2).
@@ -22,7 +22,7 @@ pub fn consistency_path<D: SupportedDigest, V: VisitBytes, L: LogData<D, V>, A: 
     old_length: usize,
     new_length: usize,
 ) -> Result<Vec<Hash<D>, A>, PathError>
-    requires { new_length ≤ 2 ^ 63 }
+    requires { new_length ≤ GREATEST_LENGTH }
     ensures out_of_range { (result ≡ Err PathError.OutOfRange)
         ↔ ((old_length ≡ 0) ⊎ (new_length < old_length)) }
     ensures not_known { (result ≡ Err PathError.HashNotKnown)
@@ -61,7 +61,7 @@ fn path_over<D: SupportedDigest, V: VisitBytes, L: LogData<D, V>, A: Allocator>(
 ) -> Result<Vec<Hash<D>, A>, PathError>
     requires some { 0 < old.length }
     requires inside { old.length ≤ range.now.count }
-    requires room { above + range.now.count ≤ 2 ^ 63 }
+    requires room { above + range.now.count ≤ GREATEST_LENGTH }
     ensures not_known { (result ≡ Err PathError.HashNotKnown)
         ↔ (consistency_over (old_over D.digest (L.digest_at hashes.now)) old.is_whole old.length
         range.now ≡ None) }
@@ -91,7 +91,7 @@ fn path_at_end<D: SupportedDigest, V: VisitBytes, L: LogData<D, V>, A: Allocator
     range: &LeafRange,
     above: usize,
 ) -> Result<Vec<Hash<D>, A>, PathError>
-    requires { above < 2 ^ 63 }
+    requires { above < GREATEST_LENGTH }
     ensures not_known { (result ≡ Err PathError.HashNotKnown)
         ↔ (path_at_end (old_over D.digest (L.digest_at hashes.now)) is_whole range.now ≡ None) }
     ensures ok { IfOk result (λ path.

@@ -10,7 +10,7 @@ use crate::error::PathError;
 use crate::front::front_of;
 use std::alloc::Allocator;
 use warg_crypto::{Hash, SupportedDigest, VisitBytes, hash_branch, hash_leaf};
-use warg_log::{Checkpoint, LeafRange, LogData, stored_root};
+use warg_log::{Checkpoint, GREATEST_LENGTH, LeafRange, LogData, stored_root};
 
 /// The inclusion path of the entry at `index`, from 0, in the log of the first `length` entries, by the digests that
 /// the data holds: each is the stored root of the part beside the way, from the bottom up (RFC 6962,
@@ -24,7 +24,7 @@ pub fn inclusion_path<D: SupportedDigest, V: VisitBytes, L: LogData<D, V>, A: Al
     index: usize,
     length: usize,
 ) -> Result<Vec<Hash<D>, A>, PathError>
-    requires { length ≤ 2 ^ 63 }
+    requires { length ≤ GREATEST_LENGTH }
     ensures out_of_range { (result ≡ Err PathError.OutOfRange) ↔ (length ≤ index) }
     ensures not_known { (result ≡ Err PathError.HashNotKnown)
         ↔ ((index < length) × (inclusion_of (old_over D.digest
@@ -49,7 +49,7 @@ fn path_over<D: SupportedDigest, V: VisitBytes, L: LogData<D, V>, A: Allocator>(
     above: usize,
 ) -> Result<Vec<Hash<D>, A>, PathError>
     requires inside { index < range.now.count }
-    requires room { above + range.now.count ≤ 2 ^ 63 }
+    requires room { above + range.now.count ≤ GREATEST_LENGTH }
     ensures not_known { (result ≡ Err PathError.HashNotKnown)
         ↔ (inclusion_over (old_over D.digest (L.digest_at hashes.now)) index range.now ≡ None) }
     ensures ok { IfOk result (λ path.

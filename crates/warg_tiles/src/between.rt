@@ -5,6 +5,7 @@ ghost use Rattle.warg_tiles.specs.Between.{tiles_between, level_tiles, levels_fr
 
 use crate::tile::Tile;
 use std::alloc::{AllocError, Allocator};
+use warg_log::GREATEST_LENGTH;
 
 /// The tiles that a log has at its new length and hadn't at its old one, each once and as wide as it is at the new length,
 /// by level and then by number. Memory is the only error.
@@ -14,7 +15,7 @@ pub fn tiles_between<A: Allocator>(
     new_length: usize,
 ) -> Result<Vec<Tile, A>, AllocError>
     requires order { old_length ≤ new_length }
-    requires fits { new_length ≤ 2 ^ 63 }
+    requires fits { new_length ≤ GREATEST_LENGTH }
     ensures { IfOk result (λ tiles. tiles.items ≡ tiles_between old_length new_length) }
 {
     let mut tiles = Vec::new(alloc);
@@ -38,7 +39,7 @@ fn push_level<A: Allocator>(
 ) -> Result<(), AllocError>
     requires level { level < 8 }
     requires order { old_count ≤ new_count }
-    requires fits { new_count ≤ 2 ^ 63 }
+    requires fits { new_count ≤ GREATEST_LENGTH }
     ensures { OnOk result
         (tiles.new.items ≡ tiles.old.items ++ level_tiles level old_count new_count) }
 {

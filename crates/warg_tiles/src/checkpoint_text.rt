@@ -66,7 +66,7 @@ impl<D, A: Allocator + Copy> CheckpointText<D, A> {
             }) }
         ensures origin { (result ≡ Err CheckpointTextError.Origin) ↔ (IsLine origin.now → ⊥) }
         ensures length { (result ≡ Err CheckpointTextError.Length)
-            ↔ (IsLine origin.now × (2 ^ 63 < checkpoint.length)) }
+            ↔ (IsLine origin.now × (GREATEST_LENGTH < checkpoint.length)) }
         ensures only { (result ≡ Err CheckpointTextError.Root → ⊥)
             × (result ≡ Err CheckpointTextError.Extension → ⊥) }
     {
@@ -180,7 +180,7 @@ impl<D, A: Allocator> CheckpointText<D, A> {
     pub fn checkpoint(&self) -> Checkpoint<D>
         ensures root { result.root ≡ self.now.root }
         ensures length { result.length ≡ self.now.length }
-        ensures fits { result.length ≤ 2 ^ 63 }
+        ensures fits { result.length ≤ GREATEST_LENGTH }
     {
         Checkpoint::new(self.checkpoint.root(), self.checkpoint.length())
     }
@@ -225,8 +225,8 @@ fn first_line(bytes: &[u8]) -> Option<(&[u8], &[u8])>
 
 // The length that the first line of bytes says, and the bytes behind it.
 fn length_in(bytes: &[u8]) -> Option<(usize, &[u8])>
-    ensures { MatchOption result ((n : ℕ) (rest : List ℕ) → n ≤ 2 ^ 63
-        → bytes.now ≢ length_line n rest) (λ parts. (parts.0 ≤ 2 ^ 63)
+    ensures { MatchOption result ((n : ℕ) (rest : List ℕ) → n ≤ GREATEST_LENGTH
+        → bytes.now ≢ length_line n rest) (λ parts. (parts.0 ≤ GREATEST_LENGTH)
         × (bytes.now ≡ length_line parts.0 parts.1.now)) }
 {
     let (line, rest) = split_line(bytes)?;

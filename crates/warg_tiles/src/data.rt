@@ -10,7 +10,7 @@ use crate::tile::Tile;
 use std::alloc::{AllocError, Allocator, Global};
 use std::marker::{Model, PhantomData};
 use warg_crypto::{Hash, SupportedDigest, VisitBytes};
-use warg_log::{LogData, Node};
+use warg_log::{GREATEST_LENGTH, LogData, Node};
 
 /// The digests of a tile by the data: of each of its nodes, from left to right. `HashNotKnown` exactly if the data lacks
 /// one of them, before memory is taken; else memory is the only error.
@@ -19,7 +19,7 @@ pub fn tile_hashes<D: SupportedDigest, V: VisitBytes, L: LogData<D, V>, A: Alloc
     hashes: &L,
     tile: &Tile,
 ) -> Result<Vec<Hash<D>, A>, TileError>
-    requires { tile_end tile.now ≤ 2 ^ 63 }
+    requires { tile_end tile.now ≤ GREATEST_LENGTH }
     ensures ok { IfOk result (λ digests. IsTileBy (L.digest_at hashes.now) tile.now digests.items) }
     ensures not_known { (result ≡ Err TileError.HashNotKnown)
         ↔ LacksOf (L.digest_at hashes.now) tile.now }

@@ -12,7 +12,7 @@ use crate::data::TileData;
 use crate::tile::Tile;
 use std::alloc::{AllocError, Allocator};
 use warg_crypto::Sha256;
-use warg_log::{LogData, Node};
+use warg_log::{GREATEST_LENGTH, LogData, Node};
 
 /// The tiles from which the proof of the entry at `index`, from 0, in the log of the first `length` entries is made: each
 /// node that the proof needs has all digests of its level below it in one of them. Each is named once, and is as wide as it
@@ -23,7 +23,7 @@ pub fn tiles_for_inclusion<A: Allocator + Copy>(
     length: usize,
 ) -> Result<Vec<Tile, A>, AllocError>
     requires inside { index < length }
-    requires fits { length ≤ 2 ^ 63 }
+    requires fits { length ≤ GREATEST_LENGTH }
     ensures { IfOk result (λ tiles. AreFor length tiles.items (needed (2 * index) length)) }
 {
     let mut tiles = Vec::new(alloc);
@@ -40,7 +40,7 @@ pub fn tiles_for_consistency<A: Allocator + Copy>(
     new_length: usize,
 ) -> Result<Vec<Tile, A>, AllocError>
     requires order { old_length ≤ new_length }
-    requires fits { new_length ≤ 2 ^ 63 }
+    requires fits { new_length ≤ GREATEST_LENGTH }
     ensures { IfOk result (λ tiles. AreFor new_length tiles.items
         (needed_between old_length new_length)) }
 {
@@ -60,7 +60,7 @@ fn add_root<A: Allocator + Copy>(
     length: usize,
 ) -> Result<(), AllocError>
     requires exists { ExistsAt root.0 length }
-    requires fits { length ≤ 2 ^ 63 }
+    requires fits { length ≤ GREATEST_LENGTH }
     requires some { 0 < length }
     ensures { OnOk result (IsAdded length tiles.old.items tiles.new.items
         (root.0 ∷ needed root.0 length)) }
@@ -77,7 +77,7 @@ fn add_inclusion<A: Allocator + Copy>(
     length: usize,
 ) -> Result<(), AllocError>
     requires exists { ExistsAt node.0 length }
-    requires fits { length ≤ 2 ^ 63 }
+    requires fits { length ≤ GREATEST_LENGTH }
     requires some { 0 < length }
     ensures { OnOk result (IsAdded length tiles.old.items tiles.new.items (needed node.0 length)) }
 {
@@ -96,7 +96,7 @@ fn add_nodes<A: Allocator>(
     length: usize,
 ) -> Result<(), AllocError>
     requires exist { AllByRecursion (λ node. ExistsAt node.0 length) nodes.now }
-    requires fits { length ≤ 2 ^ 63 }
+    requires fits { length ≤ GREATEST_LENGTH }
     ensures { OnOk result (IsAdded length tiles.old.items tiles.new.items
         (map (λ x. x.0) nodes.now)) }
 {
@@ -124,7 +124,7 @@ fn give(tiles: &[Tile], node: Node) -> bool
 // The tile of a node of the log, as wide as it is at this length.
 fn tile_for(node: Node, length: usize) -> Tile
     requires exists { ExistsAt node.0 length }
-    requires fits { length ≤ 2 ^ 63 }
+    requires fits { length ≤ GREATEST_LENGTH }
     ensures of { IsTileOf length result }
     ensures gives { has_below result node.0 ≡ true }
 {

@@ -7,6 +7,8 @@ ghost use Rattle.warg_tiles.specs.Between.{AreNew, tiles_between};
 ghost use Rattle.warg_tiles.specs.TileData.{Tiles, IsTileBy, digest_by};
 ghost use Rattle.warg_tiles.specs.CheckpointText.{Said, CanBeSaid, text_before};
 
+use warg_log::GREATEST_LENGTH;
+
 /// A digest that the tiles of a log give is the node's: where each tile has the log's own digests, and they give a digest for
 /// a node, the log has the node, and this is its digest.
 #[tactic(auto, using(crate::proofs::OwnLemmas::digest_by_own))]
@@ -27,5 +29,5 @@ pub fn checkpoint_text_once()
 /// The tiles that `tiles_between` gives are exactly those that a log has at its new length and hadn't at its old one, each
 /// once. A wider tile in the place of a partial one is another tile.
 pub fn each_new_tile_once()
-    ensures { (old new : ℕ) → old ≤ new → new ≤ 2 ^ 63 → AreNew old new (tiles_between old new) }
+    ensures { (old new : ℕ) → old ≤ new → new ≤ GREATEST_LENGTH → AreNew old new (tiles_between old new) }
 {}

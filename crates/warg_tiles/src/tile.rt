@@ -7,7 +7,7 @@ ghost use Rattle.warg_tiles.specs.Tiles.{IsTile, node_in, tile_end, tile_over};
 
 use std::alloc::{AllocError, Allocator};
 use std::marker::Model;
-use warg_log::{LeafRange, Node};
+use warg_log::{GREATEST_LENGTH, LeafRange, Node};
 
 /// The digests of one height in a row, up to 256 of them, as one file: digest `i` of the tile with level `L` and number `N`
 /// is that of the node of height `8 * L` whose leaves begin at `(256 * N + i) * 2^(8 * L)` (C2SP tlog-tiles).
@@ -90,7 +90,7 @@ impl Tile {
     #[tactic(auto, using(crate::proofs::TileLemmas::level_low))]
     pub fn node(&self, place: usize) -> Node
         requires inside { place < self.now.width }
-        requires fits { tile_end self.now ≤ 2 ^ 63 }
+        requires fits { tile_end self.now ≤ GREATEST_LENGTH }
         ensures { result.0 ≡ node_in self.now place }
     {
         let count = 1 << (8 * self.level);
@@ -99,7 +99,7 @@ impl Tile {
 
     /// The nodes whose digests the tile has, from left to right. Memory is the only error.
     pub fn nodes<A: Allocator>(&self, alloc: A) -> Result<Vec<Node, A>, AllocError>
-        requires { tile_end self.now ≤ 2 ^ 63 }
+        requires { tile_end self.now ≤ GREATEST_LENGTH }
         ensures { IfOk result (λ nodes. map (λ node. node.0) nodes.items
             ≡ map (node_in self.now) (range_with_len 0 self.now.width)) }
     {
@@ -120,7 +120,7 @@ impl Tile {
 
     /// Whether a log of this length has all nodes of the tile.
     pub fn exists_at_length(&self, length: usize) -> bool
-        requires { length ≤ 2 ^ 63 }
+        requires { length ≤ GREATEST_LENGTH }
         ensures { IsTrue result ↔ (tile_end self.now ≤ length) }
     {
         if self.level >= 8 {

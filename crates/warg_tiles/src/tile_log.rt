@@ -17,7 +17,7 @@ use std::alloc::{AllocError, Allocator, Global};
 use std::marker::{Model, PhantomData};
 use std::mem;
 use warg_crypto::{Hash, SupportedDigest, VisitBytes, hash_branch, hash_empty, hash_leaf};
-use warg_log::{Checkpoint, LogBuilder, Node};
+use warg_log::{Checkpoint, GREATEST_LENGTH, LogBuilder, Node};
 
 /// A log that keeps its right edge alone, the digests of its partial tiles: at most 255 of each level, whatever the log's
 /// length. Full tiles wait until they are taken, for whoever stores them.
@@ -73,7 +73,7 @@ impl<D: SupportedDigest, V: VisitBytes, A: Allocator + Copy> TileLog<D, V, A> {
     ///
     /// The digests are taken on trust: whoever keeps the log's checkpoint compares it.
     pub fn open(alloc: A, log_length: usize, tiles: &[StoredTile<D, A>]) -> Result<Self, OpenError>
-        requires { log_length ≤ 2 ^ 63 }
+        requires { log_length ≤ GREATEST_LENGTH }
         ensures length { IfOk result (λ log. (log.len ≡ log_length) × (log.taken ≡ log_length)
             × (log.full ≡ [])) }
         ensures stands { IfOk result (λ log. (ds : List (List ℕ)) → length ds ≡ log_length
@@ -105,7 +105,7 @@ impl<D: SupportedDigest, V: VisitBytes, A: Allocator + Copy> TileLog<D, V, A> {
     /// The number of entries, at most [`GREATEST_LENGTH`](warg_log::GREATEST_LENGTH).
     pub fn length(&self) -> usize
         ensures value { result ≡ self.now.len }
-        ensures fits { self.now.len ≤ 2 ^ 63 }
+        ensures fits { self.now.len ≤ GREATEST_LENGTH }
     {
         self.count
     }
@@ -151,7 +151,7 @@ impl<D: SupportedDigest, V: VisitBytes, A: Allocator + Copy> LogBuilder<D, V> fo
 
     /// A push hashes the leaf and, of each tile that it fills, the branches: an entry has one branch on average.
     fn push(&mut self, entry: &V) -> Result<Node, AllocError>
-        requires { self.old.len < 2 ^ 63 }
+        requires { self.old.len < GREATEST_LENGTH }
         ensures node { IfOk result (λ node. node.0 ≡ 2 * self.old.len) }
         ensures length { OnOk result ((self.new.len ≡ self.old.len + 1)
             × (self.new.taken ≡ self.old.taken)) }
@@ -189,7 +189,7 @@ impl<D: SupportedDigest, V: VisitBytes, A: Allocator + Copy> LogBuilder<D, V> fo
         ensures root { (ds : List (List ℕ)) → StandsFor D.digest self.now ds
             → result.root ≡ root_of D.digest ds }
         ensures length { result.length ≡ self.now.len }
-        ensures fits { self.now.len ≤ 2 ^ 63 }
+        ensures fits { self.now.len ≤ GREATEST_LENGTH }
     {
         match root_of_edge(self.edge.as_slice(), self.count) {
             Some(root) => Checkpoint::new(root, self.count),
@@ -206,7 +206,7 @@ fn partial_tiles<D, A: Allocator + Copy>(
     edge: &[Hash<D>],
     count: usize,
 ) -> Result<Vec<StoredTile<D, A>, A>, AllocError>
-    requires fits { count ≤ 2 ^ 63 }
+    requires fits { count ≤ GREATEST_LENGTH }
     requires width { length edge.now ≡ width_from 0 count }
     ensures { IfOk result (λ tiles. (H : List ℕ → List ℕ) (ds : List (List ℕ)) → length ds ≡ count
         → edge.now ≡ edge_from H ds 0 count → AreTilesOf H ds (partial_tiles count)
@@ -250,7 +250,7 @@ fn push_partial<D, A: Allocator + Copy>(
 // The root of a log of this length, out of its right edge; none of no entries.
 #[tactic(auto, using(crate::proofs::PushLemmas::width_below))]
 fn root_of_edge<D: SupportedDigest>(edge: &[Hash<D>], count: usize) -> Option<Hash<D>>
-    requires fits { count ≤ 2 ^ 63 }
+    requires fits { count ≤ GREATEST_LENGTH }
     requires width { length edge.now ≡ width_from 0 count }
     ensures { (ds : List (List ℕ)) → length ds ≡ count → edge.now ≡ edge_from D.digest ds 0 count
         → result ≡ root_if D.digest ds }
@@ -338,7 +338,7 @@ fn fill<D: SupportedDigest, A: Allocator + Copy>(
     count: usize,
     digest: Hash<D>,
 ) -> Result<(usize, Hash<D>), AllocError>
-    requires fits { (count + 1) * 2 ^ (8 * level) ≤ 2 ^ 63 }
+    requires fits { (count + 1) * 2 ^ (8 * level) ≤ GREATEST_LENGTH }
     requires width { length edge.now ≡ width_from level count }
     ensures kept { IfOk result (λ r. (r.0 ≤ length edge.now)
         × (r.0 + 1 ≡ width_from level (count + 1))) }

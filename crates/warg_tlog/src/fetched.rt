@@ -7,7 +7,7 @@ use crate::refusal::Refusal;
 use crate::tile_files::read_tile;
 use std::alloc::Global;
 use warg_crypto::{Hash, Sha256};
-use warg_log::{LogData, Node};
+use warg_log::{GREATEST_LENGTH, LogData, Node};
 use warg_tiles::{Tile, TileData};
 
 /// The tiles that were read for a proof, each once.
@@ -63,7 +63,7 @@ impl Fetched {
         index: usize,
         length: usize,
     ) -> Result<Hash<Sha256>, Refusal>
-        requires { index < 2 ^ 63 }
+        requires { index < GREATEST_LENGTH }
     {
         let tile = Tile::new(0, index / 256, index % 256 + 1);
         let leaf = Node::leaf(index);

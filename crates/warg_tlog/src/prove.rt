@@ -55,7 +55,7 @@ fn inclusion(
     checkpoint: &Checkpoint<Sha256>,
 ) -> Result<Path, Refusal>
     requires inside { index < length }
-    requires fits { length ≤ 2 ^ 63 }
+    requires fits { length ≤ GREATEST_LENGTH }
 {
     let mut tiles = Fetched::new(rt.alloc());
     let named = tiles_for_inclusion(rt.alloc(), index, length)?;
@@ -97,7 +97,7 @@ fn growth(
 ) -> Result<Path, Refusal>
     requires some { 0 < old }
     requires order { old ≤ new }
-    requires fits { new ≤ 2 ^ 63 }
+    requires fits { new ≤ GREATEST_LENGTH }
 {
     let mut tiles = Fetched::new(rt.alloc());
     let path = fetched_growth(rt, folder, &mut tiles, old, new, checkpoint.length())?;
@@ -119,7 +119,7 @@ fn fetched_growth(
     length: usize,
 ) -> Result<Path, Refusal>
     requires order { old ≤ new }
-    requires fits { new ≤ 2 ^ 63 }
+    requires fits { new ≤ GREATEST_LENGTH }
 {
     let named = tiles_for_consistency(rt.alloc(), old, new)?;
     tiles.fetch(rt, folder, named.as_slice(), length)?;

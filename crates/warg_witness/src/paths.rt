@@ -25,11 +25,11 @@ use climbing::meet_paths;
 use std::alloc::{AllocError, Allocator};
 pub use tree::witness_tree;
 use warg_crypto::{Hash, Leaf, SupportedDigest, VisitBytes, hash_leaf};
-use warg_log::{LeafRange, VecLog};
+use warg_log::{GREATEST_LENGTH, LeafRange, VecLog};
 use warg_paths::{PathError, inclusion_path, root_of_inclusion};
 
 // The most leaves that a tree has.
-const MOST_LEAVES: usize = 1 << 63;
+const MOST_LEAVES: usize = GREATEST_LENGTH;
 
 // The tree over the entries, or None where the path doesn't lead from the leaf digest to its root.
 #[tactic(auto, using(crate::proofs::HashLemmas::meets, crate::proofs::RecordLemmas::leads_inside))]
@@ -71,7 +71,7 @@ fn divergence_from_tree<D: SupportedDigest, V: VisitBytes, A: Allocator>(
     tree: &VecLog<D, V, A>,
 ) -> Result<Divergence<D>, AllocError>
     requires inside { index < length tree.now }
-    requires fits { length tree.now ≤ 2 ^ 63 }
+    requires fits { length tree.now ≤ GREATEST_LENGTH }
     requires leads { inclusion_root D.digest index (length tree.now) leaf.now path.now
         ≡ Some (root_of D.digest tree.now) }
     ensures { IfOk result (DivergesFromTree D.digest leaf.now path.now tree.now index) }

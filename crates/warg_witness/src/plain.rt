@@ -6,14 +6,14 @@ ghost use Rattle.warg_log.specs.Ranges.{IsAligned};
 
 use std::alloc::{AllocError, Allocator};
 use warg_crypto::{Hash, SupportedDigest, VisitBytes};
-use warg_log::{LeafRange, VecLog, push_all, stored_root};
+use warg_log::{GREATEST_LENGTH, LeafRange, VecLog, push_all, stored_root};
 
 /// The tree over the entries, which is the log of them, and its root. It hashes each leaf and each branch once.
 pub(crate) fn plain_tree<D: SupportedDigest, V: VisitBytes, A: Allocator>(
     alloc: A,
     entries: &[V],
 ) -> Result<(VecLog<D, V, A>, Hash<D>), AllocError>
-    requires { length entries.now ≤ 2 ^ 63 }
+    requires { length entries.now ≤ GREATEST_LENGTH }
     ensures tree { IfOk result (λ plain. plain.0
         ≡ leaves_of D.digest (map V.bytes entries.now)) }
     ensures root { IfOk result (λ plain. plain.1

@@ -14,7 +14,7 @@ use crate::plain::plain_digest;
 use crate::ranges::meet_ranges;
 use std::alloc::{AllocError, Allocator};
 use warg_crypto::{SupportedDigest, VisitBytes};
-use warg_log::{LeafRange, VecLog};
+use warg_log::{GREATEST_LENGTH, LeafRange, VecLog};
 
 /// The trees over the old and the new entries.
 #[derive(Drop)]
@@ -32,7 +32,7 @@ fn is_same_entry<D: SupportedDigest, V: VisitBytes, A: Allocator>(
     old: &V,
     new: &V,
 ) -> Result<bool, AllocError>
-    requires fits { place < 2 ^ 63 }
+    requires fits { place < GREATEST_LENGTH }
     requires in_old { place < length trees.now.old }
     requires in_new { place < length trees.now.new }
     requires old_leaf { slice_index_or trees.now.old place []
@@ -56,7 +56,7 @@ pub(crate) fn first_difference<D: SupportedDigest, V: VisitBytes, A: Allocator>(
     new: &[V],
 ) -> Result<Option<usize>, AllocError>
     requires order { length old.now ≤ length new.now }
-    requires fits { length old.now ≤ 2 ^ 63 }
+    requires fits { length old.now ≤ GREATEST_LENGTH }
     requires old_tree { trees.now.old ≡ leaves_of D.digest (map V.bytes old.now) }
     requires new_tree { trees.now.new ≡ leaves_of D.digest (map V.bytes new.now) }
     ensures { IfOk result (IsFirstDifference (map V.bytes old.now)

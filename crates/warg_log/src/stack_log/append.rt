@@ -18,7 +18,7 @@ impl<D: SupportedDigest, V: VisitBytes, A: Allocator> StackLog<D, V, A> {
         ensures ok { OnOk result (self.new ≡ pushed D.digest self.old
             (leaf_digest D.digest (V.bytes entry.now))) }
         ensures node { IfOk result (λ node. node.0 ≡ 2 * self.old.len) }
-        ensures full { (result ≡ Err AppendError.Full) ↔ (self.old.len ≡ 2 ^ 63) }
+        ensures full { (result ≡ Err AppendError.Full) ↔ (self.old.len ≡ GREATEST_LENGTH) }
         ensures err { OnErr result (self.new ≡ self.old) }
     {
         if self.length() == GREATEST_LENGTH {

@@ -13,6 +13,7 @@ ghost use Rattle.warg_protobuf.specs.Decoding.{first_fault, digest_fault};
 ghost use Rattle.warg_log.specs.Images.{root_entry, RootsFit, stack_message, stack_in, stack_of};
 
 use crate::balanced_roots::BalancedRoots;
+use crate::log::GREATEST_LENGTH;
 use crate::message::read_hash;
 use crate::stack_log::StackLog;
 use std::alloc::{AllocError, Allocator};
@@ -21,7 +22,7 @@ use warg_crypto::{Hash, SupportedDigest, VisitBytes};
 use warg_protobuf::{DecodeError, EncodeError, HashEntry, StackLog as Message};
 
 // The greatest length of which each balanced root's number fits in 32 bits.
-const GREATEST_LENGTH: usize = 1 << 31;
+const GREATEST_IMAGE: usize = 1 << 31;
 
 impl<D: SupportedDigest, V: VisitBytes, A: Allocator + Copy> StackLog<D, V, A> {
     /// The log that a message holds.
@@ -67,7 +68,7 @@ impl<D: SupportedDigest, V: VisitBytes, A: Allocator + Copy> StackLog<D, V, A> {
         ensures too_large { (result ≡ Err EncodeError.TooLarge) ↔ ¬ RootsFit self.now }
         ensures fits { OnOk result (RootsFit self.now) }
     {
-        if self.count > GREATEST_LENGTH {
+        if self.count > GREATEST_IMAGE {
             return Err(EncodeError::TooLarge);
         }
         let alloc = *self.blocks.allocator();
@@ -114,7 +115,7 @@ fn read_blocks<D, A: Allocator>(
 
 // Whether the numbers of these entries are the balanced roots of a length, in order.
 fn are_roots<A: Allocator>(entries: &[HashEntry<A>], count: usize) -> bool
-    requires { count ≤ 2 ^ 63 }
+    requires { count ≤ GREATEST_LENGTH }
     ensures { result ≡ pointwise nat_eq (map (λ e. e.index) entries.now) (balanced_roots count) }
 {
     let mut roots = BalancedRoots::of(count);

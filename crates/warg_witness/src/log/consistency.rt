@@ -22,14 +22,14 @@ use crate::ranges::meet_ranges;
 use crate::trees::{Trees, divergence_below, first_difference};
 use std::alloc::{AllocError, Allocator};
 use warg_crypto::{Hash, Leaf, SupportedDigest, VisitBytes};
-use warg_log::{ConsistencyProof, LeafRange, LogData, Node, VecLog};
+use warg_log::{ConsistencyProof, GREATEST_LENGTH, LeafRange, LogData, Node, VecLog};
 
 // Whether the entries are as many as the proof's lengths say.
 fn have_lengths<D, V>(proof: &ConsistencyProof<D, V>, old: &[V], new: &[V]) -> bool
     ensures same { IsTrue result ↔ ((length old.now ≡ proof.now.old_length)
         × (length new.now ≡ proof.now.new_length)) }
-    ensures old_most { proof.now.old_length ≤ 2 ^ 63 }
-    ensures new_most { proof.now.new_length ≤ 2 ^ 63 }
+    ensures old_most { proof.now.old_length ≤ GREATEST_LENGTH }
+    ensures new_most { proof.now.new_length ≤ GREATEST_LENGTH }
 {
     let old_length = proof.old_length();
     let new_length = proof.new_length();
@@ -106,7 +106,7 @@ fn held_root<D: SupportedDigest, V: VisitBytes, L: LogData<D, V>, A: Allocator>(
     place: usize,
 ) -> (LeafRange, Hash<D>)
     requires place { place < length trees.now.old }
-    requires fits { length trees.now.old ≤ 2 ^ 63 }
+    requires fits { length trees.now.old ≤ GREATEST_LENGTH }
     requires met { IsConsistent D.digest (L.digest_at hashes.now) (length trees.now.old)
         (length trees.now.new) (root_of D.digest trees.now.old) (root_of D.digest trees.now.new) }
     ensures around { IsAround place 1 result.0.start result.0.count }
@@ -131,7 +131,7 @@ fn divergence_from<D: SupportedDigest, V: VisitBytes, L: LogData<D, V>, A: Alloc
 ) -> Divergence<D>
     requires node { IsNodeRange node.now.start node.now.count }
     requires within { node.now.start + node.now.count ≤ length tree.now }
-    requires fits { length tree.now ≤ 2 ^ 63 }
+    requires fits { length tree.now ≤ GREATEST_LENGTH }
     requires met { cut_over D.digest (with_target (L.digest_at hashes.now) node.now hash.now)
         (leaves_from 0 (length tree.now)) ≡ Some (root_of D.digest tree.now) }
     ensures { IsDivergence D.digest (L.digest_at hashes.now) hash.now (own_digest D.digest tree.now)
@@ -154,7 +154,7 @@ fn divergence_at<D: SupportedDigest, V: VisitBytes, L: LogData<D, V>, A: Allocat
     place: usize,
 ) -> Divergence<D>
     requires place { place < length trees.now.old }
-    requires fits { length trees.now.new ≤ 2 ^ 63 }
+    requires fits { length trees.now.new ≤ GREATEST_LENGTH }
     requires met { IsConsistent D.digest (L.digest_at hashes.now) (length trees.now.old)
         (length trees.now.new) (root_of D.digest trees.now.old) (root_of D.digest trees.now.new) }
     ensures { IsConsistencyDivergence D.digest (L.digest_at hashes.now) trees.now.old trees.now.new

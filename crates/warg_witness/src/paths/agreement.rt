@@ -10,6 +10,7 @@ use crate::collision::Finding;
 use crate::compare::have_same_bytes;
 use std::alloc::{AllocError, Allocator};
 use warg_crypto::{Hash, Leaf, SupportedDigest, VisitBytes, hash_leaf};
+use warg_log::GREATEST_LENGTH;
 
 /// Whether two paths of the place `index`, from 0, of `length` entries, from two values, that lead to one root,
 /// whichever it is, are of the same value: for a client that holds no entries.
@@ -31,7 +32,7 @@ pub fn agree_record<D: SupportedDigest, V: VisitBytes, A: Allocator + Copy>(
     second_value: &V,
     second_path: &[Hash<D>],
 ) -> Result<Finding<D, A>, AllocError>
-    requires { length ≤ 2 ^ 63 }
+    requires { length ≤ GREATEST_LENGTH }
     ensures unmet { ¬ (IsRecordAgreement D.digest index length first_path.now
         (V.bytes first_value.now)
         second_path.now (V.bytes second_value.now)) → result ≡ Ok Finding.NotMet }

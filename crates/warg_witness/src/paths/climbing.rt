@@ -9,7 +9,7 @@ use crate::climb::Climb;
 use crate::divergence::Divergence;
 use crate::ranges::sides_around;
 use warg_crypto::{Hash, SupportedDigest};
-use warg_log::LeafRange;
+use warg_log::{GREATEST_LENGTH, LeafRange};
 
 // Both evaluations from a leaf of a range up to the range. None where a path has another length than that of this leaf.
 #[tactic(auto, using(crate::proofs::RangeLemmas::leaf_node, warg_paths::proofs::ForCallers::root_long, warg_paths::proofs::ForCallers::root_short))]
@@ -62,7 +62,7 @@ pub(crate) fn meet_paths<D: SupportedDigest>(
     second_leaf: &Hash<D>,
     second_path: &[Hash<D>],
 ) -> Option<Divergence<D>>
-    requires { length ≤ 2 ^ 63 }
+    requires { length ≤ GREATEST_LENGTH }
     ensures { MatchOption result
         (NeverMeet D.digest first_leaf.now first_path.now second_leaf.now second_path.now index length)
         (IsPathsMeeting D.digest first_leaf.now first_path.now second_leaf.now second_path.now
