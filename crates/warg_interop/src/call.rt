@@ -1,6 +1,7 @@
 //! The calls, and the lines that spell them.
 
 ghost use Rattle.std.specs.Prelude.{◌≤◌, ◌^◌};
+ghost use Rattle.warg_log.specs.declared.log.TheConstants.{GREATEST_LENGTH};
 
 use crate::answer::Path;
 use hex::FromHexError;
@@ -63,7 +64,7 @@ impl<T: Drop> From<AllocFailed<T>> for CallError {
 #[derive(Drop)]
 pub(crate) struct Length {
     pub(crate) value: usize,
-    ghost most: { value ≤ 2 ^ 63 },
+    ghost most: { value ≤ GREATEST_LENGTH },
 }
 
 impl<'a> Call<'a> {

@@ -19,6 +19,7 @@ pub(crate) struct BalancedRoots {
 
 // Contracts see the numbers of the roots that remain.
 impl Model for BalancedRoots {
+    ghost use Rattle.warg_log.specs.declared.log.TheConstants.{GREATEST_LENGTH};
     ghost use Rattle.std.specs.Prelude.{ℕ, List, ◌-◌, ◌^◌, ◌≤◌};
     ghost use Rattle.warg_log.specs.Nodes.{balanced_over};
 
@@ -26,7 +27,7 @@ impl Model for BalancedRoots {
 
     ghost view = { λ r. balanced_over r.start (r.end - r.start) };
 
-    ghost invariant = { λ r. r.end ≤ 2 ^ 63 };
+    ghost invariant = { λ r. r.end ≤ GREATEST_LENGTH };
 }
 
 impl BalancedRoots {

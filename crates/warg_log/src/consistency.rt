@@ -64,6 +64,7 @@ pub struct ConsistencyProof<D, V> {
 
 // Contracts see the proof as its two lengths.
 impl<D, V> Model for ConsistencyProof<D, V> {
+    ghost use Rattle.warg_log.specs.declared.log.TheConstants.{GREATEST_LENGTH};
     ghost use Rattle.std.specs.Prelude.{◌≤◌, ◌^◌};
     ghost use Rattle.warg_log.specs.Claims.{ConsistencyClaim};
 
@@ -71,7 +72,7 @@ impl<D, V> Model for ConsistencyProof<D, V> {
 
     ghost view = { λ p. record { old_length = p.old_length; new_length = p.new_length } };
 
-    ghost invariant = { λ p. (p.old_length ≤ 2 ^ 63) × (p.new_length ≤ 2 ^ 63) };
+    ghost invariant = { λ p. (p.old_length ≤ GREATEST_LENGTH) × (p.new_length ≤ GREATEST_LENGTH) };
 
     ghost inverse = { λ p. record {
       old_length = p.old_length;

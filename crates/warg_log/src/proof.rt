@@ -46,6 +46,7 @@ pub struct InclusionProof<D, V> {
 
 // Contracts see the proof as its node and its length.
 impl<D, V> Model for InclusionProof<D, V> {
+    ghost use Rattle.warg_log.specs.declared.log.TheConstants.{GREATEST_LENGTH};
     ghost use Rattle.std.specs.Prelude.{◌≤◌, ◌^◌};
     ghost use Rattle.warg_log.specs.Claims.{InclusionClaim};
 
@@ -53,7 +54,7 @@ impl<D, V> Model for InclusionProof<D, V> {
 
     ghost view = { λ p. record { leaf = p.leaf; log_length = p.log_length } };
 
-    ghost invariant = { λ p. p.log_length ≤ 2 ^ 63 };
+    ghost invariant = { λ p. p.log_length ≤ GREATEST_LENGTH };
 
     ghost inverse = { λ p. record { leaf = p.leaf; log_length = p.log_length; of = record {} } };
 }

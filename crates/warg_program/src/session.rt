@@ -8,6 +8,7 @@ ghost use Rattle.warg_program.specs.Orders.{line_of, push, log, include, consist
 ghost use Rattle.warg_program.specs.States.{start};
 ghost use Rattle.warg_program.specs.Private.Errors.{IsRefusal};
 ghost use Rattle.warg_program.specs.Text.{is_not_bad, refusal, bytes_or_refusal, bundle_refusal, text_of, all_good, MeetsFull};
+ghost use Rattle.warg_log.specs.declared.log.TheConstants.{GREATEST_LENGTH};
 
 use crate::command::{Command, Kind};
 use crate::program::RunError;
@@ -30,7 +31,7 @@ struct Session<A: Allocator> {
     log: VecLog<Sha256, Vec<u8, A>, A>,
     map: Map<Sha256, Vec<u8, A>, Vec<u8, A>, A>,
     text: String<A>,
-    ghost few: { length log ≤ 2 ^ 63 },
+    ghost few: { length log ≤ GREATEST_LENGTH },
 }
 
 impl<A: Allocator + Copy> Session<A> {

@@ -6,6 +6,7 @@ ghost use Rattle.warg_program.specs.Words.{lines_of, number_in, length_in, hex_b
 ghost use Rattle.warg_program.specs.Orders.{first_says, none_left};
 ghost use Rattle.warg_program.specs.Private.Parts.{IsFirstPart};
 ghost use Rattle.warg_program.specs.Private.Says.{Says};
+ghost use Rattle.warg_log.specs.declared.log.TheConstants.{GREATEST_LENGTH};
 
 use hex::FromHexError;
 use memchr::memchr;
@@ -178,5 +179,5 @@ pub(super) fn next_line(bytes: &[u8]) -> (&[u8], &[u8])
 #[derive(Drop)]
 pub(super) struct LogLength {
     pub value: usize,
-    ghost most: { value ≤ 2 ^ 63 },
+    ghost most: { value ≤ GREATEST_LENGTH },
 }

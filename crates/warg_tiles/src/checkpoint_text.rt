@@ -31,6 +31,7 @@ pub struct CheckpointText<D, A: Allocator = Global> {
 
 // Contracts see a text as what it says.
 impl<D, A: Allocator> Model for CheckpointText<D, A> {
+    ghost use Rattle.warg_log.specs.declared.log.TheConstants.{GREATEST_LENGTH};
     ghost use Rattle.std.specs.Prelude.{◌^◌, ◌≤◌, map};
     ghost use Rattle.std.specs.List.{AllByRecursion};
     ghost use Rattle.warg_tiles.specs.CheckpointText.{Said, IsLine};
@@ -44,7 +45,7 @@ impl<D, A: Allocator> Model for CheckpointText<D, A> {
       extensions = map (λ l. l.items) t.extensions.items;
     } };
 
-    ghost invariant = { λ t. IsLine t.origin.items × (t.checkpoint.length ≤ 2 ^ 63)
+    ghost invariant = { λ t. IsLine t.origin.items × (t.checkpoint.length ≤ GREATEST_LENGTH)
         × AllByRecursion IsLine (map (λ l. l.items) t.extensions.items) };
 }
 

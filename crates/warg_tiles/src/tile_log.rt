@@ -34,6 +34,7 @@ pub struct TileLog<D: SupportedDigest, V: VisitBytes, A: Allocator = Global> {
 
 // Contracts see the log as its length, that at the last call of `take_full`, and the digests of its tiles.
 impl<D: SupportedDigest, V: VisitBytes, A: Allocator> Model for TileLog<D, V, A> {
+    ghost use Rattle.warg_log.specs.declared.log.TheConstants.{GREATEST_LENGTH};
     ghost use Rattle.std.specs.Prelude.{◌≡◌, ◌^◌, ◌≤◌, length, map};
     ghost use Rattle.warg_tiles.specs.TileLog.{RightEdge};
     ghost use Rattle.warg_tiles.specs.Private.Edges.{edge_width};
@@ -47,7 +48,7 @@ impl<D: SupportedDigest, V: VisitBytes, A: Allocator> Model for TileLog<D, V, A>
       full = map (λ t. (t.tile, t.digests.items)) l.full.items;
     } };
 
-    ghost invariant = { λ l. (length l.edge.items ≡ edge_width 8 l.count) × (l.count ≤ 2 ^ 63)
+    ghost invariant = { λ l. (length l.edge.items ≡ edge_width 8 l.count) × (l.count ≤ GREATEST_LENGTH)
         × (l.taken ≤ l.count) };
 }
 
