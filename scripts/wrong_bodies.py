@@ -3,9 +3,9 @@
 
 An edit is a line 'file: src/lib.rt' and then pairs of lines 'old: TEXT' and 'new: TEXT', each old text standing
 there once; 'old line: TEXT' stands for a whole line. One check of a copy of the crate carries a round of edits, one a
-function at most: a function's proof rests on its callees' contracts and not on their bodies, and the check names each
+proof at most: a function's proof rests on its callees' contracts and not on their bodies, and the check names each
 function with an open goal of its own. An edit is refused exactly if the check names such a goal, or an error in its
-proof files, of the function that it changes. What waits for a callee, lacks a name or was cut off goes to the next
+proof files, of the function that it changes, or of one in a cycle of calls with it, as these have one proof. What waits for a callee, lacks a name or was cut off goes to the next
 round. An edit that changes more than one function's body goes alone, and so does each that no round has judged. What is
 still let through fails.
 
@@ -37,16 +37,19 @@ import kit
 PARTS = ("src", "specs", "proofs")
 UNPROVED = re.compile(r"fn \S+: (?!proved)")
 WAITS = re.compile(r"which (is|are) not proved")
+CYCLE = re.compile(r"#\[cycle\((\w+)\)\]\s*(?:#\[[^\n]*\]\s*|//[^\n]*\n\s*)*(?:pub(?:\(\w+\))? )?\Z")
 LACKS_A_NAME = re.compile(r"has no field|is not in scope|has no `|was not admitted|is no name")
 
 
 @dataclasses.dataclass(eq=False)
 class Edit:
-    """A wrong body: its pairs of texts by file, and the one function that it changes, if it is one."""
+    """A wrong body: its pairs of texts by file, the one function that it changes, if it is one, and those that have one
+    proof with it, itself first."""
 
     path: pathlib.Path
     pairs: list
     function: str = ""
+    proved_with: tuple = ()
 
     @property
     def name(self):
@@ -105,6 +108,18 @@ def function_of(edit, texts, crate):
     return found.pop() if len(found) == 1 else ""
 
 
+def cycles_of(texts, crate):
+    """Returns the functions of each cycle of calls, which have one proof, by the function."""
+    cycles = collections.defaultdict(list)
+    for file, text in texts.items():
+        module = pathlib.Path(file).stem
+        for it in functions.functions(text, crate if module in ("lib", "main") else module):
+            named = CYCLE.search(text[: it.start])
+            if named:
+                cycles[named[1]].append(f"{it.owner}::{it.name}")
+    return {it: [it, *(other for other in cycle if other != it)] for cycle in cycles.values() for it in cycle}
+
+
 def said_by(ran, stages):
     """Returns what a check prints, and whether it has named every function.
 
@@ -135,12 +150,16 @@ class Check:
         self.is_whole = has_named
         self.is_proved = bool(re.search(r"^logic=proved", said, re.M))
 
-    def name_of(self, edit):
-        """Returns the whole name of an edit's function, by its end, and by its file where several end so."""
-        found = [it for it in self.lines if f"::{it}".endswith(f"::{edit.function}")]
-        if len(found) > 1:
-            found = [it for it in found if it.partition("::")[2].startswith(f"{edit.module}::")]
-        return found[0] if len(found) == 1 else ""
+    def names_of(self, edit):
+        """Returns the whole names of an edit's function, first, and of those that have one proof with it: by their ends,
+        and by the edit's file where several end so."""
+        names = []
+        for function in edit.proved_with:
+            found = [it for it in self.lines if f"::{it}".endswith(f"::{function}")]
+            if len(found) > 1:
+                found = [it for it in found if it.partition("::")[2].startswith(f"{edit.module}::")]
+            names += found if len(found) == 1 else []
+        return names
 
     def is_broken(self, name):
         """Whether a function has an open goal of its own, or an error in its own proof that is no lack of a name."""
@@ -156,6 +175,7 @@ class Crate:
         self.name, self.kept = name, kept
         self.folder = kit.ROOT / "crates" / name
         self.texts = {str(it.relative_to(self.folder)): it.read_text() for it in sorted(self.folder.glob("src/**/*.rt"))}
+        self.cycles = cycles_of(self.texts, name)
         self.seconds, self.checks, self.refused, self.faults = 0.0, 0, {}, []
 
     def edits(self, only):
@@ -165,6 +185,7 @@ class Crate:
         for edit in found:
             if fits(edit, self.texts):
                 edit.function = function_of(edit, self.texts, self.name)
+                edit.proved_with = tuple(self.cycles.get(edit.function, [edit.function] if edit.function else []))
             else:
                 self.faults.append(f"{edit.name}: an old text doesn't stand exactly once in its file")
         return [it for it in found if fits(it, self.texts)]
@@ -195,17 +216,17 @@ class Crate:
     def judge(self, edits):
         """Checks a round, and returns what it says of each edit: refused, proved, or a word why it says nothing yet."""
         checked = self.check(edits)
-        names = {it: checked.name_of(it) for it in edits}
-        reached = [it for it in checked.lines if checked.is_broken(it) and it not in names.values()]
+        names = {it: checked.names_of(it) for it in edits}
+        reached = [it for it in checked.lines if checked.is_broken(it) and not any(it in own for own in names.values())]
         if len(edits) > 1 and (reached or not checked.is_whole):
             half = len(edits) // 2
             return {**self.judge(edits[:half]), **self.judge(edits[half:])}
         answers = {}
-        for edit, name in names.items():
-            said = checked.lines.get(name, "")
+        for edit, own in names.items():
+            said = checked.lines[own[0]] if own else ""
             if not checked.is_whole:
                 answers[edit] = "unread: " + next((it for it in checked.said.splitlines() if "error" in it), "")[:200]
-            elif checked.is_broken(name) or len(edits) == 1 and (reached or not edit.function and checked.faults):
+            elif any(map(checked.is_broken, own)) or len(edits) == 1 and (reached or not edit.function and checked.faults):
                 answers[edit] = "refused"
             elif said.startswith("proved") or len(edits) == 1 and checked.is_proved:
                 answers[edit] = "proved"
@@ -218,9 +239,10 @@ class Crate:
         taken, seen, texts = [], set(), dict(self.texts)
         for edit in edits:
             is_new = edit.function and len(told[edit]) < 2
-            if is_new and (edit.module, edit.function) not in seen and fits(edit, texts):
+            proof = edit.module, frozenset(edit.proved_with)
+            if is_new and proof not in seen and fits(edit, texts):
                 apply(edit, texts)
-                seen.add((edit.module, edit.function))
+                seen.add(proof)
                 taken.append(edit)
         return taken or edits[:1]
 

@@ -1,6 +1,5 @@
 //! A digest that takes as long as many, by which the time of a call tells how many digests it took.
 
-ghost use Rattle.std.specs.Prelude.{◌≡◌};
 ghost use Rattle.sha2.specs.Hashers.{Holds256};
 ghost use Rattle.sha2.specs.Sha256.{sha256};
 ghost use Rattle.warg_crypto.specs.DigestFacts.{IsDigest-sha256};

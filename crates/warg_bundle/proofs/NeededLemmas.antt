@@ -23,6 +23,7 @@ use Rattle.warg_bundle.specs.LogBundles.{Bundle}
 use Rattle.warg_protobuf.specs.Decoding.{unless, first_fault}
 use Rattle.warg_bundle.specs.Bundling.{needed_by, needed_ascending, consistency_fault, inclusion_fault, first_length, proofs_fault, bundle_length, node_fault, node_with_digest, bundle_at, bundled, HoldsNeeded}
 use Rattle.warg_bundle.specs.Private.Unions.{IsUnion}
+use Rattle.warg_bundle.specs.Private.Needed.{digests_at}
 use Rattle.warg_protobuf.specs.Reading.{◌>>=◌}
 use Rattle.warg_protobuf.proofs.ForCallers.{all_append, all_weaken}
 use Rattle.warg_protobuf.proofs.ForCallers.{both_none, all_without, no_fault}
@@ -195,9 +196,6 @@ left_are ys n below x =
 
 -- ---- the nodes that all the proofs need
 
-pub old_fit : {X : Type 0} (old new : X → ℕ) (n most : ℕ) (xs : List X) → n < most → AllByRecursion (λ p. (old p ≤ new p) × (new p ≡ n)) xs → AllByRecursion (λ p. old p < most) xs
-old_fit old new n most xs lt all = all_weaken (λ p. (old p ≤ new p) × (new p ≡ n)) (λ p. old p < most) (λ p q. omega arith) xs all
-
 needed_exactly_by : {X Y : Type 0} (P : X → Type 0) (Q : Y → Type 0) (old new : X → ℕ) (leaf : Y → Node) (len : Y → ℕ) (n : ℕ) (xs : List X) (ys : List Y) (keys : List ℕ)
     → IsUnion [] keys (flat_map (λ p. needed_between (old p) (new p)) xs ++ flat_map (λ p. needed (leaf p).0 (len p)) ys)
     → AllByRecursion (λ p. P p × (new p ≡ n)) xs → AllByRecursion (λ p. Q p × (len p ≡ n)) ys
@@ -293,14 +291,18 @@ bundle_holds F cs ps b is = holds (bundle_length cs ps) refl is
           source = sourced F _ p.0;
         })
 
--- ---- what the bundle of some proofs is
+-- ---- the digests that proofs need, and the bundle of the proofs with them
 
-pub bundled_is : (F : ℕ → Option (List ℕ)) (cs : List ConsistencyClaim) (ps : List InclusionClaim) (n : ℕ) (keys : List ℕ) (fault : Option BundleError) → bundle_length cs ps ≡ Ok n
+pub digests_are : (F : ℕ → Option (List ℕ)) (cs : List ConsistencyClaim) (ps : List InclusionClaim) (n : ℕ) (keys : List ℕ) (fault : Option BundleError)
     → needed_ascending (map (λ (p : ConsistencyClaim). p.old_length) cs) (map (λ (p : InclusionClaim). p.leaf) ps) n ≡ keys → first_fault (node_fault F) keys ≡ fault
-    → bundled F cs ps ≡ unless fault (record {
-      log_length = n;
-      consistent_lengths = map (λ (p : ConsistencyClaim). p.old_length) cs;
-      included_nodes = map (λ (p : InclusionClaim). p.leaf) ps;
-      hashes = map (node_with_digest F) keys;
-    })
-bundled_is F cs ps n keys fault length_is keys_is is = rw (length_is, keys_is, is) refl
+    → digests_at F (map (λ (p : ConsistencyClaim). p.old_length) cs) (map (λ (p : InclusionClaim). p.leaf) ps) n ≡ unless fault (map (node_with_digest F) keys)
+digests_are F cs ps n keys fault keys_is is = rw (keys_is, is) refl
+
+unless_then : {X Y : Type 0} (fault : Option BundleError) (x : X) (f : X → Y) → unless fault (f x) ≡ (unless fault x >>= (λ y. Ok (f y)))
+unless_then None x f = refl
+unless_then (Some e) x f = refl
+
+pub bundled_is : (F : ℕ → Option (List ℕ)) (cs : List ConsistencyClaim) (ps : List InclusionClaim) (n : ℕ) → bundle_length cs ps ≡ Ok n
+    → let olds = map (λ (p : ConsistencyClaim). p.old_length) cs in let nodes = map (λ (p : InclusionClaim). p.leaf) ps in
+    bundled F cs ps ≡ (digests_at F olds nodes n >>= (λ pairs. Ok (record { log_length = n; consistent_lengths = olds; included_nodes = nodes; hashes = pairs })))
+bundled_is F cs ps n length_is = rw length_is (unless_then _ _ _)

@@ -2,3 +2,4 @@
 pub mod Checks
 pub mod KeyBundles
 pub mod Unions
+pub mod Needed

@@ -1,6 +1,6 @@
 //! Values that are seen as bytes, and visitors that take those bytes.
 
-ghost use Rattle.std.specs.Prelude.{◌≡◌, ℕ, List, [], ◌∷◌, ◌++◌, string_bytes};
+ghost use Rattle.std.specs.Prelude.{ℕ, List, [], ◌∷◌, ◌++◌, string_bytes};
 ghost use Rattle.std.specs.Int.{to_be_bytes, w32, w64};
 
 use std::alloc::Allocator;

@@ -2,7 +2,7 @@
 use Rattle.std.proofs.Common.{◌≡◌, ℕ, ◌+◌, ◌*◌, ◌%◌, ◌^◌, ◌<◌, ◌≤◌, List, [], ◌∷◌, ◌++◌, length, take, drop, refl, ap, ◌∙◌, arith}
 use Rattle.std.proofs.Math.ListN.{get_or, get_or-append}
 use Rattle.std.proofs.Math.Seq.{get_or-append_seam}
-use Rattle.std.proofs.lemmas.List.{take-append-le, drop-append-le, length-drop, length_push}
+use Rattle.std.proofs.lemmas.List.{take-append-le, length-take-le, take_more, drop-append-le, length-drop, length_push}
 use Rattle.std.proofs.lemmas.Bool.Decides.{nat_tests}
 use Rattle.std.proofs.lemmas.Nat.{pow_pos}
 use Rattle.warg_log.specs.Nodes.{height_of, start_of, end_of, number_of}
@@ -12,10 +12,23 @@ use Rattle.warg_log.proofs.NodeLemmas.{last_leaf}
 use Rattle.warg_log.proofs.SliceLemmas.{slice_of-is, own_leaf}
 use Rattle.warg_log.proofs.BalancedLemmas.{end_is}
 
-leaves_in-two : (t : List (List ℕ)) (s d : List ℕ) → length t % 2 ≡ 1 → leaves_in ((t ++ s ∷ []) ++ d ∷ []) ≡ leaves_in t ++ d ∷ []
-leaves_in-two [] s d odd = absurd (omega arith)
-leaves_in-two (x ∷ []) s d odd = refl
-leaves_in-two (x ∷ y ∷ t) s d odd = ap (λ r. x ∷ r) (leaves_in-two t s d (omega arith))
+-- a digest behind a tree is a leaf's or a branch's
+pub leaf_behind : (t : List (List ℕ)) (d : List ℕ) → length t % 2 ≡ 0 → leaves_in (t ++ d ∷ []) ≡ leaves_in t ++ d ∷ []
+leaf_behind [] d even = refl
+leaf_behind (x ∷ []) d even = absurd (omega arith)
+leaf_behind (x ∷ y ∷ t) d even = ap (λ r. x ∷ r) (leaf_behind t d (omega arith))
+
+pub branch_behind : (t : List (List ℕ)) (d : List ℕ) → length t % 2 ≡ 1 → leaves_in (t ++ d ∷ []) ≡ leaves_in t
+branch_behind [] d odd = absurd (omega arith)
+branch_behind (x ∷ []) d odd = refl
+branch_behind (x ∷ y ∷ t) d odd = ap (λ r. x ∷ r) (branch_behind t d (omega arith))
+
+-- the front of a tree, with one digest more
+pub leaves_more : (t : List (List ℕ)) (i : ℕ) (d : List ℕ) → i < length t → d ≡ get_or t i d
+    → (i % 2 ≡ 0 → leaves_in (take (i + 1) t) ≡ leaves_in (take i t) ++ d ∷ []) × (i % 2 ≡ 1 → leaves_in (take (i + 1) t) ≡ leaves_in (take i t))
+leaves_more t i d lt is =
+    let len = length-take-le i t (omega arith) in
+    rw (take_more t i d lt, ← is) ((λ even. leaf_behind (take i t) d (omega arith)), (λ odd. branch_behind (take i t) d (omega arith)))
 
 -- one more leaf changes nothing below the nodes before it
 pub front_kept : (ds : List (List ℕ)) (d : List ℕ) (a w : ℕ) → a + w ≤ length ds → take w (drop a (ds ++ d ∷ [])) ≡ take w (drop a ds)
@@ -45,7 +58,7 @@ room_more H tree is some =
     record {
       len = omega (arith, len, slice.len);
       holds = λ z lt. grind (arith, nat_tests, len, get_or-append tree (H [] ∷ []) [] z, slice.holds z, slice.len, get_or-append_seam tree (H []) [] [], last_leaf z, pow_pos (height_of z));
-      leaves = λ d. leaves_in-two tree (H []) d (omega (arith, slice.len));
+      leaves = λ d. leaf_behind (tree ++ H [] ∷ []) d (omega (arith, len, slice.len)) ∙ ap (λ l. l ++ d ∷ []) (branch_behind tree (H []) (omega (arith, slice.len)));
     }
 
 -- what a leaf appended to that makes

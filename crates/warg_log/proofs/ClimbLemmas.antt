@@ -1,20 +1,19 @@
 -- Which nodes balanced roots are, and the cut root by the digests of a walk, in its order.
-use Rattle.std.proofs.Common.{◌≡◌, ℕ, suc, ◌+◌, ◌-◌, ◌*◌, ◌/◌, ◌%◌, ◌^◌, ◌<◌, ◌≤◌, ◌==◌, true, false, List, [], ◌∷◌, ◌++◌, map, Option, Some, refl, sym, ap, ◌∙◌, arith, lit≤, ⊎_elim, inl, inr}
+use Rattle.std.proofs.Common.{◌≡◌, ℕ, suc, ◌+◌, ◌-◌, ◌/◌, ◌%◌, ◌^◌, ◌<◌, ◌≤◌, ◌==◌, true, false, List, [], ◌∷◌, ◌++◌, map, Option, Some, refl, sym, ap, ◌∙◌, arith, lit≤, ⊎_elim}
 use Rattle.std.specs.List.{AllByRecursion}
 use Rattle.std.proofs.Math.Nat.{pow-suc, pow-le-pow_right}
 use Rattle.std.proofs.lemmas.Nat.{pow_pos}
 use Rattle.std.proofs.lemmas.Bool.{cases_Bool}
 use Rattle.std.proofs.lemmas.List.{map-append}
-use Rattle.warg_log.specs.Nodes.{height_of, place_of, start_of, end_of, node_over, number_of, balanced_over, balanced_roots, Follow, Fall}
+use Rattle.warg_log.specs.Nodes.{height_of, place_of, end_of, number_of, balanced_over, balanced_roots, Follow, Fall}
 use Rattle.warg_log.specs.Ranges.{leaves_from, range_of}
-use Rattle.warg_log.specs.Cut.{Evaluation, with_target, top_of, cut_over, cut_root, old_root, IsFull}
+use Rattle.warg_log.specs.Cut.{Evaluation, with_target, joined, top_of, cut_over, cut_root, old_root, IsFull}
 use Rattle.warg_log.specs.Walks.{climbed, joined_all}
 use Rattle.warg_protobuf.proofs.ForCallers.{all_weaken}
-use Rattle.warg_log.proofs.NodeLemmas.{node_is, only_number, over_at, over_ends}
-use Rattle.warg_log.proofs.CutLemmas.{nothing, cut_over_read, cut_over-split, nothing_beside}
-use Rattle.warg_log.proofs.WayLemmas.{counts, IsBeside, missed}
-use Rattle.warg_log.proofs.BalancedLemmas.{end_is, balanced_first, none_left, roots, roots_follow}
-use Rattle.warg_log.proofs.OrderLemmas.{roots_end, above, block, climb, not_power}
+use Rattle.warg_log.proofs.NodeLemmas.{node_is, only_number, over_at}
+use Rattle.warg_log.proofs.CutLemmas.{nothing, nothing_beside}
+use Rattle.warg_log.proofs.BalancedLemmas.{end_is, balanced_first, none_left, has_first_over}
+use Rattle.warg_log.proofs.OrderLemmas.{roots_end, block, climb, spine, Misses, way_roots, way_missed, others_miss}
 
 -- ---- only the balanced roots follow one another with heights that fall
 
@@ -43,54 +42,24 @@ module _ (H : List ℕ → List ℕ) (e : Evaluation) where
   abbrev range_cut : ℕ → Option (List ℕ)
   range_cut t = cut_over H e (range_of t)
 
-  abbrev Covers : ℕ → ℕ → List ℕ → Type 0
-  Covers a n [] = n ≡ 0
-  Covers a n (t ∷ ts) = (0 < n) × (cut_over H e (leaves_from a n) ≡ joined_all H (map range_cut (t ∷ ts)))
-
-  covers_first : (0 < e.target.count → IsFull e.target.count) → (h c m : ℕ) (ts : List ℕ) → m < 2 ^ h → Covers (c * 2 ^ h + 2 ^ h) m ts
-      → Covers (c * 2 ^ h) (2 ^ h + m) (node_over (c * 2 ^ h) (2 ^ h) ∷ ts)
-  covers_first full h c m [] lt none = (omega (arith, pow_pos h), grind (arith, none, over_at h c))
-  covers_first full h c m (u ∷ us) lt rest =
-      let more : 2 ^ h < 2 ^ h + m = omega (arith, rest.0) in
-      let part : (k : ℕ) → 2 ^ h + m ≡ 2 ^ k → ⊥ = λ k. not_power h k (2 ^ h + m) more (omega (arith, pow-suc)) in
-      let range = leaves_from (c * 2 ^ h) (2 ^ h + m) in
-      let other : range ≡ e.target → ⊥ = λ same. let f = full (omega (arith, counts same)) in part f.0 (counts same ∙ f.1) in
-      let split = cut_over-split H e range h more (omega (arith, pow-suc)) other (λ f _. part (suc h) f) in
-      (omega arith, grind (arith, split, rest.1, over_at h c))
+  top_spine : (r : ℕ) (rs : List ℕ) → top_of H e.held e.digest (spine e.target r rs) ≡ joined_all H (map range_cut (r ∷ rs))
+  unfolding top_of
+  top_spine r [] = refl
+  top_spine r (s ∷ rs) = ap (joined H (range_cut r)) (top_spine s rs)
 
   cut_roots : (0 < e.target.count → IsFull e.target.count) → (n : ℕ) → 0 < n → cut_over H e (leaves_from 0 n) ≡ joined_all H (map range_cut (balanced_roots n))
-  cut_roots full n some = covered (balanced_roots n) (roots Covers (record { none = λ a. refl; first = covers_first full }) n)
-    where
-      covered : (ts : List ℕ) → Covers 0 n ts → cut_over H e (leaves_from 0 n) ≡ joined_all H (map range_cut ts)
-      covered [] none = absurd (omega arith)
-      covered (t ∷ ts) all = all.1
+  cut_roots full n some = let f = has_first_over 0 n some in ap (top_of H e.held e.digest) (way_roots e.target full n _ _ f.2) ∙ top_spine _ _ ∙ rw f.2 refl
 
-  -- nodes that miss the target are read
-  abbrev Misses : ℕ → Type 0
-  Misses t = IsBeside e.target (range_of t)
-
-  all_read : (ts : List ℕ) → AllByRecursion Misses ts → map range_cut ts ≡ map e.held ts
+  all_read : (ts : List ℕ) → AllByRecursion (Misses e.target) ts → map range_cut ts ≡ map e.held ts
+  unfolding top_of
   all_read [] all = refl
   all_read (t ∷ ts) all =
-      let read = cut_over_read H e (range_of t) (missed e.target (range_of t) (pow_pos (height_of t)) all.0) (inr ((height_of t, refl), all.0)) in
-      rw (read, all_read ts all.1, ← only_number t (height_of t) (place_of t) (node_is t)) refl
-
-  -- all roots but the one above the target miss it
-  after_beside : (a n : ℕ) (ts : List ℕ) → e.target.start + e.target.count ≤ a → Follow a n ts → AllByRecursion Misses ts
-  after_beside a n [] le follow = tt
-  after_beside a n (t ∷ ts) le follow = (inr (omega (arith, follow.0)), after_beside (end_of t) n ts (omega (arith, follow.0, end_is t)) follow.1)
-
-  others_beside : (a n t : ℕ) (left right : List ℕ) → start_of t ≤ e.target.start → e.target.start + e.target.count ≤ end_of t → Follow a n (left ++ t ∷ right)
-      → (a ≤ e.target.start) × AllByRecursion Misses left × AllByRecursion Misses right
-  others_beside a n t [] right low high follow = (omega (arith, follow.0), tt, after_beside (end_of t) n right high follow.1)
-  others_beside a n t (l ∷ left) right low high follow =
-      let rest = others_beside (end_of l) n t left right low high follow.1 in
-      (omega (arith, follow.0, end_is l, rest.0), (inl (omega (arith, end_is l, rest.0)), rest.1), rest.2)
+      rw (way_missed e.target t all.0, all_read ts all.1) refl
 
 pub old_root-joined : (H : List ℕ → List ℕ) (F : ℕ → Option (List ℕ)) (n : ℕ) → 0 < n → old_root H F n ≡ joined_all H (map F (balanced_roots n))
 old_root-joined H F n some =
     let old : Evaluation = with_target F nothing (H []) in
-    let free = all_weaken (λ t. end_of t ≤ n) (Misses H old) (λ t _. nothing_beside (range_of t)) (balanced_roots n) (roots_end n n (omega arith)) in
+    let free = all_weaken (λ t. end_of t ≤ n) (Misses nothing) (λ t _. nothing_beside (range_of t)) (balanced_roots n) (roots_end n n (omega arith)) in
     cut_roots H old (λ lt. absurd (omega arith)) n some ∙ ap (joined_all H) (all_read H old (balanced_roots n) free)
 
 -- up to a balanced root
@@ -108,7 +77,6 @@ cut_root_walk H F t x n c left right some split =
     let k = height_of t + c in
     let i = place_of t / 2 ^ c in
     let at = over_at k i in
-    let within = above c (height_of t) (place_of t) in
-    let beside = others_beside H e 0 n (number_of k i) left right (grind (arith, at, within)) (omega (arith, over_ends k i, within)) (rw split at (roots_follow n)) in
+    let beside = others_miss (height_of t) (place_of t) c n left right split in
     let here : range_cut H e (number_of k i) ≡ climbed H F (Some x) (height_of t) (place_of t) c = rw (at.0, at.1) (climb_cut H F x (height_of t) (place_of t) c) in
-    cut_roots H e (λ _. (height_of t, refl)) n some ∙ rw (split, map-append, here, all_read H e left beside.1, all_read H e right beside.2) refl
+    cut_roots H e (λ _. (height_of t, refl)) n some ∙ rw (split, map-append, here, all_read H e left beside.0, all_read H e right beside.1) refl

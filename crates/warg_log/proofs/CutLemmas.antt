@@ -2,6 +2,7 @@
 use Rattle.std.proofs.Common.{◌≡◌, ℕ, suc, true, false, ◌+◌, ◌-◌, ◌*◌, ◌^◌, ◌<◌, ◌≤◌, List, [], length, take, drop, Option, Some, refl, sym, ap, ◌∙◌, arith, ◌⊎◌, inl, inr, IsTrue}
 use Rattle.std.proofs.Math.Nat.{add-sub_of_le}
 use Rattle.std.proofs.lemmas.List.{length-drop, length-take-le, drop-drop, drop-take, take-take}
+use Rattle.std.proofs.Math.Seq.{take-length}
 use Rattle.std.proofs.lemmas.Bool.{le-leb}
 use Rattle.warg_log.specs.Nodes.{node_over}
 use Rattle.warg_log.specs.Ranges.{Range, leaves_from, range_of, front_part, rest_part}
@@ -21,11 +22,6 @@ module _ (H : List ℕ → List ℕ) (e : Evaluation) where
   pub cut_over_read : (r : Range) → (r ≡ e.target → ⊥) → (r.count ≡ 1) ⊎ (IsFull r.count × IsBeside e.target r) → cut_over H e r ≡ e.held (node_over r.start r.count)
   unfolding top_of
   cut_over_read r other read = ap (top_of H e.held e.digest) (way_over-read e.target r other read)
-
-  pub cut_over-split : (r : Range) (h : ℕ) → 2 ^ h < r.count → r.count ≤ 2 ^ suc h → (r ≡ e.target → ⊥) → (r.count ≡ 2 ^ suc h → IsBeside e.target r → ⊥)
-      → cut_over H e r ≡ joined H (cut_over H e (first h r)) (cut_over H e (behind h r))
-  unfolding top_of
-  cut_over-split r h more most other apart = ap (top_of H e.held e.digest) (way_over-split e.target r h more most other apart)
 
   pub cut_over_parts : (r : Range) → 1 < r.count → (r ≡ e.target → ⊥) → (IsFull r.count → IsTrue (is_beside e.target r) → ⊥)
       → cut_over H e r ≡ joined H (cut_over H e (front_part r)) (cut_over H e (rest_part r))
@@ -66,7 +62,8 @@ module _ (H : List ℕ → List ℕ) (F : ℕ → Option (List ℕ)) where
 
   pub old_over-split : (r : Range) (h : ℕ) → 2 ^ h < r.count → r.count ≤ 2 ^ suc h → (r.count ≡ 2 ^ suc h → ⊥)
       → old_over H F r ≡ joined H (old_over H F (first h r)) (old_over H F (behind h r))
-  old_over-split r h more most part = cut_over-split H _ r h more most (not_nothing r (omega arith)) (λ full _. part full)
+  unfolding top_of
+  old_over-split r h more most part = ap (top_of H F (H [])) (way_over-split nothing r h more most (not_nothing r (omega arith)) (λ full _. part full))
 
   pub old_over_parts : (r : Range) → 1 < r.count → (IsFull r.count → ⊥) → old_over H F r ≡ joined H (old_over H F (front_part r)) (old_over H F (rest_part r))
   old_over_parts r more part = cut_over_parts H _ r more (not_nothing r (omega arith)) (λ full _. part full)
@@ -104,3 +101,6 @@ cut_root_own H ds t n x own some fits = own_at H ds x (range_of t) (leaves_from 
 -- over a log's own digests, the old root is the plain root: no leaves have the digest of no bytes
 pub old_root_own : (H : List ℕ → List ℕ) (ds : List (List ℕ)) (m : ℕ) → 0 < m → m ≤ length ds → old_root H (own_digest H ds) m ≡ Some (root_of H (take m ds))
 old_root_own H ds m some fits = own_at H ds (H []) nothing (leaves_from 0 m) m 0 refl (omega arith) some (omega (arith, below_pow)) (omega arith)
+
+pub own_root : (H : List ℕ → List ℕ) (ds : List (List ℕ)) (n : ℕ) → 0 < n → n ≡ length ds → old_root H (own_digest H ds) n ≡ Some (root_of H ds)
+own_root H ds n some all = old_root_own H ds n some (omega arith) ∙ rw (all, take-length) refl

@@ -1,13 +1,10 @@
--- What `==` says of hashes and walks: their contract values are equal.
-use Rattle.std.proofs.Common.{◌≡◌, ◌↔◌, ℕ, true, ◌&&◌, nat_eq, List, arith, IsTrue}
+-- What `==` says of walks: their contract values are equal.
+use Rattle.std.proofs.Common.{◌≡◌, arith}
 use Rattle.std.specs.Bool.{Decides}
-use Rattle.std.specs.Cmp.Lexicographic.{pointwise, bytes_decides, pointwise_decides}
+use Rattle.std.specs.Cmp.Lexicographic.{pointwise_decides}
 use Rattle.std.proofs.lemmas.Bool.Decides.{Decides-eqb, Decides-and}
 use Rattle.warg_log.specs.declared.node.Node.{Node}
 use Rattle.warg_log.specs.Claims.{Walk, same_node, same_walk}
-
-pub eq_exactly : (xs ys : List ℕ) → IsTrue (pointwise nat_eq xs ys && true) ↔ (xs ≡ ys)
-eq_exactly xs ys = ((λ is. grind (arith, bytes_decides)), (λ same. grind (arith, bytes_decides)))
 
 pub nodes_decide : (m n : Node) → Decides (same_node m n) (m ≡ n)
 nodes_decide m n = let d = Decides-eqb m.0 n.0 in (λ e. (λ i. record { 0 = d.0 e i }), λ e. grind (arith, d))

@@ -1,21 +1,20 @@
 -- The order in which the needed nodes stand, and where they lie.
-use Rattle.std.proofs.Common.{◌≡◌, ℕ, zero, suc, ◌+◌, ◌-◌, ◌*◌, ◌/◌, ◌%◌, ◌^◌, ◌<◌, ◌≤◌, ◌==◌, if◌then◌else◌, nat_le, true, false, List, [], ◌∷◌, ◌++◌, length, refl, sym, ap, ◌∙◌, arith, lit≤, add-zero, add-one, ⊎_elim, inl, inr}
+use Rattle.std.proofs.Common.{◌≡◌, ℕ, zero, suc, ◌+◌, ◌-◌, ◌*◌, ◌/◌, ◌%◌, ◌^◌, ◌<◌, ◌≤◌, ◌==◌, if◌then◌else◌, nat_le, true, false, List, [], ◌∷◌, ◌++◌, length, refl, sym, ap, ◌∙◌, append_assoc, arith, lit≤, add-zero, zero-add, add-one, ⊎_elim, inl, inr}
 use Rattle.std.specs.Prelude.{reverse, nat_eq}
 use Rattle.std.specs.List.{AllByRecursion, IsDistinct}
 use Rattle.std.proofs.lemmas.Grind.{reverse_onto}
 use Rattle.std.proofs.Math.Nat.{pow-suc, mul-le-mul_right}
 use Rattle.std.proofs.lemmas.List.{length-append, append-nil}
-use Rattle.std.proofs.lemmas.Bool.{ne_eqb, eq-eqb, cond_both, cases_lt, cases_eq}
-use Rattle.std.proofs.lemmas.Nat.{pow_pos, pow-add, shl-shr, shr-shr, le-div, div_below}
-use Rattle.warg_log.specs.Nodes.{height_of, start_of, end_of, sibling_place, node_over, number_of, balanced_within, balanced_over, balanced_roots}
-use Rattle.warg_log.specs.Ranges.{Range, leaves_from}
+use Rattle.std.proofs.lemmas.Bool.{ne_eqb, eq-eqb, cond_both, cases_eq}
+use Rattle.std.proofs.lemmas.Nat.{pow_pos, pow-add, shr-shr}
+use Rattle.warg_log.specs.Nodes.{height_of, place_of, Follow, start_of, end_of, sibling_place, node_over, number_of, balanced_within, balanced_over, balanced_roots}
+use Rattle.warg_log.specs.Ranges.{Range, leaves_from, range_of}
 use Rattle.warg_log.specs.Cut.{Way, at_target, at_node, at_parts, way_over, is_beside, IsFull}
 use Rattle.warg_log.specs.Walks.{read_on, needed_over, siblings_up}
 use Rattle.warg_protobuf.proofs.ForCallers.{all_append, all_weaken}
-use Rattle.warg_log.proofs.RootLemmas.{same_power}
-use Rattle.warg_log.proofs.BalancedLemmas.{balanced_none, balanced_first, balanced_full, roots}
-use Rattle.warg_log.proofs.WayLemmas.{first, counts, IsBeside, beside_decides, beside_false, missed, front_missed, rest_missed, way_over_target, way_over-read, way_over-split, ways_from}
-use Rattle.warg_log.proofs.NodeLemmas.{over_at, over_ends, pow_below_pow}
+use Rattle.warg_log.proofs.BalancedLemmas.{balanced_none, balanced_first, balanced_more, roots, roots_follow, end_is}
+use Rattle.warg_log.proofs.WayLemmas.{first, counts, IsBeside, beside_decides, beside_false, missed, way_over_target, way_over-read, way_over-split, ways_from}
+use Rattle.warg_log.proofs.NodeLemmas.{node_is, only_number, pow_below_pow, over_at, over_ends}
 
 pub reverse-cons : (xs : List ℕ) (x : ℕ) → reverse (x ∷ xs) ≡ reverse xs ++ x ∷ []
 reverse-cons xs x = reverse_onto xs x []
@@ -28,20 +27,6 @@ pub need_full : (t r : Range) → IsFull r.count → IsBeside t r → needed_ove
 unfolding read_on
 need_full t r full beside = ap read_on (way_over-beside t r full beside)
 
--- of leaves that miss the target the balanced roots are needed, from right to left
-pub need_beside_roots : (t : Range) (a n : ℕ) → 0 < n → IsBeside t (leaves_from a n) → needed_over t (leaves_from a n) ≡ reverse (balanced_over a n)
-unfolding read_on
-need_beside_roots t a n some = ways_from t a (λ r way. IsBeside t r → read_on way ≡ reverse (balanced_over r.start r.count)) (record {
-  target = λ leaves beside. absurd (omega arith);
-  node = λ k c a _ _. sym (ap (λ l. reverse l) (balanced_full k a));
-  parts = λ h r left right more most apart p q beside.
-      let part : r.count ≡ 2 ^ suc h → ⊥ = λ e. apart e beside in
-      let front = front_missed t r (2 ^ h) (omega arith) beside in
-      let rest = rest_missed t r (2 ^ h) (omega arith) beside in
-      rw ((beside_decides t (first h r)).1 front, p front, q rest, balanced_full h r.start, balanced_first h r.start r.count (omega arith) (omega arith))
-      (sym (reverse-cons (balanced_over (r.start + 2 ^ h) (r.count - 2 ^ h)) (node_over r.start (2 ^ h))));
-}) n some
-
 -- the range of the node that stands d heights above the j-th one of height k
 pub above : (d k j : ℕ) → (j / 2 ^ d * 2 ^ (k + d) ≤ j * 2 ^ k) × (j * 2 ^ k + 2 ^ k ≤ j / 2 ^ d * 2 ^ (k + d) + 2 ^ (k + d))
 above d k j =
@@ -53,15 +38,6 @@ above d k j =
 -- the leaves below the j-th node of height k
 abbrev pub block : ℕ → ℕ → Range
 block k j = leaves_from (j * 2 ^ k) (2 ^ k)
-
--- it is a given one, where that begins at or before the j-th of height k, and doesn't miss it
-pub lies_in_first : (k j h c n : ℕ) → n < 2 ^ suc h → c * 2 ^ h ≤ j * 2 ^ k → j * 2 ^ k + 2 ^ k ≤ c * 2 ^ h + n
-    → (IsBeside (block k j) (block h c) → ⊥) → (k ≤ h) × (j / 2 ^ (h - k) ≡ c)
-lies_in_first k j h c n high starts ends inside =
-    let low = pow_below_pow k (suc h) (omega arith) in
-    let sum : k + (h - k) ≡ h = omega arith in
-    let place : j / 2 ^ (h - k) ≡ j * 2 ^ k / 2 ^ h = rw (shl-shr, sum) at (shr-shr (j * 2 ^ k) k (h - k)) in
-    (omega (arith, low), grind (arith, inside, place, le-div c (j * 2 ^ k) (2 ^ h) (pow_pos h) starts, div_below (j * 2 ^ k) (2 ^ h) (c + 1) (pow_pos h)))
 
 -- the way down to a target in the range of the i-th node of height h, from the node above: by that range's way, beside the sibling's node
 abbrev pub up : ℕ → ℕ → Way → Way
@@ -104,35 +80,121 @@ need_around d k j = climb k j (λ d way. read_on way ≡ siblings_up d k j) refl
 
 -- a number strictly between two powers is none
 pub not_power : (h k n : ℕ) → 2 ^ h < n → n < 2 ^ suc h → n ≡ 2 ^ k → ⊥
-not_power h k n low high is = let same : n ≡ 2 ^ h = same_power n h k (omega arith) (omega (arith, pow-suc)) is in omega arith
+not_power h k n low high is = omega (arith, pow_below_pow h k (omega arith), pow_below_pow k (suc h) (omega arith))
 
--- the first balanced root misses the target: it comes last
-pub walk_beside : (k j h a n : ℕ) → 2 ^ h ≤ n → n < 2 ^ suc h → j * 2 ^ k + 2 ^ k ≤ a + n → a ≤ j * 2 ^ k → IsBeside (block k j) (leaves_from a (2 ^ h))
-    → needed_over (block k j) (leaves_from a n) ≡ needed_over (block k j) (leaves_from (a + 2 ^ h) (n - 2 ^ h)) ++ node_over a (2 ^ h) ∷ []
-unfolding read_on
-walk_beside k j h a n low high ends starts front =
-    let pos : 0 < 2 ^ k = pow_pos k in
-    let more : 2 ^ h < n = omega arith in
-    ap read_on (way_over-split (block k j) (leaves_from a n) h more (omega arith) (λ same. not_power h k n more high (counts same)) (λ e _. omega arith))
-    ∙ rw ((beside_decides (block k j) (leaves_from a (2 ^ h))).1 front, way_over-beside (block k j) (leaves_from a (2 ^ h)) (h, refl) front) refl
+-- leaves in front, a multiple of 2 ^ e, of fewer than 2 ^ e: their balanced roots come first
+pub roots_front : (e q m : ℕ) → m < 2 ^ e → balanced_roots (q * 2 ^ e + m) ≡ balanced_roots (q * 2 ^ e) ++ balanced_over (q * 2 ^ e) m
+roots_front e q m low =
+    let w = 2 ^ e in
+    let none : 0 * w ≡ 0 = omega arith in
+    rw (none, zero-add) at (roots (λ a n _. balanced_over (a * w) (n * w + m) ≡ balanced_over (a * w) (n * w) ++ balanced_over ((a + n) * w) m) (record {
+      none = λ a. rw (none, zero-add, add-zero, balanced_none) refl;
+      first = λ h c k ts lt rest.
+          let most : (k + 1) * w ≤ 2 ^ h * w = mul-le-mul_right w (let le : k + 1 ≤ 2 ^ h = omega arith in le) in
+          let wide : 2 ^ (h + e) ≡ 2 ^ h * w = pow-add 2 h e in
+          let less = balanced_more (h + e) (c * 2 ^ h * w) (k * w) (omega (arith, pow_pos e)) in
+          grind (arith, wide, rest, less, balanced_more (h + e) (c * 2 ^ h * w) (k * w + m) (omega arith));
+    }) q)
 
--- the first balanced root holds the target: the siblings come first, and then the other roots
-pub walk_around : (d k j n : ℕ) → 2 ^ (k + d) ≤ n → n < 2 ^ suc (k + d)
-    → needed_over (block k j) (leaves_from (j / 2 ^ d * 2 ^ (k + d)) n) ≡ siblings_up d k j ++ reverse (balanced_over (j / 2 ^ d * 2 ^ (k + d) + 2 ^ (k + d)) (n - 2 ^ (k + d)))
-unfolding read_on
-walk_around d k j n low high = ⊎_elim
-    (λ (more : 2 ^ (k + d) < n).
-    let pos : 0 < 2 ^ k = pow_pos k in
-    let at = above d k j in
-    let inside = beside_false (block k j) (block (k + d) (j / 2 ^ d)) (λ b. omega (arith, at)) in
-    let rest = need_beside_roots (block k j) (j / 2 ^ d * 2 ^ (k + d) + 2 ^ (k + d)) (n - 2 ^ (k + d)) (omega arith) (inr at.1) in
-    ap read_on (way_over-split (block k j) (leaves_from (j / 2 ^ d * 2 ^ (k + d)) n) (k + d) more (omega arith) (λ same. not_power (k + d) k n more high (counts same)) (λ e _. omega arith))
-    ∙ rw (inside, need_around d k j, rest) refl)
-    (λ (most : n ≤ 2 ^ (k + d)).
-    let full : n ≡ 2 ^ (k + d) = omega arith in
-    let none : 2 ^ (k + d) - 2 ^ (k + d) ≡ 0 = omega arith in
-    rw (full, none, balanced_none) (need_around d k j ∙ sym (append-nil (siblings_up d k j))))
-    (cases_lt (2 ^ (k + d)) n)
+-- the leaves up to n by the i-th node of height h, whose parent doesn't exist there: it is a balanced root
+pub roots_by : (h i n a b : ℕ) → (i + 1) * 2 ^ h ≤ n → n < (i / 2 + 1) * 2 ^ suc h → a ≡ i * 2 ^ h → b ≡ a + 2 ^ h
+    → balanced_roots n ≡ balanced_roots a ++ number_of h i ∷ balanced_over b (n - b)
+roots_by h i n a b ends top a_is b_is =
+    let two = pow-suc 2 h in
+    let even : i ≡ 2 * (i / 2) = ⊎_elim (λ (e : i % 2 ≡ 0). omega arith)
+    (λ (odd : i % 2 ≡ 0 → ⊥). absurd (omega (arith, ends, rw two at top, ap (λ p. p * 2 ^ h) (let is : i ≡ 2 * (i / 2) + 1 = omega arith in is)))) (cases_eq (i % 2) 0) in
+    let start : i / 2 * 2 ^ suc h ≡ a = rw two (omega (arith, a_is, ap (λ p. p * 2 ^ h) even)) in
+    let whole : a + (n - a) ≡ n = omega (arith, ends) in
+    let rest : n - a - 2 ^ h ≡ n - b = omega arith in
+    let high : n - a < 2 ^ suc h = omega (arith, top, start) in
+    rw (start, whole) at (roots_front (suc h) (i / 2) (n - a) high) ∙ ap (λ l. balanced_roots a ++ l) (balanced_first h a (n - a) (omega (arith, ends)) high ∙ rw (rest, b_is, a_is) refl)
+
+-- ---- the way down leaves, by the ways down their balanced roots
+
+-- the way down the balanced roots r and rs
+abbrev pub spine : Range → ℕ → List ℕ → Way
+spine t r [] = way_over t (range_of r)
+spine t r (s ∷ rs) = at_parts (is_beside t (range_of r)) (way_over t (range_of r)) (spine t s rs)
+
+-- the leaves below the node miss the target
+abbrev pub Misses : Range → ℕ → Type 0
+Misses t r = IsBeside t (range_of r)
+
+module _ (t : Range) where
+  abbrev Covers : ℕ → ℕ → List ℕ → Type 0
+  Covers a n [] = n ≡ 0
+  Covers a n (r ∷ rs) = (0 < n) × (way_over t (leaves_from a n) ≡ spine t r rs)
+
+  covers_first : (0 < t.count → IsFull t.count) → (h c m : ℕ) (rs : List ℕ) → m < 2 ^ h → Covers (c * 2 ^ h + 2 ^ h) m rs
+      → Covers (c * 2 ^ h) (2 ^ h + m) (node_over (c * 2 ^ h) (2 ^ h) ∷ rs)
+  covers_first full h c m [] lt none = (omega (arith, pow_pos h), grind (arith, none, over_at h c))
+  covers_first full h c m (u ∷ us) lt rest =
+      let more : 2 ^ h < 2 ^ h + m = omega (arith, rest.0) in
+      let part : (k : ℕ) → 2 ^ h + m ≡ 2 ^ k → ⊥ = λ k. not_power h k (2 ^ h + m) more (omega (arith, pow-suc)) in
+      let range = leaves_from (c * 2 ^ h) (2 ^ h + m) in
+      let other : range ≡ t → ⊥ = λ same. let f = full (omega (arith, counts same)) in part f.0 (counts same ∙ f.1) in
+      let split = way_over-split t range h more (omega (arith, pow-suc)) other (λ f _. part (suc h) f) in
+      (omega arith, grind (arith, split, rest.1, over_at h c))
+
+  pub way_roots : (0 < t.count → IsFull t.count) → (n r : ℕ) (rs : List ℕ) → balanced_roots n ≡ r ∷ rs → way_over t (leaves_from 0 n) ≡ spine t r rs
+  way_roots full n r rs is = (rw is at (roots Covers (record { none = λ a. refl; first = covers_first full }) n)).1
+
+  -- a root that misses the target is read, and so the roots behind the target and before it, from right to left
+  pub way_missed : (r : ℕ) → Misses t r → way_over t (range_of r) ≡ at_node r
+  way_missed r miss = way_over-beside t (range_of r) (height_of r, refl) miss ∙ ap at_node (sym (only_number r (height_of r) (place_of r) (node_is r)))
+
+  reads_others : (r : ℕ) (rs : List ℕ) → AllByRecursion (Misses t) (r ∷ rs) → read_on (spine t r rs) ≡ reverse (r ∷ rs)
+  unfolding read_on
+  reads_others r [] all = rw (way_missed r all.0) refl
+  reads_others r (s ∷ rs) all = rw ((beside_decides t (range_of r)).1 all.0, way_missed r all.0, reads_others s rs all.1) (sym (reverse-cons (s ∷ rs) r))
+
+  reads_top : (r : ℕ) (rs : List ℕ) → (Misses t r → ⊥) → AllByRecursion (Misses t) rs → read_on (spine t r rs) ≡ read_on (way_over t (range_of r)) ++ reverse rs
+  unfolding read_on
+  reads_top r [] inside all = sym (append-nil _)
+  reads_top r (s ∷ rs) inside all = rw (beside_false t (range_of r) inside, reads_others s rs all) refl
+
+  reads_left : (l : ℕ) (ls : List ℕ) (r : ℕ) (rs : List ℕ) → AllByRecursion (Misses t) (l ∷ ls) → read_on (spine t l (ls ++ r ∷ rs)) ≡ read_on (spine t r rs) ++ reverse (l ∷ ls)
+  unfolding read_on
+  reads_left l [] r rs all = rw ((beside_decides t (range_of l)).1 all.0, way_missed l all.0) refl
+  reads_left l (m ∷ ls) r rs all =
+      rw ((beside_decides t (range_of l)).1 all.0, way_missed l all.0, reads_left m ls r rs all.1, reverse-cons (m ∷ ls) l)
+      (append_assoc (read_on (spine t r rs)) (reverse (m ∷ ls)) (l ∷ []))
+
+  pub way_walk : (0 < t.count → IsFull t.count) → (n r : ℕ) (left right : List ℕ) → balanced_roots n ≡ left ++ r ∷ right
+      → (Misses t r → ⊥) → AllByRecursion (Misses t) left → AllByRecursion (Misses t) right
+      → needed_over t (leaves_from 0 n) ≡ read_on (way_over t (range_of r)) ++ reverse right ++ reverse left
+  way_walk full n r [] right split inside before behind = ap read_on (way_roots full n r right split) ∙ reads_top r right inside behind ∙ sym (append-nil _)
+  way_walk full n r (l ∷ ls) right split inside before behind =
+      ap read_on (way_roots full n l (ls ++ r ∷ right) split) ∙ reads_left l ls r right before ∙ ap (λ xs. xs ++ reverse (l ∷ ls)) (reads_top r right inside behind)
+
+  -- all roots but the one above the target miss it
+  after_beside : (a n : ℕ) (rs : List ℕ) → t.start + t.count ≤ a → Follow a n rs → AllByRecursion (Misses t) rs
+  after_beside a n [] le follow = tt
+  after_beside a n (r ∷ rs) le follow = (inr (omega (arith, follow.0)), after_beside (end_of r) n rs (omega (arith, follow.0, end_is r)) follow.1)
+
+  others_beside : (a n r : ℕ) (left right : List ℕ) → start_of r ≤ t.start → t.start + t.count ≤ end_of r → Follow a n (left ++ r ∷ right)
+      → (a ≤ t.start) × AllByRecursion (Misses t) left × AllByRecursion (Misses t) right
+  others_beside a n r [] right low high follow = (omega (arith, follow.0), tt, after_beside (end_of r) n right high follow.1)
+  others_beside a n r (l ∷ left) right low high follow =
+      let rest = others_beside (end_of l) n r left right low high follow.1 in
+      (omega (arith, follow.0, end_is l, rest.0), (inl (omega (arith, end_is l, rest.0)), rest.1), rest.2)
+
+-- of the balanced roots, one above the j-th node of height k
+module _ (k j c n : ℕ) (left right : List ℕ) (split : balanced_roots n ≡ left ++ number_of (k + c) (j / 2 ^ c) ∷ right) where
+  pub others_miss : AllByRecursion (Misses (block k j)) left × AllByRecursion (Misses (block k j)) right
+  others_miss =
+      let at = over_at (k + c) (j / 2 ^ c) in
+      let within = above c k j in
+      let p = others_beside (block k j) 0 n (number_of (k + c) (j / 2 ^ c)) left right
+      (grind (arith, at, within)) (omega (arith, over_ends (k + c) (j / 2 ^ c), within)) (rw split at (roots_follow n)) in
+      (p.1, p.2)
+
+  pub needed_walk : needed_over (block k j) (leaves_from 0 n) ≡ siblings_up c k j ++ reverse right ++ reverse left
+  needed_walk =
+      let at = over_at (k + c) (j / 2 ^ c) in
+      let within = above c k j in
+      way_walk (block k j) (λ _. (k, refl)) n (number_of (k + c) (j / 2 ^ c)) left right split (rw (at.0, at.1) (λ b. omega (arith, within, pow_pos k))) others_miss.0 others_miss.1
+      ∙ rw (at.0, at.1, need_around c k j) refl
 
 -- how many the balanced roots and the siblings are
 pub balanced_count : (h a n : ℕ) → length (balanced_within h a n) ≤ h

@@ -9,7 +9,6 @@ use Rattle.std.proofs.lemmas.Nat.{pow_pos, ones_cat, ones_le_self, zero_from_one
 use Rattle.warg_crypto.specs.Tree.{branch}
 use Rattle.warg_log.specs.Tree.{front_within, front_of, root_within, root_of, root_over}
 use Rattle.warg_log.specs.Cut.{IsFull}
-use Rattle.warg_log.proofs.NodeLemmas.{pow_below_pow}
 
 pub below_pow : (n : ℕ) → n < 2 ^ n
 below_pow zero = lit< tt
@@ -94,9 +93,3 @@ power_decides (suc m) =
       λ one. (e.0, omega (arith, zero_from_ones (suc m - 2 ^ e.0) (omega (arith, digits, one_digit, eqb-true _ _ one)))),
       λ full. eq-eqb _ _ (rw full.1 (let same : 1 * 2 ^ full.0 + 0 ≡ 2 ^ full.0 = omega arith in omega (arith, rw same at (ones_cat full.0 1 0 (pow_pos full.0)), one_digit, ones_le_self 0))),
     )
-
--- a power of two is known by the powers around it
-pub same_power : (n r h : ℕ) → 2 ^ r ≤ n → n < 2 * 2 ^ r → n ≡ 2 ^ h → n ≡ 2 ^ r
-same_power n r h low high is =
-    let same : r ≡ h = omega (arith, pow_below_pow h (suc r) (omega (arith, pow-suc)), pow_below_pow r (suc h) (omega (arith, pow-suc, pow_pos))) in
-    rw same is

@@ -1,9 +1,9 @@
 -- A log's digests by node.
-use Rattle.std.proofs.Common.{◌≡◌, ℕ, zero, suc, ◌+◌, ◌-◌, ◌*◌, ◌/◌, ◌%◌, ◌^◌, ◌<◌, ◌≤◌, List, [], ◌∷◌, length, set, Option, Some, None, unwrap_or, refl, sym, ap, ◌∙◌, arith, w64, ⊎_elim, lit≤}
+use Rattle.std.proofs.Common.{◌≡◌, ℕ, zero, suc, ◌+◌, ◌-◌, ◌*◌, ◌/◌, ◌%◌, ◌^◌, ◌<◌, ◌≤◌, List, [], ◌∷◌, length, set, Option, Some, None, unwrap_or, refl, sym, ap, ◌∙◌, arith, w64, lit≤}
 use Rattle.std.specs.Int.{trailing_zeros}
 use Rattle.std.specs.Prelude.{MatchOption}
 use Rattle.std.proofs.Math.Seq.{take-length}
-use Rattle.std.proofs.lemmas.Bool.{le-leb, lt-leb, cases_lt, cases_eq}
+use Rattle.std.proofs.lemmas.Bool.{le-leb}
 use Rattle.std.proofs.lemmas.List.{get_or_default, get_or-set_same, get_or-set_other, length-set}
 use Rattle.std.proofs.Math.Nat.{pow-suc, pow-le-pow_right}
 use Rattle.std.proofs.lemmas.Nat.{pow_pos, one_shl}
@@ -64,9 +64,6 @@ module _ (H : List ℕ → List ℕ) (ds : List (List ℕ)) where
   pub own_there : (k j : ℕ) → (j + 1) * 2 ^ k ≤ length ds → digest_or_spacer H ds (number_of k j) ≡ root_over H ds (j * 2 ^ k) (2 ^ k)
   own_there k j ends = let at = over_at k j in rw (at.0, at.1, le-leb ((j + 1) * 2 ^ k) (length ds) ends) refl
 
-  pub own_lacks : (k j : ℕ) → length ds < (j + 1) * 2 ^ k → digest_or_spacer H ds (number_of k j) ≡ H []
-  own_lacks k j late = let at = over_at k j in rw (at.0, at.1, lt-leb ((j + 1) * 2 ^ k) (length ds) late) refl
-
   pub own_leaf : (i : ℕ) → i < length ds → digest_or_spacer H ds (number_of 0 i) ≡ get_or ds i []
   own_leaf i lt = let one : i * 2 ^ 0 ≡ i = omega arith in own_there 0 i (omega arith) ∙ rw one (root_over_one H ds i lt)
 
@@ -117,12 +114,9 @@ module _ (H : List ℕ → List ℕ) (ds : List (List ℕ)) (n : ℕ) (some : 0 
         last = omega (arith, up.last, pow_more 2 h);
         slice = record {
           len = length-set tree p v ∙ len;
-          holds = λ z z_in lower. ⊎_elim
-              (λ same. rw same (get_or-set_same tree p v [] (omega arith) ∙ root))
-              (λ other. get_or-set_other tree p z v [] other ∙ up.slice.holds z (rw length-set at z_in) (λ at_last. ⊎_elim
-              (λ tall. let top : height_of z ≡ suc h = omega (arith, lower at_last) in absurd (other (omega (arith, node_is z, at_last, ap (λ k. 2 ^ k) top))))
-              (λ le. le) (cases_lt h (height_of z))))
-              (cases_eq z p);
+          holds = λ z z_in lower.
+              let top = λ (e : height_of z ≡ suc h). ap (λ k. 2 ^ k) e in
+              grind (arith, root, length-set tree p v, get_or-set_same tree p v [], get_or-set_other tree p z v [], up.slice.holds z, node_is z, top);
         };
         is = root;
         leaves = ap (λ i. leaves_in (set tree i v)) odd ∙ leaves_in-set tree (p / 2) v ∙ up.leaves;

@@ -1,13 +1,12 @@
 -- The blocks of a stack log.
-use Rattle.std.proofs.Common.{◌≡◌, ℕ, zero, suc, ◌+◌, ◌*◌, ◌/◌, ◌%◌, ◌^◌, ◌<◌, ◌≤◌, nat_eq, false, List, [], ◌∷◌, ◌++◌, length, map, Option, Some, None, refl, sym, ap, ◌∙◌, arith, add-zero, zero-add, ⊎_elim}
+use Rattle.std.proofs.Common.{◌≡◌, ℕ, zero, suc, ◌+◌, ◌*◌, ◌/◌, ◌%◌, ◌^◌, ◌<◌, ◌≤◌, nat_eq, false, List, [], ◌∷◌, ◌++◌, length, map, Option, Some, None, refl, sym, ap, ◌∙◌, arith, ⊎_elim}
 use Rattle.std.specs.List.{AllByRecursion, IsDistinct}
-use Rattle.std.proofs.Math.Nat.{pow-suc, mul-le-mul_right}
-use Rattle.std.proofs.Math.Seq.{take-length}
+use Rattle.std.proofs.Math.Nat.{pow-suc}
 use Rattle.std.proofs.lemmas.List.{map_push, same_from_push, get_or_push, length_push, length-map, nil_from_length}
-use Rattle.std.proofs.lemmas.Nat.{pow_pos, pow-add}
+use Rattle.std.proofs.lemmas.Nat.{pow_pos}
 use Rattle.std.proofs.lemmas.Simd.{map-map}
 use Rattle.std.proofs.lemmas.Bool.{le-leb, eq-eqb, ne_eqb, cases_eq}
-use Rattle.warg_log.specs.Nodes.{height_of, place_of, start_of, end_of, node_over, balanced_over, balanced_roots}
+use Rattle.warg_log.specs.Nodes.{height_of, place_of, start_of, end_of, node_over, balanced_roots}
 use Rattle.warg_crypto.specs.Tree.{branch}
 use Rattle.warg_log.specs.Tree.{root_of, root_over, leaves_below, own_digest}
 use Rattle.warg_log.specs.Cut.{joined, old_root}
@@ -17,28 +16,14 @@ use Rattle.warg_log.specs.Private.Growth.{Grows}
 use Rattle.warg_protobuf.proofs.ForCallers.{all_weaken}
 use Rattle.warg_log.proofs.NodeLemmas.{node_is, only_number, over_at, over_ends}
 use Rattle.warg_log.proofs.RootLemmas.{root_over_one}
-use Rattle.warg_log.proofs.CutLemmas.{root_over_split, old_root_own}
-use Rattle.warg_log.proofs.BalancedLemmas.{map_same, end_is, balanced_none, balanced_full, balanced_more, has_first_over, roots}
-use Rattle.warg_log.proofs.OrderLemmas.{roots_within, roots_end}
+use Rattle.warg_log.proofs.CutLemmas.{root_over_split, own_root}
+use Rattle.warg_log.proofs.BalancedLemmas.{map_same, end_is, balanced_none, balanced_full, has_first_over}
+use Rattle.warg_log.proofs.OrderLemmas.{roots_front, roots_within, roots_end}
 use Rattle.warg_log.proofs.ClimbLemmas.{old_root-joined}
 use Rattle.warg_log.proofs.AppendLemmas.{front_kept}
 
 pub roots_exist : (n : ℕ) → AllByRecursion (λ t. end_of t ≤ n) (balanced_roots n)
 roots_exist n = roots_end n n (omega arith)
-
--- the last balanced root: 2 ^ i leaves behind a multiple of 2 ^ (i + 1)
-roots_snoc : (i q : ℕ) → balanced_roots (q * 2 ^ suc i + 2 ^ i) ≡ balanced_roots (q * 2 ^ suc i) ++ node_over (q * 2 ^ suc i) (2 ^ i) ∷ []
-roots_snoc i q =
-    let w = 2 ^ suc i in
-    let none : 0 * w ≡ 0 = omega arith in
-    rw (none, zero-add) at (roots (λ a n _. balanced_over (a * w) (n * w + 2 ^ i) ≡ balanced_over (a * w) (n * w) ++ node_over ((a + n) * w) (2 ^ i) ∷ []) (record {
-      none = λ a. rw (none, zero-add, add-zero, balanced_none) (balanced_full i (a * w));
-      first = λ h c m ts lt rest.
-          let most : (m + 1) * w ≤ 2 ^ h * w = mul-le-mul_right w (let le : m + 1 ≤ 2 ^ h = omega arith in le) in
-          let wide : 2 ^ (h + suc i) ≡ 2 ^ h * w = pow-add 2 h (suc i) in
-          let less = balanced_more (h + suc i) (c * 2 ^ h * w) (m * w) (omega (arith, pow_pos (suc i))) in
-          grind (arith, wide, rest, less, balanced_more (h + suc i) (c * 2 ^ h * w) (m * w + 2 ^ i) (omega (arith, pow-suc 2 i, pow_pos i)));
-    }) q)
 
 -- ---- a push, which joins the new leaf with the last blocks as an addition of 1 carries
 
@@ -61,7 +46,7 @@ halved i n r b is = rw (is, pow-suc) (omega arith)
 mapped_snoc : (G : ℕ → ℕ → List ℕ) (i r : ℕ) → map (over G) (balanced_roots (r * 2 ^ suc i + 2 ^ i)) ≡ map (over G) (balanced_roots (r * 2 ^ suc i)) ++ G i (r * 2 ^ suc i) ∷ []
 mapped_snoc G i r =
     let place : r * 2 ^ suc i ≡ 2 * r * 2 ^ i = rw pow-suc (omega arith) in
-    rw (roots_snoc i r, map_push, place, (over_at i (2 * r)).0, (over_at i (2 * r)).1) refl
+    rw (roots_front (suc i) r (2 ^ i) (omega (arith, pow-suc 2 i, pow_pos i)), balanced_full, map_push, place, (over_at i (2 * r)).0, (over_at i (2 * r)).1) refl
 
 -- there is a block to join with
 pub popped : (n : ℕ) (G : ℕ → ℕ → List ℕ) (rest : ℕ) (left : List (List ℕ)) (last : List ℕ) → rest % 2 ≡ 1 → (from : IsJoined n G rest left last)
@@ -190,6 +175,6 @@ stands_root H b (e ∷ es) stands =
     let own = all_weaken (λ t. end_of t ≤ length ds) (λ t. own_digest H ds t ≡ Some (root_of H (leaves_below t ds))) (λ t ends. rw (le-leb (end_of t) (length ds) ends) refl) (balanced_roots b.len) (roots_end b.len (length ds) (omega arith)) in
     let held : map (own_digest H ds) (balanced_roots b.len) ≡ map Some b.digests = map_same _ _ (balanced_roots b.len) own ∙ sym (map-map Some (λ t. root_of H (leaves_below t ds)) (balanced_roots b.len)) ∙ ap (λ l. map Some l) (sym stands.roots) in
     let joins = old_joined H (own_digest H ds) b.len b.digests (omega arith) held in
-    let root : old_root H (own_digest H ds) b.len ≡ Some (root_of H ds) = old_root_own H ds b.len (omega arith) (omega arith) ∙ rw (← count, take-length es) refl in
+    let root : old_root H (own_digest H ds) b.len ≡ Some (root_of H ds) = own_root H ds b.len (omega arith) (sym count) in
     let both : Some (joined_blocks H b.digests) ≡ Some (root_of H ds) = sym joins ∙ root in
     cc

@@ -51,9 +51,6 @@ is_other t r apart same = false≢true (sym apart ∙ (target_decides t r).1 sam
 target_false : (t r : Range) → (r ≡ t → ⊥) → is_target t r ≡ false
 target_false t r other = false_from_ne_true (is_target t r) (λ e. other ((target_decides t r).0 e))
 
-pub is_beside_true : (t r : Range) → IsBeside t r → IsTrue (is_beside t r)
-is_beside_true t r beside = (beside_decides t r).1 beside
-
 pub is_beside_so : (t r : Range) → IsTrue (is_beside t r) → IsBeside t r
 is_beside_so t r beside = (beside_decides t r).0 beside
 
@@ -116,7 +113,7 @@ pub way_over_parts : (t r : Range) → 1 < r.count → (r ≡ t → ⊥) → (Is
     → way_over t r ≡ at_parts (is_beside t (front_part r)) (way_over t (front_part r)) (way_over t (rest_part r))
 way_over_parts t r more other apart =
     let f = front_is r.count more in
-    rw f.1 (way_over-split t r f.0 f.2 f.3 other (λ width beside. apart (suc f.0, width) (is_beside_true t r beside)))
+    rw f.1 (way_over-split t r f.0 f.2 f.3 other (λ width beside. apart (suc f.0, width) ((beside_decides t r).1 beside)))
 
 -- P holds of each range and the way down it where it holds of the target, of a node that is read and, if it holds of
 -- both parts, of a range that is split; the ranges begin a multiple of their width behind the leaf o

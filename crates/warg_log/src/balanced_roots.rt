@@ -1,6 +1,6 @@
 //! The balanced roots of leaves in a row, one after the other.
 
-ghost use Rattle.std.specs.Prelude.{◌≡◌, ℕ, ◌-◌, ◌^◌, ◌≤◌, IfOk, map};
+ghost use Rattle.std.specs.Prelude.{◌≡◌, ℕ, ◌-◌, ◌≤◌, IfOk, map};
 ghost use Rattle.warg_log.specs.Nodes.{balanced_roots, balanced_over};
 
 use crate::leaf_range::LeafRange;
@@ -20,7 +20,7 @@ pub(crate) struct BalancedRoots {
 // Contracts see the numbers of the roots that remain.
 impl Model for BalancedRoots {
     ghost use Rattle.warg_log.specs.declared.log.TheConstants.{GREATEST_LENGTH};
-    ghost use Rattle.std.specs.Prelude.{ℕ, List, ◌-◌, ◌^◌, ◌≤◌};
+    ghost use Rattle.std.specs.Prelude.{ℕ, List, ◌-◌, ◌≤◌};
     ghost use Rattle.warg_log.specs.Nodes.{balanced_over};
 
     ghost Value = { List ℕ };

@@ -1,6 +1,6 @@
 //! Consistency proofs.
 
-ghost use Rattle.std.specs.Prelude.{◌≡◌, ◌≢◌, ⊤, ℕ, ◌+◌, ◌*◌, ◌^◌, ◌<◌, ◌≤◌, ◌↔◌, ◌⊎◌, List, IfOk, All, map};
+ghost use Rattle.std.specs.Prelude.{◌≡◌, ◌≢◌, ⊤, ◌<◌, ◌≤◌, ◌↔◌, ◌⊎◌, IfOk, map};
 ghost use Rattle.std.specs.List.{AllByRecursion};
 ghost use Rattle.warg_log.specs.Nodes.{balanced_roots, end_of};
 ghost use Rattle.warg_log.specs.Ranges.{leaves_from};
@@ -65,7 +65,7 @@ pub struct ConsistencyProof<D, V> {
 // Contracts see the proof as its two lengths.
 impl<D, V> Model for ConsistencyProof<D, V> {
     ghost use Rattle.warg_log.specs.declared.log.TheConstants.{GREATEST_LENGTH};
-    ghost use Rattle.std.specs.Prelude.{◌≤◌, ◌^◌};
+    ghost use Rattle.std.specs.Prelude.{◌≤◌};
     ghost use Rattle.warg_log.specs.Claims.{ConsistencyClaim};
 
     ghost Value = { ConsistencyClaim };
@@ -192,8 +192,12 @@ impl<D: SupportedDigest, V: VisitBytes> ConsistencyProof<D, V> {
     fn new_root<L: LogData<D, V>>(&self, hashes: &L) -> Result<Hash<D>, ConsistencyProofError>
         requires some { 0 < self.now.old_length }
         requires order { self.now.old_length ≤ self.now.new_length }
-        ensures { result ≡ new_root_of D.digest (L.digest_at hashes.now) self.now.new_length
+        ensures value { result ≡ new_root_of D.digest (L.digest_at hashes.now) self.now.new_length
             (balanced_roots self.now.old_length) }
+        ensures memory { result ≢ Err ConsistencyProofError.Memory }
+        ensures within { (fault : InclusionProofError)
+            → result ≡ Err (ConsistencyProofError.InclusionError fault)
+            → fault ≡ InclusionProofError.HashNotKnown }
     {
         let mut branches = BranchCache::new();
         let whole = LeafRange::new(0, self.new_length);
@@ -241,7 +245,11 @@ fn root_from<D: SupportedDigest, V: VisitBytes, L: LogData<D, V>>(
 ) -> Result<Hash<D>, ConsistencyProofError>
     requires ends { end_of root.0 ≤ GREATEST_LENGTH }
     requires whole { whole.now ≡ leaves_from 0 whole.now.count }
-    ensures { result ≡ root_to D.digest (L.digest_at hashes.now) whole.now.count root.0 }
+    ensures value { result ≡ root_to D.digest (L.digest_at hashes.now) whole.now.count root.0 }
+    ensures memory { result ≢ Err ConsistencyProofError.Memory }
+    ensures within { (fault : InclusionProofError)
+        → result ≡ Err (ConsistencyProofError.InclusionError fault)
+        → fault ≡ InclusionProofError.HashNotKnown }
 {
     match hashes.hash_for(root) {
         Some(hash) => match range_root_by(branches, hashes, &root.leaf_range(), &hash, whole) {

@@ -3,11 +3,11 @@
 //! Read them beside the definitions: they state the standard's own words (RFC 6962, section 2.1) where
 //! a definition takes another road, and they are all that a proof about the definitions needs.
 
-ghost use Rattle.std.specs.Prelude.{◌≡◌, ◌≢◌, ℕ, ◌+◌, ◌-◌, ◌*◌, ◌/◌, ◌%◌, ◌^◌, ◌<◌, ◌≤◌, ◌⊎◌, ◌↔◌, List, [], ◌∷◌, ◌++◌, length, take, drop, map, Option, Some, None, Ok, Err, IsSome, IsTrue, slice_index_or};
+ghost use Rattle.std.specs.Prelude.{◌≡◌, ◌≢◌, ℕ, ◌+◌, ◌-◌, ◌*◌, ◌/◌, ◌%◌, ◌^◌, ◌<◌, ◌≤◌, ◌↔◌, List, [], ◌∷◌, ◌++◌, length, take, drop, map, Option, Some, None, Ok, Err, IsSome, IsTrue, slice_index_or};
 ghost use Rattle.std.specs.List.{AllByRecursion};
 ghost use Rattle.std.specs.Ordering.{nat_cmp, ordering_then};
 ghost use Rattle.std.specs.Cmp.Lexicographic.{slice_cmp};
-ghost use Rattle.warg_log.specs.Nodes.{IsNode, ExistsAt, sibling_place, height_of, place_of, start_of, end_of, node_over, number_of, balanced_over, balanced_roots, Follow, Fall};
+ghost use Rattle.warg_log.specs.Nodes.{IsNode, ExistsAt, sibling_place, height_of, place_of, node_over, number_of, balanced_over, balanced_roots, Follow, Fall};
 ghost use Rattle.warg_crypto.specs.Tree.{branch, leaf_digest};
 ghost use Rattle.warg_log.specs.Ranges.{Range, front_part, rest_part, IsAligned};
 ghost use Rattle.warg_log.specs.Tree.{front_of, root_of, root_over, leaves_of, leaves_below, own_digest};
@@ -17,7 +17,7 @@ ghost use Rattle.warg_log.specs.Blocks.{Blocks, StandsFor, joined_blocks, pushed
 ghost use Rattle.warg_log.specs.Consistency.{consistency, IsConsistent};
 ghost use Rattle.warg_log.specs.Inclusion.{inclusion};
 ghost use Rattle.warg_log.specs.declared.proof.InclusionProofError.TheVariants.{LeafTooNew, HashNotKnown};
-ghost use Rattle.warg_log.specs.Claims.{ConsistencyClaim, InclusionClaim, leaf_claim};
+ghost use Rattle.warg_log.specs.Claims.{InclusionClaim, leaf_claim};
 
 use crate::log::Checkpoint;
 use std::cmp::Ordering;

@@ -1,6 +1,6 @@
 //! Ranges of leaves, how the tree's recursion splits them, and the roots to which digests lead over them.
 
-ghost use Rattle.std.specs.Prelude.{◌≡◌, ℕ, ◌+◌, ◌-◌, ◌*◌, ◌^◌, ◌<◌, ◌≤◌, ◌⊎◌, ◌↔◌, IsTrue};
+ghost use Rattle.std.specs.Prelude.{◌≡◌, ℕ, ◌+◌, ◌-◌, ◌^◌, ◌<◌, ◌≤◌, ◌⊎◌, ◌↔◌, IsTrue};
 ghost use Rattle.warg_log.specs.Ranges.{leaves_from, front_part, rest_part};
 ghost use Rattle.warg_log.specs.Cut.{is_beside, IsFull, with_target, cut_over, old_over};
 

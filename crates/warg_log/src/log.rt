@@ -1,6 +1,6 @@
 //! What all logs have in common: checkpoints, and the two traits.
 
-ghost use Rattle.std.specs.Prelude.{◌≡◌, ℕ, ◌+◌, ◌*◌, ◌^◌, ◌<◌, ◌≤◌, ◌↔◌, map, take, List, [], ◌∷◌, ◌++◌, length, Option, IsTrue, IsSome, IfOk, OnOk, OnErr};
+ghost use Rattle.std.specs.Prelude.{◌≡◌, ℕ, ◌+◌, ◌*◌, ◌<◌, ◌≤◌, ◌↔◌, map, take, List, [], ◌∷◌, length, Option, IsTrue, IsSome, IfOk, OnOk, OnErr};
 ghost use Rattle.warg_crypto.specs.Tree.{leaf_digest};
 ghost use Rattle.warg_log.specs.Tree.{root_of, leaves_of};
 ghost use Rattle.warg_log.specs.Growing.{Appends};

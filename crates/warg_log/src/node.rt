@@ -1,6 +1,6 @@
 //! The nodes of a log's tree, by their numbers.
 
-ghost use Rattle.std.specs.Prelude.{◌≡◌, ℕ, ◌+◌, ◌-◌, ◌*◌, ◌/◌, ◌%◌, ◌^◌, ◌<◌, ◌≤◌, ◌↔◌, IsTrue, IsNone, IfSome};
+ghost use Rattle.std.specs.Prelude.{◌≡◌, ◌+◌, ◌-◌, ◌*◌, ◌/◌, ◌%◌, ◌^◌, ◌<◌, ◌≤◌, ◌↔◌, IsTrue, IsNone, IfSome};
 ghost use Rattle.warg_log.specs.Ranges.{range_of};
 ghost use Rattle.warg_log.specs.Nodes.{IsNode, ExistsAt, height_of, place_of, sibling_place, start_of, end_of, node_over};
 
@@ -41,15 +41,6 @@ impl Node {
         ensures { result.0 ≡ node_over range.now.start range.now.count }
     {
         Node(2 * range.start + (range.count - 1))
-    }
-
-    // The branch whose number lies between those of a leaf, not the first one, and the leaf before it.
-    pub(crate) fn branch_before(leaf: usize) -> Node
-        requires some { 0 < leaf }
-        requires fits { leaf ≤ GREATEST_LENGTH }
-        ensures { result.0 ≡ 2 * leaf - 1 }
-    {
-        Node(2 * (leaf - 1) + 1)
     }
 
     /// The index of the leaf whose node this is, from 0. None exactly if the node is a branch.

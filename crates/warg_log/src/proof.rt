@@ -1,13 +1,13 @@
 //! Inclusion proofs.
 
-ghost use Rattle.std.specs.Prelude.{◌≡◌, ◌≢◌, ⊤, ℕ, ◌+◌, ◌-◌, ◌*◌, ◌^◌, ◌<◌, ◌≤◌, ◌∷◌, [], ◌++◌, ◌↔◌, None, Some, IfOk, OnOk, map, length, reverse, nat_eq};
+ghost use Rattle.std.specs.Prelude.{◌≡◌, ◌≢◌, ⊤, ℕ, ◌+◌, ◌-◌, ◌*◌, ◌^◌, ◌<◌, ◌≤◌, ◌++◌, ◌↔◌, None, Some, IfOk, OnOk, map, length, reverse, nat_eq};
 ghost use Rattle.std.specs.List.{IsDistinct};
 ghost use Rattle.warg_crypto.specs.Tree.{leaf_digest};
-ghost use Rattle.warg_log.specs.Ranges.{leaves_from, range_of, IsAligned};
-ghost use Rattle.warg_log.specs.Nodes.{ExistsAt, height_of, place_of, start_of, end_of};
+ghost use Rattle.warg_log.specs.Nodes.{ExistsAt};
 ghost use Rattle.warg_log.specs.Inclusion.{inclusion};
-ghost use Rattle.warg_log.specs.Walks.{needed, needed_over, siblings_up, IsWalk, IsWalkOver};
+ghost use Rattle.warg_log.specs.Walks.{needed, IsWalk};
 ghost use Rattle.warg_log.specs.Claims.{same_walk};
+ghost use Rattle.warg_log.specs.Private.Climbs.{IsWayUp, IsTop};
 
 use crate::balanced_roots::BalancedRoots;
 use crate::leaf_range::{LeafRange, range_root};
@@ -127,14 +127,8 @@ impl<D: SupportedDigest, V: VisitBytes> InclusionProof<D, V> {
         if !self.leaf.exists_at_length(self.log_length) {
             return Err(InclusionProofError::LeafTooNew);
         }
-        let mut nodes = Vec::new(alloc);
-        match add_walk(&mut nodes, self.leaf, 0, self.log_length) {
-            Ok(parts) => Ok(InclusionProofWalk {
-                upper_broots: nodes.len() - parts.initial - parts.lower,
-                nodes,
-                initial_walk_len: parts.initial,
-                lower_broots: parts.lower,
-            }),
+        match walk_of(alloc, self.leaf, self.log_length) {
+            Ok(walk) => Ok(walk),
             Err(_) => Err(InclusionProofError::Memory),
         }
     }
@@ -271,64 +265,55 @@ impl<A: Allocator> InclusionProofWalk<A> {
     }
 }
 
-// How many nodes the first two parts of a walk have.
-#[derive(Clone, Copy)]
-struct WalkParts {
-    initial: usize,
-    lower: usize,
+// The walk from a node at a length.
+#[tactic(auto, using(crate::proofs::NodeLemmas::low_by_end))]
+fn walk_of<A: Allocator>(
+    alloc: A,
+    leaf: Node,
+    length: usize,
+) -> Result<InclusionProofWalk<A>, AllocError>
+    requires exists { ExistsAt leaf.0 length }
+    requires fits { length ≤ GREATEST_LENGTH }
+    ensures needed { IfOk result (λ walk. map (λ x. x.0) walk.nodes ≡ needed leaf.0 length) }
+    ensures order { IfOk result (λ walk.
+        IsWalk leaf.0 length (map (λ x. x.0) walk.nodes)
+        walk.initial_walk_len walk.lower_broots walk.upper_broots) }
+{
+    let (mut nodes, root) = way_up(alloc, leaf, length)?;
+    let initial_walk_len = nodes.len();
+    let leaves = root.leaf_range();
+    add_roots(&mut nodes, BalancedRoots::between(leaves.end(), length))?;
+    let lower_broots = nodes.len() - initial_walk_len;
+    add_roots(&mut nodes, BalancedRoots::of(leaves.start))?;
+    Ok(InclusionProofWalk {
+        upper_broots: nodes.len() - initial_walk_len - lower_broots,
+        nodes,
+        initial_walk_len,
+        lower_broots,
+    })
 }
 
-// Puts the walk from a node over the leaves from `start` up to `end` into an empty list.
-#[tactic(auto, using(crate::proofs::StepLemmas::walk_steps))]
-fn add_walk<A: Allocator>(
-    nodes: &mut Vec<Node, A>,
+// The siblings on the way up from a node, and the node at which it ends: the balanced root of the length. A node
+// of height 63 stands for all leaves that a log can have.
+#[tactic(auto, using(std::proofs::lemmas::List::map_push, crate::proofs::NodeLemmas::node_at, crate::proofs::StepLemmas::one_up, crate::proofs::StepLemmas::not_up, crate::proofs::StepLemmas::no_parent))]
+fn way_up<A: Allocator>(
+    alloc: A,
     leaf: Node,
-    start: usize,
-    end: usize,
-) -> Result<WalkParts, AllocError>
-    requires empty { nodes.old.items ≡ [] }
-    requires aligned { IsAligned start (end - start) }
-    requires starts { start ≤ start_of leaf.0 }
-    requires ends { end_of leaf.0 ≤ end }
-    requires fits { end ≤ GREATEST_LENGTH }
-    ensures needed { OnOk result (map (λ x. x.0) nodes.new.items
-        ≡ needed_over (range_of leaf.0) (leaves_from start (end - start))) }
-    ensures order { IfOk result (λ parts. (upper : ℕ)
-        × IsWalkOver leaf.0 start (end - start)
-        (map (λ x. x.0) nodes.new.items) parts.initial parts.lower upper) }
+    length: usize,
+) -> Result<(Vec<Node, A>, Node), AllocError>
+    requires exists { ExistsAt leaf.0 length }
+    requires fits { length ≤ GREATEST_LENGTH }
+    ensures way { IfOk result (λ way.
+        IsWayUp leaf.0 length way.1.0 (map (λ x. x.0) way.0.items)) }
+    ensures ends { IfOk result (λ way. IsTop way.1.0 length) }
 {
-    let root = LeafRange::first_root(start, end);
-    if root.end() <= leaf.leaf_range().start {
-        let parts = add_walk(nodes, leaf, root.end(), end)?;
-        nodes.push(Node::over(&root))?;
-        return Ok(parts);
-    }
-    add_siblings(nodes, leaf, root.count.ilog2())?;
-    let initial = nodes.len();
-    add_roots(nodes, BalancedRoots::between(root.end(), end))?;
-    let lower = nodes.len() - initial;
-    Ok(WalkParts { initial, lower })
-}
-
-// Adds the siblings on the way up from a node to the height of one above it.
-#[tactic(auto, using(std::proofs::lemmas::List::map_push, crate::proofs::NodeLemmas::node_at, crate::proofs::StepLemmas::step_place, crate::proofs::StepLemmas::step_pushed))]
-fn add_siblings<A: Allocator>(
-    nodes: &mut Vec<Node, A>,
-    leaf: Node,
-    height: u32,
-) -> Result<(), AllocError>
-    requires above { height_of leaf.0 ≤ height }
-    requires low { height < 64 }
-    ensures { OnOk result (map (λ x. x.0) nodes.new.items
-        ≡ map (λ x. x.0) nodes.old.items ++ siblings_up (height - height_of leaf.0)
-        (height_of leaf.0) (place_of leaf.0)) }
-{
+    let mut siblings = Vec::new(alloc);
     let mut node = leaf;
-    'up: while node.height() < height {
-        nodes.push(node.sibling())?;
+    'up: while node.height() < 63 && node.parent().exists_at_length(length) {
+        siblings.push(node.sibling())?;
         node = node.parent();
     }
-    Ok(())
+    Ok((siblings, node))
 }
 
 // Adds the roots that remain, from right to left.

@@ -1,6 +1,6 @@
 //! Digests of some nodes, as they come with a proof.
 
-ghost use Rattle.std.specs.Prelude.{◌≡◌, ℕ, List, IfOk, IsOk, IsTrue, ◌↔◌};
+ghost use Rattle.std.specs.Prelude.{◌≡◌, List, IfOk, IsOk, IsTrue, ◌↔◌};
 ghost use Rattle.warg_log.specs.Sparse.{IsAscending, held_digest};
 
 use crate::log::LogData;
@@ -62,6 +62,7 @@ impl<D: SupportedDigest, V: VisitBytes, A: Allocator> SparseLogData<D, V, A> {
     }
 
     /// The same data once more, in memory of `alloc`.
+    #[tactic(auto, using(warg_protobuf::proofs::ForCallers::copied_more, warg_protobuf::proofs::ForCallers::taken_whole))]
     pub fn copied(&self, alloc: A) -> Result<Self, AllocError>
         ensures { IfOk result (λ again. again ≡ self.now) }
     {

@@ -1,8 +1,8 @@
 //! A log that keeps the digests of its balanced roots alone.
 
-ghost use Rattle.std.specs.Prelude.{◌≡◌, ℕ, ◌+◌, ◌*◌, ◌^◌, ◌<◌, ◌≤◌, ◌↔◌, List, [], ◌∷◌, ◌++◌, Some, length, map, IsTrue, IfOk, OnOk, OnErr, vec_capacity, vec_len};
+ghost use Rattle.std.specs.Prelude.{◌≡◌, ℕ, ◌+◌, ◌*◌, ◌<◌, ◌≤◌, ◌↔◌, List, [], ◌∷◌, ◌++◌, Some, length, map, IsTrue, IfOk, OnOk, OnErr, vec_capacity, vec_len};
 ghost use Rattle.warg_log.specs.Nodes.{height_of, start_of, balanced_roots};
-ghost use Rattle.warg_crypto.specs.Tree.{branch, leaf_digest};
+ghost use Rattle.warg_crypto.specs.Tree.{leaf_digest};
 ghost use Rattle.warg_log.specs.Tree.{root_of};
 ghost use Rattle.warg_log.specs.Cut.{old_root};
 ghost use Rattle.warg_log.specs.Blocks.{Blocks, StandsFor, block_at, joined_blocks, pushed};
@@ -31,7 +31,7 @@ pub struct StackLog<D: SupportedDigest, V: VisitBytes, A: Allocator = Global> {
 // Contracts see the log as its length and its blocks.
 impl<D: SupportedDigest, V: VisitBytes, A: Allocator> Model for StackLog<D, V, A> {
     ghost use Rattle.warg_log.specs.declared.log.TheConstants.{GREATEST_LENGTH};
-    ghost use Rattle.std.specs.Prelude.{◌≡◌, ◌^◌, ◌≤◌, length};
+    ghost use Rattle.std.specs.Prelude.{◌≡◌, ◌≤◌, length};
     ghost use Rattle.warg_log.specs.Nodes.{balanced_roots};
     ghost use Rattle.warg_log.specs.Blocks.{Blocks};
 

@@ -1,7 +1,7 @@
 //! Calls of a `VecLog` that test what others ask of their caller: that there is room, and that an index or a length is
 //! the log's.
 
-ghost use Rattle.std.specs.Prelude.{◌≡◌, ℕ, ◌*◌, ◌^◌, ◌<◌, ◌≤◌, ◌↔◌, [], ◌∷◌, ◌++◌, length, Err, IsOk, IfOk, OnOk, OnErr};
+ghost use Rattle.std.specs.Prelude.{◌≡◌, ◌*◌, ◌<◌, ◌≤◌, ◌↔◌, [], ◌∷◌, ◌++◌, length, Err, IsOk, IfOk, OnOk, OnErr};
 ghost use Rattle.warg_crypto.specs.Tree.{leaf_digest};
 ghost use Rattle.warg_log.specs.declared.tested.AppendError.TheVariants.{Memory};
 

@@ -1,9 +1,9 @@
 //! A log that keeps the digest of every node.
 
-ghost use Rattle.std.specs.Prelude.{◌≡◌, ℕ, ◌+◌, ◌-◌, ◌*◌, ◌^◌, ◌<◌, ◌≤◌, List, [], ◌∷◌, ◌++◌, length, IsNone, IfSome, IfOk, OnOk, OnErr};
+ghost use Rattle.std.specs.Prelude.{◌≡◌, ℕ, ◌+◌, ◌-◌, ◌*◌, ◌<◌, ◌≤◌, List, [], ◌∷◌, ◌++◌, length, IfOk, OnOk, OnErr};
 ghost use Rattle.std.proofs.Common.{ap, sym};
 ghost use Rattle.warg_crypto.specs.Tree.{leaf_digest};
-ghost use Rattle.warg_log.specs.Tree.{slice_of, root_of, leaves_in, own_digest, digest_or_spacer};
+ghost use Rattle.warg_log.specs.Tree.{slice_of, root_of, leaves_in, own_digest};
 ghost use Rattle.warg_log.specs.Private.Slices.{IsSliceUpTo};
 
 mod image;
@@ -36,7 +36,7 @@ pub struct VecLog<D: SupportedDigest, V: VisitBytes, A: Allocator = Global> {
 // Contracts see the log as the list of its leaf digests.
 impl<D: SupportedDigest, V: VisitBytes, A: Allocator> Model for VecLog<D, V, A> {
     ghost use Rattle.warg_log.specs.declared.log.TheConstants.{GREATEST_LENGTH};
-    ghost use Rattle.std.specs.Prelude.{◌≡◌, ◌^◌, ◌≤◌, ℕ, List, [], length};
+    ghost use Rattle.std.specs.Prelude.{◌≡◌, ◌≤◌, ℕ, List, [], length};
     ghost use Rattle.warg_log.specs.Tree.{slice_of, leaves_in};
 
     ghost Value = { List (List ℕ) };
@@ -110,6 +110,24 @@ impl<D: SupportedDigest, V: VisitBytes, A: Allocator> VecLog<D, V, A> {
             of: PhantomData,
         })
     }
+
+    // Adds an entry at the end by its leaf digest. A refusal leaves the log as it was.
+    #[tactic(auto, using(crate::proofs::AppendLemmas::room_empty, crate::proofs::AppendLemmas::room_more, crate::proofs::AppendLemmas::appended))]
+    fn push_leaf(&mut self, digest: Hash<D>) -> Result<(), AllocError>
+        requires { length self.old < GREATEST_LENGTH }
+        ensures ok { OnOk result (self.new ≡ self.old ++ digest ∷ []) }
+        ensures err { OnErr result (self.new ≡ self.old) }
+    {
+        let tree = &mut self.tree;
+        tree.reserve(2)?;
+        if self.count != 0 {
+            tree.push_reserved(self.spacer.copied());
+        }
+        tree.push_reserved(digest);
+        self.count += 1;
+        join_up(tree, self.count);
+        Ok(())
+    }
 }
 
 impl<D: SupportedDigest, V: VisitBytes, A: Allocator> LogBuilder<D, V> for VecLog<D, V, A> {
@@ -125,7 +143,6 @@ impl<D: SupportedDigest, V: VisitBytes, A: Allocator> LogBuilder<D, V> for VecLo
         Checkpoint::new(self.root(), self.count)
     }
 
-    #[tactic(auto, using(crate::proofs::AppendLemmas::room_empty, crate::proofs::AppendLemmas::room_more, crate::proofs::AppendLemmas::appended))]
     fn push(&mut self, entry: &V) -> Result<Node, AllocError>
         requires { length self.old < GREATEST_LENGTH }
         ensures node { IfOk result (λ node. node.0 ≡ 2 * length self.old) }
@@ -133,16 +150,8 @@ impl<D: SupportedDigest, V: VisitBytes, A: Allocator> LogBuilder<D, V> for VecLo
             (V.bytes entry.now) ∷ []) }
         ensures err { OnErr result (self.new ≡ self.old) }
     {
-        let digest = hash_leaf::<D, V>(entry);
         let leaf = Node::leaf(self.count);
-        let tree = &mut self.tree;
-        tree.reserve(2)?;
-        if self.count != 0 {
-            tree.push_reserved(self.spacer.copied());
-        }
-        tree.push_reserved(digest);
-        self.count += 1;
-        join_up(tree, self.count);
+        self.push_leaf(hash_leaf::<D, V>(entry))?;
         Ok(leaf)
     }
 

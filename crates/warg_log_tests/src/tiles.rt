@@ -58,7 +58,7 @@ impl<D: SupportedDigest> Logs<D> {
     // Whether a tile is the log's own, with its digests.
     fn has_tile(&self, alloc: Global, stored: &StoredTile<D>) -> Result<bool, Fail> {
         let tile = stored.tile;
-        if !tile.exists_at_length(1 << 63) {
+        if !tile.exists_at_length(GREATEST_LENGTH) {
             return Ok(false);
         }
         let digests = tile_hashes(alloc, &self.all, &tile)?;
@@ -106,7 +106,7 @@ fn are_places<D>(alloc: Global, tiles: &[StoredTile<D>], wanted: &Vec<Tile>) -> 
 // The partial tiles of a length, or its full ones that an older length hadn't.
 fn wanted(alloc: Global, old: usize, new: usize, full: bool) -> Result<Vec<Tile>, Fail> {
     let mut tiles = Vec::new(alloc);
-    if old > new || new > 1 << 63 {
+    if old > new || new > GREATEST_LENGTH {
         return Ok(tiles);
     }
     for tile in &tiles_between(alloc, old, new)? {
@@ -169,7 +169,7 @@ fn opened_again_behind_many_entries(rt: HostRuntime) -> Result<(), Fail> {
 
 // How a log of a length is refused out of the partial tiles of another one.
 fn refusal(alloc: Global, tiles: &[StoredTile<Sum>], length: usize) -> Option<OpenError> {
-    if length > 1 << 63 {
+    if length > GREATEST_LENGTH {
         return None;
     }
     match TileLog::<Sum, u64>::open(alloc, length, tiles) {

@@ -1,20 +1,16 @@
 -- Lemmas for the proofs of the crates above, over public definitions alone.
-use Rattle.std.proofs.Common.{◌≡◌, ℕ, ◌+◌, ◌-◌, ◌<◌, ◌≤◌, Bool, true, List, [], ◌∷◌, ◌++◌, length, Option, Some, None, unwrap_or, ap}
-use Rattle.std.specs.Ordering.{nat_cmp}
-use Rattle.std.proofs.lemmas.Cmp.{tied_itself}
+use Rattle.std.proofs.Common.{◌≡◌, ℕ, ◌+◌, ◌-◌, ◌<◌, ◌≤◌, Bool, true, false, List, [], ◌∷◌, ◌++◌, ◌∙◌, length, length-append, Option, Some, unwrap_or, refl, ap}
 use Rattle.std.specs.Option.{option_map}
 use Rattle.std.specs.Bool.{Decides}
 use Rattle.std.specs.FinMap.{get, insert}
-use Rattle.std.specs.Cmp.Lexicographic.{slice_cmp}
-use Rattle.std.specs.declared.cmp.Ordering.TheVariants.{Equal}
 use Rattle.warg_crypto.specs.Digests.{IsDigest}
 use Rattle.warg_crypto.specs.EmptyTrees.{empty_root}
 use Rattle.warg_map.specs.Bits.{bit_at, last_bits, key_bits}
-use Rattle.warg_crypto.specs.Tree.{leaf_digest}
-use Rattle.warg_map.specs.Sparse.{SparseMap, bits_cmp, leaf_at, root_of_levels, sparse_root, map_of}
+use Rattle.warg_crypto.specs.Tree.{leaf_digest, input_beside, branch_input}
+use Rattle.warg_map.specs.Sparse.{SparseMap, leaf_at, root_of_levels, sparse_root, map_of}
 use Rattle.warg_map.specs.Last.{same_bits, last_under}
-use Rattle.warg_map.specs.ProofValue.{proof_value}
-use Rattle.warg_map.specs.Peers.{Proves, ProvesAbsent, ProvesEmpty}
+use Rattle.warg_map.specs.ProofValue.{peer_of, proof_value}
+use Rattle.warg_map.specs.Peers.{Proves, ProvesAbsent, ProvesEmpty, IsBeside}
 use Rattle.warg_map.specs.Messages.{Peers, same_peers}
 use Rattle.warg_map.proofs.ProofEquality as equal
 use Rattle.warg_map.proofs.KeyBits as keys
@@ -38,17 +34,7 @@ last_bits-none key = keys.bits_from-none key 256
 pub last_bits-more : (key : List ℕ) (n : ℕ) → n < 256 → last_bits key (n + 1) ≡ bit_at key (255 - n) ∷ last_bits key n
 last_bits-more = keys.last_bits-step
 
--- the bits that are left at a depth
-pub bits_left-more : (key : List ℕ) (depth : ℕ) → depth < 256 → last_bits key (256 - depth) ≡ bit_at key depth ∷ last_bits key (256 - (depth + 1))
-bits_left-more = keys.last_bits-first
-
-pub bits_left-none : (key : List ℕ) (depth : ℕ) → depth ≡ 256 → last_bits key (256 - depth) ≡ []
-bits_left-none key depth h = rw h (keys.bits_from-none key 256)
-
--- bits are equal to themselves, by their order and by the test
-pub bits_cmp-itself : (q : List Bool) → bits_cmp q q ≡ Equal
-bits_cmp-itself = tied_itself tree.bits_total
-
+-- bits are equal to themselves, by the test
 pub same_bits-itself : (q : List Bool) → same_bits q q ≡ true
 same_bits-itself = tree.tied_itself_bits
 
@@ -60,40 +46,28 @@ same_bits-true = tree.tied
 pub same_digest : (H : List ℕ → List ℕ) (key other : List ℕ) → IsDigest (H key) → IsDigest (H other) → key_bits H key ≡ key_bits H other → H key ≡ H other
 same_digest H key other = bits.same_bits_same_digest (H key) (H other)
 
--- digests are in the order of their bits
-pub order_of_bits : (H : List ℕ → List ℕ) (key other : List ℕ) → IsDigest (H key) → IsDigest (H other) → bits_cmp (key_bits H key) (key_bits H other) ≡ slice_cmp nat_cmp (H key) (H other)
-order_of_bits H key other = bits.bits-order (H key) (H other)
-
 -- a map of insertions holds the leaf digest of the last one under the bits
 pub last_held : (H : List ℕ → List ℕ) (bits : List Bool) (insertions : List (List ℕ × List ℕ)) → get (map_of H insertions) bits ≡ option_map (λ e. leaf_digest H e.1) (last_under H bits insertions)
 last_held = last.get-map_of
 
--- a tree over nothing is the empty tree
-pub root-nothing : (H : List ℕ → List ℕ) (k : ℕ) → root_of_levels H k (λ q. None) ≡ empty_root H k
-root-nothing = tree.root-nothing
-
--- trees over the same are the same
-pub root-same : (H : List ℕ → List ℕ) (k : ℕ) (m n : List Bool → Option (List ℕ)) → ((q : List Bool) → m q ≡ n q) → root_of_levels H k m ≡ root_of_levels H k n
-root-same = tree.root-same
-
 -- the proof of held bits leads to the plain root at each prefix of them
 pub root_at_prefix : (H : List ℕ → List ℕ) (m : SparseMap) (prefix rest : List Bool) (peers : List (Option (List ℕ))) (x : List ℕ) → length prefix + length rest ≡ 256 → length peers ≤ 256
     → Proves H 256 m (prefix ++ rest) peers → get m (prefix ++ rest) ≡ Some x → proof_value H peers x rest ≡ root_of_levels H (length rest) (λ q. get m (prefix ++ q))
-root_at_prefix H m prefix rest peers x n few p held = honest.honest_prefix H m prefix rest peers x n (honest.honest_held H 256 m _ peers p) (ap (λ o. unwrap_or o (empty_root H 0)) held)
+root_at_prefix H m prefix rest peers x n few p held = honest.honest_prefix H m prefix rest peers x (honest.honest_held H 256 m _ peers (length-append prefix rest ∙ n) p) (ap (λ o. unwrap_or o (empty_root H 0)) held)
 
 -- from any leaf digest the proofs of a map lead to the root of the map that holds it
 pub replaced_root : (H : List ℕ → List ℕ) (m : SparseMap) (bits : List Bool) (peers : List (Option (List ℕ))) (x : List ℕ) → length bits ≡ 256 → length peers ≤ 256
     → Proves H 256 m bits peers → proof_value H peers x bits ≡ sparse_root H 256 (insert m bits x)
-replaced_root H m bits peers x n few p = honest.honest_replaced H m bits peers x n (honest.honest_held H 256 m bits peers p)
+replaced_root H m bits peers x n few p = honest.honest_replaced H m bits peers x n (honest.honest_held H 256 m bits peers n p)
 
 pub absent_replaced_root : (H : List ℕ → List ℕ) (m : SparseMap) (bits : List Bool) (peers : List (Option (List ℕ))) (x : List ℕ) → length bits ≡ 256 → length peers ≤ 256
     → ProvesAbsent H m bits peers → proof_value H peers x bits ≡ sparse_root H 256 (insert m bits x)
-absent_replaced_root H m bits peers x n few p = honest.honest_replaced H m bits peers x n (honest.honest_absent H m bits peers p)
+absent_replaced_root H m bits peers x n few p = honest.honest_replaced H m bits peers x n (honest.honest_absent H m bits peers n p)
 
 -- from an empty leaf the proof of an absence leads to the root
 pub absent_root : (H : List ℕ → List ℕ) (m : SparseMap) (bits : List Bool) (peers : List (Option (List ℕ))) → length bits ≡ 256 → length peers ≤ 256
     → ProvesAbsent H m bits peers → proof_value H peers (empty_root H 0) bits ≡ sparse_root H 256 m
-absent_root H m bits peers n few p = honest.honest_root H m bits peers _ n (honest.honest_absent H m bits peers p) (honest.leaf_absent (get m bits) _ p.absent)
+absent_root H m bits peers n few p = honest.honest_root H m bits peers _ n (honest.honest_absent H m bits peers n p) (honest.leaf_absent (get m bits) _ p.absent)
 
 -- proofs are compared by their peers
 pub peers_decide : (ps qs : Peers) → Decides (same_peers ps qs) (ps ≡ qs)
@@ -102,4 +76,21 @@ peers_decide = equal.peers_decide
 -- where the leaf digest of bits is that of an empty leaf, the proof of that leads from it to the root
 pub empty_root_held : (H : List ℕ → List ℕ) (m : SparseMap) (bits : List Bool) (peers : Peers) → length bits ≡ 256
     → ProvesEmpty H m bits peers → leaf_at H m bits ≡ empty_root H 0 → proof_value H peers (empty_root H 0) bits ≡ sparse_root H 256 m
-empty_root_held H m bits peers n p = honest.honest_root H m bits peers _ n (honest.honest_empty H m bits peers (get m bits) p)
+empty_root_held H m bits peers n p = honest.honest_root H m bits peers _ n (honest.honest_empty H m bits peers (get m bits) n p)
+
+-- the peers of the proof of a key, held or not, are what stands beside its bits
+pub key_beside : (H : List ℕ → List ℕ) (m : SparseMap) (key : List ℕ) (peers : Peers) → ProvesEmpty H m (key_bits H key) peers → IsBeside H peers (get m) (key_bits H key)
+key_beside H m key peers p = honest.honest_empty H m (key_bits H key) peers (get m (key_bits H key)) (all_bits H key) p
+
+-- so they lead from the leaf digest of the bits to the root
+pub beside_root : (H : List ℕ → List ℕ) (m : SparseMap) (bits : List Bool) (peers : Peers) → length bits ≡ 256 → IsBeside H peers (get m) bits → proof_value H peers (leaf_at H m bits) bits ≡ sparse_root H 256 m
+beside_root H m bits peers n p = honest.honest_root H m bits peers _ n p refl
+
+-- by the plain inputs on the way
+pub beside_input : (H : List ℕ → List ℕ) (m : SparseMap) (prefix below : List Bool) (b : Bool) (peers : Peers) → IsBeside H peers (get m) (prefix ++ b ∷ below)
+    → input_beside b (peer_of H peers (length below)) (proof_value H peers (leaf_at H m (prefix ++ b ∷ below)) below) ≡ branch_input (root_of_levels H (length below) (λ q. get m (prefix ++ false ∷ q))) (root_of_levels H (length below) (λ q. get m (prefix ++ true ∷ q)))
+beside_input H m prefix below b peers p = honest.honest_input H m prefix below b peers _ p refl
+
+-- and from any leaf digest to the root of the map that holds it
+pub beside_replaced : (H : List ℕ → List ℕ) (m : SparseMap) (bits : List Bool) (peers : Peers) (x : List ℕ) → length bits ≡ 256 → IsBeside H peers (get m) bits → proof_value H peers x bits ≡ sparse_root H 256 (insert m bits x)
+beside_replaced = honest.honest_replaced

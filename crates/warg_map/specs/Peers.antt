@@ -3,6 +3,7 @@ use Rattle.std.specs.Prelude.{◌≡◌, ℕ, suc, ◌+◌, ◌<◌, Bool, true,
 use Rattle.std.specs.FinMap.{get, contains_key}
 use Rattle.warg_crypto.specs.EmptyTrees.{empty_root}
 use Rattle.warg_map.specs.Sparse.{SparseMap, root_of_levels}
+use Rattle.warg_map.specs.ProofValue.{peer_of}
 
 -- How many bits two bit lists share before they part.
 abbrev pub shared : List Bool → List Bool → ℕ
@@ -47,3 +48,8 @@ pub record ProvesAbsent (H : List ℕ → List ℕ) (m : SparseMap) (bits : List
 -- The peers prove that the leaf digest of bits is that of an empty leaf: that they are not held, or else that they are.
 abbrev pub ProvesEmpty : (List ℕ → List ℕ) → SparseMap → List Bool → List (Option (List ℕ)) → Type 0
 ProvesEmpty H m bits peers = MatchOption (get m bits) (ProvesAbsent H m bits peers) (λ _. Proves H 256 m bits peers)
+
+-- The peers are what stands in the plain tree beside the bits, however an empty half is written: at each bit the sparse root of what is held on its other side.
+unfoldable pub IsBeside : (List ℕ → List ℕ) → List (Option (List ℕ)) → (List Bool → Option (List ℕ)) → List Bool → Type 0
+IsBeside H peers held [] = Unit {0}
+IsBeside H peers held (b ∷ bits) = (peer_of H peers (length bits) ≡ root_of_levels H (length bits) (λ q. held (not b ∷ q))) × IsBeside H peers (λ q. held (b ∷ q)) bits

@@ -1,11 +1,11 @@
 //! Leaves that are put into a tree, in order, so that a branch above several of them is hashed once.
 
-ghost use Rattle.std.specs.Prelude.{◌≡◌, ℕ, ◌+◌, ◌-◌, ◌^◌, ◌<◌, ◌≤◌, ◌⊎◌, ◌∷◌, [], not, List, length, IfOk};
+ghost use Rattle.std.specs.Prelude.{◌≡◌, ◌+◌, ◌-◌, ◌^◌, ◌<◌, ◌≤◌, not, length, IfOk};
 ghost use Rattle.std.specs.FinMap as map;
 ghost use Rattle.warg_crypto.specs.Sides.{side_bit};
-ghost use Rattle.warg_map.specs.Bits.{bit_at, bits_from};
+ghost use Rattle.warg_map.specs.Bits.{bits_from};
 ghost use Rattle.warg_map.specs.Private.Under.{join_at, under, HoldsKey};
-ghost use Rattle.warg_map.specs.Private.Grown.{ShareBits, on_side, IsParting, IsPut};
+ghost use Rattle.warg_map.specs.Private.Grown.{on_side, IsParting, IsPut};
 ghost use Rattle.warg_map.specs.Private.Seen.{MayCarry};
 
 use crate::link::Link;

@@ -1,13 +1,13 @@
 //! The map.
 
-ghost use Rattle.std.specs.Prelude.{◌≡◌, ◌≢◌, ℕ, List, Option, ◌+◌, ◌*◌, ◌/◌, ◌<◌, ◌≤◌, ◌↔◌, ◌∷◌, ◌++◌, [], IfOk, IfSome, IsSome, IsTrue, MatchOption, MatchResult, Some, None, Ok, Err, true, false};
+ghost use Rattle.std.specs.Prelude.{◌≡◌, ◌≢◌, Option, ◌+◌, ◌*◌, ◌/◌, ◌<◌, ◌≤◌, ◌↔◌, IfOk, IfSome, IsSome, IsTrue, MatchOption, MatchResult, Some, None, Ok, Err, false};
 ghost use Rattle.std.specs.FinMap as map;
 ghost use Rattle.std.specs.Iterator.{IsFinite};
 ghost use Rattle.warg_map.specs.Extended.{IsExtended, IsFullWithin, BeginsNew};
 ghost use Rattle.warg_map.specs.Bits.{key_bits, last_bits};
 ghost use Rattle.warg_crypto.specs.EmptyTrees.{empty_root};
 ghost use Rattle.warg_crypto.specs.Tree.{leaf_digest};
-ghost use Rattle.warg_map.specs.Sparse.{HasLevels, sparse_root, leaf_at, inserted, pair_bytes};
+ghost use Rattle.warg_map.specs.Sparse.{HasLevels, sparse_root, leaf_at};
 ghost use Rattle.warg_map.specs.Peers.{Proves, ProvesEmpty};
 ghost use Rattle.warg_map.specs.Private.Grown.{with_leaves};
 ghost use Rattle.warg_map.specs.Private.Walk.{answer_of};

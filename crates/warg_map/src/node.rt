@@ -1,6 +1,6 @@
 //! The nodes of the tree.
 
-ghost use Rattle.std.specs.Prelude.{◌≡◌, ℕ, ◌+◌, ◌-◌, ◌<◌, ◌≤◌};
+ghost use Rattle.std.specs.Prelude.{◌≡◌, ◌+◌, ◌-◌, ◌<◌, ◌≤◌};
 ghost use Rattle.warg_map.specs.Bits.{bits_from};
 ghost use Rattle.warg_map.specs.Private.Under.{stem_root};
 

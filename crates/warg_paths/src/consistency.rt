@@ -1,6 +1,6 @@
 //! Consistency paths.
 
-ghost use Rattle.std.specs.Prelude.{◌≡◌, ◌≢◌, ℕ, ◌+◌, ◌^◌, ◌<◌, ◌≤◌, ◌⊎◌, ◌↔◌, List, [], reverse, Option, Some, None, Err, IfOk, IsTrue};
+ghost use Rattle.std.specs.Prelude.{◌≡◌, ◌≢◌, ℕ, ◌+◌, ◌<◌, ◌≤◌, ◌⊎◌, ◌↔◌, List, [], reverse, Option, Some, None, Err, IfOk, IsTrue};
 ghost use Rattle.warg_log.specs.Ranges.{Range};
 ghost use Rattle.warg_log.specs.Cut.{old_over};
 ghost use Rattle.warg_paths.specs.Paths.{beside, path_at_end, consistency_over, consistency_of, consistency_roots, subproof_roots, roots_down, one_root};

@@ -1,6 +1,6 @@
 //! Lines and words, and what words say: numbers, roots and bytes.
 
-ghost use Rattle.std.specs.Prelude.{◌≡◌, ◌^◌, ◌<◌, ◌≤◌, [], ◌∷◌, length, Some, None, Err, IfOk};
+ghost use Rattle.std.specs.Prelude.{◌≡◌, ◌<◌, ◌≤◌, [], ◌∷◌, length, Some, None, Err, IfOk};
 ghost use Rattle.std.specs.Option.{option_map};
 ghost use Rattle.warg_program.specs.Words.{lines_of, number_in, length_in, hex_bytes_in, root_in};
 ghost use Rattle.warg_program.specs.Orders.{first_says, none_left};

@@ -1,12 +1,11 @@
 -- Lemmas for the proofs of the crates above, over public definitions alone.
-use Rattle.std.proofs.Common.{◌≡◌, ℕ, ◌+◌, ◌<◌, ◌≤◌, List, [], ◌∷◌, ◌++◌, length, map, take, drop, get_or, Option, Some, None, Ok, refl, sym, ap, ◌∙◌, subst, append_assoc, arith}
+use Rattle.std.proofs.Common.{◌≡◌, ℕ, ◌+◌, ◌<◌, ◌≤◌, List, [], ◌∷◌, ◌++◌, length, map, take, drop, get_or, Option, None, Ok, refl, sym, ap, ◌∙◌, subst, append_assoc, arith}
 use Rattle.std.specs.List.{AllByRecursion, flat_map}
 use Rattle.std.proofs.lemmas.List.Elements.{All-from_recursion}
 use Rattle.std.proofs.lemmas.Grind.{common_steps}
 use Rattle.std.proofs.lemmas.List.{take_more, take_all, drop_all, map-append}
 use Rattle.warg_protobuf.specs.declared.value_error.DecodeError.{DecodeError}
-use Rattle.warg_protobuf.specs.declared.value_error.DecodeError.TheVariants.{HashLength}
-use Rattle.warg_protobuf.specs.Decoding.{unless, earlier, first_fault, digest_fault}
+use Rattle.warg_protobuf.specs.Decoding.{unless, earlier, first_fault}
 
 -- what holds of each element of two lists holds of each element of both in a row
 pub all_append : {X : Type 0} (P : X → Type 0) (xs ys : List X) → AllByRecursion P xs → AllByRecursion P ys → AllByRecursion P (xs ++ ys)
@@ -99,18 +98,6 @@ mapped_whole f xs i out was le = was ∙ ap (map f) (take_all i xs le)
 
 pub pushed_view : {X Y : Type 0} (f : X → Y) (old new : List X) (x : X) → new ≡ old ++ x ∷ [] → map f new ≡ map f old ++ f x ∷ []
 pushed_view f old new x now = ap (map f) now ∙ map-append f old (x ∷ [])
-
--- the first fault of digests: behind one of 32 bytes, at one of another length, and where none is left
-pub digest_passed : {X : Type 0} (f : X → List ℕ) (xs : List X) (i : ℕ) (x : X) (whole : Option DecodeError) (bytes : List ℕ) → i < length xs → x ≡ get_or xs i x
-    → bytes ≡ f x → length bytes ≡ 32 → whole ≡ first_fault digest_fault (map f (drop i xs)) → whole ≡ first_fault digest_fault (map f (drop (i + 1) xs))
-digest_passed f xs i x whole bytes lt is here long was = grind (arith, common_steps)
-
-pub digest_met : {X : Type 0} (f : X → List ℕ) (xs : List X) (i : ℕ) (x : X) (whole : Option DecodeError) (bytes : List ℕ) (e : DecodeError) → i < length xs → x ≡ get_or xs i x
-    → bytes ≡ f x → whole ≡ first_fault digest_fault (map f (drop i xs)) → (e ≡ HashLength) × (length bytes ≡ 32 → ⊥) → (e ≡ HashLength) × (whole ≡ Some e)
-digest_met f xs i x whole bytes e lt is here was why = grind (arith, common_steps)
-
-pub no_digest_left : {X : Type 0} (f : X → List ℕ) (xs : List X) (i : ℕ) (whole : Option DecodeError) → whole ≡ first_fault digest_fault (map f (drop i xs)) → length xs ≤ i → whole ≡ None
-no_digest_left f xs i whole was le = was ∙ ap (λ l. first_fault digest_fault (map f l)) (drop_all i xs le)
 
 pub mapped_twice_more : {X Y Z : Type 0} (f : X → Y) (g : Y → Z) (xs : List X) (i : ℕ) (x : X) (old new : List Z) (z : Z) → i < length xs → x ≡ get_or xs i x
     → old ≡ map g (map f (take i xs)) → new ≡ old ++ z ∷ [] → z ≡ g (f x) → new ≡ map g (map f (take (i + 1) xs))

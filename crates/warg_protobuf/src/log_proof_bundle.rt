@@ -5,7 +5,7 @@ ghost use Rattle.warg_protobuf.specs.Spelled.{Decodes, IsEncoded};
 use crate::error::WireError;
 use crate::field::Field;
 use crate::hash_entry::HashEntry;
-use crate::message::{Message, encode_message, push_messages, read_element, read_message};
+use crate::message::{Message, encode_message, push_messages, read_message};
 use crate::writer::{push_uint32, push_uint32s};
 use std::alloc::{AllocError, Allocator, Global};
 
@@ -23,7 +23,7 @@ pub struct LogProofBundle<A: Allocator = Global> {
     pub hashes: Vec<HashEntry<A>, A>,
 }
 
-#[tactic(auto, unfolding(crate::specs::LogProofBundle::log_schema, crate::specs::LogProofBundle::log_add, crate::specs::LogProofBundle::log_fields, crate::specs::Schema::last_of, crate::specs::Schema::values))]
+#[tactic(auto, unfolding(crate::specs::LogProofBundle::log_schema, crate::specs::LogProofBundle::log_add, crate::specs::LogProofBundle::log_fields, crate::specs::Schema::last_of, crate::specs::Schema::values, crate::specs::Schema::message_in, crate::specs::Schema::bytes_in))]
 impl<A: Allocator + Copy> Message<A> for LogProofBundle<A> {
     ghost use Rattle.warg_protobuf.specs.LogProofBundle.{LogBundle, log_view, log_schema, log_add, log_fields, LogFits};
     ghost use Rattle.warg_protobuf.specs.Private.Adds.{log_adds};
@@ -54,7 +54,9 @@ impl<A: Allocator + Copy> Message<A> for LogProofBundle<A> {
             1 => self.log_length = field.payload.uint32()?,
             2 => field.payload.add_uint32s(&mut self.consistent_lengths)?,
             3 => field.payload.add_uint32s(&mut self.included_indices)?,
-            4 => read_element(alloc, &mut self.hashes, field.payload)?,
+            4 => self
+                .hashes
+                .push(read_message(alloc, field.payload.bytes()?)?)?,
             _ => {}
         }
         Ok(())

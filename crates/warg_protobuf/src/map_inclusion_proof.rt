@@ -3,7 +3,7 @@ ghost use Rattle.std.specs.Prelude.{ℕ, List, Option};
 
 use crate::error::WireError;
 use crate::field::Field;
-use crate::message::{Message, push_messages, read_element};
+use crate::message::{Message, push_messages, read_message};
 use crate::optional_hash::OptionalHash;
 use std::alloc::{AllocError, Allocator, Global};
 
@@ -15,7 +15,7 @@ pub struct MapInclusionProof<A: Allocator = Global> {
     pub hashes: Vec<OptionalHash<A>, A>,
 }
 
-#[tactic(auto, unfolding(crate::specs::MapInclusionProof::proof_schema, crate::specs::MapInclusionProof::proof_add, crate::specs::MapInclusionProof::proof_fields, crate::specs::Schema::values))]
+#[tactic(auto, unfolding(crate::specs::MapInclusionProof::proof_schema, crate::specs::MapInclusionProof::proof_add, crate::specs::MapInclusionProof::proof_fields, crate::specs::Schema::values, crate::specs::Schema::message_in, crate::specs::Schema::bytes_in))]
 impl<A: Allocator + Copy> Message<A> for MapInclusionProof<A> {
     ghost use Rattle.warg_protobuf.specs.MapInclusionProof.{proof_view, proof_schema, proof_add, proof_fields};
     ghost use Rattle.warg_protobuf.specs.Private.Adds.{proof_adds};
@@ -40,7 +40,9 @@ impl<A: Allocator + Copy> Message<A> for MapInclusionProof<A> {
 
     fn put(&mut self, alloc: A, field: Field<'_>) -> Result<(), WireError> {
         match field.number {
-            1 => read_element(alloc, &mut self.hashes, field.payload)?,
+            1 => self
+                .hashes
+                .push(read_message(alloc, field.payload.bytes()?)?)?,
             _ => {}
         }
         Ok(())

@@ -5,7 +5,7 @@ ghost use Rattle.warg_protobuf.specs.Spelled.{Decodes, IsEncoded};
 use crate::error::WireError;
 use crate::field::Field;
 use crate::map_inclusion_proof::MapInclusionProof;
-use crate::message::{Message, encode_message, push_messages, read_element, read_message};
+use crate::message::{Message, encode_message, push_messages, read_message};
 use std::alloc::{AllocError, Allocator, Global};
 
 /// Proofs of a map: of keys that it holds, and of keys that it doesn't hold.
@@ -18,7 +18,7 @@ pub struct MapProofBundle<A: Allocator = Global> {
     pub absences: Vec<MapInclusionProof<A>, A>,
 }
 
-#[tactic(auto, unfolding(crate::specs::MapProofBundle::map_schema, crate::specs::MapProofBundle::map_add, crate::specs::MapProofBundle::map_fields, crate::specs::Schema::values))]
+#[tactic(auto, unfolding(crate::specs::MapProofBundle::map_schema, crate::specs::MapProofBundle::map_add, crate::specs::MapProofBundle::map_fields, crate::specs::Schema::values, crate::specs::Schema::message_in, crate::specs::Schema::bytes_in))]
 impl<A: Allocator + Copy> Message<A> for MapProofBundle<A> {
     ghost use Rattle.warg_protobuf.specs.MapProofBundle.{MapBundle, map_view, map_schema, map_add, map_fields};
     ghost use Rattle.warg_protobuf.specs.Private.Adds.{map_adds};
@@ -44,8 +44,12 @@ impl<A: Allocator + Copy> Message<A> for MapProofBundle<A> {
 
     fn put(&mut self, alloc: A, field: Field<'_>) -> Result<(), WireError> {
         match field.number {
-            1 => read_element(alloc, &mut self.proofs, field.payload)?,
-            2 => read_element(alloc, &mut self.absences, field.payload)?,
+            1 => self
+                .proofs
+                .push(read_message(alloc, field.payload.bytes()?)?)?,
+            2 => self
+                .absences
+                .push(read_message(alloc, field.payload.bytes()?)?)?,
             _ => {}
         }
         Ok(())

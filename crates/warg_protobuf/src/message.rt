@@ -1,9 +1,8 @@
 //! What all messages share: one loop that reads them, and one that writes them in lists.
 ghost use Rattle.std.specs.Prelude.{◌≡◌, ◌++◌, ◌<◌, ◌^◌, [], List, All, OnOk, IfOk, length, map};
-ghost use Rattle.warg_protobuf.specs.Reading.{outcome, values_read, as_list};
 ghost use Rattle.warg_protobuf.specs.Field.{Field as AnyField};
-ghost use Rattle.warg_protobuf.specs.Schema.{Schema, check_by, message_in};
-ghost use Rattle.warg_protobuf.specs.Private.Lent.{field_view, payload_view};
+ghost use Rattle.warg_protobuf.specs.Schema.{Schema, check_by};
+ghost use Rattle.warg_protobuf.specs.Private.Lent.{field_view};
 ghost use Rattle.warg_protobuf.specs.Private.Taking.{Puts, Adds};
 ghost use Rattle.warg_protobuf.specs.Spelled.{Decodes};
 ghost use Rattle.warg_protobuf.specs.Written.{fields_bytes, message_fields};
@@ -66,22 +65,6 @@ pub(crate) fn read_message<A: Allocator + Copy, M: Message<A>>(
         rest = after;
     }
     Ok(message)
-}
-
-/// Puts the message that a payload holds at the end of a list.
-#[tactic(auto, unfolding(crate::specs::Schema::message_in, crate::specs::Schema::bytes_in))]
-pub(crate) fn read_element<A: Allocator + Copy, M: Message<A>>(
-    alloc: A,
-    messages: &mut Vec<M, A>,
-    payload: Payload<'_>,
-) -> Result<(), WireError>
-    ensures { let read = message_in M.schema (payload_view payload.entry) in
-        let added = map M.view messages.old.items ++ values_read (as_list read) in
-        Puts result (outcome read) added (map M.view messages.new.items) }
-{
-    let message: M = read_message(alloc, payload.bytes()?)?;
-    messages.push(message)?;
-    Ok(())
 }
 
 /// The written form of a message.

@@ -5,7 +5,7 @@ ghost use Rattle.warg_protobuf.specs.Spelled.{Decodes, IsEncoded};
 use crate::error::WireError;
 use crate::field::Field;
 use crate::hash_entry::HashEntry;
-use crate::message::{Message, encode_message, push_messages, read_element, read_message};
+use crate::message::{Message, encode_message, push_messages, read_message};
 use crate::writer::push_uint32;
 use std::alloc::{AllocError, Allocator, Global};
 
@@ -19,7 +19,7 @@ pub struct StackLog<A: Allocator = Global> {
     pub stack: Vec<HashEntry<A>, A>,
 }
 
-#[tactic(auto, unfolding(crate::specs::StackLog::stack_schema, crate::specs::StackLog::stack_add, crate::specs::StackLog::stack_fields, crate::specs::Schema::last_of, crate::specs::Schema::values))]
+#[tactic(auto, unfolding(crate::specs::StackLog::stack_schema, crate::specs::StackLog::stack_add, crate::specs::StackLog::stack_fields, crate::specs::Schema::last_of, crate::specs::Schema::values, crate::specs::Schema::message_in, crate::specs::Schema::bytes_in))]
 impl<A: Allocator + Copy> Message<A> for StackLog<A> {
     ghost use Rattle.warg_protobuf.specs.StackLog.{StackImage, stack_view, stack_schema, stack_add, stack_fields, StackFits};
     ghost use Rattle.warg_protobuf.specs.Private.Adds.{stack_adds};
@@ -46,7 +46,9 @@ impl<A: Allocator + Copy> Message<A> for StackLog<A> {
     fn put(&mut self, alloc: A, field: Field<'_>) -> Result<(), WireError> {
         match field.number {
             1 => self.length = field.payload.uint32()?,
-            2 => read_element(alloc, &mut self.stack, field.payload)?,
+            2 => self
+                .stack
+                .push(read_message(alloc, field.payload.bytes()?)?)?,
             _ => {}
         }
         Ok(())

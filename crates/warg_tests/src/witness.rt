@@ -5,7 +5,7 @@ use std::alloc::{Allocator, Global};
 use std::test::Fail;
 use warg_crypto::weak::{Flat, Sum};
 use warg_crypto::{Hash, Sha256, SupportedDigest};
-use warg_log::{LogData, Node, SparseLogData, VecLog, push_all};
+use warg_log::{GREATEST_LENGTH, LogData, Node, SparseLogData, VecLog, push_all};
 use warg_witness::{Finding, witness_consistency, witness_hash, witness_value};
 
 fn shows<D: SupportedDigest, A: Allocator>(
@@ -168,7 +168,7 @@ fn other_counts_without_memory(rt: HostRuntime) -> Result<(), Fail> {
     let none = Refusing::after(rt.alloc(), 0);
     let data = Nothing::from(Vec::new(rt.alloc()));
     assert!(rt; are_not_met(&none, &data));
-    for (old, new) in [(1, 2), (2, 3), (1 << 63, 1 << 63)] {
+    for (old, new) in [(1, 2), (2, 3), (GREATEST_LENGTH, GREATEST_LENGTH)] {
         let proof = data.prove_consistency(old, new);
         let finding = witness_consistency(&none, &proof, &data, &[1], &[1, 2, 3]);
         assert!(rt; matches!(finding, Ok(Finding::NotMet)));

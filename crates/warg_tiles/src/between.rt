@@ -1,7 +1,7 @@
 //! The tiles by which a log grows.
 
-ghost use Rattle.std.specs.Prelude.{◌≡◌, ◌+◌, ◌/◌, ◌*◌, ◌^◌, ◌<◌, ◌≤◌, ◌++◌, IfOk, OnOk};
-ghost use Rattle.warg_tiles.specs.Between.{tiles_between, level_tiles, levels_from};
+ghost use Rattle.std.specs.Prelude.{◌≡◌, ◌+◌, ◌/◌, ◌*◌, ◌<◌, ◌≤◌, ◌++◌, IfOk, OnOk};
+ghost use Rattle.warg_tiles.specs.Between.{tiles_between, level_tiles};
 
 use crate::tile::Tile;
 use std::alloc::{AllocError, Allocator};

@@ -1,6 +1,6 @@
 //! Checkpoint texts.
 
-ghost use Rattle.std.specs.Prelude.{◌≡◌, ◌≢◌, ℕ, ◌^◌, ◌<◌, ◌≤◌, ◌↔◌, List, [], ◌∷◌, ◌++◌, length, map, Option, Ok, Err, IfOk, IfErr, OnOk, OnErr, MatchOption, IsTrue};
+ghost use Rattle.std.specs.Prelude.{◌≡◌, ◌≢◌, ℕ, ◌<◌, ◌≤◌, ◌↔◌, List, [], ◌∷◌, ◌++◌, length, map, Option, Ok, Err, IfOk, IfErr, OnOk, OnErr, MatchOption, IsTrue};
 ghost use Rattle.std.specs.Fmt.{decimal};
 ghost use Rattle.std.specs.List.{AllByRecursion};
 ghost use Rattle.std.specs.Option.{option_copied};
@@ -32,7 +32,7 @@ pub struct CheckpointText<D, A: Allocator = Global> {
 // Contracts see a text as what it says.
 impl<D, A: Allocator> Model for CheckpointText<D, A> {
     ghost use Rattle.warg_log.specs.declared.log.TheConstants.{GREATEST_LENGTH};
-    ghost use Rattle.std.specs.Prelude.{◌^◌, ◌≤◌, map};
+    ghost use Rattle.std.specs.Prelude.{◌≤◌, map};
     ghost use Rattle.std.specs.List.{AllByRecursion};
     ghost use Rattle.warg_tiles.specs.CheckpointText.{Said, IsLine};
 

@@ -1,6 +1,6 @@
 //! Digests of tiles: made out of a log's data, and data of proofs.
 
-ghost use Rattle.std.specs.Prelude.{◌≡◌, ℕ, ◌^◌, ◌<◌, ◌≤◌, ◌↔◌, List, [], ◌∷◌, ◌++◌, length, map, Err, Option, IfOk, OnOk, OnErr};
+ghost use Rattle.std.specs.Prelude.{◌≡◌, ◌<◌, ◌≤◌, ◌↔◌, [], ◌∷◌, ◌++◌, length, map, Err, Option, IfOk, OnOk, OnErr};
 ghost use Rattle.warg_tiles.specs.Tiles.{tile_end};
 ghost use Rattle.warg_tiles.specs.TileData.{IsTileBy, LacksOf, digest_by};
 

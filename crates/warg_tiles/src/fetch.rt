@@ -1,6 +1,6 @@
 //! The tiles to fetch for a proof.
 
-ghost use Rattle.std.specs.Prelude.{◌≡◌, ◌≢◌, ℕ, ◌*◌, ◌^◌, ◌<◌, ◌≤◌, ◌∷◌, true, map, IfOk, OnOk};
+ghost use Rattle.std.specs.Prelude.{◌≡◌, ◌*◌, ◌<◌, ◌≤◌, ◌∷◌, true, map, IfOk, OnOk};
 ghost use Rattle.std.specs.List.{AllByRecursion};
 ghost use Rattle.warg_log.specs.Nodes.{ExistsAt};
 ghost use Rattle.warg_log.specs.Walks.{needed, needed_between};

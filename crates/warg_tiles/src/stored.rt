@@ -1,6 +1,6 @@
 //! Tiles with their digests.
 
-ghost use Rattle.std.specs.Prelude.{◌≡◌, ◌^◌, ◌<◌, ◌≤◌, List, length, Option};
+ghost use Rattle.std.specs.Prelude.{◌≡◌, ◌<◌, length, Option};
 ghost use Rattle.warg_tiles.specs.TileData.{digest_of};
 
 use crate::root::root_over;

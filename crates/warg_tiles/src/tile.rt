@@ -1,9 +1,9 @@
 //! Tiles of a log's tree.
 
-ghost use Rattle.std.specs.Prelude.{◌≡◌, ◌*◌, ◌^◌, ◌<◌, ◌≤◌, ◌↔◌, ◌==◌, ◌&&◌, nat_le, map, IsTrue, IfOk};
+ghost use Rattle.std.specs.Prelude.{◌≡◌, ◌*◌, ◌<◌, ◌≤◌, ◌↔◌, ◌==◌, ◌&&◌, nat_le, map, IsTrue, IfOk};
 ghost use Rattle.std.specs.List.{range_with_len};
-ghost use Rattle.warg_log.specs.Nodes.{height_of, place_of};
-ghost use Rattle.warg_tiles.specs.Tiles.{IsTile, node_in, tile_end, tile_over};
+ghost use Rattle.warg_log.specs.Nodes.{place_of};
+ghost use Rattle.warg_tiles.specs.Tiles.{node_in, tile_end, tile_over};
 
 use std::alloc::{AllocError, Allocator};
 use std::marker::Model;

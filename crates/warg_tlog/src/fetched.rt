@@ -1,6 +1,6 @@
 //! Tiles that were read for a proof.
 
-ghost use Rattle.std.specs.Prelude.{◌≡◌, ◌^◌, ◌<◌, ◌≤◌};
+ghost use Rattle.std.specs.Prelude.{◌≡◌, ◌<◌, ◌≤◌};
 
 use crate::folder::Folder;
 use crate::refusal::Refusal;

@@ -1,6 +1,6 @@
 //! The commands that make paths out of the folder's tiles.
 
-ghost use Rattle.std.specs.Prelude.{◌≡◌, ◌^◌, ◌<◌, ◌≤◌, Some, IfSome};
+ghost use Rattle.std.specs.Prelude.{◌≡◌, ◌<◌, ◌≤◌, Some, IfSome};
 ghost use Rattle.warg_crypto.specs.Digests.{sha256};
 ghost use Rattle.warg_paths.specs.Paths.{consistency_roots};
 

@@ -1,10 +1,11 @@
 //! The words of a line, and what they spell.
 
-ghost use Rattle.std.specs.Prelude.{◌≤◌, ◌^◌};
+ghost use Rattle.std.specs.Prelude.{◌≤◌};
+ghost use Rattle.warg_log.specs.declared.log.TheConstants.{GREATEST_LENGTH};
 
 use std::alloc::{AllocError, AllocFailed, Global};
 use warg_crypto::Hash;
-use warg_log::Node;
+use warg_log::{GREATEST_LENGTH, Node};
 
 /// Why a line has no answer of its own.
 #[derive(Drop)]
@@ -148,13 +149,13 @@ impl Given for Node {
 #[derive(Drop)]
 pub(crate) struct Length {
     pub(crate) value: usize,
-    ghost most: { value ≤ 2 ^ 63 },
+    ghost most: { value ≤ GREATEST_LENGTH },
 }
 
 impl Given for Length {
     fn read(words: &mut Words<'_>) -> Result<Length, Fault> {
         let value = number(words.next()?)?;
-        if value > 1 << 63 {
+        if value > GREATEST_LENGTH {
             return Err(Fault::BadCall);
         }
         Ok(Length { value })

@@ -1,7 +1,7 @@
 -- Where two evaluations part that go up side by side, and what that shows.
-use Rattle.std.proofs.Common.{◌≡◌, ℕ, Bool, true, false, cond, List, length, Option, Some, ◌⊎◌, inl, inr, refl, sym, ◌∙◌, arith}
+use Rattle.std.proofs.Common.{◌≡◌, ℕ, Bool, true, false, List, length, Option, Some, ◌⊎◌, inl, inr, refl, sym, ◌∙◌}
 use Rattle.warg_crypto.proofs.ForCallers.{branch_parts, same_or_not}
-use Rattle.warg_crypto.specs.Tree.{branch_input, input_beside}
+use Rattle.warg_crypto.specs.Tree.{input_beside}
 use Rattle.warg_log.specs.Cut.{joined}
 use Rattle.warg_witness.specs.Private.Climbs.{DivergesUp, IsUp}
 use Rattle.warg_witness.specs.Private.Divergence.{Parts, Shows, inputs_of}
@@ -19,28 +19,23 @@ pub shown : {D : Type 0} {H : List ℕ → List ℕ} {P Q : List ℕ → List �
 shown Target placed first second meet is = meet is
 shown (Branch branches) placed first second meet is = record { collides = is.collides; placed = placed _ _ is.placed }
 
--- a step up, with the digests on both sides of each branch
-pub up_is : {D : Type 0} {H : List ℕ → List ℕ} (b : Bool) {x u y v d e : List ℕ} {p q : Divergence D} {sides : (List ℕ × List ℕ) × (List ℕ × List ℕ)} → sides ≡ cond b ((u, x), (v, y)) ((x, u), (y, v))
-    → d ≡ H (branch_input sides.0.0 sides.0.1) → e ≡ H (branch_input sides.1.0 sides.1.1) → length sides.0.0 ≡ length sides.1.0
-    → ((sides.0 ≡ sides.1) × (q ≡ p)) ⊎ ((sides.0 ≡ sides.1 → ⊥) × (q ≡ Branch (record { first = sides.0; second = sides.1 }))) → IsUp H b x u y v p d e q
-up_is true is d_is e_is sizes ends = grind (arith, branch_parts)
-up_is false is d_is e_is sizes ends = grind (arith, branch_parts)
+-- two branches are one where their digests are
+beside_parts : (b : Bool) {x u y v : List ℕ} → length x ≡ length y → length u ≡ length v → input_beside b u x ≡ input_beside b v y → (x ≡ y) × (u ≡ v)
+beside_parts true sizes others same = let parts = branch_parts _ _ _ _ others same in (parts.1, parts.0)
+beside_parts false sizes others same = branch_parts _ _ _ _ sizes same
+
+-- a step up, by which of the digests are the same
+pub diverges_up : {D : Type 0} (b : Bool) {x u y v : List ℕ} {p q : Divergence D} → length x ≡ length y → length u ≡ length v
+    → ((x ≡ y) × (u ≡ v) × (q ≡ p)) ⊎ ((x ≡ y → u ≡ v → ⊥) × (q ≡ Branch (record { right = b; first = x; first_beside = u; second = y; second_beside = v }))) → DivergesUp b x u y v p q
+diverges_up b sizes others ends = elim ends [ inl same ↦ inl same | inr other ↦ inr (λ e. let parts = beside_parts b sizes others e in other.0 parts.0 parts.1, other.1) ]
 
 -- a step from digests of one length, with digests of one length beside them
 pub up_somewhere : {D : Type 0} {H : List ℕ → List ℕ} (b : Bool) {x u y v : List ℕ} (p : Divergence D) → length x ≡ length y → length u ≡ length v
     → (q : Divergence D) × IsUp H b x u y v p (H (input_beside b u x)) (H (input_beside b v y)) q
 up_somewhere b {x} {u} {y} {v} p sizes others = elim (same_or_not (input_beside b u x) (input_beside b v y)) [
-  | inl same ↦ (p, record { first_is = refl; second_is = refl; diverges = below b (branch_parts _ _ _ _ (size b) same) })
+  | inl same ↦ let parts = beside_parts b sizes others same in (p, record { first_is = refl; second_is = refl; diverges = inl (parts.0, parts.1, refl) })
   | inr differ ↦ (_, record { first_is = refl; second_is = refl; diverges = inr (differ, refl) })
 ]
-  where
-    size : (b : Bool) → length (cond b u x) ≡ length (cond b v y)
-    size true = others
-    size false = sizes
-
-    below : (b : Bool) → (cond b u x ≡ cond b v y) × (cond b x u ≡ cond b y v) → DivergesUp b x u y v p p
-    below true same = inl (same.1, same.0, refl)
-    below false same = inl (same.0, same.1, refl)
 
 -- where two evaluations come to one digest they part below, from one digest and with one beside it, or at the branches here
 pub up_parts : {D : Type 0} {H : List ℕ → List ℕ} {b : Bool} {x u y v d e : List ℕ} {p q : Divergence D} (P : List ℕ → List ℕ → Type 0) (A : Type 0) → IsUp H b x u y v p d e q

@@ -1,9 +1,9 @@
 -- Evaluations over the ranges of a log's tree: one, two side by side, and that of the tree over entries.
-use Rattle.std.proofs.Common.{◌≡◌, ℕ, ◌+◌, ◌-◌, ◌<◌, ◌≤◌, Bool, true, false, List, ◌∷◌, length, Option, Some, inl, inr, refl, sym, ap, ◌∙◌, arith}
+use Rattle.std.proofs.Common.{◌≡◌, ℕ, ◌+◌, ◌-◌, ◌<◌, ◌≤◌, Bool, true, false, List, ◌∷◌, length, Option, Some, refl, sym, ap, ◌∙◌, arith}
 use Rattle.std.proofs.Math.Seq.{take-length}
 use Rattle.std.proofs.lemmas.List.{length-map, get_or-map}
 use Rattle.std.proofs.lemmas.Bool.Decides.{nat_tests}
-use Rattle.warg_crypto.specs.Tree.{branch_input, input_beside, where_both}
+use Rattle.warg_crypto.specs.Tree.{input_beside}
 use Rattle.warg_log.specs.Tree.{front_of, leaves_of, root_of, root_over, own_digest}
 use Rattle.warg_log.specs.Cut.{with_target, with_own, joined, cut_over}
 use Rattle.warg_log.specs.Ranges.{leaves_from, IsAligned}
@@ -18,7 +18,7 @@ use Rattle.warg_witness.specs.Private.Ranges.{AreSides}
 use Rattle.warg_witness.specs.declared.divergence.Divergence.{Divergence}
 use Rattle.warg_witness.specs.declared.divergence.Divergence.TheVariants.{Target}
 use Rattle.warg_witness.proofs.ClimbLemmas.{parts_placed, up_parts, both_there}
-use Rattle.warg_witness.proofs.RangeLemmas.{Digest, Data, wider, near_side, side_is_part, IsPart-trans, whole_aligned, side_aligned, part_in}
+use Rattle.warg_witness.proofs.RangeLemmas.{Digest, Data, wider, sides_part, IsPart-trans, whole_aligned, front_aligned, rest_aligned, part_in}
 
 -- both evaluations at the target
 pub ranges_start : {D : Type 0} {H : Digest} {F : Data} {x : List ℕ} {G : Data} {y : List ℕ} {s w a n : ℕ} {first second : List ℕ} {p : Divergence D} → a ≡ s → n ≡ w → first ≡ x → second ≡ y → p ≡ Target
@@ -28,11 +28,6 @@ ranges_start {D} {H} {F} {x} {G} {y} {s} {w} from count first second target = rw
   second_is = cut_target H (with_target G (leaves_from s w) y);
   diverges = λ same. record { same = same; part = whole };
 })
-
--- a branch is the digest of its input
-joined_input : (H : Digest) (left right : Option (List ℕ)) (i : List ℕ) → where_both branch_input left right ≡ Some i → joined H left right ≡ Some (H i)
-joined_input H (Some l) (Some r) i is = grind arith
-joined_input H _ _ i is = absurd (cc)
 
 module _ (H : Digest) {s w a n : ℕ} (some : 0 < w) (around : IsAround s w a n) (other : a ≡ s → n ≡ w → ⊥) where
   module _ (F : Data) (x : List ℕ) where
@@ -53,14 +48,12 @@ module _ (H : Digest) {s w a n : ℕ} (some : 0 < w) (around : IsAround s w a n)
         let parts = both_there H _ _ _ (sym cut_around ∙ is) in (parts.1, parts.0, rw (sides.start, sides.count) parts.3, rw (sides.other_start, sides.other_count) parts.2)
 
     -- and those at the sides make the range's input and its digest
-    sides_input : {right : Bool} {b m c k : ℕ} {t u : List ℕ} → AreSides right a n b m c k → root_at b m ≡ Some t → root_at c k ≡ Some u
-        → cut_input H (with_target F (leaves_from s w) x) (leaves_from a n) ≡ Some (input_beside right u t)
-    sides_input {right = false} sides near far = rw (rw (sides.start, sides.count) at near, rw (sides.other_start, sides.other_count) at far)
-    sides_input {right = true} sides near far = rw (rw (sides.start, sides.count) at near, rw (sides.other_start, sides.other_count) at far)
-
-    sides_root : {right : Bool} {b m c k : ℕ} {t u : List ℕ} → AreSides right a n b m c k → root_at b m ≡ Some t → root_at c k ≡ Some u
-        → root_at a n ≡ Some (H (input_beside right u t))
-    sides_root sides near far = cut_around ∙ joined_input H _ _ _ (sides_input sides near far)
+    sides_made : {right : Bool} {b m c k : ℕ} {t u : List ℕ} → AreSides right a n b m c k → root_at b m ≡ Some t → root_at c k ≡ Some u
+        → (cut_input H (with_target F (leaves_from s w) x) (leaves_from a n) ≡ Some (input_beside right u t)) × (root_at a n ≡ Some (H (input_beside right u t)))
+    sides_made {right = false} sides near far =
+        let one = rw (sides.start, sides.count) at near in let other = rw (sides.other_start, sides.other_count) at far in (rw (one, other) refl, cut_around ∙ rw (one, other) refl)
+    sides_made {right = true} sides near far =
+        let one = rw (sides.start, sides.count) at near in let other = rw (sides.other_start, sides.other_count) at far in (rw (one, other) refl, cut_around ∙ rw (one, other) refl)
 
   module _ (F : Data) (x : List ℕ) (G : Data) (y : List ℕ) {right : Bool} {b m c k : ℕ} (sides : AreSides right a n b m c k) where
     -- where a digest lacks at a side, one lacks at the range
@@ -71,13 +64,15 @@ module _ (H : Digest) {s w a n : ℕ} (some : 0 < w) (around : IsAround s w a n)
     pub ranges_up : {D : Type 0} {t u z v d e : List ℕ} {p q : Divergence D} → IsRangeClimb H F x G y s w b m t z p → root_at F x c k ≡ Some u → root_at G y c k ≡ Some v
         → IsUp H right t u z v p d e q → IsRangeClimb H F x G y s w a n d e q
     ranges_up {p = p} climb far other_far up =
-        let more = wider around other in record {
-          first_is = sides_root F x sides climb.first_is far ∙ ap Some (sym up.first_is);
-          second_is = sides_root G y sides climb.second_is other_far ∙ ap Some (sym up.second_is);
+        let more = wider around other in
+        let first = sides_made F x sides climb.first_is far in
+        let second = sides_made G y sides climb.second_is other_far in record {
+          first_is = first.1 ∙ ap Some (sym up.first_is);
+          second_is = second.1 ∙ ap Some (sym up.second_is);
           diverges = up_parts (DivergesAt H F x G y s w a n) (MeetAt x y s w a n) up
-              (λ same _. let outer = side_is_part b m whole (omega arith) (near_side sides) in
+              (λ same _. let outer = sides_part sides whole (omega arith) in
               parts_placed H p (λ _ _ is. search (IsPart-trans, outer, is)) (λ is. search (IsPart-trans, outer, is)) (climb.diverges same))
-              (search (whole, around, other, sides_input F x sides climb.first_is far, sides_input G y sides climb.second_is other_far));
+              (search (whole, around, other, first.0, second.0));
         }
 
 -- the leaves are as many as the entries
@@ -125,8 +120,8 @@ module _ (H : Digest) where
       let at = part_in part in
       let f = front_is_greatest n more in
       let len = leaves_count H entries in
-      let left = own_cut (leaves_of H entries) s w (side_aligned a (front_of n) at.1 more (inl (refl, refl))) (omega arith) (omega arith) in
-      let right = own_cut (leaves_of H entries) s w (side_aligned (a + front_of n) (n - front_of n) at.1 more (inr (refl, refl))) (omega arith) (omega arith) in grind (arith, nat_tests)
+      let left = own_cut (leaves_of H entries) s w {n = front_of n} (front_aligned at.1 (omega arith)) (omega arith) (omega arith) in
+      let right = own_cut (leaves_of H entries) s w (rest_aligned at.1 more) (omega arith) (omega arith) in grind (arith, nat_tests)
 
   pub own_second : {F : Data} {x : List ℕ} (entries ds : List (List ℕ)) {s w : ℕ} {first second : List ℕ} → ds ≡ leaves_of H entries → 0 < w → (diverges : DivergesFrom H F x ds s w first second)
       → IsPart 0 (length entries) diverges.from diverges.count × (second ≡ plain_input H entries diverges.from diverges.count)

@@ -1,12 +1,10 @@
 -- A consistency path beside the trees over the old and the new entries, on its way up.
-use Rattle.std.proofs.Common.{◌≡◌, ℕ, Bool, ◌+◌, ◌-◌, ◌<◌, ◌≤◌, ◌↔◌, true, false, List, [], ◌∷◌, length, map, reverse, get_or, Option, Some, None, inl, inr, refl, sym, ap, ◌∙◌, arith}
+use Rattle.std.proofs.Common.{◌≡◌, ℕ, ◌+◌, ◌-◌, ◌<◌, ◌≤◌, ◌↔◌, true, false, List, [], ◌∷◌, length, reverse, get_or, Option, Some, None, inl, inr, refl, sym, ap, ◌∙◌, arith, rules}
 use Rattle.std.specs.Option.{is_some}
 use Rattle.std.proofs.lemmas.Nat.{pow_pos}
-use Rattle.std.proofs.lemmas.List.{length-map}
 use Rattle.std.proofs.lemmas.Bool.{lt-leb, le-leb, lt-ltb, ne_eqb}
-use Rattle.warg_crypto.specs.Tree.{branch_input, input_beside}
 use Rattle.warg_log.specs.Tree.{front_of, leaves_of, root_of, root_over, own_digest}
-use Rattle.warg_log.proofs.ForCallers.{front_is_greatest, front_of_is, root_over_parts}
+use Rattle.warg_log.proofs.ForCallers.{front_is_greatest, front_of_is}
 use Rattle.warg_paths.specs.Paths.{roots_down, consistency_roots, subproof_roots, one_root, twice, grown, both_over}
 use Rattle.warg_paths.proofs.ForCallers.{both_one, both_short, both_front, both_rest}
 use Rattle.warg_witness.specs.Ranges.{IsPart, IsAround}
@@ -16,15 +14,16 @@ use Rattle.warg_witness.specs.TreePlaced.{IsOnGrowth, IsTurn, IsTreePlaced, old_
 use Rattle.warg_witness.specs.TreePlaced.IsOnGrowth.{whole, front, rest}
 use Rattle.warg_witness.specs.Private.Compared.{DiffersFirst}
 use Rattle.warg_witness.specs.Private.Divergence.{IsDivergence, Shows, inputs_of}
-use Rattle.warg_witness.specs.Private.PathDivergence.{tree_input}
+use Rattle.warg_witness.specs.Private.PathDivergence.{tree_input, IsBeside}
+use Rattle.warg_witness.specs.Private.Ranges.{AreSides}
 use Rattle.warg_witness.specs.Private.Climbs.{IsUp}
-use Rattle.warg_witness.specs.Private.TreeDivergence.{IsTreeMeeting, LeadsOver, IsOnWayOver, IsTreeDivergence, PartsOnGrowth, IsGrowth}
+use Rattle.warg_witness.specs.Private.TreeDivergence.{IsTreeMeeting, LeadsOver, IsTreeDivergence, PlacedOnGrowth, IsGrowth}
 use Rattle.warg_witness.specs.declared.divergence.Divergence.{Divergence}
 use Rattle.warg_witness.specs.declared.divergence.Divergence.TheVariants.{Target}
-use Rattle.warg_witness.proofs.ClimbLemmas.{parts_placed, up_parts}
+use Rattle.warg_witness.proofs.ClimbLemmas.{parts_placed}
 use Rattle.warg_witness.proofs.RangeLemmas.{Digest, IsPart-trans}
-use Rattle.warg_witness.proofs.ShownLemmas.{both_shown, read_shown}
-use Rattle.warg_witness.proofs.RecordLemmas.{whole_root}
+use Rattle.warg_witness.proofs.ShownLemmas.{both_shown}
+use Rattle.warg_witness.proofs.RecordLemmas.{plain_root, beside_up}
 
 -- two roots are the same one by one
 pair_parts : (p q : List ℕ × List ℕ) → Some p ≡ Some q → (p.0 ≡ q.0) × (p.1 ≡ q.1)
@@ -59,18 +58,6 @@ same_front m n more high order =
 pub front_some : (n : ℕ) → 1 < n → 0 < front_of n
 front_some n more = let f = front_is_greatest n more in rw f.0.1 (pow_pos f.0.0)
 
--- a range on the way and its old leaves are parts of both logs
-pub growth_parts : {known₀ : Option (List ℕ)} {m₀ n₀ : ℕ} {ds₀ : List (List ℕ)} {known : Option (List ℕ)} {m a n : ℕ} {ds : List (List ℕ)} → IsOnGrowth known₀ m₀ n₀ ds₀ known m a n ds → 0 < m
-    → IsPart 0 m₀ a m × IsPart 0 n₀ a n
-growth_parts whole some = (part_whole, part_whole)
-growth_parts (front known m a n top below outer more low) some = let parts = growth_parts outer some in (parts.0, part_front a n parts.1 (omega arith))
-growth_parts (rest known m a n top below outer more high) some =
-    let parts = growth_parts outer (omega arith) in
-    let wide : 1 < n = omega arith in
-    let split = front_some n wide in
-    let old_part = part_rest a m parts.0 (omega arith) in
-    (rw (same_front m n wide high (omega arith)) at old_part, part_rest a n parts.1 wide)
-
 -- where both lengths are one, so are the roots to which a path leads
 both_same : (H : Digest) (known : Option (List ℕ)) (n : ℕ) (path : List (List ℕ)) (r r' : List ℕ) → roots_down H known n n (reverse path) ≡ Some (r, r') → r ≡ r'
 both_same H known n path r r' leads = one (one_root known path) (sym (both_one H known n path) ∙ leads)
@@ -91,14 +78,12 @@ growth_starts H old_tree new_tree place known m a n path {r = r} {r' = r'} all a
     let same : r ≡ r' = both_same H known n path r r' (rw all at leads) in
     rw (range.0, range.1, first.0, first.1, targets.0, targets.1, all) (record {
       roots = rw all at leads ∙ ap (λ z. Some (r, z)) (sym same);
-      old_is = old_is;
-      new_is = new_is;
       around = rw all at around;
       old_part = part_whole;
       new_part = part_whole;
       digest = r;
-      old_parts = λ e. e ∙ old_is;
-      new_parts = λ e. e ∙ new_is;
+      old = record { is = old_is; parts = λ e. e ∙ old_is };
+      new = record { is = new_is; parts = λ e. e ∙ new_is };
     })
 
 -- at a range, not all of whose leaves are old
@@ -112,124 +97,112 @@ module _ (H : Digest) (known : Option (List ℕ)) (m n : ℕ) (top : List ℕ) (
   rest_turn high = rw (ne_eqb m n (λ e. omega arith), lt-leb m (front_of n) high) refl
 
 module _ (H : Digest) (old_tree new_tree : List (List ℕ)) (place : ℕ) (known : Option (List ℕ)) (m a n : ℕ) (top : List ℕ) (below : List (List ℕ)) (some : 0 < m) (more : m < n) where
-  -- Where a collision at the range stands, of all entries and all paths for which it is on the way.
-  abbrev Placed : List ℕ → List ℕ → Type 0
-  Placed first second = (path old new : List (List ℕ)) → IsOnWayOver H path old new old_tree new_tree place known m a n (top ∷ below) → IsTreePlaced H path old new first second
-
-  -- what parts below parts here
-  widened : {D : Type 0} {known' : Option (List ℕ)} {m' a' n' : ℕ} (x y : List ℕ) (p : Divergence D)
-      → ((known₀ : Option (List ℕ)) (m₀ n₀ : ℕ) (ds₀ : List (List ℕ)) → IsOnGrowth known₀ m₀ n₀ ds₀ known m a n (top ∷ below) → IsOnGrowth known₀ m₀ n₀ ds₀ known' m' a' n' below)
-      → PartsOnGrowth H old_tree new_tree place known' m' a' n' below x y p → PartsOnGrowth H old_tree new_tree place known m a n (top ∷ below) x y p
-  widened x y p down = parts_placed H p
-      (λ first second is path old new way. is path old new (record { old_is = way.old_is; new_is = way.new_is; differ = way.differ; on_way = down _ _ _ _ way.on_way })) (λ same. same)
+  -- what stands below stands here
+  widened : {known' : Option (List ℕ)} {m' a' n' : ℕ} → ((known₀ : Option (List ℕ)) (m₀ n₀ : ℕ) (ds₀ : List (List ℕ)) → IsOnGrowth known₀ m₀ n₀ ds₀ known m a n (top ∷ below) → IsOnGrowth known₀ m₀ n₀ ds₀ known' m' a' n' below)
+      → IsPart a m a' m' → IsPart a n a' n'
+      → (first second : List ℕ) → PlacedOnGrowth H old_tree new_tree place known' m' a' n' below first second → PlacedOnGrowth H old_tree new_tree place known m a n (top ∷ below) first second
+  widened down old_part new_part first second is path old new way = is path old new (record {
+    old_is = way.old_is;
+    new_is = way.new_is;
+    differ = way.differ;
+    on_way = down _ _ _ _ way.on_way;
+    old_part = IsPart-trans way.old_part old_part;
+    new_part = IsPart-trans way.new_part new_part;
+  })
 
   -- where inputs of the evaluation and of a tree at the range stand
-  old_here : {i j : List ℕ} → front_of n < m → old_turn_input H m n top below ≡ Some i → j ≡ tree_input H old_tree a m → (path old new : List (List ℕ))
-      → IsOnWayOver H path old new old_tree new_tree place known m a n (top ∷ below) → IsTreePlaced H path old new i j
+  old_here : {i j : List ℕ} → front_of n < m → old_turn_input H m n top below ≡ Some i → j ≡ tree_input H old_tree a m → PlacedOnGrowth H old_tree new_tree place known m a n (top ∷ below) i j
   old_here high evaluation plain path old new way =
       let split = front_some n (omega arith) in
       let is = plain ∙ plain_is H old old_tree a m way.old_is (omega arith) in
       let turn : IsTurn H path old new known m a n top below = record { on_way = way.on_way; more = more } in inl (search (turn, high, evaluation, is))
 
-  new_here : {i j : List ℕ} → new_turn_input H known m n top below ≡ Some i → j ≡ tree_input H new_tree a n → (path old new : List (List ℕ))
-      → IsOnWayOver H path old new old_tree new_tree place known m a n (top ∷ below) → IsTreePlaced H path old new i j
-  new_here evaluation plain path old new way =
-      let is = plain ∙ plain_is H new new_tree a n way.new_is (omega arith) in inr (inl (search (way, more, evaluation, is)))
+  new_here : {i j : List ℕ} → new_turn_input H known m n top below ≡ Some i → j ≡ tree_input H new_tree a n → PlacedOnGrowth H old_tree new_tree place known m a n (top ∷ below) i j
+  new_here evaluation plain path old new way = let is = plain ∙ plain_is H new new_tree a n way.new_is (omega arith) in inr (inl (search (way, more, evaluation, is)))
 
   module _ (in_old : a + m ≤ length old_tree) (in_new : a + n ≤ length new_tree) where
     -- up from the first part
     pub front_up : {D : Type 0} {b k : ℕ} {o o' v v' z w w' : List ℕ} {p q q' : Divergence D} → m ≤ front_of n → IsGrowth H old_tree new_tree place known m a (front_of n) below b k o o' p v v' q → z ≡ root_over H new_tree (a + front_of n) (n - front_of n)
         → IsUp H false v top v' z q w w' q' → IsGrowth H old_tree new_tree place known m a n (top ∷ below) b k o o' p w w' q'
-    front_up {b = b} {k = k} {v' = v'} {z = z} {p = p} {q = q} low growth z_is up =
-        let plain : input_beside false z v' ≡ tree_input H new_tree a n = rw (z_is, growth.new_is) refl in record {
+    front_up {p = p} low growth z_is up =
+        let new_part = part_front a n part_whole (omega arith) in
+        let down = widened (λ _ _ _ _ way. front _ _ _ _ _ _ way more low) part_whole new_part in record {
           roots = front_turn H known m n top below more low ∙ ap (λ roots. grown H roots top) growth.roots ∙ rw up.first_is refl;
-          old_is = growth.old_is;
-          new_is = up.second_is ∙ ap H plain ∙ sym (root_over_parts H new_tree a n (omega arith) in_new);
           around = growth.around;
           old_part = growth.old_part;
-          new_part = IsPart-trans (part_front a n part_whole (omega arith)) growth.new_part;
+          new_part = IsPart-trans new_part growth.new_part;
           digest = growth.digest;
-          old_parts = λ e. widened _ _ p (λ _ _ _ _ way. front _ _ _ _ _ _ way more low) (growth.old_parts e);
-          new_parts = up_parts Placed (growth.digest ≡ root_over H new_tree b k) up
-              (λ same _. widened _ _ q (λ _ _ _ _ way. front _ _ _ _ _ _ way more low) (growth.new_parts same)) (new_here (rw (le-leb m (front_of n) low, growth.roots) refl) plain);
+          old = record { is = growth.old.is; parts = λ same. parts_placed H p down (λ meets. meets) (growth.old.parts same) };
+          new = beside_up new_tree (omega arith) in_new (search rules) growth.new z_is up down (λ meets. meets) (new_here (rw (le-leb m (front_of n) low, growth.roots) refl));
         }
 
-    -- up where the old leaves end in the rest, with the roots there
-    module _ (high : front_of n < m) {o v : List ℕ} (led : roots_down H None (m - front_of n) (n - front_of n) below ≡ Some (o, v)) where
+    -- where the old leaves end in the rest
+    module _ (high : front_of n < m) where
       split : front_of m ≡ front_of n
       split = same_front m n (omega arith) high (omega arith)
 
       old_wide : 1 < m
       old_wide = let f = front_some n (omega arith) in omega arith
 
-      over : {D : Type 0} {b k : ℕ} {x f y g x' f' y' g' : List ℕ} {bit : Bool} {u u' w w' : List ℕ} {p p' q q' : Divergence D} (digest : List ℕ) → IsAround place 1 b k → IsPart a m b k → IsPart a n b k
-          → IsUp H bit x f y g p u u' p' → input_beside bit f x ≡ branch_input top o → input_beside bit g y ≡ tree_input H old_tree a m
-          → (x ≡ y → PartsOnGrowth H old_tree new_tree place known m a n (top ∷ below) digest (root_over H old_tree b k) p)
-          → IsUp H bit x' f' y' g' q w w' q' → input_beside bit f' x' ≡ branch_input top v → input_beside bit g' y' ≡ tree_input H new_tree a n
-          → (x' ≡ y' → PartsOnGrowth H old_tree new_tree place known m a n (top ∷ below) digest (root_over H new_tree b k) q)
-          → IsGrowth H old_tree new_tree place known m a n (top ∷ below) b k u u' p' w w' q'
-      over {b = b} {k = k} digest around old_part new_part old_up old_first old_second old_parts new_up new_first new_second new_parts = record {
-        roots = rest_turn H known m n top below more high ∙ ap (both_over H top) led ∙ rw (old_up.first_is, new_up.first_is, old_first, new_first) refl;
-        old_is = old_up.second_is ∙ ap H old_second ∙ sym (root_over_parts H old_tree a m old_wide in_old);
-        new_is = new_up.second_is ∙ ap H new_second ∙ sym (root_over_parts H new_tree a n (omega arith) in_new);
-        around = around;
-        old_part = old_part;
-        new_part = new_part;
-        digest = digest;
-        old_parts = up_parts Placed (digest ≡ root_over H old_tree b k) old_up (λ same _. old_parts same)
-            (old_here high (rw led (ap Some (sym old_first))) old_second);
-        new_parts = up_parts Placed (digest ≡ root_over H new_tree b k) new_up (λ same _. new_parts same)
-            (new_here (rw (lt-leb m (front_of n) high, led) (ap Some (sym new_first))) new_second);
-      }
+      -- up from there
+      pub rest_up : {D : Type 0} {b k : ℕ} {o o' v v' y z u u' w w' : List ℕ} {p p' q q' : Divergence D}
+          → IsGrowth H old_tree new_tree place None (m - front_of n) (a + front_of n) (n - front_of n) below b k o o' p v v' q → y ≡ root_over H old_tree a (front_of n) → z ≡ root_over H new_tree a (front_of n)
+          → IsUp H true o top o' y p u u' p' → IsUp H true v top v' z q w w' q' → IsGrowth H old_tree new_tree place known m a n (top ∷ below) b k u u' p' w w' q'
+      rest_up growth y_is z_is old_up new_up =
+          let old_part = rw split at (part_rest a m part_whole old_wide) in
+          let new_part = part_rest a n part_whole (omega arith) in
+          let down = widened (λ _ _ _ _ way. rest _ _ _ _ _ _ way more high) old_part new_part in
+          let sides : AreSides true a m (a + front_of n) (m - front_of n) a (front_of n) = rw (← split) (search rules) in record {
+            roots = rest_turn H known m n top below more high ∙ ap (both_over H top) growth.roots ∙ rw (old_up.first_is, new_up.first_is) refl;
+            around = growth.around;
+            old_part = IsPart-trans old_part growth.old_part;
+            new_part = IsPart-trans new_part growth.new_part;
+            digest = growth.digest;
+            old = beside_up old_tree old_wide in_old sides growth.old y_is old_up down (λ meets. meets) (old_here high (rw growth.roots refl));
+            new = beside_up new_tree (omega arith) in_new (search rules) growth.new z_is new_up down (λ meets. meets) (new_here (rw (lt-leb m (front_of n) high, growth.roots) refl));
+          }
 
-    -- from there
-    pub rest_up : {D : Type 0} {b k : ℕ} {o o' v v' y z u u' w w' : List ℕ} {p p' q q' : Divergence D} (high : front_of n < m)
-        → IsGrowth H old_tree new_tree place None (m - front_of n) (a + front_of n) (n - front_of n) below b k o o' p v v' q → y ≡ root_over H old_tree a (front_of n) → z ≡ root_over H new_tree a (front_of n)
-        → IsUp H true o top o' y p u u' p' → IsUp H true v top v' z q w w' q' → IsGrowth H old_tree new_tree place known m a n (top ∷ below) b k u u' p' w w' q'
-    rest_up {p = p} {q = q} high growth y_is z_is old_up new_up =
-        let split = split high growth.roots in
-        over high growth.roots growth.digest growth.around (IsPart-trans (rw split at (part_rest a m part_whole (old_wide high growth.roots))) growth.old_part) (IsPart-trans (part_rest a n part_whole (omega arith)) growth.new_part)
-        old_up refl (rw (y_is, growth.old_is, split) refl) (λ same. widened _ _ p (λ _ _ _ _ way. rest _ _ _ _ _ _ way more high) (growth.old_parts same))
-        new_up refl (rw (z_is, growth.new_is) refl) (λ same. widened _ _ q (λ _ _ _ _ way. rest _ _ _ _ _ _ way more high) (growth.new_parts same))
-
-    -- from the first part, which both trees share
-    pub shared_up : {D : Type 0} {o v y z u u' w w' : List ℕ} {p' q' : Divergence D} (high : front_of n < m) (led : roots_down H None (m - front_of n) (n - front_of n) below ≡ Some (o, v)) → IsAround place 1 a (front_of n)
-        → y ≡ root_over H old_tree (a + front_of n) (m - front_of n) → z ≡ root_over H new_tree (a + front_of n) (n - front_of n)
-        → IsUp H false top o (root_over H old_tree a (front_of n)) y Target u u' p' → IsUp H false top v (root_over H new_tree a (front_of n)) z Target w w' q' → IsGrowth H old_tree new_tree place known m a n (top ∷ below) a (front_of n) u u' p' w w' q'
-    shared_up high led around y_is z_is old_up new_up =
-        let split = split high led in
-        over high led top around (rw split at (part_front a m part_whole (old_wide high led))) (part_front a n part_whole (omega arith)) old_up refl (rw (y_is, split) refl) (λ same. same) new_up refl (rw z_is refl) (λ same. same)
+      -- up from the first part, which both trees share
+      pub shared_up : {D : Type 0} {o v y z u u' w w' : List ℕ} {p' q' : Divergence D} (led : roots_down H None (m - front_of n) (n - front_of n) below ≡ Some (o, v)) → IsAround place 1 a (front_of n)
+          → y ≡ root_over H old_tree (a + front_of n) (m - front_of n) → z ≡ root_over H new_tree (a + front_of n) (n - front_of n)
+          → IsUp H false top o (root_over H old_tree a (front_of n)) y Target u u' p' → IsUp H false top v (root_over H new_tree a (front_of n)) z Target w w' q' → IsGrowth H old_tree new_tree place known m a n (top ∷ below) a (front_of n) u u' p' w w' q'
+      shared_up led around y_is z_is old_up new_up =
+          let sides : AreSides false a m a (front_of n) (a + front_of n) (m - front_of n) = rw (← split) (search rules) in record {
+            roots = rest_turn H known m n top below more high ∙ ap (both_over H top) led ∙ rw (old_up.first_is, new_up.first_is) refl;
+            around = around;
+            old_part = rw split at (part_front a m part_whole old_wide);
+            new_part = part_front a n part_whole (omega arith);
+            digest = top;
+            old = beside_up old_tree old_wide in_old sides (shared old_tree) y_is old_up (λ _ _ is. is) (λ meets. meets) (old_here high (rw led refl));
+            new = beside_up new_tree (omega arith) in_new (search rules) (shared new_tree) z_is new_up (λ _ _ is. is) (λ meets. meets) (new_here (rw (lt-leb m (front_of n) high, led) refl));
+          }
+        where
+          shared : {D : Type 0} (tree : List (List ℕ))
+              → IsBeside {D = D} H tree (PlacedOnGrowth H old_tree new_tree place known m a n (top ∷ below)) (top ≡ root_over H tree a (front_of n)) a (front_of n) top (root_over H tree a (front_of n)) Target
+          shared tree = record { is = refl; parts = λ same. same }
 
 -- what a divergence of both trees below a shared range shows
 pub shared_shown : {D E : Type 0} {H : Digest} {old_tree new_tree : List (List ℕ)} {place : ℕ} {known : Option (List ℕ)} {m a n : ℕ} {ds : List (List ℕ)} {b k : ℕ} {o o' v v' : List ℕ} {p q : Divergence D}
-    → IsGrowth H old_tree new_tree place known m a n ds b k o o' p v v' q → 0 < m → (r : Divergence E)
+    → IsGrowth H old_tree new_tree place known m a n ds b k o o' p v v' q → (r : Divergence E)
     → IsDivergence H (own_digest H old_tree) (root_over H old_tree place 1) (own_digest H new_tree) (root_over H new_tree place 1) place 1 b k r → IsTreeDivergence H old_tree new_tree place known m a n ds r
-shared_shown {H = H} {place = place} {b = b} {k = k} growth some r diverges = λ path old new way.
-    let parts = growth_parts way.on_way some in
-    let in_old = IsPart-trans parts.0 growth.old_part in
-    let in_new = IsPart-trans parts.1 growth.new_part in
-    let pair = both_shown H old new place b k in_old in_new r (rw (way.old_is, way.new_is) at diverges) way.differ in
+shared_shown {H = H} {place = place} {b = b} {k = k} growth r diverges = λ path old new way.
+    let pair = both_shown H old new place b k (IsPart-trans way.old_part growth.old_part) (IsPart-trans way.new_part growth.new_part) r (rw (way.old_is, way.new_is) at diverges) way.differ in
     record { collides = pair.collides; placed = inr (inr pair.placed) }
 
--- a path that leads to the roots of the trees over entries leads to them over all leaves, and what a divergence from there shows, of entries that are read
-module _ {V : Type 0} (bytes : V → List ℕ) (H : Digest) (path : List (List ℕ)) (old new : List V) (old_tree new_tree : List (List ℕ))
-    (meeting : IsTreeMeeting H path (map bytes old) (map bytes new) old_tree new_tree) where
-  pub whole_growth : LeadsOver H old_tree new_tree (Some (root_over H old_tree 0 (length old))) (length old) 0 (length new) (reverse path)
+-- a path that leads to the roots of the trees over entries leads to them over all leaves, and what a divergence from there shows
+module _ (H : Digest) (path old new old_tree new_tree : List (List ℕ)) (meeting : IsTreeMeeting H path old new old_tree new_tree) {m n : ℕ} (old_count : length old ≡ m) (new_count : length new ≡ n) where
+  pub whole_growth : LeadsOver H old_tree new_tree (Some (root_over H old_tree 0 m)) m 0 n (reverse path)
   whole_growth =
-      let old_count = length-map old bytes in
-      let new_count = length-map new bytes in
-      rw (meeting.old_is, meeting.new_is, ← old_count, ← new_count, ← whole_root H (map bytes old), ← whole_root H (map bytes new))
-      (sym (subproof_is H (Some (root_of H (leaves_of H (map bytes old)))) _ _ path meeting.some meeting.order) ∙ meeting.met)
+      rw (meeting.old_is, meeting.new_is, ← old_count, ← new_count, plain_root H old, plain_root H new)
+      (sym (subproof_is H (Some (root_of H (leaves_of H old))) _ _ path meeting.some meeting.order) ∙ meeting.met)
 
-  whole_way : IsOnGrowth (Some (root_of H (leaves_of H (map bytes old)))) (length (map bytes old)) (length (map bytes new)) (reverse path) (Some (root_over H old_tree 0 (length old))) (length old) 0 (length new) (reverse path)
-  whole_way =
-      let old_count = length-map old bytes in
-      let new_count = length-map new bytes in
-      rw (meeting.old_is, ← old_count, ← new_count, ← whole_root H (map bytes old)) whole
-
-  pub growth_shown : {D : Type 0} {e d : V} (place : ℕ) (p : Divergence D) → DiffersFirst (map bytes old) (map bytes new) place → e ≡ get_or old place e → d ≡ get_or new place d
-      → IsTreeDivergence H old_tree new_tree place (Some (root_over H old_tree 0 (length old))) (length old) 0 (length new) (reverse path) p
-      → Shows H (IsTreePlaced H path (map bytes old) (map bytes new)) (inputs_of p (0 ∷ bytes e) (0 ∷ bytes d))
-  growth_shown place p differs e_is d_is diverges =
-      read_shown bytes old new p differs (let order = meeting.order in omega (arith, length-map old bytes, length-map new bytes)) e_is d_is
-      (diverges path (map bytes old) (map bytes new) (record { old_is = meeting.old_is; new_is = meeting.new_is; differ = differs.differ; on_way = whole_way }))
+  pub growth_shown : {D : Type 0} (place : ℕ) (p : Divergence D) → DiffersFirst old new place → IsTreeDivergence H old_tree new_tree place (Some (root_over H old_tree 0 m)) m 0 n (reverse path) p
+      → Shows H (IsTreePlaced H path old new) (inputs_of p (0 ∷ get_or old place []) (0 ∷ get_or new place []))
+  growth_shown place p differs diverges = diverges path old new (record {
+    old_is = meeting.old_is;
+    new_is = meeting.new_is;
+    differ = differs.differ;
+    on_way = rw (meeting.old_is, ← old_count, ← new_count, plain_root H old) whole;
+    old_part = rw (← old_count) part_whole;
+    new_part = rw (← new_count) part_whole;
+  })

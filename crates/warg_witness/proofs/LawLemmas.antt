@@ -1,8 +1,8 @@
 -- What the laws state: a claim that is met and isn't true gives a collision.
-use Rattle.std.proofs.Common.{◌≡◌, ℕ, zero, suc, ◌+◌, ◌-◌, ◌<◌, ◌≤◌, ◌⊎◌, inl, inr, List, [], ◌∷◌, length, get_or, refl, sym, ◌∙◌, arith, ◌^◌, Some, Bool, not, ◌++◌, Option, None, append_assoc}
+use Rattle.std.proofs.Common.{◌≡◌, ℕ, zero, suc, ◌+◌, ◌-◌, ◌<◌, ◌≤◌, ◌⊎◌, inl, inr, List, [], ◌∷◌, length, get_or, refl, sym, ap, ◌∙◌, arith, ◌^◌, Some, Bool, true, false, not, ◌++◌, Option, unwrap_or, append_assoc}
 use Rattle.std.proofs.lemmas.Bool.{cases_lt}
 use Rattle.std.proofs.lemmas.Bool.Decides.{nat_tests}
-use Rattle.warg_crypto.proofs.ForCallers.{same_or_not, HasSize, sizes}
+use Rattle.warg_crypto.proofs.ForCallers.{same_or_not, HasSize, sizes, branch_parts}
 use Rattle.warg_log.specs.Tree.{front_of, leaves_of, root_of, root_over, own_digest}
 use Rattle.warg_log.specs.Cut.{Evaluation, with_target, cut_over}
 use Rattle.warg_witness.specs.Ranges.{IsAround}
@@ -10,36 +10,37 @@ use Rattle.warg_witness.specs.Claims.{Begins, IsMet, IsEntry, IsRootBelow, IsAgr
 use Rattle.warg_crypto.specs.Collisions.{GivesHashes, SomeCollision}
 use Rattle.warg_witness.specs.Laws.{HoldsHashes, HoldsPeers}
 use Rattle.warg_log.specs.Ranges.{leaves_from, range_of, IsAligned}
-use Rattle.warg_witness.specs.Private.Ranges.{IsNodeRange}
+use Rattle.warg_witness.specs.Private.Ranges.{IsNodeRange, IsRootOf}
 use Rattle.warg_witness.specs.Private.Divergence.{HaveOneDigest, IsDivergence, Parts, Shows, inputs}
 use Rattle.warg_witness.specs.Private.RangeClimbs.{IsRangeClimb}
 use Rattle.warg_witness.specs.declared.divergence.Divergence.{Divergence}
-use Rattle.warg_witness.proofs.RangeLemmas.{Digest, node_range, Data, more_than_one, node_some, wider, near_side, side_aligned, side_around, leaf_node, node_aligned, whole_aligned, Root, full_node, full_or_not, front_node, rest_aligned, root_full, root_front, root_rest}
+use Rattle.warg_witness.proofs.RangeLemmas.{Digest, node_range, Data, more_than_one, node_some, wider, sides_aligned, side_around, leaf_node, node_aligned, whole_aligned, full_or_not}
+use Rattle.warg_witness.specs.Private.Ranges.IsRootOf.{all_leaves, at_front, in_rest}
 use Rattle.warg_witness.proofs.ClimbLemmas.{shown, up_somewhere}
 use Rattle.warg_witness.proofs.CutLemmas.{ranges_start, sides_there, ranges_up, leaves_count, have_root, have_range, plain_digest_is}
 use Rattle.std.proofs.lemmas.Nat.{pow_pos}
-use Rattle.warg_log.specs.Nodes.{height_of, start_of, node_over}
+use Rattle.warg_log.specs.Nodes.{height_of, start_of}
 use Rattle.warg_witness.specs.Placed.{IsValuePlaced, IsHashPlaced, IsAgreementPlaced, IsConsistencyPlaced}
 use Rattle.warg_witness.specs.declared.divergence.Divergence.TheVariants.{Target, Branch}
 use Rattle.warg_witness.proofs.ShownLemmas.{entry_from, value_placed, value_meets, hash_placed, agreement_shown, root_leads, old_placed, new_placed, below_shown}
 use Rattle.warg_log.specs.Claims.{InclusionClaim}
 use Rattle.warg_log.proofs.ForCallers.{cut_size, front_is_greatest, inclusion_leads}
-use Rattle.std.proofs.lemmas.Grind.{common_steps}
-use Rattle.std.specs.FinMap.{get, insert, empty}
+use Rattle.std.specs.FinMap.{get, empty}
 use Rattle.std.specs.Option.{IfSome}
 use Rattle.warg_crypto.specs.EmptyTrees.{empty_root}
 use Rattle.warg_map.specs.Bits.{key_bits}
-use Rattle.warg_crypto.specs.Tree.{leaf_digest}
-use Rattle.warg_map.specs.Sparse.{root_of_levels, map_of, SparseMap, sparse_root, inserted}
-use Rattle.warg_map.specs.Peers.{Proves}
+use Rattle.warg_crypto.specs.Tree.{leaf_digest, branch_input, input_beside}
+use Rattle.warg_map.specs.Sparse.{root_of_levels, map_of, sparse_root, inserted}
+use Rattle.warg_map.specs.Peers.{Proves, IsBeside}
 use Rattle.warg_map.specs.Last.{last_under}
-use Rattle.warg_witness.specs.MapClaims.{value_in, IsKeyAgreement, IsLastValue, IsKeyMet}
+use Rattle.warg_witness.specs.MapClaims.{IsKeyAgreement, IsLastValue, IsKeyMet}
 use Rattle.warg_witness.specs.MapPlaced.{IsKeyPlaced, IsKeyAgreementPlaced, IsPlacedAtPrefix}
-use Rattle.warg_witness.specs.Private.MapPaths.{plain_peers, IsPathDivergence, IsClimb}
+use Rattle.warg_witness.specs.Private.MapPaths.{IsPathDivergence, IsClimb}
+use Rattle.warg_witness.specs.Private.MapMeeting.{IsAlike}
 use Rattle.warg_map.specs.ProofValue.{peer_of, proof_value}
 use Rattle.warg_witness.specs.MapInputs.{fork_input}
-use Rattle.warg_witness.proofs.KeyLemmas.{no_bits, climb_up, DivergesFromPlain, key_agreement_shown, plain_root_is, key_shown, last_differs, keys_shown, prefix_placed, grown_root_is}
-use Rattle.warg_map.proofs.ForCallers.{all_bits, last_held, root_at_prefix, absent_root, absent_replaced_root}
+use Rattle.warg_witness.proofs.KeyLemmas.{no_bits, climb_up, key_agreement_shown, plain_leaf_is, own_grown_root, key_shown}
+use Rattle.warg_map.proofs.ForCallers.{all_bits, last_held, same_bits-itself, same_bits-true, root_at_prefix, absent_root, absent_replaced_root}
 use Rattle.std.proofs.lemmas.List.{append-nil, map-append}
 use Rattle.std.specs.List.{AllByRecursion}
 use Rattle.warg_witness.specs.UpdateClaims.{IsUpdated, Step, insertions_of, LeadThrough, CollidesAtStep}
@@ -62,50 +63,45 @@ difference (x ∷ old) (y ∷ new) order other = elim (same_or_not x y) [
 ]
 
 -- two evaluations with digests at a range go up to it
-module _ (H : Digest) (F : Data) (x : List ℕ) (G : Data) (y : List ℕ) (s w : ℕ) where
+module _ (H : Digest) (F : Data) (x : List ℕ) (G : Data) (y : List ℕ) (s w : ℕ) (gives : HasSize H) (holds : HoldsHashes F) (holds' : HoldsHashes G) (size : length x ≡ 32) (size' : length y ≡ 32) (node : IsNodeRange s w) where
   abbrev e : Evaluation
   e = with_target F (leaves_from s w) x
 
   abbrev f : Evaluation
   f = with_target G (leaves_from s w) y
 
-  climbed : HasSize H → HoldsHashes F → HoldsHashes G → length x ≡ 32 → length y ≡ 32 → IsNodeRange s w → (k a n : ℕ) → n ≤ k → IsAligned a n → IsAround s w a n
-      → (p q : List ℕ) → cut_over H e (leaves_from a n) ≡ Some p → cut_over H f (leaves_from a n) ≡ Some q
+  climbed : (k a n : ℕ) → n ≤ k → IsAligned a n → IsAround s w a n → (p q : List ℕ) → cut_over H e (leaves_from a n) ≡ Some p → cut_over H f (leaves_from a n) ≡ Some q
       → (first : List ℕ) × (second : List ℕ) × (p : SomeDivergence) × IsRangeClimb H F x G y s w a n first second p
-  climbed gives holds holds' size size' node zero a n le aligned around p q is is' = let some = node_some node in absurd (omega arith)
-  climbed gives holds holds' size size' node (suc k) a n le aligned around p q is is' = elim (target_or_other s w a n) [
+  climbed zero a n le aligned around p q is is' = let some = node_some node in absurd (omega arith)
+  climbed (suc k) a n le aligned around p q is is' = elim (target_or_other s w a n) [
     | inl here ↦ (x, y, Target, ranges_start here.0 here.1 refl refl refl)
     | inr other ↦
         let more : 1 < n = let wide = wider around other in let some = node_some node in omega arith in
         let (right, b, m, c, j, sides, at, smaller) = side_around node aligned around other in
         let first = sides_there H (node_some node) around other F x sides is in
         let second = sides_there H (node_some node) around other G y sides is' in
-        let below = climbed gives holds holds' size size' node k b m (omega arith) (side_aligned b m aligned more (near_side sides)) at first.0 second.0 first.2 second.2 in
+        let below = climbed k b m (omega arith) (sides_aligned sides aligned more) at first.0 second.0 first.2 second.2 in
         let near = cut_size H e (leaves_from b m) _ gives holds size below.3.first_is ∙ sym (cut_size H f (leaves_from b m) _ gives holds' size' below.3.second_is) in
         let far = cut_size H e (leaves_from c j) _ gives holds size first.3 ∙ sym (cut_size H f (leaves_from c j) _ gives holds' size' second.3) in
-        let step = up_somewhere right below.2 near far in
-        (H _, H _, step.0, ranges_up H (node_some node) around other F x G y sides below.3 first.3 second.3 step.1)
+        let step = up_somewhere right below.2 near far in (H _, H _, step.0, ranges_up H (node_some node) around other F x G y sides below.3 first.3 second.3 step.1)
   ]
 
--- so two with one digest there diverge somewhere
-diverged : {H : Digest} {F : Data} {x : List ℕ} {G : Data} {y : List ℕ} {s w a n : ℕ} → HasSize H → HoldsHashes F → HoldsHashes G → length x ≡ 32 → length y ≡ 32 → IsNodeRange s w
-    → IsAligned a n → IsAround s w a n → HaveOneDigest H F x G y s w a n → (p : SomeDivergence) × IsDivergence H F x G y s w a n p
-diverged {H} {F} {x} {G} {y} {s} {w} {a} {n} gives holds holds' size size' node aligned around one =
-    let climb = climbed H F x G y s w gives holds holds' size size' node n a n (omega arith) aligned around one.digest one.digest one.first one.second in (climb.2, climb.3.diverges (cc (climb.3.first_is, climb.3.second_is)))
+  -- so two with one digest there diverge somewhere
+  diverged : {a n : ℕ} → IsAligned a n → IsAround s w a n → HaveOneDigest H F x G y s w a n → (p : SomeDivergence) × IsDivergence H F x G y s w a n p
+  diverged {a} {n} aligned around one =
+      let climb = climbed n a n (omega arith) aligned around one.digest one.digest one.first one.second in (climb.2, climb.3.diverges (cc (climb.3.first_is, climb.3.second_is)))
 
 -- the balanced root of a range around a place
-root_found : (place k a n : ℕ) → n ≤ k → IsAligned a n → a ≤ place → place < a + n → (s : ℕ) × (w : ℕ) × Root s w a n × IsAround place 1 s w
-root_found place zero a n le aligned starts ends = absurd (omega arith)
-root_found place (suc k) a n le aligned starts ends = elim (full_or_not n (omega arith)) [
-  | inl is ↦ (a, n, record { node = full_node aligned is; contained = root_full a n is }, omega arith)
+root_found : (place k a n : ℕ) → n ≤ k → IsAround place 1 a n → (s : ℕ) × (w : ℕ) × IsRootOf s w a n × IsAround place 1 s w
+root_found place zero a n le around = absurd (omega arith)
+root_found place (suc k) a n le around = elim (full_or_not n (omega arith)) [
+  | inl is ↦ (a, n, all_leaves is, around)
   | inr not_full ↦
       let more = more_than_one n (omega arith) not_full in
       let f = front_is_greatest n more in
       elim (cases_lt place (a + front_of n)) [
-        | inl left ↦ (a, front_of n, record { node = front_node a n aligned more; contained = root_front a n more not_full }, omega arith)
-        | inr right ↦
-            let at = root_found place k (a + front_of n) (n - front_of n) (omega arith) (rest_aligned aligned more) right (omega arith) in
-            (at.0, at.1, record { node = at.2.node; contained = root_rest a n (node_over at.0 at.1) more not_full at.2.contained }, at.3)
+        | inl left ↦ (a, front_of n, at_front n more not_full refl, omega arith)
+        | inr right ↦ let at = root_found place k (a + front_of n) (n - front_of n) (omega arith) (omega arith) in (at.0, at.1, in_rest a n more not_full at.2, at.3)
       ]
 ]
 
@@ -134,7 +130,7 @@ module _ (H : Digest) where
       let ds = leaves_of H entries in
       let n = length ds in
       let some = node_some node in
-      diverged gives holds (own_holds entries gives) size (root_size entries s w gives some within) node (whole_aligned n refl) (omega arith) (have_root H ds s w leads (omega arith))
+      diverged _ _ _ _ _ _ _ gives holds (own_holds entries gives) size (root_size entries s w gives some within) node (whole_aligned n refl) (omega arith) (have_root H ds s w leads (omega arith))
 
   -- a claim that is met leads to the root of the tree
   leads_to : {F : Data} {p : InclusionClaim} {digest : List ℕ} {entries : List (List ℕ)} → IsMet H F p digest entries → let ds = leaves_of H entries in let node = p.leaf.0 in
@@ -161,7 +157,7 @@ module _ (H : Digest) where
       let n = p.log_length in
       let first = (inclusion_leads H F p _ met.root).0 met.first_is in
       let second = (inclusion_leads H G p _ met.root).0 met.second_is in
-      let (at, diverges) = diverged (sizes digests) holds holds' (sizes digests (0 ∷ value)) (sizes digests (0 ∷ other)) (node_range p.leaf.0)
+      let (at, diverges) = diverged _ _ _ _ _ _ _ (sizes digests) holds holds' (sizes digests (0 ∷ value)) (sizes digests (0 ∷ other)) (node_range p.leaf.0)
       (whole_aligned n refl) (omega arith) (record { digest = met.root; first = first.1; second = second.1 }) in
       shown_collides _ (agreement_shown H F value G other p.leaf.0 n at untrue diverges)
 
@@ -173,7 +169,7 @@ module _ (H : Digest) where
       let ds = leaves_of H old in
       let es = leaves_of H new in
       let found = difference old new (omega arith) untrue in
-      let root = root_found found.0 (length ds) 0 (length ds) (omega arith) (whole_aligned (length ds) refl) (omega arith) (omega (arith, leaves_count H old)) in
+      let root = root_found found.0 (length ds) 0 (length ds) (omega arith) (omega (arith, leaves_count H old)) in
       let leads = root_leads (rw (leaves_count H old, leaves_count H new, met.old_count, met.new_count) met.roots) root.2 in
       let at = leads.1 in
       let place = found.0 in
@@ -183,7 +179,7 @@ module _ (H : Digest) where
       some_collision from_old.0 (old_placed refl refl at)
       (λ in_old. some_collision from_new.0 (new_placed refl refl at)
       (λ in_new.
-      let below = diverged gives (own_holds old gives) (own_holds new gives)
+      let below = diverged _ _ _ _ _ _ _ gives (own_holds old gives) (own_holds new gives)
       (root_size old place 1 gives (omega arith) (omega arith)) (root_size new place 1 gives (omega arith) (omega arith)) (leaf_node refl)
       (node_aligned at.node) root.3 (have_range H ds es place 1 (node_aligned at.node) (node_some at.node) at.in_old at.in_new (sym in_old.same ∙ in_new.same)) in
       shown_collides _ (below_shown refl refl at place in_new.part found.2 below.0 below.1)) from_new.1) from_old.1
@@ -228,13 +224,6 @@ module _ (H : List ℕ → List ℕ) (gives : HasSize H) where
   root_len zero held h = grind (arith, h [])
   root_len (suc k) held h = gives _
 
-  -- so have the plain peers
-  holds_plain : (held : List Bool → Option (List ℕ)) → HaveSize held → (bits : List Bool) → HoldsPeers (plain_peers H held bits)
-  unfolding plain_peers
-  holds_plain held h [] place other e = absurd (cc)
-  holds_plain held h (b ∷ bits) place other e =
-      grind (arith, common_steps, root_len (length bits) (λ q. held (not b ∷ q)) (λ q. h (not b ∷ q)), holds_plain (λ q. held (b ∷ q)) (λ q. h (b ∷ q)) bits place other)
-
   held_len : (insertions : List (List ℕ × List ℕ)) → HaveSize (get (map_of H insertions))
   held_len insertions q = rw last_held (grind (arith, gives))
 
@@ -246,25 +235,54 @@ key_agreement_collides H key P v Q u digests holds holds' met other =
     let (p, diverges) = diverged_on_path H P _ Q _ gives holds holds' (gives _) (gives _) (key_bits H key) met in
     shown_collides _ (key_agreement_shown H key P v Q u p diverges other)
 
--- a claim of a key that is met diverges from the plain tree somewhere
-pub diverged_from_plain : (H : List ℕ → List ℕ) (peers : List (Option (List ℕ))) (key value : List ℕ) (insertions : List (List ℕ × List ℕ)) → GivesHashes H → HoldsPeers peers → IsKeyMet H peers key value insertions
-    → (p : SomeDivergence) × DivergesFromPlain H peers key value insertions p
-diverged_from_plain H peers key value insertions digests holds met =
-    let gives = sizes digests in
-    diverged_on_path H peers _ _ _ gives holds (holds_plain H gives (get (map_of H insertions)) (held_len H gives insertions) (key_bits H key)) (gives _) (gives _) (key_bits H key) (met ∙ sym (plain_root_is H insertions key))
+-- a branch has the digests of both sides, on either side of a bit
+sides_same : (f : Bool → List ℕ) (b : Bool) (peer value : List ℕ) → ((c : Bool) → length (f c) ≡ 32) → length peer ≡ 32 → length value ≡ 32 → input_beside b peer value ≡ branch_input (f false) (f true) → (peer ≡ f (not b)) × (value ≡ f b)
+sides_same f true peer value sized p v e = branch_parts peer value (f false) (f true) (p ∙ sym (sized false)) e
+sides_same f false peer value sized p v e = let parts = branch_parts value peer (f false) (f true) (v ∙ sym (sized false)) e in (parts.1, parts.0)
 
-pub key_collides : (H : List ℕ → List ℕ) (peers : List (Option (List ℕ))) (key value : List ℕ) (insertions : List (List ℕ × List ℕ)) → GivesHashes H → HoldsPeers peers
-    → IsKeyMet H peers key value insertions → (IsLastValue key value insertions → ⊥) → SomeCollision H (IsKeyPlaced H peers value key insertions)
-key_collides H peers key value insertions digests holds met untrue = elim (same_or_not value (value_in (last_under H (key_bits H key) insertions))) [
-  | inl same ↦ of_keys (last_under H (key_bits H key) insertions) refl same
-  | inr other ↦
-      let (p, diverges) = diverged_from_plain H peers key value insertions digests holds met in
-      shown_collides _ (key_shown H peers key value insertions p _ diverges refl other)
-]
-  where
-    of_keys : (o : Option (List ℕ × List ℕ)) → last_under H (key_bits H key) insertions ≡ o → value ≡ value_in o → SomeCollision H (IsKeyPlaced H peers value key insertions)
-    of_keys None last same = absurd (last_differs H peers key value insertions untrue None last tt same)
-    of_keys (Some e) last same = shown_collides _ (keys_shown H peers key value insertions untrue e digests last same)
+-- an evaluation that leads to a plain root is that of the plain tree, or collides with it at a branch
+module _ (H : List ℕ → List ℕ) (P : List (Option (List ℕ))) (x : List ℕ) (gives : HasSize H) (holds : HoldsPeers P) (size : length x ≡ 32) (Q : List ℕ → List ℕ → Type 0) where
+  -- The root over what is held behind a bit.
+  abbrev side : ℕ → (List Bool → Option (List ℕ)) → Bool → List ℕ
+  side k held b = root_of_levels H k (λ q. held (b ∷ q))
+
+  plain_or_collides : (held : List Bool → Option (List ℕ)) → HaveSize held → (bits : List Bool) → proof_value H P x bits ≡ root_of_levels H (length bits) held
+      → ((prefix below : List Bool) (b : Bool) → bits ≡ prefix ++ b ∷ below → Q (fork_input H P x b below) (branch_input (side (length below) (λ q. held (prefix ++ q)) false) (side (length below) (λ q. held (prefix ++ q)) true)))
+      → ((x ≡ unwrap_or (held bits) (empty_root H 0)) × IsBeside H P held bits) ⊎ SomeCollision H Q
+  unfolding proof_value root_of_levels IsBeside
+  plain_or_collides held sized [] e placed = inl (e, tt)
+  plain_or_collides held sized (b ∷ bits) e placed = elim (same_or_not (fork_input H P x b bits) (branch_input (side (length bits) held false) (side (length bits) held true))) [
+    | inl same ↦
+        let sides = sides_same (side (length bits) held) b _ _ (λ c. root_len H gives (length bits) (λ q. held (c ∷ q)) (λ q. sized (c ∷ q))) (peer_len H P gives holds (length bits)) (value_len H P x gives size bits) same in
+        elim (plain_or_collides (λ q. held (b ∷ q)) (λ q. sized (b ∷ q)) bits sides.1 (λ prefix below c split. placed (b ∷ prefix) below c (ap (λ q. b ∷ q) split))) [
+          | inl (is, beside) ↦ inl (is, (sides.0, beside))
+          | inr collision ↦ inr collision
+        ]
+    | inr differ ↦ inr (record { first = _; second = _; collide = record { differ = differ; same = e }; placed = placed [] bits b refl })
+  ]
+
+-- a claim of a key that is met
+module _ (H : List ℕ → List ℕ) (peers : List (Option (List ℕ))) (key value : List ℕ) (insertions : List (List ℕ × List ℕ)) (digests : GivesHashes H) (holds : HoldsPeers peers) (met : IsKeyMet H peers key value insertions) where
+  alike_or_collides : IsAlike H peers key value insertions ⊎ SomeCollision H (IsPlacedAtPrefix H peers value key insertions)
+  alike_or_collides =
+      let gives = sizes digests in
+      let bits = key_bits H key in
+      let all = all_bits H key in
+      elim (plain_or_collides H peers (leaf_digest H value) gives holds (gives _) (IsPlacedAtPrefix H peers value key insertions) (get (map_of H insertions)) (held_len H gives insertions) bits (rw all met)
+      (λ prefix below b split. record { prefix = prefix; rest = b ∷ below; bits = split; evaluation = refl; plain = refl })) [
+        | inl (same, beside) ↦ inl (record { same = same ∙ sym (plain_leaf_is H insertions bits); updates = own_grown_root H insertions key peers beside })
+        | inr collision ↦ inr collision
+      ]
+
+  -- and isn't true
+  pub key_collides : (IsLastValue key value insertions → ⊥) → SomeCollision H (IsKeyPlaced H peers value key insertions)
+  key_collides untrue = elim alike_or_collides [
+    | inl alike ↦ shown_collides _ (key_shown H peers key value insertions untrue {D = Unit {0}} Target _ digests refl alike)
+    | inr c ↦ record { first = c.first; second = c.second; collide = c.collide; placed = inl c.placed }
+  ]
+
+  pub update_collides : (new : List ℕ) → ¬ (IsUpdated H peers key new insertions) → SomeCollision H (IsPlacedAtPrefix H peers value key insertions)
+  update_collides new untrue = elim alike_or_collides [ inl alike ↦ absurd (untrue (alike.updates new)) | inr collision ↦ collision ]
 
 -- a map's own proof of a key meets the key's claim
 pub own_met : (H : List ℕ → List ℕ) (insertions : List (List ℕ × List ℕ)) (key value : List ℕ) (peers : List (Option (List ℕ)))
@@ -272,19 +290,6 @@ pub own_met : (H : List ℕ → List ℕ) (insertions : List (List ℕ × List �
 own_met H insertions key value peers last few proves =
     let n = all_bits H key in
     rw n at (root_at_prefix H (map_of H insertions) [] (key_bits H key) peers (leaf_digest H value) (omega arith) few proves (rw (last_held, last) refl))
-
--- a claim that is met and isn't true
-pub update_collides : (H : List ℕ → List ℕ) (peers : List (Option (List ℕ))) (key old new : List ℕ) (insertions : List (List ℕ × List ℕ)) → GivesHashes H → HoldsPeers peers
-    → IsKeyMet H peers key old insertions → ¬ (IsUpdated H peers key new insertions) → SomeCollision H (IsPlacedAtPrefix H peers old key insertions)
-update_collides H peers key old new insertions digests holds met untrue =
-    let (p, diverges) = diverged_from_plain H peers key old insertions digests holds met in
-    some_collision p (prefix_placed H peers key old insertions) (λ nowhere. absurd (untrue (nowhere.beside (leaf_digest H new) ∙ grown_root_is H insertions key new))) diverges
-
--- one insertion more
-pub inserted_push : (H : List ℕ → List ℕ) (m : SparseMap) (es : List (List ℕ × List ℕ)) (key value : List ℕ) → inserted H m (es ++ (key, value) ∷ []) ≡ insert (inserted H m es) (key_bits H key) (leaf_digest H value)
-unfolding inserted
-inserted_push H m [] key value = refl
-inserted_push H m (e ∷ es) key value = inserted_push H (insert m (key_bits H e.0) (leaf_digest H e.1)) es key value
 
 pub ruleset proves_absent = (all_bits, absent_root, absent_replaced_root)
 
@@ -298,7 +303,7 @@ steps_lead H digests before (s ∷ steps) root end all is through =
     let (next, from_old, from_new, rest) = through in
     elim (same_or_not (proof_value H s.peers (leaf_digest H s.new_value) (key_bits H s.key)) (sparse_root H 256 (map_of H (insertions_of before ++ (s.key, s.new_value) ∷ [])))) [
       | inl updated ↦ rw append_assoc at (steps_lead H digests (before ++ s ∷ []) steps next end all.1 (rw map-append (sym from_new ∙ updated)) rest)
-      | inr untrue ↦ inr (record { before = before; step = s; after = steps; split = refl; collision = update_collides H s.peers s.key s.old_value s.new_value (insertions_of before) digests all.0 (from_old ∙ is) untrue })
+      | inr untrue ↦ inr (record { before = before; step = s; after = steps; split = refl; collision = update_collides H s.peers s.key s.old_value (insertions_of before) digests all.0 (from_old ∙ is) s.new_value untrue })
     ]
 
 pub steps_end : (H : List ℕ → List ℕ) (steps : List Step) (root : List ℕ) → GivesHashes H → AllByRecursion (λ (s : Step). HoldsPeers s.peers) steps

@@ -1,5 +1,5 @@
 -- What proofs show of given entries, where they diverge from the trees over them.
-use Rattle.std.proofs.Common.{◌≡◌, ℕ, ◌^◌, ◌<◌, List, [], ◌∷◌, ◌++◌, Some, refl, sym, ◌∙◌, arith, ◌+◌, ◌-◌, ◌≤◌, inl, inr, ap, length, map, get_or}
+use Rattle.std.proofs.Common.{◌≡◌, ℕ, ◌^◌, ◌<◌, List, [], ◌∷◌, ◌++◌, Some, refl, sym, ◌∙◌, arith, ◌+◌, ◌-◌, inl, inr, ap, length, map, get_or}
 use Rattle.std.proofs.lemmas.Nat.{pow_pos}
 use Rattle.std.proofs.lemmas.Bool.{lt-leb}
 use Rattle.std.proofs.lemmas.Bool.Decides.{nat_tests}
@@ -10,10 +10,12 @@ use Rattle.warg_witness.specs.Claims.{IsEntry, Begins}
 use Rattle.warg_witness.specs.Inputs.{plain_input, cut_input, value_input, old_input}
 use Rattle.warg_witness.specs.Placed.{IsValuePlaced, IsHashPlaced, IsAgreementPlaced, IsConsistencyPlaced, IsPlacedInBoth}
 use Rattle.warg_witness.specs.Private.Compared.{IsAt, DiffersFirst}
-use Rattle.warg_witness.specs.Private.Meeting.{IsMeeting, IsConsistencyMeeting, IsConsistencyDivergence, LeadsToBoth}
-use Rattle.warg_witness.specs.Private.Divergence.{MeetAt, DivergesAt, IsDivergence, Shows, inputs_of}
+use Rattle.warg_witness.specs.Private.Meeting.{IsMeeting, LeadsToBoth}
+use Rattle.warg_witness.specs.Private.Divergence.{IsDivergence, Shows, inputs_of}
 use Rattle.warg_witness.specs.declared.divergence.Divergence.{Divergence}
-use Rattle.warg_witness.proofs.RangeLemmas.{Digest, Data, part_in, IsPart-trans, wider, whole_aligned, node_some, Root, node_bounds, rest_aligned, by_root, root_stands, root_at_part}
+use Rattle.warg_witness.proofs.RangeLemmas.{Digest, Data, part_in, IsPart-trans, wider, whole_aligned, node_some, node_bounds, rest_aligned, root_contained, root_stands, root_at_part}
+use Rattle.warg_witness.specs.Private.Ranges.{IsRootOf}
+use Rattle.warg_witness.specs.Private.Ranges.IsRootOf.{all_leaves, at_front, in_rest}
 use Rattle.warg_witness.proofs.ClimbLemmas.{shown}
 use Rattle.warg_witness.proofs.CutLemmas.{leaves_count, DivergesFrom, Meets, plain_digest_is, own_second, own_input}
 use Rattle.warg_log.proofs.ForCallers.{starts, counts, pow_below_pow, cut_old, cut_parts, cut_target, front_is_greatest, old_full, old_parts}
@@ -81,35 +83,25 @@ module _ {D : Type 0} {H : Digest} {F : Data} {proof : InclusionClaim} {entries 
   branch_shown met more left right =
       let plain_is : plain_input H entries start count ≡ _ = rw (lt-leb count 1 more, ← met.tree_is, ← left, ← right) refl in rw plain_is at (value_shown met (λ at. omega (arith, at.0)))
 
--- at a leaf, whose entry is read
-entry_is : {D V : Type 0} {H : Digest} {F : Data} {proof : InclusionClaim} (bytes : V → List ℕ) (entries : List V) {tree : List (List ℕ)} {start count : ℕ} {x plain : List ℕ} {p : Divergence D} {e : V}
-    → IsMeeting H F proof x (map bytes entries) tree start count plain p → count ≡ 1 → e ≡ get_or entries start e → get_or (map bytes entries) start [] ≡ bytes e
-entry_is {H = H} bytes entries {start = start} met leaf at =
-    let within = met.within in entry_at bytes entries start (omega (arith, ap length met.tree_is, leaves_count H (map bytes entries), length-map entries bytes)) at
+  -- at a leaf, by its entry
+  pub leaf_holds : {value : List ℕ} → IsMeeting H F proof (H (0 ∷ value)) entries tree start count plain p → count ≡ 1 → get_or entries start [] ≡ value → IsEntry value proof.leaf.0 entries
+  leaf_holds {value} met leaf same = let is : IsAt value entries start count = (leaf, same) in entry_from proof.leaf.0 (rw (met.start_is, met.count_is) at is)
 
-module _ {D V : Type 0} {H : Digest} {F : Data} {proof : InclusionClaim} (bytes : V → List ℕ) (entries : List V) {tree : List (List ℕ)} {start count : ℕ} {value plain : List ℕ} {p : Divergence D} {e : V}
-    (met : IsMeeting H F proof (H (0 ∷ value)) (map bytes entries) tree start count plain p) (leaf : count ≡ 1) (at : e ≡ get_or entries start e) where
-  pub leaf_holds : value ≡ bytes e → IsEntry value proof.leaf.0 (map bytes entries)
-  leaf_holds same =
-      let is : IsAt value (map bytes entries) start count = (leaf, entry_is bytes entries met leaf at ∙ sym same) in entry_from proof.leaf.0 (rw (met.start_is, met.count_is) at is)
+  pub leaf_shown : {value entry : List ℕ} → IsMeeting H F proof (H (0 ∷ value)) entries tree start count plain p → count ≡ 1 → get_or entries start [] ≡ entry → (value ≡ entry → ⊥)
+      → (IsEntry value proof.leaf.0 entries → ⊥) × Shows H (IsValuePlaced H F value proof.leaf.0 entries) (inputs_of p (0 ∷ value) (0 ∷ entry))
+  leaf_shown {entry = entry} met leaf is other =
+      let plain_is : plain_input H entries start count ≡ 0 ∷ entry = rw (leaf, is) refl in
+      (λ at. other (sym (rw (← met.start_is) at at.same) ∙ is), rw plain_is at (value_shown met (λ at. other (sym at.1 ∙ is))))
 
-  pub leaf_shown : (value ≡ bytes e → ⊥) → (IsEntry value proof.leaf.0 (map bytes entries) → ⊥) × Shows H (IsValuePlaced H F value proof.leaf.0 (map bytes entries)) (inputs_of p (0 ∷ value) (0 ∷ bytes e))
-  leaf_shown other =
-      let plain_is : plain_input H (map bytes entries) start count ≡ 0 ∷ bytes e = rw (leaf, entry_is bytes entries met leaf at) refl in
-      (λ is. other (sym (rw (← met.start_is) at is.same) ∙ entry_is bytes entries met leaf at), rw plain_is at (value_shown met (λ is. other (sym is.1 ∙ entry_is bytes entries met leaf at))))
-
-module _ (H : Digest) (F : Data) (v : List ℕ) (G : Data) (u : List ℕ) (node n : ℕ) where
-  pub agreement_placed : (first second : List ℕ) → DivergesAt H F (H (0 ∷ v)) G (H (0 ∷ u)) (start_of node) (2 ^ height_of node) 0 n first second → IsAgreementPlaced H F v G u node n first second
-  agreement_placed first second diverges =
-      let first_is = value_above H F v (start_of node) (2 ^ height_of node) diverges.from diverges.count diverges.other ∙ diverges.first_input in
-      let second_is = value_above H G u (start_of node) (2 ^ height_of node) diverges.from diverges.count diverges.other ∙ diverges.second_input in search (first_is, second_is, diverges)
-
-  pub agreement_meets : (v ≡ u → ⊥) → MeetAt (H (0 ∷ v)) (H (0 ∷ u)) (start_of node) (2 ^ height_of node) 0 n → Shows H (IsAgreementPlaced H F v G u node n) (0 ∷ v, 0 ∷ u)
-  agreement_meets other meets = record { collides = record { differ = λ e. other (cc); same = meets.same }; placed = search (meets, value_here, arith) }
-
-  pub agreement_shown : {D : Type 0} (p : Divergence D) → (v ≡ u → ⊥) → IsDivergence H F (H (0 ∷ v)) G (H (0 ∷ u)) (start_of node) (2 ^ height_of node) 0 n p
-      → Shows H (IsAgreementPlaced H F v G u node n) (inputs_of p (0 ∷ v) (0 ∷ u))
-  agreement_shown p other diverges = shown p agreement_placed _ _ (agreement_meets other) diverges
+-- two evaluations that diverge, of other values
+pub agreement_shown : {D : Type 0} (H : Digest) (F : Data) (v : List ℕ) (G : Data) (u : List ℕ) (node n : ℕ) (p : Divergence D) → (v ≡ u → ⊥) → IsDivergence H F (H (0 ∷ v)) G (H (0 ∷ u)) (start_of node) (2 ^ height_of node) 0 n p
+    → Shows H (IsAgreementPlaced H F v G u node n) (inputs_of p (0 ∷ v) (0 ∷ u))
+agreement_shown H F v G u node n p other = shown p
+    (λ _ _ diverges.
+    let first_is = value_above H F v (start_of node) (2 ^ height_of node) diverges.from diverges.count diverges.other ∙ diverges.first_input in
+    let second_is = value_above H G u (start_of node) (2 ^ height_of node) diverges.from diverges.count diverges.other ∙ diverges.second_input in search (first_is, second_is, diverges))
+    _ _
+    (λ meets. record { collides = record { differ = λ e. other (cc); same = meets.same }; placed = search (meets, value_here, arith) })
 
 -- The cut root and the old root of a range are one, and so are their inputs, unless it is the target; then it isn't full.
 abbrev ReadAlike : Digest → Evaluation → Range → Type 0
@@ -124,84 +116,67 @@ module _ (H : Digest) (F : Data) (x : List ℕ) (s w : ℕ) where
       → old_over H F (rest_part r) ≡ cut_over H e (rest_part r) → ReadAlike H e r
   both_sides r more not_full other left right = grind (arith, old_parts H F r more not_full, cut_parts H e r more other (λ is _. not_full is))
 
-  pub old_is_cut : {a n : ℕ} → F (node_over s w) ≡ Some x → Root s w a n → 0 < n → IsAligned a n → ReadAlike H e (leaves_from a n)
-  old_is_cut {a} {n} held root some aligned = by_root s w (λ b k. ReadAlike H e (leaves_from b k)) at_full at_front at_rest a n some aligned root
-    where
-      at_full : (b k : ℕ) → IsFull k → s ≡ b → w ≡ k → ReadAlike H e (leaves_from b k)
-      at_full b k is start count = let here : IsFull w = rw count is in rw (sym start, sym count) (old_full H F e.target here ∙ held ∙ sym (cut_target H e), λ other. absurd (other refl))
-
-      at_front : (b k : ℕ) → 1 < k → (IsFull k → ⊥) → s ≡ b → w ≡ front_of k → ReadAlike H e (leaves_from b k)
-      at_front b k more not_full start count =
-          let f = front_is_greatest k more in
-          let here = old_full H F e.target (f.0.0, count ∙ f.0.1) ∙ held ∙ sym (cut_target H e) in
-          rw (sym start)
-          (both_sides (leaves_from s k) more not_full (λ same. omega (arith, counts same)) (rw (← count) here) (sym (cut_old H e _ (omega arith) (omega arith) (inr (omega arith)))))
-
-      at_rest : (b k : ℕ) → IsAligned b k → 1 < k → (IsFull k → ⊥) → Root s w (b + front_of k) (k - front_of k)
-          → ReadAlike H e (leaves_from (b + front_of k) (k - front_of k)) → ReadAlike H e (leaves_from b k)
-      at_rest b k aligned' more not_full below alike =
-          let f = front_is_greatest k more in
-          let at = root_stands below (omega arith) (rest_aligned aligned' more) in
-          let wide = node_some root.node in
-          both_sides (leaves_from b k) more not_full (λ same. omega (arith, starts same)) (sym (cut_old H e _ wide (omega arith) (inl at.around.starts))) alike.0
+  pub old_is_cut : F (node_over s w) ≡ Some x → {a n : ℕ} → IsRootOf s w a n → IsAligned a n → ReadAlike H e (leaves_from a n)
+  old_is_cut held (all_leaves is) aligned = (old_full H F e.target is ∙ held ∙ sym (cut_target H e), λ other. absurd (other refl))
+  old_is_cut held (at_front n more not_full is) aligned =
+      let f = front_is_greatest n more in
+      let here = old_full H F e.target (f.0.0, is ∙ f.0.1) ∙ held ∙ sym (cut_target H e) in
+      both_sides (leaves_from s n) more not_full (λ same. omega (arith, counts same)) (rw (← is) here) (sym (cut_old H e _ (omega arith) (omega arith) (inr (omega arith))))
+  old_is_cut held (in_rest a n more not_full root) aligned =
+      let f = front_is_greatest n more in
+      let at = root_stands root (rest_aligned aligned more) in
+      let starts_at = at.around.starts in
+      both_sides (leaves_from a n) more not_full (λ same. omega (arith, starts same)) (sym (cut_old H e _ (node_some at.node) (omega arith) (inl starts_at)))
+      (old_is_cut held root (rest_aligned aligned more)).0
 
 -- a digest is held for each balanced root, and leads to both roots
 pub root_leads : {H : Digest} {F : Data} {old_tree new_tree : List (List ℕ)} {s w : ℕ} → IsConsistent H F (length old_tree) (length new_tree) (root_of H old_tree) (root_of H new_tree)
-    → Root s w 0 (length old_tree) → (x : List ℕ) × LeadsToBoth H F old_tree new_tree s w x
+    → IsRootOf s w 0 (length old_tree) → (x : List ℕ) × LeadsToBoth H F old_tree new_tree s w x
 root_leads {H} {F} {old_tree} {new_tree} {s} {w} is root =
     let aligned = whole_aligned (length old_tree) refl in
-    let at = root_stands root is.some aligned in
-    let numbers = node_bounds root.node in
+    let at = root_stands root aligned in
+    let numbers = node_bounds at.node in
     let P = LeadsTo H F (length new_tree) (root_of H new_tree) in
-    let leads = All-contains P (balanced_roots (length old_tree)) (node_over s w) (All-from_recursion P (balanced_roots (length old_tree)) is.new_root_is) root.contained in
-    let to_old = sym (old_is_cut H F leads.0 s w leads.1 root is.some aligned).0 ∙ is.old_root_is in
+    let leads = All-contains P (balanced_roots (length old_tree)) (node_over s w) (All-from_recursion P (balanced_roots (length old_tree)) is.new_root_is) (root_contained root) in
+    let to_old = sym (old_is_cut H F leads.0 s w leads.1 root aligned).0 ∙ is.old_root_is in
     let to_new = rw (numbers.0, numbers.1) at leads.2 in (leads.0, search (root, at, is.order, leads.1, to_old, to_new, arith))
 
 -- two trees of one digest at a range of both show where they diverge below it, or a place at which the entries differ
-module _ (H : Digest) (old new : List (List ℕ)) (place a n : ℕ) (in_old : IsPart 0 (length old) a n) (in_new : IsPart 0 (length new) a n) where
-  both_placed : (first second : List ℕ)
-      → DivergesAt H (own_digest H (leaves_of H old)) (root_over H (leaves_of H old) place 1) (own_digest H (leaves_of H new)) (root_over H (leaves_of H new) place 1) place 1 a n first second
-      → IsPlacedInBoth H old new first second
-  both_placed first second diverges =
-      let more = wider diverges.around diverges.other in
-      let old_part = IsPart-trans in_old diverges.part in
-      let new_part = IsPart-trans in_new diverges.part in
-      let old_plain = own_input H old place 1 first old_part more diverges.first_input in
-      let new_plain = own_input H new place 1 second new_part more diverges.second_input in search (old_part, new_part, old_plain, new_plain)
-
-  both_meet : MeetAt (root_over H (leaves_of H old) place 1) (root_over H (leaves_of H new) place 1) place 1 a n → (get_or old place [] ≡ get_or new place [] → ⊥)
-      → Shows H (IsPlacedInBoth H old new) (0 ∷ get_or old place [], 0 ∷ get_or new place [])
-  both_meet meets differ =
-      let old_part = IsPart-trans in_old meets.part in
-      let new_part = IsPart-trans in_new meets.part in
-      let old_at = (part_in old_part).0 in
-      let new_at = (part_in new_part).0 in record {
-        collides = record {
-          differ = λ e. differ (cc);
-          same = sym (plain_digest_is H old place 1 (omega arith) (omega arith)) ∙ meets.same ∙ plain_digest_is H new place 1 (omega arith) (omega arith);
-        };
-        placed = search (old_part, new_part);
-      }
-
-  pub both_shown : {D : Type 0} (p : Divergence D)
-      → IsDivergence H (own_digest H (leaves_of H old)) (root_over H (leaves_of H old) place 1) (own_digest H (leaves_of H new)) (root_over H (leaves_of H new) place 1) place 1 a n p
-      → (get_or old place [] ≡ get_or new place [] → ⊥) → Shows H (IsPlacedInBoth H old new) (inputs_of p (0 ∷ get_or old place []) (0 ∷ get_or new place []))
-  both_shown p diverges differ = shown p both_placed _ _ (λ meets. both_meet meets differ) diverges
+pub both_shown : {D : Type 0} (H : Digest) (old new : List (List ℕ)) (place a n : ℕ) → IsPart 0 (length old) a n → IsPart 0 (length new) a n → (p : Divergence D)
+    → IsDivergence H (own_digest H (leaves_of H old)) (root_over H (leaves_of H old) place 1) (own_digest H (leaves_of H new)) (root_over H (leaves_of H new) place 1) place 1 a n p
+    → (get_or old place [] ≡ get_or new place [] → ⊥) → Shows H (IsPlacedInBoth H old new) (inputs_of p (0 ∷ get_or old place []) (0 ∷ get_or new place []))
+both_shown H old new place a n in_old in_new p diverges differ = shown p
+    (λ first second at.
+    let more = wider at.around at.other in
+    let old_part = IsPart-trans in_old at.part in
+    let new_part = IsPart-trans in_new at.part in
+    let old_plain = own_input H old place 1 first old_part more at.first_input in
+    let new_plain = own_input H new place 1 second new_part more at.second_input in search (old_part, new_part, old_plain, new_plain))
+    _ _
+    (λ meets.
+    let old_part = IsPart-trans in_old meets.part in
+    let new_part = IsPart-trans in_new meets.part in
+    let old_at = (part_in old_part).0 in
+    let new_at = (part_in new_part).0 in record {
+      collides = record { differ = λ e. differ (cc); same = sym (plain_digest_is H old place 1 (omega arith) (omega arith)) ∙ meets.same ∙ plain_digest_is H new place 1 (omega arith) (omega arith) };
+      placed = search (old_part, new_part);
+    })
+    diverges
 
 module _ {H : Digest} {F : Data} {old new old_tree new_tree : List (List ℕ)} (old_is : old_tree ≡ leaves_of H old) (new_is : new_tree ≡ leaves_of H new)
     {s w : ℕ} {x : List ℕ} (at : LeadsToBoth H F old_tree new_tree s w x) where
   -- where the evaluation diverges from the old tree or from the new one
   pub old_placed : (first second : List ℕ) → DivergesFrom H F x old_tree s w first second → IsConsistencyPlaced H F old new first second
   old_placed first second diverges =
-      let here = root_at_part (record { node = at.node; contained = at.root }) diverges.part diverges.around in
-      let same = (old_is_cut H F x s w at.held here (omega (arith, node_some at.node)) (part_in diverges.part).1).1 (λ e. diverges.other (starts e) (counts e)) in
+      let here = root_at_part at.root diverges.part diverges.around in
+      let same = (old_is_cut H F x s w at.held here (part_in diverges.part).1).1 (λ e. diverges.other (starts e) (counts e)) in
       let own = own_second H old old_tree old_is (node_some at.node) diverges in
       let evaluation = same.1 ∙ diverges.first_input in inl (search (own, same.0, evaluation))
 
   pub new_placed : (first second : List ℕ) → DivergesFrom H F x new_tree s w first second → IsConsistencyPlaced H F old new first second
   new_placed first second diverges =
       let numbers = node_bounds at.node in
-      let is_root = rw (old_is, leaves_count H old) at at.root in
+      let is_root = rw (old_is, leaves_count H old) at (root_contained at.root) in
       let hashed = hash_placed H F new new_tree new_is (node_over s w) x first second (rw (numbers.0, numbers.1) diverges) in inr (inl (search (is_root, at.held, hashed)))
 
   -- where both trees have one digest at the root's range
@@ -209,24 +184,9 @@ module _ {H : Digest} {F : Data} {old new old_tree new_tree : List (List ℕ)} (
       → IsDivergence H (own_digest H old_tree) (root_over H old_tree place 1) (own_digest H new_tree) (root_over H new_tree place 1) place 1 s w p
       → Shows H (IsConsistencyPlaced H F old new) (inputs_of p (0 ∷ get_or old place []) (0 ∷ get_or new place []))
   below_shown place new_part differ p diverges =
-      let some = node_some at.node in
-      let old_part = (root_stands (record { node = at.node; contained = at.root }) (omega arith) (whole_aligned (length old_tree) refl)).part in
+      let old_part = (root_stands at.root (whole_aligned (length old_tree) refl)).part in
       let pair = both_shown H old new place s w (rw (old_is, leaves_count H old) at old_part) (rw (new_is, leaves_count H new) at new_part) p (rw (old_is, new_is) at diverges) differ in
       record { collides = pair.collides; placed = inr (inr pair.placed) }
-
--- what entries show, once they are read
-pub read_shown : {D V : Type 0} (bytes : V → List ℕ) (old new : List V) {H : Digest} {P : List ℕ → List ℕ → Type 0} {place : ℕ} {e d : V} (p : Divergence D)
-    → DiffersFirst (map bytes old) (map bytes new) place → length old ≤ length new → e ≡ get_or old place e → d ≡ get_or new place d → Shows H P (inputs_of p (0 ∷ get_or (map bytes old) place []) (0 ∷ get_or (map bytes new) place [])) → Shows H P (inputs_of p (0 ∷ bytes e) (0 ∷ bytes d))
-read_shown bytes old new {place = place} p differs order e_is d_is shows =
-    let within = rw (length-map old bytes) at differs.within in
-    rw (← entry_at bytes old place within e_is, ← entry_at bytes new place (omega arith) d_is) shows
-
-pub entries_shown : {D V : Type 0} (bytes : V → List ℕ) (old new : List V) {H : Digest} {F : Data} {m n place : ℕ} {old_tree new_tree : List (List ℕ)} {e d : V} (p : Divergence D)
-    → IsConsistencyMeeting H F m n (map bytes old) (map bytes new) old_tree new_tree → DiffersFirst (map bytes old) (map bytes new) place → IsConsistencyDivergence H F old_tree new_tree place p
-    → e ≡ get_or old place e → d ≡ get_or new place d → Shows H (IsConsistencyPlaced H F (map bytes old) (map bytes new)) (inputs_of p (0 ∷ bytes e) (0 ∷ bytes d))
-entries_shown bytes old new p met differs diverges e_is d_is =
-    let order = met.met.roots.order in
-    read_shown bytes old new p differs (omega (arith, met.met.old_count, met.met.new_count, length-map old bytes, length-map new bytes)) e_is d_is (diverges _ _ met.old_is met.new_is differs.differ)
 
 -- entries that differ from others at a place don't begin them
 pub differs_not_begins : (old new : List (List ℕ)) (place : ℕ) → DiffersFirst old new place → Begins old new → ⊥

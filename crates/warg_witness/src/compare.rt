@@ -1,6 +1,6 @@
 //! Values compared by their bytes, without a copy of them.
 
-ghost use Rattle.std.specs.Prelude.{◌≡◌, ℕ, ◌↔◌, length, IfOk, IsTrue};
+ghost use Rattle.std.specs.Prelude.{◌≡◌, ℕ, ◌↔◌, IfOk, IsTrue};
 ghost use Rattle.warg_witness.specs.Private.Compared.{StandsAt};
 
 use std::alloc::AllocError;

@@ -1,12 +1,14 @@
-//! Where two evaluations diverge, and the collision that they show there.
+//! Two evaluations that go up one way side by side, where they diverge, and the collision that they show there.
 
 ghost use Rattle.std.specs.Prelude.{◌≡◌, IfOk};
 ghost use Rattle.warg_crypto.specs.Collisions.{Collides};
+ghost use Rattle.warg_crypto.specs.Tree.{input_beside};
+ghost use Rattle.warg_witness.specs.Private.Climbs.{IsUp};
 ghost use Rattle.warg_witness.specs.Private.Divergence.{inputs, inputs_of};
 
 use crate::collision::Collision;
 use std::alloc::{AllocError, Allocator};
-use warg_crypto::{Branch, Hash, SupportedDigest, VisitBytes};
+use warg_crypto::{Branch, Hash, SupportedDigest, VisitBytes, hash_branch};
 
 /// Where two evaluations diverge that have one digest at a range.
 #[derive(Drop)]
@@ -17,11 +19,15 @@ pub(crate) enum Divergence<D> {
     Branch(Branches<D>),
 }
 
-/// Two evaluations' branches over one range, by the digests on both sides of each.
+/// Two evaluations' branches over one range: of each the digest to which it comes on the way, and the one beside it.
 #[derive(Drop)]
 pub(crate) struct Branches<D> {
-    pub(crate) first: (Hash<D>, Hash<D>),
-    pub(crate) second: (Hash<D>, Hash<D>),
+    /// Whether the way is on the right.
+    pub(crate) right: bool,
+    pub(crate) first: Hash<D>,
+    pub(crate) first_beside: Hash<D>,
+    pub(crate) second: Hash<D>,
+    pub(crate) second_beside: Hash<D>,
 }
 
 impl<D: SupportedDigest> Branches<D> {
@@ -33,13 +39,13 @@ impl<D: SupportedDigest> Branches<D> {
         requires { Collides D.digest (inputs self.now) }
         ensures { IfOk result (λ c. c ≡ inputs self.now) }
     {
-        let (first_left, first_right) = &self.first;
-        let (second_left, second_right) = &self.second;
-        Collision::of(
-            alloc,
-            &Branch(first_left, first_right),
-            &Branch(second_left, second_right),
-        )
+        if self.right {
+            let first = Branch(&self.first_beside, &self.first);
+            Collision::of(alloc, &first, &Branch(&self.second_beside, &self.second))
+        } else {
+            let first = Branch(&self.first, &self.first_beside);
+            Collision::of(alloc, &first, &Branch(&self.second, &self.second_beside))
+        }
     }
 }
 
@@ -58,5 +64,64 @@ impl<D: SupportedDigest> Divergence<D> {
             Divergence::Target => Collision::of(alloc, first, second),
             Divergence::Branch(branches) => branches.collide(alloc),
         }
+    }
+}
+
+/// Two evaluations along one way, as far as they have come up from the bottom.
+#[derive(Drop)]
+pub(crate) struct Climb<D> {
+    pub(crate) first: Hash<D>,
+    pub(crate) second: Hash<D>,
+    /// Where they diverge, seen from here, if both digests are one.
+    pub(crate) divergence: Divergence<D>,
+}
+
+impl<D: SupportedDigest> Climb<D> {
+    /// Both evaluations at the bottom.
+    pub(crate) fn new(first: Hash<D>, second: Hash<D>) -> Climb<D>
+        ensures first { result.first ≡ first }
+        ensures second { result.second ≡ second }
+        ensures divergence { result.divergence ≡ Divergence.Target }
+    {
+        Climb {
+            first,
+            second,
+            divergence: Divergence::Target,
+        }
+    }
+
+    /// One branch up: on the right of the digests beside them, or on the left.
+    pub(crate) fn up(self, right: bool, first_beside: &Hash<D>, second_beside: &Hash<D>) -> Climb<D>
+        ensures { IsUp D.digest right self.first first_beside.now self.second second_beside.now
+            self.divergence result.first result.second result.divergence }
+    {
+        prove_eq!(self.first.len(), self.second.len());
+        prove_eq!(first_beside.len(), second_beside.len());
+        Climb {
+            first: branch_beside(right, &self.first, first_beside),
+            second: branch_beside(right, &self.second, second_beside),
+            divergence: if (&self.first, first_beside) == (&self.second, second_beside) {
+                self.divergence
+            } else {
+                Divergence::Branch(Branches {
+                    right,
+                    first: self.first,
+                    first_beside: first_beside.copied(),
+                    second: self.second,
+                    second_beside: second_beside.copied(),
+                })
+            },
+        }
+    }
+}
+
+// The digest of the branch over a digest on the right of the one beside it, or on the left.
+fn branch_beside<D: SupportedDigest>(right: bool, digest: &Hash<D>, beside: &Hash<D>) -> Hash<D>
+    ensures { result ≡ D.digest (input_beside right beside.now digest.now) }
+{
+    if right {
+        hash_branch(beside, digest)
+    } else {
+        hash_branch(digest, beside)
     }
 }

@@ -5,7 +5,7 @@
 //! entries or the insertions. They hold for every function from byte lists to 32 bytes, and for all data and
 //! peers of such digests.
 
-ghost use Rattle.std.specs.Prelude.{◌≡◌, ◌≢◌, ℕ, ◌≤◌, ◌↔◌, ◌⊎◌, IsTrue, List, [], ◌∷◌, length, Option, Some};
+ghost use Rattle.std.specs.Prelude.{◌≡◌, ◌≢◌, ℕ, ◌≤◌, ◌↔◌, ◌⊎◌, IsTrue, List, [], length, Option, Some};
 ghost use Rattle.std.specs.List.{AllByRecursion};
 ghost use Rattle.std.specs.FinMap.{empty};
 ghost use Rattle.warg_witness.specs.Claims.{IsMet, IsEntry, IsRootBelow, IsAgreement, IsConsistencyMet, Begins};
@@ -115,7 +115,7 @@ pub fn steps_or_collision()
 
 /// A map's own proof of a key whose value was inserted last of its digest meets the claim of any update of it, and the
 /// claim is true.
-#[tactic(auto, using(crate::proofs::LawLemmas::own_met, crate::proofs::LawLemmas::inserted_push, warg_map::proofs::ForCallers::all_bits, warg_map::proofs::ForCallers::replaced_root))]
+#[tactic(auto, using(crate::proofs::LawLemmas::own_met, crate::proofs::KeyLemmas::inserted_push, warg_map::proofs::ForCallers::all_bits, warg_map::proofs::ForCallers::replaced_root))]
 pub fn own_update()
     ensures { (H : List ℕ → List ℕ) (insertions : List (List ℕ × List ℕ))
         (key old_value new_value : List ℕ)
@@ -126,7 +126,7 @@ pub fn own_update()
 {}
 
 /// A map's own proof that a key's digest isn't held meets the claim of any insertion under it, and the claim is true.
-#[tactic(auto, using(crate::proofs::LawLemmas::inserted_push, crate::proofs::LawLemmas::proves_absent))]
+#[tactic(auto, using(crate::proofs::KeyLemmas::inserted_push, crate::proofs::LawLemmas::proves_absent))]
 pub fn own_insertion()
     ensures { (H : List ℕ → List ℕ) (insertions : List (List ℕ × List ℕ)) (key value : List ℕ)
         (peers : List (Option (List ℕ)))

@@ -7,7 +7,6 @@
 //! strings of equal digest.
 #![tactic(auto)]
 
-mod climb;
 mod collision;
 mod compare;
 mod divergence;

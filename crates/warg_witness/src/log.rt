@@ -14,7 +14,7 @@ mod consistency;
 use crate::collision::Finding;
 use crate::compare::have_same_bytes;
 use crate::divergence::Divergence;
-use crate::plain::{plain_digest, plain_tree};
+use crate::plain::{entry_at, plain_digest, plain_tree};
 use crate::ranges::meet_ranges;
 pub use consistency::witness_consistency;
 use std::alloc::{AllocError, Allocator};
@@ -125,7 +125,7 @@ pub fn witness_value<D: SupportedDigest, V: VisitBytes, L: LogData<D, V>, A: All
             .collide(alloc, &Leaf(value), &Branch(&left, &right))?;
         return Ok(Finding::Collision(pair));
     }
-    let entry = &entries[target.start];
+    let entry = entry_at(entries, target.start);
     if have_same_bytes(value, entry)? {
         return Ok(Finding::Holds);
     }

@@ -1,64 +1,43 @@
 //! Witnesses for the map's proofs.
 
-ghost use Rattle.std.specs.Prelude.{◌≡◌, ℕ, ◌≤◌, Bool, List, [], length, Option, Ok, IfOk, MatchOption};
-ghost use Rattle.warg_map.specs.Last.{last_under};
-ghost use Rattle.warg_crypto.specs.Tree.{leaf_digest};
+ghost use Rattle.std.specs.Prelude.{◌≡◌, ◌≤◌, [], length, Ok, IfOk, MatchOption};
+ghost use Rattle.warg_crypto.specs.Collisions.{Collides};
 ghost use Rattle.warg_map.specs.Sparse.{pair_bytes};
 ghost use Rattle.warg_witness.specs.Findings.{Finds};
-ghost use Rattle.warg_witness.specs.MapClaims.{value_in, IsKeyMet, IsAbsenceMet, IsKeyAgreement, IsLastValue};
+ghost use Rattle.warg_witness.specs.MapClaims.{IsKeyMet, IsAbsenceMet, IsKeyAgreement, IsLastValue};
 ghost use Rattle.warg_witness.specs.MapPlaced.{IsKeyPlaced, IsKeyAgreementPlaced};
-ghost use Rattle.warg_witness.specs.Private.MapMeeting.{IsKeyMeeting};
-ghost use Rattle.warg_witness.specs.Private.MapPaths.{IsLastPlace};
+ghost use Rattle.warg_witness.specs.Private.MapMeeting.{IsKeyMeeting, key_inputs, lent_pair};
 
-mod empty;
-mod keys;
 mod last;
 mod path;
-mod tree;
+mod plain;
 mod update;
 
 use crate::collision::{Collision, Finding};
 use crate::compare::have_same_bytes;
 use crate::divergence::Divergence;
-use empty::empty_trees;
 use last::is_last_value;
 use path::{Evaluation, meet_on_path};
+use plain::{Lent, last_of_digest, own_proof, plain_leaf};
 use std::alloc::{AllocError, Allocator};
-use tree::plain_path;
 pub use update::witness_update;
 use warg_crypto::{Hash, Leaf, SupportedDigest, VisitBytes, hash_leaf};
 use warg_map::Proof;
 
 // A proof that leads to the plain root of given insertions.
 #[derive(Drop)]
-struct KeyMeeting<D> {
+struct KeyMeeting<'a, D, K, V, A: Allocator> {
     // Where the evaluation diverges from the plain tree on the way from the root to the key's leaf.
     divergence: Divergence<D>,
-    // The place of the last insertion under the key's digest.
-    last: Option<usize>,
-}
-
-// The digest of the plain tree's leaf, by the place of the last insertion under it.
-fn plain_leaf<D: SupportedDigest, K: VisitBytes, V: VisitBytes>(
-    insertions: &[(K, V)],
-    last: Option<usize>,
-) -> Hash<D>
-    requires { (bits : List Bool) × IsLastPlace D.digest
-        (pair_bytes K.bytes V.bytes insertions.now) bits last }
-    ensures { (bits : List Bool) → IsLastPlace D.digest
-        (pair_bytes K.bytes V.bytes insertions.now) bits last
-        → result ≡ leaf_digest D.digest (value_in
-        (last_under D.digest bits (pair_bytes K.bytes V.bytes insertions.now))) }
-{
-    match last {
-        Some(place) => hash_leaf(&insertions[place].1),
-        None => hash_leaf(&()),
-    }
+    // The last insertion under the key's digest.
+    last: Option<&'a (K, V)>,
+    // The proof of the key that the map of the insertions gives.
+    own: Proof<D, Lent<'a, K>, Lent<'a, V>, A>,
 }
 
 // The meeting of a proof with the insertions, or None where they don't meet.
-#[tactic(auto, using(crate::proofs::KeyLemmas::peers_count, crate::proofs::KeyLemmas::plain_root_is))]
 fn meet_insertions<
+    'a,
     D: SupportedDigest,
     K: VisitBytes,
     V: VisitBytes,
@@ -67,34 +46,36 @@ fn meet_insertions<
 >(
     alloc: A,
     peers: &[Option<Hash<D>>],
-    key: &K,
+    key: &'a K,
     value: &W,
-    insertions: &[(K, V)],
-) -> Result<Option<KeyMeeting<D>>, AllocError>
+    insertions: &'a [(K, V)],
+) -> Result<Option<KeyMeeting<'a, D, K, V, A>>, AllocError>
     requires { length peers.now ≤ 256 }
     ensures { IfOk result (λ met. MatchOption met
         (IsKeyMet D.digest peers.now (K.bytes key.now) (W.bytes value.now)
         (pair_bytes K.bytes V.bytes insertions.now) → ⊥)
         (λ m. IsKeyMeeting D.digest peers.now (K.bytes key.now) (W.bytes value.now)
-        (pair_bytes K.bytes V.bytes insertions.now) m.divergence m.last)) }
+        (pair_bytes K.bytes V.bytes insertions.now) m.divergence
+        (lent_pair K.bytes V.bytes m.last) m.own)) }
 {
     let digest = Hash::of(key);
-    let empty = empty_trees(alloc)?;
-    let plain = plain_path(alloc, insertions, &empty, &digest)?;
+    let own = own_proof(alloc, key, insertions)?;
+    let last = last_of_digest(&digest, insertions);
     let evaluation = Evaluation {
         peers,
         leaf: hash_leaf(value),
     };
     let tree = Evaluation {
-        peers: &plain.peers,
-        leaf: plain_leaf(insertions, plain.last),
+        peers: own.peers(),
+        leaf: plain_leaf(last),
     };
     let Some(divergence) = meet_on_path(&digest, evaluation, tree) else {
         return Ok(None);
     };
     Ok(Some(KeyMeeting {
         divergence,
-        last: plain.last,
+        last,
+        own,
     }))
 }
 
@@ -102,29 +83,21 @@ fn meet_insertions<
 // the key with another one of its digest.
 fn collide<D: SupportedDigest, K: VisitBytes, V: VisitBytes, W: VisitBytes, A: Allocator + Copy>(
     alloc: A,
-    met: &KeyMeeting<D>,
+    met: &KeyMeeting<'_, D, K, V, A>,
     key: &K,
     value: &W,
-    insertions: &[(K, V)],
 ) -> Result<Collision<D, A>, AllocError>
-    requires met { (peers : List (Option (List ℕ)))
-        × IsKeyMeeting D.digest peers (K.bytes key.now) (W.bytes value.now)
-        (pair_bytes K.bytes V.bytes insertions.now) met.now.divergence met.now.last }
-    requires untrue { IsLastValue (K.bytes key.now) (W.bytes value.now)
-        (pair_bytes K.bytes V.bytes insertions.now) → ⊥ }
-    ensures { IfOk result (λ c. (peers : List (Option (List ℕ)))
-        → IsKeyMeeting D.digest peers (K.bytes key.now) (W.bytes value.now)
-        (pair_bytes K.bytes V.bytes insertions.now) met.now.divergence met.now.last
-        → IsKeyPlaced D.digest peers (W.bytes value.now) (K.bytes key.now)
-        (pair_bytes K.bytes V.bytes insertions.now) c.0 c.1) }
+    requires { Collides D.digest (key_inputs met.now.divergence
+        (lent_pair K.bytes V.bytes met.now.last) (K.bytes key.now) (W.bytes value.now)) }
+    ensures { IfOk result (λ c. c ≡ key_inputs met.now.divergence
+        (lent_pair K.bytes V.bytes met.now.last) (K.bytes key.now) (W.bytes value.now)) }
 {
     if let Divergence::Branch(branches) = &met.divergence {
         return branches.collide(alloc);
     }
-    let Some(place) = met.last else {
+    let Some((inserted, last)) = met.last else {
         return Collision::of(alloc, &Leaf(value), &Leaf(&()));
     };
-    let (inserted, last) = &insertions[place];
     if have_same_bytes(value, last)? {
         return Collision::of(alloc, key, inserted);
     }
@@ -154,7 +127,7 @@ fn find<D: SupportedDigest, K: VisitBytes, V: VisitBytes, W: VisitBytes, A: Allo
     if is_last_value(key, value, insertions)? {
         return Ok(Finding::Holds);
     }
-    Ok(Finding::Collision(collide(alloc, &met, key, value, insertions)?))
+    Ok(Finding::Collision(collide(alloc, &met, key, value)?))
 }
 
 /// Whether a proof's claim about a key's value is true of the insertions: the value inserted last under the key's
@@ -165,10 +138,11 @@ fn find<D: SupportedDigest, K: VisitBytes, V: VisitBytes, W: VisitBytes, A: Allo
 /// (first) and in the plain tree over the insertions (second) at one prefix of the key's bits; or the key's bytes
 /// (first) and those of an inserted key with the same digest (second).
 ///
-/// It hashes each inserted key, each last value under a key digest, and each branch of the plain tree over a key once,
-/// and beside them 256 branches of the proof. It keeps the keys' digests with their places, which it sorts once, and 513
-/// digests more, and copies no key and no value but into a collision. Out of memory is the only error. A key or a value
-/// of more than `usize::MAX` bytes counts as that: no copy of it could be had.
+/// It grows the map of the insertions in one go ([`Map::extend`](warg_map::Map::extend)), and evaluates that map's own
+/// proof of the key beside the given one, 256 branches each. To find the last insertion under the key's digest it hashes
+/// the inserted keys once more, from the last one on, up to that one. It keeps the map until its proof is made, and copies
+/// no key and no value but into a collision. Out of memory is the only error. A key or a value of more than `usize::MAX`
+/// bytes counts as that: no copy of it could be had.
 pub fn witness_key<
     D: SupportedDigest,
     K: VisitBytes,
@@ -227,7 +201,7 @@ pub fn witness_absent<
 /// values have the same bytes. Else a collision: what the digest function takes in the first and in the second
 /// evaluation at one prefix of the key's bits. Out of memory is the only error. A value of more than `usize::MAX` bytes
 /// counts as that.
-#[tactic(auto, using(crate::proofs::KeyLemmas::key_agreement_placed))]
+#[tactic(auto, using(crate::proofs::KeyLemmas::key_agreement_shown))]
 pub fn agree_key<
     D: SupportedDigest,
     K: VisitBytes,

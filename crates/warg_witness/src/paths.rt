@@ -1,15 +1,13 @@
 //! Witnesses for paths.
 
-ghost use Rattle.std.specs.Prelude.{◌≡◌, ℕ, ◌+◌, ◌-◌, ◌^◌, ◌<◌, ◌≤◌, ◌↔◌, List, ◌∷◌, length, map, reverse, None, Some, Ok, IfOk, IsSome, MatchOption};
+ghost use Rattle.std.specs.Prelude.{◌≡◌, length, map, None, Some, Ok, IfOk, MatchOption};
 ghost use Rattle.warg_crypto.specs.Tree.{leaf_digest};
-ghost use Rattle.warg_log.specs.Tree.{front_of, leaves_of, root_of, root_over};
+ghost use Rattle.warg_log.specs.Tree.{leaves_of, root_of};
 ghost use Rattle.warg_paths.specs.Paths.{inclusion_root};
 ghost use Rattle.warg_witness.specs.Findings.{Finds};
 ghost use Rattle.warg_witness.specs.PathClaims.{IsRecord, IsRecordMet};
 ghost use Rattle.warg_witness.specs.PathPlaced.{IsRecordPlaced};
-ghost use Rattle.warg_log.specs.Ranges.{IsAligned};
 ghost use Rattle.warg_witness.specs.Private.PathDivergence.{IsPathMeeting};
-ghost use Rattle.warg_witness.specs.Private.PathClimbs.{DivergesFromTree};
 
 mod agreement;
 mod climbing;
@@ -18,15 +16,14 @@ mod tree;
 
 use crate::collision::Finding;
 use crate::compare::have_same_bytes;
-use crate::divergence::Divergence;
-use crate::plain::{plain_digest, plain_tree};
+use crate::plain::{entry_at, plain_tree};
 pub use agreement::agree_record;
-use climbing::meet_paths;
+use climbing::divergence_from_tree;
 use std::alloc::{AllocError, Allocator};
 pub use tree::witness_tree;
 use warg_crypto::{Hash, Leaf, SupportedDigest, VisitBytes, hash_leaf};
-use warg_log::{GREATEST_LENGTH, LeafRange, VecLog};
-use warg_paths::{PathError, inclusion_path, root_of_inclusion};
+use warg_log::{GREATEST_LENGTH, VecLog};
+use warg_paths::root_of_inclusion;
 
 // The most leaves that a tree has.
 const MOST_LEAVES: usize = GREATEST_LENGTH;
@@ -61,34 +58,6 @@ fn meet_path<D: SupportedDigest, V: VisitBytes, A: Allocator>(
     Ok(Some(tree))
 }
 
-// Where the evaluation of a path that leads to the tree's root and the tree diverge.
-#[tactic(auto, using(crate::proofs::RangeLemmas::leaf_aligned))]
-fn divergence_from_tree<D: SupportedDigest, V: VisitBytes, A: Allocator>(
-    alloc: A,
-    index: usize,
-    path: &[Hash<D>],
-    leaf: &Hash<D>,
-    tree: &VecLog<D, V, A>,
-) -> Result<Divergence<D>, AllocError>
-    requires inside { index < length tree.now }
-    requires fits { length tree.now ≤ GREATEST_LENGTH }
-    requires leads { inclusion_root D.digest index (length tree.now) leaf.now path.now
-        ≡ Some (root_of D.digest tree.now) }
-    ensures { IfOk result (DivergesFromTree D.digest leaf.now path.now tree.now index) }
-{
-    let own_path = match inclusion_path(alloc, tree, index, tree.length()) {
-        Ok(own_path) => own_path,
-        Err(PathError::Memory) => return Err(AllocError),
-        Err(_) => unreachable!(),
-    };
-    let own_leaf = plain_digest(tree, &LeafRange::new(index, 1));
-    let own_path = own_path.as_slice();
-    match meet_paths(index, tree.length(), leaf, path, &own_leaf, own_path) {
-        Some(divergence) => Ok(divergence),
-        None => unreachable!(),
-    }
-}
-
 /// Whether a path's claim about a record is true of the entries: the entry at `index`, from 0, has the value's
 /// bytes.
 ///
@@ -121,11 +90,11 @@ pub fn witness_record<D: SupportedDigest, V: VisitBytes, A: Allocator + Copy>(
     let Some(tree) = meet_path(alloc, index, path, &leaf, entries)? else {
         return Ok(Finding::NotMet);
     };
-    let entry = &entries[index];
+    let entry = entry_at(entries, index);
     if have_same_bytes(value, entry)? {
         return Ok(Finding::Holds);
     }
-    let divergence = divergence_from_tree(alloc, index, path, &leaf, &tree)?;
+    let divergence = divergence_from_tree(index, &leaf, path, &tree);
     let pair = divergence.collide(alloc, &Leaf(value), &Leaf(entry))?;
     Ok(Finding::Collision(pair))
 }

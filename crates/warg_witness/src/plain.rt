@@ -1,12 +1,21 @@
-//! The tree over given entries, and its digests by ranges.
+//! Given entries, the tree over them, and its digests by ranges.
 
-ghost use Rattle.std.specs.Prelude.{◌≡◌, ℕ, ◌+◌, ◌^◌, ◌<◌, ◌≤◌, List, length, map, IfOk};
+ghost use Rattle.std.specs.Prelude.{◌≡◌, ◌+◌, ◌<◌, ◌≤◌, [], length, map, IfOk, slice_index_or};
 ghost use Rattle.warg_log.specs.Tree.{leaves_of, root_of, root_over};
 ghost use Rattle.warg_log.specs.Ranges.{IsAligned};
 
 use std::alloc::{AllocError, Allocator};
 use warg_crypto::{Hash, SupportedDigest, VisitBytes};
 use warg_log::{GREATEST_LENGTH, LeafRange, VecLog, push_all, stored_root};
+
+/// The entry at a place.
+#[tactic(auto, using(crate::proofs::ShownLemmas::entry_at))]
+pub(crate) fn entry_at<V: VisitBytes>(entries: &[V], place: usize) -> &V
+    requires { place < length entries.now }
+    ensures { slice_index_or (map V.bytes entries.now) place [] ≡ V.bytes result.now }
+{
+    &entries[place]
+}
 
 /// The tree over the entries, which is the log of them, and its root. It hashes each leaf and each branch once.
 pub(crate) fn plain_tree<D: SupportedDigest, V: VisitBytes, A: Allocator>(

@@ -1,14 +1,13 @@
 //! Two evaluations over the ranges of a log's tree, side by side.
 
-ghost use Rattle.std.specs.Prelude.{◌≡◌, ◌<◌, MatchOption};
+ghost use Rattle.std.specs.Prelude.{◌≡◌, ◌+◌, ◌<◌, ◌≤◌, MatchOption};
 ghost use Rattle.warg_log.specs.Ranges.{IsAligned};
 ghost use Rattle.warg_witness.specs.Private.Divergence.{HaveOneDigest};
 ghost use Rattle.warg_witness.specs.Private.RangeClimbs.{LackDigest, IsRangeClimb, IsRangesMeeting};
 ghost use Rattle.warg_witness.specs.Private.Ranges.{IsNodeRange, AreSides};
 ghost use Rattle.warg_witness.specs.Ranges.{IsAround};
 
-use crate::climb::Climb;
-use crate::divergence::Divergence;
+use crate::divergence::{Climb, Divergence};
 use warg_crypto::{Hash, SupportedDigest, VisitBytes};
 use warg_log::{LeafRange, LogData, range_root};
 
@@ -20,7 +19,10 @@ pub(crate) fn sides_around(target: &LeafRange, range: &LeafRange) -> (LeafRange,
     requires around { IsAround target.now.start target.now.count range.now.start range.now.count }
     requires other { range.now.start ≡ target.now.start → range.now.count ≡ target.now.count → ⊥ }
     ensures smaller { result.0.count < range.now.count }
-    ensures aligned { IsAligned result.0.start result.0.count }
+    ensures within { (result.0.start + result.0.count ≤ range.now.start + range.now.count)
+        × (result.1.start + result.1.count ≤ range.now.start + range.now.count) }
+    ensures aligned { IsAligned result.0.start result.0.count
+        × IsAligned result.1.start result.1.count }
     ensures around { IsAround target.now.start target.now.count result.0.start result.0.count }
     ensures sides { AreSides result.2 range.now.start range.now.count
         result.0.start result.0.count result.1.start result.1.count }

@@ -1,6 +1,6 @@
 //! The trees over old and new entries, where the entries differ, and where the trees diverge.
 
-ghost use Rattle.std.specs.Prelude.{◌≡◌, ℕ, ◌+◌, ◌^◌, ◌<◌, ◌≤◌, ◌↔◌, List, [], ◌∷◌, length, map, IfOk, IsTrue, slice_index_or};
+ghost use Rattle.std.specs.Prelude.{◌≡◌, ◌+◌, ◌<◌, ◌≤◌, ◌↔◌, [], length, map, IfOk, IsTrue, slice_index_or};
 ghost use Rattle.warg_crypto.specs.Tree.{leaf_digest};
 ghost use Rattle.warg_log.specs.Tree.{leaves_of, root_over, own_digest};
 ghost use Rattle.warg_witness.specs.Ranges.{IsAround};
@@ -25,7 +25,7 @@ pub(crate) struct Trees<D: SupportedDigest, V: VisitBytes, A: Allocator> {
 
 // Whether an old and a new entry at one place have the same bytes. They don't where their leaf digests
 // differ; else their bytes are compared.
-#[tactic(auto, using(crate::proofs::RangeLemmas::leaf_aligned, warg_log::proofs::ForCallers::root_over_one, crate::proofs::HashLemmas::hashes_decide))]
+#[tactic(auto, using(crate::proofs::RangeLemmas::leaf_aligned, warg_log::proofs::ForCallers::root_over_one, crate::proofs::HashLemmas::meets))]
 fn is_same_entry<D: SupportedDigest, V: VisitBytes, A: Allocator>(
     trees: &Trees<D, V, A>,
     place: usize,

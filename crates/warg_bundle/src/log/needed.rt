@@ -1,14 +1,16 @@
 //! The one length of proofs, and the nodes whose digests they need.
 
-ghost use Rattle.std.specs.Prelude.{◌≡◌, ◌^◌, ◌<◌, ◌≤◌, ◌⊎◌, None, Some, IfOk, IfErr, OnOk, map, nat_eq, [], ◌++◌};
+ghost use Rattle.std.specs.Prelude.{◌≡◌, ℕ, ◌^◌, ◌<◌, ◌≤◌, ◌⊎◌, None, Some, Ok, IfOk, IfErr, OnOk, map, nat_eq, [], ◌++◌};
 ghost use Rattle.std.specs.List.{AllByRecursion, IsDistinct, flat_map};
 ghost use Rattle.std.specs.List.Sorted.{IsSorted};
 ghost use Rattle.std.specs.Ordering.{nat_cmp};
 ghost use Rattle.warg_log.specs.Nodes.{ExistsAt};
 ghost use Rattle.warg_log.specs.Walks.{needed, needed_between};
 ghost use Rattle.warg_protobuf.specs.Decoding.{first_fault};
+ghost use Rattle.warg_protobuf.specs.Reading.{Answers};
 ghost use Rattle.warg_bundle.specs.Bundling.{consistency_fault, inclusion_fault, first_length, bundle_length, node_fault, node_with_digest};
 ghost use Rattle.warg_bundle.specs.Private.Unions.{IsUnion};
+ghost use Rattle.warg_bundle.specs.Private.Needed.{digests_at};
 ghost use Rattle.warg_bundle.specs.Private.Checks.{fault_in};
 
 use crate::log::error::BundleError;
@@ -18,6 +20,7 @@ use std::hash::{BuildHasherDefault, FoldHasher};
 use warg_crypto::{Hash, SupportedDigest, VisitBytes};
 use warg_log::{
     ConsistencyProof, ConsistencyProofError, InclusionProof, InclusionProofError, LogData, Node,
+    SparseLogData,
 };
 
 // Numbers of nodes.
@@ -114,7 +117,7 @@ pub(crate) fn add_consistency<D: SupportedDigest, V: VisitBytes, A: Allocator + 
 }
 
 // The digests of the nodes of these numbers.
-pub(crate) fn digests_of<D: SupportedDigest, V: VisitBytes, L: LogData<D, V>, A: Allocator>(
+fn digests_of<D: SupportedDigest, V: VisitBytes, L: LogData<D, V>, A: Allocator>(
     alloc: A,
     numbers: &[usize],
     hashes: &L,
@@ -154,8 +157,30 @@ pub(crate) fn one_length<D, V>(
     Ok(length as u32)
 }
 
+// The digests of the nodes that the proofs of one length need, by node.
+pub(crate) fn needed_digests<
+    D: SupportedDigest,
+    V: VisitBytes,
+    L: LogData<D, V>,
+    A: Allocator + Copy,
+>(
+    alloc: A,
+    consistencies: &[ConsistencyProof<D, V>],
+    inclusions: &[InclusionProof<D, V>],
+    hashes: &L,
+) -> Result<SparseLogData<D, V, A>, BundleError>
+    requires { (n : ℕ) × (bundle_length consistencies.now inclusions.now ≡ Ok n) }
+    ensures { (n : ℕ) → bundle_length consistencies.now inclusions.now ≡ Ok n
+        → Answers BundleError.Memory result (digests_at (L.digest_at hashes.now)
+        (map (λ p. p.old_length) consistencies.now) (map (λ p. p.leaf) inclusions.now) n) }
+{
+    let numbers = needed_nodes(alloc, consistencies, inclusions)?;
+    let pairs = digests_of(alloc, numbers.as_slice(), hashes)?;
+    Ok(SparseLogData::from(pairs))
+}
+
 // The numbers of the nodes that the proofs need, ascending.
-pub(crate) fn needed_nodes<D: SupportedDigest, V: VisitBytes, A: Allocator + Copy>(
+fn needed_nodes<D: SupportedDigest, V: VisitBytes, A: Allocator + Copy>(
     alloc: A,
     consistencies: &[ConsistencyProof<D, V>],
     inclusions: &[InclusionProof<D, V>],

@@ -1,6 +1,6 @@
 //! Proofs of a log together with the digests that they need.
 
-ghost use Rattle.std.specs.Prelude.{◌≡◌, ◌≢◌, ℕ, ◌^◌, ◌<◌, ◌≤◌, ◌↔◌, ◌⊎◌, List, None, Some, Ok, Err, IfOk, IfErr, OnSome, IfSome, IsTrue, IsNone, length, map, slice_get, OnOk};
+ghost use Rattle.std.specs.Prelude.{◌≡◌, ◌≢◌, ◌^◌, ◌<◌, ◌↔◌, ◌⊎◌, None, Some, Ok, Err, IfOk, IfErr, IfSome, IsTrue, IsNone, length, map, slice_get, OnOk};
 ghost use Rattle.std.specs.List.{AllByRecursion};
 ghost use Rattle.warg_protobuf.specs.declared.error.WireError.TheVariants as wire;
 ghost use Rattle.warg_protobuf.specs.Reading.{Answers};
@@ -11,7 +11,7 @@ ghost use Rattle.warg_bundle.specs.Bundling.{bundled};
 ghost use Rattle.warg_bundle.specs.LogBundles.{bundle_message, log_bundle_in, bundle_of, NodesFit, entry_of, pair_of, entries_fault, same_bundle};
 
 use crate::log::error::BundleError;
-use crate::log::needed::{digests_of, needed_nodes, one_length};
+use crate::log::needed::{needed_digests, one_length};
 use std::alloc::{AllocError, Allocator, Global};
 use std::marker::Model;
 use warg_crypto::{Hash, SupportedDigest, VisitBytes};
@@ -164,15 +164,14 @@ impl<D: SupportedDigest, V: VisitBytes, A: Allocator + Copy> ProofBundle<D, V, A
             (bundled (L.digest_at hashes.now) consistency_proofs.items inclusion_proofs.items) }
     {
         let log_length = one_length(&consistency_proofs, &inclusion_proofs)?;
-        let nodes = needed_nodes(alloc, &consistency_proofs, &inclusion_proofs)?;
-        let pairs = digests_of(alloc, nodes.as_slice(), hashes)?;
+        let hashes = needed_digests(alloc, &consistency_proofs, &inclusion_proofs, hashes)?;
         let consistent_lengths = old_lengths(alloc, &consistency_proofs)?;
         let included_nodes = leaves(alloc, &inclusion_proofs)?;
         Ok(ProofBundle {
             log_length,
             consistent_lengths,
             included_nodes,
-            hashes: SparseLogData::from(pairs),
+            hashes,
         })
     }
 

@@ -1,6 +1,6 @@
 //! Stack logs as messages and bytes.
 
-ghost use Rattle.std.specs.Prelude.{◌≡◌, ◌≢◌, ℕ, ◌^◌, ◌≤◌, ◌↔◌, ◌⊎◌, nat_eq, length, map, Some, None, Ok, Err, IfOk, IfErr, OnOk};
+ghost use Rattle.std.specs.Prelude.{◌≡◌, ◌≢◌, ◌^◌, ◌≤◌, ◌↔◌, ◌⊎◌, nat_eq, length, map, Some, None, Ok, Err, IfOk, IfErr, OnOk};
 ghost use Rattle.std.specs.List.{AllByRecursion, zip};
 ghost use Rattle.std.specs.Cmp.Lexicographic.{pointwise};
 ghost use Rattle.warg_protobuf.specs.declared.error.WireError.TheVariants as wire;
@@ -30,6 +30,7 @@ impl<D: SupportedDigest, V: VisitBytes, A: Allocator + Copy> StackLog<D, V, A> {
     /// The errors: `HashLength` where a digest of the stack doesn't have 32 bytes; then `NotAStack` where the
     /// entries' numbers aren't the balanced roots of the length, in order. Memory grows with the entries that
     /// are there, and never by the length.
+    #[tactic(auto, using(crate::proofs::ImageLemmas::stack_read, crate::proofs::ImageLemmas::no_stack))]
     pub fn from_message(alloc: A, message: Message<A>) -> Result<Self, DecodeError>
         ensures exact { Answers DecodeError.Memory result (stack_in (stack_view message)) }
         ensures message { IfOk result (λ log. stack_message log ≡ stack_view message) }
@@ -62,6 +63,7 @@ impl<D: SupportedDigest, V: VisitBytes, A: Allocator + Copy> StackLog<D, V, A> {
 
     /// The log's message, which holds the same log. `TooLarge` exactly if the length or a balanced root's
     /// number is above `u32::MAX`, which is above 2^31 entries, before any growth.
+    #[tactic(auto, using(crate::proofs::ImageLemmas::roots_fit, crate::proofs::ImageLemmas::roots_too_large))]
     pub fn to_message(&self) -> Result<Message<A>, EncodeError>
         ensures ok { IfOk result (λ message. stack_view message ≡ stack_message self.now) }
         ensures again { IfOk result (λ message. stack_in (stack_view message) ≡ Ok self.now) }
@@ -98,12 +100,13 @@ fn read_blocks<D, A: Allocator>(
     alloc: A,
     entries: &[HashEntry<A>],
 ) -> Result<Vec<Hash<D>, A>, DecodeError>
-    ensures ok { IfOk result (λ hashes. hashes.items ≡ map (λ e. e.hash.items) entries.now) }
+    ensures ok { IfOk result (λ hashes.
+        hashes.items ≡ map (λ e. e.hash) (map entry_view entries.now)) }
     ensures good { IfOk result (λ hashes. first_fault digest_fault
-        (map (λ e. e.hash.items) entries.now) ≡ None) }
+        (map (λ e. e.hash) (map entry_view entries.now)) ≡ None) }
     ensures fault { IfErr result (λ e. (e ≡ DecodeError.Memory)
         ⊎ ((e ≡ DecodeError.HashLength) × (first_fault digest_fault
-        (map (λ e. e.hash.items) entries.now) ≡ Some e))) }
+        (map (λ e. e.hash) (map entry_view entries.now)) ≡ Some e))) }
 {
     let mut hashes = Vec::new(alloc);
     'entries: for entry in entries {
@@ -116,7 +119,8 @@ fn read_blocks<D, A: Allocator>(
 // Whether the numbers of these entries are the balanced roots of a length, in order.
 fn are_roots<A: Allocator>(entries: &[HashEntry<A>], count: usize) -> bool
     requires { count ≤ GREATEST_LENGTH }
-    ensures { result ≡ pointwise nat_eq (map (λ e. e.index) entries.now) (balanced_roots count) }
+    ensures { result ≡ pointwise nat_eq (map (λ e. e.index) (map entry_view entries.now))
+        (balanced_roots count) }
 {
     let mut roots = BalancedRoots::of(count);
     'entries: for entry in entries {
@@ -129,6 +133,7 @@ fn are_roots<A: Allocator>(entries: &[HashEntry<A>], count: usize) -> bool
 }
 
 // The entries of the balanced roots of a length, with these digests.
+#[tactic(auto, using(crate::proofs::ImageLemmas::roots_fit))]
 fn entries<D, A: Allocator + Copy>(
     alloc: A,
     count: usize,

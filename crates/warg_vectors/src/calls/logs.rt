@@ -7,7 +7,7 @@ use crate::words::List;
 use std::alloc::{AllocError, Allocator, Global};
 use std::marker::PhantomData;
 use warg_crypto::SupportedDigest;
-use warg_log::{LogBuilder, LogData, Node, StackLog, VecLog, push_all};
+use warg_log::{GREATEST_LENGTH, LogBuilder, LogData, Node, StackLog, VecLog, push_all};
 
 // A log whose entries are lists of bytes.
 type BytesLog<D, A = Global> = VecLog<D, Vec<u8>, A>;
@@ -72,7 +72,7 @@ fn proves_its_last<D: SupportedDigest, A: Allocator>(
     entries: &[Vec<u8>],
 ) -> bool {
     let length = log.length();
-    if length == 0 || length > entries.len() || length > 1 << 63 {
+    if length == 0 || length > entries.len() || length > GREATEST_LENGTH {
         return length == 0;
     }
     let proof = log.prove_inclusion(Node(2 * (length - 1)), length);
@@ -152,7 +152,7 @@ fn beginning<D: SupportedDigest>(
 ) -> Result<BytesLog<D>, AllocError> {
     let mut log = VecLog::default(*entries.items.allocator());
     for entry in entries.items.iter().take(count) {
-        if log.length() < 1 << 63 {
+        if log.length() < GREATEST_LENGTH {
             log.push(entry)?;
         }
     }
@@ -193,7 +193,7 @@ fn push_next<D: SupportedDigest, K: Kind<D>>(
     entry: &Vec<u8>,
     before: usize,
 ) -> Result<(), Wrong> {
-    if before >= 1 << 63 || log.checkpoint().length() != before {
+    if before >= GREATEST_LENGTH || log.checkpoint().length() != before {
         return Err(Wrong::Because("another length"));
     }
     let node = log.push(entry)?;
@@ -221,7 +221,7 @@ fn push_rest<D: SupportedDigest, K: Kind<D>>(
     entries: &[Vec<u8>],
 ) -> Result<(), Wrong> {
     let count = log.checkpoint().length();
-    if count > entries.len() || entries.len() > 1 << 63 {
+    if count > entries.len() || entries.len() > GREATEST_LENGTH {
         return Err(Wrong::Because("too many entries"));
     }
     push_all(log, &entries[count..])?;

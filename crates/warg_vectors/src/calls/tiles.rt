@@ -7,7 +7,7 @@ use crate::{answer, each};
 use std::alloc::{AllocError, Allocator};
 use std::marker::PhantomData;
 use warg_crypto::SupportedDigest;
-use warg_log::{LogBuilder, LogData, Node, VecLog};
+use warg_log::{GREATEST_LENGTH, LogBuilder, LogData, Node, VecLog};
 use warg_tiles::{Tile, TileData};
 
 const NAMES: [&str; 7] = [
@@ -188,7 +188,7 @@ impl<D: SupportedDigest> Call for TileHashes<D> {
     ) -> Result<(), AllocError> {
         let (tile, entries) = given;
         let log = log_of::<D>(entries)?;
-        if !tile.exists_at_length(1 << 63) {
+        if !tile.exists_at_length(GREATEST_LENGTH) {
             return to.word("bad call");
         }
         match warg_tiles::tile_hashes(memory, &log, tile) {
@@ -201,7 +201,7 @@ impl<D: SupportedDigest> Call for TileHashes<D> {
 fn log_of<D: SupportedDigest>(entries: &List<Vec<u8>>) -> Result<VecLog<D, Vec<u8>>, AllocError> {
     let mut log = VecLog::default(*entries.items.allocator());
     for entry in entries.items.as_slice() {
-        if log.length() < 1 << 63 {
+        if log.length() < GREATEST_LENGTH {
             log.push(entry)?;
         }
     }

@@ -1,5 +1,5 @@
 -- Two evaluations that go up one way side by side.
-use Rattle.std.specs.Prelude.{◌≡◌, ℕ, ◌⊎◌, Bool, if◌then◌else◌, List}
+use Rattle.std.specs.Prelude.{◌≡◌, ℕ, ◌⊎◌, Bool, List}
 use Rattle.warg_crypto.specs.Tree.{input_beside}
 use Rattle.warg_witness.specs.declared.divergence.Divergence.{Divergence}
 use Rattle.warg_witness.specs.declared.divergence.Divergence.TheVariants.{Branch}
@@ -10,7 +10,7 @@ abbrev pub DivergesUp : {D : _} → Bool → List ℕ → List ℕ → List ℕ 
 DivergesUp bit x u y v before after =
     ((x ≡ y) × (u ≡ v) × (after ≡ before))
     ⊎ ((input_beside bit u x ≡ input_beside bit v y → ⊥)
-    × (after ≡ Branch (record { first = (if bit then u else x, if bit then x else u); second = (if bit then v else y, if bit then y else v) })))
+    × (after ≡ Branch (record { right = bit; first = x; first_beside = u; second = y; second_beside = v })))
 
 -- Such a step.
 pub record IsUp {D : _} (H : List ℕ → List ℕ) (bit : Bool) (x u y v : List ℕ) (before : Divergence D) (first second : List ℕ) (after : Divergence D) : Type 0 where

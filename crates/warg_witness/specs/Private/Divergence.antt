@@ -4,7 +4,7 @@ use Rattle.warg_log.specs.Ranges.{leaves_from}
 use Rattle.warg_log.specs.Cut.{with_target, cut_over}
 use Rattle.warg_witness.specs.Ranges.{IsPart, IsAround}
 use Rattle.warg_crypto.specs.Collisions.{Collides}
-use Rattle.warg_crypto.specs.Tree.{branch_input}
+use Rattle.warg_crypto.specs.Tree.{input_beside}
 use Rattle.warg_witness.specs.Inputs.{cut_input}
 use Rattle.warg_witness.specs.declared.divergence.Branches.{Branches}
 use Rattle.warg_witness.specs.declared.divergence.Divergence.{Divergence}
@@ -12,7 +12,7 @@ use Rattle.warg_witness.specs.declared.divergence.Divergence.TheVariants.{Target
 
 -- The two byte lists that the digest function takes at two branches.
 abbrev pub inputs : {D : _} → Branches D → List ℕ × List ℕ
-inputs branches = (branch_input branches.first.0 branches.first.1, branch_input branches.second.0 branches.second.1)
+inputs b = (input_beside b.right b.first_beside b.first, input_beside b.right b.second_beside b.second)
 
 -- The two byte lists that a divergence shows: those of the branches, or at the target those that are given.
 abbrev pub inputs_of : {D : _} → Divergence D → List ℕ → List ℕ → List ℕ × List ℕ

@@ -1,17 +1,42 @@
 -- A map's proof that leads to the plain root of given insertions, and what a witness knows of it.
-use Rattle.std.specs.Prelude.{ℕ, List, Option}
-use Rattle.std.specs.FinMap.{get}
+use Rattle.std.specs.Prelude.{◌≡◌, ℕ, List, [], if◌then◌else◌, Option, Some, None}
+use Rattle.std.specs.Option.{option_map}
+use Rattle.warg_crypto.specs.Bytes.{same_bytes}
 use Rattle.warg_map.specs.Bits.{key_bits}
-use Rattle.warg_crypto.specs.Tree.{leaf_digest}
+use Rattle.warg_crypto.specs.Tree.{leaf_digest, leaf_input}
 use Rattle.warg_map.specs.Sparse.{map_of}
 use Rattle.warg_map.specs.Last.{last_under}
+use Rattle.warg_map.specs.Peers.{IsBeside}
+use Rattle.std.specs.FinMap.{get}
 use Rattle.warg_witness.specs.MapClaims.{value_in, IsKeyMet}
-use Rattle.warg_witness.specs.Private.MapPaths.{IsPathDivergence, IsLastPlace, plain_peers}
+use Rattle.warg_witness.specs.MapPlaced.{IsPlacedAtPrefix}
+use Rattle.warg_witness.specs.UpdateClaims.{IsUpdated}
+use Rattle.warg_witness.specs.Private.Divergence.{Parts, inputs}
 use Rattle.warg_witness.specs.declared.divergence.Divergence.{Divergence}
+use Rattle.warg_witness.specs.declared.divergence.Divergence.TheVariants.{Target, Branch}
+use Rattle.std.specs.Borrow.{Bor}
 
--- The claim of a key is met; the evaluation diverges from the plain tree as said on the way to the key's leaf; and
--- the last insertion under the key's digest stands at the place.
-pub record IsKeyMeeting {D : _} (H : List ℕ → List ℕ) (peers : List (Option (List ℕ))) (key value : List ℕ) (insertions : List (List ℕ × List ℕ)) (divergence : Divergence D) (last : Option ℕ) : Type 0 where
+-- The bytes of an insertion that is lent, if there is one.
+abbrev pub lent_pair : {K V : Type 0} → (K → List ℕ) → (V → List ℕ) → Option (Bor (K × V)) → Option (List ℕ × List ℕ)
+lent_pair key_bytes value_bytes pair = option_map (λ e. (key_bytes e.now.0, value_bytes e.now.1)) pair
+
+-- A proof's evaluation diverges nowhere from the plain tree: both have one leaf digest under the key, and from any other
+-- value the evaluation leads to the plain root with this value inserted too.
+pub record IsAlike (H : List ℕ → List ℕ) (peers : List (Option (List ℕ))) (key value : List ℕ) (insertions : List (List ℕ × List ℕ)) : Type 0 where
+  pub same : leaf_digest H value ≡ leaf_digest H (value_in (last_under H (key_bits H key) insertions))
+  pub updates : (new : List ℕ) → IsUpdated H peers key new insertions
+
+-- The claim of a key is met; the evaluation diverges from the plain tree as said, on the way to the key's leaf; the last
+-- insertion under the key's digest is this one; and these peers stand beside the key's path in the plain tree.
+pub record IsKeyMeeting {D : _} (H : List ℕ → List ℕ) (peers : List (Option (List ℕ))) (key value : List ℕ) (insertions : List (List ℕ × List ℕ)) (divergence : Divergence D) (last : Option (List ℕ × List ℕ)) (own : List (Option (List ℕ))) : Type 0 where
   pub met : IsKeyMet H peers key value insertions
-  pub diverges : IsPathDivergence H peers (leaf_digest H value) (plain_peers H (get (map_of H insertions)) (key_bits H key)) (leaf_digest H (value_in (last_under H (key_bits H key) insertions))) (key_bits H key) divergence
-  pub last_is : IsLastPlace H insertions (key_bits H key) last
+  pub diverges : Parts H (IsPlacedAtPrefix H peers value key insertions) (IsAlike H peers key value insertions) divergence
+  pub last_is : last_under H (key_bits H key) insertions ≡ last
+  pub beside : IsBeside H own (get (map_of H insertions)) (key_bits H key)
+
+-- The two byte lists that a false claim of a key shows: those of the branches at which the evaluation diverges; or those
+-- of the leaves; or, where these have one value, the key and the inserted one.
+abbrev pub key_inputs : {D : _} → Divergence D → Option (List ℕ × List ℕ) → List ℕ → List ℕ → List ℕ × List ℕ
+key_inputs (Branch branches) last key value = inputs branches
+key_inputs Target None key value = (leaf_input value, leaf_input [])
+key_inputs Target (Some e) key value = if same_bytes value e.1 then (key, e.0) else (leaf_input value, leaf_input e.1)

@@ -1,12 +1,12 @@
 -- A proof that leads to the root of given entries, and what a witness knows of it.
-use Rattle.std.specs.Prelude.{◌≡◌, ℕ, ◌+◌, ◌^◌, ◌≤◌, List, [], ◌∷◌, length, Option, Some, Contains, slice_index_or}
-use Rattle.warg_log.specs.Nodes.{height_of, start_of, node_over, balanced_roots}
+use Rattle.std.specs.Prelude.{◌≡◌, ℕ, ◌+◌, ◌^◌, ◌≤◌, List, [], ◌∷◌, length, Option, Some, slice_index_or}
+use Rattle.warg_log.specs.Nodes.{height_of, start_of, node_over}
 use Rattle.warg_log.specs.Tree.{leaves_of, root_of, root_over, own_digest}
 use Rattle.warg_log.specs.Cut.{with_target, cut_over}
 use Rattle.warg_log.specs.Consistency.{IsConsistent}
 use Rattle.warg_log.specs.Claims.{InclusionClaim}
 use Rattle.warg_log.specs.Ranges.{leaves_from, IsAligned}
-use Rattle.warg_witness.specs.Private.Ranges.{IsNodeRange}
+use Rattle.warg_witness.specs.Private.Ranges.{IsNodeRange, IsRootOf}
 use Rattle.warg_witness.specs.Claims.{IsMet, IsConsistencyMet}
 use Rattle.warg_witness.specs.Placed.{IsConsistencyPlaced}
 use Rattle.warg_witness.specs.Private.Divergence.{IsDivergence, Shows, inputs_of}
@@ -40,7 +40,7 @@ IsConsistencyDivergence H F old_tree new_tree place p = (old new : List (List �
 -- The w leaves from s on are a balanced root of the old tree, and the digest x is held for it, and leads to
 -- the roots of both trees.
 pub record LeadsToBoth (H : List ℕ → List ℕ) (F : ℕ → Option (List ℕ)) (old_tree new_tree : List (List ℕ)) (s w : ℕ) (x : List ℕ) : Type 0 where
-  pub root : Contains (balanced_roots (length old_tree)) (node_over s w)
+  pub root : IsRootOf s w 0 (length old_tree)
   pub node : IsNodeRange s w
   pub in_old : s + w ≤ length old_tree
   pub in_new : s + w ≤ length new_tree

@@ -6,7 +6,8 @@ use Rattle.warg_paths.specs.Paths.{roots_down}
 use Rattle.warg_witness.specs.PathClaims.{IsTreeMet}
 use Rattle.warg_witness.specs.Ranges.{IsPart, IsAround}
 use Rattle.warg_witness.specs.TreePlaced.{IsOnGrowth, IsTreePlaced}
-use Rattle.warg_witness.specs.Private.Divergence.{Parts, Shows, inputs_of}
+use Rattle.warg_witness.specs.Private.Divergence.{Shows, inputs_of}
+use Rattle.warg_witness.specs.Private.PathDivergence.{IsBeside}
 use Rattle.warg_witness.specs.declared.divergence.Divergence.{Divergence}
 
 -- The path leads from the root of the tree over the old entries to the roots of both trees, which can be numbered.
@@ -23,35 +24,35 @@ pub record IsTreeMeeting (H : List ℕ → List ℕ) (path old new old_tree new_
 abbrev pub LeadsOver : (List ℕ → List ℕ) → List (List ℕ) → List (List ℕ) → Option (List ℕ) → ℕ → ℕ → ℕ → List (List ℕ) → Type 0
 LeadsOver H old_tree new_tree known m a n digests = roots_down H known m n digests ≡ Some (root_over H old_tree a m, root_over H new_tree a n)
 
--- The trees are those over entries that differ at the place, and the range is on a path's way from the old to the new.
+-- The trees are those over entries that differ at the place, and the range is on a path's way from the old to the new: one of
+-- the new tree, and its old leaves one of the old tree.
 pub record IsOnWayOver (H : List ℕ → List ℕ) (path old new old_tree new_tree : List (List ℕ)) (place : ℕ) (known : Option (List ℕ)) (m a n : ℕ) (digests : List (List ℕ)) : Type 0 where
   pub old_is : old_tree ≡ leaves_of H old
   pub new_is : new_tree ≡ leaves_of H new
   pub differ : slice_index_or old place [] ≡ slice_index_or new place [] → ⊥
   pub on_way : IsOnGrowth (Some (root_of H (leaves_of H old))) (length old) (length new) (reverse path) known m a n digests
+  pub old_part : IsPart 0 (length old) a m
+  pub new_part : IsPart 0 (length new) a n
 
 -- Of all entries and all paths for which it is such a range, the divergence shows a collision, or both entries do.
 abbrev pub IsTreeDivergence : {D : _} → (List ℕ → List ℕ) → List (List ℕ) → List (List ℕ) → ℕ → Option (List ℕ) → ℕ → ℕ → ℕ → List (List ℕ) → Divergence D → Type 0
 IsTreeDivergence H old_tree new_tree place known m a n digests p = (path old new : List (List ℕ)) → IsOnWayOver H path old new old_tree new_tree place known m a n digests
     → Shows H (IsTreePlaced H path old new) (inputs_of p (0 ∷ slice_index_or old place []) (0 ∷ slice_index_or new place []))
 
--- An evaluation and a tree go up together from one digest, or diverge at a branch, which of all such entries and paths
--- shows a collision.
-abbrev pub PartsOnGrowth : {D : _} → (List ℕ → List ℕ) → List (List ℕ) → List (List ℕ) → ℕ → Option (List ℕ) → ℕ → ℕ → ℕ → List (List ℕ) → List ℕ → List ℕ → Divergence D → Type 0
-PartsOnGrowth H old_tree new_tree place known m a n digests x y p =
-    Parts H (λ first second. (path old new : List (List ℕ)) → IsOnWayOver H path old new old_tree new_tree place known m a n digests → IsTreePlaced H path old new first second) (x ≡ y) p
+-- Of all entries and all paths for which it is such a range, two byte lists stand where a collision may.
+abbrev pub PlacedOnGrowth : (List ℕ → List ℕ) → List (List ℕ) → List (List ℕ) → ℕ → Option (List ℕ) → ℕ → ℕ → ℕ → List (List ℕ) → List ℕ → List ℕ → Type 0
+PlacedOnGrowth H old_tree new_tree place known m a n digests first second =
+    (path old new : List (List ℕ)) → IsOnWayOver H path old new old_tree new_tree place known m a n digests → IsTreePlaced H path old new first second
 
 -- What is left of a path leads to the roots o and v of the first m of the n leaves from a on and of all, where those of
--- the trees are o' and v'. The k leaves from b on, with the place, are a range of both, and where o is o' the evaluation
--- and the old tree part as said from one digest there, and so where v is v' do the evaluation and the new tree.
+-- the trees are o' and v'. The k leaves from b on, with the place, are a range of both, and the evaluations of both roots
+-- go up from one digest there.
 pub record IsGrowth {D : _} (H : List ℕ → List ℕ) (old_tree new_tree : List (List ℕ)) (place : ℕ) (known : Option (List ℕ)) (m a n : ℕ) (digests : List (List ℕ)) (b k : ℕ)
     (o o' : List ℕ) (p : Divergence D) (v v' : List ℕ) (q : Divergence D) : Type 0 where
   pub roots : roots_down H known m n digests ≡ Some (o, v)
-  pub old_is : o' ≡ root_over H old_tree a m
-  pub new_is : v' ≡ root_over H new_tree a n
   pub around : IsAround place 1 b k
   pub old_part : IsPart a m b k
   pub new_part : IsPart a n b k
   pub digest : List ℕ
-  pub old_parts : o ≡ o' → PartsOnGrowth H old_tree new_tree place known m a n digests digest (root_over H old_tree b k) p
-  pub new_parts : v ≡ v' → PartsOnGrowth H old_tree new_tree place known m a n digests digest (root_over H new_tree b k) q
+  pub old : IsBeside H old_tree (PlacedOnGrowth H old_tree new_tree place known m a n digests) (digest ≡ root_over H old_tree b k) a m o o' p
+  pub new : IsBeside H new_tree (PlacedOnGrowth H old_tree new_tree place known m a n digests) (digest ≡ root_over H new_tree b k) a n v v' q

@@ -1,14 +1,13 @@
 //! The witness for consistency proofs.
 
-ghost use Rattle.std.specs.Prelude.{◌≡◌, ℕ, ◌+◌, ◌^◌, ◌<◌, ◌≤◌, ◌↔◌, List, [], ◌∷◌, length, map, None, Some, Ok, Err, IfOk, IsTrue, MatchOption, IfSome, Contains};
-ghost use Rattle.warg_log.specs.Nodes.{node_over, balanced_over};
-ghost use Rattle.warg_log.specs.Tree.{leaves_of, root_of, root_over, own_digest};
+ghost use Rattle.std.specs.Prelude.{◌≡◌, ◌+◌, ◌<◌, ◌≤◌, ◌↔◌, length, map, None, Some, Ok, Err, IfOk, IsTrue, MatchOption};
+ghost use Rattle.warg_log.specs.Tree.{root_of, root_over, own_digest};
 ghost use Rattle.warg_log.specs.Cut.{with_target, cut_over};
 ghost use Rattle.warg_log.specs.Consistency.{IsConsistent, consistency};
 ghost use Rattle.warg_log.specs.declared.consistency.ConsistencyProofError.{ConsistencyProofError};
 ghost use Rattle.warg_witness.specs.Ranges.{IsAround};
-ghost use Rattle.warg_log.specs.Ranges.{leaves_from, IsAligned};
-ghost use Rattle.warg_witness.specs.Private.Ranges.{IsNodeRange};
+ghost use Rattle.warg_log.specs.Ranges.{leaves_from};
+ghost use Rattle.warg_witness.specs.Private.Ranges.{IsNodeRange, IsRootOf};
 ghost use Rattle.warg_witness.specs.Findings.{Finds};
 ghost use Rattle.warg_witness.specs.Claims.{Begins, IsConsistencyMet};
 ghost use Rattle.warg_witness.specs.Placed.{IsConsistencyPlaced};
@@ -17,7 +16,7 @@ ghost use Rattle.warg_witness.specs.Private.Meeting.{IsConsistencyDivergence, Is
 
 use crate::collision::Finding;
 use crate::divergence::Divergence;
-use crate::plain::{plain_digest, plain_tree};
+use crate::plain::{entry_at, plain_digest, plain_tree};
 use crate::ranges::meet_ranges;
 use crate::trees::{Trees, divergence_below, first_difference};
 use std::alloc::{AllocError, Allocator};
@@ -83,10 +82,7 @@ fn meet_trees<D: SupportedDigest, V: VisitBytes, L: LogData<D, V>, A: Allocator 
 fn root_around(place: usize, range: &LeafRange) -> LeafRange
     requires starts { range.now.start ≤ place }
     requires ends { place < range.now.start + range.now.count }
-    ensures root { Contains (balanced_over range.now.start range.now.count)
-        (node_over result.start result.count) }
-    ensures node { IsAligned range.now.start range.now.count
-        → IsNodeRange result.start result.count }
+    ensures root { IsRootOf result.start result.count range.now.start range.now.count }
     ensures around { IsAround place 1 result.start result.count }
 {
     if range.is_full() {
@@ -219,6 +215,7 @@ pub fn witness_consistency<
         return Ok(Finding::Holds);
     };
     let divergence = divergence_at(hashes, &trees, place);
-    let pair = divergence.collide(alloc, &Leaf(&old[place]), &Leaf(&new[place]))?;
+    let (old_entry, new_entry) = (entry_at(old, place), entry_at(new, place));
+    let pair = divergence.collide(alloc, &Leaf(old_entry), &Leaf(new_entry))?;
     Ok(Finding::Collision(pair))
 }

@@ -6,8 +6,7 @@ ghost use Rattle.warg_map.specs.Bits.{bit_at, last_bits};
 ghost use Rattle.warg_map.specs.ProofValue.{peer_of, proof_value};
 ghost use Rattle.warg_witness.specs.Private.MapPaths.{MeetsOnPath};
 
-use crate::climb::Climb;
-use crate::divergence::Divergence;
+use crate::divergence::{Climb, Divergence};
 use warg_crypto::{Hash, SupportedDigest};
 
 /// Bit `at` of a digest, from the most significant bit of its first byte.

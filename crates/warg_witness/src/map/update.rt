@@ -9,12 +9,10 @@ ghost use Rattle.warg_witness.specs.UpdateClaims.{IsUpdated};
 
 use crate::collision::Finding;
 use crate::divergence::Divergence;
-use crate::map::empty::empty_trees;
-use crate::map::path::{Evaluation, meet_on_path};
-use crate::map::plain_leaf;
-use crate::map::tree::plain_path;
+use crate::map::meet_insertions;
+use crate::map::plain::Lent;
 use std::alloc::{AllocError, Allocator};
-use warg_crypto::{Hash, SupportedDigest, VisitBytes, hash_leaf};
+use warg_crypto::{SupportedDigest, VisitBytes};
 use warg_map::Proof;
 
 /// Whether a proof that leads from the old value to the root of the map of the insertions leads from the new value to
@@ -25,9 +23,8 @@ use warg_map::Proof;
 /// in the evaluation from the old value (first) and in the plain tree over the insertions (second) at one prefix of the
 /// key's bits.
 ///
-/// It costs what [`witness_key`](crate::witness_key) does, and at most 512 branches more. Out of memory is the only
-/// error.
-#[tactic(auto, using(crate::proofs::KeyLemmas::peers_count, crate::proofs::KeyLemmas::plain_roots))]
+/// It costs what [`witness_key`](crate::witness_key) does, and at most two digests of the key and of the new value and 512
+/// branches more. Out of memory is the only error.
 pub fn witness_update<
     D: SupportedDigest,
     K: VisitBytes,
@@ -50,32 +47,14 @@ pub fn witness_update<
         (IsPlacedAtPrefix D.digest proof.now (V.bytes old_value.now) (K.bytes key.now)
         (pair_bytes K.bytes V.bytes insertions.now))) }
 {
-    let digest = Hash::of(key);
-    let empty = empty_trees(alloc)?;
-    let plain = plain_path(alloc, insertions, &empty, &digest)?;
-    let old = Evaluation {
-        peers: proof.peers(),
-        leaf: hash_leaf(old_value),
-    };
-    let old_tree = Evaluation {
-        peers: &plain.peers,
-        leaf: plain_leaf(insertions, plain.last),
-    };
-    let Some(divergence) = meet_on_path(&digest, old, old_tree) else {
+    let Some(met) = meet_insertions(alloc, proof.peers(), key, old_value, insertions)? else {
         return Ok(Finding::NotMet);
     };
-    let Divergence::Branch(branches) = &divergence else {
+    let Divergence::Branch(branches) = &met.divergence else {
         return Ok(Finding::Holds);
     };
-    let new = Evaluation {
-        peers: proof.peers(),
-        leaf: hash_leaf(new_value),
-    };
-    let new_tree = Evaluation {
-        peers: &plain.peers,
-        leaf: hash_leaf(new_value),
-    };
-    if meet_on_path(&digest, new, new_tree).is_some() {
+    let new_root = met.own.evaluate(&Lent(key), &Lent(new_value));
+    if proof.evaluate(key, new_value) == new_root {
         return Ok(Finding::Holds);
     }
     Ok(Finding::Collision(branches.collide(alloc)?))

@@ -1,6 +1,6 @@
 //! The agreement of two paths that lead to one root.
 
-ghost use Rattle.std.specs.Prelude.{◌≡◌, ℕ, ◌^◌, ◌<◌, ◌≤◌, ◌↔◌, ◌∷◌, reverse, Ok, IfOk};
+ghost use Rattle.std.specs.Prelude.{◌≡◌, ◌<◌, ◌≤◌, Ok, IfOk};
 ghost use Rattle.warg_witness.specs.Findings.{Finds};
 ghost use Rattle.warg_witness.specs.PathClaims.{IsRecordAgreement};
 ghost use Rattle.warg_witness.specs.PathPlaced.{IsRecordAgreementPlaced};
@@ -22,7 +22,6 @@ use warg_log::GREATEST_LENGTH;
 ///
 /// It hashes both values, and each branch of both evaluations once. Out of memory is the only error. A value of more than
 /// `usize::MAX` bytes counts as that.
-#[tactic(auto, using(crate::proofs::RecordLemmas::record_agreement_collides))]
 pub fn agree_record<D: SupportedDigest, V: VisitBytes, A: Allocator + Copy>(
     alloc: A,
     index: usize,

@@ -1,14 +1,13 @@
 //! The evaluation of a consistency path and the trees over the old and the new entries, side by side.
 
-ghost use Rattle.std.specs.Prelude.{◌≡◌, ℕ, ◌+◌, ◌-◌, ◌<◌, ◌≤◌, length, reverse, None, MatchOption};
+ghost use Rattle.std.specs.Prelude.{◌≡◌, ◌+◌, ◌-◌, ◌<◌, ◌≤◌, length, reverse, None, MatchOption};
 ghost use Rattle.warg_log.specs.Ranges.{IsAligned};
 ghost use Rattle.warg_log.specs.Tree.{root_over};
 ghost use Rattle.warg_paths.specs.Paths.{roots_down};
 ghost use Rattle.warg_witness.specs.Ranges.{IsAround};
 ghost use Rattle.warg_witness.specs.Private.TreeDivergence.{LeadsOver, IsGrowth, IsTreeDivergence};
 
-use crate::climb::Climb;
-use crate::divergence::Divergence;
+use crate::divergence::{Climb, Divergence};
 use crate::plain::plain_digest;
 use crate::trees::{Trees, divergence_below};
 use std::alloc::Allocator;
@@ -52,7 +51,7 @@ fn growth_at<D: SupportedDigest, V: VisitBytes, A: Allocator>(
 
 // The evaluation and both trees up to a range, from the part that has the leaf at `place` and one digest in the path.
 // None where the path leads to no roots over the range.
-#[tactic(auto, using(crate::proofs::RangeLemmas::rest_parts, crate::proofs::GrowthLemmas::path_none, crate::proofs::GrowthLemmas::subproof_is))]
+#[tactic(auto, using(crate::proofs::RangeLemmas::beside_aligned, crate::proofs::GrowthLemmas::path_none, crate::proofs::GrowthLemmas::subproof_is))]
 fn climb_growth<D: SupportedDigest, V: VisitBytes, A: Allocator>(
     trees: &Trees<D, V, A>,
     place: usize,

@@ -12,7 +12,7 @@ ghost use Rattle.warg_witness.specs.Private.TreeDivergence.{IsTreeMeeting};
 use super::MOST_LEAVES;
 use super::growth::growth_divergence;
 use crate::collision::Finding;
-use crate::plain::{plain_digest, plain_tree};
+use crate::plain::{entry_at, plain_digest, plain_tree};
 use crate::trees::{Trees, first_difference};
 use std::alloc::{AllocError, Allocator};
 use warg_crypto::{Hash, Leaf, SupportedDigest, VisitBytes};
@@ -113,6 +113,7 @@ pub fn witness_tree<D: SupportedDigest, V: VisitBytes, A: Allocator + Copy>(
     let old_root = plain_digest(&trees.old, &LeafRange::new(0, old.len()));
     let whole = LeafRange::new(0, new.len());
     let divergence = growth_divergence(&trees, place, Some(old_root), old.len(), &whole, path);
-    let pair = divergence.collide(alloc, &Leaf(&old[place]), &Leaf(&new[place]))?;
+    let (old_entry, new_entry) = (entry_at(old, place), entry_at(new, place));
+    let pair = divergence.collide(alloc, &Leaf(old_entry), &Leaf(new_entry))?;
     Ok(Finding::Collision(pair))
 }

@@ -21,7 +21,7 @@ ends g c = subst (AllByRecursion (λ t. end_of t ≤ 2 ^ 63)) (first g c) (roots
 pub roots-init : goal.roots-init
 roots-init g c =
     let at = (goal.at.roots-init g c).In-Some in
-    let value = rw c.new-whole.ensures at c.in_ok-agreed.ensures in
+    let value = rw c.new-whole.ensures at c.in_ok-agreed.ensures.value in
     record {
       ends = rw c.into_iter-root-iterator.ensures.into_iter_gives (ends g at).1;
       rest = rw (c.into_iter-root-iterator.ensures.into_iter_gives, ← c.self.view_is, first g at, ← value) refl;

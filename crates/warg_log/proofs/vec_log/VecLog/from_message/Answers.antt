@@ -1,35 +1,20 @@
-use Rattle.std.proofs.Common.{◌≡◌, true, false, sym, ◌∙◌, inr, refl, Ok, arith}
+use Rattle.std.proofs.Common.{◌≡◌, inr, refl}
 use Rattle.warg_protobuf.specs.VecLog.{vec_view}
-use Rattle.warg_log.specs.Images.{is_slice_of_length, vec_in, vec_message}
 use Rattle.warg_log.specs.Tree.{leaves_in}
-use Rattle.warg_log.proofs.TreeLemmas.{no_log, slice_decides, log_read}
+use Rattle.warg_log.specs.Images.{vec_message}
+use Rattle.warg_log.proofs.TreeLemmas.{no_log}
 use Rattle.warg_log.proofs.vec_log.VecLog.from_message.Goals as goal
-use Rattle.warg_log.proofs.vec_log.VecLog.from_message.Goals.{Else-not-is_slice, Then-not-is_slice}
+use Rattle.warg_log.proofs.vec_log.VecLog.from_message.Goals.{Then-not-has_message}
 
-found : (g : _) (c : Else-not-is_slice g) → is_slice_of_length g.D.SupportedDigest.digest c.args.message.length c.in_ok-tree.tree.items ≡ true
-found g c = rw c.as_slice-2.ensures.value at (sym c.is_slice.ensures ∙ c.if-not-is_slice.false)
+lacks : (g : _) (c : Then-not-has_message g) → vec_message g.D.SupportedDigest.digest (leaves_in c.args.message.tree.items) ≡ vec_view c.args.message → ⊥
+lacks g c is = let held = c.has_message.ensures.1 (rw (c.in_ok-log.ensures.ok, c.as_slice.ensures.value) is) in absurd (cc)
 
-read : (g : _) (c : Else-not-is_slice g) → (vec_in g.D.SupportedDigest.digest (vec_view c.args.message) ≡ Ok (leaves_in c.in_ok-tree.tree.items))
-    × (vec_message g.D.SupportedDigest.digest (leaves_in c.in_ok-tree.tree.items) ≡ vec_view c.args.message)
-read g c = log_read g.D.SupportedDigest.digest _ _ _ (rw c.as_slice.ensures.value at c.in_ok-tree.ensures.ok) (rw c.as_slice.ensures.value at c.in_ok-tree.ensures.good) (found g c)
+pub returns-then-not-has_message-clause-exact : goal.returns-then-not-has_message-clause-exact
+returns-then-not-has_message-clause-exact g c =
+    let good = rw c.as_slice.ensures.value at c.in_ok-log.ensures.good in
+    let none = no_log g.D.SupportedDigest.digest (vec_view c.args.message) (lacks g (goal.at.returns-then-not-has_message-clause-exact g c).Then-not-has_message) in
+    inr (rw (good, none.0) refl)
 
-pub invariant_of-result : goal.invariant_of-result
-invariant_of-result g c = let p = (slice_decides g.D.SupportedDigest.digest _ _).0 (found g c) in (sym p.0, p.1, c.hash_empty-spacer.ensures, omega arith)
-
-pub returns-clause-exact : goal.returns-clause-exact
-returns-clause-exact g c = (read g (goal.at.returns-clause-exact g c).Else-not-is_slice).0
-
-pub returns-clause-message : goal.returns-clause-message
-returns-clause-message g c = (read g (goal.at.returns-clause-message g c).Else-not-is_slice).1
-
-lacks : (g : _) (c : Then-not-is_slice g) → is_slice_of_length g.D.SupportedDigest.digest c.args.message.length c.args.message.tree.items ≡ false
-lacks g c = rw (c.as_slice-2.ensures.value, c.in_ok-tree.ensures.ok, c.as_slice.ensures.value) at (sym c.is_slice.ensures ∙ c.if-not-is_slice.true)
-
-pub returns-then-not-is_slice-clause-exact : goal.returns-then-not-is_slice-clause-exact
-returns-then-not-is_slice-clause-exact g c =
-    let none = rw c.as_slice.ensures.value at c.in_ok-tree.ensures.good in
-    inr (rw (none, lacks g (goal.at.returns-then-not-is_slice-clause-exact g c).Then-not-is_slice) refl)
-
-pub returns-then-not-is_slice-clause-none : goal.returns-then-not-is_slice-clause-none
-returns-then-not-is_slice-clause-none g c = λ e ds.
-    no_log g.D.SupportedDigest.digest (vec_view c.args.message) ds (lacks g (goal.at.returns-then-not-is_slice-clause-none g c).Then-not-is_slice)
+pub returns-then-not-has_message-clause-none : goal.returns-then-not-has_message-clause-none
+returns-then-not-has_message-clause-none g c = λ e.
+    (no_log g.D.SupportedDigest.digest (vec_view c.args.message) (lacks g (goal.at.returns-then-not-has_message-clause-none g c).Then-not-has_message)).1

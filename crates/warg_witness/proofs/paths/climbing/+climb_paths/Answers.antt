@@ -1,12 +1,12 @@
 use Rattle.std.proofs.Common.{arith}
 use Rattle.std.proofs.lemmas.Bool.Decides.{nat_tests}
 use Rattle.warg_log.proofs.ForCallers.{counts}
-use Rattle.warg_witness.proofs.RecordLemmas.{climb_starts, paths_nowhere, paths_up, turned}
+use Rattle.warg_witness.proofs.RecordLemmas.{paths_start, paths_nowhere, paths_up, turned}
 use Rattle.warg_witness.proofs.paths.climbing.+climb_paths.Goals as goal
 
 pub returns-then-is_empty-2 : goal.returns-then-is_empty-2
 returns-then-is_empty-2 g t c =
-    climb_starts _ _ _ _ c.args.first_path.now c.args.second_path.now (rw (counts c.range.view_is) at c.if-range-eq1.true) (omega arith) (grind (arith, nat_tests)) (grind (arith, nat_tests))
+    paths_start (rw (counts c.range.view_is) at c.if-range-eq1.true) (rw c.requires.one at c.requires.around) _ c.args.first_path.now c.args.second_path.now (grind (arith, nat_tests)) (grind (arith, nat_tests))
     (grind arith) (grind arith) c.new.ensures.divergence
 
 pub returns-in_err-climb : goal.returns-in_err-climb

@@ -1,5 +1,5 @@
 use Rattle.std.proofs.Common.{arith}
-use Rattle.warg_witness.proofs.RangeLemmas.{part_within}
+use Rattle.warg_witness.proofs.RangeLemmas.{front_aligned, part_within}
 use Rattle.warg_witness.proofs.GrowthLemmas.{shared_shown}
 use Rattle.warg_witness.proofs.paths.growth.growth_divergence.Goals as goal
 
@@ -8,11 +8,10 @@ divergence_below-requires-clause-aligned g c = (part_within c.requires.aligned c
 
 pub divergence_below-requires-clause-in_old : goal.divergence_below-requires-clause-in_old
 divergence_below-requires-clause-in_old g c =
-    let aligned = c.requires.aligned in
-    let old_part = part_within (record { height = aligned.height; place = aligned.place; start = aligned.start; most = omega arith }) c.in-Some.ensures.old_part in omega (arith, old_part.0)
+    let old_part = part_within (front_aligned c.requires.aligned c.requires.order) c.in-Some.ensures.old_part in omega (arith, old_part.0)
 
 pub divergence_below-requires-clause-in_new : goal.divergence_below-requires-clause-in_new
 divergence_below-requires-clause-in_new g c = let new_part = part_within c.requires.aligned c.in-Some.ensures.new_part in omega (arith, new_part.0)
 
 pub returns : goal.returns
-returns g c = shared_shown c.in-Some.ensures (omega arith) _ c.divergence_below.ensures
+returns g c = shared_shown c.in-Some.ensures _ c.divergence_below.ensures

@@ -1,0 +1,16 @@
+use Rattle.std.proofs.Common.{inl, inr, arith}
+use Rattle.std.specs.Cmp.Lexicographic.{bytes_decides}
+use Rattle.warg_witness.proofs.ClimbLemmas.{diverges_up}
+use Rattle.warg_witness.proofs.divergence.Climb.up.Goals as goal
+use Rattle.warg_witness.proofs.divergence.Climb.up.Goals.{then-eq, else-eq+in-Branch-1, else-eq+in-Target-1}
+
+pub returns : goal.returns
+returns g c = record {
+  first_is = c.branch_beside.ensures;
+  second_is = c.branch_beside-2.ensures;
+  diverges = diverges_up c.args.right (omega arith) (omega arith) (elim c.if-eq.branch [
+    | then-eq w ↦ inl (grind (arith, bytes_decides))
+    | else-eq+in-Branch-1 w ↦ inr (grind (arith, bytes_decides), rw (← w.copied.ensures, ← w.copied-else-eq.ensures) w.result-is)
+    | else-eq+in-Target-1 w ↦ inr (grind (arith, bytes_decides), rw (← w.copied.ensures, ← w.copied-else-eq.ensures) w.result-is)
+  ]);
+}
