@@ -5,9 +5,9 @@ An edit is a line 'file: src/lib.rt' and then pairs of lines 'old: TEXT' and 'ne
 there once; 'old line: TEXT' stands for a whole line. One check of a copy of the crate carries a round of edits, one a
 proof at most: a function's proof rests on its callees' contracts and not on their bodies, and the check names each
 function with an open goal of its own. An edit is refused exactly if the check names such a goal, or an error in its
-proof files, of the function that it changes, or of one in a cycle of calls with it, as these have one proof. What waits for a callee, lacks a name or was cut off goes to the next
-round. An edit that changes more than one function's body goes alone, and so does each that no round has judged. What is
-still let through fails.
+proof files, of the function that it changes, or of one in a cycle of calls with it, as these have one proof. What waits
+for a callee, lacks a name or was cut off goes to the next round. An edit that changes more than one function's body goes
+alone, and so does each that no round has judged. What is still let through fails.
 
 The edits in wrong-bodies/planted change no meaning, and show that this script can fail: each must come out as let
 through, and one named waits_* must wait, in its first round, for the broken function that it calls.

@@ -1,3 +1,4 @@
 pub mod EmptyLemmas
 pub mod ForCallers
 mod FramedLemmas
+mod CompareLemmas

@@ -8,3 +8,4 @@ pub mod EmptyTrees
 pub mod Framed
 pub mod Text
 pub mod WeakDigests
+pub mod Private

@@ -1,7 +1,6 @@
 //! Values as bytes, digests of bytes, their hashes, and the leaves and branches of Merkle trees.
 #![tactic(auto)]
 
-mod digest;
 mod empty;
 mod framed;
 mod hash;
@@ -11,9 +10,8 @@ mod tree;
 mod visit;
 pub mod weak;
 
-pub use digest::{Sha256, SupportedDigest};
 pub use framed::Framed;
-pub use hash::{Hash, HashLength, bytes_of};
+pub use hash::{Hash, HashLength, Sha256, SupportedDigest, bytes_of};
 pub use text::HashDigits;
 pub use tree::{Branch, Leaf, Side, empty_tree_hash, hash_branch, hash_empty, hash_leaf};
-pub use visit::{ByteVisitor, VisitBytes};
+pub use visit::{ByteVisitor, VisitBytes, have_same_bytes};

@@ -5,8 +5,7 @@ ghost use Rattle.warg_crypto.specs.EmptyTrees.{empty_root};
 ghost use Rattle.warg_crypto.specs.Sides.{side_bit};
 ghost use Rattle.warg_crypto.specs.Tree.{branch, branch_input, input_beside, leaf_digest, leaf_input};
 
-use crate::digest::SupportedDigest;
-use crate::hash::Hash;
+use crate::hash::{Hash, SupportedDigest};
 use crate::visit::{ByteVisitor, VisitBytes};
 
 /// A leaf, as what the digest function takes of it: the byte 00 and the value's bytes (RFC 6962,
@@ -43,14 +42,17 @@ impl<D> VisitBytes for Branch<'_, D> {
 pub fn hash_empty<D: SupportedDigest>() -> Hash<D>
     ensures { result ≡ D.digest [] }
 {
-    Hash::of(&())
+    Hash::from_array(D::start().finish())
 }
 
 /// The digest of a leaf: that of the byte 00 and the value's bytes (RFC 6962, section 2.1).
 pub fn hash_leaf<D: SupportedDigest, V: VisitBytes>(value: &V) -> Hash<D>
     ensures { result ≡ leaf_digest D.digest (V.bytes value.now) }
 {
-    Hash::of(&Leaf(value))
+    let mut digest = D::start();
+    digest.visit_bytes(&[0]);
+    value.visit(&mut digest);
+    Hash::from_array(digest.finish())
 }
 
 /// The digest of a branch: that of the byte 01, the left digest and the right one (RFC 6962,
@@ -58,7 +60,11 @@ pub fn hash_leaf<D: SupportedDigest, V: VisitBytes>(value: &V) -> Hash<D>
 pub fn hash_branch<D: SupportedDigest>(left: &Hash<D>, right: &Hash<D>) -> Hash<D>
     ensures { result ≡ branch D.digest left.now right.now }
 {
-    Hash::of(&Branch(left, right))
+    let mut digest = D::start();
+    digest.visit_bytes(&[1]);
+    digest.visit_bytes(&left.bytes);
+    digest.visit_bytes(&right.bytes);
+    Hash::from_array(digest.finish())
 }
 
 /// The digest of the empty tree of `height` levels: `H(00)` at height 0, and at each height above

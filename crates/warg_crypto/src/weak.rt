@@ -6,7 +6,7 @@ ghost use Rattle.warg_crypto.specs.Digests.{IsDigest};
 ghost use Rattle.warg_crypto.specs.WeakDigests.{byte_sum, same_or_sha256, zeros, Keeps};
 ghost use Rattle.warg_crypto.specs.DigestFacts.{IsDigest-byte_sum, IsDigest-same_or_sha256, IsDigest-zeros};
 
-use crate::digest::SupportedDigest;
+use crate::hash::SupportedDigest;
 use crate::visit::ByteVisitor;
 use sha2::Digest;
 

@@ -10,7 +10,6 @@ use Rattle.warg_log.specs.Tree.{root_of, leaves_in, slice_of, digest_or_spacer}
 use Rattle.warg_log.specs.Private.Slices.{IsSliceUpTo}
 use Rattle.warg_log.proofs.NodeLemmas.{last_leaf}
 use Rattle.warg_log.proofs.SliceLemmas.{slice_of-is, own_leaf}
-use Rattle.warg_log.proofs.BalancedLemmas.{end_is}
 
 -- a digest behind a tree is a leaf's or a branch's
 pub leaf_behind : (t : List (List ℕ)) (d : List ℕ) → length t % 2 ≡ 0 → leaves_in (t ++ d ∷ []) ≡ leaves_in t ++ d ∷ []
@@ -36,7 +35,7 @@ front_kept ds d a w fits = ap (λ l. take w l) (drop-append-le a ds (d ∷ []) (
 
 kept : (H : List ℕ → List ℕ) (ds : List (List ℕ)) (d : List ℕ) (z : ℕ) → z < 2 * length ds → (end_of z ≡ length ds + 1 → height_of z ≤ 0) → digest_or_spacer H (ds ++ d ∷ []) z ≡ digest_or_spacer H ds z
 kept H ds d z before low =
-    let front = λ (fits : end_of z ≤ length ds). ap (root_of H) (front_kept ds d (start_of z) (2 ^ height_of z) (omega (arith, end_is z))) in
+    let front = λ (fits : end_of z ≤ length ds). ap (root_of H) (front_kept ds d (start_of z) (2 ^ height_of z) (omega arith)) in
     let flat = λ (at : end_of z ≡ length ds + 1). ap (λ k. 2 ^ k) (let e : height_of z ≡ 0 = omega (arith, low at) in e) in
     grind (arith, nat_tests, length_push ds d, front, flat, last_leaf z)
 

@@ -4,13 +4,9 @@ use Rattle.std.proofs.Math.Nat.{pow-suc}
 use Rattle.std.proofs.lemmas.Bool.{le-leb, lt-leb, cases_lt}
 use Rattle.std.proofs.lemmas.Nat.{pow_pos}
 use Rattle.std.specs.List.{AllByRecursion}
-use Rattle.warg_log.specs.Nodes.{height_of, start_of, end_of, node_over, balanced_within, balanced_over, balanced_roots, Follow, Fall}
+use Rattle.warg_log.specs.Nodes.{node_over, balanced_within, balanced_over, balanced_roots, Follow, Fall}
 use Rattle.warg_log.proofs.NodeLemmas.{over_at, over_ends, pow_below_pow}
 use Rattle.warg_log.proofs.RootLemmas.{below_pow, settled_at, exponent_below}
-
--- a node ends its width behind its start
-pub end_is : (r : ℕ) → end_of r ≡ start_of r + 2 ^ height_of r
-end_is r = omega arith
 
 -- functions that agree on each element
 pub map_same : {X Y : Type 0} (f g : X → Y) (xs : List X) → AllByRecursion (λ x. f x ≡ g x) xs → map f xs ≡ map g xs
@@ -48,12 +44,8 @@ balanced_full h a = grind (arith, balanced_more h a 0 (pow_pos h), balanced_none
 pub has_first_over : (a n : ℕ) → 0 < n → (h : ℕ) × (2 ^ h ≤ n) × (balanced_over a n ≡ node_over a (2 ^ h) ∷ balanced_over (a + 2 ^ h) (n - 2 ^ h))
 has_first_over a n some = let e = exponent_below n (suc n) (omega arith) (below_pow n) in (e.0, omega arith, balanced_first e.0 a n (omega arith) e.2)
 
--- the first balanced root of the leaves from a up to e has n leaves, and those behind it have fewer than its multiple
-abbrev pub IsFirst : ℕ → ℕ → ℕ → Type 0
-IsFirst a e n = (h : ℕ) × (n ≡ 2 ^ h) × (2 ^ h ≤ e - a) × (e - a < 2 ^ (h + 1))
-
 -- as a program cuts it off
-pub first_cut : (a e n : ℕ) → IsFirst a e n → balanced_over a (e - a) ≡ node_over a n ∷ balanced_over (a + n) (e - (a + n))
+pub first_cut : (a e n : ℕ) → (h : ℕ) × (n ≡ 2 ^ h) × (2 ^ h ≤ e - a) × (e - a < 2 ^ (h + 1)) → balanced_over a (e - a) ≡ node_over a n ∷ balanced_over (a + n) (e - (a + n))
 first_cut a e n first = grind (arith, add-one, first, balanced_first first.0 a (e - a))
 
 -- P holds of each range and its balanced roots where it holds of no leaves and, if it does of fewer than 2 ^ h leaves, of 2 ^ h more in front of them

@@ -12,7 +12,7 @@ use Rattle.warg_log.specs.Walks.{climbed, joined_all}
 use Rattle.warg_protobuf.proofs.ForCallers.{all_weaken}
 use Rattle.warg_log.proofs.NodeLemmas.{node_is, only_number, over_at}
 use Rattle.warg_log.proofs.CutLemmas.{nothing, nothing_beside}
-use Rattle.warg_log.proofs.BalancedLemmas.{end_is, balanced_first, none_left, has_first_over}
+use Rattle.warg_log.proofs.BalancedLemmas.{balanced_first, none_left, has_first_over}
 use Rattle.warg_log.proofs.OrderLemmas.{roots_end, block, climb, spine, Misses, way_roots, way_missed, others_miss}
 
 -- ---- only the balanced roots follow one another with heights that fall
@@ -22,13 +22,13 @@ fall_bound h a e [] fall follow = (omega arith, omega (arith, pow_pos))
 fall_bound h a e (t ∷ ts) fall follow =
     let rest = fall_bound (height_of t) (end_of t) e ts fall.1 follow.1 in
     let grows : 2 ^ suc (height_of t) ≤ 2 ^ h = pow-le-pow_right (lit≤ tt) fall.0 in
-    (omega (arith, follow.0, end_is t, rest.0), omega (arith, follow.0, end_is t, rest.1, grows, pow-suc))
+    (omega (arith, follow.0, rest.0), omega (arith, follow.0, rest.1, grows, pow-suc))
 
 only_row : (h a e : ℕ) (ts : List ℕ) → Follow a e ts → Fall h ts → ts ≡ balanced_over a (e - a)
 only_row h a e [] follow fall = sym (none_left a e (omega arith))
 only_row h a e (t ∷ ts) follow fall =
     let bound = fall_bound (height_of t) (end_of t) e ts fall.1 follow.1 in
-    let ends : end_of t ≡ a + 2 ^ height_of t = omega (arith, follow.0, end_is t) in
+    let ends : end_of t ≡ a + 2 ^ height_of t = omega (arith, follow.0) in
     let first = balanced_first (height_of t) a (e - a) (omega (arith, bound, ends)) (omega (arith, bound, ends, pow-suc)) in
     grind (arith, follow.0, ends, only_number t (height_of t) (place_of t) (node_is t), first, only_row (height_of t) (end_of t) e ts follow.1 fall.1)
 

@@ -4,6 +4,8 @@ use Rattle.std.proofs.Math.Nat.{add-sub_of_le}
 use Rattle.std.proofs.lemmas.List.{length-drop, length-take-le, drop-drop, drop-take, take-take}
 use Rattle.std.proofs.Math.Seq.{take-length}
 use Rattle.std.proofs.lemmas.Bool.{le-leb}
+use Rattle.std.proofs.lemmas.Bool.Decides.{not_from_Decides}
+use Rattle.std.proofs.lemmas.Nat.{pow_pos}
 use Rattle.warg_log.specs.Nodes.{node_over}
 use Rattle.warg_log.specs.Ranges.{Range, leaves_from, range_of, front_part, rest_part}
 use Rattle.warg_crypto.specs.Tree.{branch}
@@ -11,15 +13,11 @@ use Rattle.warg_log.specs.Tree.{root_of, own_digest, leaves_below, root_over}
 use Rattle.warg_log.specs.Cut.{Evaluation, with_target, joined, is_target, is_beside, top_of, cut_over, cut_root, IsFull, old_over, old_root}
 use Rattle.warg_log.proofs.NodeLemmas.{over_at}
 use Rattle.warg_log.proofs.RootLemmas.{below_pow, root_of_split}
-use Rattle.warg_log.proofs.WayLemmas.{first, behind, counts, IsBeside, target_decides, is_other, is_beside_so, way_over_target, way_over-read, way_over-split, way_over_parts, ways}
+use Rattle.warg_log.proofs.WayLemmas.{first, behind, counts, IsBeside, target_decides, beside_decides, way_over_target, way_over-read, way_over-split, way_over_parts, ways}
 
--- the range of the target, a range that is read, and any other, split at its front
+-- a range that is read, and one that is split at its front
 module _ (H : List ℕ → List ℕ) (e : Evaluation) where
-  pub cut_over_target : cut_over H e e.target ≡ Some e.digest
-  unfolding top_of
-  cut_over_target = ap (top_of H e.held e.digest) (way_over_target e.target)
-
-  pub cut_over_read : (r : Range) → (r ≡ e.target → ⊥) → (r.count ≡ 1) ⊎ (IsFull r.count × IsBeside e.target r) → cut_over H e r ≡ e.held (node_over r.start r.count)
+  pub cut_over_read : (r : Range) → (r ≡ e.target → ⊥) → (r.count ≡ 1) ⊎ (IsFull r.count × IsTrue (is_beside e.target r)) → cut_over H e r ≡ e.held (node_over r.start r.count)
   unfolding top_of
   cut_over_read r other read = ap (top_of H e.held e.digest) (way_over-read e.target r other read)
 
@@ -34,17 +32,17 @@ module _ (H : List ℕ → List ℕ) (F : ℕ → Option (List ℕ)) (t : Range)
   e = with_target F t x
 
   pub cut_found : (r : Range) → is_target t r ≡ true → cut_over H e r ≡ Some x
-  cut_found r is = rw ((target_decides t r).0 is) (cut_over_target H e)
+  unfolding top_of
+  cut_found r is = rw ((target_decides t r).0 is) (ap (top_of H F x) (way_over_target t))
 
   pub cut_read : (r : Range) → is_target t r ≡ false → (r.count ≡ 1) ⊎ (IsFull r.count × IsTrue (is_beside t r)) → cut_over H e r ≡ F (node_over r.start r.count)
-  cut_read r apart (inl one) = cut_over_read H e r (is_other t r apart) (inl one)
-  cut_read r apart (inr full) = cut_over_read H e r (is_other t r apart) (inr (full.0, is_beside_so t r full.1))
+  cut_read r apart = cut_over_read H e r (not_from_Decides _ (target_decides t r) apart)
 
   pub cut_split : (r : Range) → 0 < r.count → is_target t r ≡ false → ((r.count ≡ 1) ⊎ (IsFull r.count × IsTrue (is_beside t r)) → ⊥)
       → cut_over H e r ≡ joined H (cut_over H e (front_part r)) (cut_over H e (rest_part r))
   cut_split r some apart unread =
       let many : r.count ≡ 1 → ⊥ = λ one. unread (inl one) in
-      cut_over_parts H e r (omega arith) (is_other t r apart) (λ full beside. unread (inr (full, beside)))
+      cut_over_parts H e r (omega arith) (not_from_Decides _ (target_decides t r) apart) (λ full beside. unread (inr (full, beside)))
 
 -- the old root of a range of a power of two, and of any other
 abbrev pub nothing : Range
@@ -57,8 +55,8 @@ not_nothing : (r : Range) → 0 < r.count → r ≡ nothing → ⊥
 not_nothing r some same = omega (arith, counts same)
 
 module _ (H : List ℕ → List ℕ) (F : ℕ → Option (List ℕ)) where
-  pub old_over_full : (r : Range) → 0 < r.count → IsFull r.count → old_over H F r ≡ F (node_over r.start r.count)
-  old_over_full r some full = cut_over_read H _ r (not_nothing r some) (inr (full, nothing_beside r))
+  pub old_full : (r : Range) → IsFull r.count → old_over H F r ≡ F (node_over r.start r.count)
+  old_full r full = cut_over_read H _ r (not_nothing r (rw full.1 (pow_pos full.0))) (inr (full, (beside_decides nothing r).1 (nothing_beside r)))
 
   pub old_over-split : (r : Range) (h : ℕ) → 2 ^ h < r.count → r.count ≤ 2 ^ suc h → (r.count ≡ 2 ^ suc h → ⊥)
       → old_over H F r ≡ joined H (old_over H F (first h r)) (old_over H F (behind h r))

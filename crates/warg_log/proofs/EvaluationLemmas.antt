@@ -1,11 +1,11 @@
 -- What the evaluations of inclusion and consistency proofs say, and which faults they can have.
-use Rattle.std.proofs.Common.{◌≡◌, ℕ, ◌≤◌, nat_le, List, Option, Some, None, Result, Ok, Err, ◌↔◌, if◌then◌else◌, arith, ◌<◌, ◌==◌, Bool, true, false, nat_eq, nat_lt, [], ◌∷◌, length, take, refl, ap, ◌∙◌, subst, ⊎_elim}
+use Rattle.std.proofs.Common.{◌≡◌, ℕ, ◌≤◌, nat_le, List, Option, Some, None, Result, Ok, Err, ◌↔◌, if◌then◌else◌, arith, ◌<◌, ◌==◌, Bool, false, nat_eq, nat_lt, [], ◌∷◌, length, take, refl, ap, ◌∙◌, subst}
 use Rattle.std.specs.Option.{ok_or}
 use Rattle.std.proofs.lemmas.Bool.Decides.{nat_tests}
 use Rattle.warg_log.specs.declared.proof.InclusionProofError.{InclusionProofError}
 use Rattle.std.specs.Cmp.Lexicographic.{pointwise, bytes_decides}
 use Rattle.std.specs.List.{AllByRecursion}
-use Rattle.std.proofs.lemmas.Bool.{le-leb, ne_eqb, eqb-false, ltb-false, le-ltb, cases_Bool}
+use Rattle.std.proofs.lemmas.Bool.{le-leb, ne_eqb, eqb-false, ltb-false, le-ltb}
 use Rattle.warg_log.specs.declared.proof.InclusionProofError.TheVariants as Inclusion
 use Rattle.warg_log.specs.declared.consistency.ConsistencyProofError.{ConsistencyProofError}
 use Rattle.warg_log.specs.declared.consistency.ConsistencyProofError.TheVariants as Consistency
@@ -13,7 +13,7 @@ use Rattle.warg_log.specs.Nodes.{end_of, balanced_roots}
 use Rattle.warg_log.specs.Tree.{root_of, leaves_below, own_digest}
 use Rattle.warg_log.specs.Cut.{old_root}
 use Rattle.warg_protobuf.specs.Reading.{◌>>=◌}
-use Rattle.warg_log.specs.Consistency.{root_to, agreed_root, new_root_of, consistency, LeadsTo, IsConsistent}
+use Rattle.warg_log.specs.Consistency.{root_to, agreed_root, new_root_of, both_roots, consistency, LeadsTo, IsConsistent}
 use Rattle.warg_protobuf.proofs.ForCallers.{all_weaken}
 use Rattle.warg_log.proofs.CutLemmas.{cut_root_own, old_root_own}
 use Rattle.warg_log.proofs.BalancedLemmas.{has_first_over}
@@ -40,54 +40,39 @@ unknown end n None = (λ is. grind (arith, nat_tests), λ at. grind (arith, nat_
 -- ---- consistency
 
 -- an evaluation that is Ok
-held_ok : {A : Type 0} (p : Option A) (fault : ConsistencyProofError) (r : A) → ok_or p fault ≡ Ok r → p ≡ Some r
-held_ok (Some s) fault r e = cc
-held_ok None fault r e = absurd (cc)
-
 gone_on : {A B : Type 0} (q : Result A ConsistencyProofError) (f : A → Result B ConsistencyProofError) (r : B) → ◌>>=◌ q f ≡ Ok r → (x : A) × (q ≡ Ok x) × (f x ≡ Ok r)
 gone_on (Ok x) f r e = (x, refl, e)
 gone_on (Err fault) f r e = absurd (cc)
 
-passed : {A : Type 0} (t : Bool) (fault : ConsistencyProofError) (q : Result A ConsistencyProofError) (r : A) → (if t then Err fault else q) ≡ Ok r → (t ≡ false) × (q ≡ Ok r)
-passed true fault q r e = absurd (cc)
-passed false fault q r e = (refl, e)
+all_ok : (zero late : Bool) (new : Result (List ℕ) ConsistencyProofError) (old : Option (List ℕ)) (o r : List ℕ)
+    → (if zero then Err Consistency.OldLengthZero else if late then Err Consistency.PointsOutOfOrder else both_roots new old) ≡ Ok (o, r)
+    → (zero ≡ false) × (late ≡ false) × (new ≡ Ok r) × (old ≡ Some o)
+all_ok false false (Ok n) (Some p) o r e = grind arith
+all_ok zero late new old o r e = absurd (cc)
 
 module _ (H : List ℕ → List ℕ) (F : ℕ → Option (List ℕ)) where
   root_ok : (n t : ℕ) (r : List ℕ) → root_to H F n t ≡ Ok r → LeadsTo H F n r t
-  root_ok n t r e = grind (arith, gone_on, held_ok)
+  root_ok n t r e = grind (arith, gone_on)
 
   agreed_ok : (n : ℕ) (a r : List ℕ) (ts : List ℕ) → agreed_root H F n a ts ≡ Ok r → (a ≡ r) × AllByRecursion (LeadsTo H F n a) ts
   agreed_ok n a r [] e = (cc, tt)
   agreed_ok n a r (t ∷ ts) e =
       let at = gone_on (root_to H F n t) (λ s. if pointwise nat_eq s a then agreed_root H F n a ts else Err Consistency.DivergingRoots) r e in
-      ⊎_elim
-      (λ (same : pointwise nat_eq at.0 a ≡ true).
-      let rest = agreed_ok n a r ts (rw same at at.2) in
-      (rest.0, (root_ok n t a (at.1 ∙ ap Ok ((bytes_decides at.0 a).0 same)), rest.1)))
-      (λ (other : pointwise nat_eq at.0 a ≡ false). absurd (let f = rw other at at.2 in cc))
-      (cases_Bool (pointwise nat_eq at.0 a))
+      let same : (at.0 ≡ a) × (agreed_root H F n a ts ≡ Ok r) = grind (arith, nat_tests, bytes_decides at.0 a, at.2) in
+      let rest = agreed_ok n a r ts same.1 in
+      (rest.0, (root_ok n t a (at.1 ∙ ap Ok same.0), rest.1))
 
   new_ok : (n : ℕ) (r : List ℕ) (ts : List ℕ) → new_root_of H F n ts ≡ Ok r → AllByRecursion (LeadsTo H F n r) ts
   new_ok n r [] e = absurd (cc)
   new_ok n r (t ∷ ts) e =
       let at = gone_on (root_to H F n t) (λ s. agreed_root H F n s ts) r e in
       let rest = agreed_ok n at.0 r ts at.2 in
-      let P : List ℕ → Type 0 = λ v. AllByRecursion (LeadsTo H F n v) (t ∷ ts) in
-      subst P rest.0 (root_ok n t at.0 at.1, rest.1)
+      subst (λ (v : List ℕ). AllByRecursion (LeadsTo H F n v) (t ∷ ts)) rest.0 (root_ok n t at.0 at.1, rest.1)
 
   pub consistency-only : (m n : ℕ) (old new : List ℕ) → consistency H F m n ≡ Ok (old, new) → IsConsistent H F m n old new
   consistency-only m n old new e =
-      let some = passed (m == 0) Consistency.OldLengthZero _ (old, new) e in
-      let order = passed (nat_lt n m) Consistency.PointsOutOfOrder _ (old, new) some.1 in
-      let second = gone_on (new_root_of H F n (balanced_roots m)) (λ r. ◌>>=◌ (ok_or (old_root H F m) Consistency.HashNotKnown) (λ o. Ok (o, r))) (old, new) order.1 in
-      let first = gone_on (ok_or (old_root H F m) Consistency.HashNotKnown) (λ o. Ok (o, second.0)) (old, new) second.2 in
-      let both : ◌≡◌ {A = List ℕ × List ℕ} (first.0, second.0) (old, new) = let f = first.2 in cc in
-      record {
-        some = omega (arith, eqb-false m 0 some.0);
-        order = ltb-false n m order.0;
-        old_root_is = held_ok (old_root H F m) Consistency.HashNotKnown old (first.1 ∙ ap (λ (p : List ℕ × List ℕ). Ok p.0) both);
-        new_root_is = new_ok n new (balanced_roots m) (second.1 ∙ ap (λ (p : List ℕ × List ℕ). Ok p.1) both);
-      }
+      let is = all_ok (m == 0) (nat_lt n m) (new_root_of H F n (balanced_roots m)) (old_root H F m) old new e in
+      record { some = omega (arith, eqb-false m 0 is.0); order = ltb-false n m is.1; old_root_is = is.3; new_root_is = new_ok n new (balanced_roots m) is.2 }
 
   -- roots that meet it
   agreed_all : (n : ℕ) (r : List ℕ) (ts : List ℕ) → AllByRecursion (LeadsTo H F n r) ts → agreed_root H F n r ts ≡ Ok r

@@ -3,7 +3,8 @@ use Rattle.std.proofs.Common.{◌≡◌, ℕ, suc, ◌+◌, ◌-◌, ◌*◌, �
 use Rattle.std.specs.List.{AllByRecursion}
 use Rattle.std.specs.Bool.{Decides}
 use Rattle.warg_log.specs.declared.node.Node.{Node}
-use Rattle.warg_log.specs.Claims.{same_node}
+use Rattle.std.specs.Cmp.Lexicographic.{pointwise_decides}
+use Rattle.std.proofs.lemmas.Bool.Decides.{Decides-eqb, Decides-and}
 use Rattle.std.proofs.lemmas.Nat.{pow_pos}
 use Rattle.warg_protobuf.proofs.ForCallers.{all_weaken}
 use Rattle.warg_log.specs.Nodes.{IsNode, ExistsAt, height_of, place_of, end_of, node_over, balanced_over, balanced_roots}
@@ -14,17 +15,15 @@ use Rattle.warg_log.specs.Cut.{Evaluation, with_own, is_target, joined, Way, at_
 use Rattle.warg_log.specs.Walks.{needed, needed_between}
 use Rattle.warg_log.specs.Consistency.{consistency, IsConsistent}
 use Rattle.warg_log.specs.Inclusion.{inclusion}
-use Rattle.warg_log.specs.Claims.{InclusionClaim}
+use Rattle.warg_log.specs.Claims.{InclusionClaim, Walk, same_node, same_walk}
 use Rattle.warg_log.proofs.NodeLemmas as nodes
 use Rattle.warg_log.proofs.RootLemmas as powers
 use Rattle.warg_log.proofs.BalancedLemmas as balanced
 use Rattle.warg_log.proofs.WayLemmas as ways
 use Rattle.warg_log.proofs.CutLemmas as cuts
 use Rattle.warg_log.proofs.OrderLemmas as orders
-use Rattle.warg_log.proofs.StackLemmas as stacks
 use Rattle.warg_log.proofs.ReadLemmas as reads
 use Rattle.warg_log.proofs.EvaluationLemmas as evaluations
-use Rattle.warg_log.proofs.EqualLemmas as equal
 
 -- a number is below its power of two
 pub below_pow : (n : ℕ) → n < 2 ^ n
@@ -94,22 +93,22 @@ balanced_parts a n more part =
 
 -- the cut root of the target is the digest in its place
 pub cut_target : (H : List ℕ → List ℕ) (e : Evaluation) → cut_over H e e.target ≡ Some e.digest
-cut_target = cuts.cut_over_target
+cut_target H e = cuts.cut_found H e.held e.target e.digest e.target ((ways.target_decides e.target e.target).1 refl)
 
 -- the cut root of a range that isn't read is the branch over those of its parts
 pub cut_parts : (H : List ℕ → List ℕ) (e : Evaluation) (r : Range) → 1 < r.count → (r ≡ e.target → ⊥) → (IsFull r.count → IsBeside e.target r → ⊥)
     → cut_over H e r ≡ joined H (cut_over H e (front_part r)) (cut_over H e (rest_part r))
-cut_parts H e r more other apart = cuts.cut_over_parts H e r more other (λ full beside. apart full (ways.is_beside_so e.target r beside))
+cut_parts H e r more other apart = cuts.cut_over_parts H e r more other (λ full beside. apart full ((ways.beside_decides e.target r).0 beside))
 
 -- the cut root of a range that misses the target is its old root
 pub cut_old : (H : List ℕ → List ℕ) (e : Evaluation) (r : Range) → 0 < e.target.count → 0 < r.count → IsBeside e.target r → cut_over H e r ≡ old_over H e.held r
 unfolding top_of
 cut_old H e r target some = ways.ways_from e.target r.start (λ r way. IsBeside e.target r → top_of H e.held e.digest way ≡ old_over H e.held r) (record {
   target = λ leaves beside. absurd (omega arith);
-  node = λ k c a _ _. sym (cuts.old_over_full H e.held (leaves_from a (2 ^ k)) (pow_pos k) (k, refl));
+  node = λ k c a _ _. sym (cuts.old_full H e.held (leaves_from a (2 ^ k)) (k, refl));
   parts = λ h r left right more most apart p q beside.
-      rw (p (ways.front_missed e.target r (2 ^ h) (omega arith) beside), q (ways.rest_missed e.target r (2 ^ h) (omega arith) beside))
-      (sym (cuts.old_over-split H e.held r h more most (λ f. apart f beside)));
+      rw (p (grind arith), q (grind arith))
+      (sym (cuts.old_over-split H e.held r h more most (λ f. apart f ((ways.beside_decides e.target r).1 beside))));
 }) r.count some
 
 -- a cut root is one of the digests
@@ -137,7 +136,7 @@ cut_own_range H ds t r some aligned = cuts.own_at H ds _ t r aligned.height alig
 
 -- the old root of a power of two of leaves is the digest that is held for them
 pub old_full : (H : List ℕ → List ℕ) (F : ℕ → Option (List ℕ)) (r : Range) → IsFull r.count → old_over H F r ≡ F (node_over r.start r.count)
-old_full H F r full = cuts.old_over_full H F r (rw full.1 (pow_pos full.0)) full
+old_full = cuts.old_full
 
 -- the old root of other leaves is the branch over those of the two parts
 pub old_parts : (H : List ℕ → List ℕ) (F : ℕ → Option (List ℕ)) (r : Range) → 1 < r.count → (IsFull r.count → ⊥)
@@ -168,7 +167,7 @@ needed_exist t n some = all_weaken (orders.Lies 0 n) _ (λ x p. p.1) (needed t n
 
 -- the balanced roots of a length exist at it
 pub roots_exist : (n : ℕ) → AllByRecursion (λ t. end_of t ≤ n) (balanced_roots n)
-roots_exist = stacks.roots_exist
+roots_exist n = orders.roots_end n n (omega arith)
 
 -- data that agree on the needed nodes have one cut root
 pub same_cut : (H : List ℕ → List ℕ) (F G : ℕ → Option (List ℕ)) (x : List ℕ) (t n : ℕ) → AllByRecursion (λ y. F y ≡ G y) (needed t n) → cut_root H F t x n ≡ cut_root H G t x n
@@ -178,6 +177,12 @@ same_cut H F G x t n = reads.same_on H F G x _
 pub same_consistency : (H : List ℕ → List ℕ) (F G : ℕ → Option (List ℕ)) (m n : ℕ) → AllByRecursion (λ y. F y ≡ G y) (needed_between m n) → consistency H F m n ≡ consistency H G m n
 same_consistency = reads.same_consistency
 
--- nodes are compared by their numbers
+-- nodes are compared by their numbers, and walks by their nodes and counts
 pub nodes_decide : (m n : Node) → Decides (same_node m n) (m ≡ n)
-nodes_decide = equal.nodes_decide
+nodes_decide m n = let d = Decides-eqb m.0 n.0 in (λ e. (λ i. record { 0 = d.0 e i }), λ e. grind (arith, d))
+
+pub walks_decide : (a b : Walk) → Decides (same_walk a b) (a ≡ b)
+walks_decide a b =
+    let walk = Decides-and _ _ (pointwise_decides nodes_decide a.nodes b.nodes) (Decides-eqb a.initial_walk_len b.initial_walk_len) in
+    let d = Decides-and _ _ (Decides-and _ _ walk (Decides-eqb a.lower_broots b.lower_broots)) (Decides-eqb a.upper_broots b.upper_broots) in
+    (λ e. let h = d.0 e in (λ i. record { nodes = h.0.0.0 i; initial_walk_len = h.0.0.1 i; lower_broots = h.0.1 i; upper_broots = h.1 i }), λ e. grind (arith, d))

@@ -8,12 +8,11 @@ use Rattle.std.proofs.lemmas.Nat.{pow_pos}
 use Rattle.std.proofs.lemmas.Bool.{eq-eqb}
 use Rattle.warg_protobuf.specs.HashEntry.{Entry}
 use Rattle.warg_protobuf.specs.declared.value_error.DecodeError.TheVariants.{NotAStack}
-use Rattle.warg_protobuf.specs.StackLog.{StackImage}
 use Rattle.std.proofs.lemmas.List.{length-map}
 use Rattle.warg_log.specs.Nodes.{end_of, balanced_roots}
 use Rattle.warg_log.specs.Blocks.{Blocks}
 use Rattle.warg_protobuf.specs.Decoding.{first_fault, digest_fault}
-use Rattle.warg_log.specs.Images.{root_entry, stack_message, stack_in}
+use Rattle.warg_log.specs.Images.{root_entry, stack_in}
 use Rattle.warg_protobuf.proofs.ForCallers.{all_weaken}
 use Rattle.warg_log.proofs.NodeLemmas.{last_leaf}
 use Rattle.warg_log.proofs.BalancedLemmas.{balanced_first, has_first_over}
@@ -31,27 +30,26 @@ pub zip_entries : (es : List Entry) → map root_entry (zip (map (λ (e : Entry)
 zip_entries [] = refl
 zip_entries (e ∷ es) = ap (λ l. e ∷ l) (zip_entries es)
 
-pub stack_again : (b : Blocks) → length b.digests ≡ length (balanced_roots b.len) → AllByRecursion (λ d. length d ≡ 32) b.digests → stack_in (stack_message b) ≡ Ok b
-stack_again b count lens =
-    let roots = balanced_roots b.len in
-    rw (map-map, seconds-zip roots b.digests count, all_good b.digests lens, numbers_zip roots b.digests count, (bytes_decides roots roots).1 refl) refl
+pub entries_again : (n : ℕ) (es : List Entry) → pointwise nat_eq (map (λ (e : Entry). e.index) es) (balanced_roots n) ≡ true → map root_entry (zip (balanced_roots n) (map (λ (e : Entry). e.hash) es)) ≡ es
+entries_again n es same = rw (← (bytes_decides (map (λ (e : Entry). e.index) es) (balanced_roots n)).0 same) (zip_entries es)
+
+pub stack_again : (n : ℕ) (ds : List (List ℕ)) → length ds ≡ length (balanced_roots n) → AllByRecursion (λ d. length d ≡ 32) ds
+    → stack_in (record { length = n; stack = map root_entry (zip (balanced_roots n) ds) }) ≡ Ok (record { len = n; digests = ds })
+stack_again n ds count lens =
+    let roots = balanced_roots n in
+    rw (map-map, seconds-zip roots ds count, all_good ds lens, numbers_zip roots ds count, (bytes_decides roots roots).1 refl) refl
 
 -- a message that is a log's, and one that is none's
-module _ (m : StackImage) (good : first_fault digest_fault (map (λ (e : Entry). e.hash) m.stack) ≡ None) where
-  pub stack_read : pointwise nat_eq (map (λ (e : Entry). e.index) m.stack) (balanced_roots m.length) ≡ true
-      → let b : Blocks = record { len = m.length; digests = map (λ (e : Entry). e.hash) m.stack } in
-      (length b.digests ≡ length (balanced_roots b.len)) × (stack_in m ≡ Ok b) × (stack_message b ≡ m)
+module _ (n : ℕ) (es : List Entry) (good : first_fault digest_fault (map (λ (e : Entry). e.hash) es) ≡ None) where
+  pub stack_read : pointwise nat_eq (map (λ (e : Entry). e.index) es) (balanced_roots n) ≡ true
+      → let b : Blocks = record { len = n; digests = map (λ (e : Entry). e.hash) es } in
+      (stack_in (record { length = n; stack = es }) ≡ Ok b) × (length b.digests ≡ length (balanced_roots n))
   stack_read same =
-      let roots = (bytes_decides (map (λ (e : Entry). e.index) m.stack) (balanced_roots m.length)).0 same in
-      (rw (← roots, length-map, length-map) refl, rw (good, same) refl, rw (← roots, zip_entries) refl)
+      let roots = (bytes_decides (map (λ (e : Entry). e.index) es) (balanced_roots n)).0 same in
+      (rw (good, same) refl, rw (← roots, length-map, length-map) refl)
 
-  pub no_stack : pointwise nat_eq (map (λ (e : Entry). e.index) m.stack) (balanced_roots m.length) ≡ false
-      → (stack_in m ≡ Err NotAStack) × ((b : Blocks) → length b.digests ≡ length (balanced_roots b.len) → stack_message b ≡ m → ⊥)
-  no_stack other = (
-    rw (good, other) refl,
-    λ b count is.
-        let stack = rw (← is, numbers_zip (balanced_roots b.len) b.digests count, (bytes_decides (balanced_roots b.len) (balanced_roots b.len)).1 refl) at other in cc,
-  )
+  pub no_stack : pointwise nat_eq (map (λ (e : Entry). e.index) es) (balanced_roots n) ≡ false → stack_in (record { length = n; stack = es }) ≡ Err NotAStack
+  no_stack other = rw (good, other) refl
 
 -- the lengths whose balanced roots fit in 32 bits
 pub roots_fit : (n : ℕ) → n ≤ 2 ^ 31 → (n < 2 ^ 32) × AllByRecursion (λ t. t < 2 ^ 32) (balanced_roots n)

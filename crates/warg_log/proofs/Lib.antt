@@ -12,7 +12,6 @@ pub mod ClimbLemmas
 pub mod EvaluationLemmas
 pub mod SparseLemmas
 pub mod StackLemmas
-pub mod EqualLemmas
 pub mod ImageLemmas
 pub mod TreeLemmas
 pub mod ForCallers

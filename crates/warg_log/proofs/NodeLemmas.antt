@@ -16,16 +16,13 @@ pub pow_below_pow : (a b : ℕ) → 2 ^ a < 2 ^ b → a < b
 pow_below_pow a b lt = ⊎_elim (λ less. less) (λ le. absurd (omega (arith, pow-le-pow_right {n = 2} (lit≤ tt) le))) (cases_lt a b)
 
 -- a node's height and place by its number's halves
-odd_node : (x k j : ℕ) → x % 2 ≡ 1 → IsNode (x / 2) k j → IsNode x (suc k) j
-odd_node x k j odd half = rw pow-suc (omega arith)
-
 height_is : (fuel x : ℕ) → x ≤ fuel → (j : ℕ) × IsNode x (height_within fuel x) j
 unfolding height_within
 height_is zero x le = (0, omega arith)
 height_is (suc fuel) x le =
     let half : x / 2 ≤ fuel = omega arith in
     ⊎_elim (λ even. (x / 2, rw (eq-eqb (x % 2) 0 even) (omega arith)))
-    (λ odd. let found = height_is fuel (x / 2) half in (found.0, rw (ne_eqb (x % 2) 0 odd) (odd_node x _ found.0 (omega arith) found.1))) (cases_eq (x % 2) 0)
+    (λ odd. let found = height_is fuel (x / 2) half in (found.0, rw (ne_eqb (x % 2) 0 odd, pow-suc) (omega (arith, found.1)))) (cases_eq (x % 2) 0)
 
 -- the place is a quotient
 place_is : (x k j : ℕ) → IsNode x k j → x / 2 ^ (k + 1) ≡ j
@@ -118,21 +115,19 @@ room_left x lt low even =
     let below = room x lt (omega arith) in
     omega (arith, pow-add 2 (height_of x) 1, room_at (x + 2 ^ height_of x) (height_of x + 1) (place_of x / 2) (parent_left x even) below (omega arith))
 
--- the node of height h that begins where the j-th node of height k ends
-pub next_at : (h k j : ℕ) → h ≤ k → (height_of (2 * ((j + 1) * 2 ^ k) + (2 ^ h - 1)) ≡ h) × (start_of (2 * ((j + 1) * 2 ^ k) + (2 ^ h - 1)) ≡ (j + 1) * 2 ^ k)
-next_at h k j le =
-    let at = node_at (2 * ((j + 1) * 2 ^ k) + (2 ^ h - 1)) h ((j + 1) * 2 ^ (k - h)) (rw (parts h k le) (omega (arith, pow_pos))) in
-    (at.0, rw (at.0, at.1, parts h k le) (omega arith))
+-- the node of height h that begins where the node x ends, from the last leaf below x and the first node of the height
+pub next_at : (x h last first : ℕ) → h ≤ height_of x → last ≡ 2 * (end_of x - 1) → IsNode first h 0 → (height_of (last + 2 + first) ≡ h) × (start_of (last + 2 + first) ≡ end_of x)
+next_at x h last first le ends is =
+    let wide = parts h (height_of x) le in
+    let at = node_at (last + 2 + first) h ((place_of x + 1) * 2 ^ (height_of x - h)) (omega (arith, ap (λ w. (place_of x + 1) * w) wide, pow_pos (height_of x))) in
+    (at.0, rw (at.0, at.1) (omega (arith, ap (λ w. (place_of x + 1) * w) wide)))
 
 -- the node over a range
-pub number_over : (k j : ℕ) → IsNode (node_over (j * 2 ^ k) (2 ^ k)) k j
-number_over k j = omega (arith, pow_pos)
-
 pub only_number : (x k j : ℕ) → IsNode x k j → x ≡ node_over (j * 2 ^ k) (2 ^ k)
 only_number x k j is = omega arith
 
 pub over_at : (k j : ℕ) → (height_of (node_over (j * 2 ^ k) (2 ^ k)) ≡ k) × (place_of (node_over (j * 2 ^ k) (2 ^ k)) ≡ j)
-over_at k j = node_at (node_over (j * 2 ^ k) (2 ^ k)) k j (number_over k j)
+over_at k j = node_at (node_over (j * 2 ^ k) (2 ^ k)) k j (omega (arith, pow_pos))
 
 pub over_ends : (k j : ℕ) → end_of (node_over (j * 2 ^ k) (2 ^ k)) ≡ j * 2 ^ k + 2 ^ k
 over_ends k j = let at = over_at k j in rw (at.0, at.1) (omega arith)

@@ -12,20 +12,16 @@ use Rattle.warg_log.specs.Ranges.{Range, leaves_from, range_of}
 use Rattle.warg_log.specs.Cut.{Way, at_target, at_node, at_parts, way_over, is_beside, IsFull}
 use Rattle.warg_log.specs.Walks.{read_on, needed_over, siblings_up}
 use Rattle.warg_protobuf.proofs.ForCallers.{all_append, all_weaken}
-use Rattle.warg_log.proofs.BalancedLemmas.{balanced_none, balanced_first, balanced_more, roots, roots_follow, end_is}
-use Rattle.warg_log.proofs.WayLemmas.{first, counts, IsBeside, beside_decides, beside_false, missed, way_over_target, way_over-read, way_over-split, ways_from}
+use Rattle.warg_log.proofs.BalancedLemmas.{balanced_none, balanced_first, balanced_more, roots, roots_follow}
+use Rattle.warg_log.proofs.WayLemmas.{first, starts, counts, IsBeside, beside_decides, refuted, way_over_target, way_over-read, way_over-split, ways_from}
 use Rattle.warg_log.proofs.NodeLemmas.{node_is, only_number, pow_below_pow, over_at, over_ends}
 
 pub reverse-cons : (xs : List ℕ) (x : ℕ) → reverse (x ∷ xs) ≡ reverse xs ++ x ∷ []
 reverse-cons xs x = reverse_onto xs x []
 
 -- the way down a power of two of leaves that miss the target, which needs its own node
-way_over-beside : (t r : Range) → IsFull r.count → IsBeside t r → way_over t r ≡ at_node (node_over r.start r.count)
-way_over-beside t r full beside = way_over-read t r (missed t r (rw full.1 (pow_pos full.0)) beside) (inr (full, beside))
-
-pub need_full : (t r : Range) → IsFull r.count → IsBeside t r → needed_over t r ≡ node_over r.start r.count ∷ []
-unfolding read_on
-need_full t r full beside = ap read_on (way_over-beside t r full beside)
+pub way_beside : (t r : Range) → IsFull r.count → IsBeside t r → way_over t r ≡ at_node (node_over r.start r.count)
+way_beside t r full beside = way_over-read t r (λ same. omega (arith, starts same, counts same, full, pow_pos full.0)) (inr (full, (beside_decides t r).1 beside))
 
 -- the range of the node that stands d heights above the j-th one of height k
 pub above : (d k j : ℕ) → (j / 2 ^ d * 2 ^ (k + d) ≤ j * 2 ^ k) × (j * 2 ^ k + 2 ^ k ≤ j / 2 ^ d * 2 ^ (k + d) + 2 ^ (k + d))
@@ -45,21 +41,22 @@ up h i way = if i % 2 == 0 then at_parts false way (at_node (number_of h (siblin
 
 way_up : (t : Range) (h i : ℕ) → 0 < t.count → i * 2 ^ h ≤ t.start → t.start + t.count ≤ i * 2 ^ h + 2 ^ h → way_over t (block (suc h) (i / 2)) ≡ up h i (way_over t (block h i))
 way_up t h i some low high =
-    let split = λ (a : ℕ). way_over-split t (leaves_from a (2 ^ suc h)) h (omega (arith, pow-suc, pow_pos)) (omega arith) (λ same. omega (arith, pow-suc, counts same)) in
+    let split = λ (a : ℕ) (apart : IsBeside t (leaves_from a (2 ^ suc h)) → ⊥).
+    way_over-split t (leaves_from a (2 ^ suc h)) h (omega (arith, pow-suc, pow_pos)) (omega arith) (λ same. omega (arith, pow-suc, counts same)) (λ _ b. apart ((beside_decides t _).0 b)) in
     let wide = ap (λ p. i / 2 * p) (pow-suc 2 h) in
     ⊎_elim
     (λ (even : i % 2 ≡ 0).
     let half = ap (λ m. m * 2 ^ h) (let is : i ≡ 2 * (i / 2) = omega arith in is) in
-    let first = split (i * 2 ^ h) (λ _ b. omega (arith, pow-suc)) in
-    let next = way_over-beside t (block h (i + 1)) (h, refl) (inr (omega arith)) in
-    rw (eq-eqb (i % 2) 0 even) (grind (arith, half, wide, pow-suc 2 h, first, beside_false t (block h i) (λ b. omega arith), next)))
+    let first = split (i * 2 ^ h) (λ b. omega (arith, pow-suc)) in
+    let next = way_beside t (block h (i + 1)) (h, refl) (inr (omega arith)) in
+    rw (eq-eqb (i % 2) 0 even) (grind (arith, half, wide, pow-suc 2 h, first, refuted _ (beside_decides t (block h i)) (λ b. omega arith), next)))
     (λ (odd : i % 2 ≡ 0 → ⊥).
     let less : i - 1 + 1 ≡ i = omega arith in
     let half = ap (λ m. m * 2 ^ h) (let is : i ≡ 2 * (i / 2) + 1 = omega arith in is) in
     let next : (i - 1) * 2 ^ h + 2 ^ h ≡ i * 2 ^ h = omega (arith, ap (λ m. m * 2 ^ h) less) in
     let beside : IsBeside t (block h (i - 1)) = inl (rw next low) in
-    let first = split ((i - 1) * 2 ^ h) (λ _ b. omega (arith, pow-suc, next)) in
-    rw (ne_eqb (i % 2) 0 odd) (grind (arith, half, next, wide, pow-suc 2 h, first, (beside_decides t (block h (i - 1))).1 beside, way_over-beside t (block h (i - 1)) (h, refl) beside)))
+    let first = split ((i - 1) * 2 ^ h) (λ b. omega (arith, pow-suc, next)) in
+    rw (ne_eqb (i % 2) 0 odd) (grind (arith, half, next, wide, pow-suc 2 h, first, (beside_decides t (block h (i - 1))).1 beside, way_beside t (block h (i - 1)) (h, refl) beside)))
     (cases_eq (i % 2) 0)
 
 -- P holds of the way to the j-th node of height k from each node above it where it holds at that node and, if it does at one, at the next
@@ -77,10 +74,6 @@ need_around : (d k j : ℕ) → needed_over (block k j) (block (k + d) (j / 2 ^ 
 unfolding read_on
 need_around d k j = climb k j (λ d way. read_on way ≡ siblings_up d k j) refl
     (λ d way is. cond_both (j / 2 ^ d % 2 == 0) _ _ (λ w. read_on w ≡ siblings_up (suc d) k j) (λ _. rw is refl) (λ _. rw is refl)) d
-
--- a number strictly between two powers is none
-pub not_power : (h k n : ℕ) → 2 ^ h < n → n < 2 ^ suc h → n ≡ 2 ^ k → ⊥
-not_power h k n low high is = omega (arith, pow_below_pow h k (omega arith), pow_below_pow k (suc h) (omega arith))
 
 -- leaves in front, a multiple of 2 ^ e, of fewer than 2 ^ e: their balanced roots come first
 pub roots_front : (e q m : ℕ) → m < 2 ^ e → balanced_roots (q * 2 ^ e + m) ≡ balanced_roots (q * 2 ^ e) ++ balanced_over (q * 2 ^ e) m
@@ -130,7 +123,7 @@ module _ (t : Range) where
   covers_first full h c m [] lt none = (omega (arith, pow_pos h), grind (arith, none, over_at h c))
   covers_first full h c m (u ∷ us) lt rest =
       let more : 2 ^ h < 2 ^ h + m = omega (arith, rest.0) in
-      let part : (k : ℕ) → 2 ^ h + m ≡ 2 ^ k → ⊥ = λ k. not_power h k (2 ^ h + m) more (omega (arith, pow-suc)) in
+      let part : (k : ℕ) → 2 ^ h + m ≡ 2 ^ k → ⊥ = λ k is. omega (arith, pow_below_pow h k (omega arith), pow_below_pow k (suc h) (omega (arith, pow-suc))) in
       let range = leaves_from (c * 2 ^ h) (2 ^ h + m) in
       let other : range ≡ t → ⊥ = λ same. let f = full (omega (arith, counts same)) in part f.0 (counts same ∙ f.1) in
       let split = way_over-split t range h more (omega (arith, pow-suc)) other (λ f _. part (suc h) f) in
@@ -141,7 +134,7 @@ module _ (t : Range) where
 
   -- a root that misses the target is read, and so the roots behind the target and before it, from right to left
   pub way_missed : (r : ℕ) → Misses t r → way_over t (range_of r) ≡ at_node r
-  way_missed r miss = way_over-beside t (range_of r) (height_of r, refl) miss ∙ ap at_node (sym (only_number r (height_of r) (place_of r) (node_is r)))
+  way_missed r miss = way_beside t (range_of r) (height_of r, refl) miss ∙ ap at_node (sym (only_number r (height_of r) (place_of r) (node_is r)))
 
   reads_others : (r : ℕ) (rs : List ℕ) → AllByRecursion (Misses t) (r ∷ rs) → read_on (spine t r rs) ≡ reverse (r ∷ rs)
   unfolding read_on
@@ -151,7 +144,7 @@ module _ (t : Range) where
   reads_top : (r : ℕ) (rs : List ℕ) → (Misses t r → ⊥) → AllByRecursion (Misses t) rs → read_on (spine t r rs) ≡ read_on (way_over t (range_of r)) ++ reverse rs
   unfolding read_on
   reads_top r [] inside all = sym (append-nil _)
-  reads_top r (s ∷ rs) inside all = rw (beside_false t (range_of r) inside, reads_others s rs all) refl
+  reads_top r (s ∷ rs) inside all = rw (refuted _ (beside_decides t (range_of r)) inside, reads_others s rs all) refl
 
   reads_left : (l : ℕ) (ls : List ℕ) (r : ℕ) (rs : List ℕ) → AllByRecursion (Misses t) (l ∷ ls) → read_on (spine t l (ls ++ r ∷ rs)) ≡ read_on (spine t r rs) ++ reverse (l ∷ ls)
   unfolding read_on
@@ -170,14 +163,14 @@ module _ (t : Range) where
   -- all roots but the one above the target miss it
   after_beside : (a n : ℕ) (rs : List ℕ) → t.start + t.count ≤ a → Follow a n rs → AllByRecursion (Misses t) rs
   after_beside a n [] le follow = tt
-  after_beside a n (r ∷ rs) le follow = (inr (omega (arith, follow.0)), after_beside (end_of r) n rs (omega (arith, follow.0, end_is r)) follow.1)
+  after_beside a n (r ∷ rs) le follow = (inr (omega (arith, follow.0)), after_beside (end_of r) n rs (omega (arith, follow.0)) follow.1)
 
   others_beside : (a n r : ℕ) (left right : List ℕ) → start_of r ≤ t.start → t.start + t.count ≤ end_of r → Follow a n (left ++ r ∷ right)
       → (a ≤ t.start) × AllByRecursion (Misses t) left × AllByRecursion (Misses t) right
   others_beside a n r [] right low high follow = (omega (arith, follow.0), tt, after_beside (end_of r) n right high follow.1)
   others_beside a n r (l ∷ left) right low high follow =
       let rest = others_beside (end_of l) n r left right low high follow.1 in
-      (omega (arith, follow.0, end_is l, rest.0), (inl (omega (arith, end_is l, rest.0)), rest.1), rest.2)
+      (omega (arith, follow.0, rest.0), (inl (omega (arith, rest.0)), rest.1), rest.2)
 
 -- of the balanced roots, one above the j-th node of height k
 module _ (k j c n : ℕ) (left right : List ℕ) (split : balanced_roots n ≡ left ++ number_of (k + c) (j / 2 ^ c) ∷ right) where

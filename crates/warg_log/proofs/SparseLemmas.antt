@@ -2,7 +2,6 @@
 use Rattle.std.proofs.Common.{◌≡◌, ℕ, suc, zero, ◌+◌, ◌<◌, ◌≤◌, List, [], ◌∷◌, length, get_or, Ok, Err, Some, None, refl, sym, arith}
 use Rattle.std.specs.Ordering.{nat_cmp, ordering_index}
 use Rattle.std.specs.declared.cmp.Ordering.TheVariants.{Less, Equal, Greater}
-use Rattle.std.specs.List.{AllByRecursion}
 use Rattle.std.specs.List.Sorted.{IsBinarySearchResult, IsNonDecreasingBy}
 use Rattle.std.proofs.lemmas.Cmp.{ranked}
 use Rattle.std.proofs.lemmas.List.Elements.{All-from_recursion}
@@ -10,6 +9,7 @@ use Rattle.std.proofs.lemmas.List.Sorted.{searchable_from_sorted}
 use Rattle.std.specs.Cmp.{nat_cmp_total}
 use Rattle.std.proofs.lemmas.Bool.Decides.{nat_tests}
 use Rattle.std.proofs.lemmas.Bool.{eq-eqb, ne_eqb}
+use Rattle.warg_protobuf.proofs.ForCallers.{all_weaken}
 use Rattle.warg_log.specs.declared.node.Node.{Node}
 use Rattle.warg_log.specs.Sparse.{Pairs, IsAscending, held_digest}
 
@@ -50,11 +50,10 @@ searched_err ps x i up parted =
     absent ps x (λ k d lt e. grind (arith, less k d lt, more k d lt))
 
 -- numbers of which each lies below the next one ascend
-all_above : (x : ℕ) (ps : Pairs) (d : Node × List ℕ) → (0 < length ps → x < (get_or ps 0 d).0.0)
-    → ((k : ℕ) → suc k < length ps → (get_or ps k d).0.0 < (get_or ps (suc k) d).0.0) → AllByRecursion (λ (q : Node × List ℕ). x < q.0.0) ps
-all_above x [] d first up = tt
-all_above x (p ∷ ps) d first up = (first (omega arith), all_above x ps d (λ some. omega (arith, first (omega arith), up 0 (omega arith))) (λ k lt. up (suc k) (omega arith)))
-
 pub ascends_by_steps : (ps : Pairs) → ((k : ℕ) (d : Node × List ℕ) → suc k < length ps → (get_or ps k d).0.0 < (get_or ps (suc k) d).0.0) → IsAscending ps
 ascends_by_steps [] up = tt
-ascends_by_steps (p ∷ ps) up = (all_above p.0.0 ps p (λ some. up 0 p (omega arith)) (λ k lt. up (suc k) p (omega arith)), ascends_by_steps ps (λ k d lt. up (suc k) d (omega arith)))
+ascends_by_steps (p ∷ []) up = (tt, tt)
+ascends_by_steps (p ∷ q ∷ ps) up =
+    let rest = ascends_by_steps (q ∷ ps) (λ k d lt. up (suc k) d (omega arith)) in
+    let first : p.0.0 < q.0.0 = up 0 p (omega arith) in
+    ((first, all_weaken (λ (r : Node × List ℕ). q.0.0 < r.0.0) (λ (r : Node × List ℕ). p.0.0 < r.0.0) (λ r above. omega arith) ps rest.0), rest)

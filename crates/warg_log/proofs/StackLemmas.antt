@@ -17,13 +17,10 @@ use Rattle.warg_protobuf.proofs.ForCallers.{all_weaken}
 use Rattle.warg_log.proofs.NodeLemmas.{node_is, only_number, over_at, over_ends}
 use Rattle.warg_log.proofs.RootLemmas.{root_over_one}
 use Rattle.warg_log.proofs.CutLemmas.{root_over_split, own_root}
-use Rattle.warg_log.proofs.BalancedLemmas.{map_same, end_is, balanced_none, balanced_full, has_first_over}
+use Rattle.warg_log.proofs.BalancedLemmas.{map_same, balanced_none, balanced_full, has_first_over}
 use Rattle.warg_log.proofs.OrderLemmas.{roots_front, roots_within, roots_end}
 use Rattle.warg_log.proofs.ClimbLemmas.{old_root-joined}
 use Rattle.warg_log.proofs.AppendLemmas.{front_kept}
-
-pub roots_exist : (n : ℕ) → AllByRecursion (λ t. end_of t ≤ n) (balanced_roots n)
-roots_exist n = roots_end n n (omega arith)
 
 -- ---- a push, which joins the new leaf with the last blocks as an addition of 1 carries
 
@@ -115,16 +112,16 @@ all_over H F n d (t ∷ ts) [] held exist = absurd (cc)
 all_over H F n d (t ∷ ts) (e ∷ ds) held exist =
     let first : F t ≡ Some e = cc in
     let others : map F ts ≡ map Some ds = cc in
-    let here = over_held H F n d e (height_of t) (start_of t) (omega (arith, exist.0, end_is t)) (ap F (sym (only_number t (height_of t) (place_of t) (node_is t))) ∙ first) in
+    let here = over_held H F n d e (height_of t) (start_of t) (omega (arith, exist.0)) (ap F (sym (only_number t (height_of t) (place_of t) (node_is t))) ∙ first) in
     rw (here, ← all_over H F n d ts ds others exist.1) refl
 
 pub grows_over : (H : List ℕ → List ℕ) (b : Blocks) (d : List ℕ) → length b.digests ≡ length (balanced_roots b.len) → Grows H b.len d b.digests (block_over H (block_at b) b.len d)
 grows_over H b d len = record {
-  blocks = all_over H (block_at b) b.len d (balanced_roots b.len) b.digests (blocks_held b len) (roots_exist b.len);
+  blocks = all_over H (block_at b) b.len d (balanced_roots b.len) b.digests (blocks_held b len) (roots_end b.len b.len (omega arith));
   leaf = rw (eq-eqb b.len b.len refl) refl;
   joins = λ h q end.
       let x = node_over (q * 2 ^ suc h) (2 ^ suc h) in
-      let others = all_weaken (λ t. end_of t ≤ b.len) (λ t. nat_eq t x ≡ false) (λ t ends. ne_eqb t x (λ e. omega (arith, ap end_of e, ends, over_ends (suc h) q, end))) (balanced_roots b.len) (roots_exist b.len) in
+      let others = all_weaken (λ t. end_of t ≤ b.len) (λ t. nat_eq t x ≡ false) (λ t ends. ne_eqb t x (λ e. omega (arith, ap end_of e, ends, over_ends (suc h) q, end))) (balanced_roots b.len) (roots_end b.len b.len (omega arith)) in
       rw (beside_none x (balanced_roots b.len) b.digests others) refl;
 }
 
@@ -136,7 +133,7 @@ grows_roots H b ds d stands =
     let count : length ds ≡ b.len = stands.count in
     record {
       blocks = stands.roots ∙ map_same _ _ (balanced_roots b.len) (all_weaken (λ t. end_of t ≤ length ds) _
-          (λ t ends. ap (root_of H) (sym (front_kept ds d (start_of t) (2 ^ height_of t) (omega (arith, ends, end_is t))))) (balanced_roots b.len) (roots_end b.len (length ds) (omega arith)));
+          (λ t ends. ap (root_of H) (sym (front_kept ds d (start_of t) (2 ^ height_of t) (omega (arith, ends))))) (balanced_roots b.len) (roots_end b.len (length ds) (omega arith)));
       leaf = sym (root_over_one H (ds ++ d ∷ []) b.len (omega arith) ∙ get_or_push ds d [] b.len count);
       joins = λ h q end. grind (arith, pow-suc 2 h, root_over_split H (ds ++ d ∷ []) h (q * 2 ^ suc h) (2 ^ suc h) (omega (arith, pow-suc, pow_pos)) (omega arith) (omega (arith, end)));
     }
@@ -163,12 +160,12 @@ old_joined H F n (e ∷ es) some held = old_root-joined H F n some ∙ ap (joine
 pub blocks_root : (H : List ℕ → List ℕ) (b : Blocks) → length b.digests ≡ length (balanced_roots b.len) → 0 < b.len → old_root H (block_at b) b.len ≡ Some (joined_blocks H b.digests)
 blocks_root H b len some = old_joined H (block_at b) b.len b.digests some (blocks_held b len)
 
-pub none_root : (H : List ℕ → List ℕ) (b : Blocks) → length b.digests ≡ length (balanced_roots b.len) → b.len ≡ 0 → joined_blocks H b.digests ≡ H []
-none_root H b len none = ap (joined_blocks H) (nil_from_length b.digests (len ∙ rw (none, balanced_none) refl))
+pub none_root : (H : List ℕ → List ℕ) (ds : List (List ℕ)) → length ds ≡ length (balanced_roots 0) → joined_blocks H ds ≡ H []
+none_root H ds len = ap (joined_blocks H) (nil_from_length ds (len ∙ rw balanced_none refl))
 
 -- the root of blocks that stand for leaves
 pub stands_root : (H : List ℕ → List ℕ) (b : Blocks) (ds : List (List ℕ)) → StandsFor H b ds → joined_blocks H b.digests ≡ root_of H ds
-stands_root H b [] stands = none_root H b (ap length stands.roots ∙ length-map (balanced_roots b.len) (λ t. root_of H (leaves_below t []))) (sym stands.count)
+stands_root H b [] stands = none_root H b.digests (ap length stands.roots ∙ length-map (balanced_roots b.len) (λ t. root_of H (leaves_below t [])) ∙ rw (← stands.count) refl)
 stands_root H b (e ∷ es) stands =
     let ds = e ∷ es in
     let count : length ds ≡ b.len = stands.count in

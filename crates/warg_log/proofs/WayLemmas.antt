@@ -1,5 +1,5 @@
 -- The way of an evaluation down a range.
-use Rattle.std.proofs.Common.{◌≡◌, ℕ, zero, suc, ◌+◌, ◌-◌, ◌*◌, ◌^◌, ◌<◌, ◌≤◌, ◌==◌, ◌&&◌, true, false, if◌then◌else◌, refl, sym, ap, ◌∙◌, arith, ⊎_elim, ◌⊎◌}
+use Rattle.std.proofs.Common.{◌≡◌, ℕ, zero, suc, ◌+◌, ◌-◌, ◌*◌, ◌^◌, ◌<◌, ◌≤◌, ◌==◌, ◌&&◌, true, false, if◌then◌else◌, Bool, refl, sym, ap, ◌∙◌, arith, ⊎_elim, ◌⊎◌, inl, inr}
 use Rattle.std.specs.Prelude.{IsTrue}
 use Rattle.std.specs.Bool.{Decides}
 use Rattle.std.proofs.Math.Nat.{pow-suc}
@@ -42,30 +42,11 @@ target_decides t r =
 pub beside_decides : (t r : Range) → Decides (is_beside t r) (IsBeside t r)
 beside_decides t r = Decides-or _ _ (leb-true (r.start + r.count) t.start, le-leb (r.start + r.count) t.start) (leb-true (t.start + t.count) r.start, le-leb (t.start + t.count) r.start)
 
-read_decides : (t r : Range) (h : ℕ) → Decides (r.count == 2 ^ suc h && is_beside t r) ((r.count ≡ 2 ^ suc h) × IsBeside t r)
-read_decides t r h = Decides-and _ _ (Decides-eqb r.count (2 ^ suc h)) (beside_decides t r)
+read_decides : (t r : Range) (h : ℕ) → Decides (r.count == 2 ^ suc h && is_beside t r) ((r.count ≡ 2 ^ suc h) × IsTrue (is_beside t r))
+read_decides t r h = Decides-and _ _ (Decides-eqb r.count (2 ^ suc h)) (λ e. e, λ e. e)
 
-pub is_other : (t r : Range) → is_target t r ≡ false → r ≡ t → ⊥
-is_other t r apart same = false≢true (sym apart ∙ (target_decides t r).1 same)
-
-target_false : (t r : Range) → (r ≡ t → ⊥) → is_target t r ≡ false
-target_false t r other = false_from_ne_true (is_target t r) (λ e. other ((target_decides t r).0 e))
-
-pub is_beside_so : (t r : Range) → IsTrue (is_beside t r) → IsBeside t r
-is_beside_so t r beside = (beside_decides t r).0 beside
-
-pub beside_false : (t r : Range) → (IsBeside t r → ⊥) → is_beside t r ≡ false
-beside_false t r inside = false_from_ne_true (is_beside t r) (λ e. inside ((beside_decides t r).0 e))
-
--- what misses the target isn't it, and no part of it is
-pub missed : (t r : Range) → 0 < r.count → IsBeside t r → r ≡ t → ⊥
-missed t r leaves beside same = omega (arith, starts same, counts same)
-
-pub front_missed : (t r : Range) (f : ℕ) → f ≤ r.count → IsBeside t r → IsBeside t (leaves_from r.start f)
-front_missed t r f le beside = grind arith
-
-pub rest_missed : (t r : Range) (f : ℕ) → f ≤ r.count → IsBeside t r → IsBeside t (leaves_from (r.start + f) (r.count - f))
-rest_missed t r f le beside = grind arith
+pub refuted : {P : Type 0} (b : Bool) → Decides b P → (P → ⊥) → b ≡ false
+refuted b decides other = false_from_ne_true b (λ e. other (decides.0 e))
 
 -- the recursion without a height
 way_at : (t : Range) (h : ℕ) (r : Range) → r.count ≤ 2 ^ h → way_over t r ≡ way_within t h r
@@ -90,37 +71,31 @@ way_over_target t =
     ⊎_elim (λ more. let f = front_is t.count more in way_more t t f.0 f.2 f.3 ∙ rw yes refl) (λ low. way_at t 0 t low ∙ rw yes refl) (cases_lt 1 t.count)
 
 -- a range that is read
-full_read : (t r : Range) (k : ℕ) → r.count ≡ 2 ^ k → (r ≡ t → ⊥) → IsBeside t r → way_over t r ≡ at_node (node_over r.start r.count)
+pub way_over-read : (t r : Range) → (r ≡ t → ⊥) → (r.count ≡ 1) ⊎ (IsFull r.count × IsTrue (is_beside t r)) → way_over t r ≡ at_node (node_over r.start r.count)
 unfolding way_within
-full_read t r zero width other beside = way_at t 0 r (omega arith) ∙ rw (target_false t r other) refl
-full_read t r (suc k) width other beside =
-    way_more t r k (omega (arith, pow_pos, pow-suc)) (omega arith) ∙ rw (target_false t r other, (read_decides t r k).1 (width, beside)) refl
-
-pub way_over-read : (t r : Range) → (r ≡ t → ⊥) → (r.count ≡ 1) ⊎ (IsFull r.count × IsBeside t r) → way_over t r ≡ at_node (node_over r.start r.count)
-unfolding way_within
-way_over-read t r other read = ⊎_elim
-    (λ one. way_at t 0 r (omega arith) ∙ rw (target_false t r other) refl)
-    (λ (p : IsFull r.count × IsBeside t r). full_read t r p.0.0 p.0.1 other p.1) read
+way_over-read t r other (inl one) = way_at t 0 r (omega arith) ∙ rw (refuted _ (target_decides t r) other) refl
+way_over-read t r other (inr ((zero, one), beside)) = way_at t 0 r (omega arith) ∙ rw (refuted _ (target_decides t r) other) refl
+way_over-read t r other (inr ((suc k, width), beside)) =
+    way_more t r k (omega (arith, pow_pos, pow-suc)) (omega arith) ∙ rw (refuted _ (target_decides t r) other, (read_decides t r k).1 (width, beside)) refl
 
 -- any other range
-pub way_over-split : (t r : Range) (h : ℕ) → 2 ^ h < r.count → r.count ≤ 2 ^ suc h → (r ≡ t → ⊥) → (r.count ≡ 2 ^ suc h → IsBeside t r → ⊥)
+pub way_over-split : (t r : Range) (h : ℕ) → 2 ^ h < r.count → r.count ≤ 2 ^ suc h → (r ≡ t → ⊥) → (r.count ≡ 2 ^ suc h → IsTrue (is_beside t r) → ⊥)
     → way_over t r ≡ at_parts (is_beside t (first h r)) (way_over t (first h r)) (way_over t (behind h r))
 way_over-split t r h more most other apart =
-    let read : (r.count == 2 ^ suc h && is_beside t r) ≡ false = false_from_ne_true _ (λ e. let p = (read_decides t r h).0 e in apart p.0 p.1) in
-    way_more t r h more most ∙ rw (target_false t r other, read) refl
+    way_more t r h more most ∙ rw (refuted _ (target_decides t r) other, refuted _ (read_decides t r h) (λ p. apart p.0 p.1)) refl
 
 pub way_over_parts : (t r : Range) → 1 < r.count → (r ≡ t → ⊥) → (IsFull r.count → IsTrue (is_beside t r) → ⊥)
     → way_over t r ≡ at_parts (is_beside t (front_part r)) (way_over t (front_part r)) (way_over t (rest_part r))
 way_over_parts t r more other apart =
     let f = front_is r.count more in
-    rw f.1 (way_over-split t r f.0 f.2 f.3 other (λ width beside. apart (suc f.0, width) ((beside_decides t r).1 beside)))
+    rw f.1 (way_over-split t r f.0 f.2 f.3 other (λ width. apart (suc f.0, width)))
 
 -- P holds of each range and the way down it where it holds of the target, of a node that is read and, if it holds of
 -- both parts, of a range that is split; the ranges begin a multiple of their width behind the leaf o
 pub record Rule (t : Range) (o : ℕ) (P : Range → Way → Type 0) : Type 0 where
   pub target : 0 < t.count → P t at_target
   pub node : (k c a : ℕ) → a ≡ o + c * 2 ^ k → P (leaves_from a (2 ^ k)) (at_node (node_over a (2 ^ k)))
-  pub parts : (h : ℕ) (r : Range) (left right : Way) → 2 ^ h < r.count → r.count ≤ 2 ^ suc h → (r.count ≡ 2 ^ suc h → IsBeside t r → ⊥) → P (first h r) left → P (behind h r) right
+  pub parts : (h : ℕ) (r : Range) (left right : Way) → 2 ^ h < r.count → r.count ≤ 2 ^ suc h → (r.count ≡ 2 ^ suc h → IsTrue (is_beside t r) → ⊥) → P (first h r) left → P (behind h r) right
       → P r (at_parts (is_beside t (first h r)) left right)
 
 at_end : (t : Range) (o : ℕ) (P : Range → Way → Type 0) → Rule t o P → (r : Range) → 0 < r.count → is_target t r ≡ true → P r at_target

@@ -100,7 +100,7 @@ pub fn cut_target()
 
 /// The cut root of a range that misses the target and has a power of two of leaves is the digest that
 /// is held for it.
-#[tactic(auto, using(crate::proofs::CutLemmas::cut_over_read, crate::proofs::WayLemmas::is_beside_so))]
+#[tactic(auto, using(crate::proofs::CutLemmas::cut_over_read, crate::proofs::WayLemmas::beside_decides))]
 pub fn cut_beside()
     ensures { (H : List ℕ → List ℕ) (e : Evaluation) (r : Range) → 0 < e.target.count
         → IsFull r.count → IsTrue (is_beside e.target r)
@@ -122,7 +122,7 @@ pub fn needed_target()
 {}
 
 /// A range that misses the target and has a power of two of leaves needs the node over it.
-#[tactic(auto, using(crate::proofs::OrderLemmas::need_full, crate::proofs::WayLemmas::is_beside_so))]
+#[tactic(auto, using(crate::proofs::OrderLemmas::way_beside, crate::proofs::WayLemmas::beside_decides), unfolding(crate::specs::Walks::read_on))]
 pub fn needed_beside()
     ensures { (t r : Range) → 0 < t.count → IsFull r.count → IsTrue (is_beside t r)
         → needed_over t r ≡ node_over r.start r.count ∷ [] }
@@ -130,7 +130,7 @@ pub fn needed_beside()
 
 /// Any other range needs what its two parts need: the rest's nodes stand first where the first part misses
 /// the target, and else the first part's.
-#[tactic(auto, using(crate::proofs::WayLemmas::way_over_parts), unfolding(crate::specs::Walks::read_on))]
+#[tactic(auto, using(crate::proofs::WayLemmas::way_over_parts, std::proofs::lemmas::Bool::false_from_ne_true), unfolding(crate::specs::Walks::read_on))]
 pub fn needed_parts()
     ensures rest_first { (t r : Range) → 1 < r.count → r ≢ t
         → (IsFull r.count → IsTrue (is_beside t r) → ⊥) → IsTrue (is_beside t (front_part r))

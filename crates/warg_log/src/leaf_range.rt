@@ -137,7 +137,7 @@ pub fn range_root<D: SupportedDigest, V: VisitBytes, L: LogData<D, V>>(
 
 /// The old root of one range: the root of the range's leaves by the digests that the data holds for the
 /// range's balanced roots. None exactly if the data lacks one of them. It takes no memory.
-#[tactic(auto, using(crate::proofs::CutLemmas::old_over_full, crate::proofs::CutLemmas::old_over_parts))]
+#[tactic(auto, using(crate::proofs::CutLemmas::old_full, crate::proofs::CutLemmas::old_over_parts))]
 pub fn stored_root<D: SupportedDigest, V: VisitBytes, L: LogData<D, V>>(
     hashes: &L,
     range: &LeafRange,

@@ -209,7 +209,7 @@ impl<A: Allocator> PartialEq for InclusionProofWalk<A> {
 
     ghost laws = { Prim.search (comparing, rules) depth 9 };
 
-    #[tactic(auto, using(crate::proofs::EqualLemmas::walks_decide))]
+    #[tactic(auto, using(crate::proofs::ForCallers::walks_decide))]
     fn eq(&self, other: &InclusionProofWalk<A>) -> bool
         ensures value { result ≡ same_walk self.now other.now }
         ensures exact { IsTrue result ↔ (self.now ≡ other.now) }

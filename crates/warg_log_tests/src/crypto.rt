@@ -13,7 +13,7 @@ use std::test::Fail;
 use warg_crypto::weak::{Flat, Own32, Sum};
 use warg_crypto::{
     Framed, Hash, HashLength, Sha256, Side, bytes_of, empty_tree_hash, hash_branch, hash_empty,
-    hash_leaf,
+    hash_leaf, have_same_bytes,
 };
 
 // Equality and order as a caller has them: by the bytes.
@@ -60,6 +60,16 @@ fn sha256_of_bytes_in_pieces(rt: HostRuntime) -> Result<(), Fail> {
     for (pieces, want) in &HASHES_OF_PIECES {
         assert!(rt; is_spelled(&hash_of_pieces(rt.alloc(), pieces)?, want));
     }
+    Ok(())
+}
+
+#[test]
+fn values_are_compared_by_their_bytes(rt: HostRuntime) -> Result<(), Fail> {
+    let cut_elsewhere = have_same_bytes(&("foo1", "0"), &("foo", "10"))?;
+    let a_front = have_same_bytes(&"foo", &"foo1")?;
+    let more = have_same_bytes(&"foo1", &"foo")?;
+    let others = have_same_bytes(&"foo", &"bar")?;
+    assert!(rt; all(&[cut_elsewhere, !a_front, !more, !others]));
     Ok(())
 }
 

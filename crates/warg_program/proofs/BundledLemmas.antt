@@ -1,5 +1,5 @@
 -- The bundle of one inclusion proof, and the answer to an order to make it.
-use Rattle.std.proofs.Common.{◌≡◌, ◌≢◌, ℕ, ◌^◌, ◌<◌, true, false, nat_lt, List, [], ◌∷◌, ◌++◌, map, codes, Result, Err, ◌⊎◌, ◌↔◌, refl, ap, ⊎_elim}
+use Rattle.std.proofs.Common.{◌≡◌, ◌≢◌, ℕ, ◌^◌, ◌<◌, true, false, nat_lt, List, [], ◌∷◌, ◌++◌, map, codes, Result, Err, ◌⊎◌, refl, ap, ⊎_elim}
 use Rattle.std.specs.List.{AllByRecursion, list_all}
 use Rattle.std.proofs.lemmas.Bool.{ltb-true, lt-ltb, and_from, and_parts, cases_Bool}
 use Rattle.hex.specs.Hex.{encode_lower}
@@ -34,15 +34,12 @@ nodes_fit : (b : Bundle) → numbers_fit (bundle_message b) ≡ true → NodesFi
 nodes_fit b fits = let parts = and_parts _ _ fits in (all_fit (λ x. x) (λ (node : Node). node.0) b.included_nodes parts.0, all_fit (λ (e : Entry). e.index) entry_of b.hashes parts.1)
 
 -- the written form is shown, or that it doesn't fit
-pub bytes_shown : (b : Bundle) (P : Type 0) (bytes : List ℕ) → P ↔ (NodesFit b → ⊥) → (P → ⊥) → bytes ≡ log_bytes (bundle_message b) → bytes_or_refusal (bundle_message b) ≡ codes "bundle " ++ encode_lower bytes
-bytes_shown b P bytes too_large fits written = ⊎_elim
-    (λ (t : numbers_fit (bundle_message b) ≡ true). rw (t, written) refl)
-    (λ (t : numbers_fit (bundle_message b) ≡ false). absurd (fits (too_large.1 (λ all. let u = numbers_fit-bundle_message b all in cc (t, u)))))
-    (cases_Bool (numbers_fit (bundle_message b)))
+pub bytes_shown : (b : Bundle) → NodesFit b → bytes_or_refusal (bundle_message b) ≡ codes "bundle " ++ encode_lower (log_bytes (bundle_message b))
+bytes_shown b fits = rw (numbers_fit-bundle_message b fits) refl
 
-pub too_large_shown : (b : Bundle) (P : Type 0) → P ↔ (NodesFit b → ⊥) → P → bytes_or_refusal (bundle_message b) ≡ codes "refused too large"
-too_large_shown b P too_large is = ⊎_elim
-    (λ (t : numbers_fit (bundle_message b) ≡ true). absurd (too_large.0 is (nodes_fit b t)))
+pub too_large_shown : (b : Bundle) → ¬ NodesFit b → bytes_or_refusal (bundle_message b) ≡ codes "refused too large"
+too_large_shown b too_large = ⊎_elim
+    (λ (t : numbers_fit (bundle_message b) ≡ true). absurd (too_large (nodes_fit b t)))
     (λ (t : numbers_fit (bundle_message b) ≡ false). rw t refl)
     (cases_Bool (numbers_fit (bundle_message b)))
 

@@ -8,11 +8,10 @@ use Rattle.warg_log.specs.Consistency.{consistency}
 use Rattle.warg_log.specs.declared.consistency.ConsistencyProofError.{ConsistencyProofError}
 use Rattle.warg_protobuf.specs.declared.value_error.DecodeError.{DecodeError}
 use Rattle.warg_program.specs.Words.{lines_of}
-use Rattle.warg_program.specs.Orders.{Order, line_of, good, consistent}
+use Rattle.warg_program.specs.Orders.{Order, Line, line_of, empty, bad, good, consistent}
 use Rattle.warg_program.specs.States.{State, start, log_at, map_at, after_line, FindsFull}
 use Rattle.warg_program.specs.Text.{said, is_not_bad, text_from, text_of, all_good, after_lines, answer, refusal, roots_or_refusal, verdict_or_refusal, MeetsFull}
-use Rattle.warg_program.specs.Private.Sessions.{IsInState, Takes, LineFindsRoom}
-use Rattle.warg_program.specs.Private.Errors.{LineFindsFull}
+use Rattle.warg_program.specs.Private.Sessions.{IsInState, LineFindsFull, Answers}
 use Rattle.warg_program.specs.declared.session.Session.{Session}
 use Rattle.warg_check.specs.declared.verdict.CheckError.{CheckError}
 use Rattle.warg_check.specs.declared.verdict.CheckError.TheVariants as check
@@ -36,9 +35,9 @@ full_behind : (s : State) (line : List ℕ) (lines : List (List ℕ)) → ¬ Lin
 unfolding Full
 full_behind s line lines room full = ⊎_elim (λ (here : LineFindsFull s (line_of line)). absurd (room here)) (λ (later : (is_not_bad (line_of line) ≡ true) × Full (after_line s (line_of line)) lines). later.1) full
 
-not_at_bad : (s : State) (line : List ℕ) (lines : List (List ℕ)) → ¬ LineFindsFull s (line_of line) → is_not_bad (line_of line) ≡ false → Full s (line ∷ lines) → ⊥
+not_at_bad : (s : State) (line : List ℕ) (lines : List (List ℕ)) → line_of line ≡ bad → Full s (line ∷ lines) → ⊥
 unfolding Full
-not_at_bad s line lines room is_bad full = ⊎_elim (λ (here : LineFindsFull s (line_of line)). room here) (λ (later : (is_not_bad (line_of line) ≡ true) × Full (after_line s (line_of line)) lines). true≢false (sym later.0 ∙ is_bad)) full
+not_at_bad s line lines is_bad full = ⊎_elim (λ (here : LineFindsFull s (line_of line)). rw is_bad at here) (λ (later : (is_not_bad (line_of line) ≡ true) × Full (after_line s (line_of line)) lines). true≢false (sym later.0 ∙ ap is_not_bad is_bad)) full
 
 -- the lines so far were good, the session stands at the state after them, and its text is theirs
 pub record Stands {A : Type 0} (input rest : List ℕ) (session : Session A) (number : ℕ) : Type 0 where
@@ -107,63 +106,69 @@ one_text n s line = sym (ap (λ text. said n s (line_of line) ++ text) (no_text 
 
 -- behind one more good line
 pub goes_on : {A : Type 0} (input rest line behind : List ℕ) (old new : Session A) (number : ℕ) → Stands input rest old number
-    → lines_of rest ≡ line ∷ lines_of behind → Takes old new (number + 1) (line_of line) → LineFindsRoom old (line_of line) → is_not_bad (line_of line) ≡ true
-    → Stands input behind new (number + 1)
-goes_on input rest line behind old new number stands lines takes room is_good =
+    → lines_of rest ≡ line ∷ lines_of behind → ((s : State) → IsInState old s → Answers old new s (line_of line)) → Stands input behind new (number + 1)
+goes_on input rest line behind old new number stands lines answered =
     let before = stands.before in
     let s = after_lines start before in
-    let step = takes s stands.state_is in
-    let at : number + 1 ≡ 1 + length before = omega (arith, stands.number_is) in
+    let step = answered s stands.state_is in
+    let here = 1 + length before in
     let next : after_lines start (before ++ line ∷ []) ≡ after_line s (line_of line) = after_lines-append start before (line ∷ []) ∙ one_after s line in
     record {
       before = before ++ line ∷ [];
       parts = stands.parts ∙ ap (λ ls. before ++ ls) lines ∙ sym (append_assoc before (line ∷ []) (lines_of behind));
-      good = all_good-append before (line ∷ []) stands.good ∙ one_good line is_good;
+      good = all_good-append before (line ∷ []) stands.good ∙ one_good line step.is_good;
       state_is = record { log_is = step.log_is ∙ ap log_at (sym next); map_is = step.map_is ∙ ap map_at (sym next) };
-      text_is = step.text_is ∙ ap (λ text. text ++ said (number + 1) s (line_of line)) stands.text_is
-          ∙ ap (λ text. text_from 1 start before ++ text) (ap (λ m. said m s (line_of line)) at ∙ one_text (1 + length before) s line)
+      text_is = step.text_is here ∙ ap (λ text. text ++ said here s (line_of line)) stands.text_is
+          ∙ ap (λ text. text_from 1 start before ++ text) (one_text here s line)
           ∙ sym (text_from-append 1 start before (line ∷ []) stands.good);
       number_is = omega (arith, stands.number_is, length-append before (line ∷ []));
-      room = λ full. rw next (full_behind s line (lines_of behind) (room s stands.state_is) (rw lines at (stands.room full)));
+      room = λ full. rw next (full_behind s line (lines_of behind) step.room (rw lines at (stands.room full)));
     }
 
 -- behind the last line
 pub ends : {A : Type 0} (input rest : List ℕ) (session : Session A) (number : ℕ) → Stands input rest session number → length rest ≡ 0
-    → (string_bytes session.text ≡ text_of input) × (all_good (lines_of input) ≡ true)
-unfolding lines_of
+    → (string_bytes session.text ≡ text_of input) × (all_good (lines_of input) ≡ true) × ¬ MeetsFull input
+unfolding lines_of Full
 ends input [] session number stands none =
     let whole : lines_of input ≡ stands.before = stands.parts ∙ append-nil stands.before in
-    (stands.text_is ∙ ap (text_from 1 start) (sym whole), ap all_good whole ∙ stands.good)
+    (stands.text_is ∙ ap (text_from 1 start) (sym whole), ap all_good whole ∙ stands.good, stands.room)
 ends input (b ∷ rest) session number stands none = absurd (omega arith)
 
 -- behind a bad line
-pub stops : {A : Type 0} (input rest line behind : List ℕ) (old new : Session A) (number : ℕ) → Stands input rest old number
-    → lines_of rest ≡ line ∷ lines_of behind → Takes old new (number + 1) (line_of line) → is_not_bad (line_of line) ≡ false
-    → (string_bytes new.text ≡ text_of input) × (all_good (lines_of input) ≡ false)
+pub stops : {A : Type 0} (input rest line behind : List ℕ) (session : Session A) (text : List ℕ) (number : ℕ) → Stands input rest session number
+    → lines_of rest ≡ line ∷ lines_of behind → line_of line ≡ bad → text ≡ string_bytes session.text ++ said (number + 1) start bad
+    → (text ≡ text_of input) × (all_good (lines_of input) ≡ false) × ¬ MeetsFull input
 unfolding text_from all_good
-stops input rest line behind old new number stands lines takes is_bad =
+stops input rest line behind session text number stands lines is_bad text_is =
     let before = stands.before in
     let s = after_lines start before in
-    let step = takes s stands.state_is in
     let at : number + 1 ≡ 1 + length before = omega (arith, stands.number_is) in
     let whole : lines_of input ≡ before ++ line ∷ lines_of behind = stands.parts ∙ ap (λ ls. before ++ ls) lines in
-    let last : said (1 + length before) s (line_of line) ≡ text_from (1 + length before) s (line ∷ lines_of behind) = rw is_bad (sym (append-nil _)) in (
-      step.text_is ∙ ap (λ text. text ++ said (number + 1) s (line_of line)) stands.text_is
-          ∙ ap (λ text. text_from 1 start before ++ text) (ap (λ m. said m s (line_of line)) at ∙ last)
+    let last : said (number + 1) start bad ≡ text_from (1 + length before) s (line ∷ lines_of behind) = rw (is_bad, at) (sym (append-nil _)) in (
+      text_is ∙ ap (λ text. text ++ said (number + 1) start bad) stands.text_is ∙ ap (λ text. text_from 1 start before ++ text) last
           ∙ sym (text_from-append 1 start before (line ∷ lines_of behind) stands.good) ∙ ap (text_from 1 start) (sym whole),
       ap all_good whole ∙ all_good-append before (line ∷ lines_of behind) stands.good ∙ rw is_bad refl,
+      λ full. not_at_bad s line (lines_of behind) is_bad (rw lines at (stands.room full)),
     )
 
--- there was room for the orders of all lines, or of those before a bad one
-pub room_to_end : {A : Type 0} (input rest : List ℕ) (session : Session A) (number : ℕ) → Stands input rest session number → length rest ≡ 0 → ¬ MeetsFull input
-unfolding lines_of Full
-room_to_end input [] session number stands none full = stands.room full
-room_to_end input (b ∷ rest) session number stands none full = absurd (omega arith)
-
-pub room_to_bad : {A : Type 0} (input rest line behind : List ℕ) (old : Session A) (number : ℕ) → Stands input rest old number
-    → lines_of rest ≡ line ∷ lines_of behind → LineFindsRoom old (line_of line) → is_not_bad (line_of line) ≡ false → ¬ MeetsFull input
-room_to_bad input rest line behind old number stands lines room is_bad full =
-    not_at_bad (after_lines start stands.before) line (lines_of behind) (room _ stands.state_is) is_bad (rw lines at (stands.room full))
+-- at a line whose order finds no room
+pub meets_full : {A : Type 0} (input rest line behind : List ℕ) (session : Session A) (number : ℕ) → Stands input rest session number
+    → lines_of rest ≡ line ∷ lines_of behind → ((s : State) → IsInState session s → LineFindsFull s (line_of line)) → MeetsFull input
+meets_full input rest line behind session number stands lines finds_full = at (line_of line) refl (finds_full _ stands.state_is)
+  where
+    at : (here : Line) → line_of line ≡ here → LineFindsFull (after_lines start stands.before) here → MeetsFull input
+    at empty is full = absurd full
+    at bad is full = absurd full
+    at (good order) is full = record {
+      before = stands.before;
+      line = line;
+      behind = lines_of behind;
+      order = order;
+      parts = stands.parts ∙ ap (λ ls. stands.before ++ ls) lines;
+      all_good = stands.good;
+      is_order = is;
+      full = full;
+    }
 
 -- the answer where a consistency proof leads to two roots
 pub roots_answer : (log : List (List ℕ)) (s : State) (m n : ℕ) (old new : List ℕ) → log ≡ log_at s

@@ -1,13 +1,13 @@
 -- Lemmas on lines, words and numbers.
-use Rattle.std.proofs.Common.{◌≡◌, ◌≢◌, ℕ, zero, suc, ◌+◌, ◌-◌, ◌*◌, ◌^◌, ◌<◌, ◌≤◌, ◌&&◌, ◌==◌, Bool, true, false, List, [], ◌∷◌, ◌++◌, length, take, drop, get_or, Option, Some, None, refl, sym, ◌∙◌, ap, arith, add-one, le-leb, lt-ltb, le-ltb, ne_eqb, option_map, take_all, le_refl, length-drop}
+use Rattle.std.proofs.Common.{◌≡◌, ◌≢◌, ℕ, zero, suc, ◌+◌, ◌-◌, ◌*◌, ◌^◌, ◌<◌, ◌≤◌, ◌&&◌, ◌==◌, Bool, true, false, List, [], ◌∷◌, ◌++◌, length, take, drop, get_or, Option, Some, None, refl, sym, ◌∙◌, ap, arith, add-one, le-leb, lt-ltb, le-ltb, ne_eqb, option_map, option_and_then, unwrap_or, Bor, take_all, le_refl, length-drop, length-append}
 use Rattle.std.proofs.Math.Seq.{take-suc, drop-cons}
 use Rattle.std.proofs.lemmas.Bool.{eq-eqb, eqb-true, cond_both}
 use Rattle.std.proofs.lemmas.List.{take-append-drop}
 use Rattle.std.specs.List.{list_all}
 use Rattle.std.specs.Char.{is_ascii_digit}
 use Rattle.memchr.specs.Find.{IsFirstByte, is_byte}
-use Rattle.warg_program.specs.Words.{onto_first, lines_of, words_of, words_left, is_number, number_in, at_most_2^63, length_in, value_from}
-use Rattle.warg_program.specs.Orders.{first_says, none_left}
+use Rattle.warg_program.specs.Words.{onto_first, lines_of, words_of, words_left, is_number, number_in, at_most_2^63, length_in, hex_bytes_in, if_32, root_in, value_from}
+use Rattle.warg_program.specs.Orders.{first_says, none_left, good_or_bad, order_of, line_of}
 use Rattle.warg_program.specs.Private.Parts.{Lacks, IsFirstPart}
 
 Lacks-append : (b : ℕ) (xs ys : List ℕ) → Lacks b xs → Lacks b ys → Lacks b (xs ++ ys)
@@ -90,6 +90,12 @@ pub words_next : (line front : List ℕ) (rest : Option (List ℕ)) → IsFirstP
 words_next line front None parts = rw parts.0 (words_whole front parts.1)
 words_next line front (Some rest) parts = rw parts.0 (words_front front rest parts.1)
 
+-- a line by its first word and the words behind it
+pub named_line : (line name : List ℕ) (rest : Option (List ℕ)) → 0 < length line → IsFirstPart 32 line name rest → line_of line ≡ good_or_bad (order_of (name ∷ words_left rest))
+unfolding line_of
+named_line [] name rest some parts = absurd (omega arith)
+named_line (b ∷ bytes) name rest some parts = ap (λ words. good_or_bad (order_of words)) (words_next (b ∷ bytes) name rest parts)
+
 -- a line has a word
 pub word_left : (line : List ℕ) → none_left (words_of line) ≡ None
 unfolding words_of none_left
@@ -97,17 +103,27 @@ word_left [] = refl
 word_left (b ∷ bytes) = cond_both (b == 32) _ _ (λ words. none_left words ≡ None) (λ _. refl)
     (λ _. elim (words_of bytes) as (λ (words : List (List ℕ)). none_left (onto_first b words) ≡ None) [ [] ↦ refl | word ∷ words ↦ refl ])
 
--- a first word says a length where it says a number that isn't too great
-abbrev pub if_length : Option (ℕ × List (List ℕ)) → Option (ℕ × List (List ℕ))
-if_length (Some p) = option_map (λ n. (n, p.1)) (at_most_2^63 (Some p.0))
-if_length None = None
+-- a first word says what is kept of what it says
+abbrev pub first_kept : {X Y : Type 0} → (X → Option Y) → Option (X × List (List ℕ)) → Option (Y × List (List ℕ))
+first_kept keep (Some p) = option_map (λ y. (y, p.1)) (keep p.0)
+first_kept keep None = None
 
-pub length_says : (words : List (List ℕ)) → first_says length_in words ≡ if_length (first_says number_in words)
-unfolding first_says length_in
-length_says [] = refl
-length_says (word ∷ words) =
-    let pair : ℕ → ℕ × List (List ℕ) = λ n. (n, words) in
-    elim (number_in word) as (λ (said : Option ℕ). option_map pair (at_most_2^63 said) ≡ if_length (option_map pair said)) [ Some n ↦ refl | None ↦ refl ]
+says_kept : {X Y : Type 0} (say : List ℕ → Option X) (keep : X → Option Y) (words : List (List ℕ)) → first_says (λ word. option_and_then keep (say word)) words ≡ first_kept keep (first_says say words)
+unfolding first_says
+says_kept say keep [] = refl
+says_kept {X} {Y} say keep (word ∷ words) = kept (say word)
+  where
+    kept : (said : Option X) → option_map (λ y. (y, words)) (option_and_then keep said) ≡ first_kept keep (option_map (λ x. (x, words)) said)
+    kept (Some x) = refl
+    kept None = refl
+
+pub length_says : (words : List (List ℕ)) → first_says length_in words ≡ first_kept at_most_2^63 (first_says number_in words)
+unfolding length_in
+length_says words = says_kept number_in at_most_2^63 words
+
+pub root_says : (words : List (List ℕ)) → first_says root_in words ≡ first_kept if_32 (first_says hex_bytes_in words)
+unfolding root_in
+root_says words = says_kept hex_bytes_in if_32 words
 
 lines_front : (front rest : List ℕ) → Lacks 10 front → lines_of (front ++ 10 ∷ rest) ≡ front ∷ lines_of rest
 unfolding lines_of
@@ -119,12 +135,11 @@ unfolding lines_of
 lines_whole b [] lacks = rw (ne_eqb b 10 lacks.0) refl
 lines_whole b (c ∷ line) lacks = rw (ne_eqb b 10 lacks.0, lines_whole c line lacks.1) refl
 
--- the first line, and those of what stands behind its LF
-pub lines_more : (bytes front rest : List ℕ) → IsFirstPart 10 bytes front (Some rest) → lines_of bytes ≡ front ∷ lines_of rest
-lines_more bytes front rest parts = rw parts.0 (lines_front front rest parts.1)
-
--- a last line without an LF
-pub lines_end : (bytes front : List ℕ) → 0 < length bytes → IsFirstPart 10 bytes front None → lines_of bytes ≡ front ∷ lines_of []
+-- the first line, and those of what stands behind its LF, if it has one
+pub first_line : (bytes front : List ℕ) (rest : Option (Bor (List ℕ))) (none behind : Bor (List ℕ)) → behind ≡ unwrap_or rest none → none.now ≡ [] → 0 < length bytes → IsFirstPart 10 bytes front (option_map (λ r. r.now) rest)
+    → (lines_of bytes ≡ front ∷ lines_of behind.now) × (length behind.now < length bytes)
 unfolding lines_of
-lines_end bytes [] some parts = absurd (omega (arith, ap length parts.0))
-lines_end bytes (b ∷ front) some parts = rw parts.0 (lines_whole b front parts.1)
+first_line bytes front (Some rest) none behind is no_byte some parts =
+    rw is (rw parts.0 (lines_front front rest.now parts.1), omega (arith, ap length parts.0, length-append front (10 ∷ rest.now)))
+first_line bytes [] None none behind is no_byte some parts = absurd (omega (arith, ap length parts.0))
+first_line bytes (b ∷ front) None none behind is no_byte some parts = rw (is, no_byte) (rw parts.0 (lines_whole b front parts.1), some)

@@ -1,9 +1,9 @@
 -- Lines, the words of a line, and what a word says.
-use Rattle.std.specs.Prelude.{ℕ, ◌+◌, ◌-◌, ◌*◌, ◌^◌, ◌==◌, ◌&&◌, nat_le, nat_lt, Bool, if◌then◌else◌, List, [], ◌∷◌, length, codes, Option, Some, None, Result, Ok, Err}
+use Rattle.std.specs.Prelude.{ℕ, ◌+◌, ◌-◌, ◌*◌, ◌^◌, ◌==◌, ◌&&◌, nat_le, nat_lt, Bool, if◌then◌else◌, List, [], ◌∷◌, length, codes, Option, Some, None, option_and_then, Result, Ok, Err}
 use Rattle.std.specs.List.{list_all}
 use Rattle.std.specs.Char.{is_ascii_digit}
 use Rattle.warg_crypto.specs.Bytes.{same_bytes}
-use Rattle.hex.specs.Hex.{decode_of, decode_sized}
+use Rattle.hex.specs.Hex.{decode_of}
 use Rattle.hex.specs.declared.error.FromHexError.{FromHexError}
 
 -- A byte in front of the first of some parts.
@@ -43,14 +43,13 @@ is_number word =
 unfoldable pub number_in : List ℕ → Option ℕ
 number_in word = if is_number word then Some (value_from 0 word) else None
 
--- The same, where it is at most 2 ^ 63.
-abbrev pub at_most_2^63 : Option ℕ → Option ℕ
-at_most_2^63 (Some n) = if nat_le n (2 ^ 63) then Some n else None
-at_most_2^63 None = None
+-- A number, if it is at most 2 ^ 63.
+abbrev pub at_most_2^63 : ℕ → Option ℕ
+at_most_2^63 n = if nat_le n (2 ^ 63) then Some n else None
 
 -- The length that a word says: a number up to 2 ^ 63.
 unfoldable pub length_in : List ℕ → Option ℕ
-length_in word = at_most_2^63 (number_in word)
+length_in word = option_and_then at_most_2^63 (number_in word)
 
 -- What was decoded, if anything was.
 abbrev pub decoded : Result (List ℕ) FromHexError → Option (List ℕ)
@@ -62,6 +61,10 @@ decoded (Err _) = None
 unfoldable pub hex_bytes_in : List ℕ → Option (List ℕ)
 hex_bytes_in word = if same_bytes word (codes "-") then Some [] else if length word == 0 then None else decoded (decode_of word)
 
--- The root that a word says: the 32 bytes of 64 hexadecimal digits, in either case.
-abbrev pub root_in : List ℕ → Option (List ℕ)
-root_in word = decoded (decode_sized word 32)
+-- Bytes, if they are 32.
+abbrev pub if_32 : List ℕ → Option (List ℕ)
+if_32 bytes = if length bytes == 32 then Some bytes else None
+
+-- The root that a word says: the bytes that it says, if they are 32.
+unfoldable pub root_in : List ℕ → Option (List ℕ)
+root_in word = option_and_then if_32 (hex_bytes_in word)

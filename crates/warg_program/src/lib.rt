@@ -1,7 +1,7 @@
 //! The program `warg_check` as a library: lines of commands in, lines of answers out.
 #![tactic(auto)]
 
-mod command;
+mod line_error;
 mod program;
 mod session;
 mod words;

@@ -1,19 +1,19 @@
 //! A run of commands: the log that they push to, the map that they insert into, and the text that answers them.
 
-ghost use Rattle.std.specs.Prelude.{◌≡◌, ◌≢◌, ◌≤◌, [], ◌∷◌, ◌++◌, length, IfOk, IfErr, IfSome, IsSome, OnOk, string_bytes};
+ghost use Rattle.std.specs.Prelude.{◌≡◌, ◌≢◌, [], ◌∷◌, ◌++◌, IfOk, IfErr, OnOk, string_bytes};
 ghost use Rattle.hex.specs.Hex.{encode_lower};
 ghost use Rattle.warg_bundle.specs.LogBundles.{bundle_message};
 ghost use Rattle.warg_program.specs.Words.{lines_of};
-ghost use Rattle.warg_program.specs.Orders.{line_of, push, log, include, consistent, bundle, verify, insert, map, prove, absent};
+ghost use Rattle.warg_program.specs.Orders.{line_of, good_or_bad, push_in, log_in, include_in, consistent_in, bundle_in, verify_in, insert_in, map_in, prove_in, absent_in};
 ghost use Rattle.warg_program.specs.States.{start};
 ghost use Rattle.warg_program.specs.Private.Errors.{IsRefusal};
-ghost use Rattle.warg_program.specs.Text.{is_not_bad, refusal, bytes_or_refusal, bundle_refusal, text_of, all_good, MeetsFull};
+ghost use Rattle.warg_program.specs.Text.{refusal, bytes_or_refusal, bundle_refusal, text_of, all_good, MeetsFull};
 ghost use Rattle.warg_log.specs.declared.log.TheConstants.{GREATEST_LENGTH};
 
-use crate::command::{Command, Kind};
+use crate::line_error::LineError;
 use crate::program::RunError;
-use crate::words::{LogLength, Unread, next_line};
-use std::alloc::Allocator;
+use crate::words::{Words, split_first};
+use std::alloc::{AllocError, Allocator};
 use std::fmt::Write;
 use warg_bundle::{BundleError, LogProofBundle};
 use warg_check::{CheckError, check_inclusion};
@@ -21,7 +21,7 @@ use warg_crypto::{Hash, Sha256};
 use warg_log::{
     ConsistencyProofError, GREATEST_LENGTH, InclusionProofError, LogBuilder, LogData, Node, VecLog,
 };
-use warg_map::{Map, MapError};
+use warg_map::Map;
 use warg_protobuf::EncodeError;
 
 // What a run keeps from line to line.
@@ -31,95 +31,66 @@ struct Session<A: Allocator> {
     log: VecLog<Sha256, Vec<u8, A>, A>,
     map: Map<Sha256, Vec<u8, A>, Vec<u8, A>, A>,
     text: String<A>,
-    ghost few: { length log ≤ GREATEST_LENGTH },
 }
 
 impl<A: Allocator + Copy> Session<A> {
-    ghost use Rattle.warg_program.specs.Private.Sessions.{IsInState, AnswersOrder, Takes, FindsRoom, LineFindsRoom, Refuses, RefusesLine, AddsText};
+    ghost use Rattle.warg_program.specs.Private.Sessions.{Takes, AddsText};
 
-    fn new(alloc: A) -> Session<A>
-        ensures state { IsInState result start }
-        ensures text { string_bytes result.text ≡ [] }
-    {
-        Session {
-            alloc,
-            log: VecLog::default(alloc),
-            map: Map::default(alloc),
-            text: String::new(alloc),
-        }
-    }
-
-    #[tactic(auto, unfolding(crate::specs::Orders::line_of))]
-    // Answers the line of this number, and says whether it was good.
-    fn line(&mut self, number: usize, line: &[u8]) -> Result<bool, RunError>
-        ensures good { IfOk result (λ good. good ≡ is_not_bad (line_of line.now)) }
-        ensures ok { OnOk result (Takes self.old self.new number (line_of line.now)) }
-        ensures room { OnOk result (LineFindsRoom self.old (line_of line.now)) }
-        ensures errors { IfErr result (RefusesLine self.old (line_of line.now)) }
+    #[tactic(auto, unfolding(crate::specs::Orders::line_of, crate::specs::Orders::order_of), using(crate::proofs::WordLemmas::words_next))]
+    // Answers a line: its first word is the name of a command, which reads the others.
+    fn answer(&mut self, line: &[u8]) -> Result<(), LineError>
+        ensures { Takes self.old self.new (line_of line.now) result }
     {
         if line.is_empty() {
-            return Ok(true);
+            return Ok(());
         }
-        match Command::parse(self.alloc, line) {
-            Ok(command) => {
-                self.answer(command)?;
-                Ok(true)
-            }
-            Err(Unread::BadLine) => {
-                writeln!(self.text, "bad line {number}")?;
-                Ok(false)
-            }
-            Err(Unread::Memory) => Err(RunError::Memory),
-        }
-    }
-
-    fn answer(&mut self, command: Command<A>) -> Result<(), RunError>
-        ensures ok { OnOk result (AnswersOrder self.old self.new command) }
-        ensures room { OnOk result (FindsRoom self.old command) }
-        ensures errors { IfErr result (Refuses self.old command) }
-    {
-        match command.kind {
-            Kind::Push(entry) => self.push(&entry),
-            Kind::Log => self.checkpoint(),
-            Kind::Include {
-                node,
-                length,
-                value,
-            } => self.include(node, &length, &value),
-            Kind::Consistent { old, new } => self.consistent(&old, &new),
-            Kind::Bundle { node, length } => self.bundle(node, &length),
-            Kind::Verify {
-                root,
-                value,
-                bundle,
-            } => self.verify(&root, &value, &bundle),
-            Kind::Insert { key, value } => self.insert(key, value),
-            Kind::Map => self.map_root(),
-            Kind::Prove { key, value } => self.prove(&key, &value),
-            Kind::Absent(key) => self.absent(&key),
+        let (name, rest) = split_first(line, b' ');
+        let words = Words { rest };
+        if name == b"push".as_slice() {
+            self.push(words)
+        } else if name == b"log".as_slice() {
+            self.checkpoint(words)
+        } else if name == b"include".as_slice() {
+            self.include(words)
+        } else if name == b"consistent".as_slice() {
+            self.consistent(words)
+        } else if name == b"bundle".as_slice() {
+            self.bundle(words)
+        } else if name == b"verify".as_slice() {
+            self.verify(words)
+        } else if name == b"insert".as_slice() {
+            self.insert(words)
+        } else if name == b"map".as_slice() {
+            self.map_root(words)
+        } else if name == b"prove".as_slice() {
+            self.prove(words)
+        } else if name == b"absent".as_slice() {
+            self.absent(words)
+        } else {
+            Err(LineError::BadLine)
         }
     }
 
     #[tactic(auto, unfolding(crate::specs::Text::answer))]
-    fn push(&mut self, entry: &Vec<u8, A>) -> Result<(), RunError>
-        ensures ok { OnOk result (AnswersOrder self.old self.new (push entry.now.items)) }
-        ensures room { OnOk result (FindsRoom self.old (push entry.now.items)) }
-        ensures errors { IfErr result (Refuses self.old (push entry.now.items)) }
+    fn push(&mut self, mut words: Words<'_>) -> Result<(), LineError>
+        ensures { Takes self.old self.new (good_or_bad (push_in words.entry)) result }
     {
+        let entry = words.bytes(self.alloc)?;
+        words.end()?;
         if self.log.length() == GREATEST_LENGTH {
-            return Err(RunError::Full);
+            return Err(LineError::Full);
         }
-        let node = self.log.push(entry)?;
+        let node = self.log.push(&entry)?;
         let number = node.0;
         writeln!(self.text, "node {number}")?;
         Ok(())
     }
 
     #[tactic(auto, unfolding(crate::specs::Text::answer))]
-    fn checkpoint(&mut self) -> Result<(), RunError>
-        ensures ok { OnOk result (AnswersOrder self.old self.new log) }
-        ensures errors { IfErr result (Refuses self.old log) }
+    fn checkpoint(&mut self, words: Words<'_>) -> Result<(), LineError>
+        ensures { Takes self.old self.new (good_or_bad (log_in words.entry)) result }
     {
+        words.end()?;
         let length = self.log.length();
         let root = self.log.root();
         writeln!(self.text, "log {length} {root}")?;
@@ -127,117 +98,102 @@ impl<A: Allocator + Copy> Session<A> {
     }
 
     #[tactic(auto, unfolding(crate::specs::Text::answer))]
-    fn include(
-        &mut self,
-        node: Node,
-        log_length: &LogLength,
-        value: &Vec<u8, A>,
-    ) -> Result<(), RunError>
-        ensures ok { OnOk result (AnswersOrder self.old self.new
-            (include node.0 log_length.now.value value.now.items)) }
-        ensures errors { IfErr result (Refuses self.old
-            (include node.0 log_length.now.value value.now.items)) }
+    fn include(&mut self, mut words: Words<'_>) -> Result<(), LineError>
+        ensures { Takes self.old self.new (good_or_bad (include_in words.entry)) result }
     {
-        let proof = self.log.prove_inclusion(node, log_length.value);
-        match proof.evaluate_value(&self.log, value) {
+        let node = Node(words.number()?);
+        let length = words.log_length()?;
+        let value = words.bytes(self.alloc)?;
+        words.end()?;
+        let proof = self.log.prove_inclusion(node, length);
+        match proof.evaluate_value(&self.log, &value) {
             Ok(root) => self.say_root("root", &root)?,
             Err(InclusionProofError::LeafTooNew) => self.say("refused leaf too new")?,
             Err(InclusionProofError::HashNotKnown) => self.say("refused hash not known")?,
-            Err(InclusionProofError::Memory) => return Err(RunError::Memory),
+            Err(InclusionProofError::Memory) => return Err(LineError::Memory),
         }
         Ok(())
     }
 
-    #[tactic(auto, unfolding(crate::specs::Text::answer))]
-    fn consistent(&mut self, old: &LogLength, new: &LogLength) -> Result<(), RunError>
-        ensures ok { OnOk result (AnswersOrder self.old self.new
-            (consistent old.now.value new.now.value)) }
-        ensures errors { IfErr result (Refuses self.old (consistent old.now.value new.now.value)) }
+    fn consistent(&mut self, mut words: Words<'_>) -> Result<(), LineError>
+        ensures { Takes self.old self.new (good_or_bad (consistent_in words.entry)) result }
     {
-        let proof = self.log.prove_consistency(old.value, new.value);
+        let old = words.log_length()?;
+        let new = words.log_length()?;
+        words.end()?;
+        let proof = self.log.prove_consistency(old, new);
         match proof.evaluate(&self.log) {
             Ok((old_root, new_root)) => writeln!(self.text, "roots {old_root} {new_root}")?,
-            Err(fault) => self.refuse(fault)?,
+            Err(fault) => self.say(refusal(&fault)?)?,
         }
         Ok(())
     }
 
-    #[tactic(auto, unfolding(crate::specs::Text::answer))]
-    fn bundle(&mut self, node: Node, log_length: &LogLength) -> Result<(), RunError>
-        ensures ok { OnOk result (AnswersOrder self.old self.new
-            (bundle node.0 log_length.now.value)) }
-        ensures errors { IfErr result (Refuses self.old (bundle node.0 log_length.now.value)) }
+    fn bundle(&mut self, mut words: Words<'_>) -> Result<(), LineError>
+        ensures { Takes self.old self.new (good_or_bad (bundle_in words.entry)) result }
     {
-        let proofs = Vec::from_slice(
-            self.alloc,
-            &[self.log.prove_inclusion(node, log_length.value)],
-        )?;
+        let node = Node(words.number()?);
+        let length = words.log_length()?;
+        words.end()?;
+        let proofs = Vec::from_slice(self.alloc, &[self.log.prove_inclusion(node, length)])?;
         match LogProofBundle::bundle(self.alloc, Vec::new(self.alloc), proofs, &self.log) {
             Ok(bundle) => self.encode(&bundle)?,
-            Err(fault) => self.refuse_bundle(fault)?,
+            Err(fault) => self.say(bundle_refusal(&fault)?)?,
         }
         Ok(())
     }
 
+    #[tactic(auto, using(crate::proofs::BundledLemmas::bytes_shown, crate::proofs::BundledLemmas::too_large_shown))]
     // Answers a bundle by its bytes.
-    fn encode(&mut self, bundle: &LogProofBundle<Sha256, Vec<u8, A>, A>) -> Result<(), RunError>
-        ensures ok { OnOk result (AddsText self.old self.new
+    fn encode(&mut self, bundle: &LogProofBundle<Sha256, Vec<u8, A>, A>) -> Result<(), AllocError>
+        ensures { OnOk result (AddsText self.old self.new
             (bytes_or_refusal (bundle_message bundle.now) ++ 10 ∷ [])) }
-        ensures errors { IfErr result (λ error. error ≡ RunError.Memory) }
     {
         match bundle.encode(self.alloc) {
             Ok(bytes) => {
                 let digits = hex::encode(self.alloc, bytes.as_slice())?;
-                writeln!(self.text, "bundle {digits}")?;
+                writeln!(self.text, "bundle {digits}")
             }
-            Err(EncodeError::TooLarge) => self.say("refused too large")?,
-            Err(EncodeError::Memory) => return Err(RunError::Memory),
+            Err(EncodeError::TooLarge) => self.say("refused too large"),
+            Err(EncodeError::Memory) => Err(AllocError),
         }
-        Ok(())
     }
 
-    #[tactic(auto, unfolding(crate::specs::Text::answer))]
-    fn verify(
-        &mut self,
-        root: &Hash<Sha256>,
-        value: &Vec<u8, A>,
-        bundle: &Vec<u8, A>,
-    ) -> Result<(), RunError>
-        ensures ok { OnOk result (AnswersOrder self.old self.new
-            (verify root.now value.now.items bundle.now.items)) }
-        ensures errors { IfErr result (Refuses self.old
-            (verify root.now value.now.items bundle.now.items)) }
+    #[tactic(auto, using(crate::proofs::WordLemmas::root_says))]
+    fn verify(&mut self, mut words: Words<'_>) -> Result<(), LineError>
+        ensures { Takes self.old self.new (good_or_bad (verify_in words.entry)) result }
     {
-        match check_inclusion(self.alloc, bundle.as_slice(), 0, value, root) {
+        let root = Hash::<Sha256>::try_from(words.bytes(self.alloc)?)?;
+        let value = words.bytes(self.alloc)?;
+        let bundle = words.bytes(self.alloc)?;
+        words.end()?;
+        match check_inclusion(self.alloc, bundle.as_slice(), 0, &value, &root) {
             Ok(verdict) => writeln!(self.text, "{verdict}")?,
             Err(CheckError::Decode(_)) => self.say("refused not decoded")?,
             Err(CheckError::NoSuchProof) => self.say("refused no such proof")?,
-            Err(CheckError::Memory) => return Err(RunError::Memory),
+            Err(CheckError::Memory) => return Err(LineError::Memory),
         }
         Ok(())
     }
 
-    #[tactic(auto, unfolding(crate::specs::Text::answer))]
-    fn insert(&mut self, key: Vec<u8, A>, value: Vec<u8, A>) -> Result<(), RunError>
-        ensures ok { OnOk result (AnswersOrder self.old self.new (insert key.items value.items)) }
-        ensures room { OnOk result (FindsRoom self.old (insert key.items value.items)) }
-        ensures errors { IfErr result (Refuses self.old (insert key.items value.items)) }
+    #[tactic(auto, unfolding(crate::specs::Text::answer), using(crate::proofs::MapLemmas::map_after_insert))]
+    fn insert(&mut self, mut words: Words<'_>) -> Result<(), LineError>
+        ensures { Takes self.old self.new (good_or_bad (insert_in words.entry)) result }
     {
-        self.map = match self.map.insert(key, value) {
-            Ok(map) => map,
-            Err(MapError::Full) => return Err(RunError::Full),
-            Err(MapError::Memory) => return Err(RunError::Memory),
-        };
+        let key = words.bytes(self.alloc)?;
+        let value = words.bytes(self.alloc)?;
+        words.end()?;
+        self.map = self.map.insert(key, value)?;
         let len = self.map.len();
         writeln!(self.text, "len {len}")?;
         Ok(())
     }
 
     #[tactic(auto, unfolding(crate::specs::Text::answer))]
-    fn map_root(&mut self) -> Result<(), RunError>
-        ensures ok { OnOk result (AnswersOrder self.old self.new map) }
-        ensures errors { IfErr result (Refuses self.old map) }
+    fn map_root(&mut self, words: Words<'_>) -> Result<(), LineError>
+        ensures { Takes self.old self.new (good_or_bad (map_in words.entry)) result }
     {
+        words.end()?;
         let len = self.map.len();
         let root = self.map.root();
         writeln!(self.text, "map {len} {root}")?;
@@ -245,107 +201,82 @@ impl<A: Allocator + Copy> Session<A> {
     }
 
     #[tactic(auto, unfolding(crate::specs::Text::answer), using(crate::proofs::MapLemmas::root_with))]
-    fn prove(&mut self, key: &Vec<u8, A>, value: &Vec<u8, A>) -> Result<(), RunError>
-        ensures ok { OnOk result (AnswersOrder self.old self.new
-            (prove key.now.items value.now.items)) }
-        ensures errors { IfErr result (Refuses self.old (prove key.now.items value.now.items)) }
+    fn prove(&mut self, mut words: Words<'_>) -> Result<(), LineError>
+        ensures { Takes self.old self.new (good_or_bad (prove_in words.entry)) result }
     {
+        let key = words.bytes(self.alloc)?;
+        let value = words.bytes(self.alloc)?;
+        words.end()?;
         let copy = Vec::from_slice(self.alloc, key.as_slice())?;
-        match self.map.prove(copy)? {
-            Some(proof) => {
-                let root = proof.evaluate(key, value);
-                self.say_root("root", &root)?;
-            }
-            None => self.say("absent")?,
-        }
+        let Some(proof) = self.map.prove(copy)? else {
+            self.say("absent")?;
+            return Ok(());
+        };
+        let root = proof.evaluate(&key, &value);
+        self.say_root("root", &root)?;
         Ok(())
     }
 
     #[tactic(auto, unfolding(crate::specs::Text::answer))]
-    fn absent(&mut self, key: &Vec<u8, A>) -> Result<(), RunError>
-        ensures ok { OnOk result (AnswersOrder self.old self.new (absent key.now.items)) }
-        ensures errors { IfErr result (Refuses self.old (absent key.now.items)) }
+    fn absent(&mut self, mut words: Words<'_>) -> Result<(), LineError>
+        ensures { Takes self.old self.new (good_or_bad (absent_in words.entry)) result }
     {
+        let key = words.bytes(self.alloc)?;
+        words.end()?;
         let copy = Vec::from_slice(self.alloc, key.as_slice())?;
-        match self.map.prove_absence(copy)? {
-            Some(absence) => {
-                let root = absence.evaluate_absent(key);
-                self.say_root("empty", &root)?;
-            }
-            None => self.say("refused present")?,
-        }
+        let Some(absence) = self.map.prove_absence(copy)? else {
+            self.say("refused present")?;
+            return Ok(());
+        };
+        let root = absence.evaluate_absent(&key);
+        self.say_root("empty", &root)?;
         Ok(())
-    }
-
-    fn refuse_bundle(&mut self, fault: BundleError) -> Result<(), RunError>
-        ensures ok { OnOk result (AddsText self.old self.new (bundle_refusal fault ++ 10 ∷ [])) }
-        ensures named { OnOk result (fault ≢ BundleError.Memory) }
-        ensures errors { IfErr result (λ error. error ≡ RunError.Memory) }
-    {
-        match bundle_refusal(&fault) {
-            Some(text) => self.say(text),
-            None => Err(RunError::Memory),
-        }
-    }
-
-    fn refuse(&mut self, fault: ConsistencyProofError) -> Result<(), RunError>
-        ensures ok { OnOk result (AddsText self.old self.new (refusal fault ++ 10 ∷ [])) }
-        ensures errors { IfErr result (λ error. error ≡ RunError.Memory) }
-    {
-        match refusal(&fault) {
-            Some(text) => self.say(text),
-            None => Err(RunError::Memory),
-        }
     }
 
     // Answers by a word and a root.
-    fn say_root(&mut self, word: &str, root: &Hash<Sha256>) -> Result<(), RunError>
-        ensures ok { OnOk result (AddsText self.old self.new
+    fn say_root(&mut self, word: &str, root: &Hash<Sha256>) -> Result<(), AllocError>
+        ensures { OnOk result (AddsText self.old self.new
             (word.now ++ 32 ∷ (encode_lower root.now ++ 10 ∷ []))) }
-        ensures errors { IfErr result (λ error. error ≡ RunError.Memory) }
     {
-        writeln!(self.text, "{word} {root}")?;
-        Ok(())
+        writeln!(self.text, "{word} {root}")
     }
 
     // Answers by a line of text.
-    fn say(&mut self, text: &str) -> Result<(), RunError>
-        ensures ok { OnOk result (AddsText self.old self.new (text.now ++ 10 ∷ [])) }
-        ensures errors { IfErr result (λ error. error ≡ RunError.Memory) }
+    fn say(&mut self, text: &str) -> Result<(), AllocError>
+        ensures { OnOk result (AddsText self.old self.new (text.now ++ 10 ∷ [])) }
     {
-        writeln!(self.text, "{text}")?;
-        Ok(())
+        writeln!(self.text, "{text}")
     }
 }
 
 // Why there is no bundle, unless memory was refused.
-fn bundle_refusal(fault: &BundleError) -> Option<&'static str>
-    ensures text { IfSome result (λ text. text.now ≡ bundle_refusal fault.now) }
-    ensures named { IsSome result → fault.now ≢ BundleError.Memory }
+fn bundle_refusal(fault: &BundleError) -> Result<&'static str, AllocError>
+    ensures text { IfOk result (λ text. text.now ≡ bundle_refusal fault.now) }
+    ensures named { OnOk result (fault.now ≢ BundleError.Memory) }
 {
     match fault {
         BundleError::Consistency(fault) => refusal(fault),
-        BundleError::Inclusion(_) => Some("refused leaf too new"),
-        BundleError::DifferentRoots => Some("refused different roots"),
-        BundleError::NoProofs => Some("refused no proofs"),
-        BundleError::TooLarge => Some("refused too large"),
-        BundleError::HashNotFound => Some("refused hash not known"),
-        BundleError::Memory => None,
+        BundleError::Inclusion(_) => Ok("refused leaf too new"),
+        BundleError::DifferentRoots => Ok("refused different roots"),
+        BundleError::NoProofs => Ok("refused no proofs"),
+        BundleError::TooLarge => Ok("refused too large"),
+        BundleError::HashNotFound => Ok("refused hash not known"),
+        BundleError::Memory => Err(AllocError),
     }
 }
 
 // Why a consistency proof leads to no roots, unless memory was refused.
-fn refusal(fault: &ConsistencyProofError) -> Option<&'static str>
-    ensures { IfSome result (λ text. text.now ≡ refusal fault.now) }
+fn refusal(fault: &ConsistencyProofError) -> Result<&'static str, AllocError>
+    ensures { IfOk result (λ text. text.now ≡ refusal fault.now) }
 {
     match fault {
-        ConsistencyProofError::PointsOutOfOrder => Some("refused points out of order"),
+        ConsistencyProofError::PointsOutOfOrder => Ok("refused points out of order"),
         ConsistencyProofError::HashNotKnown | ConsistencyProofError::InclusionError(_) => {
-            Some("refused hash not known")
+            Ok("refused hash not known")
         }
-        ConsistencyProofError::DivergingRoots => Some("refused diverging roots"),
-        ConsistencyProofError::OldLengthZero => Some("refused old length zero"),
-        ConsistencyProofError::Memory => None,
+        ConsistencyProofError::DivergingRoots => Ok("refused diverging roots"),
+        ConsistencyProofError::OldLengthZero => Ok("refused old length zero"),
+        ConsistencyProofError::Memory => Err(AllocError),
     }
 }
 
@@ -359,16 +290,26 @@ pub(super) fn answers<A: Allocator + Copy>(
     ensures room { OnOk result (¬ MeetsFull input.now) }
     ensures errors { IfErr result (IsRefusal (MeetsFull input.now)) }
 {
-    let mut session = Session::new(alloc);
+    let mut session = Session {
+        alloc,
+        log: VecLog::default(alloc),
+        map: Map::default(alloc),
+        text: String::new(alloc),
+    };
     let mut rest = input;
     let mut number = 0usize;
     while !rest.is_empty() {
-        let (line, after) = next_line(rest);
-        rest = after;
+        let (line, after) = split_first(rest, b'\n');
+        rest = after.unwrap_or(&[]);
         number += 1;
-        let good = session.line(number, line)?;
-        if !good {
-            return Ok((session.text, false));
+        match session.answer(line) {
+            Ok(()) => {}
+            Err(LineError::BadLine) => {
+                writeln!(session.text, "bad line {number}")?;
+                return Ok((session.text, false));
+            }
+            Err(LineError::Memory) => return Err(RunError::Memory),
+            Err(LineError::Full) => return Err(RunError::Full),
         }
     }
     Ok((session.text, true))

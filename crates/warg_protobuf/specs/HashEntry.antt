@@ -1,6 +1,6 @@
 -- The message `HashEntry`.
 use Rattle.std.specs.Prelude.{ℕ, ◌^◌, ◌<◌, List, [], ◌∷◌, ◌++◌}
-use Rattle.warg_protobuf.specs.declared.hash_entry.HashEntry.{HashEntry}
+use Rattle.warg_protobuf.specs.declared.log_proof_bundle.HashEntry.{HashEntry}
 use Rattle.warg_protobuf.specs.Field.{Field}
 use Rattle.warg_protobuf.specs.Schema.{Table, Schema, uint32, bytes, uint32_in, bytes_in, each, value, values, last_of}
 use Rattle.warg_protobuf.specs.Written.{uint32_fields, bytes_fields}

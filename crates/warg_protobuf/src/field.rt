@@ -1,13 +1,13 @@
-//! Fields, split off the front of a message's bytes, and the values of their payloads.
-ghost use Rattle.std.specs.Prelude.{◌++◌};
+//! Varints and fields, split off the front of a message's bytes, and the values of payloads.
+ghost use Rattle.std.specs.Prelude.{◌<◌, ◌*◌, ◌^◌, ◌++◌, IfOk};
 ghost use Rattle.warg_protobuf.specs.Reading.{Gives, outcome, values_read};
+ghost use Rattle.warg_protobuf.specs.Varint.{varint_in, varint_at};
 ghost use Rattle.warg_protobuf.specs.Field.{field_at, payload_at};
 ghost use Rattle.warg_protobuf.specs.Private.Lent.{field_view, payload_view};
 ghost use Rattle.warg_protobuf.specs.Private.Taking.{Puts};
 ghost use Rattle.warg_protobuf.specs.Schema.{uint32_in, bytes_in, uint32s_in};
 
 use crate::error::WireError;
-use crate::varint::read_varint;
 use std::alloc::Allocator;
 
 /// What stands behind a tag, by its wire type.
@@ -70,6 +70,44 @@ impl<'a> Payload<'a> {
         }
         Ok(())
     }
+}
+
+/// The number at the front, of at most `1 + more` bytes, and the bytes after it.
+#[tactic(auto, unfolding(crate::specs::Varint::varint_in))]
+fn read_groups(more: u32, bytes: &[u8]) -> Result<(u64, &[u8]), WireError>
+    requires { more < 10 }
+    ensures below { IfOk result (λ x. x.0 < 2 * 128 ^ more) }
+    ensures exact { Gives (λ x. (x.0, x.1.now)) result (varint_in more bytes.now) }
+{
+    let [first, rest @ ..] = bytes else {
+        return Err(WireError::Truncated);
+    };
+    if more == 0 {
+        if *first >= 2 {
+            return Err(WireError::BadVarint);
+        }
+        return Ok((u64::from(*first), rest));
+    }
+    if *first < 128 {
+        return Ok((u64::from(*first), rest));
+    }
+    let (high, rest) = read_groups(more - 1, rest)?;
+    Ok((u64::from(*first % 128) + 128 * high, rest))
+}
+
+/// The number at the front, and the bytes after it.
+// Most numbers take one byte: these are read with no call.
+#[inline(always)]
+#[tactic(auto, unfolding(crate::specs::Varint::varint_at, crate::specs::Varint::varint_in))]
+pub(crate) fn read_varint(bytes: &[u8]) -> Result<(u64, &[u8]), WireError>
+    ensures { Gives (λ x. (x.0, x.1.now)) result (varint_at bytes.now) }
+{
+    if let [first, rest @ ..] = bytes
+        && *first < 128
+    {
+        return Ok((u64::from(*first), rest));
+    }
+    read_groups(9, bytes)
 }
 
 /// The field at the front, and the bytes after it.

@@ -32,7 +32,6 @@
 mod digest_bytes;
 mod error;
 mod field;
-mod hash_entry;
 pub mod laws;
 mod log_proof_bundle;
 mod map_inclusion_proof;
@@ -41,14 +40,12 @@ mod message;
 mod optional_hash;
 mod stack_log;
 mod value_error;
-mod varint;
 mod vec_log;
 mod writer;
 
 pub use digest_bytes::DigestBytes;
 pub use error::WireError;
-pub use hash_entry::HashEntry;
-pub use log_proof_bundle::LogProofBundle;
+pub use log_proof_bundle::{HashEntry, LogProofBundle};
 pub use map_inclusion_proof::MapInclusionProof;
 pub use map_proof_bundle::MapProofBundle;
 pub use optional_hash::OptionalHash;

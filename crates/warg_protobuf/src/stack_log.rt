@@ -4,7 +4,7 @@ ghost use Rattle.warg_protobuf.specs.Spelled.{Decodes, IsEncoded};
 
 use crate::error::WireError;
 use crate::field::Field;
-use crate::hash_entry::HashEntry;
+use crate::log_proof_bundle::HashEntry;
 use crate::message::{Message, encode_message, push_messages, read_message};
 use crate::writer::push_uint32;
 use std::alloc::{AllocError, Allocator, Global};

@@ -5,8 +5,20 @@ ghost use Rattle.warg_protobuf.specs.Varint.{varint_bytes};
 ghost use Rattle.warg_protobuf.specs.Written.{field_bytes, fields_bytes, delimited_field, uint32_fields, bytes_fields, packed_fields, repeated_fields};
 
 use crate::digest_bytes::DigestBytes;
-use crate::varint::push_varint;
 use std::alloc::{AllocError, Allocator};
+
+/// Writes the shortest spelling of a number at the end.
+fn push_varint<A: Allocator>(out: &mut Vec<u8, A>, number: u64) -> Result<(), AllocError>
+    ensures { OnOk result (out.new.items ≡ out.old.items ++ varint_bytes number) }
+{
+    let mut left = number;
+    while left >= 128 {
+        out.push((left % 128) as u8 + 128)?;
+        left /= 128;
+    }
+    out.push(left as u8)?;
+    Ok(())
+}
 
 /// Writes a single number, or nothing for 0.
 pub(crate) fn push_uint32<A: Allocator>(

@@ -1,7 +1,6 @@
 pub mod ClimbLemmas
 pub mod CutLemmas
 pub mod HashLemmas
-pub mod CompareLemmas
 pub mod GrowthLemmas
 pub mod ShownLemmas
 pub mod RecordLemmas

@@ -8,7 +8,6 @@
 #![tactic(auto)]
 
 mod collision;
-mod compare;
 mod divergence;
 pub mod laws;
 mod log;

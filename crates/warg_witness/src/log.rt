@@ -12,13 +12,12 @@ ghost use Rattle.warg_witness.specs.Private.Meeting.{IsMeeting};
 mod consistency;
 
 use crate::collision::Finding;
-use crate::compare::have_same_bytes;
 use crate::divergence::Divergence;
 use crate::plain::{entry_at, plain_digest, plain_tree};
 use crate::ranges::meet_ranges;
 pub use consistency::witness_consistency;
 use std::alloc::{AllocError, Allocator};
-use warg_crypto::{Branch, Hash, Leaf, SupportedDigest, VisitBytes, hash_leaf};
+use warg_crypto::{Branch, Hash, Leaf, SupportedDigest, VisitBytes, hash_leaf, have_same_bytes};
 use warg_log::{InclusionProof, LeafRange, LogData, VecLog};
 
 /// A proof whose evaluation leads to the root of the given entries.
@@ -59,7 +58,7 @@ fn meet_entries<D: SupportedDigest, V: VisitBytes, L: LogData<D, V>, A: Allocato
     let Ok(_) = proof.evaluate_hash(hashes, hash.copied()) else {
         return Ok(None);
     };
-    let (tree, _) = plain_tree(alloc, entries)?;
+    let tree = plain_tree(alloc, entries)?;
     let target = proof.leaf().leaf_range();
     let whole = LeafRange::new(0, proof.log_length());
     let plain = plain_digest(&tree, &target);

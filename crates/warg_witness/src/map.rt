@@ -14,14 +14,13 @@ mod plain;
 mod update;
 
 use crate::collision::{Collision, Finding};
-use crate::compare::have_same_bytes;
 use crate::divergence::Divergence;
 use last::is_last_value;
 use path::{Evaluation, meet_on_path};
 use plain::{Lent, last_of_digest, own_proof, plain_leaf};
 use std::alloc::{AllocError, Allocator};
 pub use update::witness_update;
-use warg_crypto::{Hash, Leaf, SupportedDigest, VisitBytes, hash_leaf};
+use warg_crypto::{Hash, Leaf, SupportedDigest, VisitBytes, hash_leaf, have_same_bytes};
 use warg_map::Proof;
 
 // A proof that leads to the plain root of given insertions.

@@ -15,13 +15,12 @@ mod growth;
 mod tree;
 
 use crate::collision::Finding;
-use crate::compare::have_same_bytes;
 use crate::plain::{entry_at, plain_tree};
 pub use agreement::agree_record;
 use climbing::divergence_from_tree;
 use std::alloc::{AllocError, Allocator};
 pub use tree::witness_tree;
-use warg_crypto::{Hash, Leaf, SupportedDigest, VisitBytes, hash_leaf};
+use warg_crypto::{Hash, Leaf, SupportedDigest, VisitBytes, hash_leaf, have_same_bytes};
 use warg_log::{GREATEST_LENGTH, VecLog};
 use warg_paths::root_of_inclusion;
 
@@ -51,8 +50,8 @@ fn meet_path<D: SupportedDigest, V: VisitBytes, A: Allocator>(
     if entries.len() > MOST_LEAVES {
         return Err(AllocError);
     }
-    let (tree, plain_root) = plain_tree(alloc, entries)?;
-    if root != plain_root {
+    let tree = plain_tree(alloc, entries)?;
+    if root != tree.root() {
         return Ok(None);
     }
     Ok(Some(tree))

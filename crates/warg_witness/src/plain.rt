@@ -1,12 +1,12 @@
 //! Given entries, the tree over them, and its digests by ranges.
 
 ghost use Rattle.std.specs.Prelude.{◌≡◌, ◌+◌, ◌<◌, ◌≤◌, [], length, map, IfOk, slice_index_or};
-ghost use Rattle.warg_log.specs.Tree.{leaves_of, root_of, root_over};
+ghost use Rattle.warg_log.specs.Tree.{leaves_of, root_over};
 ghost use Rattle.warg_log.specs.Ranges.{IsAligned};
 
 use std::alloc::{AllocError, Allocator};
 use warg_crypto::{Hash, SupportedDigest, VisitBytes};
-use warg_log::{GREATEST_LENGTH, LeafRange, VecLog, push_all, stored_root};
+use warg_log::{GREATEST_LENGTH, LeafRange, LogBuilder, VecLog, stored_root};
 
 /// The entry at a place.
 #[tactic(auto, using(crate::proofs::ShownLemmas::entry_at))]
@@ -17,20 +17,19 @@ pub(crate) fn entry_at<V: VisitBytes>(entries: &[V], place: usize) -> &V
     &entries[place]
 }
 
-/// The tree over the entries, which is the log of them, and its root. It hashes each leaf and each branch once.
+/// The tree over the entries, which is the log of them. It hashes each leaf and each branch once.
 pub(crate) fn plain_tree<D: SupportedDigest, V: VisitBytes, A: Allocator>(
     alloc: A,
     entries: &[V],
-) -> Result<(VecLog<D, V, A>, Hash<D>), AllocError>
+) -> Result<VecLog<D, V, A>, AllocError>
     requires { length entries.now ≤ GREATEST_LENGTH }
-    ensures tree { IfOk result (λ plain. plain.0
-        ≡ leaves_of D.digest (map V.bytes entries.now)) }
-    ensures root { IfOk result (λ plain. plain.1
-        ≡ root_of D.digest (leaves_of D.digest (map V.bytes entries.now))) }
+    ensures { IfOk result (λ tree. tree ≡ leaves_of D.digest (map V.bytes entries.now)) }
 {
     let mut tree = VecLog::default(alloc);
-    let checkpoint = push_all(&mut tree, entries)?;
-    Ok((tree, checkpoint.root()))
+    'entries: for entry in entries {
+        tree.push(entry)?;
+    }
+    Ok(tree)
 }
 
 /// The root over a range of the tree.

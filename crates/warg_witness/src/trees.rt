@@ -8,12 +8,11 @@ ghost use Rattle.warg_log.specs.Ranges.{IsAligned};
 ghost use Rattle.warg_witness.specs.Private.Compared.{IsFirstDifference};
 ghost use Rattle.warg_witness.specs.Private.Divergence.{IsDivergence};
 
-use crate::compare::have_same_bytes;
 use crate::divergence::Divergence;
 use crate::plain::plain_digest;
 use crate::ranges::meet_ranges;
 use std::alloc::{AllocError, Allocator};
-use warg_crypto::{SupportedDigest, VisitBytes};
+use warg_crypto::{SupportedDigest, VisitBytes, have_same_bytes};
 use warg_log::{GREATEST_LENGTH, LeafRange, VecLog};
 
 /// The trees over the old and the new entries.

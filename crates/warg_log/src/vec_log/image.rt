@@ -24,7 +24,7 @@ impl<D: SupportedDigest, V: VisitBytes, A: Allocator + Copy> VecLog<D, V, A> {
     /// length `n` above 0, and none for 0; each branch that exists has the digest of its children's, and each
     /// other one that of no bytes. Memory grows with the digests that are there, and never by the length. Each
     /// branch is hashed once.
-    #[tactic(auto, using(crate::proofs::TreeLemmas::message_read, crate::proofs::TreeLemmas::no_log))]
+    #[tactic(auto, using(crate::proofs::TreeLemmas::message_read, crate::proofs::TreeLemmas::no_log, crate::proofs::TreeLemmas::slice_leaves))]
     pub fn from_message(alloc: A, message: Message<A>) -> Result<Self, DecodeError>
         ensures exact { Answers DecodeError.Memory result (vec_in D.digest (vec_view message)) }
         ensures message { IfOk result (λ log. vec_message D.digest log ≡ vec_view message) }

@@ -1,25 +1,26 @@
--- Which errors an order, a line and an input can end a run with.
-use Rattle.warg_program.specs.Orders.{Line, empty, bad, good}
-use Rattle.warg_program.specs.States.{State, FindsFull}
+-- Which errors reading words, inserting and an input can end with.
+use Rattle.std.specs.Prelude.{◌≡◌, Option, None}
+use Rattle.warg_map.specs.declared.map.MapError.{MapError}
+use Rattle.warg_map.specs.declared.map.MapError.TheVariants as map
+use Rattle.warg_program.specs.declared.line_error.LineError.{LineError}
+use Rattle.warg_program.specs.declared.line_error.LineError.TheVariants.{BadLine, Memory, Full}
 use Rattle.warg_program.specs.declared.program.RunError.{RunError}
-use Rattle.warg_program.specs.declared.program.RunError.TheVariants.{Read, Write, Memory, Full}
+use Rattle.warg_program.specs.declared.program.RunError.TheVariants as run
 
--- Out of memory, or that there was no room.
+-- Why words weren't read: they say nothing of the kind, or memory was refused.
+abbrev pub IsUnread : {X : Type 0} → Option X → LineError → Type 0
+IsUnread said BadLine = said ≡ None
+IsUnread said Memory = Unit {0}
+IsUnread said Full = ⊥
+
+-- Why a line isn't answered whose insertion was refused.
+abbrev pub map_error : MapError → LineError
+map_error map.Full = Full
+map_error map.Memory = Memory
+
+-- Why a run ended: memory was refused, or there was no room.
 abbrev pub IsRefusal : Type 0 → RunError → Type 0
-IsRefusal full Read = ⊥
-IsRefusal full Write = ⊥
-IsRefusal full Memory = Unit {0}
-IsRefusal full Full = full
-
--- The same of an order that was read: out of memory only where there was room.
-abbrev pub IsOrderRefusal : Type 0 → RunError → Type 0
-IsOrderRefusal full Read = ⊥
-IsOrderRefusal full Write = ⊥
-IsOrderRefusal full Memory = full → ⊥
-IsOrderRefusal full Full = full
-
--- A line's order finds no room.
-abbrev pub LineFindsFull : State → Line → Type 0
-LineFindsFull s empty = ⊥
-LineFindsFull s bad = ⊥
-LineFindsFull s (good order) = FindsFull s order
+IsRefusal full run.Read = ⊥
+IsRefusal full run.Write = ⊥
+IsRefusal full run.Memory = Unit {0}
+IsRefusal full run.Full = full

@@ -1,10 +1,10 @@
--- What the methods of a session do, by the states that its log and its map stand for.
-use Rattle.std.specs.Prelude.{◌≡◌, ℕ, List, [], ◌∷◌, ◌++◌, string_bytes}
-use Rattle.warg_program.specs.Orders.{Order, Line}
-use Rattle.warg_program.specs.States.{State, log_at, map_at, after, after_line, FindsFull}
-use Rattle.warg_program.specs.Text.{answer, said}
-use Rattle.warg_program.specs.Private.Errors.{IsRefusal, IsOrderRefusal, LineFindsFull}
-use Rattle.warg_program.specs.declared.program.RunError.{RunError}
+-- What a session does with a line, by the states that its log and its map stand for.
+use Rattle.std.specs.Prelude.{◌≡◌, ℕ, true, List, ◌++◌, string_bytes, Result, Ok, Err}
+use Rattle.warg_program.specs.Orders.{Line, empty, bad, good}
+use Rattle.warg_program.specs.States.{State, log_at, map_at, after_line, FindsFull}
+use Rattle.warg_program.specs.Text.{said, is_not_bad}
+use Rattle.warg_program.specs.declared.line_error.LineError.{LineError}
+use Rattle.warg_program.specs.declared.line_error.LineError.TheVariants.{BadLine, Memory, Full}
 use Rattle.warg_program.specs.declared.session.Session.{Session}
 
 -- The session's log and map are those of a state.
@@ -12,35 +12,27 @@ pub record IsInState {A : Type 0} (session : Session A) (s : State) : Type 0 whe
   pub log_is : session.log ≡ log_at s
   pub map_is : session.map ≡ map_at s
 
--- From a state's log and map the session went on to those of another state, and added text.
-pub record GoesOn {A : Type 0} (old new : Session A) (s : State) (added : List ℕ) : Type 0 where
-  pub log_is : new.log ≡ log_at s
-  pub map_is : new.map ≡ map_at s
-  pub text_is : string_bytes new.text ≡ string_bytes old.text ++ added
+-- A line's order finds no room.
+abbrev pub LineFindsFull : State → Line → Type 0
+LineFindsFull s empty = ⊥
+LineFindsFull s bad = ⊥
+LineFindsFull s (good order) = FindsFull s order
 
--- The session answered an order, at whatever state it stood.
-abbrev pub AnswersOrder : {A : Type 0} → Session A → Session A → Order → Type 0
-AnswersOrder old new order = (s : State) → IsInState old s → GoesOn old new (after s order) (answer s order ++ 10 ∷ [])
+-- At a state the session answered a line that isn't bad, whatever its number.
+pub record Answers {A : Type 0} (old new : Session A) (s : State) (line : Line) : Type 0 where
+  pub is_good : is_not_bad line ≡ true
+  pub room : ¬ LineFindsFull s line
+  pub log_is : new.log ≡ log_at (after_line s line)
+  pub map_is : new.map ≡ map_at (after_line s line)
+  pub text_is : (number : ℕ) → string_bytes new.text ≡ string_bytes old.text ++ said number s line
 
--- The session took the line of a number, at whatever state it stood.
-abbrev pub Takes : {A : Type 0} → Session A → Session A → ℕ → Line → Type 0
-Takes old new number line = (s : State) → IsInState old s → GoesOn old new (after_line s line) (said number s line)
-
--- The order was refused, at whatever state the session stood.
-abbrev pub Refuses : {A : Type 0} → Session A → Order → RunError → Type 0
-Refuses old order error = (s : State) → IsInState old s → IsOrderRefusal (FindsFull s order) error
-
--- The order found room, at whatever state the session stood.
-abbrev pub FindsRoom : {A : Type 0} → Session A → Order → Type 0
-FindsRoom old order = (s : State) → IsInState old s → ¬ FindsFull s order
-
--- The line's order found room, at whatever state the session stood.
-abbrev pub LineFindsRoom : {A : Type 0} → Session A → Line → Type 0
-LineFindsRoom old line = (s : State) → IsInState old s → ¬ LineFindsFull s line
-
--- The line was refused, at whatever state the session stood.
-abbrev pub RefusesLine : {A : Type 0} → Session A → Line → RunError → Type 0
-RefusesLine old line error = (s : State) → IsInState old s → IsRefusal (LineFindsFull s line) error
+-- What became of a line, at whatever state the session stood: it was answered; or it is bad, and the session as
+-- it was; or memory was refused; or its order found no room.
+abbrev pub Takes : {A : Type 0} → Session A → Session A → Line → Result (Unit {0}) LineError → Type 0
+Takes old new line (Ok _) = (s : State) → IsInState old s → Answers old new s line
+Takes old new line (Err BadLine) = (line ≡ bad) × (new ≡ old)
+Takes old new line (Err Memory) = Unit {0}
+Takes old new line (Err Full) = (s : State) → IsInState old s → LineFindsFull s line
 
 -- The session only added text.
 abbrev pub AddsText : {A : Type 0} → Session A → Session A → List ℕ → Type 0

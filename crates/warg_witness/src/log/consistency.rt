@@ -63,12 +63,12 @@ fn meet_trees<D: SupportedDigest, V: VisitBytes, L: LogData<D, V>, A: Allocator 
     let Ok((old_root, new_root)) = proof.evaluate(hashes) else {
         return Ok(None);
     };
-    let (old_tree, old_plain_root) = plain_tree(alloc, old)?;
-    if old_root != old_plain_root {
+    let old_tree = plain_tree(alloc, old)?;
+    if old_root != old_tree.root() {
         return Ok(None);
     }
-    let (new_tree, new_plain_root) = plain_tree(alloc, new)?;
-    if new_root != new_plain_root {
+    let new_tree = plain_tree(alloc, new)?;
+    if new_root != new_tree.root() {
         return Ok(None);
     }
     Ok(Some(Trees {

@@ -4,9 +4,8 @@ ghost use Rattle.std.specs.Prelude.{◌↔◌, IfOk, IsTrue};
 ghost use Rattle.warg_map.specs.Sparse.{pair_bytes};
 ghost use Rattle.warg_witness.specs.MapClaims.{IsLastValue};
 
-use crate::compare::have_same_bytes;
 use std::alloc::AllocError;
-use warg_crypto::VisitBytes;
+use warg_crypto::{VisitBytes, have_same_bytes};
 
 /// Whether a key's last value has these bytes. It takes no memory, and refuses only values of more bytes than can be
 /// counted.

@@ -7,9 +7,8 @@ ghost use Rattle.warg_witness.specs.PathPlaced.{IsRecordAgreementPlaced};
 
 use super::climbing::meet_paths;
 use crate::collision::Finding;
-use crate::compare::have_same_bytes;
 use std::alloc::{AllocError, Allocator};
-use warg_crypto::{Hash, Leaf, SupportedDigest, VisitBytes, hash_leaf};
+use warg_crypto::{Hash, Leaf, SupportedDigest, VisitBytes, hash_leaf, have_same_bytes};
 use warg_log::GREATEST_LENGTH;
 
 /// Whether two paths of the place `index`, from 0, of `length` entries, from two values, that lead to one root,

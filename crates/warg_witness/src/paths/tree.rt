@@ -52,7 +52,8 @@ fn meet_trees<D: SupportedDigest, V: VisitBytes, A: Allocator + Copy>(
     if new.len() > MOST_LEAVES {
         return Err(AllocError);
     }
-    let (old_tree, old_plain_root) = plain_tree(alloc, old)?;
+    let old_tree = plain_tree(alloc, old)?;
+    let old_plain_root = old_tree.root();
     let Some((old_root, new_root)) = roots_of_consistency(
         old.len(),
         new.len(),
@@ -64,8 +65,8 @@ fn meet_trees<D: SupportedDigest, V: VisitBytes, A: Allocator + Copy>(
     if old_root != old_plain_root {
         return Ok(None);
     }
-    let (new_tree, new_plain_root) = plain_tree(alloc, new)?;
-    if new_root != new_plain_root {
+    let new_tree = plain_tree(alloc, new)?;
+    if new_root != new_tree.root() {
         return Ok(None);
     }
     Ok(Some(Trees {

@@ -4,7 +4,7 @@ use Rattle.std.proofs.lemmas.Grind.{common_steps}
 use Rattle.warg_protobuf.specs.Decoding.{digest_fault}
 use Rattle.warg_protobuf.proofs.ForCallers.{fault_after}
 use Rattle.warg_log.proofs.AppendLemmas.{leaves_more}
-use Rattle.warg_log.proofs.TreeLemmas.{leaves_in-length}
+use Rattle.warg_log.proofs.TreeLemmas.{leaves_count}
 use Rattle.warg_log.proofs.vec_log.image.grown.Goals as goal
 use Rattle.warg_log.proofs.vec_log.image.grown.Goals.{then-place-eq0+in_ok-push_leaf, else-place-eq0}
 
@@ -12,7 +12,7 @@ pub push_leaf-requires : goal.push_leaf-requires
 push_leaf-requires g c = omega (
   arith,
   ap length c.places.invariant.grown,
-  leaves_in-length (take c.places.place c.args.tree.now),
+  leaves_count (take c.places.place c.args.tree.now),
   length-take-le c.places.place c.args.tree.now (omega arith),
 )
 

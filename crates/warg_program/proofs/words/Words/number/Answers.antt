@@ -17,18 +17,20 @@ made : (o : Option ℕ) (v x : ℕ) → SomeIff o (v < 2 ^ 64) v → o ≡ Some 
 made None v x gives some = absurd (cc)
 made (Some y) v x gives some = let is = gives.1 in cc
 
-pub returns-in_err-tenfold-clause-bad : goal.returns-in_err-tenfold-clause-bad
+pub returns-in_err-tenfold-clause-errors : goal.returns-in_err-tenfold-clause-errors
 unfolding first_says
-returns-in_err-tenfold-clause-bad c = λ _.
+returns-in_err-tenfold-clause-errors c =
     let great = refused _ _ c.checked_mul.ensures c.in_err-tenfold.ensures.ok_part in
-    rw (c.in_ok-word.ensures.ok, too_great _ c.loop-digit.value c.loop-digit.digit-index c.loop-digit.invariant.value c.loop-digit-test.true (omega arith)) refl
+    let none = too_great _ c.loop-digit.value c.loop-digit.digit-index c.loop-digit.invariant.value c.loop-digit-test.true (omega arith) in
+    grind (arith, common_steps)
 
-pub returns-in_err-value-clause-bad : goal.returns-in_err-value-clause-bad
+pub returns-in_err-value-clause-errors : goal.returns-in_err-value-clause-errors
 unfolding first_says
-returns-in_err-value-clause-bad c = λ _.
+returns-in_err-value-clause-errors c =
     let great = refused _ _ c.checked_add.ensures c.in_err-value.ensures.ok_part in
     let tenfold = made _ _ _ c.checked_mul.ensures c.in_ok-tenfold.ensures.ok_part in
-    rw (c.in_ok-word.ensures.ok, too_great _ c.loop-digit.value c.loop-digit.digit-index c.loop-digit.invariant.value c.loop-digit-test.true (omega arith)) refl
+    let none = too_great _ c.loop-digit.value c.loop-digit.digit-index c.loop-digit.invariant.value c.loop-digit-test.true (omega arith) in
+    grind (arith, common_steps)
 
 pub returns-clause-ok : goal.returns-clause-ok
 unfolding first_says value_from

@@ -8,6 +8,9 @@ use Rattle.warg_witness.proofs.log.consistency.meet_trees.Goals as goal
 pub returns-in_default-clause-met : goal.returns-in_default-clause-met
 returns-in_default-clause-met g c met = let ok = consistency_then _ _ _ _ _ _ met.roots in grind arith
 
+pub returns-then-ne-2-clause-met : goal.returns-then-ne-2-clause-met
+returns-then-ne-2-clause-met g c met = let ok = consistency_then _ _ _ _ _ _ met.roots in grind (arith, bytes_decides)
+
 pub returns-clause-met : goal.returns-clause-met
 returns-clause-met g c =
     let lengths = c.if-not-have_lengths.ensures.same.0 refl in
