@@ -155,10 +155,12 @@ def install_peers():
     """Tries to install what the results are compared with, where one lacks. What stays missing is left out."""
     if shutil.which("go") and shutil.which("protoc") or os.geteuid() or not shutil.which("apt-get"):
         return
-    words = ["apt-get", "install", "-y", "golang-go", "golang-golang-x-mod-dev", "protobuf-compiler", "python3-protobuf"]
+    packages = ["golang-go", "golang-golang-x-mod-dev", "protobuf-compiler", "python3-protobuf"]
+    how = {"env": {**os.environ, "DEBIAN_FRONTEND": "noninteractive"}, "timeout": 300}
+    quiet = {"stdin": subprocess.DEVNULL, "stdout": subprocess.DEVNULL, "stderr": subprocess.DEVNULL}
     try:
-        quiet = {"stdin": subprocess.DEVNULL, "stdout": subprocess.DEVNULL, "stderr": subprocess.DEVNULL}
-        subprocess.run(words, env={**os.environ, "DEBIAN_FRONTEND": "noninteractive"}, timeout=300, **quiet)
+        for words in (["apt-get", "update"], ["apt-get", "install", "-y", *packages]):
+            subprocess.run(words, **how, **quiet)
     except (OSError, subprocess.TimeoutExpired):
         pass
 

@@ -8,6 +8,9 @@ mod claim;
 mod given;
 mod usage;
 
+ghost use Rattle.std.specs.Prelude.{◌≡◌, ◌↔◌, IsTrue};
+ghost use Rattle.std.specs.Process.{exit_status};
+
 use anyhow::Result;
 use claim::verdict_on;
 use std::env;
@@ -42,7 +45,7 @@ fn judge(rt: &HostRuntime) -> Result<ExitCode> {
     match verdict_on(rt, name, asked)? {
         Ok(verdict) => {
             println!(rt; "{verdict}")?;
-            Ok(ExitCode::from(if verdict { 0 } else { 1 }))
+            Ok(status_of(verdict))
         }
         Err(CheckError::Memory) => Err(CheckError::Memory.into()),
         Err(refusal) => {
@@ -50,4 +53,12 @@ fn judge(rt: &HostRuntime) -> Result<ExitCode> {
             Ok(ExitCode::from(2))
         }
     }
+}
+
+// The exit status that tells a verdict.
+fn status_of(verdict: bool) -> ExitCode
+    ensures yes { (exit_status result ≡ 0) ↔ IsTrue verdict }
+    ensures no { (exit_status result ≡ 1) ↔ ¬ (IsTrue verdict) }
+{
+    ExitCode::from(if verdict { 0 } else { 1 })
 }

@@ -26,12 +26,7 @@ const NAMES: [&str; 13] = [
 
 /// Whether a call of this name is one of these.
 pub(super) fn has_call(name: &str) -> bool {
-    for known in NAMES {
-        if known == name {
-            return true;
-        }
-    }
-    false
+    NAMES.contains(&name)
 }
 
 /// Answers the call of this name.
