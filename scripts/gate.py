@@ -125,7 +125,7 @@ class Watch(threading.Thread):
 
     def link_kept(self):
         for folder in self.temporary.glob("rt-edits-*"):
-            files = list(files_below(folder))
+            files = list(files_below(folder / "seed"))
             crate = next((it[1] for it in (re.match(r"Rattle-(\w+)-proofs", name) for _, name, _ in files) if it), "")
             for path, _, number in files if crate else []:
                 if self.linked.get(path) != number:

@@ -24,7 +24,6 @@ import os
 import pathlib
 import re
 import shutil
-import signal
 import subprocess
 import sys
 import tempfile
@@ -35,7 +34,9 @@ import functions
 import kit
 
 PARTS = ("src", "specs", "proofs")
-UNPROVED = re.compile(r"fn \S+: (?!proved)")
+# the seconds that the proof of a wrong body may take
+SLOW = 20
+PROGRESS = re.compile(r"checked (\S+), \d+ of \d+$")
 WAITS = re.compile(r"which (is|are) not proved")
 CYCLE = re.compile(r"#\[cycle\((\w+)\)\]\s*(?:#\[[^\n]*\]\s*|//[^\n]*\n\s*)*(?:pub(?:\(\w+\))? )?\Z")
 LACKS_A_NAME = re.compile(r"has no field|is not in scope|has no `|was not admitted|is no name")
@@ -121,27 +122,23 @@ def cycles_of(texts, crate):
 
 
 def said_by(ran, stages):
-    """Returns what a check prints, and whether it has named every function.
-
-    Where a function isn't proved it would go on with the proof files to write, for a while: it is ended there.
-    """
-    lines = []
-    reader = threading.Thread(target=lambda: lines.extend(ran.stdout))
-    reader.start()
-    has_named = False
-    while reader.is_alive():
-        reader.join(0.2)
-        has_named = has_named or stages.exists() and "stage lines" in stages.read_text()
-        if has_named and any(UNPROVED.match(line) for line in list(lines)):
-            os.kill(ran.pid, signal.SIGKILL)
-    return "".join(lines), has_named
+    """Returns what a check prints, whether it has named every function, and the seconds that each proof took, by the clock."""
+    lines, seconds, before = [], {}, time.monotonic()
+    for line in ran.stdout:
+        lines.append(line)
+        proved = PROGRESS.match(line)
+        if proved or line.startswith("by-macro:"):
+            now = time.monotonic()
+            seconds[proved[1] if proved else ""] = now - before
+            before = now
+    return "".join(lines), stages.exists() and "stage lines" in stages.read_text(), seconds
 
 
 class Check:
     """What the prover says of a copy of a crate with some edits."""
 
-    def __init__(self, said, has_named):
-        self.said = said
+    def __init__(self, said, has_named, seconds):
+        self.said, self.seconds = said, seconds
         self.lines = dict(re.findall(r"^fn (\S+): (.*)$", said, re.M))
         self.faults = collections.defaultdict(list)
         for folder, fault in re.findall(r"^(?:\./)?proofs/(\S*?)/?\w+\.antt:\d+:\d+: error: (.*)$", said, re.M):
@@ -176,7 +173,7 @@ class Crate:
         self.folder = kit.ROOT / "crates" / name
         self.texts = {str(it.relative_to(self.folder)): it.read_text() for it in sorted(self.folder.glob("src/**/*.rt"))}
         self.cycles = cycles_of(self.texts, name)
-        self.seconds, self.checks, self.refused, self.faults = 0.0, 0, {}, []
+        self.seconds, self.checks, self.refused, self.took, self.faults = 0.0, 0, {}, {}, []
 
     def edits(self, only):
         found = [read(it) for it in sorted(self.folder.glob("wrong-bodies/**/*.edit")) if only in it.stem]
@@ -204,14 +201,14 @@ class Crate:
             if not keeps:
                 shutil.copytree(self.kept, f"{room}/kept", copy_function=os.link)
             words = [kit.RATTLE, "check", *kit.words(self.name), "--jobs", "1", "--incremental", keeps or f"{room}/kept"]
-            words += ["--stage-times", f"{room}/stages"]
+            words += ["--progress", "--stage-times", f"{room}/stages"]
             how = {"stdin": subprocess.DEVNULL, "stdout": subprocess.PIPE, "stderr": subprocess.STDOUT, "text": True, "errors": "replace"}
             ran = subprocess.Popen(words, cwd=room, **how)
-            said, has_named = said_by(ran, pathlib.Path(room, "stages"))
+            told = said_by(ran, pathlib.Path(room, "stages"))
             _, _, used = os.wait4(ran.pid, 0)
         self.seconds += used.ru_utime + used.ru_stime
         self.checks += 1
-        return Check(said, has_named)
+        return Check(*told)
 
     def judge(self, edits):
         """Checks a round, and returns what it says of each edit: refused, proved, or a word why it says nothing yet."""
@@ -224,6 +221,7 @@ class Crate:
         answers = {}
         for edit, own in names.items():
             said = checked.lines[own[0]] if own else ""
+            self.took[edit] = max([checked.seconds.get(it, 0) for it in own], default=0)
             if not checked.is_whole:
                 answers[edit] = "unread: " + next((it for it in checked.said.splitlines() if "error" in it), "")[:200]
             elif any(map(checked.is_broken, own)) or len(edits) == 1 and (reached or not edit.function and checked.faults):
@@ -301,12 +299,12 @@ def report(line):
 def main():
     asked = argparse.ArgumentParser()
     asked.add_argument("--build", action="store_true", help="check each crate first, and start from the work in its out/")
-    asked.add_argument("--kept", type=pathlib.Path, help="a folder with each crate's kept work, by its name")
+    asked.add_argument("--kept", type=pathlib.Path, help="a folder with what the kit's gate began its edits with, each crate's in NAME/seed")
     asked.add_argument("--crate", action="append", default=[])
     asked.add_argument("--only", default="")
     asked.add_argument("--json", type=pathlib.Path, help="where to write the processor seconds of each crate")
     asked = asked.parse_args()
-    kept = lambda name: asked.kept / name if asked.kept else kit.ROOT / "crates" / name / "out/incremental"
+    kept = lambda name: asked.kept / name / "seed" if asked.kept else kit.ROOT / "crates" / name / "out/incremental"
     crates = [Crate(it, kept(it)) for it in kit.crates() if (kit.ROOT / "crates" / it / "wrong-bodies").is_dir()]
     crates = [it for it in crates if not asked.crate or it.name in asked.crate]
     crates.sort(key=lambda it: -len(list(it.folder.glob("wrong-bodies/*.edit"))))
@@ -323,6 +321,9 @@ def main():
         by_round = collections.Counter(crate.refused.values())
         shown = ", ".join(f"{count} in round {number}" for number, count in sorted(by_round.items()))
         report(f"{crate.name}: {len(crate.refused)} of {len(wrong)} wrong bodies refused ({shown}), {len(edits) - len(wrong)} planted, {crate.checks} checks, {crate.seconds:.0f} processor seconds")
+        for edit, seconds in sorted(crate.took.items(), key=lambda it: -it[1]):
+            if seconds > SLOW:
+                report(f"{crate.name}: {edit.name} took {seconds:.0f} seconds: let it fail sooner")
         for fault in crate.faults:
             report(f"FAILED {crate.name}: {fault}")
     passed, failed = sum(len(it.refused) for it in crates), sum(len(it.faults) for it in crates)
