@@ -34,7 +34,7 @@ import functions
 import kit
 
 PARTS = ("src", "specs", "proofs")
-# the seconds that the proof of a wrong body may take
+# more seconds than a wrong body should take
 SLOW = 20
 PROGRESS = re.compile(r"checked (\S+), \d+ of \d+$")
 WAITS = re.compile(r"which (is|are) not proved")
@@ -125,12 +125,11 @@ def said_by(ran, stages):
     """Returns what a check prints, whether it has named every function, and the seconds that each proof took, by the clock."""
     lines, seconds, before = [], {}, time.monotonic()
     for line in ran.stdout:
+        now = time.monotonic()
+        if ended := PROGRESS.match(line):
+            seconds[ended[1]] = now - before
         lines.append(line)
-        proved = PROGRESS.match(line)
-        if proved or line.startswith("by-macro:"):
-            now = time.monotonic()
-            seconds[proved[1] if proved else ""] = now - before
-            before = now
+        before = now
     return "".join(lines), stages.exists() and "stage lines" in stages.read_text(), seconds
 
 
@@ -322,8 +321,8 @@ def main():
         shown = ", ".join(f"{count} in round {number}" for number, count in sorted(by_round.items()))
         report(f"{crate.name}: {len(crate.refused)} of {len(wrong)} wrong bodies refused ({shown}), {len(edits) - len(wrong)} planted, {crate.checks} checks, {crate.seconds:.0f} processor seconds")
         for edit, seconds in sorted(crate.took.items(), key=lambda it: -it[1]):
-            if seconds > SLOW:
-                report(f"{crate.name}: {edit.name} took {seconds:.0f} seconds: let it fail sooner")
+            if seconds > SLOW and not edit.is_planted:
+                report(f"{crate.name}: {edit.name} took {seconds:.0f} seconds to refuse")
         for fault in crate.faults:
             report(f"FAILED {crate.name}: {fault}")
     passed, failed = sum(len(it.refused) for it in crates), sum(len(it.faults) for it in crates)
