@@ -124,8 +124,8 @@ class Watch(threading.Thread):
         return words[words.index("--crate-name") + 1], kind
 
     def link_kept(self):
-        for folder in self.temporary.glob("rt-edits-*"):
-            files = list(files_below(folder / "seed"))
+        for folder in self.temporary.glob("rt-edits-*/seed"):
+            files = list(files_below(folder))
             crate = next((it[1] for it in (re.match(r"Rattle-(\w+)-proofs", name) for _, name, _ in files) if it), "")
             for path, _, number in files if crate else []:
                 if self.linked.get(path) != number:

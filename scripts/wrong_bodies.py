@@ -298,12 +298,12 @@ def report(line):
 def main():
     asked = argparse.ArgumentParser()
     asked.add_argument("--build", action="store_true", help="check each crate first, and start from the work in its out/")
-    asked.add_argument("--kept", type=pathlib.Path, help="a folder with what the kit's gate began its edits with, each crate's in NAME/seed")
+    asked.add_argument("--kept", type=pathlib.Path, help="a folder with each crate's kept work, by its name")
     asked.add_argument("--crate", action="append", default=[])
     asked.add_argument("--only", default="")
     asked.add_argument("--json", type=pathlib.Path, help="where to write the processor seconds of each crate")
     asked = asked.parse_args()
-    kept = lambda name: asked.kept / name / "seed" if asked.kept else kit.ROOT / "crates" / name / "out/incremental"
+    kept = lambda name: asked.kept / name if asked.kept else kit.ROOT / "crates" / name / "out/incremental"
     crates = [Crate(it, kept(it)) for it in kit.crates() if (kit.ROOT / "crates" / it / "wrong-bodies").is_dir()]
     crates = [it for it in crates if not asked.crate or it.name in asked.crate]
     crates.sort(key=lambda it: -len(list(it.folder.glob("wrong-bodies/*.edit"))))
