@@ -1,5 +1,5 @@
 # Entry points; 'make' alone lists them. The first line of a target's comment is its help.
-.PHONY: help run verdict tlog try test wrong-bodies bench ffi ffi-test install interop
+.PHONY: help run verdict tlog try test kit-gate wrong-bodies bench ffi ffi-test install interop
 
 # Lists the targets.
 help:
@@ -32,6 +32,10 @@ tlog:
 # Runs the merge gate: each proof from nothing, the tests, the programs, the wrong bodies, the examples.
 test:
 	@python3 scripts/gate.py
+
+# Runs the kit's own gate, which keeps nothing of any proof and tries must-fail/ by itself: before a release.
+kit-gate:
+	@rt ci
 
 # Tries wrong bodies; of one crate with CRATE=warg_log, by a word of their names with ONLY=push.
 wrong-bodies:

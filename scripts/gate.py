@@ -1,8 +1,10 @@
 #!/usr/bin/env python3
-"""The merge gate, on a copy of the tree without what earlier checks left: every proof from nothing, the tests and the
-programs by the kit's own gate, the wrong bodies over the work that it made, the examples for C, Python, Rust and Go, the
-programs with right and wrong arguments, and the comparisons with Google's protobuf and Go's checksum database where these
-are there.
+"""The merge gate, on a copy of the tree without what earlier checks left: every crate proved from nothing, and the tests
+and the programs built and run, by the kit; the wrong bodies over the work that these proofs have kept; the examples for C,
+Python, Rust and Go; the programs with right and wrong arguments; and the comparisons with Google's protobuf and Go's
+checksum database where these are there.
+
+The kit's own gate, rt ci, keeps nothing of a proof, and so proves a crate once more for its wrong bodies: make kit-gate.
 
 Prints what each part took in processor minutes, and last 'N passed, M failed'.
 """
@@ -22,7 +24,7 @@ import time
 
 ROOT = pathlib.Path(__file__).resolve().parent.parent
 BEFORE = (["foreign_proofs.py"], ["definitions.py", "--check"], ["calls.py", "--check"], ["counts.py", "--check"], ["check_docs.py"], ["check_header.py"])
-# What runs the programs that the kit's gate has just built.
+# What runs the programs that have just been built.
 BEHIND = (
     ["check_programs.py", *(f"crates/{name}/out/{name}" for name in ("warg_check_cli", "warg_verdict", "warg_tlog"))],
     ["tlog_kills.py", "crates/warg_tlog/out/warg_tlog", "20"],
@@ -30,6 +32,11 @@ BEHIND = (
 )
 TICKS = os.sysconf("SC_CLK_TCK")
 CLOSING = re.compile(r"(\d+) passed, (\d+) failed\n?")
+# A proof that rests on nothing but the logic and what this run has proved: no handle but in tests, no C function of ours, no bug.
+VERDICT = re.compile(
+    r"logic=proved (functions=\d+( axioms=\d+ target=\S+ cpu=\S+)?|tests=\d+ functions=\d+ axioms=\d+ target=\S+ cpu=\S+( main=Abort)?( may-abort=\d+)?)"
+    r" sum=\w+ native=nat,char,string logic-built=trusted libraries-built=trusted statements=trusted incremental=trusted\n"
+)
 
 
 def copy_of_the_tree(to):
@@ -42,57 +49,33 @@ def copy_of_the_tree(to):
             shutil.copy2(ROOT / name, to / name)
 
 
+def lay_data(tree):
+    """Lays a program's files where the kit runs it, in the crate's folder."""
+    for data in tree.glob("crates/*/data"):
+        shutil.copytree(data, data.parent, dirs_exist_ok=True)
+
+
 def used():
     """Returns the processor seconds of all that has ended below this process."""
     spent = resource.getrusage(resource.RUSAGE_CHILDREN)
     return spent.ru_utime + spent.ru_stime
 
 
-def files_below(folder):
-    """Yields the path, the name and the inode of each file below a folder that another process works in."""
-    try:
-        with os.scandir(folder) as found:
-            for entry in found:
-                if entry.is_dir(follow_symlinks=False):
-                    yield from files_below(entry.path)
-                else:
-                    yield entry.path, entry.name, entry.inode()
-    except OSError:
-        pass
-
-
-def link_anew(file, link):
-    """Links a file, in the place of an older link, unless it is gone."""
-    try:
-        link.unlink(missing_ok=True)
-        link.parent.mkdir(parents=True, exist_ok=True)
-        os.link(file, link)
-    except OSError:
-        pass
-
-
 class Watch(threading.Thread):
-    """Looks at the kit's gate as it runs: what each check takes, and what its tries of wrong bodies keep of a crate.
-
-    The gate removes what it keeps as it ends, so each file is linked into a folder of ours as it appears.
-    """
+    """Looks at the kit as it runs: what each check takes."""
 
     def __init__(self, room):
         super().__init__(daemon=True)
-        self.temporary, self.kept = room / "tmp", room / "kept"
+        self.temporary = room / "tmp"
         # the kit runs what it built as nobody
         room.chmod(0o755)
         self.temporary.mkdir(mode=0o777)
-        self.seconds, self.names, self.linked = {}, {}, {}
+        self.seconds, self.names = {}, {}
         self.ended = threading.Event()
 
     def run(self):
-        turn = 0
         while not self.ended.wait(0.5):
             self.look_at_checks()
-            turn += 1
-            if turn % 10 == 0:
-                self.link_kept()
 
     def look_at_checks(self):
         for entry in pathlib.Path("/proc").iterdir():
@@ -119,18 +102,7 @@ class Watch(threading.Thread):
         # a forked copy counts in its parent's time
         if not is_ours or self.names.get(parent):
             return None
-        is_edit = os.readlink(entry / "cwd").startswith(str(self.temporary))
-        kind = "must-fail" if is_edit else "tests" if "--test" in words else "proof"
-        return words[words.index("--crate-name") + 1], kind
-
-    def link_kept(self):
-        for folder in self.temporary.glob("rt-edits-*/seed"):
-            files = list(files_below(folder))
-            crate = next((it[1] for it in (re.match(r"Rattle-(\w+)-proofs", name) for _, name, _ in files) if it), "")
-            for path, _, number in files if crate else []:
-                if self.linked.get(path) != number:
-                    self.linked[path] = number
-                    link_anew(path, self.kept / crate / os.path.relpath(path, folder))
+        return words[words.index("--crate-name") + 1], "tests" if "--test" in words else "proof"
 
     def by_part(self):
         """Returns the processor seconds by the crate and the kind of check."""
@@ -147,8 +119,24 @@ def ran(words, folder, **more):
         for line in part.stdout:
             lines.append(line)
             # the closing line is this script's own
-            print(f"the kit's gate ended with: {line}" if CLOSING.fullmatch(line) else line, end="", flush=True)
+            print(f"the kit's part ended with: {line}" if CLOSING.fullmatch(line) else line, end="", flush=True)
     return lines, not part.returncode, used() - before
+
+
+def prove_and_test(tree, watch):
+    """Proves every crate, and builds and runs its tests and, by both of the kit's compilers, its program.
+
+    Returns whether all went well, and how many crates did.
+    """
+    # a proof takes up to 4 GB
+    jobs = min(len(os.sched_getaffinity(0)), os.sysconf("SC_PHYS_PAGES") * os.sysconf("SC_PAGE_SIZE") >> 32)
+    settings = {"TMPDIR": str(watch.temporary), "RT_BACKEND": "both"}
+    lines, well, _ = ran(["rt", "all", "test", "--jobs", str(max(jobs, 1))], tree, env={**os.environ, **settings})
+    for line in lines:
+        if line.startswith("logic=") and not VERDICT.fullmatch(line):
+            print(f"a verdict that may not rest on that: {line}", end="")
+            well = False
+    return well, sum(line.endswith(": ok\n") for line in lines)
 
 
 def install_peers():
@@ -166,7 +154,7 @@ def install_peers():
 
 
 def compare_with_go(tree):
-    """Runs the comparison over the programs that the kit's gate has just proved and built.
+    """Runs the comparison over the programs that have just been proved and built.
 
     Returns how many steps passed and failed, and its processor seconds.
     """
@@ -180,20 +168,20 @@ def table(watch, rest):
     """Returns the rows of what each part took, in processor minutes."""
     taken = watch.by_part()
     crates = list(dict.fromkeys(crate for crate, _ in taken))
-    yield "| processor minutes | proof | wrong bodies, by the kit's gate | wrong bodies, in rounds | tests |"
-    yield "|---|---|---|---|---|"
+    yield "| processor minutes | proof and build | wrong bodies | tests |"
+    yield "|---|---|---|---|"
     total = collections.Counter()
     for crate in crates:
-        row = [taken[crate, "proof"], taken[crate, "must-fail"], rest["rounds"].get(crate, 0), taken[crate, "tests"]]
+        row = [taken[crate, "proof"], rest["rounds"].get(crate, 0), taken[crate, "tests"]]
         total.update(dict(enumerate(row)))
         yield f"| `{crate}` | " + " | ".join(f"{it / 60:.1f}" for it in row) + " |"
-    yield "| all | " + " | ".join(f"{total[it] / 60:.1f}" for it in range(4)) + " |"
-    other = rest["kit"] - sum(taken.values())
-    yield f"| builds and runs of programs and tests | {other / 60:.1f} | | | |"
-    yield f"| examples for C, Python, Rust and Go | {rest['examples'] / 60:.1f} | | | |"
-    yield f"| comparison with Go's checksum database | {rest['interop'] / 60:.1f} | | | |"
-    everything = rest["kit"] + rest["examples"] + rest["interop"] + sum(rest["rounds"].values())
-    yield f"| in all {everything / 60:.0f}, by the clock {rest['clock'] / 60:.0f}, on {len(os.sched_getaffinity(0))} processors | | | | |"
+    yield "| all | " + " | ".join(f"{total[it] / 60:.1f}" for it in range(3)) + " |"
+    yield f"| examples for C, Python, Rust and Go | {rest['examples'] / 60:.1f} | | |"
+    yield f"| comparison with Go's checksum database | {rest['interop'] / 60:.1f} | | |"
+    everything = used()
+    other = everything - sum(total.values()) - rest["examples"] - rest["interop"]
+    yield f"| runs of programs and tests, and all else | {other / 60:.1f} | | |"
+    yield f"| in all {everything / 60:.0f}, by the clock {rest['clock'] / 60:.0f}, on {len(os.sched_getaffinity(0))} processors | | | |"
 
 
 def main():
@@ -211,13 +199,13 @@ def main():
             passed, failed = passed + well, failed + (not well)
         watch = Watch(room)
         watch.start()
-        lines, well, rest["kit"] = ran(["rt", "ci"], tree, env={**os.environ, "TMPDIR": str(watch.temporary)})
+        lay_data(tree)
+        well, done = prove_and_test(tree, watch)
         watch.ended.set()
         watch.join()
-        closing = next((it for it in map(CLOSING.fullmatch, reversed(lines)) if it), None)
-        passed, failed = passed + int(closing[1] if closing else 0), failed + int(closing[2] if closing else 1)
+        passed, failed = passed + done, failed + (not well)
         if well:
-            words = [sys.executable, "scripts/wrong_bodies.py", "--kept", str(watch.kept), "--json", str(room / "rounds")]
+            words = [sys.executable, "scripts/wrong_bodies.py", "--json", str(room / "rounds")]
             lines, well, _ = ran(words, tree)
             counted = re.search(r"wrong bodies: (\d+) refused, (\d+) failed", lines[-1] if lines else "")
             passed, failed = passed + int(counted[1] if counted else 0), failed + int(counted[2] if counted else 1)

@@ -1,5 +1,5 @@
 #!/usr/bin/env python3
-"""Tries each crate's wrong bodies, crates/NAME/wrong-bodies/*.edit: the prover has to refuse every one.
+"""Tries each crate's wrong bodies, crates/NAME/wrong-bodies/*.edit and must-fail/*.edit: the prover has to refuse every one.
 
 An edit is a line 'file: src/lib.rt' and then pairs of lines 'old: TEXT' and 'new: TEXT', each old text standing
 there once; 'old line: TEXT' stands for a whole line. One check of a copy of the crate carries a round of edits, one a
@@ -9,10 +9,13 @@ proof files, of the function that it changes, or of one in a cycle of calls with
 for a callee, lacks a name or was cut off goes to the next round. An edit that changes more than one function's body goes
 alone, and so does each that no round has judged. What is still let through fails.
 
+A crate is first proved without any edit, into a folder that each round starts from a copy of. Of a program, which has
+few edits, only the functions that they change and those below them are checked.
+
 The edits in wrong-bodies/planted change no meaning, and show that this script can fail: each must come out as let
 through, and one named waits_* must wait, in its first round, for the broken function that it calls.
 
-Usage: wrong_bodies.py [--build | --kept FOLDER] [--crate NAME] [--only WORD] [--json FILE]
+Usage: wrong_bodies.py [--build] [--crate NAME] [--only WORD] [--json FILE]
 """
 
 import argparse
@@ -39,6 +42,7 @@ SLOW = 20
 PROGRESS = re.compile(r"checked (\S+), \d+ of \d+$")
 WAITS = re.compile(r"which (is|are) not proved")
 CYCLE = re.compile(r"#\[cycle\((\w+)\)\]\s*(?:#\[[^\n]*\]\s*|//[^\n]*\n\s*)*(?:pub(?:\(\w+\))? )?\Z")
+EMPTY = re.compile(r"^(?:warning: no call of `(?![^`]*::fn::)|note: the search for empty contracts did not end).*", re.M)
 LACKS_A_NAME = re.compile(r"has no field|is not in scope|has no `|was not admitted|is no name")
 
 
@@ -133,6 +137,18 @@ def said_by(ran, stages):
     return "".join(lines), stages.exists() and "stage lines" in stages.read_text(), seconds
 
 
+def names_of(edit, names):
+    """Returns the whole names of an edit's function, first, and of those that have one proof with it: by their ends, and by
+    the edit's file where several end so."""
+    whole = []
+    for function in edit.proved_with:
+        found = [it for it in names if f"::{it}".endswith(f"::{function}")]
+        if len(found) > 1:
+            found = [it for it in found if it.partition("::")[2].startswith(f"{edit.module}::")]
+        whole += found if len(found) == 1 else []
+    return whole
+
+
 class Check:
     """What the prover says of a copy of a crate with some edits."""
 
@@ -144,18 +160,7 @@ class Check:
             if not LACKS_A_NAME.search(fault):
                 self.faults[folder.replace("+", "")].append(fault)
         self.is_whole = has_named
-        self.is_proved = bool(re.search(r"^logic=proved", said, re.M))
-
-    def names_of(self, edit):
-        """Returns the whole names of an edit's function, first, and of those that have one proof with it: by their ends,
-        and by the edit's file where several end so."""
-        names = []
-        for function in edit.proved_with:
-            found = [it for it in self.lines if f"::{it}".endswith(f"::{function}")]
-            if len(found) > 1:
-                found = [it for it in found if it.partition("::")[2].startswith(f"{edit.module}::")]
-            names += found if len(found) == 1 else []
-        return names
+        self.is_proved = bool(re.search(r"^(logic=proved|only=(\d+) proved=\2$)", said, re.M))
 
     def is_broken(self, name):
         """Whether a function has an open goal of its own, or an error in its own proof that is no lack of a name."""
@@ -167,15 +172,18 @@ class Check:
 class Crate:
     """A crate whose wrong bodies are tried, over a copy of the work that its proof has left."""
 
-    def __init__(self, name, kept):
-        self.name, self.kept = name, kept
+    def __init__(self, name):
+        self.name = name
         self.folder = kit.ROOT / "crates" / name
+        self.kept = self.folder / "out/incremental"
+        self.scope, self.functions = [], []
         self.texts = {str(it.relative_to(self.folder)): it.read_text() for it in sorted(self.folder.glob("src/**/*.rt"))}
         self.cycles = cycles_of(self.texts, name)
         self.seconds, self.checks, self.refused, self.took, self.faults = 0.0, 0, {}, {}, []
 
     def edits(self, only):
-        found = [read(it) for it in sorted(self.folder.glob("wrong-bodies/**/*.edit")) if only in it.stem]
+        files = [*self.folder.glob("wrong-bodies/**/*.edit"), *self.folder.glob("must-fail/*.edit")]
+        found = [read(it) for it in sorted(files) if only in it.stem]
         # into the round of what they wait for
         found.sort(key=lambda it: not it.is_planted)
         for edit in found:
@@ -186,7 +194,7 @@ class Crate:
                 self.faults.append(f"{edit.name}: an old text doesn't stand exactly once in its file")
         return [it for it in found if fits(it, self.texts)]
 
-    def check(self, edits, keeps=None):
+    def check(self, edits, keeps=None, flags=()):
         """Checks a copy of the crate with these edits, over a copy of its kept work, or into a folder that keeps it."""
         texts = dict(self.texts)
         for edit in edits:
@@ -199,8 +207,8 @@ class Crate:
                 pathlib.Path(room, file).write_text(text)
             if not keeps:
                 shutil.copytree(self.kept, f"{room}/kept", copy_function=os.link)
-            words = [kit.RATTLE, "check", *kit.words(self.name), "--jobs", "1", "--incremental", keeps or f"{room}/kept"]
-            words += ["--progress", "--stage-times", f"{room}/stages"]
+            words = [kit.RATTLE, "check", *kit.words(self.name), *self.scope, "--jobs", "1", "--incremental", keeps or f"{room}/kept"]
+            words += ["--progress", "--stage-times", f"{room}/stages", *flags]
             how = {"stdin": subprocess.DEVNULL, "stdout": subprocess.PIPE, "stderr": subprocess.STDOUT, "text": True, "errors": "replace"}
             ran = subprocess.Popen(words, cwd=room, **how)
             told = said_by(ran, pathlib.Path(room, "stages"))
@@ -209,10 +217,23 @@ class Crate:
         self.checks += 1
         return Check(*told)
 
+    def refused_of(self, edits):
+        """Returns those of the edits that are refused where their functions alone are checked, and what these call: of one, or
+        of several that a whole check has seen, so that none of them reaches further than its function."""
+        names = {it: names_of(it, self.functions) for it in edits}
+        if self.scope or not any(names.values()):
+            return []
+        checked = self.check(edits, flags=[word for own in names.values() for it in own for word in ("--only", it)])
+        refused = [it for it, own in names.items() if checked.is_whole and any(map(checked.is_broken, own))]
+        for edit in refused:
+            self.took[edit] = max(checked.seconds.get(it, 0) for it in names[edit])
+        return refused
+
     def judge(self, edits):
         """Checks a round, and returns what it says of each edit: refused, proved, or a word why it says nothing yet."""
         checked = self.check(edits)
-        names = {it: checked.names_of(it) for it in edits}
+        self.functions = [*checked.lines]
+        names = {it: names_of(it, checked.lines) for it in edits}
         reached = [it for it in checked.lines if checked.is_broken(it) and not any(it in own for own in names.values())]
         if len(edits) > 1 and (reached or not checked.is_whole):
             half = len(edits) // 2
@@ -244,33 +265,39 @@ class Crate:
         return taken or edits[:1]
 
     def try_all(self, only, room):
-        """Tries the edits in rounds, until each is judged, and then the crate without any.
-
-        Where no gate has left the work of the crate's proof, it is proved first.
-        """
+        """Proves the crate, unless a check has kept that work, tries the edits in rounds, until each is judged, and then
+        the crate without any."""
         edits = self.edits(only)
+        if "src/main.rt" in self.texts:
+            self.scope = [it for edit in edits for it in ("--only", edit.function)]
         if not self.kept.is_dir():
             self.kept = pathlib.Path(room, self.name)
             self.kept.mkdir()
             self.check([], keeps=self.kept)
+            report(f"{self.name}: proved in {self.seconds:.0f} processor seconds")
         left, told, number = list(edits), collections.defaultdict(list), 0
         while left:
             number += 1
             taken = self.fitting(left, told)
-            answers = self.judge(taken)
+            is_clear = len(taken) == 1 or all(told[it] for it in taken)
+            refused = self.refused_of(taken) if is_clear and not any(it.is_planted for it in taken) else []
+            rest = [it for it in taken if it not in refused]
+            answers = {it: "refused" for it in refused} | (self.judge(rest) if rest else {})
             for edit, answer in answers.items():
-                alone = len(taken) == 1
+                alone = len(rest) == 1
                 told[edit].append(answer)
                 if answer == "refused":
                     self.refused[edit] = number
                 if answer == "refused" or alone or edit.is_planted and answer == "proved":
                     left.remove(edit)
-            for edit in taken if len(taken) == 1 else []:
+            for edit in rest if len(rest) == 1 else []:
                 report(f"{self.name}: {edit.name}: {answers[edit]}")
             refused = list(answers.values()).count("refused")
             report(f"{self.name}: round {number}: {refused} of {len(taken)} refused, {self.seconds:.0f} processor seconds so far")
-        if not self.check([]).is_proved:
+        whole = self.check([], flags=["--empty-contracts"])
+        if not whole.is_proved:
             self.faults.append("the crate without an edit isn't proved over the same work")
+        self.faults += [f"a contract that no call can meet: {it}" for it in EMPTY.findall(whole.said)]
         for edit in edits:
             self.faults += fault_of(edit, told[edit], edit in self.refused)
         return edits
@@ -298,13 +325,11 @@ def report(line):
 def main():
     asked = argparse.ArgumentParser()
     asked.add_argument("--build", action="store_true", help="check each crate first, and start from the work in its out/")
-    asked.add_argument("--kept", type=pathlib.Path, help="a folder with each crate's kept work, by its name")
     asked.add_argument("--crate", action="append", default=[])
     asked.add_argument("--only", default="")
     asked.add_argument("--json", type=pathlib.Path, help="where to write the processor seconds of each crate")
     asked = asked.parse_args()
-    kept = lambda name: asked.kept / name if asked.kept else kit.ROOT / "crates" / name / "out/incremental"
-    crates = [Crate(it, kept(it)) for it in kit.crates() if (kit.ROOT / "crates" / it / "wrong-bodies").is_dir()]
+    crates = [Crate(it) for it in kit.crates() if (kit.ROOT / "crates" / it / "wrong-bodies").is_dir()]
     crates = [it for it in crates if not asked.crate or it.name in asked.crate]
     crates.sort(key=lambda it: -len(list(it.folder.glob("wrong-bodies/*.edit"))))
     for crate in crates if asked.build else []:

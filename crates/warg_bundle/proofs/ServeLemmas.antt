@@ -1,25 +1,21 @@
 -- Proofs of a log as bytes.
-use Rattle.std.proofs.Common.{◌≡◌, ℕ, ◌*◌, List, [], ◌∷◌, Option, Ok, ap, ◌∙◌}
+use Rattle.std.proofs.Common.{◌≡◌, ℕ, ◌*◌, List, [], ◌∷◌, Option, ap, ◌∙◌}
 use Rattle.warg_log.specs.Claims.{InclusionClaim, ConsistencyClaim, leaf_claim}
-use Rattle.warg_bundle.specs.LogBundles.{Bundle, bundle_of}
-use Rattle.warg_bundle.specs.Bundling.{bundled, SpellsBundle}
+use Rattle.warg_bundle.specs.Bundling.{SpellsBundle}
 
 leaf_claim_is : (p : InclusionClaim) (index n : ℕ) → p.leaf.0 ≡ 2 * index → p.log_length ≡ n → p ≡ leaf_claim index n
 leaf_claim_is p index n leaf length =
     ap (λ x. record { leaf = record { 0 = x }; log_length = p.log_length }) leaf ∙ ap (λ l. record { leaf = record { 0 = 2 * index }; log_length = l }) length
 
-pub serves_leaf : (F : ℕ → Option (List ℕ)) (cs : List ConsistencyClaim) (ps : List InclusionClaim) (p : InclusionClaim) (index n : ℕ) (b : Bundle) (bytes : List ℕ)
-    → cs ≡ [] → ps ≡ p ∷ [] → p.leaf.0 ≡ 2 * index → p.log_length ≡ n → bundled F cs ps ≡ Ok b → bundle_of bytes ≡ Ok b → SpellsBundle F [] (leaf_claim index n ∷ []) bytes
-serves_leaf F cs ps p index n b bytes none one leaf length is spells =
-    let proofs : ps ≡ leaf_claim index n ∷ [] = one ∙ ap (λ q. q ∷ []) (leaf_claim_is p index n leaf length) in
-    record { bundle = b; is = rw (none, proofs) at is; spells = spells }
+pub serves_leaf : (F : ℕ → Option (List ℕ)) (cs : List ConsistencyClaim) (ps : List InclusionClaim) (p : InclusionClaim) (index n : ℕ) (bytes : List ℕ)
+    → cs ≡ [] → ps ≡ p ∷ [] → p.leaf.0 ≡ 2 * index → p.log_length ≡ n → SpellsBundle F cs ps bytes → SpellsBundle F [] (leaf_claim index n ∷ []) bytes
+serves_leaf F cs ps p index n bytes none one leaf length spells =
+    let proofs : ps ≡ leaf_claim index n ∷ [] = one ∙ ap (λ q. q ∷ []) (leaf_claim_is p index n leaf length) in rw (none, proofs) at spells
 
 growth_claim_is : (p : ConsistencyClaim) (m n : ℕ) → p.old_length ≡ m → p.new_length ≡ n → p ≡ record { old_length = m; new_length = n }
 growth_claim_is p m n old new = ap (λ o. record { old_length = o; new_length = p.new_length }) old ∙ ap (λ l. record { old_length = m; new_length = l }) new
 
-pub serves_growth : (F : ℕ → Option (List ℕ)) (cs : List ConsistencyClaim) (ps : List InclusionClaim) (p : ConsistencyClaim) (m n : ℕ) (b : Bundle) (bytes : List ℕ)
-    → cs ≡ p ∷ [] → ps ≡ [] → p.old_length ≡ m → p.new_length ≡ n → bundled F cs ps ≡ Ok b → bundle_of bytes ≡ Ok b
-    → SpellsBundle F (record { old_length = m; new_length = n } ∷ []) [] bytes
-serves_growth F cs ps p m n b bytes one none old new is spells =
-    let proofs : cs ≡ record { old_length = m; new_length = n } ∷ [] = one ∙ ap (λ q. q ∷ []) (growth_claim_is p m n old new) in
-    record { bundle = b; is = rw (proofs, none) at is; spells = spells }
+pub serves_growth : (F : ℕ → Option (List ℕ)) (cs : List ConsistencyClaim) (ps : List InclusionClaim) (p : ConsistencyClaim) (m n : ℕ) (bytes : List ℕ)
+    → cs ≡ p ∷ [] → ps ≡ [] → p.old_length ≡ m → p.new_length ≡ n → SpellsBundle F cs ps bytes → SpellsBundle F (record { old_length = m; new_length = n } ∷ []) [] bytes
+serves_growth F cs ps p m n bytes one none old new spells =
+    let proofs : cs ≡ record { old_length = m; new_length = n } ∷ [] = one ∙ ap (λ q. q ∷ []) (growth_claim_is p m n old new) in rw (proofs, none) at spells

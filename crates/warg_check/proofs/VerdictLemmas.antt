@@ -1,12 +1,14 @@
 -- The steps of a verdict.
-use Rattle.std.proofs.Common.{◌≡◌, ℕ, ◌&&◌, Bool, true, false, nat_eq, List, Option, Some, None, Result, Ok, Err, length, get_or, refl, sym, ap, ◌∙◌, ⊎_elim, ◌<◌}
+use Rattle.std.proofs.Common.{◌≡◌, ◌≢◌, ℕ, ◌&&◌, Bool, true, false, nat_eq, List, Option, Some, None, Result, Ok, Err, length, get_or, refl, sym, ap, ◌∙◌, ⊎_elim, ◌<◌, ◌≤◌}
 use Rattle.std.specs.Prelude.{slice_get}
 use Rattle.std.specs.Cmp.Lexicographic.{pointwise, same_text}
-use Rattle.std.proofs.lemmas.Option.{slice_get_read}
+use Rattle.std.proofs.lemmas.Option.{slice_get_read, slice_get_past}
 use Rattle.std.proofs.lemmas.Bool.{and_parts, cases_Bool}
 use Rattle.warg_log.specs.declared.proof.InclusionProofError.{InclusionProofError}
 use Rattle.warg_log.specs.declared.consistency.ConsistencyProofError.{ConsistencyProofError}
 use Rattle.warg_protobuf.specs.declared.value_error.DecodeError.{DecodeError}
+use Rattle.warg_check.specs.declared.verdict.CheckError.{CheckError}
+use Rattle.warg_check.specs.declared.verdict.CheckError.TheVariants as fault
 use Rattle.warg_map.specs.Bits.{key_bits}
 use Rattle.warg_map.specs.ProofValue.{proof_value}
 use Rattle.warg_map.specs.Messages.{Peers}
@@ -19,6 +21,18 @@ pub judged_at : {B P : Type 0} (proofs : B → List P) (holds : B → P → Bool
 judged_at proofs holds at read b proof is reads there judges =
     ap (verdict proofs holds at) reads ∙ ap (judged (holds b)) there ∙ ap Ok judges
 
+-- a place past the last proof
+pub none_at : {B P : Type 0} (proofs : B → List P) (holds : B → P → Bool) (at : ℕ) (read : Result B DecodeError) (b : B)
+    → read ≡ Ok b → slice_get (proofs b) at ≡ None → verdict proofs holds at read ≡ Err fault.NoSuchProof
+none_at proofs holds at read b reads none = ap (verdict proofs holds at) reads ∙ ap (judged (holds b)) none
+
+-- a verdict is no fault of the bytes, and neither is a place past the last proof
+pub not_refused : (holds : Bool) (e : CheckError) → ◌≢◌ {A = Result Bool CheckError} (Ok holds) (Err e)
+not_refused holds e is = absurd cc
+
+pub not_decoding : (e : DecodeError) → ◌≢◌ {A = Result Bool CheckError} (Err fault.NoSuchProof) (Err (fault.Decode e))
+not_decoding e is = absurd cc
+
 -- an evaluation that went well
 pub evaluated : (root found : List ℕ) (holds : Bool) → holds ≡ (pointwise nat_eq found root && true) → holds ≡ is_root root (Ok found)
 evaluated root found holds same = rw same (⊎_elim
@@ -29,6 +43,9 @@ evaluated root found holds same = rw same (⊎_elim
 -- the proof at a place
 pub at_place : {P : Type 0} (all taken : List P) (at : ℕ) (proof : P) → taken ≡ all → at < length taken → proof ≡ get_or taken at proof → slice_get all at ≡ Some proof
 at_place all taken at proof same within is = rw (← same) (slice_get_read taken (length taken) at proof refl within is)
+
+pub past_place : {P : Type 0} (all taken : List P) (at : ℕ) → taken ≡ all → length taken ≤ at → slice_get all at ≡ None
+past_place all taken at same past = rw (← same) (slice_get_past taken at past)
 
 -- peers that were evaluated
 pub leads_to : (H : List ℕ → List ℕ) (leaf key root : List ℕ) (peers : Peers) (found : List ℕ) (holds : Bool) → found ≡ proof_value H peers leaf (key_bits H key)

@@ -72,59 +72,71 @@ impl<'a> Call<'a> {
     pub(crate) fn read(alloc: Global, line: &'a str) -> Result<Call<'a>, CallError> {
         let words: Vec<&str> = line.split(' ').collect(alloc)?;
         match words.as_slice() {
-            ["push", count] => Ok(Call::Push(number(count)?)),
-            ["record", index, length] => record(index, length),
-            ["tree", old, new] => tree(old, new),
-            ["check_record", index, value, length, root, path] => {
-                check_record(alloc, index, value, [length, root], path)
-            }
-            ["check_tree", old, old_root, new, new_root, path] => {
-                check_tree(alloc, [old, old_root], [new, new_root], path)
-            }
-            ["tile_path", digits] => Ok(Call::TilePath(bytes(alloc, digits)?)),
-            ["checkpoint_text", digits] => Ok(Call::CheckpointText(bytes(alloc, digits)?)),
-            _ => Err(CallError::BadCall),
+            [name, words @ ..] => of_words(alloc, name, words),
+            [] => Err(CallError::BadCall),
         }
     }
 }
 
-fn record<'a>(index: &str, length: &str) -> Result<Call<'a>, CallError> {
+// The call of this name, with these words behind it.
+fn of_words<'a>(alloc: Global, name: &str, words: &[&'a str]) -> Result<Call<'a>, CallError> {
+    match name {
+        "push" => Ok(Call::Push(number(lone(words)?)?)),
+        "record" => record(words),
+        "tree" => tree(words),
+        "check_record" => check_record(alloc, words),
+        "check_tree" => check_tree(alloc, words),
+        "tile_path" => Ok(Call::TilePath(bytes(alloc, lone(words)?)?)),
+        "checkpoint_text" => Ok(Call::CheckpointText(bytes(alloc, lone(words)?)?)),
+        _ => Err(CallError::BadCall),
+    }
+}
+
+fn lone<'a>(words: &[&'a str]) -> Result<&'a str, CallError> {
+    match words {
+        [word] => Ok(*word),
+        _ => Err(CallError::BadCall),
+    }
+}
+
+fn record<'a>(words: &[&'a str]) -> Result<Call<'a>, CallError> {
+    let [index, length] = words else {
+        return Err(CallError::BadCall);
+    };
     let index = number(index)?;
     let length = Length::read(length)?;
     Ok(Call::Record { index, length })
 }
 
-fn check_record<'a>(
-    alloc: Global,
-    index: &str,
-    value: &'a str,
-    of: [&str; 2],
-    path: &str,
-) -> Result<Call<'a>, CallError> {
+fn check_record<'a>(alloc: Global, words: &[&'a str]) -> Result<Call<'a>, CallError> {
+    let [index, value, length, root, path] = words else {
+        return Err(CallError::BadCall);
+    };
     let index = number(index)?;
-    let checkpoint = checkpoint(of)?;
+    let checkpoint = checkpoint(length, root)?;
     let path = read_path(alloc, path)?;
     Ok(Call::CheckRecord {
         index,
-        value,
+        value: *value,
         checkpoint,
         path,
     })
 }
 
-fn check_tree<'a>(
-    alloc: Global,
-    old: [&str; 2],
-    new: [&str; 2],
-    path: &str,
-) -> Result<Call<'a>, CallError> {
-    let old = checkpoint(old)?;
-    let new = checkpoint(new)?;
+fn check_tree<'a>(alloc: Global, words: &[&'a str]) -> Result<Call<'a>, CallError> {
+    let [old, old_root, new, new_root, path] = words else {
+        return Err(CallError::BadCall);
+    };
+    let old = checkpoint(old, old_root)?;
+    let new = checkpoint(new, new_root)?;
     let path = read_path(alloc, path)?;
     Ok(Call::CheckTree { old, new, path })
 }
 
-fn tree<'a>(old: &str, new: &str) -> Result<Call<'a>, CallError> {
+fn tree<'a>(words: &[&'a str]) -> Result<Call<'a>, CallError> {
+    let [old, new] = words else {
+        return Err(CallError::BadCall);
+    };
     let old = number(old)?;
     let new = Length::read(new)?;
     Ok(Call::Tree { old, new })
@@ -161,9 +173,9 @@ fn hash(word: &str) -> Result<Hash<Sha256>, CallError> {
 }
 
 // The checkpoint that a length and a root spell.
-fn checkpoint(words: [&str; 2]) -> Result<Checkpoint<Sha256>, CallError> {
-    let length = Length::read(words[0])?;
-    Ok(Checkpoint::new(hash(words[1])?, length.value))
+fn checkpoint(length: &str, root: &str) -> Result<Checkpoint<Sha256>, CallError> {
+    let length = Length::read(length)?;
+    Ok(Checkpoint::new(hash(root)?, length.value))
 }
 
 fn read_path(alloc: Global, word: &str) -> Result<Path, CallError> {

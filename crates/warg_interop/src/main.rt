@@ -38,10 +38,16 @@ fn main(rt: HostRuntime) -> Result<()> {
     let mut log = Log::default(alloc);
     let mut output = BufWriter::new(alloc, io::writer(&rt))?;
     for line in BufReader::new(alloc, rt.reader())?.lines(alloc) {
-        let answer = answer_line(alloc, &mut log, line?.as_str())?;
-        writeln!(output, "{answer}")?;
+        write_answer(alloc, &mut log, line?.as_str(), &mut output)?;
     }
     output.flush()?;
+    Ok(())
+}
+
+fn write_answer<W: Write>(alloc: Global, log: &mut Log, line: &str, output: &mut W) -> Result<()> {
+    let mut text = answer_line(alloc, log, line)?.to_string(alloc)?;
+    text.push('\n')?;
+    output.write_all(text.as_bytes())?;
     Ok(())
 }
 

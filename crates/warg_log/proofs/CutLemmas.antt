@@ -44,6 +44,10 @@ module _ (H : List ℕ → List ℕ) (F : ℕ → Option (List ℕ)) (t : Range)
       let many : r.count ≡ 1 → ⊥ = λ one. unread (inl one) in
       cut_over_parts H e r (omega arith) (not_from_Decides _ (target_decides t r) apart) (λ full beside. unread (inr (full, beside)))
 
+  pub cut_joined : (r front rest : Range) (left right : Option (List ℕ)) → front ≡ front_part r → rest ≡ rest_part r → left ≡ cut_over H e front → right ≡ cut_over H e rest
+      → 0 < r.count → is_target t r ≡ false → ((r.count ≡ 1) ⊎ (IsFull r.count × IsTrue (is_beside t r)) → ⊥) → joined H left right ≡ cut_over H e r
+  cut_joined r front rest left right f g l m some apart unread = rw (l, m, f, g) (sym (cut_split r some apart unread))
+
 -- the old root of a range of a power of two, and of any other
 abbrev pub nothing : Range
 nothing = leaves_from 0 0
@@ -65,6 +69,12 @@ module _ (H : List ℕ → List ℕ) (F : ℕ → Option (List ℕ)) where
 
   pub old_over_parts : (r : Range) → 1 < r.count → (IsFull r.count → ⊥) → old_over H F r ≡ joined H (old_over H F (front_part r)) (old_over H F (rest_part r))
   old_over_parts r more part = cut_over_parts H _ r more (not_nothing r (omega arith)) (λ full _. part full)
+
+  pub old_joined : (r front rest : Range) (left right : Option (List ℕ)) → front ≡ front_part r → rest ≡ rest_part r → left ≡ old_over H F front → right ≡ old_over H F rest
+      → 0 < r.count → (IsFull r.count → ⊥) → joined H left right ≡ old_over H F r
+  old_joined r front rest left right f g l m some part =
+      let many : r.count ≡ 1 → ⊥ = λ one. part (0, one) in
+      rw (l, m, f, g) (sym (old_over_parts r (omega arith) part))
 
 -- the root over a range of more than 2 ^ h leaves, and at most twice as many
 pub root_over_split : (H : List ℕ → List ℕ) (ds : List (List ℕ)) (h a n : ℕ) → 2 ^ h < n → n ≤ 2 ^ suc h → a + n ≤ length ds

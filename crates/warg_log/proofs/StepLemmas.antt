@@ -20,6 +20,16 @@ use Rattle.warg_log.proofs.OrderLemmas.{siblings_count, balanced_count, roots_by
 abbrev pub numbers : List Node → List ℕ
 numbers xs = map (λ (m : Node). m.0) xs
 
+-- where none is added
+pub no_way : (t n : ℕ) → end_of t ≤ n → IsWayUp t n t []
+no_way t n exists =
+    let none : height_of t - height_of t ≡ 0 = omega arith in
+    record { above = omega arith; place = rw none (omega arith); exists = exists; siblings = rw none refl }
+
+-- where some are added, the nodes are more
+pub no_fewer : (xs ys : List Node) (more : List ℕ) → numbers ys ≡ numbers xs ++ more → length xs ≤ length ys
+no_fewer xs ys more is = omega (arith, simp (length-append, length-map) at (ap length is))
+
 -- one step up
 pub one_up : (t n x y p : ℕ) (xs : List ℕ) → IsWayUp t n x xs → IsNode y (height_of x) (sibling_place (place_of x)) → IsNode p (height_of x + 1) (place_of x / 2) → end_of p ≤ n
     → IsWayUp t n p (xs ++ y ∷ [])

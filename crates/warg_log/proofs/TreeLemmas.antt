@@ -1,5 +1,5 @@
 -- Messages of logs that keep the digest of every node.
-use Rattle.std.proofs.Common.{◌≡◌, ℕ, zero, suc, ◌+◌, ◌*◌, ◌/◌, nat_eq, List, [], ◌∷◌, length, get_or, None, Ok, Err, refl, sym, ap, ◌∙◌, arith}
+use Rattle.std.proofs.Common.{◌≡◌, ℕ, zero, suc, ◌+◌, ◌*◌, ◌/◌, nat_eq, List, [], ◌∷◌, length, get_or, None, Ok, Err, ◌⊎◌, inl, inr, refl, sym, ap, ◌∙◌, arith}
 use Rattle.std.specs.Bool.{Decides}
 use Rattle.std.specs.Cmp.Lexicographic.{pointwise, pointwise_decides, bytes_decides}
 use Rattle.std.proofs.lemmas.List.{ext_get_or}
@@ -7,11 +7,13 @@ use Rattle.std.proofs.lemmas.Bool.{false_from_ne_true}
 use Rattle.std.proofs.lemmas.Bool.Decides.{Decides-and, Decides-eqb}
 use Rattle.warg_protobuf.specs.VecLog.{VecImage}
 use Rattle.warg_protobuf.specs.Decoding.{first_fault, digest_fault}
-use Rattle.warg_protobuf.specs.declared.value_error.DecodeError.TheVariants.{NotALog}
+use Rattle.warg_protobuf.specs.declared.value_error.DecodeError.{DecodeError}
+use Rattle.warg_protobuf.specs.declared.value_error.DecodeError.TheVariants.{Memory, NotALog}
 use Rattle.warg_log.specs.Nodes.{number_of}
 use Rattle.warg_log.specs.Tree.{leaves_in, slice_of, digest_or_spacer}
 use Rattle.warg_log.specs.Images.{vec_message, is_slice_of_length, vec_in}
 use Rattle.warg_log.proofs.SliceLemmas.{slice_of-is, own_leaf}
+use Rattle.warg_log.proofs.ImageLemmas.{IsDigestFault}
 
 -- bytes that are told by a test
 pub ruleset bytes_same = (bytes_decides)
@@ -51,3 +53,13 @@ slice_leaves H ds =
     ext_get_or [] (leaves_in (slice_of H ds)) ds (omega (arith, count, slice.len)) (λ i lt.
     let even : number_of 0 i ≡ 2 * i = omega arith in
     leaves_in-at (slice_of H ds) i ∙ slice.holds (2 * i) (omega (arith, count)) ∙ ap (digest_or_spacer H ds) (sym even) ∙ own_leaf H ds i (omega (arith, count, slice.len)))
+
+-- where no log has a message, that of the tree's own leaf digests hasn't
+pub log_again : (H : List ℕ → List ℕ) (n : ℕ) (tree ds : List (List ℕ)) → vec_message H ds ≡ record { length = n; tree = tree } → vec_message H (leaves_in tree) ≡ record { length = n; tree = tree }
+log_again H n tree ds is =
+    let same = ap (λ (m : VecImage). leaves_in m.tree) (sym is) ∙ slice_leaves H ds in
+    ap (vec_message H) same ∙ is
+
+pub log_fault : (H : List ℕ → List ℕ) (n : ℕ) (tree : List (List ℕ)) (e : DecodeError) → IsDigestFault tree e → (e ≡ Memory) ⊎ (vec_in H (record { length = n; tree = tree }) ≡ Err e)
+log_fault H n tree e (inl memory) = inl memory
+log_fault H n tree e (inr fault) = inr (rw fault.1 refl)

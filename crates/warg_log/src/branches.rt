@@ -118,7 +118,6 @@ impl<D: SupportedDigest> BranchCache<D> {
 }
 
 // The cut root of one range, as `range_root` says, by branches that are hashed once.
-#[tactic(auto, using(crate::proofs::CutLemmas::cut_found, crate::proofs::CutLemmas::cut_read, crate::proofs::CutLemmas::cut_split))]
 pub(crate) fn range_root_by<D: SupportedDigest, V: VisitBytes, L: LogData<D, V>>(
     branches: &mut BranchCache<D>,
     hashes: &L,

@@ -4,7 +4,7 @@ ghost use Rattle.std.specs.Prelude.{◌≡◌, ◌≢◌, ⊤, ◌<◌, ◌≤�
 ghost use Rattle.std.specs.List.{AllByRecursion};
 ghost use Rattle.warg_log.specs.Nodes.{balanced_roots, end_of};
 ghost use Rattle.warg_log.specs.Ranges.{leaves_from};
-ghost use Rattle.warg_log.specs.Consistency.{root_to, new_root_of, consistency};
+ghost use Rattle.warg_log.specs.Consistency.{root_to, agreed_root, new_root_of, consistency};
 
 use crate::balanced_roots::BalancedRoots;
 use crate::branches::{BranchCache, range_root_by};
@@ -188,7 +188,6 @@ impl<D: SupportedDigest, V: VisitBytes> ConsistencyProof<D, V> {
     }
 
     // The one root to which the balanced roots of the old length lead.
-    #[tactic(auto, using(crate::proofs::BalancedLemmas::has_first_over, crate::proofs::OrderLemmas::roots_end))]
     fn new_root<L: LogData<D, V>>(&self, hashes: &L) -> Result<Hash<D>, ConsistencyProofError>
         requires some { 0 < self.now.old_length }
         requires order { self.now.old_length ≤ self.now.new_length }
@@ -206,14 +205,33 @@ impl<D: SupportedDigest, V: VisitBytes> ConsistencyProof<D, V> {
             unreachable!()
         };
         let agreed = root_from(&mut branches, hashes, first, &whole)?;
-        'roots: for root in roots {
-            let other = root_from(&mut branches, hashes, root, &whole)?;
-            if other != agreed {
-                return Err(ConsistencyProofError::DivergingRoots);
-            }
-        }
-        Ok(agreed)
+        agree(&mut branches, hashes, roots, &whole, agreed)
     }
+}
+
+// The agreed root, where each of these balanced roots leads to it.
+fn agree<D: SupportedDigest, V: VisitBytes, L: LogData<D, V>>(
+    branches: &mut BranchCache<D>,
+    hashes: &L,
+    roots: BalancedRoots,
+    whole: &LeafRange,
+    agreed: Hash<D>,
+) -> Result<Hash<D>, ConsistencyProofError>
+    requires ends { AllByRecursion (λ t. end_of t ≤ GREATEST_LENGTH) roots }
+    requires whole { whole.now ≡ leaves_from 0 whole.now.count }
+    ensures value { result ≡ agreed_root D.digest (L.digest_at hashes.now) whole.now.count agreed roots }
+    ensures memory { result ≢ Err ConsistencyProofError.Memory }
+    ensures within { (fault : InclusionProofError)
+        → result ≡ Err (ConsistencyProofError.InclusionError fault)
+        → fault ≡ InclusionProofError.HashNotKnown }
+{
+    'roots: for root in roots {
+        let other = root_from(branches, hashes, root, whole)?;
+        if other != agreed {
+            return Err(ConsistencyProofError::DivergingRoots);
+        }
+    }
+    Ok(agreed)
 }
 
 // The inclusion proofs of an old length's balanced roots at a new length, from left to right.

@@ -113,7 +113,6 @@ impl LeafRange {
 ///
 /// It goes down the recursion of RFC 6962, section 2.1: it reads the digest of a range that misses the
 /// target and has a power of two of leaves, and hashes the branch of the two parts of any other range.
-#[tactic(auto, using(crate::proofs::CutLemmas::cut_found, crate::proofs::CutLemmas::cut_read, crate::proofs::CutLemmas::cut_split))]
 pub fn range_root<D: SupportedDigest, V: VisitBytes, L: LogData<D, V>>(
     hashes: &L,
     target: &LeafRange,
@@ -137,7 +136,6 @@ pub fn range_root<D: SupportedDigest, V: VisitBytes, L: LogData<D, V>>(
 
 /// The old root of one range: the root of the range's leaves by the digests that the data holds for the
 /// range's balanced roots. None exactly if the data lacks one of them. It takes no memory.
-#[tactic(auto, using(crate::proofs::CutLemmas::old_full, crate::proofs::CutLemmas::old_over_parts))]
 pub fn stored_root<D: SupportedDigest, V: VisitBytes, L: LogData<D, V>>(
     hashes: &L,
     range: &LeafRange,

@@ -109,7 +109,6 @@ impl<D: SupportedDigest, V: VisitBytes> InclusionProof<D, V> {
     ///
     /// `LeafTooNew` exactly if the node doesn't exist at the length; else memory is the only error. A
     /// length of `b` binary digits has at most `2 * (b - 1)` such nodes.
-    #[tactic(auto, using(crate::proofs::StepLemmas::needed_once))]
     pub fn walk<A: Allocator>(&self, alloc: A) -> Result<InclusionProofWalk<A>, InclusionProofError>
         ensures too_new { (result ≡ Err InclusionProofError.LeafTooNew)
             ↔ ¬ ExistsAt self.now.leaf.0 self.now.log_length }
@@ -266,7 +265,6 @@ impl<A: Allocator> InclusionProofWalk<A> {
 }
 
 // The walk from a node at a length.
-#[tactic(auto, using(crate::proofs::NodeLemmas::low_by_end))]
 fn walk_of<A: Allocator>(
     alloc: A,
     leaf: Node,
@@ -295,7 +293,6 @@ fn walk_of<A: Allocator>(
 
 // The siblings on the way up from a node, and the node at which it ends: the balanced root of the length. A node
 // of height 63 stands for all leaves that a log can have.
-#[tactic(auto, using(std::proofs::lemmas::List::map_push, crate::proofs::NodeLemmas::node_at, crate::proofs::StepLemmas::one_up, crate::proofs::StepLemmas::not_up, crate::proofs::StepLemmas::no_parent))]
 fn way_up<A: Allocator>(
     alloc: A,
     leaf: Node,

@@ -62,7 +62,6 @@ impl<D: SupportedDigest, V: VisitBytes, A: Allocator> SparseLogData<D, V, A> {
     }
 
     /// The same data once more, in memory of `alloc`.
-    #[tactic(auto, using(warg_protobuf::proofs::ForCallers::copied_more, warg_protobuf::proofs::ForCallers::taken_whole))]
     pub fn copied(&self, alloc: A) -> Result<Self, AllocError>
         ensures { IfOk result (λ again. again ≡ self.now) }
     {

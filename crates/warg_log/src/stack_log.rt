@@ -78,9 +78,10 @@ impl<D: SupportedDigest, V: VisitBytes, A: Allocator> StackLog<D, V, A> {
         A: Clone,
         ensures { IfOk result (λ log. log ≡ self.now) }
     {
+        let blocks = self.blocks.clone()?;
         Ok(StackLog {
             count: self.count,
-            blocks: self.blocks.clone()?,
+            blocks,
             of: PhantomData,
         })
     }

@@ -71,7 +71,7 @@ impl<D: SupportedDigest, V: VisitBytes, A: Allocator> VecLog<D, V, A> {
 
     /// The root of the tree over the entries, as in the [`checkpoint`](LogBuilder::checkpoint): for no entries the digest of
     /// no bytes (RFC 6962, section 2.1). It hashes the branches over the balanced roots, which the log doesn't keep.
-    #[tactic(auto, using(crate::proofs::NodeLemmas::last_width, crate::proofs::SliceLemmas::slice_size, crate::proofs::SliceLemmas::whole_root))]
+    #[tactic(auto, using(crate::proofs::NodeLemmas::last_width))]
     pub fn root(&self) -> Hash<D>
         ensures { result ≡ root_of D.digest self.now }
     {
@@ -103,16 +103,16 @@ impl<D: SupportedDigest, V: VisitBytes, A: Allocator> VecLog<D, V, A> {
         A: Clone,
         ensures { IfOk result (λ log. log ≡ self.now) }
     {
+        let tree = self.tree.clone()?;
         Ok(VecLog {
             count: self.count,
-            tree: self.tree.clone()?,
+            tree,
             spacer: self.spacer.copied(),
             of: PhantomData,
         })
     }
 
     // Adds an entry at the end by its leaf digest. A refusal leaves the log as it was.
-    #[tactic(auto, using(crate::proofs::AppendLemmas::room_empty, crate::proofs::AppendLemmas::room_more, crate::proofs::AppendLemmas::appended))]
     fn push_leaf(&mut self, digest: Hash<D>) -> Result<(), AllocError>
         requires { length self.old < GREATEST_LENGTH }
         ensures ok { OnOk result (self.new ≡ self.old ++ digest ∷ []) }
@@ -165,7 +165,6 @@ impl<D: SupportedDigest, V: VisitBytes, A: Allocator> LogData<D, V> for VecLog<D
         node.exists_at_length(self.count)
     }
 
-    #[tactic(auto, using(crate::proofs::SliceLemmas::inside_slice, crate::proofs::SliceLemmas::slice_size, crate::proofs::SliceLemmas::own_digest_held))]
     fn hash_for(&self, node: Node) -> Option<Hash<D>> {
         if node.exists_at_length(self.count) {
             Some(self.tree[node.0].copied())

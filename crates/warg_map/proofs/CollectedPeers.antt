@@ -23,7 +23,7 @@ use Rattle.warg_map.proofs.FoundInNode.{get-lone_other, IsRun, run_apart}
 use Rattle.warg_map.proofs.KeyBits.{length-bits_from, length-last_bits, last_bits-first, bits_left-split, last_bits-at}
 
 -- an answer says whether a leaf digest is held
-pub answered : (H : List ℕ → List ℕ) (asked : Asked) (leaf : Option (List ℕ)) (held : Bool) → Some held ≡ answer_of H asked leaf → is_some leaf ≡ held
+answered : (H : List ℕ → List ℕ) (asked : Asked) (leaf : Option (List ℕ)) (held : Bool) → Some held ≡ answer_of H asked leaf → is_some leaf ≡ held
 answered H asked leaf held e = grind arith
 
 -- bits that part at once, and later
@@ -127,7 +127,8 @@ lone_below held len k m p n (inl s) is e only = absurd (let x = only (false ∷ 
 lone_below true len k m p n (inr o) is e only = rw (e, o.0, o.1)
 lone_below false len k m p n (inr o) is e only = absurd (not_lone m p (stem_holds len (k, m) (inr o)) is only)
 
-pub collects_below : (H : List ℕ → List ℕ) (held : Bool) (whole : SparseMap) (below child : ℕ × SparseMap) (height : ℕ) (one key : List ℕ) (from len : ℕ) (ps new : List (Option (List ℕ))) → IsRun whole height one from len below.0 below.1 → IsBelow len below → child ≡ below
+collects_below : (H : List ℕ → List ℕ) (held : Bool) (whole : SparseMap) (below child : ℕ × SparseMap) (height : ℕ) (one key : List ℕ) (from len : ℕ) (ps new : List (Option
+    (List ℕ))) → IsRun whole height one from len below.0 below.1 → IsBelow len below → child ≡ below
     → bits_from one from len ≡ bits_from key from len → contains_key child.1 (last_bits key (256 - (from + len))) ≡ held
     → Collects H held child.0 child.1 (last_bits key (256 - (from + len))) ps → new ≡ ps ++ empty_halves (empty_half H held) (256 - from - len) len
     → Collects H held height whole (last_bits key (256 - from)) new
@@ -141,6 +142,16 @@ collects_below H held whole below child height one key from len ps new run forme
     let le : from + len ≤ 256 = omega (arith, run.whole) in
     let up = collects_under H held (k + len) k a p m ps (λ e only. rw la (lone_below held len k m p (length ps) formed (rw at at is) e only)) (rw at at c) in
     rw (n, run.held_is, run.height_is, same, bits_left-split key from len le) (rw (la, lp) at up)
+
+pub collects_run : (H : List ℕ → List ℕ) (asked : Asked) (o : Option Bool) (whole : SparseMap) (below child : ℕ × SparseMap) (height : ℕ) (one key : List ℕ) (from len : ℕ)
+    (ps new : List (Option (List ℕ))) → IsRun whole height one from len below.0 below.1 → IsBelow len below → child ≡ below
+    → bits_from one from len ≡ bits_from key from len → o ≡ answer_of H asked (get child.1 (last_bits key (256 - (from + len))))
+    → MatchOption o (ps ≡ []) (λ held. Collects H held child.0 child.1 (last_bits key (256 - (from + len))) ps)
+    → MatchOption o (new ≡ ps) (λ held. new ≡ ps ++ empty_halves (empty_half H held) (256 - from - len) len)
+    → MatchOption o (new ≡ []) (λ held. Collects H held height whole (last_bits key (256 - from)) new)
+collects_run H asked None whole below child height one key from len ps new run formed at same answer c n = n ∙ c
+collects_run H asked (Some held) whole below child height one key from len ps new run formed at same answer c n =
+    collects_below H held whole below child height one key from len ps new run formed at same (answered H asked _ held answer) c n
 
 -- a tree below the top has no peers beside a lone key
 lone_low : (held : Bool) (k : ℕ) → k < 256 → lone_count held k ≡ 0
@@ -208,10 +219,12 @@ in_fork H held f false p ps d child x wf len ce xe e c =
     collects_up H held _ f.value.left.0 false f.value.left.1 f.value.right.1 p ps d (lone_low held f.value.left.0 wf.level.1) wf.formed.1 (rw (len, wf.level.0) (rw xe at e)) (rw ce at c)
 
 pub collects_fork : {D A : _} (H : List ℕ → List ℕ) (o : Option Bool) (old child : Node D A) (f : Rc (Fork' D A) A) (key : List ℕ) (b : Bool) (depth : ℕ) (ps new : List (Option (List ℕ))) (d : List ℕ) (x : ℕ × SparseMap) → old ≡ Fork f → IsWellFormed old → tree_height old + depth ≡ 256 → b ≡ bit_at key depth
-    → seen child ≡ (cond b f.value.right f.value.left) → x ≡ (cond (not b) f.value.right f.value.left) → d ≡ sparse_root H x.0 x.1 → is_some o ≡ true → MatchOption o (ps ≡ []) (λ held. Collects H held (tree_height child) (held_by child) (last_bits key (256 - (depth + 1))) ps) → new ≡ ps ++ Some d ∷ []
+    → seen child ≡ (cond b f.value.right f.value.left) → x ≡ (cond (not b) f.value.right f.value.left) → d ≡ sparse_root H x.0 x.1
+    → MatchOption o (ps ≡ []) (λ held. Collects H held (tree_height child) (held_by child) (last_bits key (256 - (depth + 1))) ps)
+    → MatchOption o (new ≡ ps) (λ held. new ≡ ps ++ Some d ∷ [])
     → MatchOption o (new ≡ []) (λ held. Collects H held (tree_height old) (held_by old) (last_bits key (256 - depth)) new)
-collects_fork H None old child f key b depth ps new d x is wf height e ce xe de some c n = absurd (cc some)
-collects_fork H (Some held) old child f key b depth ps new d x is wf height e ce xe de some c n =
+collects_fork H None old child f key b depth ps new d x is wf height e ce xe de c n = n ∙ c
+collects_fork H (Some held) old child f key b depth ps new d x is wf height e ce xe de c n =
     let h : f.value.left.0 + 1 + depth ≡ 256 = rw is at height in
     let len : length (last_bits key (256 - (depth + 1))) ≡ f.value.left.0 = (let l = length-last_bits key (256 - (depth + 1)) in omega (arith, l, h)) in
     rw (is, n, last_bits-first key depth (omega (arith, h)), ← e) (in_fork H held f b (last_bits key (256 - (depth + 1))) ps d (seen child) x (rw is at wf) len ce xe de c)

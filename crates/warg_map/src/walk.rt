@@ -96,6 +96,36 @@ fn push_beside<D: SupportedDigest, A: Allocator>(
     push_empty_halves(peers, false, 256 - from - shared, 256 - from)
 }
 
+impl<D: SupportedDigest, A: Allocator> Collected<D, A> {
+    // Adds the peer of a half with a key, where peers are collected.
+    fn push_half(&mut self, half: &Hash<D>) -> Result<(), AllocError>
+        ensures held { self.new.held ≡ self.old.held }
+        ensures refused { OnErr result (IsSome self.old.held) }
+        ensures peers { let old = self.old.peers.items in let new = self.new.peers.items in
+            OnOk result (MatchOption self.old.held (new ≡ old) (λ held. new ≡ old ++ (Some half.now ∷ []))) }
+    {
+        if self.held.is_some() {
+            self.peers.push(Some(half.copied()))?;
+        }
+        Ok(())
+    }
+
+    // Adds the peers of the empty halves beside `len` bits from bit `from` on, where peers are collected.
+    fn push_empty(&mut self, from: usize, len: usize) -> Result<(), AllocError>
+        requires { from + len ≤ 256 }
+        ensures held { self.new.held ≡ self.old.held }
+        ensures refused { OnErr result (IsSome self.old.held) }
+        ensures peers { let old = self.old.peers.items in let new = self.new.peers.items in
+            OnOk result (MatchOption self.old.held (new ≡ old)
+            (λ held. new ≡ old ++ empty_halves (empty_half D.digest held) (256 - from - len) len)) }
+    {
+        let Some(held) = self.held else {
+            return Ok(());
+        };
+        push_empty_halves(&mut self.peers, held, 256 - from - len, 256 - from)
+    }
+}
+
 // As `Node::collect`, at a lone key.
 fn collect_lone<D: SupportedDigest, A: Allocator>(
     lone: &Singleton<D>,
@@ -160,10 +190,7 @@ impl<D: SupportedDigest, A: Allocator> Node<D, A> {
                 let fork = fork.as_ref();
                 let side = side_at(key, depth);
                 fork[side].node().collect(key, depth + 1, to)?;
-                if to.held.is_some() {
-                    to.peers.push(Some(fork[side.opposite()].hash().copied()))?;
-                }
-                Ok(())
+                to.push_half(fork[side.opposite()].hash())
             }
             Node::Singleton(lone) => collect_lone(lone.as_ref(), key, depth, to),
             Node::Stem(stem) => {
@@ -179,12 +206,8 @@ impl<D: SupportedDigest, A: Allocator> Node<D, A> {
                     let far = stem_digest(&stem.key, stem.from + cut, stem.len - cut, below);
                     return push_beside(&mut to.peers, far, depth, shared);
                 }
-                let below = depth + stem.len;
-                stem.below.node().collect(key, below, to)?;
-                let Some(held) = to.held else {
-                    return Ok(());
-                };
-                push_empty_halves(&mut to.peers, held, 256 - below, 256 - depth)
+                stem.below.node().collect(key, depth + stem.len, to)?;
+                to.push_empty(depth, stem.len)
             }
         }
     }

@@ -1,21 +1,16 @@
--- The bundle of one inclusion proof, and the answer to an order to make it.
-use Rattle.std.proofs.Common.{◌≡◌, ◌≢◌, ℕ, ◌^◌, ◌<◌, true, false, nat_lt, List, [], ◌∷◌, ◌++◌, map, codes, Result, Err, ◌⊎◌, refl, ap, ⊎_elim}
+-- The bundle of one inclusion proof, and how it is shown.
+use Rattle.std.proofs.Common.{◌≡◌, ◌≢◌, ℕ, ◌^◌, ◌<◌, true, false, nat_lt, List, [], ◌∷◌, ◌++◌, map, codes, Result, Err, ◌⊎◌, refl, ⊎_elim}
 use Rattle.std.specs.List.{AllByRecursion, list_all}
 use Rattle.std.proofs.lemmas.Bool.{ltb-true, lt-ltb, and_from, and_parts, cases_Bool}
 use Rattle.hex.specs.Hex.{encode_lower}
-use Rattle.warg_crypto.specs.Digests.{sha256}
 use Rattle.warg_protobuf.specs.HashEntry.{Entry}
 use Rattle.warg_protobuf.specs.LogProofBundle.{log_bytes}
 use Rattle.warg_log.specs.declared.node.Node.{Node}
 use Rattle.warg_bundle.specs.declared.log.error.BundleError.{BundleError}
 use Rattle.warg_bundle.specs.declared.log.error.BundleError.TheVariants.{Memory}
 use Rattle.warg_log.specs.Claims.{InclusionClaim}
-use Rattle.warg_log.specs.Tree.{own_digest}
-use Rattle.warg_bundle.specs.Bundling.{bundled}
 use Rattle.warg_bundle.specs.LogBundles.{Bundle, bundle_message, entry_of, NodesFit}
-use Rattle.warg_program.specs.Orders.{bundle}
-use Rattle.warg_program.specs.States.{State, log_at}
-use Rattle.warg_program.specs.Text.{answer, bytes_or_refusal, bundle_or_refusal, numbers_fit}
+use Rattle.warg_program.specs.Text.{bytes_or_refusal, numbers_fit}
 
 -- ---- numbers that fit
 
@@ -43,16 +38,11 @@ too_large_shown b too_large = ⊎_elim
     (λ (t : numbers_fit (bundle_message b) ≡ false). rw t refl)
     (cases_Bool (numbers_fit (bundle_message b)))
 
--- ---- the answer
+-- ---- the bundle of one proof
 
 -- the one proof
-claim_is : (p : InclusionClaim) (node : Node) (n : ℕ) → p.leaf ≡ node → p.log_length ≡ n → p ≡ record { leaf = node; log_length = n }
+pub claim_is : (p : InclusionClaim) (node : Node) (n : ℕ) → p.leaf ≡ node → p.log_length ≡ n → p ≡ record { leaf = node; log_length = n }
 claim_is p node n e f = λ i. record { leaf = e i; log_length = f i }
-
-pub bundled_answer : (log : List (List ℕ)) (s : State) (p : InclusionClaim) (node n : ℕ) (made : Result Bundle BundleError) → log ≡ log_at s → p.leaf ≡ record { 0 = node } → p.log_length ≡ n
-    → bundled (own_digest sha256 log) [] (p ∷ []) ≡ made → answer s (bundle node n) ≡ bundle_or_refusal made
-unfolding answer
-bundled_answer log s p node n made is leaf length made_is = ap bundle_or_refusal (rw (is, claim_is p (record { 0 = node }) n leaf length) at made_is)
 
 -- a fault that isn't a lack of memory is the definition's
 pub fault_told : (e : BundleError) (made : Result Bundle BundleError) → (e ≡ Memory) ⊎ (made ≡ Err e) → e ≢ Memory → made ≡ Err e

@@ -1,17 +1,12 @@
 -- The text of some lines and of those behind them.
-use Rattle.std.proofs.Common.{◌≡◌, ℕ, suc, ◌+◌, Bool, true, false, cond, List, [], ◌∷◌, ◌++◌, length, append_assoc, append-nil, length-append, codes, string_bytes, ◌⊎◌, ⊎_elim, inl, inr, Result, Ok, Err, refl, sym, ◌∙◌, ap, arith}
+use Rattle.std.proofs.Common.{◌≡◌, ℕ, suc, ◌+◌, Bool, true, false, cond, List, [], ◌∷◌, ◌++◌, length, append_assoc, append-nil, length-append, codes, string_bytes, ◌⊎◌, ⊎_elim, inl, inr, Result, Err, refl, sym, ◌∙◌, ap, arith}
 use Rattle.std.proofs.lemmas.Bool.{and_parts, true≢false}
-use Rattle.hex.specs.Hex.{encode_lower}
-use Rattle.warg_crypto.specs.Digests.{sha256}
-use Rattle.warg_log.specs.Tree.{own_digest}
-use Rattle.warg_log.specs.Consistency.{consistency}
-use Rattle.warg_log.specs.declared.consistency.ConsistencyProofError.{ConsistencyProofError}
 use Rattle.warg_protobuf.specs.declared.value_error.DecodeError.{DecodeError}
 use Rattle.warg_program.specs.Words.{lines_of}
-use Rattle.warg_program.specs.Orders.{Order, Line, line_of, empty, bad, good, consistent}
-use Rattle.warg_program.specs.States.{State, start, log_at, map_at, after_line, FindsFull}
-use Rattle.warg_program.specs.Text.{said, is_not_bad, text_from, text_of, all_good, after_lines, answer, refusal, roots_or_refusal, verdict_or_refusal, MeetsFull}
-use Rattle.warg_program.specs.Private.Sessions.{IsInState, LineFindsFull, Answers}
+use Rattle.warg_program.specs.Orders.{Order, Line, line_of, empty, bad, good}
+use Rattle.warg_program.specs.States.{State, start, log_at, map_at, after, after_line, FindsFull}
+use Rattle.warg_program.specs.Text.{said, is_not_bad, text_from, text_of, all_good, after_lines, answer, verdict_or_refusal, MeetsFull}
+use Rattle.warg_program.specs.Private.Sessions.{IsInState, LineFindsFull, Answers, AddsText}
 use Rattle.warg_program.specs.declared.session.Session.{Session}
 use Rattle.warg_check.specs.declared.verdict.CheckError.{CheckError}
 use Rattle.warg_check.specs.declared.verdict.CheckError.TheVariants as check
@@ -170,21 +165,16 @@ meets_full input rest line behind session number stands lines finds_full = at (l
       full = full;
     }
 
--- the answer where a consistency proof leads to two roots
-pub roots_answer : (log : List (List ℕ)) (s : State) (m n : ℕ) (old new : List ℕ) → log ≡ log_at s
-    → consistency sha256 (own_digest sha256 log) m n ≡ Ok (old, new) → answer s (consistent m n) ≡ codes "roots " ++ encode_lower old ++ 32 ∷ encode_lower new
-unfolding answer
-roots_answer log s m n old new is leads =
-    let here : consistency sha256 (own_digest sha256 (log_at s)) m n ≡ Ok (old, new) = rw is at leads in
-    ap roots_or_refusal here
-
--- the answer where a consistency proof leads to no roots
-pub refused_answer : (log : List (List ℕ)) (s : State) (m n : ℕ) (fault : ConsistencyProofError) → log ≡ log_at s
-    → consistency sha256 (own_digest sha256 log) m n ≡ Err fault → answer s (consistent m n) ≡ refusal fault
-unfolding answer
-refused_answer log s m n fault is fails =
-    let here : consistency sha256 (own_digest sha256 (log_at s)) m n ≡ Err fault = rw is at fails in
-    ap roots_or_refusal here
+-- an order that changes neither the log nor the map, by what it adds to the text
+pub told : {A : Type 0} (old new : Session A) (s : State) (order : Order) (added : List ℕ) → after s order ≡ s → ¬ FindsFull s order → answer s order ≡ added
+    → AddsText old new (added ++ 10 ∷ []) → IsInState old s → Answers old new s (good order)
+told old new s order added stays room is adds at = record {
+  is_good = refl;
+  room = room;
+  log_is = adds.0 ∙ at.log_is ∙ ap log_at (sym stays);
+  map_is = adds.1 ∙ at.map_is ∙ ap map_at (sym stays);
+  text_is = λ number. adds.2 ∙ ap (λ text. string_bytes old.text ++ (text ++ 10 ∷ [])) (sym is);
+}
 
 -- bytes that are no bundle are refused for that
 pub not_decoded : (e : DecodeError) (verdict : Result Bool CheckError) → (check.Decode e ≡ check.Memory) ⊎ (verdict ≡ Err (check.Decode e))

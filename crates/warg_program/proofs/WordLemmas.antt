@@ -1,7 +1,8 @@
 -- Lemmas on lines, words and numbers.
-use Rattle.std.proofs.Common.{◌≡◌, ◌≢◌, ℕ, zero, suc, ◌+◌, ◌-◌, ◌*◌, ◌^◌, ◌<◌, ◌≤◌, ◌&&◌, ◌==◌, Bool, true, false, List, [], ◌∷◌, ◌++◌, length, take, drop, get_or, Option, Some, None, refl, sym, ◌∙◌, ap, arith, add-one, le-leb, lt-ltb, le-ltb, ne_eqb, option_map, option_and_then, unwrap_or, Bor, take_all, le_refl, length-drop, length-append}
+use Rattle.std.proofs.Common.{◌≡◌, ◌≢◌, ℕ, zero, suc, ◌+◌, ◌-◌, ◌*◌, ◌^◌, ◌<◌, ◌≤◌, ◌&&◌, ◌==◌, Bool, true, false, nat_eq, List, [], ◌∷◌, ◌++◌, length, take, drop, get_or, Option, Some, None, refl, sym, ◌∙◌, ap, arith, add-one, le-leb, lt-ltb, le-ltb, ne_eqb, option_map, option_and_then, unwrap_or, Bor, take_all, le_refl, length-drop, length-append}
 use Rattle.std.proofs.Math.Seq.{take-suc, drop-cons}
-use Rattle.std.proofs.lemmas.Bool.{eq-eqb, eqb-true, cond_both}
+use Rattle.std.proofs.lemmas.Bool.{eq-eqb, eqb-true, cond_both, true≢false}
+use Rattle.std.specs.Cmp.Lexicographic.{pointwise, same_text}
 use Rattle.std.proofs.lemmas.List.{take-append-drop}
 use Rattle.std.specs.List.{list_all}
 use Rattle.std.specs.Char.{is_ascii_digit}
@@ -95,6 +96,13 @@ pub named_line : (line name : List ℕ) (rest : Option (List ℕ)) → 0 < lengt
 unfolding line_of
 named_line [] name rest some parts = absurd (omega arith)
 named_line (b ∷ bytes) name rest some parts = ap (λ words. good_or_bad (order_of words)) (words_next (b ∷ bytes) name rest parts)
+
+-- a line whose first word is a command's name
+pub command_line : (line name bytes word : List ℕ) (rest : Option (List ℕ)) → false ≡ (length line == 0) → IsFirstPart 32 line name rest → true ≡ pointwise nat_eq name bytes → bytes ≡ word
+    → line_of line ≡ good_or_bad (order_of (word ∷ words_left rest))
+command_line [] name bytes word rest some parts same is = absurd (true≢false (sym some))
+command_line (b ∷ line) name bytes word rest some parts same is =
+    named_line (b ∷ line) name rest (omega arith) parts ∙ ap (λ w. good_or_bad (order_of (w ∷ words_left rest))) (same_text name bytes same ∙ is)
 
 -- a line has a word
 pub word_left : (line : List ℕ) → none_left (words_of line) ≡ None

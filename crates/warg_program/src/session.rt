@@ -1,13 +1,20 @@
 //! A run of commands: the log that they push to, the map that they insert into, and the text that answers them.
 
-ghost use Rattle.std.specs.Prelude.{◌≡◌, ◌≢◌, [], ◌∷◌, ◌++◌, IfOk, IfErr, OnOk, string_bytes};
+ghost use Rattle.std.specs.Prelude.{◌≡◌, ◌≢◌, ◌≤◌, [], ◌∷◌, ◌++◌, IfOk, IfErr, OnOk, string_bytes};
 ghost use Rattle.hex.specs.Hex.{encode_lower};
+ghost use Rattle.warg_crypto.specs.Digests.{sha256};
+ghost use Rattle.warg_crypto.specs.Tree.{leaf_digest};
+ghost use Rattle.warg_log.specs.Tree.{own_digest};
+ghost use Rattle.warg_log.specs.Inclusion.{inclusion};
+ghost use Rattle.warg_log.specs.Consistency.{consistency};
+ghost use Rattle.warg_bundle.specs.Bundling.{bundled};
 ghost use Rattle.warg_bundle.specs.LogBundles.{bundle_message};
+ghost use Rattle.warg_check.specs.Verdicts.{inclusion_verdict};
 ghost use Rattle.warg_program.specs.Words.{lines_of};
 ghost use Rattle.warg_program.specs.Orders.{line_of, good_or_bad, push_in, log_in, include_in, consistent_in, bundle_in, verify_in, insert_in, map_in, prove_in, absent_in};
 ghost use Rattle.warg_program.specs.States.{start};
 ghost use Rattle.warg_program.specs.Private.Errors.{IsRefusal};
-ghost use Rattle.warg_program.specs.Text.{refusal, bytes_or_refusal, bundle_refusal, text_of, all_good, MeetsFull};
+ghost use Rattle.warg_program.specs.Text.{root_or_refusal, refusal, roots_or_refusal, bytes_or_refusal, bundle_refusal, bundle_or_refusal, verdict_or_refusal, text_of, all_good, MeetsFull};
 ghost use Rattle.warg_log.specs.declared.log.TheConstants.{GREATEST_LENGTH};
 
 use crate::line_error::LineError;
@@ -97,7 +104,6 @@ impl<A: Allocator + Copy> Session<A> {
         Ok(())
     }
 
-    #[tactic(auto, unfolding(crate::specs::Text::answer))]
     fn include(&mut self, mut words: Words<'_>) -> Result<(), LineError>
         ensures { Takes self.old self.new (good_or_bad (include_in words.entry)) result }
     {
@@ -105,14 +111,29 @@ impl<A: Allocator + Copy> Session<A> {
         let length = words.log_length()?;
         let value = words.bytes(self.alloc)?;
         words.end()?;
-        let proof = self.log.prove_inclusion(node, length);
-        match proof.evaluate_value(&self.log, &value) {
-            Ok(root) => self.say_root("root", &root)?,
-            Err(InclusionProofError::LeafTooNew) => self.say("refused leaf too new")?,
-            Err(InclusionProofError::HashNotKnown) => self.say("refused hash not known")?,
-            Err(InclusionProofError::Memory) => return Err(LineError::Memory),
-        }
+        self.say_included(node, length, &value)?;
         Ok(())
+    }
+
+    // Answers by the root that the log's own digests give with a value at a node, or by why there is none.
+    fn say_included(
+        &mut self,
+        node: Node,
+        length: usize,
+        value: &Vec<u8, A>,
+    ) -> Result<(), AllocError>
+        requires { length ≤ GREATEST_LENGTH }
+        ensures { OnOk result (AddsText self.old self.new (root_or_refusal
+            (inclusion sha256 (own_digest sha256 self.old.log) (record { leaf = node; log_length = length })
+            (leaf_digest sha256 value.now.items)) ++ 10 ∷ [])) }
+    {
+        let proof = self.log.prove_inclusion(node, length);
+        match proof.evaluate_value(&self.log, value) {
+            Ok(root) => self.say_root("root", &root),
+            Err(InclusionProofError::LeafTooNew) => self.say("refused leaf too new"),
+            Err(InclusionProofError::HashNotKnown) => self.say("refused hash not known"),
+            Err(InclusionProofError::Memory) => Err(AllocError),
+        }
     }
 
     fn consistent(&mut self, mut words: Words<'_>) -> Result<(), LineError>
@@ -121,12 +142,22 @@ impl<A: Allocator + Copy> Session<A> {
         let old = words.log_length()?;
         let new = words.log_length()?;
         words.end()?;
+        self.say_consistent(old, new)?;
+        Ok(())
+    }
+
+    // Answers by the roots of two lengths, or by why the log's own digests give none.
+    fn say_consistent(&mut self, old: usize, new: usize) -> Result<(), AllocError>
+        requires old { old ≤ GREATEST_LENGTH }
+        requires new { new ≤ GREATEST_LENGTH }
+        ensures { OnOk result (AddsText self.old self.new
+            (roots_or_refusal (consistency sha256 (own_digest sha256 self.old.log) old new) ++ 10 ∷ [])) }
+    {
         let proof = self.log.prove_consistency(old, new);
         match proof.evaluate(&self.log) {
-            Ok((old_root, new_root)) => writeln!(self.text, "roots {old_root} {new_root}")?,
-            Err(fault) => self.say(refusal(&fault)?)?,
+            Ok((old_root, new_root)) => writeln!(self.text, "roots {old_root} {new_root}"),
+            Err(fault) => self.say(refusal(&fault)?),
         }
-        Ok(())
     }
 
     fn bundle(&mut self, mut words: Words<'_>) -> Result<(), LineError>
@@ -135,15 +166,23 @@ impl<A: Allocator + Copy> Session<A> {
         let node = Node(words.number()?);
         let length = words.log_length()?;
         words.end()?;
-        let proofs = Vec::from_slice(self.alloc, &[self.log.prove_inclusion(node, length)])?;
-        match LogProofBundle::bundle(self.alloc, Vec::new(self.alloc), proofs, &self.log) {
-            Ok(bundle) => self.encode(&bundle)?,
-            Err(fault) => self.say(bundle_refusal(&fault)?)?,
-        }
+        self.say_bundle(node, length)?;
         Ok(())
     }
 
-    #[tactic(auto, using(crate::proofs::BundledLemmas::bytes_shown, crate::proofs::BundledLemmas::too_large_shown))]
+    // Answers by the bundle of an inclusion proof, or by why the log's own digests give none.
+    fn say_bundle(&mut self, node: Node, length: usize) -> Result<(), AllocError>
+        requires { length ≤ GREATEST_LENGTH }
+        ensures { OnOk result (AddsText self.old self.new (bundle_or_refusal
+            (bundled (own_digest sha256 self.old.log) [] (record { leaf = node; log_length = length } ∷ [])) ++ 10 ∷ [])) }
+    {
+        let proofs = Vec::from_slice(self.alloc, &[self.log.prove_inclusion(node, length)])?;
+        match LogProofBundle::bundle(self.alloc, Vec::new(self.alloc), proofs, &self.log) {
+            Ok(bundle) => self.encode(&bundle),
+            Err(fault) => self.say(bundle_refusal(&fault)?),
+        }
+    }
+
     // Answers a bundle by its bytes.
     fn encode(&mut self, bundle: &LogProofBundle<Sha256, Vec<u8, A>, A>) -> Result<(), AllocError>
         ensures { OnOk result (AddsText self.old self.new
@@ -167,13 +206,26 @@ impl<A: Allocator + Copy> Session<A> {
         let value = words.bytes(self.alloc)?;
         let bundle = words.bytes(self.alloc)?;
         words.end()?;
-        match check_inclusion(self.alloc, bundle.as_slice(), 0, &value, &root) {
-            Ok(verdict) => writeln!(self.text, "{verdict}")?,
-            Err(CheckError::Decode(_)) => self.say("refused not decoded")?,
-            Err(CheckError::NoSuchProof) => self.say("refused no such proof")?,
-            Err(CheckError::Memory) => return Err(LineError::Memory),
-        }
+        self.say_verdict(&root, &value, bundle.as_slice())?;
         Ok(())
+    }
+
+    // Answers by the verdict on the first inclusion proof of a bundle's bytes, or by why there is none.
+    fn say_verdict(
+        &mut self,
+        root: &Hash<Sha256>,
+        value: &Vec<u8, A>,
+        bundle: &[u8],
+    ) -> Result<(), AllocError>
+        ensures { OnOk result (AddsText self.old self.new
+            (verdict_or_refusal (inclusion_verdict sha256 bundle.now 0 value.now.items root.now) ++ 10 ∷ [])) }
+    {
+        match check_inclusion(self.alloc, bundle, 0, value, root) {
+            Ok(verdict) => writeln!(self.text, "{verdict}"),
+            Err(CheckError::Decode(_)) => self.say("refused not decoded"),
+            Err(CheckError::NoSuchProof) => self.say("refused no such proof"),
+            Err(CheckError::Memory) => Err(AllocError),
+        }
     }
 
     #[tactic(auto, unfolding(crate::specs::Text::answer), using(crate::proofs::MapLemmas::map_after_insert))]

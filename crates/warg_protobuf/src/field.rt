@@ -1,11 +1,11 @@
 //! Varints and fields, split off the front of a message's bytes, and the values of payloads.
-ghost use Rattle.std.specs.Prelude.{◌<◌, ◌*◌, ◌^◌, ◌++◌, IfOk};
+ghost use Rattle.std.specs.Prelude.{◌<◌, ◌*◌, ◌^◌, [], ◌∷◌, ◌++◌, IfOk};
 ghost use Rattle.warg_protobuf.specs.Reading.{Gives, outcome, values_read};
 ghost use Rattle.warg_protobuf.specs.Varint.{varint_in, varint_at};
-ghost use Rattle.warg_protobuf.specs.Field.{field_at, payload_at};
+ghost use Rattle.warg_protobuf.specs.Field.{bytes_at, field_at, payload_at};
 ghost use Rattle.warg_protobuf.specs.Private.Lent.{field_view, payload_view};
 ghost use Rattle.warg_protobuf.specs.Private.Taking.{Puts};
-ghost use Rattle.warg_protobuf.specs.Schema.{uint32_in, bytes_in, uint32s_in};
+ghost use Rattle.warg_protobuf.specs.Schema.{is_uint32, uint32_in, bytes_in, packed_uint32s, uint32s_in};
 
 use crate::error::WireError;
 use std::alloc::Allocator;
@@ -58,18 +58,34 @@ impl<'a> Payload<'a> {
         ensures { let read = uint32s_in (payload_view self.entry) in
             Puts result (outcome read) (numbers.old.items ++ values_read read) numbers.new.items }
     {
-        if let Payload::Varint(number) = self {
-            numbers.push(u32::try_from(number)?)?;
-            return Ok(());
+        match self {
+            Payload::Varint(number) => add_uint32(number, numbers),
+            Payload::Delimited(bytes) => add_packed(bytes, numbers),
+            _ => Err(WireError::WrongWireType),
         }
-        let mut rest = self.bytes()?;
-        while !rest.is_empty() {
-            let (number, after) = read_varint(rest)?;
-            numbers.push(u32::try_from(number)?)?;
-            rest = after;
-        }
-        Ok(())
     }
+}
+
+/// Puts one number at the end of a list.
+fn add_uint32<A: Allocator>(number: u64, numbers: &mut Vec<u32, A>) -> Result<(), WireError>
+    ensures { Puts result (is_uint32 number) (numbers.old.items ++ number ∷ []) numbers.new.items }
+{
+    numbers.push(u32::try_from(number)?)?;
+    Ok(())
+}
+
+/// Puts packed numbers at the end of a list.
+fn add_packed<A: Allocator>(bytes: &[u8], numbers: &mut Vec<u32, A>) -> Result<(), WireError>
+    ensures { let read = packed_uint32s bytes.now in
+        Puts result (outcome read) (numbers.old.items ++ values_read read) numbers.new.items }
+{
+    let mut rest = bytes;
+    while !rest.is_empty() {
+        let (number, after) = read_varint(rest)?;
+        add_uint32(number, numbers)?;
+        rest = after;
+    }
+    Ok(())
 }
 
 /// The number at the front, of at most `1 + more` bytes, and the bytes after it.
@@ -110,10 +126,47 @@ pub(crate) fn read_varint(bytes: &[u8]) -> Result<(u64, &[u8]), WireError>
     read_groups(9, bytes)
 }
 
-/// The field at the front, and the bytes after it.
-// Inlined, as the call in it, so that a payload isn't handed on through memory.
+/// So many bytes at the front, and the bytes after them.
 #[inline(always)]
-#[tactic(auto, unfolding(crate::specs::Field::field_at, crate::specs::Field::payload_at))]
+fn split_bytes(bytes: &[u8], len: usize) -> Result<(&[u8], &[u8]), WireError>
+    ensures { Gives (λ x. (x.0.now, x.1.now)) result (bytes_at len bytes.now) }
+{
+    bytes.split_at_checked(len).ok_or(WireError::Truncated)
+}
+
+/// The payload of a wire type at the front, and the bytes after it.
+#[inline(always)]
+#[tactic(auto, unfolding(crate::specs::Field::payload_at))]
+fn read_payload(wire_type: u64, bytes: &[u8]) -> Result<(Payload<'_>, &[u8]), WireError>
+    ensures { Gives (λ x. (payload_view x.0, x.1.now)) result (payload_at wire_type bytes.now) }
+{
+    match wire_type {
+        0 => {
+            let (value, rest) = read_varint(bytes)?;
+            Ok((Payload::Varint(value), rest))
+        }
+        1 => {
+            let (inner, rest) = split_bytes(bytes, 8)?;
+            Ok((Payload::Fixed64(inner), rest))
+        }
+        2 => {
+            let (len, rest) = read_varint(bytes)?;
+            let (inner, rest) = split_bytes(rest, len as usize)?;
+            Ok((Payload::Delimited(inner), rest))
+        }
+        3 | 4 => Err(WireError::Group),
+        5 => {
+            let (inner, rest) = split_bytes(bytes, 4)?;
+            Ok((Payload::Fixed32(inner), rest))
+        }
+        _ => Err(WireError::BadWireType),
+    }
+}
+
+/// The field at the front, and the bytes after it.
+// Inlined, as the calls in it, so that a payload isn't handed on through memory.
+#[inline(always)]
+#[tactic(auto, unfolding(crate::specs::Field::field_at))]
 pub(crate) fn read_field(bytes: &[u8]) -> Result<(Field<'_>, &[u8]), WireError>
     ensures { Gives (λ x. (field_view x.0, x.1.now)) result (field_at bytes.now) }
 {
@@ -122,28 +175,6 @@ pub(crate) fn read_field(bytes: &[u8]) -> Result<(Field<'_>, &[u8]), WireError>
     if tag >= 1 << 32 || number == 0 {
         return Err(WireError::BadTag);
     }
-    let (payload, rest) = match tag % 8 {
-        0 => {
-            let (value, rest) = read_varint(bytes)?;
-            (Payload::Varint(value), rest)
-        }
-        1 => {
-            let (inner, rest) = bytes.split_at_checked(8).ok_or(WireError::Truncated)?;
-            (Payload::Fixed64(inner), rest)
-        }
-        2 => {
-            let (len, rest) = read_varint(bytes)?;
-            let (inner, rest) = rest
-                .split_at_checked(len as usize)
-                .ok_or(WireError::Truncated)?;
-            (Payload::Delimited(inner), rest)
-        }
-        3 | 4 => return Err(WireError::Group),
-        5 => {
-            let (inner, rest) = bytes.split_at_checked(4).ok_or(WireError::Truncated)?;
-            (Payload::Fixed32(inner), rest)
-        }
-        _ => return Err(WireError::BadWireType),
-    };
+    let (payload, rest) = read_payload(tag % 8, bytes)?;
     Ok((Field { number, payload }, rest))
 }

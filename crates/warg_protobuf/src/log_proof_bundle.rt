@@ -4,7 +4,7 @@ ghost use Rattle.warg_protobuf.specs.Spelled.{Decodes, IsEncoded};
 
 use crate::error::WireError;
 use crate::field::Field;
-use crate::message::{Message, encode_message, push_messages, read_message};
+use crate::message::{Message, add_message, encode_message, push_messages, read_message};
 use crate::writer::{push_bytes, push_uint32, push_uint32s};
 use std::alloc::{AllocError, Allocator, Global};
 use warg_crypto::Hash;
@@ -69,8 +69,7 @@ impl<A: Allocator + Copy> Message<A> for HashEntry<A> {
 
     fn push_to(&self, _alloc: A, out: &mut Vec<u8, A>) -> Result<(), AllocError> {
         push_uint32(out, 1, self.index)?;
-        push_bytes(out, 2, &self.hash)?;
-        Ok(())
+        push_bytes(out, 2, &self.hash)
     }
 
     ghost adds = { entry_adds };
@@ -90,7 +89,7 @@ pub struct LogProofBundle<A: Allocator = Global> {
     pub hashes: Vec<HashEntry<A>, A>,
 }
 
-#[tactic(auto, unfolding(crate::specs::LogProofBundle::log_schema, crate::specs::LogProofBundle::log_add, crate::specs::LogProofBundle::log_fields, crate::specs::Schema::last_of, crate::specs::Schema::values, crate::specs::Schema::message_in, crate::specs::Schema::bytes_in))]
+#[tactic(auto, unfolding(crate::specs::LogProofBundle::log_schema, crate::specs::LogProofBundle::log_add, crate::specs::LogProofBundle::log_fields, crate::specs::Schema::last_of, crate::specs::Schema::values))]
 impl<A: Allocator + Copy> Message<A> for LogProofBundle<A> {
     ghost use Rattle.warg_protobuf.specs.LogProofBundle.{LogBundle, log_view, log_schema, log_add, log_fields, LogFits};
     ghost use Rattle.warg_protobuf.specs.Private.Adds.{log_adds};
@@ -119,11 +118,9 @@ impl<A: Allocator + Copy> Message<A> for LogProofBundle<A> {
     fn put(&mut self, alloc: A, field: Field<'_>) -> Result<(), WireError> {
         match field.number {
             1 => self.log_length = field.payload.uint32()?,
-            2 => field.payload.add_uint32s(&mut self.consistent_lengths)?,
-            3 => field.payload.add_uint32s(&mut self.included_indices)?,
-            4 => self
-                .hashes
-                .push(read_message(alloc, field.payload.bytes()?)?)?,
+            2 => return field.payload.add_uint32s(&mut self.consistent_lengths),
+            3 => return field.payload.add_uint32s(&mut self.included_indices),
+            4 => return add_message(alloc, field.payload, &mut self.hashes),
             _ => {}
         }
         Ok(())
@@ -133,8 +130,7 @@ impl<A: Allocator + Copy> Message<A> for LogProofBundle<A> {
         push_uint32(out, 1, self.log_length)?;
         push_uint32s(alloc, out, 2, &self.consistent_lengths)?;
         push_uint32s(alloc, out, 3, &self.included_indices)?;
-        push_messages(alloc, out, 4, &self.hashes)?;
-        Ok(())
+        push_messages(alloc, out, 4, &self.hashes)
     }
 
     ghost adds = { log_adds };

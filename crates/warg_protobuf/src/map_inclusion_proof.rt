@@ -3,7 +3,7 @@ ghost use Rattle.std.specs.Prelude.{ℕ, List, Option};
 
 use crate::error::WireError;
 use crate::field::Field;
-use crate::message::{Message, push_messages, read_message};
+use crate::message::{Message, add_message, push_messages};
 use crate::optional_hash::OptionalHash;
 use std::alloc::{AllocError, Allocator, Global};
 
@@ -15,7 +15,7 @@ pub struct MapInclusionProof<A: Allocator = Global> {
     pub hashes: Vec<OptionalHash<A>, A>,
 }
 
-#[tactic(auto, unfolding(crate::specs::MapInclusionProof::proof_schema, crate::specs::MapInclusionProof::proof_add, crate::specs::MapInclusionProof::proof_fields, crate::specs::Schema::values, crate::specs::Schema::message_in, crate::specs::Schema::bytes_in))]
+#[tactic(auto, unfolding(crate::specs::MapInclusionProof::proof_schema, crate::specs::MapInclusionProof::proof_add, crate::specs::MapInclusionProof::proof_fields, crate::specs::Schema::values))]
 impl<A: Allocator + Copy> Message<A> for MapInclusionProof<A> {
     ghost use Rattle.warg_protobuf.specs.MapInclusionProof.{proof_view, proof_schema, proof_add, proof_fields};
     ghost use Rattle.warg_protobuf.specs.Private.Adds.{proof_adds};
@@ -40,17 +40,13 @@ impl<A: Allocator + Copy> Message<A> for MapInclusionProof<A> {
 
     fn put(&mut self, alloc: A, field: Field<'_>) -> Result<(), WireError> {
         match field.number {
-            1 => self
-                .hashes
-                .push(read_message(alloc, field.payload.bytes()?)?)?,
-            _ => {}
+            1 => add_message(alloc, field.payload, &mut self.hashes),
+            _ => Ok(()),
         }
-        Ok(())
     }
 
     fn push_to(&self, alloc: A, out: &mut Vec<u8, A>) -> Result<(), AllocError> {
-        push_messages(alloc, out, 1, &self.hashes)?;
-        Ok(())
+        push_messages(alloc, out, 1, &self.hashes)
     }
 
     ghost adds = { proof_adds };

@@ -5,7 +5,7 @@ ghost use Rattle.warg_protobuf.specs.Spelled.{Decodes, IsEncoded};
 use crate::error::WireError;
 use crate::field::Field;
 use crate::map_inclusion_proof::MapInclusionProof;
-use crate::message::{Message, encode_message, push_messages, read_message};
+use crate::message::{Message, add_message, encode_message, push_messages, read_message};
 use std::alloc::{AllocError, Allocator, Global};
 
 /// Proofs of a map: of keys that it holds, and of keys that it doesn't hold.
@@ -18,7 +18,7 @@ pub struct MapProofBundle<A: Allocator = Global> {
     pub absences: Vec<MapInclusionProof<A>, A>,
 }
 
-#[tactic(auto, unfolding(crate::specs::MapProofBundle::map_schema, crate::specs::MapProofBundle::map_add, crate::specs::MapProofBundle::map_fields, crate::specs::Schema::values, crate::specs::Schema::message_in, crate::specs::Schema::bytes_in))]
+#[tactic(auto, unfolding(crate::specs::MapProofBundle::map_schema, crate::specs::MapProofBundle::map_add, crate::specs::MapProofBundle::map_fields, crate::specs::Schema::values))]
 impl<A: Allocator + Copy> Message<A> for MapProofBundle<A> {
     ghost use Rattle.warg_protobuf.specs.MapProofBundle.{MapBundle, map_view, map_schema, map_add, map_fields};
     ghost use Rattle.warg_protobuf.specs.Private.Adds.{map_adds};
@@ -44,21 +44,15 @@ impl<A: Allocator + Copy> Message<A> for MapProofBundle<A> {
 
     fn put(&mut self, alloc: A, field: Field<'_>) -> Result<(), WireError> {
         match field.number {
-            1 => self
-                .proofs
-                .push(read_message(alloc, field.payload.bytes()?)?)?,
-            2 => self
-                .absences
-                .push(read_message(alloc, field.payload.bytes()?)?)?,
-            _ => {}
+            1 => add_message(alloc, field.payload, &mut self.proofs),
+            2 => add_message(alloc, field.payload, &mut self.absences),
+            _ => Ok(()),
         }
-        Ok(())
     }
 
     fn push_to(&self, alloc: A, out: &mut Vec<u8, A>) -> Result<(), AllocError> {
         push_messages(alloc, out, 1, &self.proofs)?;
-        push_messages(alloc, out, 2, &self.absences)?;
-        Ok(())
+        push_messages(alloc, out, 2, &self.absences)
     }
 
     ghost adds = { map_adds };

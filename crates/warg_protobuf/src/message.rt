@@ -1,8 +1,9 @@
 //! What all messages share: one loop that reads them, and one that writes them in lists.
 ghost use Rattle.std.specs.Prelude.{◌≡◌, ◌++◌, ◌<◌, ◌^◌, [], List, All, OnOk, IfOk, length, map};
 ghost use Rattle.warg_protobuf.specs.Field.{Field as AnyField};
-ghost use Rattle.warg_protobuf.specs.Schema.{Schema, check_by};
-ghost use Rattle.warg_protobuf.specs.Private.Lent.{field_view};
+ghost use Rattle.warg_protobuf.specs.Reading.{outcome, as_list, values_read};
+ghost use Rattle.warg_protobuf.specs.Schema.{Schema, check_by, message_in};
+ghost use Rattle.warg_protobuf.specs.Private.Lent.{field_view, payload_view};
 ghost use Rattle.warg_protobuf.specs.Private.Taking.{Puts, Adds};
 ghost use Rattle.warg_protobuf.specs.Spelled.{Decodes};
 ghost use Rattle.warg_protobuf.specs.Written.{fields_bytes, message_fields};
@@ -65,6 +66,21 @@ pub(crate) fn read_message<A: Allocator + Copy, M: Message<A>>(
         rest = after;
     }
     Ok(message)
+}
+
+/// Puts the message of one field at the end of a list.
+#[tactic(auto, unfolding(crate::specs::Schema::message_in, crate::specs::Schema::bytes_in))]
+pub(crate) fn add_message<A: Allocator + Copy, M: Message<A>>(
+    alloc: A,
+    payload: Payload<'_>,
+    messages: &mut Vec<M, A>,
+) -> Result<(), WireError>
+    ensures { let read = message_in M.schema (payload_view payload.entry) in
+        Puts result (outcome read) (map M.view messages.old.items ++ values_read (as_list read)) (map M.view messages.new.items) }
+{
+    let message = read_message(alloc, payload.bytes()?)?;
+    messages.push(message)?;
+    Ok(())
 }
 
 /// The written form of a message.

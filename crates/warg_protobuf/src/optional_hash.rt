@@ -46,10 +46,9 @@ impl<A: Allocator + Copy> Message<A> for OptionalHash<A> {
 
     fn push_to(&self, _alloc: A, out: &mut Vec<u8, A>) -> Result<(), AllocError> {
         match &self.hash {
-            Some(hash) => push_delimited(out, 1, hash)?,
-            None => {}
+            Some(hash) => push_delimited(out, 1, hash),
+            None => Ok(()),
         }
-        Ok(())
     }
 
     ghost adds = { hash_adds };

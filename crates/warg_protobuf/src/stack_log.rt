@@ -5,7 +5,7 @@ ghost use Rattle.warg_protobuf.specs.Spelled.{Decodes, IsEncoded};
 use crate::error::WireError;
 use crate::field::Field;
 use crate::log_proof_bundle::HashEntry;
-use crate::message::{Message, encode_message, push_messages, read_message};
+use crate::message::{Message, add_message, encode_message, push_messages, read_message};
 use crate::writer::push_uint32;
 use std::alloc::{AllocError, Allocator, Global};
 
@@ -19,7 +19,7 @@ pub struct StackLog<A: Allocator = Global> {
     pub stack: Vec<HashEntry<A>, A>,
 }
 
-#[tactic(auto, unfolding(crate::specs::StackLog::stack_schema, crate::specs::StackLog::stack_add, crate::specs::StackLog::stack_fields, crate::specs::Schema::last_of, crate::specs::Schema::values, crate::specs::Schema::message_in, crate::specs::Schema::bytes_in))]
+#[tactic(auto, unfolding(crate::specs::StackLog::stack_schema, crate::specs::StackLog::stack_add, crate::specs::StackLog::stack_fields, crate::specs::Schema::last_of, crate::specs::Schema::values))]
 impl<A: Allocator + Copy> Message<A> for StackLog<A> {
     ghost use Rattle.warg_protobuf.specs.StackLog.{StackImage, stack_view, stack_schema, stack_add, stack_fields, StackFits};
     ghost use Rattle.warg_protobuf.specs.Private.Adds.{stack_adds};
@@ -46,9 +46,7 @@ impl<A: Allocator + Copy> Message<A> for StackLog<A> {
     fn put(&mut self, alloc: A, field: Field<'_>) -> Result<(), WireError> {
         match field.number {
             1 => self.length = field.payload.uint32()?,
-            2 => self
-                .stack
-                .push(read_message(alloc, field.payload.bytes()?)?)?,
+            2 => return add_message(alloc, field.payload, &mut self.stack),
             _ => {}
         }
         Ok(())
@@ -56,8 +54,7 @@ impl<A: Allocator + Copy> Message<A> for StackLog<A> {
 
     fn push_to(&self, alloc: A, out: &mut Vec<u8, A>) -> Result<(), AllocError> {
         push_uint32(out, 1, self.length)?;
-        push_messages(alloc, out, 2, &self.stack)?;
-        Ok(())
+        push_messages(alloc, out, 2, &self.stack)
     }
 
     ghost adds = { stack_adds };

@@ -57,8 +57,7 @@ impl<A: Allocator + Copy> Message<A> for VecLog<A> {
 
     fn push_to(&self, _alloc: A, out: &mut Vec<u8, A>) -> Result<(), AllocError> {
         push_uint32(out, 1, self.length)?;
-        push_repeated(out, 2, &self.tree)?;
-        Ok(())
+        push_repeated(out, 2, &self.tree)
     }
 
     ghost adds = { vec_adds };

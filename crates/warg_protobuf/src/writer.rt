@@ -34,8 +34,7 @@ pub(crate) fn push_uint32<A: Allocator>(
         return Ok(());
     }
     push_varint(out, u64::from(field) * 8)?;
-    push_varint(out, u64::from(number))?;
-    Ok(())
+    push_varint(out, u64::from(number))
 }
 
 /// Writes bytes with their length before them.
@@ -65,8 +64,7 @@ pub(crate) fn push_bytes<A: Allocator>(
     if bytes.is_empty() {
         return Ok(());
     }
-    push_delimited(out, field, bytes)?;
-    Ok(())
+    push_delimited(out, field, bytes)
 }
 
 fn packed_bytes<A: Allocator + Copy>(alloc: A, numbers: &[u32]) -> Result<Vec<u8, A>, AllocError>
@@ -95,8 +93,7 @@ pub(crate) fn push_uint32s<A: Allocator + Copy>(
         return Ok(());
     }
     let bytes = packed_bytes(alloc, numbers)?;
-    push_delimited(out, field, &bytes)?;
-    Ok(())
+    push_delimited(out, field, &bytes)
 }
 
 /// Writes the bytes of each digest in a field of its own, also where they are empty.

@@ -40,15 +40,34 @@ fn remade(
     let mut progress = Progress::new();
     'bundles: for number in 0..length.div_ceil(256) {
         let width = (length - 256 * number).min(256);
-        let tile = Tile::new(0, number, width);
-        push_bundle(rt, folder, &mut log, &tile, &mut progress)?;
-        compare_tiles(rt, folder, log.take_full().as_slice())?;
+        remake(
+            rt,
+            folder,
+            &mut log,
+            &Tile::new(0, number, width),
+            &mut progress,
+        )?;
     }
     compare_tiles(rt, folder, log.partial(rt.alloc())?.as_slice())?;
     Ok(log)
 }
 
-// Adds the entries of a bundle.
+// Adds the entries of a bundle, and compares the tiles that they fill.
+fn remake(
+    rt: &HostRuntime,
+    folder: &Folder,
+    log: &mut TileLog<Sha256, Vec<u8>>,
+    tile: &Tile,
+    progress: &mut Progress,
+) -> Result<(), Refusal>
+    requires level { tile.now.level ≡ 0 }
+    requires has { HasEntries log.old }
+    ensures { OnOk result (HasEntries log.new) }
+{
+    push_bundle(rt, folder, log, tile, progress)?;
+    compare_tiles(rt, folder, log.take_full().as_slice())
+}
+
 fn push_bundle(
     rt: &HostRuntime,
     folder: &Folder,
@@ -62,8 +81,20 @@ fn push_bundle(
 {
     let bytes = read_bundle(rt, folder, tile)?;
     let entries = entries_of(rt, folder, tile, bytes.as_slice())?;
+    push_all(rt, log, entries.as_slice(), progress)
+}
+
+fn push_all(
+    rt: &HostRuntime,
+    log: &mut TileLog<Sha256, Vec<u8>>,
+    entries: &[&[u8]],
+    progress: &mut Progress,
+) -> Result<(), Refusal>
+    requires { HasEntries log.old }
+    ensures { OnOk result (HasEntries log.new) }
+{
     let mut bytes = Vec::new(rt.alloc());
-    'entries: for entry in entries.as_slice() {
+    'entries: for entry in entries {
         bytes.clear();
         bytes.extend_from_slice(entry)?;
         push_entry(log, &bytes)?;

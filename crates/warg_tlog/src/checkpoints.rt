@@ -1,7 +1,7 @@
 //! The log's checkpoint, and a copy of the newest one that it has had.
 
 use crate::folder::Folder;
-use crate::refusal::Refusal;
+use crate::refusal::{FileRefusal, Refusal};
 use std::fs;
 use warg_crypto::Sha256;
 use warg_log::Checkpoint;
@@ -67,11 +67,11 @@ fn check_newest(
     newest: &Checkpoint<Sha256>,
 ) -> Result<(), Refusal> {
     if found.length() < newest.length() {
-        return Err(Refusal::Older {
+        return Err(Refusal::File(FileRefusal::Older {
             path: folder.path(rt.alloc(), CHECKPOINT)?,
             found: found.length(),
             newest: newest.length(),
-        });
+        }));
     }
     if found.length() == newest.length() && found.root() != newest.root() {
         return Err(folder.damaged(

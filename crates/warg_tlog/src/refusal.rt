@@ -14,10 +14,7 @@ pub enum Refusal {
     Arguments(String),
     /// A line of standard input isn't what the command reads.
     #[error("line {number} of standard input {fault}")]
-    Line {
-        number: usize,
-        fault: &'static str,
-    },
+    Line { number: usize, fault: &'static str },
     /// The folder has no log.
     #[error("no log in {0}: make one there by warg_tlog init FOLDER ORIGIN")]
     NoLog(String),
@@ -29,10 +26,21 @@ pub enum Refusal {
     AtWork(String),
     /// The log has no such entry or length.
     #[error("{rule} {bound}: see warg_tlog checkpoint FOLDER")]
-    OutOfRange {
-        rule: &'static str,
-        bound: usize,
-    },
+    OutOfRange { rule: &'static str, bound: usize },
+    /// A file lacks, differs, or can't be read or written.
+    #[error(transparent)]
+    File(FileRefusal),
+    /// Memory was refused.
+    #[error("out of memory: run the command again with more, the log is as it was")]
+    Memory,
+    /// The log has as many entries as a log can have.
+    #[error("the log has 2^63 entries and takes no more: make another by warg_tlog init FOLDER ORIGIN")]
+    NoMoreEntries,
+}
+
+/// What is wrong with a file.
+#[derive(Debug, Drop, Error)]
+pub enum FileRefusal {
     /// A file of the log lacks, or isn't what it is to be.
     #[error("{path} {fault}: put it back from a copy of the log")]
     Damaged {
@@ -61,12 +69,18 @@ pub enum Refusal {
         path: String,
         error: io::Error,
     },
-    /// Memory was refused.
-    #[error("out of memory: run the command again with more, the log is as it was")]
-    Memory,
-    /// The log has as many entries as a log can have.
-    #[error("the log has 2^63 entries and takes no more: make another by warg_tlog init FOLDER ORIGIN")]
-    NoMoreEntries,
+}
+
+impl FileRefusal {
+    fn status(&self) -> u8 {
+        match self {
+            FileRefusal::Damaged { .. } => 8,
+            FileRefusal::Older { .. } => 9,
+            FileRefusal::Full(_) => 10,
+            FileRefusal::Unwritable { .. } => 11,
+            FileRefusal::Unreadable { .. } => 12,
+        }
+    }
 }
 
 impl Refusal {
@@ -79,11 +93,7 @@ impl Refusal {
             Refusal::LogThere(_) => 5,
             Refusal::AtWork(_) => 6,
             Refusal::OutOfRange { .. } => 7,
-            Refusal::Damaged { .. } => 8,
-            Refusal::Older { .. } => 9,
-            Refusal::Full(_) => 10,
-            Refusal::Unwritable { .. } => 11,
-            Refusal::Unreadable { .. } => 12,
+            Refusal::File(fault) => fault.status(),
             Refusal::Memory => 13,
             Refusal::NoMoreEntries => 14,
         }
@@ -100,9 +110,11 @@ impl Refusal {
     /// That a file couldn't be written.
     pub fn of_write(path: String, error: io::Error) -> Refusal {
         match error.kind() {
-            ErrorKind::StorageFull | ErrorKind::QuotaExceeded => Refusal::Full(path),
+            ErrorKind::StorageFull | ErrorKind::QuotaExceeded => {
+                Refusal::File(FileRefusal::Full(path))
+            }
             ErrorKind::OutOfMemory => Refusal::Memory,
-            _ => Refusal::Unwritable { path, error },
+            _ => Refusal::File(FileRefusal::Unwritable { path, error }),
         }
     }
 
@@ -110,7 +122,7 @@ impl Refusal {
     pub fn of_read(path: String, error: io::Error) -> Refusal {
         match error.kind() {
             ErrorKind::OutOfMemory => Refusal::Memory,
-            _ => Refusal::Unreadable { path, error },
+            _ => Refusal::File(FileRefusal::Unreadable { path, error }),
         }
     }
 

@@ -42,7 +42,12 @@ fn judge(rt: &HostRuntime) -> Result<ExitCode> {
     let Some((name, asked)) = matches.subcommand() else {
         return Ok(ExitCode::from(3));
     };
-    match verdict_on(rt, name, asked)? {
+    print(rt, verdict_on(rt, name, asked)?)
+}
+
+// Prints a verdict, or why the bundle is refused.
+fn print(rt: &HostRuntime, verdict: Result<bool, CheckError>) -> Result<ExitCode> {
+    match verdict {
         Ok(verdict) => {
             println!(rt; "{verdict}")?;
             Ok(status_of(verdict))

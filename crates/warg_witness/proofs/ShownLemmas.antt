@@ -71,27 +71,18 @@ module _ (H : Digest) (F : Data) (entries ds : List (List ℕ)) (is : ds ≡ lea
 
 -- what a meeting shows, where the claim is false
 module _ {D : Type 0} {H : Digest} {F : Data} {proof : InclusionClaim} {entries tree : List (List ℕ)} {start count : ℕ} {plain : List ℕ} {p : Divergence D} where
-  value_shown : {value : List ℕ} → IsMeeting H F proof (H (0 ∷ value)) entries tree start count plain p → (IsAt value entries start count → ⊥)
+  pub value_shown : {value : List ℕ} → IsMeeting H F proof (H (0 ∷ value)) entries tree start count plain p → (IsAt value entries start count → ⊥)
       → Shows H (IsValuePlaced H F value proof.leaf.0 entries) (inputs_of p (0 ∷ value) (plain_input H entries start count))
   value_shown {value} met other =
       let apart = rw (met.start_is, met.count_is) at other in
       rw (met.start_is, met.count_is) (shown p (value_placed H F entries tree met.tree_is proof.leaf.0 value) _ _ (value_meets H F entries tree met.tree_is proof.leaf.0 value apart) met.diverges)
 
-  -- at a branch, with the roots over both its parts
-  pub branch_shown : {value left right : List ℕ} → IsMeeting H F proof (H (0 ∷ value)) entries tree start count plain p → 1 < count → left ≡ root_over H tree start (front_of count)
-      → right ≡ root_over H tree (start + front_of count) (count - front_of count) → Shows H (IsValuePlaced H F value proof.leaf.0 entries) (inputs_of p (0 ∷ value) (1 ∷ left ++ right))
-  branch_shown met more left right =
-      let plain_is : plain_input H entries start count ≡ _ = rw (lt-leb count 1 more, ← met.tree_is, ← left, ← right) refl in rw plain_is at (value_shown met (λ at. omega (arith, at.0)))
+  -- the claim is that the value is the entry of the lone leaf
+  pub value_held : {value : List ℕ} → IsMeeting H F proof (H (0 ∷ value)) entries tree start count plain p → IsAt value entries start count → IsEntry value proof.leaf.0 entries
+  value_held met at = entry_from proof.leaf.0 (rw (met.start_is, met.count_is) at at)
 
-  -- at a leaf, by its entry
-  pub leaf_holds : {value : List ℕ} → IsMeeting H F proof (H (0 ∷ value)) entries tree start count plain p → count ≡ 1 → get_or entries start [] ≡ value → IsEntry value proof.leaf.0 entries
-  leaf_holds {value} met leaf same = let is : IsAt value entries start count = (leaf, same) in entry_from proof.leaf.0 (rw (met.start_is, met.count_is) at is)
-
-  pub leaf_shown : {value entry : List ℕ} → IsMeeting H F proof (H (0 ∷ value)) entries tree start count plain p → count ≡ 1 → get_or entries start [] ≡ entry → (value ≡ entry → ⊥)
-      → (IsEntry value proof.leaf.0 entries → ⊥) × Shows H (IsValuePlaced H F value proof.leaf.0 entries) (inputs_of p (0 ∷ value) (0 ∷ entry))
-  leaf_shown {entry = entry} met leaf is other =
-      let plain_is : plain_input H entries start count ≡ 0 ∷ entry = rw (leaf, is) refl in
-      (λ at. other (sym (rw (← met.start_is) at at.same) ∙ is), rw plain_is at (value_shown met (λ at. other (sym at.1 ∙ is))))
+  pub value_not_held : {value : List ℕ} → IsMeeting H F proof (H (0 ∷ value)) entries tree start count plain p → (IsAt value entries start count → ⊥) → IsEntry value proof.leaf.0 entries → ⊥
+  value_not_held met other is = other (met.count_is ∙ ap (λ h. 2 ^ h) is.leaf, ap (λ s. get_or entries s []) met.start_is ∙ is.same)
 
 -- two evaluations that diverge, of other values
 pub agreement_shown : {D : Type 0} (H : Digest) (F : Data) (v : List ℕ) (G : Data) (u : List ℕ) (node n : ℕ) (p : Divergence D) → (v ≡ u → ⊥) → IsDivergence H F (H (0 ∷ v)) G (H (0 ∷ u)) (start_of node) (2 ^ height_of node) 0 n p

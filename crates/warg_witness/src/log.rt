@@ -1,17 +1,23 @@
 //! Witnesses for the log's proofs.
 
-ghost use Rattle.std.specs.Prelude.{◌≡◌, ◌≢◌, ◌+◌, length, map, None, Ok, Err, IfOk, MatchOption};
+ghost use Rattle.std.specs.Prelude.{◌≡◌, ◌≢◌, ◌+◌, ◌≤◌, ◌∷◌, ◌↔◌, IsTrue, length, map, None, Ok, Err, IfOk, MatchOption};
+ghost use Rattle.warg_crypto.specs.Collisions.{Collides};
 ghost use Rattle.warg_crypto.specs.Tree.{leaf_digest};
 ghost use Rattle.warg_log.specs.Inclusion.{inclusion};
+ghost use Rattle.warg_log.specs.Tree.{leaves_of};
+ghost use Rattle.warg_log.specs.Ranges.{IsAligned};
 ghost use Rattle.warg_log.specs.declared.proof.InclusionProofError.{InclusionProofError};
 ghost use Rattle.warg_witness.specs.Findings.{Finds};
 ghost use Rattle.warg_witness.specs.Claims.{IsMet, IsEntry, IsRootBelow, IsAgreement};
 ghost use Rattle.warg_witness.specs.Placed.{IsValuePlaced, IsHashPlaced, IsAgreementPlaced};
+ghost use Rattle.warg_witness.specs.Inputs.{plain_input};
+ghost use Rattle.warg_witness.specs.Private.Compared.{IsAt};
+ghost use Rattle.warg_witness.specs.Private.Divergence.{inputs_of};
 ghost use Rattle.warg_witness.specs.Private.Meeting.{IsMeeting};
 
 mod consistency;
 
-use crate::collision::Finding;
+use crate::collision::{Collision, Finding};
 use crate::divergence::Divergence;
 use crate::plain::{entry_at, plain_digest, plain_tree};
 use crate::ranges::meet_ranges;
@@ -91,7 +97,6 @@ fn meet_entries<D: SupportedDigest, V: VisitBytes, L: LogData<D, V>, A: Allocato
 ///     Finding::Holds | Finding::NotMet => (),
 /// }
 /// ```
-#[tactic(auto, using(crate::proofs::RangeLemmas::beside_aligned))]
 pub fn witness_value<D: SupportedDigest, V: VisitBytes, L: LogData<D, V>, A: Allocator + Copy>(
     alloc: A,
     proof: &InclusionProof<D, V>,
@@ -114,22 +119,55 @@ pub fn witness_value<D: SupportedDigest, V: VisitBytes, L: LogData<D, V>, A: All
     let Some(met) = meet_entries(alloc, proof, hashes, &hash, entries)? else {
         return Ok(Finding::NotMet);
     };
-    let target = met.target;
-    if target.count != 1 {
-        let (front, rest) = target.split();
-        let left = plain_digest(&met.tree, &front);
-        let right = plain_digest(&met.tree, &rest);
-        let pair = met
-            .divergence
-            .collide(alloc, &Leaf(value), &Branch(&left, &right))?;
-        return Ok(Finding::Collision(pair));
-    }
-    let entry = entry_at(entries, target.start);
-    if have_same_bytes(value, entry)? {
+    if is_entry_at(value, entries, &met.target)? {
         return Ok(Finding::Holds);
     }
-    let pair = met.divergence.collide(alloc, &Leaf(value), &Leaf(entry))?;
+    let pair = collide_value(alloc, value, entries, &met)?;
     Ok(Finding::Collision(pair))
+}
+
+// Whether a range is one leaf, and its entry has the value's bytes.
+fn is_entry_at<V: VisitBytes>(
+    value: &V,
+    entries: &[V],
+    range: &LeafRange,
+) -> Result<bool, AllocError>
+    requires { range.now.start + range.now.count ≤ length entries.now }
+    ensures { IfOk result (λ is. IsTrue is ↔ IsAt (V.bytes value.now) (map V.bytes entries.now)
+        range.now.start range.now.count) }
+{
+    if range.count != 1 {
+        return Ok(false);
+    }
+    have_same_bytes(value, entry_at(entries, range.start))
+}
+
+// The collision of a value's leaf with what the tree over the entries hashes at the target, or of the branches above.
+#[tactic(auto, using(crate::proofs::RangeLemmas::beside_aligned))]
+fn collide_value<D: SupportedDigest, V: VisitBytes, A: Allocator + Copy>(
+    alloc: A,
+    value: &V,
+    entries: &[V],
+    met: &Meeting<D, V, A>,
+) -> Result<Collision<D, A>, AllocError>
+    requires tree { met.now.tree ≡ leaves_of D.digest (map V.bytes entries.now) }
+    requires aligned { IsAligned met.now.target.start met.now.target.count }
+    requires within { met.now.target.start + met.now.target.count ≤ length met.now.tree }
+    requires collides { Collides D.digest (inputs_of met.now.divergence (0 ∷ V.bytes value.now)
+        (plain_input D.digest (map V.bytes entries.now) met.now.target.start met.now.target.count)) }
+    ensures { IfOk result (λ c. c ≡ inputs_of met.now.divergence (0 ∷ V.bytes value.now)
+        (plain_input D.digest (map V.bytes entries.now) met.now.target.start met.now.target.count)) }
+{
+    let target = &met.target;
+    if target.count == 1 {
+        let entry = entry_at(entries, target.start);
+        return met.divergence.collide(alloc, &Leaf(value), &Leaf(entry));
+    }
+    let (front, rest) = target.split();
+    let left = plain_digest(&met.tree, &front);
+    let right = plain_digest(&met.tree, &rest);
+    met.divergence
+        .collide(alloc, &Leaf(value), &Branch(&left, &right))
 }
 
 /// Whether a proof's claim about a hash is true of the entries: the hash is the root of the entries below

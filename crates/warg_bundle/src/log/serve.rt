@@ -1,6 +1,6 @@
 //! Proofs of a `VecLog` as bytes, for whoever serves it.
 
-ghost use Rattle.std.specs.Prelude.{◌≡◌, ◌<◌, ◌≤◌, ◌↔◌, [], ◌∷◌, length, Err, IfOk};
+ghost use Rattle.std.specs.Prelude.{◌≡◌, ◌≢◌, ◌<◌, ◌≤◌, ◌↔◌, [], ◌∷◌, length, Err, IfOk};
 ghost use Rattle.warg_log.specs.Tree.{own_digest};
 ghost use Rattle.warg_log.specs.Claims.{leaf_claim};
 ghost use Rattle.warg_bundle.specs.Bundling.{SpellsBundle};
@@ -10,7 +10,7 @@ use crate::log::proof_bundle::ProofBundle;
 use std::alloc::{AllocError, AllocFailed, Allocator};
 use thiserror::Error;
 use warg_crypto::{SupportedDigest, VisitBytes};
-use warg_log::{OutOfRange, VecLog};
+use warg_log::{ConsistencyProof, InclusionProof, OutOfRange, VecLog};
 use warg_protobuf::EncodeError;
 
 /// Why no bytes of a proof are given.
@@ -105,8 +105,7 @@ pub fn inclusion_bytes<D: SupportedDigest, V: VisitBytes, A: Allocator, B: Alloc
 {
     let proof = log.proof_at(index, log_length)?;
     let proofs = vec![in alloc; proof]?;
-    let bundle = ProofBundle::bundle(alloc, Vec::new(alloc), proofs, log)?;
-    Ok(bundle.encode(alloc)?)
+    bundle_bytes(alloc, Vec::new(alloc), proofs, log)
 }
 
 /// The bytes of a bundle with the proof that the log of an old length is a beginning of that of a new one, and with the
@@ -125,6 +124,20 @@ pub fn growth_bytes<D: SupportedDigest, V: VisitBytes, A: Allocator, B: Allocato
 {
     let proof = log.growth_between(old_length, new_length)?;
     let proofs = vec![in alloc; proof]?;
-    let bundle = ProofBundle::bundle(alloc, proofs, Vec::new(alloc), log)?;
+    bundle_bytes(alloc, proofs, Vec::new(alloc), log)
+}
+
+// The bytes of the bundle of these proofs, with the digests that they need.
+fn bundle_bytes<D: SupportedDigest, V: VisitBytes, A: Allocator, B: Allocator + Copy>(
+    alloc: B,
+    consistencies: Vec<ConsistencyProof<D, V>, B>,
+    inclusions: Vec<InclusionProof<D, V>, B>,
+    log: &VecLog<D, V, A>,
+) -> Result<Vec<u8, B>, ServeError>
+    ensures ok { IfOk result (λ bytes. SpellsBundle (own_digest D.digest log.now) consistencies.items
+        inclusions.items bytes.items) }
+    ensures in_range { result ≢ Err ServeError.OutOfRange }
+{
+    let bundle = ProofBundle::bundle(alloc, consistencies, inclusions, log)?;
     Ok(bundle.encode(alloc)?)
 }

@@ -30,7 +30,6 @@ impl<D: SupportedDigest, V: VisitBytes, A: Allocator + Copy> StackLog<D, V, A> {
     /// The errors: `HashLength` where a digest of the stack doesn't have 32 bytes; then `NotAStack` where the
     /// entries' numbers aren't the balanced roots of the length, in order. Memory grows with the entries that
     /// are there, and never by the length.
-    #[tactic(auto, using(crate::proofs::ImageLemmas::stack_read, crate::proofs::ImageLemmas::no_stack, crate::proofs::ImageLemmas::numbers_zip, crate::proofs::ImageLemmas::entries_again, crate::proofs::TreeLemmas::bytes_same))]
     pub fn from_message(alloc: A, message: Message<A>) -> Result<Self, DecodeError>
         ensures exact { Answers DecodeError.Memory result (stack_in (stack_view message)) }
         ensures message { IfOk result (λ log. stack_message log ≡ stack_view message) }
@@ -63,7 +62,6 @@ impl<D: SupportedDigest, V: VisitBytes, A: Allocator + Copy> StackLog<D, V, A> {
 
     /// The log's message, which holds the same log. `TooLarge` exactly if the length or a balanced root's
     /// number is above `u32::MAX`, which is above 2^31 entries, before any growth.
-    #[tactic(auto, using(crate::proofs::ImageLemmas::stack_again, crate::proofs::ImageLemmas::roots_fit, crate::proofs::ImageLemmas::roots_too_large))]
     pub fn to_message(&self) -> Result<Message<A>, EncodeError>
         ensures ok { IfOk result (λ message. stack_view message ≡ stack_message self.now) }
         ensures again { IfOk result (λ message. stack_in (stack_view message) ≡ Ok self.now) }
@@ -133,7 +131,6 @@ fn are_roots<A: Allocator>(entries: &[HashEntry<A>], count: usize) -> bool
 }
 
 // The entries of the balanced roots of a length, with these digests.
-#[tactic(auto, using(crate::proofs::ImageLemmas::roots_fit))]
 fn entries<D, A: Allocator + Copy>(
     alloc: A,
     count: usize,

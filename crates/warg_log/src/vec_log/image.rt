@@ -24,7 +24,6 @@ impl<D: SupportedDigest, V: VisitBytes, A: Allocator + Copy> VecLog<D, V, A> {
     /// length `n` above 0, and none for 0; each branch that exists has the digest of its children's, and each
     /// other one that of no bytes. Memory grows with the digests that are there, and never by the length. Each
     /// branch is hashed once.
-    #[tactic(auto, using(crate::proofs::TreeLemmas::message_read, crate::proofs::TreeLemmas::no_log, crate::proofs::TreeLemmas::slice_leaves))]
     pub fn from_message(alloc: A, message: Message<A>) -> Result<Self, DecodeError>
         ensures exact { Answers DecodeError.Memory result (vec_in D.digest (vec_view message)) }
         ensures message { IfOk result (λ log. vec_message D.digest log ≡ vec_view message) }
@@ -51,7 +50,6 @@ impl<D: SupportedDigest, V: VisitBytes, A: Allocator + Copy> VecLog<D, V, A> {
 
     /// The log's message, which holds the same log. `TooLarge` exactly if the length is above `u32::MAX`,
     /// before any growth.
-    #[tactic(auto, using(crate::proofs::TreeLemmas::message_is, crate::proofs::TreeLemmas::message_read, crate::proofs::ImageLemmas::all_good))]
     pub fn to_message(&self) -> Result<Message<A>, EncodeError>
         ensures ok { IfOk result (λ message. vec_view message ≡ vec_message D.digest self.now) }
         ensures again { IfOk result (λ message. vec_in D.digest (vec_view message) ≡ Ok self.now) }
@@ -126,7 +124,6 @@ fn are_digests<D, A: Allocator>(digests: &[DigestBytes<A>], tree: &[Hash<D>]) ->
 }
 
 // The bytes of these digests.
-#[tactic(auto, using(warg_protobuf::proofs::ForCallers::all_more, warg_protobuf::proofs::ForCallers::all_whole))]
 fn digests<D, A: Allocator + Copy>(
     alloc: A,
     tree: &[Hash<D>],

@@ -1,10 +1,10 @@
-use Rattle.std.proofs.Common.{◌≡◌, ◌∙◌, sym}
+use Rattle.std.proofs.Common.{◌≡◌, ◌∙◌, sym, inr}
 use Rattle.warg_crypto.specs.EmptyTrees.{empty_root}
 use Rattle.warg_crypto.specs.Tree.{leaf_digest}
 use Rattle.warg_protobuf.specs.MapProofBundle.{MapBundle}
 use Rattle.warg_bundle.specs.MapBundles.{map_bundle_of}
 use Rattle.warg_check.specs.UpdateVerdicts.{leads_both}
-use Rattle.warg_check.proofs.VerdictLemmas.{judged_at, at_place, leads_to}
+use Rattle.warg_check.proofs.VerdictLemmas.{judged_at, none_at, not_refused, not_decoding, at_place, past_place, leads_to}
 use Rattle.warg_check.proofs.update.check_insertion.Goals as goal
 use Rattle.warg_check.proofs.update.check_insertion.Goals.{then-eq, else-eq}
 
@@ -21,5 +21,20 @@ returns-in-Some-clause-verdict g c =
       | then-eq w ↦ rw (first, w.if-eq.true, leads_to H new key c.args.new_root.now peers w.evaluate.result w.eq-then-eq.result w.evaluate.ensures w.eq-then-eq.ensures) (sym w.result-is)
       | else-eq w ↦ rw (first, w.if-eq.false) (sym (w.result-is ∙ w.if-eq.false))
     ] in
-    judged_at (λ (b : MapBundle). b.absences) (λ _. leads_both H key old new c.args.old_root.now c.args.new_root.now) c.args.at (map_bundle_of c.args.bytes.now) c.in_ok-bundle.bundle peers c.if-eq.result
-    c.in_ok-bundle.ensures.exact (at_place _ _ _ _ (c.as_slice.ensures.value ∙ c.unbundle_all-proofs.ensures.absences) get.3.0 get.1) holds
+    judged_at (λ (b : MapBundle). b.absences) (λ _. leads_both H key old new c.args.old_root.now c.args.new_root.now) c.args.at (map_bundle_of c.args.bytes.now)
+    c.in_ok-bundle.bundle peers c.if-eq.result c.in_ok-bundle.ensures.exact
+    (at_place _ _ _ _ (c.as_slice.ensures.value ∙ c.unbundle_all-proofs.ensures.absences) get.3.0 get.1) holds
+
+pub returns-in-Some-clause-memory : goal.returns-in-Some-clause-memory
+returns-in-Some-clause-memory g c = not_refused _ _
+
+pub returns-in-Some-clause-wire : goal.returns-in-Some-clause-wire
+returns-in-Some-clause-wire g c = not_refused _ _
+
+pub returns : goal.returns
+returns g c = record {
+  verdict = inr (none_at (λ (b : MapBundle). b.absences) _ c.args.at _ c.in_ok-bundle.bundle
+      c.in_ok-bundle.ensures.exact (past_place _ _ _ (c.as_slice.ensures.value ∙ c.unbundle_all-proofs.ensures.absences) c.in-None.ensures.lookup.3));
+  memory = not_decoding _;
+  wire = not_decoding _;
+}

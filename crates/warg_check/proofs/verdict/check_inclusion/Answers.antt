@@ -1,7 +1,7 @@
-use Rattle.std.proofs.Common.{◌≡◌, rules}
+use Rattle.std.proofs.Common.{◌≡◌, refl, inr, rules}
 use Rattle.warg_bundle.specs.LogBundles.{Bundle, bundle_of}
 use Rattle.warg_check.specs.Verdicts.{includes}
-use Rattle.warg_check.proofs.VerdictLemmas.{judged_at}
+use Rattle.warg_check.proofs.VerdictLemmas.{judged_at, none_at, not_refused, not_decoding}
 use Rattle.warg_check.proofs.verdict.check_inclusion.Goals as goal
 
 pub returns-in-Some-clause-verdict : goal.returns-in-Some-clause-verdict
@@ -10,3 +10,16 @@ returns-in-Some-clause-verdict g c =
     let shown : holds c.in_ok-bundle.bundle c.in-Some.proof.leaf ≡ c.is_ok_and.result = search rules in
     judged_at (λ (b : Bundle). b.included_nodes) holds c.args.at (bundle_of c.args.bytes.now) c.in_ok-bundle.bundle c.in-Some.proof.leaf c.is_ok_and.result
     c.in_ok-bundle.ensures.exact c.in-Some.ensures.leaf shown
+
+pub returns-in-Some-clause-memory : goal.returns-in-Some-clause-memory
+returns-in-Some-clause-memory g c = not_refused _ _
+
+pub returns-in-Some-clause-wire : goal.returns-in-Some-clause-wire
+returns-in-Some-clause-wire g c = not_refused _ _
+
+pub returns : goal.returns
+returns g c = record {
+  verdict = inr (none_at (λ (b : Bundle). b.included_nodes) _ c.args.at _ c.in_ok-bundle.bundle c.in_ok-bundle.ensures.exact (c.in-None.ensures.none.0 refl));
+  memory = not_decoding _;
+  wire = not_decoding _;
+}

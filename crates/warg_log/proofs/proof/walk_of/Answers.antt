@@ -1,7 +1,7 @@
-use Rattle.std.proofs.Common.{◌≡◌, ◌∙◌, ◌-◌}
+use Rattle.std.proofs.Common.{◌≡◌, ◌∙◌, ◌-◌, le_trans, arith}
 use Rattle.warg_log.specs.Walks.{needed, IsWalk}
 use Rattle.warg_log.proofs.WayLemmas.{starts}
-use Rattle.warg_log.proofs.StepLemmas.{numbers, walk_at}
+use Rattle.warg_log.proofs.StepLemmas.{numbers, no_fewer, walk_at}
 use Rattle.warg_log.proofs.proof.walk_of.Goals as goal
 use Rattle.warg_log.proofs.proof.walk_of.Goals.{After-len-2}
 
@@ -17,3 +17,18 @@ returns-clause-needed g c = (whole g (goal.at.returns-clause-needed g c).After-l
 
 pub returns-clause-order : goal.returns-clause-order
 returns-clause-order g c = (whole g (goal.at.returns-clause-order g c).After-len-2).1
+
+pub leaf_range-leaves-requires : goal.leaf_range-leaves-requires
+leaf_range-leaves-requires g c = omega (arith, c.in_ok-nodes.ensures.way.exists, c.requires.fits)
+
+pub overflow_sub-lower_broots : goal.overflow_sub-lower_broots
+overflow_sub-lower_broots g c = rw (c.len-initial_walk_len.ensures ∙ c.in_ok-nodes.nodes.ok.0, c.len.ensures ∙ c.add_roots.new.nodes.ok.0) (no_fewer _ _ _ c.in_ok-add_roots.ensures)
+
+pub overflow_sub-result : goal.overflow_sub-result
+overflow_sub-result g c = rw (c.len-initial_walk_len.ensures ∙ c.in_ok-nodes.nodes.ok.0, c.len-2.ensures ∙ c.add_roots-2.new.nodes.ok.0)
+    (le_trans (no_fewer c.in_ok-nodes.nodes.items c.add_roots.new.nodes.items _ c.in_ok-add_roots.ensures)
+    (no_fewer c.add_roots.new.nodes.items c.add_roots-2.new.nodes.items _ c.in_ok-add_roots-2.ensures))
+
+pub overflow_sub-result-2 : goal.overflow_sub-result-2
+overflow_sub-result-2 g c = rw (c.len.ensures ∙ c.add_roots.new.nodes.ok.0, c.len-2.ensures ∙ c.add_roots-2.new.nodes.ok.0)
+    (omega (arith, no_fewer c.add_roots.new.nodes.items c.add_roots-2.new.nodes.items _ c.in_ok-add_roots-2.ensures))

@@ -20,3 +20,6 @@ pub invariant_of-self-2 : goal.invariant_of-self-2
 invariant_of-self-2 g c =
     let at = ready g (goal.at.invariant_of-self-2 g c).After-push_reserved-2 in
     rw c.join_up.ensures.leaves (omega (arith, at), c.join_up.ensures.slice, c.self.invariant.2, omega arith)
+
+pub returns-clause-ok : goal.returns-clause-ok
+returns-clause-ok g c = rw (← c.self.view_is) (c.join_up.ensures.leaves ∙ (ready g (goal.at.returns-clause-ok g c).After-push_reserved-2).leaves)

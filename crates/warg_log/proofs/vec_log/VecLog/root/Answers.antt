@@ -1,5 +1,6 @@
-use Rattle.std.proofs.Common.{refl, ◌∙◌, arith}
-use Rattle.warg_log.proofs.SliceLemmas.{no_root, next_root}
+use Rattle.std.proofs.Common.{◌≡◌, refl, ◌∙◌, arith}
+use Rattle.warg_log.proofs.SliceLemmas.{slice_size, no_root, next_root, whole_root}
+use Rattle.warg_log.proofs.NodeLemmas.{last_width}
 use Rattle.warg_log.proofs.vec_log.VecLog.root.Goals as goal
 use Rattle.warg_log.proofs.vec_log.VecLog.root.Goals.{in-Some, in-None}
 
@@ -12,3 +13,23 @@ roots-preserved g c =
       | in-Some w ↦ rw w.in-Some.is (w.root-is ∙ w.hash_branch.ensures)
       | in-None w ↦ rw w.in-None.is (w.root-is ∙ w.copied.ensures)
     ])
+
+pub overflow_sub-start : goal.overflow_sub-start
+overflow_sub-start g c = (last_width c.roots.end c.roots-test.true (omega (arith, c.roots.auto.end-fits))).1
+
+pub index-left-requires : goal.index-left-requires
+index-left-requires g c = omega (
+  arith,
+  last_width c.roots.end c.roots-test.true (omega (arith, c.roots.auto.end-fits)),
+  slice_size g.D.SupportedDigest.digest _ c.self.inside.tree.items c.self.invariant.1,
+  c.self.inside.tree.ok.0,
+  c.roots.invariant.within,
+)
+
+pub roots-smaller : goal.roots-smaller
+roots-smaller g c = omega (arith, last_width c.roots.end c.roots-test.true (omega (arith, c.roots.auto.end-fits)), c.roots-test.true)
+
+pub returns : goal.returns
+returns g c =
+    let none : c.roots.end ≡ 0 = omega (arith, c.roots-test.false) in
+    rw (c.unwrap_or.ensures, c.copied-2.ensures, c.self.invariant.2, ← c.self.view_is) (whole_root _ _ c.roots.root (rw none at c.roots.invariant))

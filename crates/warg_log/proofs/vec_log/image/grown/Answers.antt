@@ -1,8 +1,11 @@
-use Rattle.std.proofs.Common.{arith, ap, ◌∙◌, length, take, sym}
-use Rattle.std.proofs.lemmas.List.{length-take-le}
-use Rattle.std.proofs.lemmas.Grind.{common_steps}
+use Rattle.std.proofs.Common.{arith, ap, ◌∙◌, length, take, sym, refl, inr, eq-eqb}
+use Rattle.std.proofs.lemmas.Bool.{ne_eqb}
+use Rattle.std.proofs.lemmas.List.{length-take-le, take_all}
+use Rattle.std.proofs.lemmas.Result.{err_from_is_err_and}
 use Rattle.warg_protobuf.specs.Decoding.{digest_fault}
-use Rattle.warg_protobuf.proofs.ForCallers.{fault_after}
+use Rattle.warg_protobuf.proofs.ForCallers.{fault_after, no_fault_left}
+use Rattle.warg_log.specs.Tree.{leaves_in}
+use Rattle.warg_log.proofs.ImageLemmas.{front_left}
 use Rattle.warg_log.proofs.AppendLemmas.{leaves_more}
 use Rattle.warg_log.proofs.TreeLemmas.{leaves_count}
 use Rattle.warg_log.proofs.vec_log.image.grown.Goals as goal
@@ -26,5 +29,24 @@ places-preserved g c =
         | else-place-eq0 w ↦ rw (w.log-is, c.places.invariant.grown) (sym (more.1 (omega arith)))
       ];
       good = c.places.invariant.good ∙ fault_after digest_fault c.args.tree.now c.places.place c.index-tree-place.result c.places-test.true c.index-tree-place.is
-          (grind (arith, common_steps));
+          (rw (eq-eqb (length c.index-tree-place.result) 32 (rw c.as_slice.ensures at c.in_ok-hash.ensures.length)) refl);
     }
+
+pub returns-in_err-hash-clause-fault : goal.returns-in_err-hash-clause-fault
+returns-in_err-hash-clause-fault g c =
+    let p = err_from_is_err_and c.from_residual.result c.from_residual.ensures.1 in
+    let fault = c.in_err-hash.ensures.fault in
+    rw (p.1, p.2, fault.0) (inr (
+      refl,
+      rw (
+        c.places.invariant.good,
+        front_left _ _ c.index-tree-place.result c.places-test.true c.index-tree-place.is,
+        ne_eqb (length c.index-tree-place.result) 32 (rw c.as_slice.ensures at fault.1),
+      ) refl,
+    ))
+
+pub returns-clause-ok : goal.returns-clause-ok
+returns-clause-ok g c = c.places.invariant.grown ∙ ap leaves_in (take_all _ _ c.places-test.false)
+
+pub returns-clause-good : goal.returns-clause-good
+returns-clause-good g c = no_fault_left digest_fault _ _ c.places.invariant.good c.places-test.false

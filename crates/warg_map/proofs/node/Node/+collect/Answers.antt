@@ -7,7 +7,7 @@ use Rattle.warg_map.specs.declared.node.Node.TheVariants.{Fork, Stem}
 use Rattle.warg_map.proofs.TreeForm.{of_content}
 use Rattle.warg_map.proofs.FoundInNode.{finds_in_fork, run_of_stem, found_below, found_apart}
 use Rattle.warg_map.proofs.StemRoots.{root-stem}
-use Rattle.warg_map.proofs.CollectedPeers.{answered, collects_fork, collects_none, collects_below, collects_beside}
+use Rattle.warg_map.proofs.CollectedPeers.{collects_fork, collects_none, collects_run, collects_beside}
 use Rattle.warg_map.proofs.node.Node.+collect.Goals as goal
 use Rattle.warg_map.proofs.node.Node.+collect.Goals.{After-node, After-is_of_absence-then-shared-stem, After-node-in-Stem}
 
@@ -38,22 +38,7 @@ pub returns-in-Empty-clause-peers : goal.returns-in-Empty-clause-peers
 returns-in-Empty-clause-peers g t c = rw (c.in-Empty.is, c.then_some-to.ensures) (collects_none _ _ _ _ _ c.requires.none)
 
 pub returns-in_err-collect-in-Fork-clause-answer : goal.returns-in_err-collect-in-Fork-clause-answer
-returns-in_err-collect-in-Fork-clause-answer g t c = rw (child g t (goal.at.returns-in_err-collect-in-Fork-clause-answer g t c).After-node) (search rules)
-
-pub returns-else-is_some-clause-answer : goal.returns-else-is_some-clause-answer
-returns-else-is_some-clause-answer g t c = rw (child g t (goal.at.returns-else-is_some-clause-answer g t c).After-node) (search rules)
-
-pub returns-in_err-push-in-Fork-clause-answer : goal.returns-in_err-push-in-Fork-clause-answer
-returns-in_err-push-in-Fork-clause-answer g t c = rw (child g t (goal.at.returns-in_err-push-in-Fork-clause-answer g t c).After-node) (search rules)
-
-pub returns-in_ok-push-in-Fork-clause-answer : goal.returns-in_ok-push-in-Fork-clause-answer
-returns-in_ok-push-in-Fork-clause-answer g t c = rw (child g t (goal.at.returns-in_ok-push-in-Fork-clause-answer g t c).After-node) (search rules)
-
-pub returns-in_ok-push-in-Fork-clause-peers : goal.returns-in_ok-push-in-Fork-clause-peers
-returns-in_ok-push-in-Fork-clause-peers g t c =
-    collects_fork g.D.SupportedDigest.digest c.collect.new.to.held c.args.self.now c.node.result.now _ c.args.key.now _ c.args.depth _ _ _ c.index-then-is_some.result.now (of_content Fork c.in-Fork.is c.as_ref-fork.ensures) c.requires.well_formed c.requires.height c.side_at-side.ensures
-    (c.node.ensures.seen ∙ c.index.ensures) (c.index-then-is_some.ensures ∙ ap (λ b. cond b c.as_ref-fork.result.now.right c.as_ref-fork.result.now.left) c.opposite.ensures) (c.copied.ensures ∙ c.hash.ensures)
-    (sym c.is_some.ensures ∙ c.if-is_some.true) c.in_ok-collect-in-Fork.ensures.peers c.in_ok-push-in-Fork.ensures.items
+returns-in_err-collect-in-Fork-clause-answer g t c = rw (child g t (goal.at.returns-in_err-collect-in-Fork-clause-answer g t c).After-node) c.collect.ensures.answer
 
 pub returns-then-not-is_of_absence-clause-answer : goal.returns-then-not-is_of_absence-clause-answer
 returns-then-not-is_of_absence-clause-answer g t c = rw (apart g t (goal.at.returns-then-not-is_of_absence-clause-answer g t c).After-is_of_absence-then-shared-stem) (search rules)
@@ -73,22 +58,28 @@ returns-then-shared-stem-clause-peers g t c =
     on_ok_weaker _ (λ added. collects_beside g.D.SupportedDigest.digest _ _ _ _ c.args.key.now _ c.args.depth _ _ _ _ run.1 less shared.same (shared.apart less) (rw run.0 at far) (rw c.requires.none at added)) c.push_beside.ensures
 
 pub returns-in_err-collect-in-Stem-clause-answer : goal.returns-in_err-collect-in-Stem-clause-answer
-returns-in_err-collect-in-Stem-clause-answer g t c = rw (below g t (goal.at.returns-in_err-collect-in-Stem-clause-answer g t c).After-node-in-Stem) (search rules)
+returns-in_err-collect-in-Stem-clause-answer g t c = rw (below g t (goal.at.returns-in_err-collect-in-Stem-clause-answer g t c).After-node-in-Stem) c.collect-in-Stem.ensures.answer
 
-pub returns-in_default-clause-answer : goal.returns-in_default-clause-answer
-returns-in_default-clause-answer g t c = rw (below g t (goal.at.returns-in_default-clause-answer g t c).After-node-in-Stem) (search rules)
+pub returns-in_ok-collect-in-Fork : goal.returns-in_ok-collect-in-Fork
+returns-in_ok-collect-in-Fork g t c = record {
+  answer = rw (c.push_half.ensures.held, child g t (goal.at.returns-in_ok-collect-in-Fork g t c).After-node) c.collect.ensures.answer;
+  refused = rw c.push_half.ensures.held c.push_half.ensures.refused;
+  peers = rw c.push_half.ensures.held (on_ok_weaker c.push_half.result (λ added. collects_fork g.D.SupportedDigest.digest c.collect.new.to.held c.args.self.now c.node.result.now _
+      c.args.key.now _ c.args.depth _ _ c.hash.result.now c.index-in-Fork.result.now
+      (of_content Fork c.in-Fork.is c.as_ref-fork.ensures) c.requires.well_formed c.requires.height c.side_at-side.ensures
+      (c.node.ensures.seen ∙ c.index.ensures) (c.index-in-Fork.ensures ∙ ap (λ b. cond b c.as_ref-fork.result.now.right c.as_ref-fork.result.now.left) c.opposite.ensures) c.hash.ensures
+      c.in_ok-collect-in-Fork.ensures.peers added) c.push_half.ensures.peers);
+}
 
-pub returns-in-Some-clause-answer : goal.returns-in-Some-clause-answer
-returns-in-Some-clause-answer g t c = rw (below g t (goal.at.returns-in-Some-clause-answer g t c).After-node-in-Stem) (search rules)
-
-pub returns-in-Some-clause-peers : goal.returns-in-Some-clause-peers
-returns-in-Some-clause-peers g t c =
-    let is = of_content Stem c.in-Stem.is c.as_ref-stem.ensures in
-    let run = run_of_stem c.args.self.now _ c.args.depth is c.requires.well_formed c.requires.height in
+pub returns-in_ok-collect-in-Stem : goal.returns-in_ok-collect-in-Stem
+returns-in_ok-collect-in-Stem g t c =
+    let run = run_of_stem c.args.self.now _ c.args.depth (of_content Stem c.in-Stem.is c.as_ref-stem.ensures) c.requires.well_formed c.requires.height in
     let same = (found_below _ _ _ c.args.key.now _ _ _ _ _ run.1 c.shared_bits-shared.ensures.at_most c.if-shared-stem.false c.shared_bits-shared.ensures.same).0 in
-    let formed = rw is at c.requires.well_formed in
-    let len = c.as_ref-stem.result.now.len in
-    let halves : 256 - c.args.depth - (256 - (c.args.depth + len)) ≡ len = omega (arith, run.1.whole) in
-    let place : 256 - (c.args.depth + len) ≡ 256 - c.args.depth - len = omega arith in
-    rw c.in-Some.is (on_ok_weaker _ (λ added. collects_below g.D.SupportedDigest.digest c.in-Some.held _ c.as_ref-stem.result.now.below _ _ _ c.args.key.now c.args.depth _ _ _ run.1 formed.formed.1 c.node-in-Stem.ensures.seen same (answered _ _ _ _ (rw c.in-Some.is at c.in_ok-collect-in-Stem.ensures.answer))
-    (rw c.in-Some.is at c.in_ok-collect-in-Stem.ensures.peers) (rw (halves, place) at added)) c.push_empty_halves.ensures)
+    let formed = rw (of_content Stem c.in-Stem.is c.as_ref-stem.ensures) at c.requires.well_formed in
+    record {
+      answer = rw (c.push_empty.ensures.held, below g t (goal.at.returns-in_ok-collect-in-Stem g t c).After-node-in-Stem) c.collect-in-Stem.ensures.answer;
+      refused = rw c.push_empty.ensures.held c.push_empty.ensures.refused;
+      peers = rw c.push_empty.ensures.held (on_ok_weaker c.push_empty.result (λ added. collects_run g.D.SupportedDigest.digest c.args.to.now.asked _ _
+          c.as_ref-stem.result.now.below _ _ _ c.args.key.now c.args.depth _ _ _ run.1 formed.formed.1 c.node-in-Stem.ensures.seen same
+          c.collect-in-Stem.ensures.answer c.in_ok-collect-in-Stem.ensures.peers added) c.push_empty.ensures.peers);
+    }

@@ -1,5 +1,5 @@
 use Rattle.std.proofs.Common.{◌≡◌, ◌<◌, ◌≤◌, length, map, None, Some, Err, Ok, arith, inl, inr, refl, ◌∙◌, ◌⊎◌}
-use Rattle.std.proofs.lemmas.Bool.Decides.{nat_tests}
+use Rattle.std.proofs.lemmas.Bool.{le-leb, lt-leb}
 use Rattle.std.proofs.lemmas.List.{length-map}
 use Rattle.std.proofs.lemmas.Result.{err_from_is_err_and}
 use Rattle.warg_protobuf.specs.declared.value_error.DecodeError.{DecodeError}
@@ -11,14 +11,14 @@ use Rattle.warg_map.specs.Messages.{Peers, peer_fault, proof_in}
 use Rattle.warg_map.proofs.proof.Proof.from_message.Goals as goal
 
 too_many : (peers : Peers) → 256 < length peers → proof_in peers ≡ Err TooManyPeers
-too_many peers h = grind (arith, nat_tests)
+too_many peers h = rw (lt-leb (length peers) 256 h) refl
 
 no_fault : (peers : Peers) → length peers ≤ 256 → first_fault peer_fault peers ≡ None → proof_in peers ≡ Ok peers
-no_fault peers h none = grind (arith, nat_tests)
+no_fault peers h none = rw (le-leb (length peers) 256 h, none) refl
 
 some_fault : (peers : Peers) (e : DecodeError) → length peers ≤ 256 → (e ≡ Memory) ⊎ ((e ≡ HashLength) × (first_fault peer_fault peers ≡ Some e)) → (e ≡ Memory) ⊎ (proof_in peers ≡ Err e)
 some_fault peers e h (inl memory) = inl memory
-some_fault peers e h (inr fault) = let is = fault.1 in inr (grind (arith, nat_tests))
+some_fault peers e h (inr fault) = inr (rw (le-leb (length peers) 256 h, fault.1) refl)
 
 not_wire : (e : DecodeError) (wire : WireError) (P : Type 0) → (e ≡ Memory) ⊎ ((e ≡ HashLength) × P) → ¬ (e ≡ Wire wire)
 not_wire e wire P (inl memory) is = cc

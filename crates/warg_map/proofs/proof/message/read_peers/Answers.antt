@@ -1,5 +1,6 @@
-use Rattle.std.proofs.Common.{◌≡◌, List, ◌∷◌, Option, Some, map, refl, ◌∙◌, inl, inr}
+use Rattle.std.proofs.Common.{◌≡◌, List, ◌∷◌, ◌++◌, Option, Some, map, refl, sym, ap, ◌∙◌, inl, inr}
 use Rattle.std.specs.Vec.Iter.{into_iter_items}
+use Rattle.std.proofs.lemmas.List.{append-nil, nil_from_length}
 use Rattle.std.proofs.lemmas.Result.{err_from_is_err_and}
 use Rattle.warg_protobuf.specs.declared.value_error.DecodeError.{DecodeError}
 use Rattle.warg_protobuf.specs.OptionalHash.{hash_view}
@@ -31,3 +32,17 @@ pub returns-in_err-push : goal.returns-in_err-push
 returns-in_err-push g c =
     let p = err_from_is_err_and c.from_residual-in_err-push.result c.from_residual-in_err-push.ensures.1 in
     rw (p.1, p.2) (record { ok = tt; good = tt; fault = inl refl })
+
+pub hashes-init : goal.hashes-init
+hashes-init g c =
+    let all = c.into_iter-hash-iterator.ensures.into_iter_gives.0 in
+    record { can = tt; ends = tt; read = rw (c.new-peers.ensures.items, all) refl; fault = ap (λ ys. first_fault peer_fault (map hash_view ys)) (sym all) }
+
+pub returns : goal.returns
+returns g c =
+    let none = nil_from_length (into_iter_items c.hashes.hash-iterator) (sym c.hashes.hash-iterator.rest.ok.0 ∙ c.in-None.ensures.steps.0) in
+    record {
+      ok = sym (append-nil c.hashes.peers.items) ∙ ap (λ ys. c.hashes.peers.items ++ map hash_view ys) (sym none) ∙ c.hashes.invariant.read;
+      good = c.hashes.invariant.fault ∙ ap (λ ys. first_fault peer_fault (map hash_view ys)) none;
+      fault = tt;
+    }

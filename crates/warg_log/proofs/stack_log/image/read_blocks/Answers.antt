@@ -1,0 +1,38 @@
+use Rattle.std.proofs.Common.{length, map, ap, refl, inr, eq-eqb, ◌∙◌}
+use Rattle.std.proofs.lemmas.Bool.{ne_eqb}
+use Rattle.std.proofs.lemmas.List.{drop_all}
+use Rattle.std.proofs.lemmas.Result.{err_from_is_err_and}
+use Rattle.warg_protobuf.specs.HashEntry.{Entry, entry_view}
+use Rattle.warg_protobuf.specs.Decoding.{first_fault, digest_fault}
+use Rattle.warg_protobuf.proofs.ForCallers.{mapped_twice_more, mapped_twice_whole}
+use Rattle.warg_log.proofs.ImageLemmas.{front_left}
+use Rattle.warg_log.proofs.stack_log.image.read_blocks.Goals as goal
+
+pub returns-in_err-hash-clause-fault : goal.returns-in_err-hash-clause-fault
+returns-in_err-hash-clause-fault g c =
+    let p = err_from_is_err_and c.from_residual.result c.from_residual.ensures.1 in
+    let fault = c.in_err-hash.ensures.fault in
+    rw (p.1, p.2, fault.0) (inr (
+      refl,
+      rw (
+        c.entries.invariant.good,
+        front_left _ _ c.entry-item.result c.entries-test.true c.entry-item.is,
+        ne_eqb (length c.entry-item.result.hash.items) 32 (rw c.as_slice.ensures.value at fault.1),
+      ) refl,
+    ))
+
+pub entries-preserved : goal.entries-preserved
+entries-preserved g c = record {
+  read = mapped_twice_more entry_view (λ e. e.hash) _ _ c.entry-item.result _ _ _ c.entries-test.true c.entry-item.is c.entries.invariant.read c.in_ok-push.ensures.items
+      (c.in_ok-hash.ensures.ok ∙ c.as_slice.ensures.value);
+  good = c.entries.invariant.good ∙ rw (
+    front_left _ _ c.entry-item.result c.entries-test.true c.entry-item.is,
+    eq-eqb (length c.entry-item.result.hash.items) 32 (rw c.as_slice.ensures.value at c.in_ok-hash.ensures.length),
+  ) refl;
+}
+
+pub returns-clause-ok : goal.returns-clause-ok
+returns-clause-ok g c = mapped_twice_whole entry_view (λ e. e.hash) _ _ _ c.entries.invariant.read c.entries-test.false
+
+pub returns-clause-good : goal.returns-clause-good
+returns-clause-good g c = c.entries.invariant.good ∙ ap (λ es. first_fault digest_fault (map (λ (e : Entry). e.hash) (map entry_view es))) (drop_all _ _ c.entries-test.false)
