@@ -329,7 +329,7 @@ def main():
     asked.add_argument("--only", default="")
     asked.add_argument("--json", type=pathlib.Path, help="where to write the processor seconds of each crate")
     asked = asked.parse_args()
-    crates = [Crate(it) for it in kit.crates() if (kit.ROOT / "crates" / it / "wrong-bodies").is_dir()]
+    crates = [Crate(it) for it in kit.crates() if any((kit.ROOT / "crates" / it / part).is_dir() for part in ("wrong-bodies", "must-fail"))]
     crates = [it for it in crates if not asked.crate or it.name in asked.crate]
     crates.sort(key=lambda it: -len(list(it.folder.glob("wrong-bodies/*.edit"))))
     for crate in crates if asked.build else []:
