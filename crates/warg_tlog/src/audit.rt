@@ -68,6 +68,7 @@ fn remake(
     compare_tiles(rt, folder, log.take_full().as_slice())
 }
 
+// Adds the entries of a bundle.
 fn push_bundle(
     rt: &HostRuntime,
     folder: &Folder,
