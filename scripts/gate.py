@@ -1,6 +1,6 @@
 #!/usr/bin/env python3
-"""The merge gate, on a copy of the tree without what earlier checks left: every crate proved from nothing, and the tests
-and the programs built and run, by the kit; the wrong bodies over the work that these proofs have kept; the examples for C,
+"""The merge gate, on a copy of the tree without what earlier checks left: the layout; every crate proved from nothing, and
+the tests and the programs built and run; the wrong bodies over the work that these proofs have kept; the examples for C,
 Python, Rust and Go; the programs with right and wrong arguments; and the comparisons with Google's protobuf and Go's
 checksum database where these are there.
 
@@ -9,7 +9,6 @@ The kit's own gate, rt ci, keeps nothing of a proof, and so proves a crate once 
 Prints what each part took in processor minutes, and last 'N passed, M failed'.
 """
 
-import collections
 import json
 import os
 import pathlib
@@ -19,8 +18,9 @@ import shutil
 import subprocess
 import sys
 import tempfile
-import threading
 import time
+
+import kit
 
 ROOT = pathlib.Path(__file__).resolve().parent.parent
 BEFORE = (["foreign_proofs.py"], ["definitions.py", "--check"], ["calls.py", "--check"], ["counts.py", "--check"], ["check_docs.py"], ["check_header.py"])
@@ -30,13 +30,9 @@ BEHIND = (
     ["tlog_kills.py", "crates/warg_tlog/out/warg_tlog", "20"],
     ["check_protobuf.py", "crates/warg_vectors/out/warg_vectors"],
 )
-TICKS = os.sysconf("SC_CLK_TCK")
 CLOSING = re.compile(r"(\d+) passed, (\d+) failed\n?")
-# A proof that rests on nothing but the logic and what this run has proved: no handle but in tests, no C function of ours, no bug.
-VERDICT = re.compile(
-    r"logic=proved (functions=\d+( axioms=\d+ target=\S+ cpu=\S+)?|tests=\d+ functions=\d+ axioms=\d+ target=\S+ cpu=\S+( main=Abort)?( may-abort=\d+)?)"
-    r" sum=\w+ native=nat,char,string logic-built=trusted libraries-built=trusted statements=trusted incremental=trusted\n"
-)
+# Where the prover reads a file.
+READ = {".rt": ("src",), ".antt": ("specs", "proofs")}
 
 
 def copy_of_the_tree(to):
@@ -49,67 +45,19 @@ def copy_of_the_tree(to):
             shutil.copy2(ROOT / name, to / name)
 
 
-def lay_data(tree):
-    """Lays a program's files where the kit runs it, in the crate's folder."""
-    for data in tree.glob("crates/*/data"):
-        shutil.copytree(data, data.parent, dirs_exist_ok=True)
+def are_laid_out(tree):
+    """Whether each file of code and proofs stands where the prover reads it, in the layout of rt fmt."""
+    files = [it.relative_to(tree) for it in sorted(tree.rglob("*")) if it.suffix in READ]
+    stray = [str(it) for it in files if len(it.parts) < 4 or it.parts[0] != "crates" or it.parts[2] not in READ[it.suffix]]
+    for it in stray:
+        print(f"{it}: no proof reads this file")
+    return not stray and not subprocess.run([kit.RATTLE, "fmt", "--check", *files], cwd=tree).returncode
 
 
 def used():
     """Returns the processor seconds of all that has ended below this process."""
     spent = resource.getrusage(resource.RUSAGE_CHILDREN)
     return spent.ru_utime + spent.ru_stime
-
-
-class Watch(threading.Thread):
-    """Looks at the kit as it runs: what each check takes."""
-
-    def __init__(self, room):
-        super().__init__(daemon=True)
-        self.temporary = room / "tmp"
-        # the kit runs what it built as nobody
-        room.chmod(0o755)
-        self.temporary.mkdir(mode=0o777)
-        self.seconds, self.names = {}, {}
-        self.ended = threading.Event()
-
-    def run(self):
-        while not self.ended.wait(0.5):
-            self.look_at_checks()
-
-    def look_at_checks(self):
-        for entry in pathlib.Path("/proc").iterdir():
-            if not entry.name.isdigit():
-                continue
-            try:
-                # (a process is another program until it runs the prover)
-                if not self.names.get(entry.name):
-                    self.names[entry.name] = self.name_of(entry)
-                if self.names[entry.name]:
-                    # utime, stime, cutime and cstime, behind the name in brackets
-                    fields = (entry / "stat").read_text().rpartition(")")[2].split()
-                    self.seconds[entry.name, self.names[entry.name]] = sum(map(int, fields[11:15])) / TICKS
-            except OSError:
-                self.names.pop(entry.name, None)
-
-    def name_of(self, entry):
-        """Returns the crate and the kind of check of a process of this gate's, or None for any other process."""
-        words = (entry / "cmdline").read_bytes().decode(errors="replace").split("\0")
-        if not words[0].endswith("/rattle") or "--crate-name" not in words:
-            return None
-        is_ours = f"TMPDIR={self.temporary}\0".encode() in (entry / "environ").read_bytes() + b"\0"
-        parent = (entry / "stat").read_text().rpartition(")")[2].split()[1]
-        # a forked copy counts in its parent's time
-        if not is_ours or self.names.get(parent):
-            return None
-        return words[words.index("--crate-name") + 1], "tests" if "--test" in words else "proof"
-
-    def by_part(self):
-        """Returns the processor seconds by the crate and the kind of check."""
-        total = collections.Counter()
-        for (_, part), seconds in self.seconds.items():
-            total[part] += seconds
-        return total
 
 
 def ran(words, folder, **more):
@@ -119,24 +67,8 @@ def ran(words, folder, **more):
         for line in part.stdout:
             lines.append(line)
             # the closing line is this script's own
-            print(f"the kit's part ended with: {line}" if CLOSING.fullmatch(line) else line, end="", flush=True)
+            print(f"a part ended with: {line}" if CLOSING.fullmatch(line) else line, end="", flush=True)
     return lines, not part.returncode, used() - before
-
-
-def prove_and_test(tree, watch):
-    """Proves every crate, and builds and runs its tests and, by both of the kit's compilers, its program.
-
-    Returns whether all went well, and how many crates did.
-    """
-    # a proof takes up to 4 GB
-    jobs = min(len(os.sched_getaffinity(0)), os.sysconf("SC_PHYS_PAGES") * os.sysconf("SC_PAGE_SIZE") >> 32)
-    settings = {"TMPDIR": str(watch.temporary), "RT_BACKEND": "both"}
-    lines, well, _ = ran(["rt", "all", "test", "--jobs", str(max(jobs, 1))], tree, env={**os.environ, **settings})
-    for line in lines:
-        if line.startswith("logic=") and not VERDICT.fullmatch(line):
-            print(f"a verdict that may not rest on that: {line}", end="")
-            well = False
-    return well, sum(line.endswith(": ok\n") for line in lines)
 
 
 def install_peers():
@@ -164,63 +96,79 @@ def compare_with_go(tree):
     return int(well), int(not well), seconds
 
 
-def table(watch, rest):
+def table(taken, rounds, rest):
     """Returns the rows of what each part took, in processor minutes."""
-    taken = watch.by_part()
-    crates = list(dict.fromkeys(crate for crate, _ in taken))
     yield "| processor minutes | proof and build | wrong bodies | tests |"
     yield "|---|---|---|---|"
-    total = collections.Counter()
-    for crate in crates:
-        row = [taken[crate, "proof"], rest["rounds"].get(crate, 0), taken[crate, "tests"]]
-        total.update(dict(enumerate(row)))
-        yield f"| `{crate}` | " + " | ".join(f"{it / 60:.1f}" for it in row) + " |"
-    yield "| all | " + " | ".join(f"{total[it] / 60:.1f}" for it in range(3)) + " |"
+    rows = {it: [seconds["proof"], rounds.get(it, 0), seconds["tests"]] for it, seconds in taken.items()}
+    total = [sum(column) for column in zip(*rows.values())]
+    for crate, row in [*((f"`{it}`", row) for it, row in rows.items()), ("all", total)]:
+        yield f"| {crate} | " + " | ".join(f"{it / 60:.1f}" for it in row) + " |"
     yield f"| examples for C, Python, Rust and Go | {rest['examples'] / 60:.1f} | | |"
     yield f"| comparison with Go's checksum database | {rest['interop'] / 60:.1f} | | |"
     everything = used()
-    other = everything - sum(total.values()) - rest["examples"] - rest["interop"]
-    yield f"| runs of programs and tests, and all else | {other / 60:.1f} | | |"
+    other = everything - sum(total) - rest["examples"] - rest["interop"]
+    yield f"| runs of programs, and all else | {other / 60:.1f} | | |"
     yield f"| in all {everything / 60:.0f}, by the clock {rest['clock'] / 60:.0f}, on {len(os.sched_getaffinity(0))} processors | | | |"
+
+
+class Gate:
+    """The parts of the gate, what has passed and failed, and the processor seconds of each part."""
+
+    def __init__(self, room):
+        self.room, self.tree = room, room / "tree"
+        self.passed = self.failed = 0
+        self.rest = {"examples": 0.0, "interop": 0.0}
+
+    def count(self, passed, failed):
+        self.passed, self.failed = self.passed + passed, self.failed + failed
+
+    def script(self, name, *words):
+        """Runs a script, which passes or fails as a whole."""
+        _, well, _ = ran([sys.executable, f"scripts/{name}", *words], self.tree)
+        self.count(well, not well)
+
+    def counting(self, name, closing):
+        """Runs a script whose last line counts what passed and failed. Returns the processor seconds of each crate."""
+        file = self.room / f"{name}.json"
+        lines, _, _ = ran([sys.executable, f"scripts/{name}", "--json", str(file)], self.tree)
+        counted = re.fullmatch(closing + r": (\d+) \w+, (\d+) failed.*\n", lines[-1] if lines else "")
+        self.count(int(counted[1]) if counted else 0, int(counted[2]) if counted else 1)
+        return json.loads(file.read_text()) if counted else {}
+
+    def examples(self):
+        _, well, self.rest["examples"] = ran(["bash", "-ec", "ffi/build.sh --as-proved; ffi/test.sh"], self.tree)
+        self.count(well, not well)
+
+    def behind(self):
+        """Runs what needs the programs that have just been proved and built."""
+        self.examples()
+        for script in BEHIND:
+            self.script(*script)
+        well, badly, self.rest["interop"] = compare_with_go(self.tree)
+        self.count(well, badly)
 
 
 def main():
     began = time.monotonic()
     install_peers()
     with tempfile.TemporaryDirectory(prefix="warg-gate-") as room:
-        room = pathlib.Path(room)
-        tree = room / "tree"
-        tree.mkdir()
-        copy_of_the_tree(tree)
-        passed = failed = 0
-        rest = {"rounds": {}, "examples": 0.0, "interop": 0.0}
+        gate = Gate(pathlib.Path(room))
+        gate.tree.mkdir()
+        copy_of_the_tree(gate.tree)
+        well = are_laid_out(gate.tree)
+        gate.count(well, not well)
         for script in BEFORE:
-            _, well, _ = ran([sys.executable, f"scripts/{script[0]}", *script[1:]], tree)
-            passed, failed = passed + well, failed + (not well)
-        watch = Watch(room)
-        watch.start()
-        lay_data(tree)
-        well, done = prove_and_test(tree, watch)
-        watch.ended.set()
-        watch.join()
-        passed, failed = passed + done, failed + (not well)
-        if well:
-            words = [sys.executable, "scripts/wrong_bodies.py", "--json", str(room / "rounds")]
-            lines, well, _ = ran(words, tree)
-            counted = re.search(r"wrong bodies: (\d+) refused, (\d+) failed", lines[-1] if lines else "")
-            passed, failed = passed + int(counted[1] if counted else 0), failed + int(counted[2] if counted else 1)
-            rest["rounds"] = json.loads((room / "rounds").read_text()) if counted else {}
-            _, well, rest["examples"] = ran(["bash", "-ec", "ffi/build.sh --as-proved; ffi/test.sh"], tree)
-            passed, failed = passed + well, failed + (not well)
-            for script in BEHIND:
-                _, well, _ = ran([sys.executable, f"scripts/{script[0]}", *script[1:]], tree)
-                passed, failed = passed + well, failed + (not well)
-            well, badly, rest["interop"] = compare_with_go(tree)
-            passed, failed = passed + well, failed + badly
-        rest["clock"] = time.monotonic() - began
-        print("\n".join(table(watch, rest)))
-    print(f"{passed} passed, {failed} failed")
-    sys.exit(1 if failed else 0)
+            gate.script(*script)
+        taken = gate.counting("prove_all.py", "crates")
+        rounds = {}
+        if not gate.failed:
+            rounds = gate.counting("wrong_bodies.py", "wrong bodies")
+            gate.behind()
+        gate.rest["clock"] = time.monotonic() - began
+        print("\n".join(table(taken, rounds, gate.rest)))
+    print(f"{gate.passed} passed, {gate.failed} failed")
+    sys.exit(1 if gate.failed else 0)
 
 
 if __name__ == "__main__":

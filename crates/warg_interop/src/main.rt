@@ -20,7 +20,7 @@ mod answer;
 mod call;
 mod read;
 
-use crate::answer::Answer;
+use crate::answer::{of_checkpoint, of_path};
 use crate::call::{Call, CallError, Length};
 use crate::read::{checkpoint_text, tile_path};
 use anyhow::{Error, Result, bail};
@@ -28,7 +28,7 @@ use std::alloc::Global;
 use std::io;
 use std::io::{BufRead, BufReader, BufWriter, Write};
 use warg_crypto::Sha256;
-use warg_log::{Checkpoint, GREATEST_LENGTH, LogBuilder, VecLog};
+use warg_log::{GREATEST_LENGTH, LogBuilder, VecLog};
 use warg_paths::{check_record, check_tree, consistency_path, inclusion_path};
 
 type Log = VecLog<Sha256, String>;
@@ -45,42 +45,46 @@ fn main(rt: HostRuntime) -> Result<()> {
 }
 
 fn write_answer<W: Write>(alloc: Global, log: &mut Log, line: &str, output: &mut W) -> Result<()> {
-    let mut text = answer_line(alloc, log, line)?.to_string(alloc)?;
+    let mut text = answer_line(alloc, log, line)?;
     text.push('\n')?;
     output.write_all(text.as_bytes())?;
     Ok(())
 }
 
 // The answer to a line; `bad call` to one that is no call.
-fn answer_line(alloc: Global, log: &mut Log, line: &str) -> Result<Answer> {
+fn answer_line(alloc: Global, log: &mut Log, line: &str) -> Result<String> {
     match Call::read(alloc, line) {
         Ok(call) => answer_call(alloc, log, &call),
-        Err(CallError::BadCall) => Ok(Answer::BadCall),
+        Err(CallError::BadCall) => Ok(String::from_str(alloc, "bad call")?),
         Err(error) => Err(Error::from(error)),
     }
 }
 
-fn answer_call(alloc: Global, log: &mut Log, call: &Call<'_>) -> Result<Answer> {
+fn answer_call(alloc: Global, log: &mut Log, call: &Call<'_>) -> Result<String> {
     match call {
-        Call::Push(count) => Ok(Answer::Log(push(alloc, log, *count)?)),
-        Call::Record { index, length } => Ok(record(alloc, log, *index, length)),
-        Call::Tree { old, new } => Ok(tree(alloc, log, *old, new)),
+        Call::Push(count) => push(alloc, log, *count),
+        Call::Record { index, length } => {
+            Ok(of_path(alloc, inclusion_path(alloc, log, *index, length.value))?)
+        }
+        Call::Tree { old, new } => {
+            Ok(of_path(alloc, consistency_path(alloc, log, *old, new.value))?)
+        }
         Call::CheckRecord {
             index,
             value,
             checkpoint,
             path,
-        } => Ok(Answer::Verdict(check_record(checkpoint, *index, value, path.as_slice()))),
+        } => Ok(check_record(checkpoint, *index, value, path.as_slice()).to_string(alloc)?),
         Call::CheckTree { old, new, path } => {
-            Ok(Answer::Verdict(check_tree(old, new, path.as_slice())))
+            Ok(check_tree(old, new, path.as_slice()).to_string(alloc)?)
         }
-        Call::TilePath(bytes) => Ok(tile_path(bytes.as_slice())),
+        Call::TilePath(bytes) => Ok(tile_path(alloc, bytes.as_slice())?),
         Call::CheckpointText(bytes) => Ok(checkpoint_text(alloc, bytes.as_slice())?),
     }
 }
 
-// Adds so many entries to the log.
-fn push(alloc: Global, log: &mut Log, count: usize) -> Result<Checkpoint<Sha256>> {
+// Adds so many entries to the log, and answers by its checkpoint.
+fn push(alloc: Global, log: &mut Log, count: usize) -> Result<String> {
     for _ in 0..count {
         let length = log.length();
         if length == GREATEST_LENGTH {
@@ -88,19 +92,5 @@ fn push(alloc: Global, log: &mut Log, count: usize) -> Result<Checkpoint<Sha256>
         }
         log.push(&length.to_string(alloc)?)?;
     }
-    Ok(log.checkpoint())
-}
-
-fn record(alloc: Global, log: &Log, index: usize, length: &Length) -> Answer {
-    match inclusion_path(alloc, log, index, length.value) {
-        Ok(path) => Answer::Path(path),
-        Err(error) => Answer::Refused(error),
-    }
-}
-
-fn tree(alloc: Global, log: &Log, old: usize, new: &Length) -> Answer {
-    match consistency_path(alloc, log, old, new.value) {
-        Ok(path) => Answer::Path(path),
-        Err(error) => Answer::Refused(error),
-    }
+    Ok(of_checkpoint(alloc, &log.checkpoint())?)
 }

@@ -117,7 +117,7 @@ fn a_log_s_own_consistency_proofs_hold(rt: HostRuntime) -> Result<(), Fail> {
     Ok(())
 }
 
-type Numbers = VecLog<Sha256, [u8; 4]>;
+type Numbers = VecLog<Sum, [u8; 4]>;
 
 // The first million numbers.
 fn million(alloc: Global) -> Result<Vec<[u8; 4]>, Fail> {
@@ -134,7 +134,7 @@ fn judged(
     entries: &[[u8; 4]],
     log: &Numbers,
     value: [u8; 4],
-) -> Result<Finding<Sha256>, Fail> {
+) -> Result<Finding<Sum>, Fail> {
     let proof = log.prove_inclusion(Node(1_400_000), log.length());
     Ok(witness_value(alloc, &proof, log, &value, entries)?)
 }

@@ -6,7 +6,7 @@ use crate::growing::GrowingLog;
 use crate::lines::Lines;
 use crate::lock::Lock;
 use crate::progress::Progress;
-use crate::refusal::Refusal;
+use crate::refusal::{Cause, Refusal};
 use warg_crypto::{Sha256, hash_empty};
 use warg_log::Checkpoint;
 use warg_tiles::CheckpointText;
@@ -16,7 +16,7 @@ pub fn init(rt: &HostRuntime, folder: &Folder, origin: &str) -> Result<(), Refus
     folder.make(rt)?;
     let _lock = Lock::take(rt, folder)?;
     if has_log(rt, folder)? {
-        return Err(Refusal::LogThere(folder.name(rt.alloc())?));
+        return Err(Refusal::about(folder.name(rt.alloc())?, Cause::LogThere));
     }
     write_checkpoint(
         rt,
@@ -29,7 +29,7 @@ pub fn init(rt: &HostRuntime, folder: &Folder, origin: &str) -> Result<(), Refus
 /// Adds the entries of standard input, all or none. Their tiles and bundles are written first, and the checkpoint last.
 pub fn append(rt: &HostRuntime, folder: &Folder) -> Result<(), Refusal> {
     if !has_log(rt, folder)? {
-        return Err(Refusal::NoLog(folder.name(rt.alloc())?));
+        return Err(Refusal::about(folder.name(rt.alloc())?, Cause::NoLog));
     }
     let _lock = Lock::take(rt, folder)?;
     let text = read_checkpoint(rt, folder)?;

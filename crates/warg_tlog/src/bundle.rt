@@ -31,7 +31,7 @@ impl Bundle {
             × (self.new.count ≡ self.old.count)) }
     {
         if push_entry(&mut self.bytes, entry).is_err() {
-            return Err(Refusal::Memory);
+            return Err(Refusal::memory());
         }
         self.count = self.count.saturating_add(1);
         Ok(())
@@ -80,7 +80,7 @@ pub fn entries_of<'a>(
 {
     match read_entries(rt.alloc(), bytes) {
         Ok(entries) if entries.len() == tile.width() => Ok(entries),
-        Err(EntriesError::Memory) => Err(Refusal::Memory),
+        Err(EntriesError::Memory) => Err(Refusal::memory()),
         _ => Err(damaged_bundle(rt, folder, tile, "is cut short, or too long")),
     }
 }
@@ -96,6 +96,6 @@ pub fn damaged_bundle(
 {
     match tile.entries_path(rt.alloc()) {
         Ok(path) => folder.damaged(rt.alloc(), path.as_str(), fault),
-        Err(_) => Refusal::Memory,
+        Err(_) => Refusal::memory(),
     }
 }

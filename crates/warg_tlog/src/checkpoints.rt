@@ -1,7 +1,7 @@
 //! The log's checkpoint, and a copy of the newest one that it has had.
 
 use crate::folder::Folder;
-use crate::refusal::{FileRefusal, Refusal};
+use crate::refusal::{Cause, Refusal};
 use std::fs;
 use warg_crypto::Sha256;
 use warg_log::Checkpoint;
@@ -55,7 +55,7 @@ fn read_newest(rt: &HostRuntime, folder: &Folder) -> Result<Option<Checkpoint<Sh
 fn read_served(rt: &HostRuntime, folder: &Folder) -> Result<CheckpointText<Sha256>, Refusal> {
     match read_text(rt, folder, CHECKPOINT)? {
         Some(text) => Ok(text),
-        None => Err(Refusal::NoLog(folder.name(rt.alloc())?)),
+        None => Err(Refusal::about(folder.name(rt.alloc())?, Cause::NoLog)),
     }
 }
 
@@ -67,11 +67,9 @@ fn check_newest(
     newest: &Checkpoint<Sha256>,
 ) -> Result<(), Refusal> {
     if found.length() < newest.length() {
-        return Err(Refusal::File(FileRefusal::Older {
-            path: folder.path(rt.alloc(), CHECKPOINT)?,
-            found: found.length(),
-            newest: newest.length(),
-        }));
+        let path = folder.path(rt.alloc(), CHECKPOINT)?;
+        let (found, newest) = (found.length(), newest.length());
+        return Err(Refusal::about(path, Cause::Older { found, newest }));
     }
     if found.length() == newest.length() && found.root() != newest.root() {
         return Err(folder.damaged(
@@ -104,7 +102,7 @@ fn fault_of(error: &CheckpointTextError) -> Result<&'static str, Refusal> {
         CheckpointTextError::Length => Ok("has no length in its second line"),
         CheckpointTextError::Root => Ok("has no root in its third line"),
         CheckpointTextError::Extension => Ok("ends within a line"),
-        CheckpointTextError::Memory => Err(Refusal::Memory),
+        CheckpointTextError::Memory => Err(Refusal::memory()),
     }
 }
 
@@ -130,14 +128,14 @@ fn text_of(
 ) -> Result<CheckpointText<Sha256>, Refusal> {
     match CheckpointText::new(rt.alloc(), origin, checkpoint) {
         Ok(text) => Ok(text),
-        Err(CheckpointTextError::Memory) => Err(Refusal::Memory),
+        Err(CheckpointTextError::Memory) => Err(Refusal::memory()),
         Err(_) => Err(origin_refused(rt)),
     }
 }
 
 fn origin_refused(rt: &HostRuntime) -> Refusal {
     match String::from_str(rt.alloc(), "an origin is a text of one line, and not empty") {
-        Ok(text) => Refusal::Arguments(text),
-        Err(_) => Refusal::Memory,
+        Ok(text) => Refusal::about(text, Cause::Arguments),
+        Err(_) => Refusal::memory(),
     }
 }

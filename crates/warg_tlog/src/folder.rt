@@ -1,6 +1,6 @@
 //! Files of a log's folder: read whole, and written so that each is there whole or not at all.
 
-use crate::refusal::{FileRefusal, Refusal};
+use crate::refusal::{Cause, Refusal};
 use std::alloc::{AllocError, Global};
 use std::fs::File;
 use std::io::{ErrorKind, Read};
@@ -40,8 +40,8 @@ impl Folder {
     /// The refusal for a file that lacks, or isn't what it is to be.
     pub fn damaged(&self, alloc: Global, file: &str, fault: &'static str) -> Refusal {
         match self.path(alloc, file) {
-            Ok(path) => Refusal::File(FileRefusal::Damaged { path, fault }),
-            Err(_) => Refusal::Memory,
+            Ok(path) => Refusal::about(path, Cause::Damaged { fault }),
+            Err(_) => Refusal::memory(),
         }
     }
 

@@ -116,7 +116,7 @@ pub fn open_log(
     let checkpoint = text.checkpoint();
     match TileLog::open(rt.alloc(), checkpoint.length(), edge) {
         Ok(log) if log.checkpoint() == checkpoint => Ok(log),
-        Err(OpenError::Memory) => Err(Refusal::Memory),
+        Err(OpenError::Memory) => Err(Refusal::memory()),
         _ => Err(folder.damaged(
             rt.alloc(),
             "checkpoint",

@@ -1,6 +1,6 @@
 //! Standard input, line by line.
 
-use crate::refusal::Refusal;
+use crate::refusal::{Cause, Refusal};
 use memchr::memchr;
 use std::alloc::{AllocError, Global};
 use std::io;
@@ -32,7 +32,7 @@ impl Lines {
     /// The lines of standard input, before the first.
     pub fn new(rt: &HostRuntime) -> Result<Lines, Refusal> {
         let Ok(input) = BufReader::with_capacity(rt.alloc(), AT_ONCE, rt.reader()) else {
-            return Err(Refusal::Memory);
+            return Err(Refusal::memory());
         };
         Ok(Lines {
             input,
@@ -130,10 +130,8 @@ impl Lines {
 
     /// The refusal for this line.
     pub fn refused(&self, fault: &'static str) -> Refusal {
-        Refusal::Line {
-            number: self.number,
-            fault,
-        }
+        let number = self.number;
+        Refusal::because(Cause::Line { number, fault })
     }
 
     /// The entry whose hexadecimal digits the line has. Its bytes take the place of the last entry's.

@@ -1,7 +1,7 @@
 //! One writer at a time.
 
 use crate::folder::Folder;
-use crate::refusal::Refusal;
+use crate::refusal::{Cause, Refusal};
 use std::fs::{File, TryLockError};
 
 /// The leave to write in a log's folder, which one run has at a time. It goes with the run, also with one that is killed.
@@ -24,7 +24,10 @@ impl Lock {
         };
         match file.try_lock() {
             Ok(()) => Ok(Lock { file }),
-            Err(TryLockError::WouldBlock) => Err(Refusal::AtWork(folder.name(rt.alloc())?)),
+            Err(TryLockError::WouldBlock) => Err(Refusal::about(
+                folder.name(rt.alloc())?,
+                Cause::AtWork,
+            )),
             Err(TryLockError::Error(error)) => Err(Refusal::of_write(path, error)),
         }
     }

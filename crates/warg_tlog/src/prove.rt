@@ -8,7 +8,7 @@ use crate::checkpoints::read_checkpoint;
 use crate::fetched::Fetched;
 use crate::folder::Folder;
 use crate::growing::{open_log, right_edge};
-use crate::refusal::Refusal;
+use crate::refusal::{Cause, Refusal};
 use warg_crypto::{Hash, Sha256};
 use warg_log::{Checkpoint, GREATEST_LENGTH, LeafRange, stored_root};
 use warg_paths::{
@@ -128,14 +128,14 @@ fn fetched_growth(
 }
 
 fn out_of_range(rule: &'static str, bound: usize) -> Refusal {
-    Refusal::OutOfRange { rule, bound }
+    Refusal::because(Cause::OutOfRange { rule, bound })
 }
 
 // The path that was made, or the refusal for tiles that give none.
 fn made(rt: &HostRuntime, folder: &Folder, path: Result<Path, PathError>) -> Result<Path, Refusal> {
     match path {
         Ok(path) => Ok(path),
-        Err(PathError::Memory) => Err(Refusal::Memory),
+        Err(PathError::Memory) => Err(Refusal::memory()),
         Err(_) => Err(no_root(rt, folder)),
     }
 }

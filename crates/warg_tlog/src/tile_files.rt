@@ -20,7 +20,7 @@ pub fn read_tile(
     let bytes = tile_bytes(rt, folder, &tile)?;
     match hashes_in::<Sha256, Global>(alloc, bytes.as_slice()) {
         Ok(digests) if digests.len() == tile.width() => Ok(StoredTile::new(tile, digests)),
-        Err(HashesError::Memory) => Err(Refusal::Memory),
+        Err(HashesError::Memory) => Err(Refusal::memory()),
         _ => Err(damaged(alloc, folder, &tile, "is cut short, or too long")),
     }
 }
@@ -73,6 +73,6 @@ fn bytes_of(alloc: Global, stored: &StoredTile<Sha256>) -> Result<Vec<u8>, Alloc
 fn damaged(alloc: Global, folder: &Folder, tile: &Tile, fault: &'static str) -> Refusal {
     match tile.path(alloc) {
         Ok(path) => folder.damaged(alloc, path.as_str(), fault),
-        Err(_) => Refusal::Memory,
+        Err(_) => Refusal::memory(),
     }
 }

@@ -1,0 +1,171 @@
+#!/usr/bin/env python3
+"""Proves every crate once, lowest first, as many at a time as the machine has room for, and builds it. Runs each program on
+its stdin, args and data, and compares what it prints with its stdout. Runs the tests.
+
+The tests and the program that measures aren't proved here: these call proved code and no clause says what they print. The
+tests run as rt try makes them, which stops at a bad access, an overflow or a failed unwrap.
+
+What a check keeps stays in crates/NAME/out: from nothing where nothing is there.
+
+Usage: prove_all.py [--json FILE]
+"""
+
+import argparse
+import concurrent.futures
+import json
+import os
+import pathlib
+import re
+import shutil
+import subprocess
+import tempfile
+import threading
+
+import kit
+
+# A proof that rests on nothing but the logic and what this run has proved: no handle, no C function of ours, no bug.
+VERDICT = re.compile(
+    r"logic=proved functions=\d+( axioms=\d+ target=\S+ cpu=\S+)? sum=\w+ native=nat,char,string logic-built=trusted libraries-built=trusted statements=trusted( incremental=trusted)?"
+)
+# Proved by make bench alone, since the gate times nothing: here it has to compile.
+UNPROVED = ("warg_bench",)
+# Made by both of the kit's compilers, all other programs by LLVM alone.
+BOTH = ("warg_check_cli",)
+# A proof takes up to 4 GB.
+ROOM = 32
+SECONDS = 300
+KEPT = ["--incremental", "out/incremental"]
+TOOLCHAIN = ["--toolchain", f"{kit.KIT}/toolchain"]
+
+
+class Failed(Exception):
+    """Why a crate did not come out."""
+
+
+class Crate:
+    """A crate that is proved, built and run."""
+
+    def __init__(self, name, is_used):
+        self.name, self.folder, self.is_used = name, kit.ROOT / "crates" / name, is_used
+        self.seconds, self.said = {"proof": 0.0, "tests": 0.0}, []
+        self.is_program = (self.folder / "src/main.rt").is_file()
+        self.has_tests = any("#[test]" in it.read_text() for it in self.folder.glob("src/**/*.rt"))
+
+    def call(self, part, words, **how):
+        """Runs a command in the crate's folder. Returns its status and what it prints."""
+        with tempfile.TemporaryFile() as out:
+            how = {"cwd": self.folder, "stdin": subprocess.DEVNULL, "stdout": out, "stderr": subprocess.STDOUT, **how}
+            ran = subprocess.Popen([str(it) for it in words], **how)
+            _, status, used = os.wait4(ran.pid, 0)
+            ran.returncode = os.waitstatus_to_exitcode(status)
+            self.seconds[part] += used.ru_utime + used.ru_stime
+            out.seek(0)
+            return ran.returncode, out.read()
+
+    def done(self, part, words):
+        """Runs a command of the kit, which has to come out. Returns what it prints."""
+        status, said = self.call(part, words)
+        self.said.append(said.decode(errors="replace"))
+        if status:
+            raise Failed(f"status {status} of {pathlib.Path(words[0]).name} {words[1]}")
+        return self.said[-1]
+
+    def build(self, *more):
+        """Proves the crate and builds it. The verdict has to rest on no more than it may."""
+        said = self.done("proof", [kit.RATTLE, "build", *kit.words(self.name), "--jobs", "1", "--links", f"{self.name}=", *more])
+        verdict = re.search(r"^logic=.*$", said, re.M)
+        if not verdict or not VERDICT.fullmatch(verdict[0]):
+            raise Failed(f"a verdict that may rest on more: {verdict and verdict[0]}")
+
+    def link(self, program):
+        words = ["--target", "x86_64-unknown-linux-gnu", *TOOLCHAIN, "-o", program, f"{program}.o"]
+        self.done("proof", [kit.KIT / "bin/rattle-link", *words, kit.KIT / "c/libos_c.a", kit.KIT / "c/liblibc_c.a"])
+
+    def prove(self):
+        """Proves the crate, and builds and runs what it has."""
+        (self.folder / "out/rlib").mkdir(parents=True, exist_ok=True)
+        if self.name in UNPROVED:
+            self.compile()
+        elif self.is_program:
+            self.prove_program()
+        elif kit.is_static(self.name):
+            self.build("--crate-type", "staticlib", *TOOLCHAIN, *KEPT, "-o", f"out/lib{self.name}.a")
+        elif self.is_used or not self.has_tests:
+            self.build(*KEPT, "-o", f"out/rlib/{self.name}.rlib")
+        if self.has_tests:
+            self.run_tests()
+
+    def compile(self):
+        """Looks whether the crate compiles: the prover looks for the function that it is to prove only then."""
+        _, said = self.call("proof", [kit.RATTLE, "check", *kit.words(self.name), "--start", "no function"])
+        self.said.append(said.decode(errors="replace"))
+        if f"`{self.name}` has no function `no function`" not in self.said[-1]:
+            raise Failed("it does not compile")
+
+    def run_tests(self):
+        said = self.done("tests", kit.words_of_a_try(self.name, SECONDS))
+        print(f"{self.name}: " + next(it for it in said.splitlines() if it.startswith("test result:")), flush=True)
+
+    def prove_program(self):
+        for backend in ("rattle", "llvm") if self.name in BOTH else ("llvm",):
+            program = f"out/{self.name}"
+            self.build("--backend", backend, *TOOLCHAIN, *KEPT, "-o", f"{program}.o")
+            self.link(program)
+            self.run(program, backend)
+
+    def text(self, name):
+        file = self.folder / name
+        return file.read_text() if file.is_file() else ""
+
+    def run(self, program, backend):
+        """Runs the program where its data lie. It has to print what it should, and to end with its status."""
+        with tempfile.TemporaryDirectory(prefix="warg-run-") as room:
+            if (self.folder / "data").is_dir():
+                shutil.copytree(self.folder / "data", room, dirs_exist_ok=True)
+            words = ["timeout", str(SECONDS), self.folder / program, *self.text("args").splitlines()]
+            with open(self.folder / "stdin" if self.text("stdin") else os.devnull, "rb") as given:
+                status, printed = self.call("proof", words, cwd=room, stdin=given, stderr=subprocess.DEVNULL)
+        if printed.decode(errors="replace") != self.text("stdout") or status != int(self.text("status") or 0):
+            raise Failed(f"as {backend} makes it, the program prints something else, or ends with another status: {status}")
+
+
+def prove_all(crates, jobs):
+    """Proves the crates, each after those that it stands on. Returns those that came out."""
+    room, printing, runs = threading.Semaphore(jobs), threading.Lock(), {}
+
+    def prove(crate):
+        lacks = [it for it in kit.below(crate.name, kit.crates()) if not runs[it].result()]
+        why = f"not tried, as {lacks[0]} did not come out" if lacks else ""
+        with room:
+            try:
+                None if lacks else crate.prove()
+            except Failed as failed:
+                why = str(failed)
+        with printing:
+            spent = ", ".join(f"{part} {seconds:.0f}" for part, seconds in crate.seconds.items() if seconds)
+            print(f"{crate.name}: {why or 'ok'} ({spent or 0} processor seconds)", flush=True)
+            print("".join(crate.said[-1:]) if why else "", end="", flush=True)
+        return not why
+
+    with concurrent.futures.ThreadPoolExecutor(len(crates)) as pool:
+        for crate in crates:
+            runs[crate.name] = pool.submit(prove, crate)
+    return [it for it in crates if runs[it.name].result()]
+
+
+def main():
+    asked = argparse.ArgumentParser()
+    asked.add_argument("--json", type=pathlib.Path, help="where to write the processor seconds of each crate")
+    asked = asked.parse_args()
+    listed = kit.crates()
+    crates = [Crate(it, any(it in needs for needs in listed.values())) for it in listed]
+    memory = os.sysconf("SC_PHYS_PAGES") * os.sysconf("SC_PAGE_SIZE")
+    well = prove_all(crates, max(1, min(len(os.sched_getaffinity(0)), memory >> ROOM)))
+    if asked.json:
+        asked.json.write_text(json.dumps({it.name: it.seconds for it in crates}))
+    print(f"crates: {len(well)} ok, {len(crates) - len(well)} failed")
+    raise SystemExit(len(well) < len(crates))
+
+
+if __name__ == "__main__":
+    main()
