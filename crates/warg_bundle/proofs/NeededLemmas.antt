@@ -1,15 +1,18 @@
 -- The one length of proofs, and the nodes that they need.
-use Rattle.std.proofs.Common.{◌≡◌, ℕ, zero, suc, ◌+◌, ◌*◌, ◌<◌, ◌≤◌, ◌==◌, Bool, true, false, nat_eq, nat_lt, nat_le, List, [], ◌∷◌, ◌++◌, length, map, get_or, Option, Some, None, Result, Ok, Err, refl, sym, ap, ◌∙◌, arith, ⊎_elim}
-use Rattle.std.specs.Prelude.{filter, is_some, unwrap_or, if◌then◌else◌}
+use Rattle.std.proofs.Common.{◌≡◌, ℕ, zero, suc, ◌+◌, ◌*◌, ◌<◌, ◌≤◌, ◌==◌, Bool, true, false, nat_eq, nat_lt, nat_le, List, [], ◌∷◌, ◌++◌, length, map, get_or, cond, take, add-one, append-nil, Option, Some, None, Result, Ok, Err, refl, sym, ap, ◌∙◌, arith, ⊎_elim}
+use Rattle.std.specs.Prelude.{◌||◌, OnOk, IsPermutation, filter, is_some, unwrap_or, if◌then◌else◌}
 use Rattle.std.specs.List.{AllByRecursion, IsDistinct, flat_map, list_any, range_with_len}
 use Rattle.std.specs.List.Sorted.{IsSorted}
 use Rattle.std.specs.Ordering.{nat_cmp}
 use Rattle.std.proofs.lemmas.Map.Keys.{sorted_from_strictly_increasing, IsStrictlyIncreasing-from_distinct, below_from_sorted}
 use Rattle.std.proofs.lemmas.Map.Views.{any-filter_same}
-use Rattle.std.proofs.lemmas.List.Sorted.{IsNonDecreasingBy-from_sort}
+use Rattle.std.proofs.lemmas.List.Sorted.{IsNonDecreasingBy-from_sort, list_any-IsPermutation}
+use Rattle.std.proofs.Math.Bool.{or_assoc}
+use Rattle.std.proofs.Math.Seq.{take-suc}
+use Rattle.std.proofs.lemmas.List.Concat.{flat_map-append}
 use Rattle.std.proofs.lemmas.List.{length-map, get_or-map}
 use Rattle.std.proofs.lemmas.List.Elements.{All-from_recursion}
-use Rattle.std.proofs.lemmas.List.Folds.{list_any_at}
+use Rattle.std.proofs.lemmas.List.Folds.{list_any_at, list_any-append}
 use Rattle.std.proofs.lemmas.List.FromFn.{length-range_with_len, get_or-range_with_len}
 use Rattle.std.proofs.lemmas.Bool.{eq-eqb, eqb-true, ne_eqb, ltb-false, leb-true, or_left, or_right, cases_Bool, cases_lt}
 use Rattle.warg_log.specs.declared.node.Node.{Node}
@@ -22,7 +25,7 @@ use Rattle.warg_log.specs.Claims.{InclusionClaim, ConsistencyClaim}
 use Rattle.warg_bundle.specs.LogBundles.{Bundle}
 use Rattle.warg_protobuf.specs.Decoding.{unless, first_fault}
 use Rattle.warg_bundle.specs.Bundling.{needed_by, needed_ascending, consistency_fault, inclusion_fault, first_length, proofs_fault, bundle_length, node_fault, node_with_digest, bundle_at, bundled, HoldsNeeded}
-use Rattle.warg_bundle.specs.Private.Unions.{IsUnion}
+use Rattle.warg_bundle.specs.Private.Unions.{IsUnion, IsCollected}
 use Rattle.warg_bundle.specs.Private.Needed.{digests_at}
 use Rattle.warg_protobuf.specs.Reading.{◌>>=◌}
 use Rattle.warg_protobuf.proofs.ForCallers.{all_append, all_weaken}
@@ -195,6 +198,40 @@ left_are ys n below x =
     (cases_Bool (list_any (nat_eq x) ys))
 
 -- ---- the nodes that all the proofs need
+
+-- numbers that were added to none and then sorted
+pub collected : {X E : Type 0} (added sorted these : List ℕ) (result : Result X E) → IsUnion [] added these → OnOk result (IsSorted nat_cmp sorted) → IsPermutation added sorted → IsDistinct nat_eq sorted
+    → OnOk result (IsCollected sorted these)
+collected added sorted these (Err e) union up same once = tt
+collected added sorted these (Ok x) union up same once = record { needed = λ x. sym (list_any-IsPermutation (nat_eq x) added sorted same) ∙ union x; sorted = up; once = once }
+
+-- numbers added, and then others
+added : (old mid new xs ys : List ℕ) → IsUnion old mid xs → IsUnion mid new ys → IsUnion old new (xs ++ ys)
+added old mid new xs ys first second x = second x ∙ rw (first x, list_any-append (nat_eq x) xs ys) (or_assoc (list_any (nat_eq x) old) (list_any (nat_eq x) xs) (list_any (nat_eq x) ys))
+
+pub added_both : (none mid new xs ys : List ℕ) → none ≡ [] → IsUnion none mid xs → IsUnion mid new ys → IsUnion [] new (xs ++ ys)
+added_both none mid new xs ys is first second = rw is at (added none mid new xs ys first second)
+
+-- one number
+pub added_one : (n : ℕ) (old new : List ℕ) → ((q : ℕ) → list_any (nat_eq q) new ≡ cond (nat_eq n q) true (list_any (nat_eq q) old)) → IsUnion old new (n ∷ [])
+added_one n old new updates x = ⊎_elim
+    (λ (same : nat_eq n x ≡ true). let back : nat_eq x n ≡ true = eq-eqb x n (sym (eqb-true n x same)) in updates x ∙ rw (same, back) (sym (or_right (list_any (nat_eq x) old) true refl)))
+    (λ (other : nat_eq n x ≡ false). let back : nat_eq x n ≡ false = ne_eqb x n (λ e. let t : nat_eq n x ≡ true = eq-eqb n x (sym e) in cc) in updates x ∙ rw (other, back) (sym (or_none (list_any (nat_eq x) old))))
+    (cases_Bool (nat_eq n x))
+  where
+    or_none : (b : Bool) → (b || false) ≡ b
+    or_none true = refl
+    or_none false = refl
+
+-- those of one more element
+pub added_more : {X : Type 0} (f : X → List ℕ) (xs : List X) (i : ℕ) (x : X) (first old new : List ℕ) → i < length xs → x ≡ get_or xs i x → IsUnion first old (flat_map f (take i xs)) → IsUnion old new (f x)
+    → IsUnion first new (flat_map f (take (i + 1) xs))
+added_more f xs i x first old new within is before now =
+    rw (add-one, take-suc xs i x within, ← is, flat_map-append f (take i xs) (x ∷ []), append-nil) (added first old new (flat_map f (take i xs)) (f x) before now)
+
+-- a number, and then others
+pub added_behind : (n : ℕ) (old mid new ys : List ℕ) → IsUnion old mid (n ∷ []) → IsUnion mid new ys → IsUnion old new (n ∷ ys)
+added_behind n old mid new ys first second = added old mid new (n ∷ []) ys first second
 
 needed_exactly_by : {X Y : Type 0} (P : X → Type 0) (Q : Y → Type 0) (old new : X → ℕ) (leaf : Y → Node) (len : Y → ℕ) (n : ℕ) (xs : List X) (ys : List Y) (keys : List ℕ)
     → IsUnion [] keys (flat_map (λ p. needed_between (old p) (new p)) xs ++ flat_map (λ p. needed (leaf p).0 (len p)) ys)

@@ -1,16 +1,17 @@
 -- Leaves that are put below a node.
-use Rattle.std.proofs.Common.{◌≡◌, ℕ, length, ◌+◌, ◌-◌, ◌<◌, ◌≤◌, Bool, false, not, List, [], ◌∷◌, refl, sym, ap, ◌∙◌, arith, ◌⊎◌, inl, inr}
+use Rattle.std.proofs.Common.{◌≡◌, ℕ, length, ◌+◌, ◌-◌, ◌<◌, ◌≤◌, Bool, true, false, not, List, [], ◌∷◌, refl, sym, ap, ◌∙◌, arith, ◌⊎◌, inl, inr}
 use Rattle.std.specs.FinMap.{empty, insert, len-empty}
 use Rattle.std.specs.declared.rc.Rc.{Rc}
+use Rattle.warg_map.specs.declared.grown.Filled.{Filled}
 use Rattle.warg_map.specs.declared.node.Node.{Node}
 use Rattle.warg_map.specs.declared.node.Node.TheVariants.{Fork, Singleton, Stem}
 use Rattle.warg_map.specs.declared.node.Fork.{Fork as Fork'}
 use Rattle.warg_map.specs.declared.node.Stem.{Stem as Stem'}
 use Rattle.warg_map.specs.Bits.{bit_at, bits_from, last_bits}
 use Rattle.warg_map.specs.Sparse.{SparseMap, bits_cmp}
-use Rattle.warg_map.specs.Private.Lone.{Lone}
-use Rattle.warg_map.specs.Private.Under.{join_at, under, HoldsKey, Splits}
-use Rattle.warg_map.specs.Private.Grown.{with_leaves, ShareBits, on_side, IsPut}
+use Rattle.warg_map.specs.Private.Lone.{Lone, held_alone}
+use Rattle.warg_map.specs.Private.Under.{join, join_at, under, HoldsKey, Splits}
+use Rattle.warg_map.specs.Private.Grown.{with_leaves, ShareBits, on_side, IsApart, IsPut, IsBesideLeaves}
 use Rattle.warg_map.specs.Private.Seen.{seen, IsWellFormed, MayCarry}
 use Rattle.warg_map.proofs.BitsInFront.{under-append}
 use Rattle.warg_map.proofs.NodeCounts.{len-join_at, len-lone, len-under}
@@ -65,6 +66,49 @@ put_below_bits key i n m whole low l fresh count es le share is p e f =
       count = rw (len-under (bits_from key i n) m, len-under (bits_from key i n) (with_leaves k m es)) held;
     })
 
+-- where leaves part from the bits of a key
+pub record IsPutParted (key : List ℕ) (i n : ℕ) (b : Bool) (whole : SparseMap) (es zs os : List Lone) (near far : ℕ × SparseMap) (inner outer : ℕ) : Type 0 where
+  pub heights : (near.0 ≡ far.0) × (i + n + (near.0 + 1) ≡ 256)
+  pub hold : HoldsKey near.1 × HoldsKey far.1
+  pub few : (inner ≤ length zs) × (outer ≤ length os)
+  pub put : (l : ℕ × SparseMap) (count : ℕ) → l ≡ (near.0 + 1 + n, under (bits_from key i n) (join_at b near.1 far.1)) → count ≡ inner + outer → IsPut (256 - i) whole es l count
+
+pub put_parted : (key : List ℕ) (i len_ n : ℕ) (b : Bool) (p q whole : SparseMap) (es zs os : List Lone) (near far : ℕ × SparseMap) (inner outer : ℕ) → IsApart key i len_ es n b zs os → i + len_ ≤ 256 → whole ≡ under (bits_from key i n) (join_at b p q)
+    → IsPut (256 - (i + n + 1)) p zs near inner → IsPut (256 - (i + n + 1)) q os far outer → HoldsKey p ⊎ (0 < length zs) → IsPutParted key i n b whole es zs os near far inner outer
+put_parted key i len_ n b p q whole es zs os near far inner outer a le is x y hold =
+    let r = put_beside b (i + n) p q near far inner outer es zs os (omega (arith, a.less, le)) x y a.near_is a.far_is hold (inr a.some) in
+    record {
+      heights = (r.heights.0, omega (arith, r.heights.2));
+      hold = r.hold;
+      few = r.few;
+      put = λ l count e f. put_below_bits key i n _ whole _ l _ count es (omega (arith, a.less, le)) a.same is r.put e f;
+    }
+
+-- on the side of the key alone
+pub record IsPutNear (i n : ℕ) (near : ℕ × SparseMap) (inner : ℕ) (zs : List Lone) : Type 0 where
+  pub height : i + n + (near.0 + 1) ≡ 256
+  pub hold : HoldsKey near.1
+  pub few : inner ≤ length zs
+
+pub put_near : (i n : ℕ) (p : SparseMap) (zs : List Lone) (near : ℕ × SparseMap) (inner : ℕ) → i + n < 256 → IsPut (256 - (i + n + 1)) p zs near inner → HoldsKey p → IsPutNear i n near inner zs
+put_near i n p zs near inner le x hold =
+    let k = 256 - (i + n + 1) in
+    let count = rw x.seen at x.count in
+    let few = len-with_leaves k p zs in
+    rw x.seen (record { height = omega (arith, le); hold = with_leaves-holds k p zs (inl hold); few = omega (arith, count, few.1) })
+
+pub put_beside_leaves : {D A : _} (key : List ℕ) (i len_ n : ℕ) (b : Bool) (p whole : SparseMap) (es zs os : List Lone) (near all : Filled D A) → IsApart key i len_ es n b zs os → i + len_ ≤ 256 → whole ≡ under (bits_from key i n) (join_at b p empty)
+    → IsPut (256 - (i + n + 1)) p zs near.link near.fresh → HoldsKey p → IsBesideLeaves key i n b near os all → IsPut (256 - i) whole es all.link all.fresh
+put_beside_leaves key i len_ n b p whole es zs os near all a le is x hold w = (put_parted key i len_ n b p empty whole es zs os near.link w.link near.fresh w.fresh a le is x w.put (inl hold)).put all.link all.fresh w.link_is w.fresh_is
+
+-- in a new tree
+pub put_new : (i n : ℕ) (es : List Lone) (link : ℕ × SparseMap) (fresh : ℕ) → 0 < length es → IsPut (256 - (i + n + 1)) empty es link fresh → (link.0 ≡ 256 - (i + n + 1)) × HoldsKey link.1 × (fresh ≤ length es)
+put_new i n es link fresh some x =
+    let k = 256 - (i + n + 1) in
+    let count = rw x.seen at x.count in
+    let few = len-with_leaves k empty es in
+    rw x.seen (refl, with_leaves-holds k empty es (inr some), omega (arith, count, few.1))
+
 -- the bits of a stem, cut at one of them
 pub cut_stem : (key : List ℕ) (from at len_ n rest : ℕ) (m : SparseMap) (b : Bool) → n < len_ → at ≡ from + n → rest + (n + 1) ≡ len_ → b ≡ bit_at key at
     → under (bits_from key from len_) m ≡ under (bits_from key from n) (join_at b (under (bits_from key (at + 1) rest) m) empty)
@@ -86,29 +130,42 @@ pub put_none : (k : ℕ) (l : ℕ × SparseMap) (es : List Lone) → es ≡ [] �
 unfolding with_leaves
 put_none k l es none h = rw (none, ← h) (record { seen = refl; count = omega arith })
 
--- beside a lone key
-pub put_beside_lone : {D A : _} (old : Node D A) (s : Rc Lone A) (link l : ℕ × SparseMap) (depth n : ℕ) (es all : List Lone) → seen old ≡ link → old ≡ Singleton s → link.0 + depth ≡ 256 → all ≡ s.value ∷ es → IsPut (256 - depth) empty all l n
-    → (0 < n) × IsPut (256 - depth) link.1 es l (n - 1)
+-- behind a lone key
+pub put_behind_lone : (s : Lone) (depth n : ℕ) (es all : List Lone) (l : ℕ × SparseMap) → s.height + depth ≡ 256 → all ≡ s ∷ es → IsPut (256 - depth) empty all l n
+    → (0 < n) × IsPut (256 - depth) (held_alone s) es l (n - 1)
 unfolding with_leaves
-put_beside_lone old s link l depth n es all sn is sum a p =
-    let top = sym (ap seen is) ∙ sn in
-    let h : s.value.height ≡ link.0 = ap (λ d. d.0) top in
-    let k : 256 - depth ≡ s.value.height = omega (arith, h, sum) in
-    let one = len-lone (last_bits s.value.key s.value.height) s.value.value in
+put_behind_lone s depth n es all l sum a p =
+    let k : 256 - depth ≡ s.height = omega (arith, sum) in
+    let one = len-lone (last_bits s.key s.height) s.value in
     let none = len-empty bits_cmp (List ℕ) in
-    let more = len-with_leaves s.value.height (insert empty (last_bits s.value.key s.value.height) s.value.value) es in
-    let is_now : l ≡ (s.value.height, with_leaves s.value.height (insert empty (last_bits s.value.key s.value.height) s.value.value) es) = rw (k, a) at p.seen in
+    let more = len-with_leaves s.height (insert empty (last_bits s.key s.height) s.value) es in
+    let is_now : l ≡ (s.height, with_leaves s.height (insert empty (last_bits s.key s.height) s.value) es) = rw (k, a) at p.seen in
     let count = rw is_now at p.count in
-    rw (k, ← top) (omega (arith, one, none, more.0, count), record { seen = is_now; count = rw is_now (omega (arith, one, none, more.0, count)) })
+    rw k (omega (arith, one, none, more.0, count), record { seen = is_now; count = rw is_now (omega (arith, one, none, more.0, count)) })
+
+-- at a lone key
+pub in_lone : {D A : _} (old : Node D A) (s : Rc Lone A) (link : ℕ × SparseMap) (depth : ℕ) → seen old ≡ link → old ≡ Singleton s → link.0 + depth ≡ 256
+    → (s.value.height + depth ≡ 256) × (held_alone s.value ≡ link.1)
+in_lone old s link depth sn is sum =
+    let top : (s.value.height, held_alone s.value) ≡ link = sym (ap seen is) ∙ sn in
+    let h : s.value.height ≡ link.0 = ap (λ d. d.0) top in
+    (omega (arith, h, sum), ap (λ d. d.1) top)
 
 -- below a fork
-pub in_fork : {D A : _} (old : Node D A) (f : Rc (Fork' D A) A) (link : ℕ × SparseMap) (depth : ℕ) → seen old ≡ link → old ≡ Fork f → IsWellFormed old → link.0 + depth ≡ 256
-    → (link.1 ≡ join_at false f.value.left.1 f.value.right.1) × (depth < 256) × HoldsKey f.value.left.1 × HoldsKey f.value.right.1
-in_fork old f link depth sn is wf sum =
+pub record IsPutInFork (depth : ℕ) (whole : SparseMap) (es zs os : List Lone) (left right : ℕ × SparseMap) (inner outer : ℕ) : Type 0 where
+  pub heights : (left.0 ≡ right.0) × (left.0 < 256)
+  pub hold : HoldsKey left.1 × HoldsKey right.1
+  pub few : (inner ≤ length zs) × (outer ≤ length os)
+  pub put : (l : ℕ × SparseMap) (count : ℕ) → l ≡ (left.0 + 1, join left.1 right.1) → count ≡ inner + outer → IsPut (256 - depth) whole es l count
+
+pub put_in_fork : {D A : _} (old : Node D A) (f : Rc (Fork' D A) A) (link left right : ℕ × SparseMap) (depth inner outer : ℕ) (es zs os : List Lone) → seen old ≡ link → old ≡ Fork f → IsWellFormed old → link.0 + depth ≡ 256
+    → (zs ≡ on_side depth false es) × (os ≡ on_side depth true es) → IsPut (256 - (depth + 1)) f.value.left.1 zs left inner → IsPut (256 - (depth + 1)) f.value.right.1 os right outer → IsPutInFork depth link.1 es zs os left right inner outer
+put_in_fork old f link left right depth inner outer es zs os sn is wf sum sides x y =
     let w : IsWellFormed (Fork f) = rw is at wf in
     let top : seen (Fork f) ≡ link = sym (ap seen is) ∙ sn in
     let h : f.value.left.0 + 1 ≡ link.0 = ap (λ d. d.0) top in
-    (sym (ap (λ d. d.1) top), omega (arith, h, sum), w.formed.0, w.formed.1)
+    let r = put_beside false depth f.value.left.1 f.value.right.1 left right inner outer es zs os (omega (arith, h, sum)) x y sides.0 sides.1 (inl w.formed.0) (inl w.formed.1) in
+    record { heights = (r.heights.0, r.heights.1); hold = r.hold; few = r.few; put = λ l count e n. put_same _ _ link.1 es _ l _ count r.put (sym (ap (λ d. d.1) top)) e n }
 
 -- below a stem
 pub in_stem : {D A : _} (old : Node D A) (s : Rc (Stem' D A) A) (link : ℕ × SparseMap) (depth : ℕ) → seen old ≡ link → old ≡ Stem s → IsWellFormed old → link.0 + depth ≡ 256

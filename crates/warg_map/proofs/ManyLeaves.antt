@@ -57,10 +57,13 @@ with_leaves-under key i n k h m (e ∷ es) s =
     let bits : last_bits e.key (k + n) ≡ bits_from key i n ++ last_bits e.key k = rw (top, low, s.0) at (bits_left-split e.key i n (omega (arith, h))) in
     rw (bits, insert-under (bits_from key i n) (last_bits e.key k) m e.value) (with_leaves-under key i n k h (insert m (last_bits e.key k) e.value) es s.1)
 
-pub under-empty : (bs : List Bool) → under bs empty ≡ empty
+under-empty : (bs : List Bool) → under bs empty ≡ empty
 unfolding under
 under-empty [] = refl
 under-empty (b ∷ bs) = ap (λ m. join_at b m empty) (under-empty bs) ∙ sym (empty-is_join_at b)
+
+pub empty_parted : (key : List ℕ) (i n : ℕ) (b : Bool) → empty ≡ under (bits_from key i n) (join_at b empty empty)
+empty_parted key i n b = rw (← empty-is_join_at b) (sym (under-empty (bits_from key i n)))
 
 -- the leaf inserted last
 pub with_leaves-push : (k : ℕ) (m : SparseMap) (es : List Lone) (e : Lone) → with_leaves k m (es ++ e ∷ []) ≡ insert (with_leaves k m es) (last_bits e.key k) e.value
@@ -112,8 +115,12 @@ pub share_last : (key : List ℕ) (i n : ℕ) (es fs : List Lone) (e : Lone) →
 share_last key i n es fs e is share = subst (λ bits. AllByRecursion (λ x. bits_from x.key i n ≡ bits) es) (sym (all_parts _ fs (e ∷ []) (rw is at share)).1.0) share
 
 -- leaves on a side
-pub some_near : (es fs : List Lone) (e : Lone) (key : List ℕ) (at : ℕ) → es ≡ fs ++ e ∷ [] → key ≡ e.key → 0 < length (on_side at (bit_at key at) es)
+some_near : (es fs : List Lone) (e : Lone) (key : List ℕ) (at : ℕ) → es ≡ fs ++ e ∷ [] → key ≡ e.key → 0 < length (on_side at (bit_at key at) es)
 some_near es fs e key at is ek = let more = length_push (on_side at (bit_at e.key at) fs) e in rw (is, ek, (push_near at (bit_at e.key at) fs e refl).0) (omega (arith, more))
+
+-- the side of the last leaf's key
+pub near_some : (es zs : List Lone) (n : ℕ) (e : Lone) (key : List ℕ) (at : ℕ) (b : Bool) → n ≡ length es → 0 < length es → e ≡ get_or es (n - 1) e → key ≡ e.key → b ≡ bit_at key at → zs ≡ on_side at b es → 0 < length zs
+near_some es zs n e key at b len some is ek bit z = rw (z, bit) (some_near es _ e key at (split_at_last es n e len some is) ek)
 
 -- one leaf more
 pub apart_step : (key : List ℕ) (i bound old new : ℕ) (es : List Lone) (e : Lone) → (old < bound → 0 < length (on_side (i + old) (not (bit_at key (i + old))) es)) → new ≤ old → (new < old → ¬ (bit_at key (i + new) ≡ bit_at e.key (i + new))) → new < bound → 0 < length (on_side (i + new) (not (bit_at key (i + new))) (es ++ e ∷ []))

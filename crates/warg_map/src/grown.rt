@@ -1,11 +1,12 @@
 //! Leaves that are put into a tree, in order, so that a branch above several of them is hashed once.
 
-ghost use Rattle.std.specs.Prelude.{◌≡◌, ◌+◌, ◌-◌, ◌^◌, ◌<◌, ◌≤◌, not, length, IfOk};
+ghost use Rattle.std.specs.Prelude.{◌≡◌, ℕ, ◌+◌, ◌-◌, ◌^◌, ◌<◌, ◌≤◌, List, not, length, IfOk};
 ghost use Rattle.std.specs.FinMap as map;
 ghost use Rattle.warg_crypto.specs.Sides.{side_bit};
 ghost use Rattle.warg_map.specs.Bits.{bits_from};
 ghost use Rattle.warg_map.specs.Private.Under.{join_at, under, HoldsKey};
-ghost use Rattle.warg_map.specs.Private.Grown.{on_side, IsParting, IsPut};
+ghost use Rattle.warg_map.specs.Private.Grown.{ShareBits, on_side, IsParting, IsPut, IsBesideLeaves};
+ghost use Rattle.warg_map.specs.Private.Lone.{held_alone};
 ghost use Rattle.warg_map.specs.Private.Seen.{MayCarry};
 
 use crate::link::Link;
@@ -157,6 +158,46 @@ impl<D: SupportedDigest, A: Allocator + Copy> Filled<D, A> {
         let link = Link::new(Node::Stem(Rc::new(alloc, stem)?));
         Ok(Filled { link, fresh })
     }
+
+    // The fork of two trees, as `beside`, below `len` bits of `key` from bit `from` on.
+    fn forked(
+        alloc: A,
+        key: &Hash<D>,
+        from: usize,
+        len: usize,
+        side: Side,
+        near: Filled<D, A>,
+        far: Filled<D, A>,
+    ) -> Result<Filled<D, A>, AllocError>
+        requires heights { (near.link.0 ≡ far.link.0) × (from + len + (near.link.0 + 1) ≡ 256) }
+        requires hold { HoldsKey near.link.1 × HoldsKey far.link.1 }
+        requires fits { near.fresh + far.fresh < 2 ^ 64 }
+        ensures { let fork = join_at (side_bit side) near.link.1 far.link.1 in IfOk result (λ p. p ≡ record {
+          link = (near.link.0 + 1 + len, under (bits_from key.now from len) fork);
+          fresh = near.fresh + far.fresh;
+        }) }
+    {
+        Filled::beside(alloc, side, near, far)?.with_stem(alloc, key, from, len)
+    }
+}
+
+// As `grown`, where all leaves are of one key digest.
+fn grown_alone<D: SupportedDigest, A: Allocator + Copy>(
+    alloc: A,
+    leaves: Vec<Singleton<D>, A>,
+    depth: usize,
+) -> Result<Filled<D, A>, AllocError>
+    requires depth { depth ≤ 256 }
+    requires some { 0 < length leaves.items }
+    requires one { (key : List ℕ) × ShareBits key depth (256 - depth) leaves.items }
+    ensures { IfOk result (λ p. IsPut (256 - depth) map.empty leaves.items p.link p.fresh) }
+{
+    let last = &leaves[leaves.len() - 1];
+    // In the whole tree a lone key stands below a stem of one bit, and in a lower one below none.
+    let len = 1_usize.saturating_sub(depth);
+    let lone = Rc::new(alloc, last.with_height(256 - depth - len))?;
+    let link = Link::new(Node::Singleton(lone));
+    Filled { link, fresh: 1 }.with_stem(alloc, last.key(), depth, len)
 }
 
 // The tree below `depth` bits that holds these leaves, the last under a key digest.
@@ -171,14 +212,7 @@ fn grown<D: SupportedDigest, A: Allocator + Copy>(
 {
     let key = leaves[leaves.len() - 1].key().copied();
     match first_parting(alloc, leaves, &key, depth, 256 - depth)? {
-        Parting::Nowhere(leaves) => {
-            let last = &leaves[leaves.len() - 1];
-            // In the whole tree a lone key stands below a stem of one bit, and in a lower one below none.
-            let len = 1_usize.saturating_sub(depth);
-            let lone = Rc::new(alloc, last.with_height(256 - depth - len))?;
-            let link = Link::new(Node::Singleton(lone));
-            Filled { link, fresh: 1 }.with_stem(alloc, last.key(), depth, len)
-        }
+        Parting::Nowhere(leaves) => grown_alone(alloc, leaves, depth),
         Parting::Behind {
             shared,
             side,
@@ -188,9 +222,49 @@ fn grown<D: SupportedDigest, A: Allocator + Copy>(
             let at = depth + shared;
             let near = grown(alloc, near, at + 1)?;
             let far = grown(alloc, far, at + 1)?;
-            Filled::beside(alloc, side, near, far)?.with_stem(alloc, &key, depth, shared)
+            Filled::forked(alloc, &key, depth, shared, side, near, far)
         }
     }
+}
+
+impl<D: SupportedDigest, A: Allocator + Copy> Filled<D, A> {
+    // This tree on a side and leaves in a new one on the other, below `len` bits of `key` from bit `from` on.
+    fn beside_leaves(
+        self,
+        alloc: A,
+        key: &Hash<D>,
+        from: usize,
+        len: usize,
+        side: Side,
+        far: Vec<Singleton<D>, A>,
+    ) -> Result<Filled<D, A>, AllocError>
+        requires height { from + len + (self.link.0 + 1) ≡ 256 }
+        requires hold { HoldsKey self.link.1 }
+        requires some { 0 < length far.items }
+        requires fits { self.fresh + length far.items < 2 ^ 64 }
+        ensures { IfOk result (IsBesideLeaves key.now from len (side_bit side) self far.items) }
+    {
+        let far = grown(alloc, far, from + len + 1)?;
+        Filled::forked(alloc, key, from, len, side, self, far)
+    }
+}
+
+// As `spread`, at a lone key, which goes in front of the leaves.
+fn spread_lone<D: SupportedDigest, A: Allocator + Copy>(
+    alloc: A,
+    lone: &Singleton<D>,
+    mut leaves: Vec<Singleton<D>, A>,
+    depth: usize,
+) -> Result<Filled<D, A>, AllocError>
+    requires { lone.now.height + depth ≡ 256 }
+    ensures { IfOk result (λ p. IsPut (256 - depth) (held_alone lone.now) leaves.items p.link p.fresh) }
+{
+    leaves.insert(0, lone.with_height(256 - depth))?;
+    let Filled { link, fresh } = grown(alloc, leaves, depth)?;
+    Ok(Filled {
+        link,
+        fresh: fresh - 1,
+    })
 }
 
 // What stands below the bits of a stem up to bit `from`, with leaves put there. The stem is cut where the first leaf parts
@@ -222,8 +296,7 @@ fn spread_stem<D: SupportedDigest, A: Allocator + Copy>(
         } => {
             let at = from + shared;
             let near = spread_stem(alloc, stem, near, at + 1)?;
-            let far = grown(alloc, far, at + 1)?;
-            Filled::beside(alloc, side, near, far)?.with_stem(alloc, &stem.key, from, shared)
+            near.beside_leaves(alloc, &stem.key, from, shared, side, far)
         }
     }
 }
@@ -234,7 +307,7 @@ fn spread_stem<D: SupportedDigest, A: Allocator + Copy>(
 pub(crate) fn spread<D: SupportedDigest, A: Allocator + Copy>(
     alloc: A,
     link: &Link<D, A>,
-    mut leaves: Vec<Singleton<D>, A>,
+    leaves: Vec<Singleton<D>, A>,
     depth: usize,
 ) -> Result<Filled<D, A>, AllocError>
     requires { link.now.0 + depth ≡ 256 }
@@ -246,14 +319,7 @@ pub(crate) fn spread<D: SupportedDigest, A: Allocator + Copy>(
     }
     match link.node() {
         Node::Empty => grown(alloc, leaves, depth),
-        Node::Singleton(lone) => {
-            leaves.insert(0, lone.as_ref().with_height(256 - depth))?;
-            let Filled { link, fresh } = grown(alloc, leaves, depth)?;
-            Ok(Filled {
-                link,
-                fresh: fresh - 1,
-            })
-        }
+        Node::Singleton(lone) => spread_lone(alloc, lone.as_ref(), leaves, depth),
         Node::Fork(fork) => {
             let fork = fork.as_ref();
             let (near, far) = parted(alloc, leaves, Side::Left, depth)?;

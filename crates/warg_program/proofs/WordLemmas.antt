@@ -2,13 +2,14 @@
 use Rattle.std.proofs.Common.{◌≡◌, ◌≢◌, ℕ, zero, suc, ◌+◌, ◌-◌, ◌*◌, ◌^◌, ◌<◌, ◌≤◌, ◌&&◌, ◌==◌, Bool, true, false, nat_eq, List, [], ◌∷◌, ◌++◌, length, take, drop, get_or, Option, Some, None, refl, sym, ◌∙◌, ap, arith, add-one, le-leb, lt-ltb, le-ltb, ne_eqb, option_map, option_and_then, unwrap_or, Bor, take_all, le_refl, length-drop, length-append}
 use Rattle.std.proofs.Math.Seq.{take-suc, drop-cons}
 use Rattle.std.proofs.lemmas.Bool.{eq-eqb, eqb-true, cond_both, true≢false}
-use Rattle.std.specs.Cmp.Lexicographic.{pointwise, same_text}
+use Rattle.std.specs.Cmp.Lexicographic.{same_text}
+use Rattle.warg_crypto.specs.Bytes.{same_bytes}
 use Rattle.std.proofs.lemmas.List.{take-append-drop}
 use Rattle.std.specs.List.{list_all}
 use Rattle.std.specs.Char.{is_ascii_digit}
 use Rattle.memchr.specs.Find.{IsFirstByte, is_byte}
 use Rattle.warg_program.specs.Words.{onto_first, lines_of, words_of, words_left, is_number, number_in, at_most_2^63, length_in, hex_bytes_in, if_32, root_in, value_from}
-use Rattle.warg_program.specs.Orders.{first_says, none_left, good_or_bad, order_of, line_of}
+use Rattle.warg_program.specs.Orders.{first_says, none_left, good_or_bad, order_of, line_of, bad}
 use Rattle.warg_program.specs.Private.Parts.{Lacks, IsFirstPart}
 
 Lacks-append : (b : ℕ) (xs ys : List ℕ) → Lacks b xs → Lacks b ys → Lacks b (xs ++ ys)
@@ -98,11 +99,16 @@ named_line [] name rest some parts = absurd (omega arith)
 named_line (b ∷ bytes) name rest some parts = ap (λ words. good_or_bad (order_of words)) (words_next (b ∷ bytes) name rest parts)
 
 -- a line whose first word is a command's name
-pub command_line : (line name bytes word : List ℕ) (rest : Option (List ℕ)) → false ≡ (length line == 0) → IsFirstPart 32 line name rest → true ≡ pointwise nat_eq name bytes → bytes ≡ word
+pub command_line : (line name word : List ℕ) (rest : Option (List ℕ)) → false ≡ (length line == 0) → IsFirstPart 32 line name rest → true ≡ same_bytes name word
     → line_of line ≡ good_or_bad (order_of (word ∷ words_left rest))
-command_line [] name bytes word rest some parts same is = absurd (true≢false (sym some))
-command_line (b ∷ line) name bytes word rest some parts same is =
-    named_line (b ∷ line) name rest (omega arith) parts ∙ ap (λ w. good_or_bad (order_of (w ∷ words_left rest))) (same_text name bytes same ∙ is)
+command_line [] name word rest some parts same = absurd (true≢false (sym some))
+command_line (b ∷ line) name word rest some parts same =
+    named_line (b ∷ line) name rest (omega arith) parts ∙ ap (λ w. good_or_bad (order_of (w ∷ words_left rest))) (same_text name word same)
+
+-- a line whose first word is no command's name
+pub other_line : (line name : List ℕ) (rest : Option (List ℕ)) → false ≡ (length line == 0) → IsFirstPart 32 line name rest → order_of (name ∷ words_left rest) ≡ None → line_of line ≡ bad
+other_line [] name rest some parts none = absurd (true≢false (sym some))
+other_line (b ∷ line) name rest some parts none = named_line (b ∷ line) name rest (omega arith) parts ∙ ap good_or_bad none
 
 -- a line has a word
 pub word_left : (line : List ℕ) → none_left (words_of line) ≡ None

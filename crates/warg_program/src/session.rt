@@ -11,7 +11,7 @@ ghost use Rattle.warg_bundle.specs.Bundling.{bundled};
 ghost use Rattle.warg_bundle.specs.LogBundles.{bundle_message};
 ghost use Rattle.warg_check.specs.Verdicts.{inclusion_verdict};
 ghost use Rattle.warg_program.specs.Words.{lines_of};
-ghost use Rattle.warg_program.specs.Orders.{line_of, good_or_bad, push_in, log_in, include_in, consistent_in, bundle_in, verify_in, insert_in, map_in, prove_in, absent_in};
+ghost use Rattle.warg_program.specs.Orders.{line_of, good_or_bad, push_in, log_in, include_in, consistent_in, bundle_in, verify_in, insert_in, map_in, prove_in, absent_in, good, insert, prove, absent};
 ghost use Rattle.warg_program.specs.States.{start};
 ghost use Rattle.warg_program.specs.Private.Errors.{IsRefusal};
 ghost use Rattle.warg_program.specs.Text.{root_or_refusal, refusal, roots_or_refusal, bytes_or_refusal, bundle_refusal, bundle_or_refusal, verdict_or_refusal, text_of, all_good, MeetsFull};
@@ -19,7 +19,7 @@ ghost use Rattle.warg_log.specs.declared.log.TheConstants.{GREATEST_LENGTH};
 
 use crate::line_error::LineError;
 use crate::program::RunError;
-use crate::words::{Words, split_first};
+use crate::words::{Words, is_same, split_first};
 use std::alloc::{AllocError, Allocator};
 use std::fmt::Write;
 use warg_bundle::{BundleError, LogProofBundle};
@@ -41,9 +41,37 @@ struct Session<A: Allocator> {
 }
 
 impl<A: Allocator + Copy> Session<A> {
-    ghost use Rattle.warg_program.specs.Private.Sessions.{Takes, AddsText};
+    ghost use Rattle.warg_program.specs.Private.Sessions.{IsInState, Takes, AddsText, AddsAnswer};
 
-    #[tactic(auto, unfolding(crate::specs::Orders::line_of, crate::specs::Orders::order_of), using(crate::proofs::WordLemmas::words_next))]
+    // Answers an input's lines up to the first bad one, and says whether there is none.
+    fn answer_all(&mut self, input: &[u8]) -> Result<bool, RunError>
+        requires state { IsInState self.old start }
+        requires no_text { string_bytes self.old.text ≡ [] }
+        ensures text { OnOk result (string_bytes self.new.text ≡ text_of input.now) }
+        ensures good { IfOk result (λ good. good ≡ all_good (lines_of input.now)) }
+        ensures room { OnOk result (¬ MeetsFull input.now) }
+        ensures errors { IfErr result (IsRefusal (MeetsFull input.now)) }
+    {
+        let mut rest = input;
+        let mut number = 0usize;
+        while !rest.is_empty() {
+            let (line, after) = split_first(rest, b'\n');
+            rest = after.unwrap_or(&[]);
+            number += 1;
+            match self.answer(line) {
+                Ok(()) => {}
+                Err(LineError::BadLine) => {
+                    writeln!(self.text, "bad line {number}")?;
+                    return Ok(false);
+                }
+                Err(LineError::Memory) => return Err(RunError::Memory),
+                Err(LineError::Full) => return Err(RunError::Full),
+            }
+        }
+        Ok(true)
+    }
+
+    #[tactic(auto, unfolding(crate::specs::Orders::line_of))]
     // Answers a line: its first word is the name of a command, which reads the others.
     fn answer(&mut self, line: &[u8]) -> Result<(), LineError>
         ensures { Takes self.old self.new (line_of line.now) result }
@@ -53,25 +81,25 @@ impl<A: Allocator + Copy> Session<A> {
         }
         let (name, rest) = split_first(line, b' ');
         let words = Words { rest };
-        if name == b"push".as_slice() {
+        if is_same(name, b"push") {
             self.push(words)
-        } else if name == b"log".as_slice() {
+        } else if is_same(name, b"log") {
             self.checkpoint(words)
-        } else if name == b"include".as_slice() {
+        } else if is_same(name, b"include") {
             self.include(words)
-        } else if name == b"consistent".as_slice() {
+        } else if is_same(name, b"consistent") {
             self.consistent(words)
-        } else if name == b"bundle".as_slice() {
+        } else if is_same(name, b"bundle") {
             self.bundle(words)
-        } else if name == b"verify".as_slice() {
+        } else if is_same(name, b"verify") {
             self.verify(words)
-        } else if name == b"insert".as_slice() {
+        } else if is_same(name, b"insert") {
             self.insert(words)
-        } else if name == b"map".as_slice() {
+        } else if is_same(name, b"map") {
             self.map_root(words)
-        } else if name == b"prove".as_slice() {
+        } else if is_same(name, b"prove") {
             self.prove(words)
-        } else if name == b"absent".as_slice() {
+        } else if is_same(name, b"absent") {
             self.absent(words)
         } else {
             Err(LineError::BadLine)
@@ -198,11 +226,10 @@ impl<A: Allocator + Copy> Session<A> {
         }
     }
 
-    #[tactic(auto, using(crate::proofs::WordLemmas::root_says))]
     fn verify(&mut self, mut words: Words<'_>) -> Result<(), LineError>
         ensures { Takes self.old self.new (good_or_bad (verify_in words.entry)) result }
     {
-        let root = Hash::<Sha256>::try_from(words.bytes(self.alloc)?)?;
+        let root = words.root(self.alloc)?;
         let value = words.bytes(self.alloc)?;
         let bundle = words.bytes(self.alloc)?;
         words.end()?;
@@ -228,13 +255,20 @@ impl<A: Allocator + Copy> Session<A> {
         }
     }
 
-    #[tactic(auto, unfolding(crate::specs::Text::answer), using(crate::proofs::MapLemmas::map_after_insert))]
     fn insert(&mut self, mut words: Words<'_>) -> Result<(), LineError>
         ensures { Takes self.old self.new (good_or_bad (insert_in words.entry)) result }
     {
         let key = words.bytes(self.alloc)?;
         let value = words.bytes(self.alloc)?;
         words.end()?;
+        self.insert_entry(key, value)
+    }
+
+    // Inserts an entry, and answers by the count of keys.
+    #[tactic(auto, unfolding(crate::specs::Text::answer), using(crate::proofs::MapLemmas::map_after_insert))]
+    fn insert_entry(&mut self, key: Vec<u8, A>, value: Vec<u8, A>) -> Result<(), LineError>
+        ensures { Takes self.old self.new (good (insert key.items value.items)) result }
+    {
         self.map = self.map.insert(key, value)?;
         let len = self.map.len();
         writeln!(self.text, "len {len}")?;
@@ -252,37 +286,45 @@ impl<A: Allocator + Copy> Session<A> {
         Ok(())
     }
 
-    #[tactic(auto, unfolding(crate::specs::Text::answer), using(crate::proofs::MapLemmas::root_with))]
     fn prove(&mut self, mut words: Words<'_>) -> Result<(), LineError>
         ensures { Takes self.old self.new (good_or_bad (prove_in words.entry)) result }
     {
         let key = words.bytes(self.alloc)?;
         let value = words.bytes(self.alloc)?;
         words.end()?;
-        let copy = Vec::from_slice(self.alloc, key.as_slice())?;
-        let Some(proof) = self.map.prove(copy)? else {
-            self.say("absent")?;
-            return Ok(());
-        };
-        let root = proof.evaluate(&key, &value);
-        self.say_root("root", &root)?;
+        self.say_proved(&key, &value)?;
         Ok(())
     }
 
-    #[tactic(auto, unfolding(crate::specs::Text::answer))]
+    // Answers by the root to which a key's proof leads from a value, or that there is no proof.
+    fn say_proved(&mut self, key: &Vec<u8, A>, value: &Vec<u8, A>) -> Result<(), AllocError>
+        ensures { AddsAnswer self.old self.new (prove key.now.items value.now.items) result }
+    {
+        let copy = Vec::from_slice(self.alloc, key.as_slice())?;
+        match self.map.prove(copy)? {
+            Some(proof) => self.say_root("root", &proof.evaluate(key, value)),
+            None => self.say("absent"),
+        }
+    }
+
     fn absent(&mut self, mut words: Words<'_>) -> Result<(), LineError>
         ensures { Takes self.old self.new (good_or_bad (absent_in words.entry)) result }
     {
         let key = words.bytes(self.alloc)?;
         words.end()?;
-        let copy = Vec::from_slice(self.alloc, key.as_slice())?;
-        let Some(absence) = self.map.prove_absence(copy)? else {
-            self.say("refused present")?;
-            return Ok(());
-        };
-        let root = absence.evaluate_absent(&key);
-        self.say_root("empty", &root)?;
+        self.say_absent(&key)?;
         Ok(())
+    }
+
+    // Answers by the root to which a key's absence leads, or that it is present.
+    fn say_absent(&mut self, key: &Vec<u8, A>) -> Result<(), AllocError>
+        ensures { AddsAnswer self.old self.new (absent key.now.items) result }
+    {
+        let copy = Vec::from_slice(self.alloc, key.as_slice())?;
+        match self.map.prove_absence(copy)? {
+            Some(absence) => self.say_root("empty", &absence.evaluate_absent(key)),
+            None => self.say("refused present"),
+        }
     }
 
     // Answers by a word and a root.
@@ -348,21 +390,6 @@ pub(super) fn answers<A: Allocator + Copy>(
         map: Map::default(alloc),
         text: String::new(alloc),
     };
-    let mut rest = input;
-    let mut number = 0usize;
-    while !rest.is_empty() {
-        let (line, after) = split_first(rest, b'\n');
-        rest = after.unwrap_or(&[]);
-        number += 1;
-        match session.answer(line) {
-            Ok(()) => {}
-            Err(LineError::BadLine) => {
-                writeln!(session.text, "bad line {number}")?;
-                return Ok((session.text, false));
-            }
-            Err(LineError::Memory) => return Err(RunError::Memory),
-            Err(LineError::Full) => return Err(RunError::Full),
-        }
-    }
-    Ok((session.text, true))
+    let good = session.answer_all(input)?;
+    Ok((session.text, good))
 }

@@ -2,7 +2,8 @@
 
 ghost use Rattle.std.specs.Prelude.{◌≡◌, ◌≤◌, [], ◌∷◌, Some, IfOk, IfErr, OnOk};
 ghost use Rattle.std.specs.Option.{option_map};
-ghost use Rattle.warg_program.specs.Words.{number_in, length_in, hex_bytes_in};
+ghost use Rattle.warg_crypto.specs.Bytes.{same_bytes};
+ghost use Rattle.warg_program.specs.Words.{number_in, length_in, hex_bytes_in, root_in};
 ghost use Rattle.warg_program.specs.Orders.{first_says, none_left};
 ghost use Rattle.warg_program.specs.Private.Parts.{IsFirstPart};
 ghost use Rattle.warg_program.specs.Private.Errors.{IsUnread};
@@ -13,6 +14,7 @@ use hex::FromHexError;
 use memchr::memchr;
 use std::alloc::Allocator;
 use std::marker::Model;
+use warg_crypto::{Hash, Sha256};
 use warg_log::GREATEST_LENGTH;
 
 /// The words of a line that aren't read yet.
@@ -92,7 +94,7 @@ impl<'a> Words<'a> {
         ensures errors { IfErr result (IsUnread (first_says hex_bytes_in self.old)) }
     {
         let word = self.word()?;
-        if word == b"-".as_slice() {
+        if is_same(word, b"-") {
             return Ok(Vec::new(alloc));
         }
         if word.is_empty() {
@@ -103,6 +105,15 @@ impl<'a> Words<'a> {
             Err(FromHexError::OutOfMemory) => Err(LineError::Memory),
             Err(_) => Err(LineError::BadLine),
         }
+    }
+
+    #[tactic(auto, using(crate::proofs::WordLemmas::root_says))]
+    /// The root that the next word says: the bytes that it says, if they are 32.
+    pub(super) fn root<A: Allocator>(&mut self, alloc: A) -> Result<Hash<Sha256>, LineError>
+        ensures ok { IfOk result (λ root. first_says root_in self.old ≡ Some (root, self.new)) }
+        ensures errors { IfErr result (IsUnread (first_says root_in self.old)) }
+    {
+        Ok(Hash::try_from(self.bytes(alloc)?)?)
     }
 
     #[tactic(auto, unfolding(crate::specs::Orders::none_left), using(crate::proofs::WordLemmas::word_left))]
@@ -116,6 +127,13 @@ impl<'a> Words<'a> {
             Some(_) => Err(LineError::BadLine),
         }
     }
+}
+
+/// Whether two words are the same.
+pub(super) fn is_same(word: &[u8], other: &[u8]) -> bool
+    ensures { result ≡ same_bytes word.now other.now }
+{
+    word == other
 }
 
 /// What stands before the first `separator`, and what stands behind it, if there is one.

@@ -1,11 +1,13 @@
 -- The digest of a node by the first of some tiles.
-use Rattle.std.proofs.Common.{◌≡◌, ℕ, ◌+◌, ◌-◌, ◌*◌, ◌%◌, ◌^◌, ◌<◌, ◌≤◌, ◌==◌, ◌&&◌, nat_le, true, take, if◌then◌else◌, List, length, drop, map, slice_index_or, Some, None, sym, ap, ◌∙◌, arith}
+use Rattle.std.proofs.Common.{◌≡◌, ℕ, ◌+◌, ◌-◌, ◌*◌, ◌%◌, ◌^◌, ◌<◌, ◌≤◌, ◌==◌, ◌&&◌, nat_le, true, take, if◌then◌else◌, List, [], ◌∷◌, ◌++◌, length, drop, map, slice_index_or, Option, Some, None, IsSome, sym, ap, ◌∙◌, arith}
+use borrow.Author.Count.{below_more}
 use Rattle.std.specs.Option.{option_or}
-use Rattle.std.proofs.lemmas.List.{at_drop_more}
+use Rattle.std.proofs.lemmas.List.{at_drop_more, get_or_append_left}
+use Rattle.std.proofs.Math.Seq.{get_or-append_seam}
 use Rattle.warg_log.specs.Nodes.{height_of}
 use Rattle.warg_log.specs.Tree.{root_of}
-use Rattle.warg_tiles.specs.Tiles.{TileAt, place_in_level, tile_over}
-use Rattle.warg_tiles.specs.TileData.{has_below, root_below, digest_of, digest_by}
+use Rattle.warg_tiles.specs.Tiles.{TileAt, node_in, place_in_level, tile_over}
+use Rattle.warg_tiles.specs.TileData.{LacksOf, has_below, root_below, digest_of, digest_by}
 
 -- the first tile that is left, and those behind it
 pub next_tile : {X : Type 0} (H : List ℕ → List ℕ) (f : X → TileAt × List (List ℕ)) (xs : List X) (x : X) (i node : ℕ) → i < length xs → x ≡ slice_index_or xs i x
@@ -26,3 +28,13 @@ held_digest H t ds x h end least root is height width most covers made =
     let taken : end - (end - 1 * 2 ^ (h % 8) % 2 ^ 64) ≡ 2 ^ (height_of x % 8) = omega (arith, count) in
     ap Some (made ∙ ap (λ n. root_of H (take n (drop (end - 1 * 2 ^ (h % 8) % 2 ^ 64) ds))) taken ∙ ap (λ n. root_of H (take (2 ^ (height_of x % 8)) (drop n ds))) start)
     ∙ sym (ap (λ b. if b then Some (root_below H ds x) else None) over)
+
+-- what each node of a tile has
+pub lacks_none : (F : ℕ → Option (List ℕ)) (t : TileAt) → ((k : ℕ) → k < t.width → IsSome (F (node_in t k))) → LacksOf F t → ⊥
+lacks_none F t known l = let some = rw l.2 at (known l.0 l.1) in cc some
+
+pub digests_more : (F : ℕ → Option (List ℕ)) (old new : List (List ℕ)) (n : ℕ) (d : List ℕ) → length old ≡ n → new ≡ old ++ d ∷ [] → F n ≡ Some d → ((k : ℕ) → k < n → F k ≡ Some (slice_index_or old k []))
+    → (k : ℕ) → k < n + 1 → F k ≡ Some (slice_index_or new k [])
+digests_more F old new n d len is here below =
+    let seam : slice_index_or new n [] ≡ d = rw (is, ← len) (get_or-append_seam old d [] []) in
+    below_more (λ k. F k ≡ Some (slice_index_or new k [])) n (λ k h. rw (is, get_or_append_left old (d ∷ []) [] k (omega (arith, len, h))) (below k h)) (here ∙ ap Some (sym seam))

@@ -8,7 +8,7 @@ use Rattle.warg_protobuf.proofs.ForCallers.{all_append, all_push}
 use Rattle.std.specs.Fmt.{decimal}
 use Rattle.std.proofs.lemmas.Fmt.{decimal_injective}
 use Rattle.std.specs.Str.{IsUtf8}
-use Rattle.std.specs.Prelude.{MatchResult, IfOk, IfErr, IsOk, IsErrAnd, ◌↔◌}
+use Rattle.std.specs.Prelude.{MatchResult, IfOk, IfErr, OnOk, IsOk, IsErr, IsErrAnd, ◌↔◌}
 use Rattle.std.specs.Result.{result_ok}
 use Rattle.std.proofs.lemmas.List.{append_assoc, append-nil, get_or_past, length-append, length-replicate, map_more}
 use Rattle.base64.specs.Engines.{standard}
@@ -215,6 +215,10 @@ pub err_same : {X E : Type 0} (P : E → Type 0) (e : E) (r : Result X E) → Is
 err_same P e (Ok x) is holds = tt
 err_same P e (Err f) is holds = subst P (sym is) holds
 
+pub err_on_ok : {X E : Type 0} (r : Result X E) (P : Type 0) → IsErr r → OnOk r P
+err_on_ok (Ok x) P is = cc
+err_on_ok (Err e) P is = tt
+
 -- no length's line is behind an origin's
 pub no_length : (bytes origin rest : List ℕ) → IsLine origin → bytes ≡ line origin rest → ((n : ℕ) (more : List ℕ) → n ≤ 2 ^ 63 → rest ≢ length_line n more) → HasLength bytes → ⊥
 no_length bytes origin rest is first none h =
@@ -227,6 +231,17 @@ pub no_root : (bytes origin rest more : List ℕ) (length : ℕ) → IsLine orig
 no_root bytes origin rest more length is first most second none h =
     let behind_origin = (line_once h.0 (length_line h.1 (root_line h.2 h.3)) origin rest h.4.no_newline is.no_newline (sym h.7 ∙ first)).1 in
     none h.2 h.3 h.6 (sym (length_once h.1 length _ more h.5 most (behind_origin ∙ second)).1)
+
+-- a text of these parts has no fault
+pub only_memory : {X : Type 0} (bytes origin rest more root last : List ℕ) (length : ℕ) → IsLine origin → bytes ≡ line origin rest → length ≤ 2 ^ 63 → rest ≡ length_line length more
+    → IsDigest root → more ≡ root_line root last → (e : CheckpointTextError) (r : Result X CheckpointTextError) → r ≡ Err e
+    → (r ≡ Err Origin → ⊥) → (r ≡ Err Length → ⊥) → (r ≡ Err Root → ⊥) → (r ≡ Err Extension → ⊥) → IsFirstFault bytes e
+only_memory bytes origin rest more root last length is first most second digest third Origin r of a b c d = absurd (a of)
+only_memory bytes origin rest more root last length is first most second digest third Length r of a b c d = absurd (b of)
+only_memory bytes origin rest more root last length is first most second digest third Root r of a b c d = absurd (c of)
+only_memory bytes origin rest more root last length is first most second digest third Extension r of a b c d = absurd (d of)
+only_memory bytes origin rest more root last length is first most second digest third Memory r of a b c d =
+    (origin, length, root, last, is, most, digest, first ∙ ap (line origin) (second ∙ ap (length_line length) third))
 
 -- what is behind the root's line is no further lines
 pub no_extensions : (bytes origin rest more root last : List ℕ) (length : ℕ) → IsLine origin → bytes ≡ line origin rest → length ≤ 2 ^ 63 → rest ≡ length_line length more
@@ -244,3 +259,14 @@ no_extensions bytes origin rest more root last length is first most second diges
 no_extensions bytes origin rest more root last length is first most second digest third Origin fault = absurd fault
 no_extensions bytes origin rest more root last length is first most second digest third Length fault = absurd fault
 no_extensions bytes origin rest more root last length is first most second digest third Root fault = absurd fault
+
+-- the text of these parts and further lines
+pub said_before : (bytes origin rest more root last : List ℕ) (length : ℕ) → IsLine origin → bytes ≡ line origin rest → length ≤ 2 ^ 63 → rest ≡ length_line length more
+    → IsDigest root → more ≡ root_line root last → (text said : Said) (rest_of : Option (List ℕ))
+    → text ≡ record { origin = origin; length = length; root = root; extensions = [] } → (ls : List (List ℕ)) × AllByRecursion IsLine ls × (said ≡ record text { extensions = text.extensions ++ ls }) × (last ≡ lines ls (behind rest_of))
+    → CanBeSaid said × (bytes ≡ text_before said rest_of)
+said_before bytes origin rest more root last length is first most second digest third text said rest_of made h =
+    rw (h.2, made) (
+      record { origin = is; length = most; root = digest; extensions = h.1 },
+      first ∙ ap (line origin) (second ∙ ap (length_line length) (third ∙ ap (root_line root) h.3)),
+    )

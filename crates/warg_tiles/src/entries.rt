@@ -50,7 +50,6 @@ pub fn push_entry<A: Allocator>(bytes: &mut Vec<u8, A>, entry: &[u8]) -> Result<
 }
 
 // Whether each entry has at most 65,535 bytes.
-#[tactic(auto, using(warg_protobuf::proofs::ForCallers::all_more, warg_protobuf::proofs::ForCallers::all_at))]
 fn are_short<T: AsSlice<u8>>(entries: &[T]) -> bool
     ensures { IsTrue result ↔ AllByRecursion (λ e. length (T.items e) < 65536) entries.now }
 {

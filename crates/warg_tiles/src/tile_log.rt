@@ -143,6 +143,34 @@ impl<D: SupportedDigest, V: VisitBytes, A: Allocator + Copy> TileLog<D, V, A> {
     {
         partial_tiles(alloc, self.edge.as_slice(), self.count)
     }
+
+    // As `push`, of the digest of a leaf that fills a tile.
+    fn push_last(&mut self, digest: Hash<D>) -> Result<(), AllocError>
+        requires fits { self.old.len < GREATEST_LENGTH }
+        requires last { self.old.len % 256 ≡ 255 }
+        ensures length { OnOk result ((self.new.len ≡ self.old.len + 1)
+            × (self.new.taken ≡ self.old.taken)) }
+        ensures stands { OnOk result ((ds : List (List ℕ)) → StandsFor D.digest self.old ds
+            → StandsFor D.digest self.new (ds ++ digest ∷ [])) }
+        ensures err { OnErr result (self.new ≡ self.old) }
+    {
+        let alloc = *self.full.allocator();
+        let mut filled = Vec::new(alloc);
+        let (kept, digest) = fill(
+            alloc,
+            &mut filled,
+            self.edge.as_slice(),
+            0,
+            self.count,
+            digest,
+        )?;
+        self.edge.reserve(1)?;
+        self.full.append(&mut filled)?;
+        self.edge.truncate(kept);
+        self.edge.push_reserved(digest);
+        self.count += 1;
+        Ok(())
+    }
 }
 
 impl<D: SupportedDigest, V: VisitBytes, A: Allocator + Copy> LogBuilder<D, V> for TileLog<D, V, A> {
@@ -167,21 +195,7 @@ impl<D: SupportedDigest, V: VisitBytes, A: Allocator + Copy> LogBuilder<D, V> fo
             self.count += 1;
             return Ok(leaf);
         }
-        let alloc = *self.full.allocator();
-        let mut filled = Vec::new(alloc);
-        let (kept, digest) = fill(
-            alloc,
-            &mut filled,
-            self.edge.as_slice(),
-            0,
-            self.count,
-            digest,
-        )?;
-        self.edge.reserve(1)?;
-        self.full.append(&mut filled)?;
-        self.edge.truncate(kept);
-        self.edge.push_reserved(digest);
-        self.count += 1;
+        self.push_last(digest)?;
         Ok(leaf)
     }
 
@@ -330,7 +344,6 @@ fn push_digests<D, A: Allocator + Copy>(
 // Puts a node's digest behind the right edge from a level on, where so many nodes of the level stand before it. Each tile
 // that this fills goes behind the others, and its root up by one level. What is left are the first digests of the edge, so
 // many, and the digest behind them.
-#[tactic(auto, using(crate::proofs::EdgeLemmas::fits_low, crate::proofs::EdgeLemmas::width_full))]
 fn fill<D: SupportedDigest, A: Allocator + Copy>(
     alloc: A,
     filled: &mut Vec<StoredTile<D, A>, A>,

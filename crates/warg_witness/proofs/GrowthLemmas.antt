@@ -1,15 +1,17 @@
 -- A consistency path beside the trees over the old and the new entries, on its way up.
-use Rattle.std.proofs.Common.{◌≡◌, ℕ, ◌+◌, ◌-◌, ◌<◌, ◌≤◌, ◌↔◌, true, false, List, [], ◌∷◌, length, reverse, get_or, Option, Some, None, inl, inr, refl, sym, ap, ◌∙◌, arith, rules}
+use Rattle.std.proofs.Common.{◌≡◌, ℕ, ◌+◌, ◌-◌, ◌<◌, ◌≤◌, ◌^◌, ◌↔◌, true, false, List, [], ◌∷◌, length, reverse, get_or, Option, Some, None, inl, inr, refl, sym, ap, ◌∙◌, arith, rules}
 use Rattle.std.specs.Option.{is_some}
 use Rattle.std.proofs.lemmas.Nat.{pow_pos}
 use Rattle.std.proofs.lemmas.Bool.{lt-leb, le-leb, lt-ltb, ne_eqb}
 use Rattle.warg_log.specs.Tree.{front_of, leaves_of, root_of, root_over, own_digest}
 use Rattle.warg_log.proofs.ForCallers.{front_is_greatest, front_of_is}
+use Rattle.warg_log.specs.Ranges.{IsAligned}
 use Rattle.warg_paths.specs.Paths.{roots_down, consistency_roots, subproof_roots, one_root, twice, grown, both_over}
-use Rattle.warg_paths.proofs.ForCallers.{both_one, both_short, both_front, both_rest}
+use Rattle.warg_paths.proofs.ForCallers.{both_one}
 use Rattle.warg_witness.specs.Ranges.{IsPart, IsAround}
 use Rattle.warg_witness.specs.Ranges.IsPart.{whole as part_whole, front as part_front, rest as part_rest}
 use Rattle.warg_witness.specs.Inputs.{plain_input}
+use Rattle.warg_witness.specs.PathClaims.{IsTreeMet}
 use Rattle.warg_witness.specs.TreePlaced.{IsOnGrowth, IsTurn, IsTreePlaced, old_turn_input, new_turn_input}
 use Rattle.warg_witness.specs.TreePlaced.IsOnGrowth.{whole, front, rest}
 use Rattle.warg_witness.specs.Private.Compared.{DiffersFirst}
@@ -21,7 +23,7 @@ use Rattle.warg_witness.specs.Private.TreeDivergence.{IsTreeMeeting, LeadsOver, 
 use Rattle.warg_witness.specs.declared.divergence.Divergence.{Divergence}
 use Rattle.warg_witness.specs.declared.divergence.Divergence.TheVariants.{Target}
 use Rattle.warg_witness.proofs.ClimbLemmas.{parts_placed}
-use Rattle.warg_witness.proofs.RangeLemmas.{Digest, IsPart-trans}
+use Rattle.warg_witness.proofs.RangeLemmas.{Digest, IsPart-trans, front_aligned, rest_aligned}
 use Rattle.warg_witness.proofs.ShownLemmas.{both_shown}
 use Rattle.warg_witness.proofs.RecordLemmas.{plain_root, beside_up}
 
@@ -32,6 +34,11 @@ pair_parts p q e = (cc, cc)
 -- the roots by what is left of a path, from lengths in order
 pub subproof_is : (H : Digest) (known : Option (List ℕ)) (m n : ℕ) (path : List (List ℕ)) → 0 < m → m ≤ n → subproof_roots H known m n path ≡ roots_down H known m n (reverse path)
 subproof_is H known m n path some order = rw (lt-ltb 0 m some, le-leb m n order) refl
+
+-- so do those of the rest of a range in which the old leaves end
+pub rest_led : (H : Digest) (m n k l : ℕ) (path : List (List ℕ)) {led : Option (List ℕ × List ℕ)} → m < n → k ≡ front_of n → l ≡ n - front_of n → k < m → led ≡ subproof_roots H None (m - k) l path
+    → roots_down H None (m - front_of n) (n - front_of n) (reverse path) ≡ led
+rest_led H m n k l path more front_is rest_is high led = sym (subproof_is H None _ _ path (omega arith) (omega arith)) ∙ sym (rw (front_is, rest_is) at led)
 
 -- whether a path leads somewhere doesn't depend on the old root
 some_grown : (H : Digest) (below : Option (List ℕ × List ℕ)) (top : List ℕ) → is_some (grown H below top) ≡ is_some below
@@ -46,9 +53,6 @@ some_down H r s (top ∷ below) m n = grind (arith, some_grown, some_down H r s 
 pub leads_nowhere : (H : Digest) (m n : ℕ) (r s : List ℕ) (path : List (List ℕ)) → (is_some (consistency_roots H m n r path) ≡ false) ↔ (consistency_roots H m n s path ≡ None)
 leads_nowhere H m n r s path = grind (arith, some_down H r s (reverse path) m n)
 
--- a path leads nowhere where it is too short or where what is below its topmost digest leads nowhere
-pub ruleset path_none = (both_short, both_front, both_rest)
-
 -- leaves that end in the rest of a range split where it does
 pub same_front : (m n : ℕ) → 1 < n → front_of n < m → m ≤ n → front_of m ≡ front_of n
 same_front m n more high order =
@@ -57,6 +61,21 @@ same_front m n more high order =
 
 pub front_some : (n : ℕ) → 1 < n → 0 < front_of n
 front_some n more = let f = front_is_greatest n more in rw f.0.1 (pow_pos f.0.0)
+
+-- a range around a place, not all of whose leaves are old, has more of them, and more than one leaf
+pub still_more : {place a m n l : ℕ} → IsAround place 1 a m → m ≤ n → (m ≡ l → ⊥) → l ≡ n → (0 < m) × (m < n) × (1 < n)
+still_more {m = m} {n = n} around order other is = let more : 0 < m = omega arith in let wide : m < n = grind arith in (more, wide, omega arith)
+
+-- what holds of a range around a place, not all of whose leaves are old, holds of the part in which the old leaves end
+module _ {place a m n k old new : ℕ} (more : m < n) (front_is : k ≡ front_of n) (around : IsAround place 1 a m) (aligned : IsAligned a n) (in_old : a + m ≤ old) (in_new : a + n ≤ new) where
+  pub front_takes : m ≤ k → (m ≤ front_of n) × (IsAround place 1 a m × (IsAligned a (front_of n) × ((a + m ≤ old) × (a + front_of n ≤ new))))
+  front_takes low = let f = front_is_greatest n (omega arith) in (omega arith, (around, (front_aligned aligned (omega arith), (in_old, omega arith))))
+
+  pub rest_takes : {e : ℕ} → e ≡ a + front_of n → k < m → e ≤ place
+      → (m - k ≤ n - front_of n) × (IsAround place 1 (a + front_of n) (m - k) × (IsAligned (a + front_of n) (n - front_of n) × ((a + front_of n + (m - k) ≤ old) × (a + front_of n + (n - front_of n) ≤ new))))
+  rest_takes rest_is high right =
+      let f = front_is_greatest n (omega arith) in
+      (omega arith, (record { starts = omega arith; ends = omega arith }, (rest_aligned aligned (omega arith), (omega arith, omega arith))))
 
 -- where both lengths are one, so are the roots to which a path leads
 both_same : (H : Digest) (known : Option (List ℕ)) (n : ℕ) (path : List (List ℕ)) (r r' : List ℕ) → roots_down H known n n (reverse path) ≡ Some (r, r') → r ≡ r'
@@ -96,6 +115,14 @@ module _ (H : Digest) (known : Option (List ℕ)) (m n : ℕ) (top : List ℕ) (
   unfolding roots_down
   rest_turn high = rw (ne_eqb m n (λ e. omega arith), lt-leb m (front_of n) high) refl
 
+  -- where what is below the topmost digest leads nowhere, so does the path
+  module _ {ds : List (List ℕ)} (digests : ds ≡ top ∷ below) where
+    pub front_lacks : {j l : ℕ} → j ≡ front_of n → l ≡ front_of n → m ≤ j → roots_down H known m l below ≡ None → roots_down H known m n ds ≡ None
+    front_lacks turn is low none = rw (digests, front_turn (rw turn at low), rw is at none) refl
+
+    pub rest_lacks : {j l : ℕ} → j ≡ front_of n → l ≡ n - front_of n → j < m → roots_down H None (m - j) l below ≡ None → roots_down H known m n ds ≡ None
+    rest_lacks turn is high none = rw (digests, rest_turn (rw turn at high), rw (turn, is) at none) refl
+
 module _ (H : Digest) (old_tree new_tree : List (List ℕ)) (place : ℕ) (known : Option (List ℕ)) (m a n : ℕ) (top : List ℕ) (below : List (List ℕ)) (some : 0 < m) (more : m < n) where
   -- what stands below stands here
   widened : {known' : Option (List ℕ)} {m' a' n' : ℕ} → ((known₀ : Option (List ℕ)) (m₀ n₀ : ℕ) (ds₀ : List (List ℕ)) → IsOnGrowth known₀ m₀ n₀ ds₀ known m a n (top ∷ below) → IsOnGrowth known₀ m₀ n₀ ds₀ known' m' a' n' below)
@@ -122,19 +149,21 @@ module _ (H : Digest) (old_tree new_tree : List (List ℕ)) (place : ℕ) (known
 
   module _ (in_old : a + m ≤ length old_tree) (in_new : a + n ≤ length new_tree) where
     -- up from the first part
-    pub front_up : {D : Type 0} {b k : ℕ} {o o' v v' z w w' : List ℕ} {p q q' : Divergence D} → m ≤ front_of n → IsGrowth H old_tree new_tree place known m a (front_of n) below b k o o' p v v' q → z ≡ root_over H new_tree (a + front_of n) (n - front_of n)
-        → IsUp H false v top v' z q w w' q' → IsGrowth H old_tree new_tree place known m a n (top ∷ below) b k o o' p w w' q'
-    front_up {p = p} low growth z_is up =
+    pub front_up : {D : Type 0} {f l e i b k : ℕ} {ds : List (List ℕ)} {o o' v v' z w w' : List ℕ} {p q q' : Divergence D} → ds ≡ top ∷ below → (f ≡ a) × (l ≡ front_of n) → (e ≡ a + front_of n) × (i ≡ n - front_of n)
+        → m ≤ front_of n → IsGrowth H old_tree new_tree place known m f l below b k o o' p v v' q → z ≡ root_over H new_tree e i → IsUp H false v top v' z q w w' q'
+        → IsGrowth H old_tree new_tree place known m a n ds b k o o' p w w' q'
+    front_up {p = p} digests front_is rest_is low below_is z_is up =
+        let growth = rw (front_is.0, front_is.1) at below_is in
         let new_part = part_front a n part_whole (omega arith) in
-        let down = widened (λ _ _ _ _ way. front _ _ _ _ _ _ way more low) part_whole new_part in record {
+        let down = widened (λ _ _ _ _ way. front _ _ _ _ _ _ way more low) part_whole new_part in rw digests (record {
           roots = front_turn H known m n top below more low ∙ ap (λ roots. grown H roots top) growth.roots ∙ rw up.first_is refl;
           around = growth.around;
           old_part = growth.old_part;
           new_part = IsPart-trans new_part growth.new_part;
           digest = growth.digest;
           old = record { is = growth.old.is; parts = λ same. parts_placed H p down (λ meets. meets) (growth.old.parts same) };
-          new = beside_up new_tree (omega arith) in_new (search rules) growth.new z_is up down (λ meets. meets) (new_here (rw (le-leb m (front_of n) low, growth.roots) refl));
-        }
+          new = beside_up new_tree (omega arith) in_new (search rules) growth.new (rw (rest_is.0, rest_is.1) at z_is) up down (λ meets. meets) (new_here (rw (le-leb m (front_of n) low, growth.roots) refl));
+        })
 
     -- where the old leaves end in the rest
     module _ (high : front_of n < m) where
@@ -145,41 +174,45 @@ module _ (H : Digest) (old_tree new_tree : List (List ℕ)) (place : ℕ) (known
       old_wide = let f = front_some n (omega arith) in omega arith
 
       -- up from there
-      pub rest_up : {D : Type 0} {b k : ℕ} {o o' v v' y z u u' w w' : List ℕ} {p p' q q' : Divergence D}
-          → IsGrowth H old_tree new_tree place None (m - front_of n) (a + front_of n) (n - front_of n) below b k o o' p v v' q → y ≡ root_over H old_tree a (front_of n) → z ≡ root_over H new_tree a (front_of n)
-          → IsUp H true o top o' y p u u' p' → IsUp H true v top v' z q w w' q' → IsGrowth H old_tree new_tree place known m a n (top ∷ below) b k u u' p' w w' q'
-      rest_up growth y_is z_is old_up new_up =
+      pub rest_up : {D : Type 0} {j f l e i b k b' k' : ℕ} {ds : List (List ℕ)} {o o' v v' u u' w w' : List ℕ} {p p' q q' : Divergence D} → ds ≡ top ∷ below → j ≡ front_of n → (f ≡ a) × (l ≡ front_of n)
+          → (e ≡ a + front_of n) × (i ≡ n - front_of n) → IsGrowth H old_tree new_tree place None (m - j) e i below b k o o' p v v' q → (b' ≡ b) × (k' ≡ k)
+          → IsUp H true o top o' (root_over H old_tree f l) p u u' p' → IsUp H true v top v' (root_over H new_tree f l) q w w' q' → IsGrowth H old_tree new_tree place known m a n ds b' k' u u' p' w w' q'
+      rest_up digests turn front_is rest_is below_is shared old_up new_up =
+          let growth = rw (turn, rest_is.0, rest_is.1) at below_is in
           let old_part = rw split at (part_rest a m part_whole old_wide) in
           let new_part = part_rest a n part_whole (omega arith) in
           let down = widened (λ _ _ _ _ way. rest _ _ _ _ _ _ way more high) old_part new_part in
-          let sides : AreSides true a m (a + front_of n) (m - front_of n) a (front_of n) = rw (← split) (search rules) in record {
+          let sides : AreSides true a m (a + front_of n) (m - front_of n) a (front_of n) = rw (← split) (search rules) in rw (digests, shared.0, shared.1) (record {
             roots = rest_turn H known m n top below more high ∙ ap (both_over H top) growth.roots ∙ rw (old_up.first_is, new_up.first_is) refl;
             around = growth.around;
             old_part = IsPart-trans old_part growth.old_part;
             new_part = IsPart-trans new_part growth.new_part;
             digest = growth.digest;
-            old = beside_up old_tree old_wide in_old sides growth.old y_is old_up down (λ meets. meets) (old_here high (rw growth.roots refl));
-            new = beside_up new_tree (omega arith) in_new (search rules) growth.new z_is new_up down (λ meets. meets) (new_here (rw (lt-leb m (front_of n) high, growth.roots) refl));
-          }
+            old = beside_up old_tree old_wide in_old sides growth.old refl (rw (front_is.0, front_is.1) at old_up) down (λ meets. meets) (old_here high (rw growth.roots refl));
+            new = beside_up new_tree (omega arith) in_new (search rules) growth.new refl (rw (front_is.0, front_is.1) at new_up) down (λ meets. meets) (new_here (rw (lt-leb m (front_of n) high, growth.roots) refl));
+          })
 
       -- up from the first part, which both trees share
-      pub shared_up : {D : Type 0} {o v y z u u' w w' : List ℕ} {p' q' : Divergence D} (led : roots_down H None (m - front_of n) (n - front_of n) below ≡ Some (o, v)) → IsAround place 1 a (front_of n)
-          → y ≡ root_over H old_tree (a + front_of n) (m - front_of n) → z ≡ root_over H new_tree (a + front_of n) (n - front_of n)
-          → IsUp H false top o (root_over H old_tree a (front_of n)) y Target u u' p' → IsUp H false top v (root_over H new_tree a (front_of n)) z Target w w' q' → IsGrowth H old_tree new_tree place known m a n (top ∷ below) a (front_of n) u u' p' w w' q'
-      shared_up led around y_is z_is old_up new_up =
-          let sides : AreSides false a m a (front_of n) (a + front_of n) (m - front_of n) = rw (← split) (search rules) in record {
-            roots = rest_turn H known m n top below more high ∙ ap (both_over H top) led ∙ rw (old_up.first_is, new_up.first_is) refl;
-            around = around;
+      pub shared_up : {D : Type 0} {j b k b' k' e f i : ℕ} {ds : List (List ℕ)} {o v x x' s s' u u' w w' : List ℕ} {p p' q q' : Divergence D} → ds ≡ top ∷ below → j ≡ front_of n → (b ≡ a) × (k ≡ front_of n)
+          → e ≡ a + front_of n → (f ≡ a + front_of n) × (i ≡ n - front_of n) → a ≤ place → place < e → roots_down H None (m - front_of n) (n - front_of n) below ≡ Some (o, v) → (b' ≡ b) × (k' ≡ k)
+          → (x ≡ top) × (x' ≡ top) → s ≡ root_over H old_tree b k → s' ≡ root_over H new_tree b k → (p ≡ Target) × (q ≡ Target)
+          → IsUp H false x o s (root_over H old_tree e (m - j)) p u u' p' → IsUp H false x' v s' (root_over H new_tree f i) q w w' q' → IsGrowth H old_tree new_tree place known m a n ds b' k' u u' p' w w' q'
+      shared_up {o = o} {v = v} digests turn front_is start rest_is low left led shared first old_is new_is targets old_up new_up =
+          let sides : AreSides false a m a (front_of n) (a + front_of n) (m - front_of n) = rw (← split) (search rules) in
+          let old_up' = rw (first.0, targets.0, turn, start) at old_up in
+          let new_up' = rw (first.1, targets.1, rest_is.0, rest_is.1) at new_up in rw (digests, shared.0, shared.1, front_is.0, front_is.1) (record {
+            roots = rest_turn H known m n top below more high ∙ ap (both_over H top) led ∙ rw (old_up'.first_is, new_up'.first_is) refl;
+            around = record { starts = low; ends = omega arith };
             old_part = rw split at (part_front a m part_whole old_wide);
             new_part = part_front a n part_whole (omega arith);
             digest = top;
-            old = beside_up old_tree old_wide in_old sides (shared old_tree) y_is old_up (λ _ _ is. is) (λ meets. meets) (old_here high (rw led refl));
-            new = beside_up new_tree (omega arith) in_new (search rules) (shared new_tree) z_is new_up (λ _ _ is. is) (λ meets. meets) (new_here (rw (lt-leb m (front_of n) high, led) refl));
-          }
+            old = beside_up old_tree old_wide in_old sides (here old_tree (rw (front_is.0, front_is.1) at old_is)) refl old_up' (λ _ _ is. is) (λ meets. meets) (old_here high (rw led refl));
+            new = beside_up new_tree (omega arith) in_new (search rules) (here new_tree (rw (front_is.0, front_is.1) at new_is)) refl new_up' (λ _ _ is. is) (λ meets. meets) (new_here (rw (lt-leb m (front_of n) high, led) refl));
+          })
         where
-          shared : {D : Type 0} (tree : List (List ℕ))
-              → IsBeside {D = D} H tree (PlacedOnGrowth H old_tree new_tree place known m a n (top ∷ below)) (top ≡ root_over H tree a (front_of n)) a (front_of n) top (root_over H tree a (front_of n)) Target
-          shared tree = record { is = refl; parts = λ same. same }
+          here : {D : Type 0} {d : List ℕ} (tree : List (List ℕ)) → d ≡ root_over H tree a (front_of n)
+              → IsBeside {D = D} H tree (PlacedOnGrowth H old_tree new_tree place known m a n (top ∷ below)) (top ≡ root_over H tree a (front_of n)) a (front_of n) top d Target
+          here tree is = record { is = is; parts = λ same. same ∙ is }
 
 -- what a divergence of both trees below a shared range shows
 pub shared_shown : {D E : Type 0} {H : Digest} {old_tree new_tree : List (List ℕ)} {place : ℕ} {known : Option (List ℕ)} {m a n : ℕ} {ds : List (List ℕ)} {b k : ℕ} {o o' v v' : List ℕ} {p q : Divergence D}
@@ -206,3 +239,20 @@ module _ (H : Digest) (path old new old_tree new_tree : List (List ℕ)) (meetin
     old_part = rw (← old_count) part_whole;
     new_part = rw (← new_count) part_whole;
   })
+
+-- the roots to which a path leads, where it leads to those of the trees over entries, and what the trees are then
+module _ (H : Digest) (old new : List (List ℕ)) {m n : ℕ} {plain o v : List ℕ} (old_count : length old ≡ m) (new_count : length new ≡ n) (plain_is : plain ≡ root_of H (leaves_of H old)) (path : List (List ℕ))
+    (led : Some (o, v) ≡ consistency_roots H m n plain path) where
+  pub tree_roots : IsTreeMet H path old new → (o ≡ plain) × (v ≡ root_of H (leaves_of H new))
+  tree_roots met = let both = pair_parts _ _ (led ∙ rw (← old_count, ← new_count, plain_is) met) in (both.0 ∙ sym plain_is, both.1)
+
+  pub trees_met : {old_tree new_tree : List (List ℕ)} → o ≡ plain → v ≡ root_of H (leaves_of H new) → (0 < m) × (m ≤ n) → n ≤ 2 ^ 63 → old_tree ≡ leaves_of H old → new_tree ≡ leaves_of H new
+      → IsTreeMeeting H path old new old_tree new_tree
+  trees_met old_root new_root order fits old_is new_is = record {
+    some = rw old_count order.0;
+    order = rw (old_count, new_count) order.1;
+    fits = rw new_count fits;
+    old_is = old_is;
+    new_is = new_is;
+    met = rw (old_count, new_count, ← plain_is) (sym led ∙ rw (old_root, new_root, plain_is) refl);
+  }

@@ -8,3 +8,4 @@ pub mod LawLemmas
 pub mod InsertionLemmas
 pub mod RangeLemmas
 pub mod KeyLemmas
+pub mod AgreementLemmas

@@ -97,6 +97,13 @@ front_around {s} {w} {a} {n} node aligned around other left =
       | inr le ↦ omega (arith, mul-le at.0 (2 ^ node.height) node.place (2 ^ node.height) le (omega arith))
     ]
 
+-- both its sides are aligned
+pub parts_aligned : {s w a n : ℕ} → IsNodeRange s w → IsAligned a n → IsAround s w a n → (a ≡ s → n ≡ w → ⊥) → IsAligned a (front_of n) × IsAligned (a + front_of n) (n - front_of n)
+parts_aligned {n = n} node aligned around other =
+    let wide = wider around other in
+    let some = node_some node in
+    let f = front_is_greatest n (omega arith) in (front_aligned aligned (omega arith), rest_aligned aligned (omega arith))
+
 -- so one side of a range is around the target
 pub side_around : {s w a n : ℕ} → IsNodeRange s w → IsAligned a n → IsAround s w a n → (a ≡ s → n ≡ w → ⊥)
     → (right : Bool) × (b : ℕ) × (m : ℕ) × (c : ℕ) × (k : ℕ) × AreSides right a n b m c k × IsAround s w b m × (m < n)

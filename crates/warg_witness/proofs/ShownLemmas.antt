@@ -1,10 +1,9 @@
 -- What proofs show of given entries, where they diverge from the trees over them.
-use Rattle.std.proofs.Common.{◌≡◌, ℕ, ◌^◌, ◌<◌, List, [], ◌∷◌, ◌++◌, Some, refl, sym, ◌∙◌, arith, ◌+◌, ◌-◌, inl, inr, ap, length, map, get_or}
+use Rattle.std.proofs.Common.{◌≡◌, ℕ, ◌^◌, ◌<◌, List, [], ◌∷◌, Some, refl, sym, ◌∙◌, arith, inl, inr, ap, length, map, get_or}
 use Rattle.std.proofs.lemmas.Nat.{pow_pos}
-use Rattle.std.proofs.lemmas.Bool.{lt-leb}
 use Rattle.std.proofs.lemmas.Bool.Decides.{nat_tests}
 use Rattle.warg_log.specs.Nodes.{height_of, start_of, node_over, balanced_roots}
-use Rattle.warg_log.specs.Tree.{leaves_of, front_of, root_of, root_over, own_digest}
+use Rattle.warg_log.specs.Tree.{leaves_of, root_of, root_over, own_digest}
 use Rattle.warg_log.specs.Claims.{InclusionClaim}
 use Rattle.warg_witness.specs.Claims.{IsEntry, Begins}
 use Rattle.warg_witness.specs.Inputs.{plain_input, cut_input, value_input, old_input}
@@ -182,3 +181,6 @@ module _ {H : Digest} {F : Data} {old new old_tree new_tree : List (List ℕ)} (
 -- entries that differ from others at a place don't begin them
 pub differs_not_begins : (old new : List (List ℕ)) (place : ℕ) → DiffersFirst old new place → Begins old new → ⊥
 differs_not_begins old new place differs begins = differs.differ (ap (λ xs. get_or xs place []) begins ∙ get_or-take (length old) new place [] differs.within)
+
+pub difference_in : (H : Digest) {old new tree : List (List ℕ)} {place : ℕ} → tree ≡ leaves_of H old → DiffersFirst old new place → place < length tree
+difference_in H {old} is differs = rw (is, leaves_count H old) differs.within

@@ -10,3 +10,4 @@ pub mod Compared
 pub mod PathDivergence
 pub mod PathClimbs
 pub mod TreeDivergence
+pub mod Agreement

@@ -1,14 +1,15 @@
 //! Two evaluations that go up one way side by side, where they diverge, and the collision that they show there.
 
-ghost use Rattle.std.specs.Prelude.{◌≡◌, IfOk};
+ghost use Rattle.std.specs.Prelude.{◌≡◌, None, Ok, IfOk, IfSome};
 ghost use Rattle.warg_crypto.specs.Collisions.{Collides};
-ghost use Rattle.warg_crypto.specs.Tree.{input_beside};
+ghost use Rattle.warg_crypto.specs.Tree.{input_beside, leaf_input};
 ghost use Rattle.warg_witness.specs.Private.Climbs.{IsUp};
 ghost use Rattle.warg_witness.specs.Private.Divergence.{inputs, inputs_of};
+ghost use Rattle.warg_witness.specs.Private.Agreement.{IsCompared};
 
-use crate::collision::Collision;
+use crate::collision::{Collision, Finding};
 use std::alloc::{AllocError, Allocator};
-use warg_crypto::{Branch, Hash, SupportedDigest, VisitBytes, hash_branch};
+use warg_crypto::{Branch, Hash, Leaf, SupportedDigest, VisitBytes, hash_branch, have_same_bytes};
 
 /// Where two evaluations diverge that have one digest at a range.
 #[derive(Drop)]
@@ -65,6 +66,29 @@ impl<D: SupportedDigest> Divergence<D> {
             Divergence::Branch(branches) => branches.collide(alloc),
         }
     }
+}
+
+/// Whether two values have the same bytes, where the evaluations from their leaves meet, and else the collision where these
+/// diverge.
+pub(crate) fn compare_values<D: SupportedDigest, V: VisitBytes, A: Allocator + Copy>(
+    alloc: A,
+    met: &Option<Divergence<D>>,
+    first: &V,
+    second: &V,
+) -> Result<Finding<D, A>, AllocError>
+    requires { IfSome met.now (λ p. (V.bytes first.now ≡ V.bytes second.now → ⊥) → Collides D.digest
+        (inputs_of p (leaf_input (V.bytes first.now)) (leaf_input (V.bytes second.now)))) }
+    ensures unmet { met.now ≡ None → result ≡ Ok Finding.NotMet }
+    ensures found { IfOk result (IsCompared met.now (V.bytes first.now) (V.bytes second.now)) }
+{
+    let Some(divergence) = met else {
+        return Ok(Finding::NotMet);
+    };
+    if have_same_bytes(first, second)? {
+        return Ok(Finding::Holds);
+    }
+    let pair = divergence.collide(alloc, &Leaf(first), &Leaf(second))?;
+    Ok(Finding::Collision(pair))
 }
 
 /// Two evaluations along one way, as far as they have come up from the bottom.

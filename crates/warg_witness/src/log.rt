@@ -1,6 +1,6 @@
 //! Witnesses for the log's proofs.
 
-ghost use Rattle.std.specs.Prelude.{◌≡◌, ◌≢◌, ◌+◌, ◌≤◌, ◌∷◌, ◌↔◌, IsTrue, length, map, None, Ok, Err, IfOk, MatchOption};
+ghost use Rattle.std.specs.Prelude.{◌≡◌, ◌≢◌, ◌+◌, ◌≤◌, ◌∷◌, ◌↔◌, IsTrue, length, map, None, Ok, Err, IfOk, MatchOption, ⊤};
 ghost use Rattle.warg_crypto.specs.Collisions.{Collides};
 ghost use Rattle.warg_crypto.specs.Tree.{leaf_digest};
 ghost use Rattle.warg_log.specs.Inclusion.{inclusion};
@@ -12,13 +12,14 @@ ghost use Rattle.warg_witness.specs.Claims.{IsMet, IsEntry, IsRootBelow, IsAgree
 ghost use Rattle.warg_witness.specs.Placed.{IsValuePlaced, IsHashPlaced, IsAgreementPlaced};
 ghost use Rattle.warg_witness.specs.Inputs.{plain_input};
 ghost use Rattle.warg_witness.specs.Private.Compared.{IsAt};
-ghost use Rattle.warg_witness.specs.Private.Divergence.{inputs_of};
+ghost use Rattle.warg_witness.specs.Private.Agreement.{IsFoundAt};
+ghost use Rattle.warg_witness.specs.Private.Divergence.{Parts, inputs_of};
 ghost use Rattle.warg_witness.specs.Private.Meeting.{IsMeeting};
 
 mod consistency;
 
 use crate::collision::{Collision, Finding};
-use crate::divergence::Divergence;
+use crate::divergence::{Divergence, compare_values};
 use crate::plain::{entry_at, plain_digest, plain_tree};
 use crate::ranges::meet_ranges;
 pub use consistency::witness_consistency;
@@ -143,7 +144,6 @@ fn is_entry_at<V: VisitBytes>(
 }
 
 // The collision of a value's leaf with what the tree over the entries hashes at the target, or of the branches above.
-#[tactic(auto, using(crate::proofs::RangeLemmas::beside_aligned))]
 fn collide_value<D: SupportedDigest, V: VisitBytes, A: Allocator + Copy>(
     alloc: A,
     value: &V,
@@ -180,7 +180,6 @@ fn collide_value<D: SupportedDigest, V: VisitBytes, A: Allocator + Copy>(
 ///
 /// It hashes each leaf and branch of the tree over the entries once, and besides at most three times as many
 /// branches as the proof's evaluation has. Out of memory is the only error.
-#[tactic(auto, using(crate::proofs::HashLemmas::meets, crate::proofs::ShownLemmas::hash_placed))]
 pub fn witness_hash<D: SupportedDigest, V: VisitBytes, L: LogData<D, V>, A: Allocator + Copy>(
     alloc: A,
     proof: &InclusionProof<D, V>,
@@ -201,10 +200,23 @@ pub fn witness_hash<D: SupportedDigest, V: VisitBytes, L: LogData<D, V>, A: Allo
     let Some(met) = meet_entries(alloc, proof, hashes, &hash, entries)? else {
         return Ok(Finding::NotMet);
     };
-    let Divergence::Branch(branches) = &met.divergence else {
+    find_hash(alloc, &met.divergence, &hash, &met.plain)
+}
+
+// What a hash that isn't the plain one shows, where its evaluation diverges from the tree.
+fn find_hash<D: SupportedDigest, A: Allocator + Copy>(
+    alloc: A,
+    divergence: &Divergence<D>,
+    hash: &Hash<D>,
+    plain: &Hash<D>,
+) -> Result<Finding<D, A>, AllocError>
+    requires { Parts D.digest (λ first second. ⊤) ⊤ divergence.now }
+    ensures { IfOk result (IsFoundAt divergence.now (hash.now ≡ plain.now)) }
+{
+    let Divergence::Branch(branches) = divergence else {
         return Ok(Finding::Holds);
     };
-    if hash == met.plain {
+    if hash == plain {
         return Ok(Finding::Holds);
     }
     Ok(Finding::Collision(branches.collide(alloc)?))
@@ -219,7 +231,6 @@ pub fn witness_hash<D: SupportedDigest, V: VisitBytes, L: LogData<D, V>, A: Allo
 ///
 /// It hashes both values, and each branch of both evaluations once. Out of memory is the only error. A value of more
 /// than `usize::MAX` bytes counts as that.
-#[tactic(auto, using(crate::proofs::RangeLemmas::whole_aligned))]
 pub fn agree_value<
     D: SupportedDigest,
     V: VisitBytes,
@@ -262,12 +273,5 @@ pub fn agree_value<
         &target,
         &whole,
     );
-    let Some(divergence) = met else {
-        return Ok(Finding::NotMet);
-    };
-    if have_same_bytes(first_value, second_value)? {
-        return Ok(Finding::Holds);
-    }
-    let pair = divergence.collide(alloc, &Leaf(first_value), &Leaf(second_value))?;
-    Ok(Finding::Collision(pair))
+    compare_values(alloc, &met, first_value, second_value)
 }

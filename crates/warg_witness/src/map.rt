@@ -14,7 +14,7 @@ mod plain;
 mod update;
 
 use crate::collision::{Collision, Finding};
-use crate::divergence::Divergence;
+use crate::divergence::{Divergence, compare_values};
 use last::is_last_value;
 use path::{Evaluation, meet_on_path};
 use plain::{Lent, last_of_digest, own_proof, plain_leaf};
@@ -200,7 +200,6 @@ pub fn witness_absent<
 /// values have the same bytes. Else a collision: what the digest function takes in the first and in the second
 /// evaluation at one prefix of the key's bits. Out of memory is the only error. A value of more than `usize::MAX` bytes
 /// counts as that.
-#[tactic(auto, using(crate::proofs::KeyLemmas::key_agreement_shown))]
 pub fn agree_key<
     D: SupportedDigest,
     K: VisitBytes,
@@ -235,12 +234,6 @@ pub fn agree_key<
         peers: second_proof.peers(),
         leaf: hash_leaf(second_value),
     };
-    let Some(divergence) = meet_on_path(&digest, first, second) else {
-        return Ok(Finding::NotMet);
-    };
-    if have_same_bytes(first_value, second_value)? {
-        return Ok(Finding::Holds);
-    }
-    let pair = divergence.collide(alloc, &Leaf(first_value), &Leaf(second_value))?;
-    Ok(Finding::Collision(pair))
+    let met = meet_on_path(&digest, first, second);
+    compare_values(alloc, &met, first_value, second_value)
 }

@@ -70,7 +70,6 @@ pub(crate) fn first_difference<D: SupportedDigest, V: VisitBytes, A: Allocator>(
 }
 
 /// Where two trees that have one digest at a range diverge on the way to the leaf at `place`.
-#[tactic(auto, using(crate::proofs::RangeLemmas::leaf_node, crate::proofs::RangeLemmas::leaf_aligned))]
 pub(crate) fn divergence_below<D: SupportedDigest, V: VisitBytes, A: Allocator>(
     trees: &Trees<D, V, A>,
     range: &LeafRange,

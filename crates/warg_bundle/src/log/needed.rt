@@ -1,15 +1,14 @@
 //! The one length of proofs, and the nodes whose digests they need.
 
-ghost use Rattle.std.specs.Prelude.{◌≡◌, ℕ, ◌^◌, ◌<◌, ◌≤◌, ◌⊎◌, None, Some, Ok, IfOk, IfErr, OnOk, map, nat_eq, [], ◌++◌};
-ghost use Rattle.std.specs.List.{AllByRecursion, IsDistinct, flat_map};
-ghost use Rattle.std.specs.List.Sorted.{IsSorted};
-ghost use Rattle.std.specs.Ordering.{nat_cmp};
+ghost use Rattle.std.specs.Prelude.{◌≡◌, ℕ, ◌^◌, ◌<◌, ◌≤◌, ◌⊎◌, None, Some, Ok, IfOk, IfErr, OnOk, map, [], ◌++◌};
+ghost use Rattle.std.specs.List.{AllByRecursion, flat_map};
 ghost use Rattle.warg_log.specs.Nodes.{ExistsAt};
+ghost use Rattle.warg_log.specs.Sparse.{IsAscending};
 ghost use Rattle.warg_log.specs.Walks.{needed, needed_between};
-ghost use Rattle.warg_protobuf.specs.Decoding.{first_fault};
+ghost use Rattle.warg_protobuf.specs.Decoding.{unless, first_fault};
 ghost use Rattle.warg_protobuf.specs.Reading.{Answers};
 ghost use Rattle.warg_bundle.specs.Bundling.{consistency_fault, inclusion_fault, first_length, bundle_length, node_fault, node_with_digest};
-ghost use Rattle.warg_bundle.specs.Private.Unions.{IsUnion};
+ghost use Rattle.warg_bundle.specs.Private.Unions.{IsUnion, IsCollected};
 ghost use Rattle.warg_bundle.specs.Private.Needed.{digests_at};
 ghost use Rattle.warg_bundle.specs.Private.Checks.{fault_in};
 
@@ -17,7 +16,7 @@ use crate::log::error::BundleError;
 use indexmap::IndexSet;
 use std::alloc::{AllocError, Allocator};
 use std::hash::{BuildHasherDefault, FoldHasher};
-use warg_crypto::{Hash, SupportedDigest, VisitBytes};
+use warg_crypto::{SupportedDigest, VisitBytes};
 use warg_log::{
     ConsistencyProof, ConsistencyProofError, InclusionProof, InclusionProofError, LogData, Node,
     SparseLogData,
@@ -116,18 +115,15 @@ pub(crate) fn add_consistency<D: SupportedDigest, V: VisitBytes, A: Allocator + 
     Ok(())
 }
 
-// The digests of the nodes of these numbers.
+// The digests of the nodes of these numbers, by node.
 fn digests_of<D: SupportedDigest, V: VisitBytes, L: LogData<D, V>, A: Allocator>(
     alloc: A,
     numbers: &[usize],
     hashes: &L,
-) -> Result<Vec<(Node, Hash<D>), A>, BundleError>
-    ensures ok { IfOk result (λ pairs. pairs.items
-        ≡ map (node_with_digest (L.digest_at hashes.now)) numbers.now) }
-    ensures good { OnOk result (first_fault (node_fault (L.digest_at hashes.now)) numbers.now
-        ≡ None) }
-    ensures fault { IfErr result (λ e. (e ≡ BundleError.Memory)
-        ⊎ (first_fault (node_fault (L.digest_at hashes.now)) numbers.now ≡ Some e)) }
+) -> Result<SparseLogData<D, V, A>, BundleError>
+    requires { IsAscending (map (node_with_digest (L.digest_at hashes.now)) numbers.now) }
+    ensures { let F = L.digest_at hashes.now in Answers BundleError.Memory result
+        (unless (first_fault (node_fault F) numbers.now) (map (node_with_digest F) numbers.now)) }
 {
     let mut pairs = Vec::new(alloc);
     'numbers: for number in numbers {
@@ -137,7 +133,7 @@ fn digests_of<D: SupportedDigest, V: VisitBytes, L: LogData<D, V>, A: Allocator>
             None => return Err(BundleError::HashNotFound),
         }
     }
-    Ok(pairs)
+    Ok(SparseLogData::from(pairs))
 }
 
 // The one length of the proofs of a bundle.
@@ -174,31 +170,28 @@ pub(crate) fn needed_digests<
         → Answers BundleError.Memory result (digests_at (L.digest_at hashes.now)
         (map (λ p. p.old_length) consistencies.now) (map (λ p. p.leaf) inclusions.now) n) }
 {
-    let numbers = needed_nodes(alloc, consistencies, inclusions)?;
-    let pairs = digests_of(alloc, numbers.as_slice(), hashes)?;
-    Ok(SparseLogData::from(pairs))
+    let mut numbers = IndexSet::new(alloc);
+    collect(&mut numbers, alloc, consistencies, inclusions)?;
+    digests_of(alloc, numbers.as_slice(), hashes)
 }
 
-// The numbers of the nodes that the proofs need, ascending.
-fn needed_nodes<D: SupportedDigest, V: VisitBytes, A: Allocator + Copy>(
+// Collects the numbers of the nodes that the proofs need, ascending.
+fn collect<D: SupportedDigest, V: VisitBytes, A: Allocator + Copy>(
+    numbers: &mut Numbers<A>,
     alloc: A,
     consistencies: &[ConsistencyProof<D, V>],
     inclusions: &[InclusionProof<D, V>],
-) -> Result<Numbers<A>, AllocError>
+) -> Result<(), AllocError>
+    requires none { numbers.old.keys ≡ [] }
     requires consistencies { AllByRecursion (λ p. p.old_length ≤ p.new_length) consistencies.now }
     requires inclusions { AllByRecursion (λ p. ExistsAt p.leaf.0 p.log_length) inclusions.now }
-    ensures needed { IfOk result (λ numbers.
-        IsUnion [] numbers.keys (flat_map (λ p.
-        needed_between p.old_length p.new_length) consistencies.now ++ flat_map
+    ensures { OnOk result (IsCollected numbers.new.keys (flat_map
+        (λ p. needed_between p.old_length p.new_length) consistencies.now ++ flat_map
         (λ p. needed p.leaf.0 p.log_length) inclusions.now)) }
-    ensures sorted { IfOk result (λ numbers. IsSorted nat_cmp numbers.keys) }
-    ensures once { IfOk result (λ numbers. IsDistinct nat_eq numbers.keys) }
 {
-    let mut numbers = IndexSet::new(alloc);
-    add_consistencies(&mut numbers, alloc, consistencies)?;
-    add_inclusions(&mut numbers, alloc, inclusions)?;
-    numbers.sort()?;
-    Ok(numbers)
+    add_consistencies(numbers, alloc, consistencies)?;
+    add_inclusions(numbers, alloc, inclusions)?;
+    numbers.sort()
 }
 
 fn add_consistencies<D: SupportedDigest, V: VisitBytes, A: Allocator + Copy>(

@@ -163,10 +163,12 @@ impl<D: SupportedDigest, V: VisitBytes, A: Allocator + Copy> ProofBundle<D, V, A
         ensures { Answers BundleError.Memory result
             (bundled (L.digest_at hashes.now) consistency_proofs.items inclusion_proofs.items) }
     {
-        let log_length = one_length(&consistency_proofs, &inclusion_proofs)?;
-        let hashes = needed_digests(alloc, &consistency_proofs, &inclusion_proofs, hashes)?;
-        let consistent_lengths = old_lengths(alloc, &consistency_proofs)?;
-        let included_nodes = leaves(alloc, &inclusion_proofs)?;
+        let consistencies = consistency_proofs.as_slice();
+        let inclusions = inclusion_proofs.as_slice();
+        let log_length = one_length(consistencies, inclusions)?;
+        let hashes = needed_digests(alloc, consistencies, inclusions, hashes)?;
+        let consistent_lengths = old_lengths(alloc, consistencies)?;
+        let included_nodes = leaves(alloc, inclusions)?;
         Ok(ProofBundle {
             log_length,
             consistent_lengths,
@@ -214,10 +216,7 @@ impl<D: SupportedDigest, V: VisitBytes, A: Allocator + Copy> ProofBundle<D, V, A
         ensures wire { (e : _) → result ≢ Err (DecodeError.Wire e) }
     {
         let hashes = read_hashes(alloc, message.hashes.as_slice())?;
-        let mut included_nodes = Vec::new(alloc);
-        'indices: for index in &message.included_indices {
-            included_nodes.push(Node(*index as usize))?;
-        }
+        let included_nodes = nodes(alloc, message.included_indices.as_slice())?;
         Ok(ProofBundle {
             log_length: message.log_length,
             consistent_lengths: message.consistent_lengths,
@@ -360,6 +359,17 @@ fn read_hashes<D, A: Allocator>(
         least = index + 1;
     }
     Ok(hashes)
+}
+
+// The nodes of these numbers.
+fn nodes<A: Allocator>(alloc: A, indices: &[u32]) -> Result<Vec<Node, A>, AllocError>
+    ensures { IfOk result (λ nodes. nodes.items ≡ map (λ n. record { 0 = n }) indices.now) }
+{
+    let mut nodes = Vec::new(alloc);
+    'indices: for index in indices {
+        nodes.push(Node(*index as usize))?;
+    }
+    Ok(nodes)
 }
 
 // Whether all nodes' numbers fit in 32 bits.

@@ -1,13 +1,15 @@
 -- Leaves that are put into a tree: leaf digests, each with its key digest, in the order of their insertion.
-use Rattle.std.specs.Prelude.{◌≡◌, ℕ, ◌+◌, ◌<◌, length, Bool, true, false, not, List, [], ◌∷◌, filter}
+use Rattle.std.specs.Prelude.{◌≡◌, ℕ, ◌+◌, ◌-◌, ◌<◌, length, Bool, true, false, not, List, [], ◌∷◌, filter}
 use Rattle.std.specs.List.{AllByRecursion}
-use Rattle.std.specs.FinMap.{insert, len}
+use Rattle.std.specs.FinMap.{empty, insert, len}
 use Rattle.warg_crypto.specs.Sides.{side_bit}
+use Rattle.warg_map.specs.declared.grown.Filled.{Filled}
 use Rattle.warg_map.specs.declared.grown.Parting.{Parting}
 use Rattle.warg_map.specs.declared.grown.Parting.TheVariants.{Nowhere, Behind}
 use Rattle.warg_map.specs.Bits.{bit_at, bits_from, last_bits}
 use Rattle.warg_map.specs.Sparse.{SparseMap}
 use Rattle.warg_map.specs.Private.Lone.{Lone}
+use Rattle.warg_map.specs.Private.Under.{join_at, under}
 
 -- A map after leaf digests were put under the last k bits of their key digests, in order.
 unfoldable pub with_leaves : ℕ → SparseMap → List Lone → SparseMap
@@ -45,3 +47,11 @@ IsParting key i n es (Behind shared side near far) = IsApart key i n es shared (
 pub record IsPut (k : ℕ) (m : SparseMap) (es : List Lone) (link : ℕ × SparseMap) (fresh : ℕ) : Type 0 where
   pub seen : link ≡ (k, with_leaves k m es)
   pub count : len m + fresh ≡ len link.1
+
+-- A tree beside one of new leaves, below n bits of a key digest from bit i on, with the first on the side of a bit.
+pub record IsBesideLeaves {D A : _} (key : List ℕ) (i n : ℕ) (b : Bool) (near : Filled D A) (far : List Lone) (all : Filled D A) : Type 0 where
+  pub link : ℕ × SparseMap
+  pub fresh : ℕ
+  pub put : IsPut (256 - (i + n + 1)) empty far link fresh
+  pub link_is : all.link ≡ (near.link.0 + 1 + n, under (bits_from key i n) (join_at b near.link.1 link.1))
+  pub fresh_is : all.fresh ≡ near.fresh + fresh

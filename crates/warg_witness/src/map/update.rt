@@ -1,16 +1,18 @@
 //! The witness for one insertion more.
 
-ghost use Rattle.std.specs.Prelude.{IfOk};
+ghost use Rattle.std.specs.Prelude.{◌≡◌, IfOk, ⊤};
 ghost use Rattle.warg_map.specs.Sparse.{pair_bytes};
 ghost use Rattle.warg_witness.specs.Findings.{Finds};
-ghost use Rattle.warg_witness.specs.MapClaims.{IsKeyMet};
+ghost use Rattle.warg_witness.specs.MapClaims.{IsKeyMet, IsKeyAgreement};
 ghost use Rattle.warg_witness.specs.MapPlaced.{IsPlacedAtPrefix};
 ghost use Rattle.warg_witness.specs.UpdateClaims.{IsUpdated};
+ghost use Rattle.warg_witness.specs.Private.Agreement.{IsFoundAt};
+ghost use Rattle.warg_witness.specs.Private.Divergence.{Parts};
 
 use crate::collision::Finding;
 use crate::divergence::Divergence;
-use crate::map::meet_insertions;
 use crate::map::plain::Lent;
+use crate::map::{KeyMeeting, meet_insertions};
 use std::alloc::{AllocError, Allocator};
 use warg_crypto::{SupportedDigest, VisitBytes};
 use warg_map::Proof;
@@ -50,6 +52,28 @@ pub fn witness_update<
     let Some(met) = meet_insertions(alloc, proof.peers(), key, old_value, insertions)? else {
         return Ok(Finding::NotMet);
     };
+    find_update(alloc, &met, proof, key, new_value)
+}
+
+// What a proof shows that doesn't lead from the new value to the new root, where its evaluation diverges from the plain tree.
+fn find_update<
+    'a,
+    D: SupportedDigest,
+    K: VisitBytes,
+    V: VisitBytes,
+    A: Allocator + Copy,
+    B: Allocator,
+>(
+    alloc: A,
+    met: &KeyMeeting<'a, D, K, V, A>,
+    proof: &Proof<D, K, V, B>,
+    key: &'a K,
+    new_value: &'a V,
+) -> Result<Finding<D, A>, AllocError>
+    requires { Parts D.digest (λ first second. ⊤) ⊤ met.now.divergence }
+    ensures { IfOk result (IsFoundAt met.now.divergence (IsKeyAgreement D.digest (K.bytes key.now)
+        proof.now (V.bytes new_value.now) met.now.own (V.bytes new_value.now))) }
+{
     let Divergence::Branch(branches) = &met.divergence else {
         return Ok(Finding::Holds);
     };

@@ -7,8 +7,9 @@ ghost use Rattle.warg_witness.specs.PathPlaced.{IsRecordAgreementPlaced};
 
 use super::climbing::meet_paths;
 use crate::collision::Finding;
+use crate::divergence::compare_values;
 use std::alloc::{AllocError, Allocator};
-use warg_crypto::{Hash, Leaf, SupportedDigest, VisitBytes, hash_leaf, have_same_bytes};
+use warg_crypto::{Hash, SupportedDigest, VisitBytes, hash_leaf};
 use warg_log::GREATEST_LENGTH;
 
 /// Whether two paths of the place `index`, from 0, of `length` entries, from two values, that lead to one root,
@@ -51,12 +52,5 @@ pub fn agree_record<D: SupportedDigest, V: VisitBytes, A: Allocator + Copy>(
         &second_leaf,
         second_path,
     );
-    let Some(divergence) = met else {
-        return Ok(Finding::NotMet);
-    };
-    if have_same_bytes(first_value, second_value)? {
-        return Ok(Finding::Holds);
-    }
-    let pair = divergence.collide(alloc, &Leaf(first_value), &Leaf(second_value))?;
-    Ok(Finding::Collision(pair))
+    compare_values(alloc, &met, first_value, second_value)
 }

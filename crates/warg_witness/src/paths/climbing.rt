@@ -15,7 +15,7 @@ use warg_crypto::{Hash, SupportedDigest, VisitBytes};
 use warg_log::{GREATEST_LENGTH, LeafRange, VecLog};
 
 // Both evaluations from a leaf of a range up to the range. None where a path has another length than that of this leaf.
-#[tactic(auto, using(crate::proofs::RangeLemmas::leaf_node, warg_paths::proofs::ForCallers::root_long, warg_paths::proofs::ForCallers::root_short))]
+#[tactic(auto, using(warg_paths::proofs::ForCallers::root_long, warg_paths::proofs::ForCallers::root_short))]
 fn climb_paths<D: SupportedDigest>(
     leaf: &LeafRange,
     range: &LeafRange,
@@ -93,7 +93,7 @@ pub(crate) fn meet_paths<D: SupportedDigest>(
 
 // An evaluation and the tree from a leaf of a range up to the range. None where the path has another length than that of
 // this leaf.
-#[tactic(auto, using(crate::proofs::RangeLemmas::leaf_node, warg_paths::proofs::ForCallers::root_long, warg_paths::proofs::ForCallers::root_short))]
+#[tactic(auto, using(warg_paths::proofs::ForCallers::root_long, warg_paths::proofs::ForCallers::root_short))]
 fn climb_beside_tree<D: SupportedDigest, V: VisitBytes, A: Allocator>(
     leaf: &LeafRange,
     range: &LeafRange,

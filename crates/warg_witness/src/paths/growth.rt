@@ -5,6 +5,7 @@ ghost use Rattle.warg_log.specs.Ranges.{IsAligned};
 ghost use Rattle.warg_log.specs.Tree.{root_over};
 ghost use Rattle.warg_paths.specs.Paths.{roots_down};
 ghost use Rattle.warg_witness.specs.Ranges.{IsAround};
+ghost use Rattle.warg_witness.specs.Private.Climbs.{IsUp};
 ghost use Rattle.warg_witness.specs.Private.TreeDivergence.{LeadsOver, IsGrowth, IsTreeDivergence};
 
 use crate::divergence::{Climb, Divergence};
@@ -22,6 +23,39 @@ struct Growth<D> {
     // The old root and the old tree's, and the new root and the new tree's.
     old: Climb<D>,
     new: Climb<D>,
+}
+
+impl<D: SupportedDigest> Growth<D> {
+    // One branch up in both: on the right of the digests beside them and of the trees' over ranges, or on the left.
+    fn up<V: VisitBytes, A: Allocator>(
+        self,
+        trees: &Trees<D, V, A>,
+        right: bool,
+        old_beside: &Hash<D>,
+        old_range: &LeafRange,
+        new_beside: &Hash<D>,
+        new_range: &LeafRange,
+    ) -> Growth<D>
+        requires old_aligned { IsAligned old_range.now.start old_range.now.count }
+        requires old_within { old_range.now.start + old_range.now.count ≤ length trees.now.old }
+        requires new_aligned { IsAligned new_range.now.start new_range.now.count }
+        requires new_within { new_range.now.start + new_range.now.count ≤ length trees.now.new }
+        ensures shared { result.shared ≡ self.shared }
+        ensures old { IsUp D.digest right self.old.first old_beside.now self.old.second
+            (root_over D.digest trees.now.old old_range.now.start old_range.now.count)
+            self.old.divergence result.old.first result.old.second result.old.divergence }
+        ensures new { IsUp D.digest right self.new.first new_beside.now self.new.second
+            (root_over D.digest trees.now.new new_range.now.start new_range.now.count)
+            self.new.divergence result.new.first result.new.second result.new.divergence }
+    {
+        let old_plain = plain_digest(&trees.old, old_range);
+        let new_plain = plain_digest(&trees.new, new_range);
+        Growth {
+            shared: self.shared,
+            old: self.old.up(right, old_beside, &old_plain),
+            new: self.new.up(right, new_beside, &new_plain),
+        }
+    }
 }
 
 // Both evaluations at the shared range, from its digest in the path.
@@ -51,7 +85,6 @@ fn growth_at<D: SupportedDigest, V: VisitBytes, A: Allocator>(
 
 // The evaluation and both trees up to a range, from the part that has the leaf at `place` and one digest in the path.
 // None where the path leads to no roots over the range.
-#[tactic(auto, using(crate::proofs::RangeLemmas::beside_aligned, crate::proofs::GrowthLemmas::path_none, crate::proofs::GrowthLemmas::subproof_is))]
 fn climb_growth<D: SupportedDigest, V: VisitBytes, A: Allocator>(
     trees: &Trees<D, V, A>,
     place: usize,
@@ -92,20 +125,10 @@ fn climb_growth<D: SupportedDigest, V: VisitBytes, A: Allocator>(
     if place < rest.start {
         let (old, new) = roots_of_subproof(None, old_count, rest.count, below)?;
         let growth = growth_at(trees, &front, top);
-        return Some(Growth {
-            shared: front,
-            old: growth
-                .old
-                .up(false, &old, &plain_digest(&trees.old, &old_rest)),
-            new: growth.new.up(false, &new, &plain_digest(&trees.new, &rest)),
-        });
+        return Some(growth.up(trees, false, &old, &old_rest, &new, &rest));
     }
     let growth = climb_growth(trees, place, None, old_count, &rest, below)?;
-    Some(Growth {
-        shared: growth.shared,
-        old: growth.old.up(true, top, &plain_digest(&trees.old, &front)),
-        new: growth.new.up(true, top, &plain_digest(&trees.new, &front)),
-    })
+    Some(growth.up(trees, true, top, &front, top, &front))
 }
 
 /// Where the evaluation of a path that leads to the roots of both trees diverges from one of them, or else both trees

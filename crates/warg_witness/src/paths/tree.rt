@@ -113,7 +113,6 @@ fn collide_trees<D: SupportedDigest, V: VisitBytes, A: Allocator + Copy>(
 /// and at most twice more each branch of both trees on the way from the first entry that differs up to the roots, or
 /// beside that way. Out of memory is the only error. An entry of more than `usize::MAX` bytes counts as that, and so do
 /// more than 2^63 entries.
-#[tactic(auto, using(crate::proofs::ShownLemmas::differs_not_begins))]
 pub fn witness_tree<D: SupportedDigest, V: VisitBytes, A: Allocator + Copy>(
     alloc: A,
     path: &[Hash<D>],

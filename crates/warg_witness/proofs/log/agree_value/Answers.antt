@@ -1,14 +1,24 @@
-use Rattle.std.proofs.Common.{refl, arith}
-use Rattle.warg_log.proofs.ForCallers.{inclusion_leads}
-use Rattle.warg_witness.specs.Claims.{IsAgreement}
-use Rattle.warg_witness.proofs.ShownLemmas.{agreement_shown}
+use Rattle.std.proofs.Common.{refl}
+use Rattle.warg_log.proofs.ForCallers.{starts, counts}
+use Rattle.warg_witness.proofs.AgreementLemmas.{values_agreed, agreed_collides, agreed_none, agreed_found}
+use Rattle.warg_witness.proofs.RangeLemmas.{whole_aligned}
 use Rattle.warg_witness.proofs.log.agree_value.Goals as goal
 
-pub returns-clause-found : goal.returns-clause-found
-returns-clause-found g c =
+pub meet_ranges-met-requires-clause-aligned : goal.meet_ranges-met-requires-clause-aligned
+meet_ranges-met-requires-clause-aligned g c = rw c.new-whole.ensures (whole_aligned _ refl)
+
+pub compare_values-requires : goal.compare_values-requires
+compare_values-requires g c =
     let exists = rw (c.leaf.ensures, c.log_length.ensures.value) at (c.if-not-exists_at_length.ensures.0 refl) in
-    let met = rw (c.leaf_range-target.ensures, c.leaf-2.ensures, c.hash_leaf-first_hash.ensures, c.hash_leaf-second_hash.ensures, c.new-whole.ensures, c.log_length-2.ensures.value) at c.in-Some.ensures in
-    let agrees : IsAgreement _ _ _ _ _ _ =
-    record { root = met.one.digest; first_is = (inclusion_leads _ _ c.args.proof.now _ _).1 (exists, met.one.first); second_is = (inclusion_leads _ _ c.args.proof.now _ _).1 (exists, met.one.second) } in
-    let shown = agreement_shown _ _ _ _ _ _ _ _ (grind arith) met.diverges in
-    (agrees, grind arith, rw c.in_ok-pair.ensures shown.placed)
+    let target = rw c.leaf-2.ensures at c.leaf_range-target.ensures in
+    let whole = rw c.log_length-2.ensures.value at c.new-whole.ensures in
+    agreed_collides _ c.meet_ranges-met.result
+    (values_agreed _ _ c.args.proof.now _ _ _ exists c.hash_leaf-first_hash.ensures c.hash_leaf-second_hash.ensures (starts target, counts target) (starts whole, counts whole) c.meet_ranges-met.result c.meet_ranges-met.ensures)
+
+pub returns : goal.returns
+returns g c =
+    let exists = rw (c.leaf.ensures, c.log_length.ensures.value) at (c.if-not-exists_at_length.ensures.0 refl) in
+    let target = rw c.leaf-2.ensures at c.leaf_range-target.ensures in
+    let whole = rw c.log_length-2.ensures.value at c.new-whole.ensures in
+    let agreed = values_agreed _ _ c.args.proof.now _ _ _ exists c.hash_leaf-first_hash.ensures c.hash_leaf-second_hash.ensures (starts target, counts target) (starts whole, counts whole) c.meet_ranges-met.result c.meet_ranges-met.ensures in
+    record { unmet = λ other. c.compare_values.ensures.unmet (agreed_none _ c.meet_ranges-met.result agreed other); found = agreed_found _ c.meet_ranges-met.result agreed c.compare_values.result c.compare_values.ensures.found }

@@ -1,8 +1,8 @@
-use Rattle.std.proofs.Common.{length, sym, ◌∙◌, ap, arith}
+use Rattle.std.proofs.Common.{length, refl, sym, ◌∙◌, ap, arith}
 use Rattle.std.proofs.lemmas.Nat.{pow_pos}
 use Rattle.warg_log.proofs.ForCallers.{starts, counts, inclusion_leads}
 use Rattle.warg_witness.proofs.HashLemmas.{entries_count}
-use Rattle.warg_witness.proofs.RangeLemmas.{node_aligned, node_range}
+use Rattle.warg_witness.proofs.RangeLemmas.{node_aligned, node_range, whole_aligned}
 use Rattle.warg_witness.proofs.CutLemmas.{leaves_count, have_root, root_led}
 use Rattle.warg_witness.proofs.log.meet_entries.Goals as goal
 
@@ -31,3 +31,12 @@ returns-clause-met g c =
       plain_is = rw (c.in_ok-tree.ensures, target) at c.plain_digest-plain.ensures;
       diverges = met.diverges;
     }
+
+pub meet_ranges-requires-clause-aligned : goal.meet_ranges-requires-clause-aligned
+meet_ranges-requires-clause-aligned g c = rw c.new-whole.ensures (whole_aligned _ refl)
+
+pub plain_digest-plain-requires-clause-within : goal.plain_digest-plain-requires-clause-within
+plain_digest-plain-requires-clause-within g c =
+    let count = entries_count g.V.VisitBytes.bytes c.args.entries.now ∙ c.if-entries-log_length.false ∙ c.log_length.ensures.value in
+    let all = ap length c.in_ok-tree.ensures ∙ leaves_count g.D.SupportedDigest.digest _ ∙ count in
+    let leads = (inclusion_leads _ _ c.args.proof.now _ _).0 (sym (rw c.copied.ensures at c.in-Ok.ensures)) in rw (c.leaf_range-target.ensures, c.leaf.ensures, all) (omega (arith, leads.0))

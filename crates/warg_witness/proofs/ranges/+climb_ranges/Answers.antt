@@ -1,6 +1,7 @@
 use Rattle.std.proofs.Common.{sym, ◌∙◌, arith}
 use Rattle.warg_witness.proofs.RangeLemmas.{node_some}
 use Rattle.warg_log.proofs.ForCallers.{starts, counts, target_decides}
+use Rattle.warg_witness.proofs.HashLemmas.{none_some}
 use Rattle.warg_witness.proofs.CutLemmas.{ranges_start, sides_lack, ranges_up}
 use Rattle.warg_witness.proofs.ranges.+climb_ranges.Goals as goal
 
@@ -16,12 +17,12 @@ returns-in_err-climb g t c =
 pub returns-in_err-first_beside : goal.returns-in_err-first_beside
 returns-in_err-first_beside g t c =
     rw c.from_residual-in_err-first_beside.ensures
-    (sides_lack _ (node_some c.requires.node) c.requires.around (grind arith) _ _ _ _ c.sides_around-held.ensures.sides (λ t u z v _ far _ _. (cc (c.in_err-first_beside.ensures))))
+    (sides_lack _ (node_some c.requires.node) c.requires.around (grind arith) _ _ _ _ c.sides_around-held.ensures.sides (λ t u z v _ far _ _. none_some c.in_err-first_beside.ensures far))
 
 pub returns-in_err-second_beside : goal.returns-in_err-second_beside
 returns-in_err-second_beside g t c =
     rw c.from_residual-in_err-second_beside.ensures
-    (sides_lack _ (node_some c.requires.node) c.requires.around (grind arith) _ _ _ _ c.sides_around-held.ensures.sides (λ t u z v _ _ _ far. (cc (c.in_err-second_beside.ensures))))
+    (sides_lack _ (node_some c.requires.node) c.requires.around (grind arith) _ _ _ _ c.sides_around-held.ensures.sides (λ t u z v _ _ _ far. none_some c.in_err-second_beside.ensures far))
 
 pub returns : goal.returns
 returns g t c =

@@ -50,3 +50,18 @@ returns-in_err-clone-clause-at_once g c = λ _ new. absurd (new _ _ c.in_default
 
 pub returns-clause-at_once : goal.returns-clause-at_once
 returns-clause-at_once g c = λ full new. absurd (cc (c.in_ok-insert.ensures.full.1 (full, new _ _ c.in-Some.ensures.steps)))
+
+pub extended_at_once-requires-clause-can : goal.extended_at_once-requires-clause-can
+extended_at_once-requires-clause-can g c = c.requires.can
+
+pub extended_at_once-requires-clause-ends : goal.extended_at_once-requires-clause-ends
+extended_at_once-requires-clause-ends g c = c.requires.ends
+
+pub returns-then-len-clause-ok : goal.returns-then-len-clause-ok
+returns-then-len-clause-ok g c = c.in_ok-extended_at_once.ensures.ok
+
+pub returns-then-len-clause-fits : goal.returns-then-len-clause-fits
+returns-then-len-clause-fits g c = c.in_ok-extended_at_once.ensures.fits
+
+pub returns-clause-fits : goal.returns-clause-fits
+returns-clause-fits g c = c.extended.ensures.fits

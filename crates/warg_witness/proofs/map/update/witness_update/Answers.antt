@@ -1,24 +1,10 @@
-use Rattle.std.proofs.Common.{◌≡◌, ◌∙◌, sym, arith}
-use Rattle.std.specs.Cmp.Lexicographic.{bytes_decides}
-use Rattle.warg_witness.proofs.KeyLemmas.{own_grown_root}
+use Rattle.std.proofs.lemmas.Result.{IfOk-weaker}
+use Rattle.warg_witness.proofs.AgreementLemmas.{branches_collide, update_found}
 use Rattle.warg_witness.proofs.map.update.witness_update.Goals as goal
 
-pub returns-then-eq : goal.returns-then-eq
-returns-then-eq g c =
-    let met = rw c.in-Some.is at c.in_ok-met.ensures in
-    let same : c.evaluate.result ≡ c.evaluate-new_root.result = grind (arith, bytes_decides c.evaluate.result c.evaluate-new_root.result) in
-    record { found = (rw c.peers.ensures.value at met.met, sym c.evaluate.ensures ∙ same ∙ c.evaluate-new_root.ensures ∙ own_grown_root _ _ _ _ met.beside _) }
+pub find_update-requires : goal.find_update-requires
+find_update-requires g c = let met = rw c.in-Some.is at c.in_ok-met.ensures in branches_collide _ c.in-Some.met.divergence _ _ met.diverges
 
 pub returns : goal.returns
 returns g c =
-    let met = rw c.in-Some.is at c.in_ok-met.ensures in
-    let at = rw c.in-Branch.is at met.diverges in
-    record {
-      found = (
-        rw c.peers.ensures.value at met.met,
-        (λ updated.
-            let same = (bytes_decides c.evaluate.result c.evaluate-new_root.result).1 (c.evaluate.ensures ∙ updated ∙ sym (own_grown_root _ _ _ _ met.beside _) ∙ sym c.evaluate-new_root.ensures) in
-            grind (arith, same)),
-        rw (c.in_ok-collide.ensures, ← c.peers.ensures.value) at.placed,
-      );
-    }
+    let met = rw (c.in-Some.is, c.peers.ensures.value) at c.in_ok-met.ensures in record { found = IfOk-weaker c.find_update.result _ _ (update_found (g.V.VisitBytes.bytes c.args.new_value.now) c.in-Some.met.divergence met) c.find_update.ensures }

@@ -1,12 +1,12 @@
-use Rattle.std.proofs.Common.{arith}
-use Rattle.warg_witness.proofs.RecordLemmas.{record_agreement_shown}
+use Rattle.warg_witness.proofs.AgreementLemmas.{records_agreed, agreed_collides, agreed_none, agreed_found}
 use Rattle.warg_witness.proofs.paths.agreement.agree_record.Goals as goal
 
-pub collide-requires : goal.collide-requires
-collide-requires g c = (record_agreement_shown _ _ _ _ _ _ _ _ (grind arith) (rw (c.hash_leaf-first_leaf.ensures, c.hash_leaf-second_leaf.ensures) at c.in-Some.ensures)).collides
+pub compare_values-requires : goal.compare_values-requires
+compare_values-requires g c =
+    agreed_collides _ c.meet_paths-met.result
+    (records_agreed _ c.args.index c.args.length c.args.first_path.now _ c.args.second_path.now _ c.hash_leaf-first_leaf.ensures c.hash_leaf-second_leaf.ensures c.meet_paths-met.result c.meet_paths-met.ensures)
 
-pub returns-clause-found : goal.returns-clause-found
-returns-clause-found g c =
-    let met = rw (c.hash_leaf-first_leaf.ensures, c.hash_leaf-second_leaf.ensures) at c.in-Some.ensures in
-    let shown = record_agreement_shown _ _ _ _ _ _ _ _ (grind arith) met in
-    (record { root = met.root; first_is = met.first_is; second_is = met.second_is }, grind arith, rw c.in_ok-pair.ensures shown.placed)
+pub returns : goal.returns
+returns g c =
+    let agreed = records_agreed _ c.args.index c.args.length c.args.first_path.now _ c.args.second_path.now _ c.hash_leaf-first_leaf.ensures c.hash_leaf-second_leaf.ensures c.meet_paths-met.result c.meet_paths-met.ensures in
+    record { unmet = λ other. c.compare_values.ensures.unmet (agreed_none _ c.meet_paths-met.result agreed other); found = agreed_found _ c.meet_paths-met.result agreed c.compare_values.result c.compare_values.ensures.found }

@@ -2,6 +2,7 @@ use Rattle.std.proofs.Common.{arith}
 use Rattle.std.proofs.lemmas.Bool.Decides.{nat_tests}
 use Rattle.warg_log.proofs.ForCallers.{counts}
 use Rattle.warg_witness.proofs.RecordLemmas.{paths_start, paths_nowhere, paths_up, turned}
+use Rattle.warg_witness.proofs.RangeLemmas.{leaf_node}
 use Rattle.warg_witness.proofs.paths.climbing.+climb_paths.Goals as goal
 
 pub returns-then-is_empty-2 : goal.returns-then-is_empty-2
@@ -18,3 +19,6 @@ pub returns : goal.returns
 returns g t c =
     rw (turned _ _ _ c.in_ok-first_top.ensures.cases.0, turned _ _ _ c.in_ok-second_top.ensures.cases.0)
     (paths_up c.sides_around-held.ensures.sides (rw c.requires.one at c.sides_around-held.ensures.around) (omega arith) (omega (arith, counts c.range.view_is)) c.in_ok-climb.ensures c.up.ensures)
+
+pub sides_around-held-requires-clause-node : goal.sides_around-held-requires-clause-node
+sides_around-held-requires-clause-node g t c = leaf_node c.requires.one

@@ -1,8 +1,10 @@
-use Rattle.std.proofs.Common.{◌≡◌, ◌-◌, ◌<◌, None, sym, ◌∙◌, arith}
+use Rattle.std.proofs.Common.{◌≡◌, ◌<◌, refl, sym, ◌∙◌, arith, rules}
+use Rattle.warg_paths.proofs.ForCallers.{both_short}
 use Rattle.warg_log.specs.Tree.{front_of}
 use Rattle.warg_log.proofs.ForCallers.{starts, counts}
+use Rattle.warg_witness.proofs.RangeLemmas.{front_aligned, rest_aligned}
 use Rattle.warg_witness.proofs.RecordLemmas.{turned}
-use Rattle.warg_witness.proofs.GrowthLemmas.{subproof_is, growth_starts, front_up, rest_up, shared_up}
+use Rattle.warg_witness.proofs.GrowthLemmas.{subproof_is, still_more, growth_starts, front_up, rest_up, shared_up, front_lacks, rest_lacks, rest_led, front_takes, rest_takes}
 use Rattle.warg_witness.proofs.paths.growth.+climb_growth.Goals as goal
 
 pub returns-then-old_length-range : goal.returns-then-old_length-range
@@ -14,32 +16,118 @@ returns-then-old_length-range g t c =
 
 pub returns-then-old_length-front : goal.returns-then-old_length-front
 returns-then-old_length-front g t c =
-    let more : c.args.old_length < c.args.range.now.count = omega (arith, counts c.range.view_is) in
-    let low = rw (counts (c.front.view_is ∙ c.split-front.ensures.front)) at c.if-old_length-front.true in
-    rw (turned _ _ _ c.in_ok-top.ensures.cases.0)
-    (front_up _ c.args.trees.now.old c.args.trees.now.new _ _ _ _ _ _ _ (omega arith) more c.requires.in_old c.requires.in_new low
-    (rw c.split-front.ensures.front at c.in_ok-growth.ensures) (rw c.split-front.ensures.rest at c.plain_digest-new_rest.ensures) c.up.ensures)
+    let more = still_more c.requires.around c.requires.order c.if-old_length-range.false (counts c.range.view_is) in
+    let front = c.split-front.ensures.front in
+    let rest = c.split-front.ensures.rest in
+    front_up _ c.args.trees.now.old c.args.trees.now.new _ _ _ _ _ _ _ more.0 more.1 c.requires.in_old c.requires.in_new (turned _ _ _ c.in_ok-top.ensures.cases.0) (starts front, counts front) (starts rest, counts rest)
+    (rw (counts (c.front.view_is ∙ front)) at c.if-old_length-front.true) c.in_ok-growth.ensures c.plain_digest-new_rest.ensures c.up.ensures
 
 pub returns-then-place-rest : goal.returns-then-place-rest
 returns-then-place-rest g t c =
     let n = c.args.range.now.count in
-    let more : c.args.old_length < n = omega (arith, counts c.range.view_is) in
-    let front : c.front.inside.count ≡ front_of n = counts (c.front.view_is ∙ c.split-front.ensures.front) in
+    let more = still_more c.requires.around c.requires.order c.if-old_length-range.false (counts c.range.view_is) in
+    let turn : c.front.inside.count ≡ front_of n = counts (c.front.view_is ∙ c.split-front.ensures.front) in
+    let front = c.split-front.ensures.front in
     let rest = c.rest.view_is ∙ c.split-front.ensures.rest in
-    let same = subproof_is g.D.SupportedDigest.digest None (c.args.old_length - front_of n) (n - front_of n) c.in_ok-top.below.now (omega arith) (omega arith) in
     let at = c.growth_at-growth.ensures in
-    rw (turned _ _ _ c.in_ok-top.ensures.cases.0, c.split-front.ensures.front)
-    (shared_up _ c.args.trees.now.old c.args.trees.now.new _ _ _ _ _ _ _ (omega arith) more c.requires.in_old c.requires.in_new (rw front at c.if-old_length-front.false)
-    (sym same ∙ rw (front, counts rest) at (sym c.in_ok-old.ensures)) (record { starts = c.requires.around.starts; ends = omega (arith, starts rest) })
-    (rw (c.new-old_rest.ensures, starts rest, front) at c.plain_digest.ensures) (rw c.split-front.ensures.rest at c.plain_digest-then-place-rest.ensures)
-    (rw (at.first.0, at.old, at.targets.0, c.split-front.ensures.front) at c.up-then-place-rest.ensures)
-    (rw (at.first.1, at.new, at.targets.1, c.split-front.ensures.front) at c.up-then-place-rest-2.ensures))
+    let up = c.up-then-place-rest.ensures in
+    shared_up _ c.args.trees.now.old c.args.trees.now.new _ _ _ _ _ _ _ more.0 more.1 c.requires.in_old c.requires.in_new (rw turn at c.if-old_length-front.false) (turned _ _ _ c.in_ok-top.ensures.cases.0) turn (starts front, counts front)
+    (starts rest) (starts c.split-front.ensures.rest, counts c.split-front.ensures.rest) c.requires.around.starts c.if-place-rest.true (rest_led _ _ n _ _ c.in_ok-top.below.now more.1 turn (counts rest) c.if-old_length-front.false c.in_ok-old.ensures)
+    (starts (up.shared ∙ at.shared), counts (up.shared ∙ at.shared)) at.first at.old at.new at.targets (rw c.new-old_rest.ensures at up.old) up.new
 
 pub returns : goal.returns
 returns g t c =
-    let more : c.args.old_length < c.args.range.now.count = omega (arith, counts c.range.view_is) in
-    let front = counts (c.front.view_is ∙ c.split-front.ensures.front) in
-    rw (turned _ _ _ c.in_ok-top.ensures.cases.0)
-    (rest_up _ c.args.trees.now.old c.args.trees.now.new _ _ _ _ _ _ _ (omega arith) more c.requires.in_old c.requires.in_new (rw front at c.if-old_length-front.false)
-    (rw (front, c.split-front.ensures.rest) at c.in_ok-growth-2.ensures)
-    (rw c.split-front.ensures.front at c.plain_digest-2.ensures) (rw c.split-front.ensures.front at c.plain_digest-3.ensures) c.up-2.ensures c.up-3.ensures)
+    let more = still_more c.requires.around c.requires.order c.if-old_length-range.false (counts c.range.view_is) in
+    let turn = counts (c.front.view_is ∙ c.split-front.ensures.front) in
+    let front = c.split-front.ensures.front in
+    let rest = c.split-front.ensures.rest in
+    let up = c.up-2.ensures in
+    rest_up _ c.args.trees.now.old c.args.trees.now.new _ _ _ _ _ _ _ more.0 more.1 c.requires.in_old c.requires.in_new (rw turn at c.if-old_length-front.false) (turned _ _ _ c.in_ok-top.ensures.cases.0) turn (starts front, counts front)
+    (starts rest, counts rest) c.in_ok-growth-2.ensures (starts up.shared, counts up.shared) up.old up.new
+
+pub returns-in_err-root : goal.returns-in_err-root
+returns-in_err-root g t c =
+    let width = counts c.range.view_is in
+    let same = subproof_is g.D.SupportedDigest.digest c.args.old_root c.args.old_length c.args.range.now.count c.args.path.now (omega arith) c.requires.order in rw c.from_residual.ensures (sym same ∙ rw width at (sym c.in_err-root.ensures))
+
+pub returns-in_err-top : goal.returns-in_err-top
+returns-in_err-top g t c =
+    let more = still_more c.requires.around c.requires.order c.if-old_length-range.false (counts c.range.view_is) in rw c.from_residual-in_err-top.ensures (both_short _ _ _ _ _ more.1 c.in_err-top.ensures.cases)
+
+pub returns-in_err-growth : goal.returns-in_err-growth
+returns-in_err-growth g t c =
+    let more = still_more c.requires.around c.requires.order c.if-old_length-range.false (counts c.range.view_is) in
+    let turn = counts (c.front.view_is ∙ c.split-front.ensures.front) in
+    rw c.from_residual-in_err-growth.ensures (front_lacks _ _ _ _ _ _ more.1 (turned _ _ _ c.in_ok-top.ensures.cases.0) turn (counts c.split-front.ensures.front) c.if-old_length-front.true c.in_err-growth.ensures)
+
+pub returns-in_err-growth-2 : goal.returns-in_err-growth-2
+returns-in_err-growth-2 g t c =
+    let more = still_more c.requires.around c.requires.order c.if-old_length-range.false (counts c.range.view_is) in
+    let turn = counts (c.front.view_is ∙ c.split-front.ensures.front) in
+    rw c.from_residual-in_err-growth-2.ensures (rest_lacks _ _ _ _ _ _ more.1 (turned _ _ _ c.in_ok-top.ensures.cases.0) turn (counts c.split-front.ensures.rest) c.if-old_length-front.false c.in_err-growth-2.ensures)
+
+pub returns-in_err-old : goal.returns-in_err-old
+returns-in_err-old g t c =
+    let n = c.args.range.now.count in
+    let more = still_more c.requires.around c.requires.order c.if-old_length-range.false (counts c.range.view_is) in
+    let turn : c.front.inside.count ≡ front_of n = counts (c.front.view_is ∙ c.split-front.ensures.front) in
+    let rest = counts (c.rest.view_is ∙ c.split-front.ensures.rest) in
+    rw c.from_residual-in_err-old.ensures (rest_lacks _ _ _ _ _ _ more.1 (turned _ _ _ c.in_ok-top.ensures.cases.0) turn refl c.if-old_length-front.false
+    (rw turn (rest_led _ _ n _ _ c.in_ok-top.below.now more.1 turn rest c.if-old_length-front.false c.in_err-old.ensures)))
+
+pub plain_digest-new_rest-requires-clause-aligned : goal.plain_digest-new_rest-requires-clause-aligned
+plain_digest-new_rest-requires-clause-aligned g t c = rw c.split-front.ensures.rest (rest_aligned c.requires.aligned (still_more c.requires.around c.requires.order c.if-old_length-range.false (counts c.range.view_is)).2)
+
+pub growth_at-growth-requires-clause-aligned : goal.growth_at-growth-requires-clause-aligned
+growth_at-growth-requires-clause-aligned g t c = rw c.split-front.ensures.front (front_aligned c.requires.aligned (omega (arith, counts c.split-front.ensures.front)))
+
+pub plain_digest-new_rest-requires-clause-within : goal.plain_digest-new_rest-requires-clause-within
+plain_digest-new_rest-requires-clause-within g t c = omega (arith, starts c.split-front.ensures.rest, counts c.split-front.ensures.rest, counts c.split-front.ensures.front)
+
+pub growth_at-growth-requires-clause-in_new : goal.growth_at-growth-requires-clause-in_new
+growth_at-growth-requires-clause-in_new g t c = omega (arith, starts c.split-front.ensures.front)
+
+pub climb_growth-requires : goal.climb_growth-requires
+climb_growth-requires g t c κs within =
+    let more = still_more c.requires.around c.requires.order c.if-old_length-range.false (counts c.range.view_is) in
+    let front = c.front.view_is ∙ c.split-front.ensures.front in
+    rw c.split-front.ensures.front
+    (search rules, (within.0, (within.1.0, (within.1.1, front_takes more.1 (counts front) c.requires.around c.requires.aligned c.requires.in_old c.requires.in_new c.if-old_length-front.true))))
+
+pub climb_growth-requires-2 : goal.climb_growth-requires-2
+climb_growth-requires-2 g t c κs within =
+    let more = still_more c.requires.around c.requires.order c.if-old_length-range.false (counts c.range.view_is) in
+    let front = c.front.view_is ∙ c.split-front.ensures.front in
+    let rest = c.rest.view_is ∙ c.split-front.ensures.rest in
+    rw c.split-front.ensures.rest
+    (search rules, (within.0, (within.1.0, (within.1.1, rest_takes more.1 (counts front) c.requires.around c.requires.aligned c.requires.in_old c.requires.in_new (starts rest) c.if-old_length-front.false c.if-place-rest.false))))
+
+pub growth_at-growth-requires-clause-in_old : goal.growth_at-growth-requires-clause-in_old
+growth_at-growth-requires-clause-in_old g t c = omega (arith, starts c.split-front.ensures.front, counts c.front.view_is)
+
+pub up-requires-then-place-rest-clause-old_aligned : goal.up-requires-then-place-rest-clause-old_aligned
+up-requires-then-place-rest-clause-old_aligned g t c =
+    let rest = c.rest.view_is ∙ c.split-front.ensures.rest in
+    rw (c.new-old_rest.ensures, starts rest) (front_aligned (rest_aligned c.requires.aligned (still_more c.requires.around c.requires.order c.if-old_length-range.false (counts c.range.view_is)).2) (omega (arith, counts (c.front.view_is ∙ c.split-front.ensures.front))))
+
+pub up-requires-then-place-rest-clause-new_aligned : goal.up-requires-then-place-rest-clause-new_aligned
+up-requires-then-place-rest-clause-new_aligned g t c = rw c.split-front.ensures.rest (rest_aligned c.requires.aligned (still_more c.requires.around c.requires.order c.if-old_length-range.false (counts c.range.view_is)).2)
+
+pub up-requires-then-place-rest-clause-old_within : goal.up-requires-then-place-rest-clause-old_within
+up-requires-then-place-rest-clause-old_within g t c =
+    rw c.new-old_rest.ensures (omega (arith, starts (c.rest.view_is ∙ c.split-front.ensures.rest), counts (c.front.view_is ∙ c.split-front.ensures.front)))
+
+pub up-requires-then-place-rest-clause-new_within : goal.up-requires-then-place-rest-clause-new_within
+up-requires-then-place-rest-clause-new_within g t c = omega (arith, starts c.split-front.ensures.rest, counts c.split-front.ensures.rest, counts c.split-front.ensures.front)
+
+pub up-requires-2-clause-old_aligned : goal.up-requires-2-clause-old_aligned
+up-requires-2-clause-old_aligned g t c = rw c.split-front.ensures.front (front_aligned c.requires.aligned (omega (arith, counts c.split-front.ensures.front)))
+
+pub up-requires-2-clause-new_aligned : goal.up-requires-2-clause-new_aligned
+up-requires-2-clause-new_aligned g t c = rw c.split-front.ensures.front (front_aligned c.requires.aligned (omega (arith, counts c.split-front.ensures.front)))
+
+pub up-requires-2-clause-old_within : goal.up-requires-2-clause-old_within
+up-requires-2-clause-old_within g t c = omega (arith, starts c.split-front.ensures.front, counts c.front.view_is)
+
+pub up-requires-2-clause-new_within : goal.up-requires-2-clause-new_within
+up-requires-2-clause-new_within g t c = omega (arith, starts c.split-front.ensures.front)

@@ -1,6 +1,7 @@
 use Rattle.std.proofs.lemmas.Result.{IfOk-weaker}
 use Rattle.warg_witness.proofs.HashLemmas.{entries_count}
 use Rattle.warg_witness.proofs.GrowthLemmas.{whole_growth, growth_shown}
+use Rattle.std.proofs.Common.{arith}
 use Rattle.warg_witness.proofs.paths.tree.collide_trees.Goals as goal
 
 pub growth_divergence-divergence-requires-clause-leads : goal.growth_divergence-divergence-requires-clause-leads
@@ -19,3 +20,19 @@ returns g c =
     let shown = growth_shown _ _ _ _ _ _ c.requires.meeting (entries_count _ c.args.old.now) (entries_count _ c.args.new.now) _ _ c.requires.differs diverges in
     let placed = rw (c.entry_at-old_entry.ensures, c.entry_at-new_entry.ensures) at shown.placed in
     IfOk-weaker c.collide.result _ _ (λ pair is. rw is placed) c.collide.ensures
+
+pub new-requires-clause-some : goal.new-requires-clause-some
+new-requires-clause-some g c = rw (entries_count g.V.VisitBytes.bytes c.args.old.now) at c.requires.meeting.some
+
+pub new-whole-requires-clause-some : goal.new-whole-requires-clause-some
+new-whole-requires-clause-some g c = omega (arith, c.requires.meeting.some, c.requires.meeting.order, entries_count g.V.VisitBytes.bytes c.args.new.now)
+
+pub growth_divergence-divergence-requires-clause-around : goal.growth_divergence-divergence-requires-clause-around
+growth_divergence-divergence-requires-clause-around g c =
+    let within = rw (entries_count g.V.VisitBytes.bytes c.args.old.now) at c.requires.differs.within in rw c.new-whole.ensures (record { starts = omega arith; ends = omega arith })
+
+pub entry_at-old_entry-requires : goal.entry_at-old_entry-requires
+entry_at-old_entry-requires g c = rw (entries_count g.V.VisitBytes.bytes c.args.old.now) at c.requires.differs.within
+
+pub entry_at-new_entry-requires : goal.entry_at-new_entry-requires
+entry_at-new_entry-requires g c = omega (arith, c.requires.differs.within, c.requires.meeting.order, entries_count g.V.VisitBytes.bytes c.args.new.now)

@@ -5,6 +5,12 @@ use Rattle.warg_bundle.proofs.BundleLemmas.{bundle_again}
 use Rattle.warg_bundle.proofs.log.proof_bundle.ProofBundle.to_message.Goals as goal
 use Rattle.warg_bundle.proofs.log.proof_bundle.ProofBundle.to_message.Goals.{Else-not-pairs_fit}
 
+pub indices-requires : goal.indices-requires
+indices-requires g c = rw (c.as_slice-2.ensures.value, ← c.deref.ensures.value) (c.nodes_fit.ensures.0 c.if-not-nodes_fit.false)
+
+pub entries-requires : goal.entries-requires
+entries-requires g c = c.pairs_fit.ensures.0 c.if-not-pairs_fit.false
+
 pub returns-clause-ok : goal.returns-clause-ok
 returns-clause-ok g c =
     rw (
