@@ -1,4 +1,4 @@
-use Rattle.std.proofs.Common.{◌<◌, [], ◌∷◌, ◌++◌, length, sym, ap, ◌∙◌, arith, length-append}
+use Rattle.std.proofs.Common.{[], ◌∷◌, length, sym, ap, ◌∙◌, arith, length-append}
 use Rattle.std.proofs.lemmas.Result.{IfOk-from_err}
 use Rattle.warg_tiles.proofs.DataLemmas.{lacks_none, digests_more}
 use Rattle.warg_tiles.specs.Tiles.{node_in}
