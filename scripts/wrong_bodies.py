@@ -10,7 +10,7 @@ for a callee, lacks a name or was cut off goes to the next round. An edit that c
 alone, and so does each that no round has judged. What is still let through fails.
 
 A crate is first proved without any edit, into a folder that each round starts from a copy of. Of a program, which has
-few edits and no contracts to call, only the functions that they change and those below them are checked.
+few edits, only the functions that they change and those below them are checked.
 
 The edits in wrong-bodies/planted change no meaning, and show that this script can fail: each must come out as let
 through, and one named waits_* must wait, in its first round, for the broken function that it calls.
@@ -294,7 +294,7 @@ class Crate:
                 report(f"{self.name}: {edit.name}: {answers[edit]}")
             refused = list(answers.values()).count("refused")
             report(f"{self.name}: round {number}: {refused} of {len(taken)} refused, {self.seconds:.0f} processor seconds so far")
-        whole = self.check([], flags=[] if self.scope else ["--empty-contracts"])
+        whole = self.check([], flags=["--empty-contracts"])
         if not whole.is_proved:
             self.faults.append("the crate without an edit isn't proved over the same work")
         self.faults += [f"a contract that no call can meet: {it}" for it in EMPTY.findall(whole.said)]
