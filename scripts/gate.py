@@ -1,7 +1,7 @@
 #!/usr/bin/env python3
-"""The merge gate, on a copy of the tree without what earlier checks left: the layout; every crate proved from nothing, and
-the tests and the programs built and run; the wrong bodies over the work that these proofs have kept; the examples for C,
-Python, Rust and Go; the programs with right and wrong arguments; and the comparisons with Google's protobuf and Go's
+"""The merge gate, on a copy of the tree without what earlier checks left: the layout; prove_all.py, which proves the crates
+from nothing and runs the programs and the tests; the wrong bodies over the work that these proofs have kept; the examples for
+C, Python, Rust and Go; the programs with right and wrong arguments; and the comparisons with Google's protobuf and Go's
 checksum database where these are there.
 
 The kit's own gate, rt ci, keeps nothing of a proof, and so proves a crate once more for its wrong bodies: make kit-gate.
@@ -160,9 +160,9 @@ def main():
         gate.count(well, not well)
         for script in BEFORE:
             gate.script(*script)
+        rounds, failed = {}, gate.failed
         taken = gate.counting("prove_all.py", "crates")
-        rounds = {}
-        if not gate.failed:
+        if gate.failed == failed:
             rounds = gate.counting("wrong_bodies.py", "wrong bodies")
             gate.behind()
         gate.rest["clock"] = time.monotonic() - began

@@ -1,9 +1,9 @@
 #!/usr/bin/env python3
-"""Proves every crate once, lowest first, as many at a time as the machine has room for, and builds it. Runs each program on
-its stdin, args and data, and compares what it prints with its stdout. Runs the tests.
+"""Proves each crate once, but for the tests and the program that measures: lowest first, as many at a time as the machine has
+room for. Builds it, runs each program on its stdin, args and data, and compares what it prints with its stdout.
 
-The tests and the program that measures aren't proved here: these call proved code and no clause says what they print. The
-tests run as rt try makes them, which stops at a bad access, an overflow or a failed unwrap.
+These two call proved code, and no clause says what they print. The tests run as rt try makes them, which stops at a bad
+access, an overflow or a failed unwrap; the program that measures has to compile.
 
 What a check keeps stays in crates/NAME/out: from nothing where nothing is there.
 
@@ -31,8 +31,8 @@ VERDICT = re.compile(
 UNPROVED = ("warg_bench",)
 # Made by both of the kit's compilers, all other programs by LLVM alone.
 BOTH = ("warg_check_cli",)
-# A proof takes up to 4 GB.
-ROOM = 32
+# The bytes that a proof takes at most.
+ROOM = 1 << 32
 SECONDS = 300
 KEPT = ["--incremental", "out/incremental"]
 TOOLCHAIN = ["--toolchain", f"{kit.KIT}/toolchain"]
@@ -138,7 +138,8 @@ def prove_all(crates, jobs):
         why = f"not tried, as {lacks[0]} did not come out" if lacks else ""
         with room:
             try:
-                None if lacks else crate.prove()
+                if not lacks:
+                    crate.prove()
             except Failed as failed:
                 why = str(failed)
         with printing:
@@ -160,7 +161,7 @@ def main():
     listed = kit.crates()
     crates = [Crate(it, any(it in needs for needs in listed.values())) for it in listed]
     memory = os.sysconf("SC_PHYS_PAGES") * os.sysconf("SC_PAGE_SIZE")
-    well = prove_all(crates, max(1, min(len(os.sched_getaffinity(0)), memory >> ROOM)))
+    well = prove_all(crates, max(1, min(len(os.sched_getaffinity(0)), memory // ROOM)))
     if asked.json:
         asked.json.write_text(json.dumps({it.name: it.seconds for it in crates}))
     print(f"crates: {len(well)} ok, {len(crates) - len(well)} failed")
