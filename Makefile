@@ -13,19 +13,19 @@ try:
 # Proves and builds the program, as bin/warg_check.
 # CPU=x86-64-v3 builds it for newer processors.
 run:
-	@cd crates/warg_check_cli && rt run $(if $(CPU),--cpu $(CPU)) < stdin > /dev/null && cd ../.. && \
+	@python3 scripts/prove_all.py $(if $(CPU),--cpu $(CPU)) warg_check_cli && \
 	mkdir -p bin && cp crates/warg_check_cli/out/warg_check_cli bin/warg_check && \
 	echo "bin/warg_check reads commands on standard input, as: printf 'push -\\nlog\\n' | bin/warg_check"
 
 # Proves and builds the program for scripts, as bin/warg_verdict.
 verdict:
-	@cd crates/warg_verdict && rt run -- --version > /dev/null && cd ../.. && \
+	@python3 scripts/prove_all.py warg_verdict && \
 	mkdir -p bin && cp crates/warg_verdict/out/warg_verdict bin/warg_verdict && \
 	echo "bin/warg_verdict judges a bundle's file; see bin/warg_verdict --help"
 
 # Proves and builds the program that keeps a log in a folder, as bin/warg_tlog.
 tlog:
-	@cd crates/warg_tlog && rt run -- --version > /dev/null && cd ../.. && \
+	@python3 scripts/prove_all.py warg_tlog && \
 	mkdir -p bin && cp crates/warg_tlog/out/warg_tlog bin/warg_tlog && \
 	echo "bin/warg_tlog keeps a log in a folder; see bin/warg_tlog --help"
 

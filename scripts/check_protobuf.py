@@ -2,23 +2,24 @@
 """Compares the bytes of the messages with Google's protobuf, over docs/warg.proto.
 
 Each message that the vectors' wire lines write is read by protobuf, which writes it as the same bytes. And what
-protobuf writes of random messages is read by the program of the vectors, which writes it as the same bytes.
+protobuf writes of random messages is read by the program of the vectors, which writes it as the same bytes. The program is
+tried, not proved, as its own lines are.
 
-Usage: check_protobuf.py PROGRAM, with the program of crates/warg_vectors. It needs protoc and Python's protobuf (Debian's
-protobuf-compiler and python3-protobuf), says so where one of them is missing, and is no failure there.
+It needs protoc and Python's protobuf (Debian's protobuf-compiler and python3-protobuf), says so where one of them is missing,
+and is no failure there.
 """
 
 import importlib.util
 import os
-import pathlib
 import random
 import shutil
 import subprocess
 import sys
 import tempfile
 
-ROOT = pathlib.Path(__file__).resolve().parent.parent
-VECTORS = ROOT / "crates/warg_vectors"
+import kit
+
+VECTORS = kit.ROOT / "crates/warg_vectors"
 SYSTEM_PYTHON = "/usr/bin/python3"
 KINDS = ("LogProofBundle", "MapProofBundle", "StackLog", "VecLog")
 
@@ -34,7 +35,7 @@ def has_protobuf():
 
 def messages(room):
     """Returns the module that protoc makes of docs/warg.proto."""
-    subprocess.run(["protoc", f"--proto_path={ROOT / 'docs'}", f"--python_out={room}", "warg.proto"], check=True)
+    subprocess.run(["protoc", f"--proto_path={kit.ROOT / 'docs'}", f"--python_out={room}", "warg.proto"], check=True)
     sys.path.insert(0, room)
     return importlib.import_module("warg_pb2")
 
@@ -69,9 +70,10 @@ def fill(message):
     return message
 
 
-def answers_of(program, lines):
-    text = "".join(f"{line}\n" for line in lines)
-    return subprocess.run([program], input=text, capture_output=True, text=True, check=True).stdout.splitlines()
+def answers_of(lines):
+    """Returns the program's answers to these lines."""
+    how = {"cwd": VECTORS, "input": "".join(f"{line}\n" for line in lines), "capture_output": True, "text": True}
+    return subprocess.run(kit.words_of_a_try("warg_vectors", 300, "/dev/stdin"), check=True, **how).stdout.splitlines()
 
 
 def main():
@@ -86,7 +88,7 @@ def main():
             faults.append(f"{kind} {written.hex()}: written otherwise by protobuf")
     random_ones = [fill(getattr(made, kind)()) for kind in KINDS for _ in range(500)]
     theirs = [(it.DESCRIPTOR.name, it.SerializeToString(deterministic=True).hex() or "-") for it in random_ones]
-    answers = answers_of(sys.argv[1], [f"wire {kind} {digits}" for kind, digits in theirs])
+    answers = answers_of([f"wire {kind} {digits}" for kind, digits in theirs])
     for (kind, digits), answer in zip(theirs, answers, strict=True):
         if answer != digits:
             faults.append(f"{kind} {digits}: {answer}")

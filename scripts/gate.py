@@ -1,6 +1,6 @@
 #!/usr/bin/env python3
 """The merge gate, on a copy of the tree without what earlier checks left: the layout; prove_all.py, which proves the crates
-from nothing and runs the programs and the tests; the wrong bodies over the work that these proofs have kept; the examples for
+from nothing and runs the programs, the vectors and the tests; the wrong bodies over the work that these proofs have kept; the examples for
 C, Python, Rust and Go; the programs with right and wrong arguments; and the comparisons with Google's protobuf and Go's
 checksum database where these are there.
 
@@ -28,7 +28,7 @@ BEFORE = (["foreign_proofs.py"], ["definitions.py", "--check"], ["calls.py", "--
 BEHIND = (
     ["check_programs.py", *(f"crates/{name}/out/{name}" for name in ("warg_check_cli", "warg_verdict", "warg_tlog"))],
     ["tlog_kills.py", "crates/warg_tlog/out/warg_tlog", "20"],
-    ["check_protobuf.py", "crates/warg_vectors/out/warg_vectors"],
+    ["check_protobuf.py"],
 )
 CLOSING = re.compile(r"(\d+) passed, (\d+) failed\n?")
 # Where the prover reads a file.

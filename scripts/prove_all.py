@@ -1,13 +1,16 @@
 #!/usr/bin/env python3
-"""Proves each crate once, but for the tests and the program that measures: lowest first, as many at a time as the machine has
-room for. Builds it, runs each program on its stdin, args and data, and compares what it prints with its stdout.
+"""Proves each crate once, but for the tests, the vectors of all but maps, and the program that measures: lowest first, as
+many at a time as the machine has room for. Builds it, runs each program on its stdin, args and data, and compares what it
+prints with its stdout.
 
-These two call proved code, and no clause says what they print. The tests run as rt try makes them, which stops at a bad
-access, an overflow or a failed unwrap; the program that measures has to compile.
+These three call proved code, and no clause says what they print. The tests and the vectors run as rt try makes them, which
+stops at a bad access, an overflow or a failed unwrap; the program that measures has to compile. The vectors of maps hash too
+much for that, so their program is proved and built.
 
-What a check keeps stays in crates/NAME/out: from nothing where nothing is there.
+What a check keeps stays in crates/NAME/out: from nothing where nothing is there. With names, proves these crates and what
+they stand on, where that has changed since, and builds programs by LLVM alone.
 
-Usage: prove_all.py [--json FILE]
+Usage: prove_all.py [--json FILE] [--cpu CPU] [NAME..]
 """
 
 import argparse
@@ -29,13 +32,19 @@ VERDICT = re.compile(
 )
 # Proved by make bench alone, since the gate times nothing: here it has to compile.
 UNPROVED = ("warg_bench",)
+# Run without a proof, as the tests are.
+TRIED = ("warg_vectors",)
 # Made by both of the kit's compilers, all other programs by LLVM alone.
 BOTH = ("warg_check_cli",)
 # The bytes that a proof takes at most.
 ROOM = 1 << 32
-SECONDS = 300
+SECONDS = 600
 KEPT = ["--incremental", "out/incremental"]
 TOOLCHAIN = ["--toolchain", f"{kit.KIT}/toolchain"]
+
+
+# What a try that went to its end says last.
+TRIED_WELL = re.compile(r"^run=ended status=0 runners=\d proved=no$", re.M)
 
 
 class Failed(Exception):
@@ -43,13 +52,14 @@ class Failed(Exception):
 
 
 class Crate:
-    """A crate that is proved, built and run."""
+    """A crate that is proved, built and run: by itself where it was named, else as a part of them all."""
 
-    def __init__(self, name, is_used):
-        self.name, self.folder, self.is_used = name, kit.ROOT / "crates" / name, is_used
+    def __init__(self, name, is_used, is_named=False, cpu=None):
+        self.name, self.folder, self.is_used, self.is_named = name, kit.ROOT / "crates" / name, is_used, is_named
         self.seconds, self.said = {"proof": 0.0, "tests": 0.0}, []
-        self.is_program = (self.folder / "src/main.rt").is_file()
+        self.is_program = kit.is_program(name)
         self.has_tests = any("#[test]" in it.read_text() for it in self.folder.glob("src/**/*.rt"))
+        self.cpu = ["--cpu", cpu] if cpu else []
 
     def call(self, part, words, **how):
         """Runs a command in the crate's folder. Returns its status and what it prints."""
@@ -84,15 +94,17 @@ class Crate:
     def prove(self):
         """Proves the crate, and builds and runs what it has."""
         (self.folder / "out/rlib").mkdir(parents=True, exist_ok=True)
-        if self.name in UNPROVED:
+        if self.name in UNPROVED and not self.is_named:
             self.compile()
+        elif self.name in TRIED and not self.is_named:
+            self.try_program()
         elif self.is_program:
             self.prove_program()
         elif kit.is_static(self.name):
-            self.build("--crate-type", "staticlib", *TOOLCHAIN, *KEPT, "-o", f"out/lib{self.name}.a")
+            self.build(*TOOLCHAIN, *KEPT, "-o", f"out/lib{self.name}.a")
         elif self.is_used or not self.has_tests:
             self.build(*KEPT, "-o", f"out/rlib/{self.name}.rlib")
-        if self.has_tests:
+        if self.has_tests and not self.is_named:
             self.run_tests()
 
     def compile(self):
@@ -106,10 +118,20 @@ class Crate:
         said = self.done("tests", kit.words_of_a_try(self.name, SECONDS))
         print(f"{self.name}: " + next(it for it in said.splitlines() if it.startswith("test result:")), flush=True)
 
+    def try_program(self):
+        """Runs the program on its stdin without a proof. It has to print what it should, and to end with status 0."""
+        with tempfile.TemporaryFile() as told:
+            words = kit.words_of_a_try(self.name, SECONDS, self.folder / "stdin")
+            status, printed = self.call("tests", words, stderr=told)
+            told.seek(0)
+            self.said.append(told.read().decode(errors="replace"))
+        if status or not TRIED_WELL.search(self.said[-1]) or printed.decode(errors="replace") != self.text("stdout"):
+            raise Failed(f"as it is tried, the program prints something else, or does not end well: status {status}")
+
     def prove_program(self):
-        for backend in ("rattle", "llvm") if self.name in BOTH else ("llvm",):
+        for backend in ("rattle", "llvm") if self.name in BOTH and not self.is_named else ("llvm",):
             program = f"out/{self.name}"
-            self.build("--backend", backend, *TOOLCHAIN, *KEPT, "-o", f"{program}.o")
+            self.build("--backend", backend, *TOOLCHAIN, *KEPT, *self.cpu, "-o", f"{program}.o")
             self.link(program)
             self.run(program, backend)
 
@@ -157,9 +179,12 @@ def prove_all(crates, jobs):
 def main():
     asked = argparse.ArgumentParser()
     asked.add_argument("--json", type=pathlib.Path, help="where to write the processor seconds of each crate")
+    asked.add_argument("--cpu", help="the processor that programs are built for")
+    asked.add_argument("names", nargs="*", metavar="NAME", help="a crate")
     asked = asked.parse_args()
     listed = kit.crates()
-    crates = [Crate(it, any(it in needs for needs in listed.values())) for it in listed]
+    wanted = {below for it in asked.names for below in [*kit.below(it, listed), it]} or {*listed}
+    crates = [Crate(it, any(it in needs for needs in listed.values()), bool(asked.names), asked.cpu) for it in listed if it in wanted]
     memory = os.sysconf("SC_PHYS_PAGES") * os.sysconf("SC_PAGE_SIZE")
     well = prove_all(crates, max(1, min(len(os.sched_getaffinity(0)), memory // ROOM)))
     if asked.json:

@@ -4,13 +4,9 @@ mod bundles;
 mod checkpoint_texts;
 mod checks;
 mod data;
-mod digests;
 mod growths;
+mod length;
 mod logs;
-mod map_bundles;
-mod map_proofs;
-mod map_witnesses;
-mod maps;
 mod messages;
 mod nodes;
 mod paths;
@@ -21,18 +17,26 @@ mod tiles;
 mod updates;
 mod values;
 mod witnesses;
-mod wrong;
 
-use crate::answer::Answer;
-use crate::calls::digests::Digest;
-use crate::each;
-use crate::words::{Fault, Given, Words};
+use vector_lines::answer::Answer;
+use vector_lines::digest::Digest;
+use vector_lines::each;
+use vector_lines::lines::Calls;
+use vector_lines::words::{Fault, Given, Words};
 use warg_crypto::weak::{Flat, Own32, Sum};
 use warg_crypto::{Sha256, SupportedDigest};
 
-/// Answers the call that the words spell.
-pub(crate) fn answer(words: &mut Words<'_>, to: &mut Answer) -> Result<(), Fault> {
-    let name = words.name()?;
+/// All calls but those of maps.
+pub(crate) struct OtherCalls;
+
+impl Calls for OtherCalls {
+    fn answer(words: &mut Words<'_>, to: &mut Answer) -> Result<(), Fault> {
+        let name = words.name()?;
+        by_name(name, words, to)
+    }
+}
+
+fn by_name(name: &str, words: &mut Words<'_>, to: &mut Answer) -> Result<(), Fault> {
     match name {
         "walk" => each::answer::<proofs::Walk>(words, to),
         "inclusions" => each::answer::<proofs::Inclusions>(words, to),
@@ -102,28 +106,6 @@ fn of_path<D: SupportedDigest>(
         "roots_of_consistency" => each::answer::<paths::RootsOfConsistency<D>>(words, to),
         "tile_hashes" => each::answer::<tiles::TileHashes<D>>(words, to),
         "tile_data" => each::answer::<tiles::TileDigest<D>>(words, to),
-        _ => of_map::<D>(name, words, to),
-    }
-}
-
-fn of_map<D: SupportedDigest>(
-    name: &str,
-    words: &mut Words<'_>,
-    to: &mut Answer,
-) -> Result<(), Fault> {
-    match name {
-        "map" => each::answer::<maps::Insert<D>>(words, to),
-        "prove" => each::answer::<maps::Prove<D>>(words, to),
-        "prove_absence" => each::answer::<maps::ProveAbsence<D>>(words, to),
-        "map_proof" => each::answer::<map_proofs::MapProof<D>>(words, to),
-        "evaluate" => each::answer::<map_proofs::Evaluate<D>>(words, to),
-        "evaluate_absent" => each::answer::<map_proofs::EvaluateAbsent<D>>(words, to),
-        "map_bundle" => each::answer::<map_bundles::MapBundle<D>>(words, to),
-        "witness_key" => each::answer::<map_witnesses::WitnessKey<D>>(words, to),
-        "witness_absent" => each::answer::<map_witnesses::WitnessAbsent<D>>(words, to),
-        "agree_key" => each::answer::<map_witnesses::AgreeKey<D>>(words, to),
-        "insert_with_proof" => each::answer::<updates::InsertWithProof<D>>(words, to),
-        "witness_update" => each::answer::<updates::WitnessUpdate<D>>(words, to),
         _ => Err(Fault::BadCall),
     }
 }

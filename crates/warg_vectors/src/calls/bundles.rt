@@ -1,14 +1,15 @@
 //! Bundles of a log's proofs.
 
-use crate::answer::Answer;
 use crate::calls::data::Data;
+use crate::calls::length::Length;
 use crate::calls::proofs::Place;
 use crate::calls::stored::{Messaged, Stored, write_same};
-use crate::calls::wrong::Wrong;
-use crate::each::{Call, Memory};
-use crate::words::{Length, List};
 use std::alloc::AllocError;
 use std::marker::PhantomData;
+use vector_lines::answer::Answer;
+use vector_lines::each::{Call, Memory};
+use vector_lines::words::List;
+use vector_lines::wrong::Wrong;
 use warg_bundle::{BundleError, LogProofBundle};
 use warg_crypto::SupportedDigest;
 use warg_log::{ConsistencyProof, InclusionProof, LogData};

@@ -1,9 +1,9 @@
 //! Checkpoint texts.
 
-use crate::answer::{Answer, List};
-use crate::each::{Call, Memory};
-use crate::words::Length;
+use crate::calls::length::Length;
 use std::alloc::AllocError;
+use vector_lines::answer::{Answer, List};
+use vector_lines::each::{Call, Memory};
 use warg_crypto::{Hash, Sha256};
 use warg_log::Checkpoint;
 use warg_tiles::{CheckpointText, CheckpointTextError};

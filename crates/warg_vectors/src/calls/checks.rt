@@ -1,8 +1,8 @@
 //! Verdicts on the proofs in bytes, under SHA-256.
 
-use crate::answer::Answer;
-use crate::each::{Call, Memory};
 use std::alloc::AllocError;
+use vector_lines::answer::Answer;
+use vector_lines::each::{Call, Memory};
 use warg_check::CheckError;
 use warg_crypto::{Hash, Sha256};
 use warg_log::Checkpoint;

@@ -1,6 +1,6 @@
 //! The digests that a line gives for some nodes, as data of a proof.
 
-use crate::words::{Fault, Given, List, Words};
+use vector_lines::words::{Fault, Given, List, Words};
 use warg_crypto::{Hash, SupportedDigest};
 use warg_log::{LogData, Node, NotAscending, SparseLogData};
 

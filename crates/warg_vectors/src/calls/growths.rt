@@ -1,11 +1,12 @@
 //! Collisions out of a consistency path's false claims.
 
-use crate::answer::Answer;
-use crate::calls::witnesses::{Entries, Pairs, write};
-use crate::each::{Call, Memory};
-use crate::words::List;
+use crate::calls::witnesses::Entries;
 use std::alloc::AllocError;
 use std::marker::PhantomData;
+use vector_lines::answer::Answer;
+use vector_lines::each::{Call, Memory};
+use vector_lines::found::{Pairs, write};
+use vector_lines::words::List;
 use warg_crypto::{Hash, SupportedDigest};
 
 // A path, the old and the new entries, and the pairs.

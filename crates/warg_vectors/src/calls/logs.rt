@@ -1,11 +1,11 @@
 //! Logs that entries are pushed into: one that keeps all digests, and one that keeps its balanced roots alone.
 
-use crate::answer::Answer;
-use crate::calls::wrong::Wrong;
-use crate::each::{Call, Memory};
-use crate::words::List;
 use std::alloc::{AllocError, Allocator, Global};
 use std::marker::PhantomData;
+use vector_lines::answer::Answer;
+use vector_lines::each::{Call, Memory};
+use vector_lines::words::List;
+use vector_lines::wrong::Wrong;
 use warg_crypto::SupportedDigest;
 use warg_log::{GREATEST_LENGTH, LogBuilder, LogData, Node, StackLog, VecLog, push_all};
 

@@ -1,9 +1,9 @@
 //! Messages of the wire.
 
-use crate::answer::Answer;
-use crate::each::{Call, Memory};
-use crate::words::{Fault, Given, Words};
 use std::alloc::AllocError;
+use vector_lines::answer::Answer;
+use vector_lines::each::{Call, Memory};
+use vector_lines::words::{Fault, Given, Words};
 use warg_protobuf::{LogProofBundle, MapProofBundle, StackLog, VecLog};
 
 /// The types of messages that stand alone.

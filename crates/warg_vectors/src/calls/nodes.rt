@@ -1,10 +1,11 @@
 //! The numbering of nodes.
 
-use crate::answer::{Answer, List};
-use crate::each;
-use crate::each::{Call, Memory};
-use crate::words::{Fault, Given, Length, Words};
+use crate::calls::length::Length;
 use std::alloc::AllocError;
+use vector_lines::answer::{Answer, List};
+use vector_lines::each;
+use vector_lines::each::{Call, Memory};
+use vector_lines::words::{Fault, Given, Words};
 use warg_crypto::Side;
 use warg_log::Node;
 

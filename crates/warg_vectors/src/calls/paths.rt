@@ -1,12 +1,13 @@
 //! Paths of a log in digests, the roots to which they lead, and verdicts on paths in bytes, under SHA-256.
 
-use crate::answer::Answer;
 use crate::calls::checks::{Known, checkpoint};
 use crate::calls::data::Data;
-use crate::each::{Call, Memory};
-use crate::words::{Length, List};
+use crate::calls::length::Length;
 use std::alloc::{AllocError, Allocator};
 use std::marker::PhantomData;
+use vector_lines::answer::Answer;
+use vector_lines::each::{Call, Memory};
+use vector_lines::words::List;
 use warg_crypto::{Hash, SupportedDigest};
 use warg_paths::PathError;
 

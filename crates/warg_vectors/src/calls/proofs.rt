@@ -1,12 +1,12 @@
 //! Proofs of a log, and what they evaluate to.
 
-use crate::answer::{Answer, List};
 use crate::calls::data::Data;
+use crate::calls::length::Length;
 use crate::calls::nodes::write_nodes;
-use crate::each::{Call, Memory};
-use crate::words::Length;
 use std::alloc::{AllocError, Allocator};
 use std::marker::PhantomData;
+use vector_lines::answer::{Answer, List};
+use vector_lines::each::{Call, Memory};
 use warg_crypto::{Hash, Sha256, SupportedDigest};
 use warg_log::{InclusionProof, InclusionProofError, InclusionProofWalk, LogData, Node, VecLog};
 

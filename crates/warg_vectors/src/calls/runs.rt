@@ -1,8 +1,8 @@
 //! Runs of the program.
 
-use crate::answer::Answer;
-use crate::each::{Call, Memory};
 use std::alloc::AllocError;
+use vector_lines::answer::Answer;
+use vector_lines::each::{Call, Memory};
 use warg_program::run;
 
 pub(super) struct Run;

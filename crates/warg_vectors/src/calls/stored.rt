@@ -1,9 +1,9 @@
 //! Values that have a message: they are written, and read again, each where memory is refused once more.
 
-use crate::answer::Answer;
-use crate::calls::wrong::Wrong;
-use crate::each::Memory;
 use std::alloc::AllocError;
+use vector_lines::answer::Answer;
+use vector_lines::each::Memory;
+use vector_lines::wrong::Wrong;
 use warg_protobuf::{DecodeError, EncodeError};
 
 /// A value that has a message.

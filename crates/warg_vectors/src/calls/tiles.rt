@@ -1,11 +1,12 @@
 //! Tiles and their paths.
 
-use crate::answer::Answer;
-use crate::each::{Call, Memory};
-use crate::words::{Fault, Given, Length, List, Words};
-use crate::{answer, each};
+use crate::calls::length::Length;
 use std::alloc::{AllocError, Allocator};
 use std::marker::PhantomData;
+use vector_lines::answer::Answer;
+use vector_lines::each::{Call, Memory};
+use vector_lines::words::{Fault, Given, List, Words};
+use vector_lines::{answer, each};
 use warg_crypto::SupportedDigest;
 use warg_log::{GREATEST_LENGTH, LogBuilder, LogData, Node, VecLog};
 use warg_tiles::{Tile, TileData};
@@ -39,11 +40,17 @@ pub(super) fn answer(name: &str, words: &mut Words<'_>, to: &mut Answer) -> Resu
     }
 }
 
-/// A level, a number and a width.
-impl Given for Tile {
-    fn read(words: &mut Words<'_>) -> Result<Tile, Fault> {
+/// A tile, by its level, its number and its width.
+#[derive(Drop)]
+pub(super) struct GivenTile {
+    tile: Tile,
+}
+
+impl Given for GivenTile {
+    fn read(words: &mut Words<'_>) -> Result<GivenTile, Fault> {
         let (level, (number, width)): (usize, (usize, usize)) = Given::read(words)?;
-        tile_of(level, number, width)
+        let tile = tile_of(level, number, width)?;
+        Ok(GivenTile { tile })
     }
 }
 
@@ -93,10 +100,10 @@ fn read_tile_path(words: &mut Words<'_>, to: &mut Answer) -> Result<(), Fault> {
 struct TilePath;
 
 impl Call for TilePath {
-    type Given = Tile;
+    type Given = GivenTile;
 
-    fn answer<M: Memory>(tile: &Tile, memory: M, to: &mut Answer) -> Result<(), AllocError> {
-        write_path(tile.path(memory), to)
+    fn answer<M: Memory>(given: &GivenTile, memory: M, to: &mut Answer) -> Result<(), AllocError> {
+        write_path(given.tile.path(memory), to)
     }
 }
 
@@ -174,14 +181,14 @@ fn write_tiles(tiles: &[Tile], to: &mut Answer) -> Result<(), AllocError> {
 pub(super) struct TileHashes<D>(PhantomData<D>);
 
 impl<D: SupportedDigest> Call for TileHashes<D> {
-    type Given = (Tile, List<Vec<u8>>);
+    type Given = (GivenTile, List<Vec<u8>>);
 
     fn answer<M: Memory>(
-        given: &(Tile, List<Vec<u8>>),
+        given: &(GivenTile, List<Vec<u8>>),
         memory: M,
         to: &mut Answer,
     ) -> Result<(), AllocError> {
-        let (tile, entries) = given;
+        let (GivenTile { tile }, entries) = given;
         let log = log_of::<D>(entries)?;
         if !tile.exists_at_length(GREATEST_LENGTH) {
             return to.word("bad call");

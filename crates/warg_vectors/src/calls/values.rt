@@ -1,16 +1,16 @@
 //! Values that are read from the bytes of their messages, under SHA-256.
 
-use crate::answer::Answer;
 use crate::calls::bundles::BytesBundle;
-use crate::calls::map_bundles::BytesMapBundle;
 use crate::calls::messages::Type;
 use crate::calls::stored;
 use crate::calls::stored::{Messaged, Stored};
-use crate::calls::wrong::Wrong;
-use crate::each;
-use crate::each::{Call, Memory};
-use crate::words::{Fault, Given, Words};
 use std::alloc::AllocError;
+use vector_lines::answer::Answer;
+use vector_lines::each;
+use vector_lines::each::{Call, Memory};
+use vector_lines::words::{Fault, Given, Words};
+use vector_lines::wrong::Wrong;
+use warg_bundle::MapProofBundle;
 use warg_crypto::{Sha256, SupportedDigest};
 use warg_log::{StackLog, VecLog};
 use warg_protobuf::{DecodeError, EncodeError};
@@ -36,13 +36,36 @@ impl Call for LogBundle {
     }
 }
 
+// A bundle of the proofs of a map from bytes to bytes.
+type BytesMapBundle<D, M> = MapProofBundle<D, Vec<u8>, Vec<u8>, M>;
+
 struct MapBundle;
 
 impl Call for MapBundle {
     type Given = Vec<u8>;
 
     fn answer<M: Memory>(bytes: &Vec<u8>, memory: M, to: &mut Answer) -> Result<(), AllocError> {
-        stored::read::<M, BytesMapBundle<Sha256, Vec<u8>, M>>(memory, bytes.as_slice(), to)
+        stored::read::<M, BytesMapBundle<Sha256, M>>(memory, bytes.as_slice(), to)
+    }
+}
+
+/// Its message goes through its parts, too.
+impl<D: SupportedDigest, M: Memory> Messaged<M> for BytesMapBundle<D, M> {
+    fn through_message(&self, memory: M) -> Result<BytesMapBundle<D, M>, Wrong> {
+        let message = self.to_message(memory)?;
+        let bundle: BytesMapBundle<D, M> = MapProofBundle::from_message(memory, message)?;
+        let (proofs, absences) = bundle.unbundle_all();
+        Ok(MapProofBundle::bundle_with(proofs, absences))
+    }
+}
+
+impl<D: SupportedDigest, M: Memory> Stored<M> for BytesMapBundle<D, M> {
+    fn decode(memory: M, bytes: &[u8]) -> Result<BytesMapBundle<D, M>, DecodeError> {
+        MapProofBundle::decode(memory, bytes)
+    }
+
+    fn encode(&self, memory: M) -> Result<Vec<u8, M>, EncodeError> {
+        MapProofBundle::encode(self, memory)
     }
 }
 

@@ -1,57 +1,19 @@
 //! Collisions out of false claims about a log.
 
-use crate::answer::Answer;
 use crate::calls::data::Data;
+use crate::calls::length::Length;
 use crate::calls::proofs::Place;
-use crate::each::{Call, Memory};
-use crate::words::{Length, List};
-use std::alloc::{AllocError, Allocator};
+use std::alloc::AllocError;
 use std::marker::PhantomData;
+use vector_lines::answer::Answer;
+use vector_lines::each::{Call, Memory};
+use vector_lines::found::{Pairs, write};
+use vector_lines::words::List;
 use warg_crypto::{Hash, SupportedDigest};
 use warg_log::LogData;
-use warg_witness::{Collision, Finding};
 
 /// The entries of a log.
 pub(super) type Entries = List<Vec<u8>>;
-
-/// The pairs of byte strings that may be answered as a collision.
-pub(super) type Pairs = List<(Vec<u8>, Vec<u8>)>;
-
-/// Writes what was found; the pair of a collision only where it isn't one of those given.
-pub(super) fn write<D: SupportedDigest, A: Allocator>(
-    found: Result<Finding<D, A>, AllocError>,
-    pairs: &Pairs,
-    to: &mut Answer,
-) -> Result<(), AllocError> {
-    match found {
-        Ok(Finding::Holds) => to.word("Holds"),
-        Ok(Finding::NotMet) => to.word("NotMet"),
-        Ok(Finding::Collision(pair)) => write_pair(&pair, pairs, to),
-        Err(fault) => to.refusal(&fault),
-    }
-}
-
-fn write_pair<D: SupportedDigest, A: Allocator>(
-    pair: &Collision<D, A>,
-    pairs: &Pairs,
-    to: &mut Answer,
-) -> Result<(), AllocError> {
-    to.word("Collision")?;
-    if is_given(pair.first(), pair.second(), pairs.items.as_slice()) {
-        return Ok(());
-    }
-    to.bytes(pair.first())?;
-    to.bytes(pair.second())
-}
-
-fn is_given(first: &[u8], second: &[u8], pairs: &[(Vec<u8>, Vec<u8>)]) -> bool {
-    for pair in pairs {
-        if pair.0.as_slice() == first && pair.1.as_slice() == second {
-            return true;
-        }
-    }
-    false
-}
 
 // A claim of a value or a hash at a place, what it is evaluated over, and what it is judged by.
 type Claim<D, C> = ((Place, Data<D>), (C, (Entries, Pairs)));

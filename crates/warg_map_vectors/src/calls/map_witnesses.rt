@@ -1,12 +1,12 @@
 //! Collisions out of false claims about a map.
 
-use crate::answer::Answer;
 use crate::calls::map_proofs::GivenProof;
 use crate::calls::maps::Insertions;
-use crate::calls::witnesses::{Pairs, write};
-use crate::each::{Call, Memory};
 use std::alloc::AllocError;
 use std::marker::PhantomData;
+use vector_lines::answer::Answer;
+use vector_lines::each::{Call, Memory};
+use vector_lines::found::{Pairs, write};
 use warg_crypto::SupportedDigest;
 
 // A proof, the key and the value that it is claimed for, the insertions, and the pairs.

@@ -3,13 +3,13 @@
 ghost use Rattle.std.specs.Prelude.{length};
 ghost use Rattle.std.specs.Iterator.{at_most};
 
-use crate::answer::Answer;
 use crate::calls::map_proofs::write_peers;
-use crate::calls::wrong::Wrong;
-use crate::each::{Call, Memory};
-use crate::words::List;
 use std::alloc::{AllocError, Allocator};
 use std::marker::PhantomData;
+use vector_lines::answer::Answer;
+use vector_lines::each::{Call, Memory};
+use vector_lines::words::List;
+use vector_lines::wrong::Wrong;
 use warg_crypto::{Hash, SupportedDigest};
 use warg_map::{Map, MapError, Proof};
 
@@ -58,19 +58,20 @@ fn grown_both_ways<'a, D: SupportedDigest, M: Memory>(
     pairs: &'a [Insertion],
 ) -> Result<BytesMap<'a, D, M>, Wrong> {
     let map = grown_by(Map::default(memory), memory, pairs)?;
-    extend_front(&map, memory, pairs.split_at(0))?;
-    extend_front(&map, memory, pairs.split_at(pairs.len() / 2))?;
-    extend_front(&map, memory, pairs.split_at(pairs.len().saturating_sub(2)))?;
+    for count in [0, pairs.len() / 2, pairs.len().saturating_sub(2)] {
+        extend_front(&map, memory, pairs, count)?;
+    }
     Ok(map)
 }
 
-// Extends a clone of the map of the pairs at the front by the others, which gives the map that is wanted.
+// Extends a clone of the map of so many pairs at the front by the others, which gives the map that is wanted.
 fn extend_front<'a, D: SupportedDigest, M: Memory>(
     wanted: &BytesMap<'a, D, M>,
     memory: M,
-    parts: (&'a [Insertion], &'a [Insertion]),
+    pairs: &'a [Insertion],
+    count: usize,
 ) -> Result<(), Wrong> {
-    let (front, rest) = parts;
+    let (front, rest) = pairs.split_at(count.min(pairs.len()));
     let before = grown_by(Map::default(memory), memory, front)?;
     extend(&before.clone()?, wanted, memory, rest)
 }

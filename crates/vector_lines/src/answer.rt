@@ -6,27 +6,27 @@ use warg_crypto::Hash;
 
 /// The answer to a line: words that are separated by one space.
 #[derive(Drop)]
-pub(crate) struct Answer {
+pub struct Answer {
     text: String,
 }
 
 impl Answer {
-    pub(crate) fn new(alloc: Global) -> Answer {
+    pub fn new(alloc: Global) -> Answer {
         Answer {
             text: String::new(alloc),
         }
     }
 
-    pub(crate) fn text(&self) -> &str {
+    pub fn text(&self) -> &str {
         self.text.as_str()
     }
 
-    pub(crate) fn alloc(&self) -> Global {
+    pub fn alloc(&self) -> Global {
         *self.text.allocator()
     }
 
     /// Writes one word more.
-    pub(crate) fn word(&mut self, word: &str) -> Result<(), AllocError> {
+    pub fn word(&mut self, word: &str) -> Result<(), AllocError> {
         if !self.text.is_empty() {
             self.text.push(' ')?;
         }
@@ -34,18 +34,18 @@ impl Answer {
     }
 
     /// Writes a value in its own form.
-    pub(crate) fn shown<T: Display>(&mut self, value: &T) -> Result<(), AllocError> {
+    pub fn shown<T: Display>(&mut self, value: &T) -> Result<(), AllocError> {
         let word = value.to_string(self.alloc())?;
         self.word(word.as_str())
     }
 
-    pub(crate) fn hash<D>(&mut self, hash: &Hash<D>) -> Result<(), AllocError> {
+    pub fn hash<D>(&mut self, hash: &Hash<D>) -> Result<(), AllocError> {
         let digits = hex::encode(self.alloc(), hash.bytes())?;
         self.word(digits.as_str())
     }
 
     /// Writes a pair of hashes.
-    pub(crate) fn pair<D>(&mut self, first: &Hash<D>, second: &Hash<D>) -> Result<(), AllocError> {
+    pub fn pair<D>(&mut self, first: &Hash<D>, second: &Hash<D>) -> Result<(), AllocError> {
         let first = hex::encode(self.alloc(), first.bytes())?;
         let second = hex::encode(self.alloc(), second.bytes())?;
         let pair = format!(in self.alloc(); "{first}:{second}")?;
@@ -53,7 +53,7 @@ impl Answer {
     }
 
     /// Writes bytes, `-` for none.
-    pub(crate) fn bytes(&mut self, bytes: &[u8]) -> Result<(), AllocError> {
+    pub fn bytes(&mut self, bytes: &[u8]) -> Result<(), AllocError> {
         if bytes.is_empty() {
             return self.word("-");
         }
@@ -63,7 +63,7 @@ impl Answer {
 
     /// Writes why a call was refused: the name of the fault's case, as `refused LeafTooNew`, or `Memory` or `AllocError`
     /// alone.
-    pub(crate) fn refusal<E: Debug>(&mut self, fault: &E) -> Result<(), AllocError> {
+    pub fn refusal<E: Debug>(&mut self, fault: &E) -> Result<(), AllocError> {
         let name = format!(in self.alloc(); "{fault:?}")?;
         if !is_want_of_memory(name.as_str()) {
             self.word("refused")?;
@@ -72,7 +72,7 @@ impl Answer {
     }
 
     /// Writes a list of hashes.
-    pub(crate) fn hashes<D>(&mut self, hashes: &[Hash<D>]) -> Result<(), AllocError> {
+    pub fn hashes<D>(&mut self, hashes: &[Hash<D>]) -> Result<(), AllocError> {
         let mut list = List::new(self.alloc());
         for hash in hashes {
             list.push_hash(hash)?;
@@ -81,7 +81,7 @@ impl Answer {
     }
 
     /// Writes a list.
-    pub(crate) fn list(&mut self, list: List) -> Result<(), AllocError> {
+    pub fn list(&mut self, list: List) -> Result<(), AllocError> {
         let text = list.finish()?;
         self.word(text.as_str())
     }
@@ -89,7 +89,7 @@ impl Answer {
 
 /// The text of a list: `[]` for none, else words that are separated by commas, with `COUNT*WORD` for equal neighbours.
 #[derive(Drop)]
-pub(crate) struct List {
+pub struct List {
     text: String,
     // The last word, and how often it came. It isn't in the text yet.
     word: String,
@@ -97,7 +97,7 @@ pub(crate) struct List {
 }
 
 impl List {
-    pub(crate) fn new(alloc: Global) -> List {
+    pub fn new(alloc: Global) -> List {
         List {
             text: String::new(alloc),
             word: String::new(alloc),
@@ -105,7 +105,7 @@ impl List {
         }
     }
 
-    pub(crate) fn push(&mut self, word: String) -> Result<(), AllocError> {
+    pub fn push(&mut self, word: String) -> Result<(), AllocError> {
         if self.count > 0 && self.word.as_str() == word.as_str() {
             self.count = self.count.saturating_add(1);
             return Ok(());
@@ -116,12 +116,12 @@ impl List {
         Ok(())
     }
 
-    pub(crate) fn push_shown<T: Display>(&mut self, value: &T) -> Result<(), AllocError> {
+    pub fn push_shown<T: Display>(&mut self, value: &T) -> Result<(), AllocError> {
         let word = value.to_string(*self.text.allocator())?;
         self.push(word)
     }
 
-    pub(crate) fn push_hash<D>(&mut self, hash: &Hash<D>) -> Result<(), AllocError> {
+    pub fn push_hash<D>(&mut self, hash: &Hash<D>) -> Result<(), AllocError> {
         let word = hex::encode(*self.text.allocator(), hash.bytes())?;
         self.push(word)
     }
@@ -151,6 +151,6 @@ impl List {
 }
 
 /// Whether an answer is that memory was refused.
-pub(crate) fn is_want_of_memory(answer: &str) -> bool {
+pub fn is_want_of_memory(answer: &str) -> bool {
     answer == "Memory" || answer == "AllocError"
 }

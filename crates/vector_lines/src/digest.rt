@@ -4,7 +4,7 @@ use crate::words::{Fault, Given, Words};
 
 /// A digest function.
 #[derive(Clone, Copy)]
-pub(super) enum Digest {
+pub enum Digest {
     Sha256,
     Sum,
     Own32,

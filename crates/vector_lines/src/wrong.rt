@@ -8,7 +8,7 @@ use warg_protobuf::{DecodeError, EncodeError};
 
 /// Why a call has no answer of its own.
 #[derive(Drop)]
-pub(super) enum Wrong {
+pub enum Wrong {
     /// Memory was refused, and again where it was granted.
     Memory,
     /// The call doesn't keep a promise, in words.
@@ -65,7 +65,7 @@ impl From<MapError> for Wrong {
 
 impl Wrong {
     /// A fault of these words unless the promise is kept.
-    pub(super) fn unless(kept: bool, why: &'static str) -> Result<(), Wrong> {
+    pub fn unless(kept: bool, why: &'static str) -> Result<(), Wrong> {
         if kept {
             Ok(())
         } else {
@@ -73,7 +73,7 @@ impl Wrong {
         }
     }
 
-    pub(super) fn write(&self, to: &mut Answer) -> Result<(), AllocError> {
+    pub fn write(&self, to: &mut Answer) -> Result<(), AllocError> {
         match self {
             Wrong::Memory => to.word("AllocError"),
             Wrong::Because(why) => to.word(why),

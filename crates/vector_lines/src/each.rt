@@ -6,7 +6,7 @@ use refusing::Refusing;
 use std::alloc::{AllocError, Allocator, Global};
 
 /// A call that takes memory.
-pub(crate) trait Call {
+pub trait Call {
     /// What a line gives it.
     type Given: Given;
 
@@ -20,7 +20,7 @@ pub(crate) trait Call {
 }
 
 /// Memory for one call.
-pub(crate) trait Memory: Allocator + Copy {
+pub trait Memory: Allocator + Copy {
     /// Ends the refusals, so that a call that was refused can be made again.
     fn grant(&self);
 }
@@ -39,7 +39,7 @@ impl Memory for &Refusing<Global> {
 const MOST_GROWTHS: u64 = 1 << 32;
 
 /// Answers the call that the words spell.
-pub(crate) fn answer<C: Call>(words: &mut Words<'_>, answer: &mut Answer) -> Result<(), Fault> {
+pub fn answer<C: Call>(words: &mut Words<'_>, answer: &mut Answer) -> Result<(), Fault> {
     let given = C::Given::read(words)?;
     words.end()?;
     if words.is_each() {

@@ -1,15 +1,12 @@
 //! The words of a line, and what they spell.
 
-ghost use Rattle.std.specs.Prelude.{◌≤◌};
-ghost use Rattle.warg_log.specs.declared.log.TheConstants.{GREATEST_LENGTH};
-
 use std::alloc::{AllocError, AllocFailed, Global};
 use warg_crypto::Hash;
-use warg_log::{GREATEST_LENGTH, Node};
+use warg_log::Node;
 
 /// Why a line has no answer of its own.
 #[derive(Drop)]
-pub(crate) enum Fault {
+pub enum Fault {
     /// It isn't a call, or the call's condition isn't met.
     BadCall,
     /// The program lacks memory.
@@ -34,7 +31,7 @@ const MOST_COPIES: usize = 1 << 24;
 /// The words that are still to be read, from left to right: those of a line, separated by spaces, or of an item of a list,
 /// separated by colons.
 #[derive(Drop)]
-pub(crate) struct Words<'a> {
+pub struct Words<'a> {
     alloc: Global,
     rest: Option<&'a str>,
     parted_by: char,
@@ -43,12 +40,12 @@ pub(crate) struct Words<'a> {
 
 impl<'a> Words<'a> {
     /// The words of a line.
-    pub(crate) fn of(alloc: Global, line: &'a str) -> Words<'a> {
+    pub fn of(alloc: Global, line: &'a str) -> Words<'a> {
         Words::parted(alloc, line, ' ')
     }
 
     /// The words of one word that are separated by colons.
-    pub(crate) fn colons(alloc: Global, word: &'a str) -> Words<'a> {
+    pub fn colons(alloc: Global, word: &'a str) -> Words<'a> {
         Words::parted(alloc, word, ':')
     }
 
@@ -61,12 +58,12 @@ impl<'a> Words<'a> {
         }
     }
 
-    pub(crate) fn alloc(&self) -> Global {
+    pub fn alloc(&self) -> Global {
         self.alloc
     }
 
     /// The name of the call. Before it may stand `each`.
-    pub(crate) fn name(&mut self) -> Result<&'a str, Fault> {
+    pub fn name(&mut self) -> Result<&'a str, Fault> {
         let name = self.next()?;
         if name != "each" {
             return Ok(name);
@@ -76,12 +73,12 @@ impl<'a> Words<'a> {
     }
 
     /// Whether the call is to be made with each growth refused in turn.
-    pub(crate) fn is_each(&self) -> bool {
+    pub fn is_each(&self) -> bool {
         self.is_each
     }
 
     /// The next word. Where none is left it is a fault.
-    pub(crate) fn next(&mut self) -> Result<&'a str, Fault> {
+    pub fn next(&mut self) -> Result<&'a str, Fault> {
         let Some(rest) = self.rest else {
             return Err(Fault::BadCall);
         };
@@ -98,7 +95,7 @@ impl<'a> Words<'a> {
     }
 
     /// A fault unless all words were read.
-    pub(crate) fn end(&self) -> Result<(), Fault> {
+    pub fn end(&self) -> Result<(), Fault> {
         match self.rest {
             Some(_) => Err(Fault::BadCall),
             None => Ok(()),
@@ -107,7 +104,7 @@ impl<'a> Words<'a> {
 }
 
 /// What one word spells, or several.
-pub(crate) trait Given: Sized + Drop {
+pub trait Given: Sized + Drop {
     fn read(words: &mut Words<'_>) -> Result<Self, Fault>;
 
     /// Whether it is what the line gave. Only data are looked at.
@@ -116,8 +113,8 @@ pub(crate) trait Given: Sized + Drop {
     }
 }
 
-// The number that one to twenty decimal digits spell, below 2^64.
-fn number(word: &str) -> Result<usize, Fault> {
+/// The number that one to twenty decimal digits spell, below 2^64.
+pub fn number(word: &str) -> Result<usize, Fault> {
     if word.len() > 20 || !has_digits_alone(word) {
         return Err(Fault::BadCall);
     }
@@ -142,23 +139,6 @@ impl Given for usize {
 impl Given for Node {
     fn read(words: &mut Words<'_>) -> Result<Node, Fault> {
         Ok(Node(number(words.next()?)?))
-    }
-}
-
-/// A length of a log: a number up to 2^63.
-#[derive(Drop)]
-pub(crate) struct Length {
-    pub(crate) value: usize,
-    ghost most: { value ≤ GREATEST_LENGTH },
-}
-
-impl Given for Length {
-    fn read(words: &mut Words<'_>) -> Result<Length, Fault> {
-        let value = number(words.next()?)?;
-        if value > GREATEST_LENGTH {
-            return Err(Fault::BadCall);
-        }
-        Ok(Length { value })
     }
 }
 
@@ -227,8 +207,8 @@ impl<A: Given, B: Given> Given for (A, B) {
 
 /// A list: `[]` for none, else items that are separated by commas. `COUNT*WORD` stands for equal neighbours.
 #[derive(Drop)]
-pub(crate) struct List<T> {
-    pub(crate) items: Vec<T>,
+pub struct List<T> {
+    pub items: Vec<T>,
 }
 
 impl<T: Given> Given for List<T> {
