@@ -6,7 +6,7 @@ ghost use Rattle.warg_protobuf.specs.declared.value_error.DecodeError.TheVariant
 ghost use Rattle.warg_protobuf.specs.Reading.{Answers};
 ghost use Rattle.warg_check.specs.CheckpointVerdicts.{is_leaf_at, shows_entry, entry_verdict, shows_growth, growth_verdict};
 
-use crate::verdict::{CheckError, is_extended};
+use crate::verdict::{CheckError, is_extended, is_included};
 use std::alloc::Allocator;
 use warg_bundle::LogProofBundle;
 use warg_crypto::{Hash, SupportedDigest, VisitBytes};
@@ -56,9 +56,7 @@ fn is_entry<D: SupportedDigest, V: VisitBytes, A: Allocator>(
 {
     is_leaf(proof.leaf(), index)
         && proof.log_length() == checkpoint.length()
-        && proof
-            .evaluate_value(bundle.hashes(), value)
-            .is_ok_and(|found| found == checkpoint.root())
+        && is_included(bundle, proof, value, &checkpoint.root())
 }
 
 // Whether the node is that of the leaf at an index.

@@ -1,15 +1,18 @@
 //! Verdicts on one insertion into a map, for auditors: whoever holds the map's root follows it without the map.
 
-ghost use Rattle.std.specs.Prelude.{◌≢◌, Err};
+ghost use Rattle.std.specs.Prelude.{◌≡◌, ◌≢◌, Err};
+ghost use Rattle.warg_crypto.specs.EmptyTrees.{empty_root};
+ghost use Rattle.warg_crypto.specs.Tree.{leaf_digest};
 ghost use Rattle.warg_protobuf.specs.declared.error.WireError.TheVariants as wire;
 ghost use Rattle.warg_protobuf.specs.declared.value_error.DecodeError.TheVariants as decoding;
 ghost use Rattle.warg_protobuf.specs.Reading.{Answers};
-ghost use Rattle.warg_check.specs.UpdateVerdicts.{update_verdict, insertion_verdict};
+ghost use Rattle.warg_check.specs.UpdateVerdicts.{leads_both, update_verdict, insertion_verdict};
 
 use crate::verdict::CheckError;
 use std::alloc::Allocator;
 use warg_bundle::MapProofBundle;
 use warg_crypto::{Hash, SupportedDigest, VisitBytes};
+use warg_map::Proof;
 
 /// Whether the proof at a place of a map bundle, counted from 0, shows that the map with the new root is the one with
 /// the old root, with the new value under the key in place of the old one: whether it evaluates from the old value to
@@ -41,14 +44,25 @@ pub fn check_update<D: SupportedDigest, K: VisitBytes, V: VisitBytes, A: Allocat
     let bundle = MapProofBundle::<D, K, V, A>::decode(alloc, bytes)?;
     let proofs = bundle.unbundle();
     match proofs.as_slice().get(at) {
-        Some(proof) => {
-            Ok(
-                proof.evaluate(key, old_value) == *old_root
-                    && proof.evaluate(key, new_value) == *new_root,
-            )
-        }
+        Some(proof) => Ok(is_update(proof, key, old_value, new_value, old_root, new_root)),
         None => Err(CheckError::NoSuchProof),
     }
+}
+
+// Whether a proof evaluates from the old value to the old root, and from the new value to the new root.
+fn is_update<D: SupportedDigest, K: VisitBytes, V: VisitBytes, A: Allocator>(
+    proof: &Proof<D, K, V, A>,
+    key: &K,
+    old_value: &V,
+    new_value: &V,
+    old_root: &Hash<D>,
+    new_root: &Hash<D>,
+) -> bool
+    ensures { result ≡ leads_both D.digest (K.bytes key.now)
+        (leaf_digest D.digest (V.bytes old_value.now)) (leaf_digest D.digest (V.bytes new_value.now))
+        old_root.now new_root.now proof.now }
+{
+    proof.evaluate(key, old_value) == *old_root && proof.evaluate(key, new_value) == *new_root
 }
 
 /// Whether the absence at a place of a map bundle, counted from 0, shows that the map with the new root is the one with
@@ -79,12 +93,22 @@ pub fn check_insertion<D: SupportedDigest, K: VisitBytes, V: VisitBytes, A: Allo
     let bundle = MapProofBundle::<D, K, V, A>::decode(alloc, bytes)?;
     let (_proofs, absences) = bundle.unbundle_all();
     match absences.as_slice().get(at) {
-        Some(absence) => {
-            Ok(
-                absence.evaluate_absent(key) == *old_root
-                    && absence.evaluate(key, value) == *new_root,
-            )
-        }
+        Some(absence) => Ok(is_insertion(absence, key, value, old_root, new_root)),
         None => Err(CheckError::NoSuchProof),
     }
+}
+
+// Whether an absence evaluates from an empty leaf to the old root, and from the value to the new root.
+fn is_insertion<D: SupportedDigest, K: VisitBytes, V: VisitBytes, A: Allocator>(
+    absence: &Proof<D, K, V, A>,
+    key: &K,
+    value: &V,
+    old_root: &Hash<D>,
+    new_root: &Hash<D>,
+) -> bool
+    ensures { result ≡ leads_both D.digest (K.bytes key.now)
+        (empty_root D.digest 0) (leaf_digest D.digest (V.bytes value.now))
+        old_root.now new_root.now absence.now }
+{
+    absence.evaluate_absent(key) == *old_root && absence.evaluate(key, value) == *new_root
 }

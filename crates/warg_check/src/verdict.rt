@@ -4,13 +4,13 @@ ghost use Rattle.std.specs.Prelude.{◌≡◌, ◌≢◌, Err};
 ghost use Rattle.warg_protobuf.specs.declared.error.WireError.TheVariants as wire;
 ghost use Rattle.warg_protobuf.specs.declared.value_error.DecodeError.TheVariants as decoding;
 ghost use Rattle.warg_protobuf.specs.Reading.{Answers};
-ghost use Rattle.warg_check.specs.Verdicts.{check_fault, inclusion_verdict, extends, consistency_verdict, key_verdict, absent_verdict};
+ghost use Rattle.warg_check.specs.Verdicts.{check_fault, includes, inclusion_verdict, extends, consistency_verdict, key_verdict, absent_verdict};
 
 use std::alloc::Allocator;
 use thiserror::Error;
 use warg_bundle::{LogProofBundle, MapProofBundle};
 use warg_crypto::{Hash, SupportedDigest, VisitBytes};
-use warg_log::ConsistencyProof;
+use warg_log::{ConsistencyProof, InclusionProof};
 use warg_protobuf::DecodeError;
 
 /// Why there is no verdict.
@@ -57,12 +57,24 @@ pub fn check_inclusion<D: SupportedDigest, V: VisitBytes, A: Allocator + Copy>(
 {
     let bundle = LogProofBundle::<D, V, A>::decode(alloc, bytes)?;
     match bundle.inclusion_proof(at) {
-        Some(proof) => Ok(
-            proof
-                .evaluate_value(bundle.hashes(), value)
-                .is_ok_and(|found| found == *root),
-        ),
+        Some(proof) => Ok(is_included(&bundle, &proof, value, root)),
         None => Err(CheckError::NoSuchProof),
+    }
+}
+
+// Whether an inclusion proof of a bundle evaluates, over the bundle's digests and with the value, to the root.
+pub(crate) fn is_included<D: SupportedDigest, V: VisitBytes, A: Allocator>(
+    bundle: &LogProofBundle<D, V, A>,
+    proof: &InclusionProof<D, V>,
+    value: &V,
+    root: &Hash<D>,
+) -> bool
+    requires { proof.now.log_length ≡ bundle.now.log_length }
+    ensures { result ≡ includes D.digest (V.bytes value.now) root.now bundle.now proof.now.leaf }
+{
+    match proof.evaluate_value(bundle.hashes(), value) {
+        Ok(found) => found == *root,
+        Err(_) => false,
     }
 }
 
@@ -149,8 +161,8 @@ pub fn check_absent<D: SupportedDigest, K: VisitBytes, A: Allocator + Copy>(
 {
     let bundle = MapProofBundle::<D, K, (), A>::decode(alloc, bytes)?;
     let (_proofs, absences) = bundle.unbundle_all();
-    match absences.as_slice().get(at) {
-        Some(absence) => Ok(absence.evaluate_absent(key) == *root),
-        None => Err(CheckError::NoSuchProof),
-    }
+    let Some(absence) = absences.as_slice().get(at) else {
+        return Err(CheckError::NoSuchProof);
+    };
+    Ok(absence.evaluate_absent(key) == *root)
 }

@@ -1,6 +1,6 @@
 //! Verdicts as the numbers that C sees. `ffi/warg.h` names them again.
 
-ghost use Rattle.std.specs.Prelude.{◌≡◌};
+ghost use Rattle.std.specs.Prelude.{◌≡◌, Err};
 ghost use Rattle.warg_ffi.specs.Numbers.{verdict_number, decode_number, wire_number};
 
 use warg_check::CheckError;
@@ -47,9 +47,17 @@ pub fn number(verdict: Result<bool, CheckError>) -> i32
     match verdict {
         Ok(true) => TRUE,
         Ok(false) => FALSE,
-        Err(CheckError::Decode(fault)) => of_decoding(fault),
-        Err(CheckError::NoSuchProof) => NO_SUCH_PROOF,
-        Err(CheckError::Memory) => OUT_OF_MEMORY,
+        Err(fault) => of_fault(fault),
+    }
+}
+
+fn of_fault(fault: CheckError) -> i32
+    ensures { result ≡ verdict_number (Err fault) }
+{
+    match fault {
+        CheckError::Decode(fault) => of_decoding(fault),
+        CheckError::NoSuchProof => NO_SUCH_PROOF,
+        CheckError::Memory => OUT_OF_MEMORY,
     }
 }
 

@@ -10,7 +10,7 @@ use Rattle.warg_crypto.specs.Digests.{sha256}
 use Rattle.warg_map.specs.Bits.{key_bits}
 use Rattle.warg_crypto.specs.Tree.{leaf_digest}
 use Rattle.warg_crypto.specs.EmptyTrees.{empty_root}
-use Rattle.warg_map.specs.Sparse.{SparseMap, inserted, leaf_at, sparse_root}
+use Rattle.warg_map.specs.Sparse.{SparseMap, inserted, leaf_at}
 use Rattle.warg_map.specs.Messages.{Peers}
 use Rattle.warg_map.specs.Peers.{Proves, ProvesEmpty}
 use Rattle.warg_map.specs.ProofValue.{proof_value}

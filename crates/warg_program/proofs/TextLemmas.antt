@@ -1,9 +1,14 @@
 -- The text of some lines and of those behind them.
 use Rattle.std.proofs.Common.{◌≡◌, ℕ, suc, ◌+◌, Bool, true, false, cond, List, [], ◌∷◌, ◌++◌, length, append_assoc, append-nil, length-append, codes, string_bytes, ◌⊎◌, ⊎_elim, inl, inr, Result, Err, refl, sym, ◌∙◌, ap, arith}
 use Rattle.std.proofs.lemmas.Bool.{and_parts, true≢false}
+use Rattle.std.specs.Fmt.{decimal}
+use Rattle.std.proofs.lemmas.Grind.{common_steps}
+use Rattle.hex.specs.Hex.{encode_lower}
+use Rattle.warg_crypto.specs.Digests.{sha256}
+use Rattle.warg_log.specs.Tree.{root_of}
 use Rattle.warg_protobuf.specs.declared.value_error.DecodeError.{DecodeError}
 use Rattle.warg_program.specs.Words.{lines_of}
-use Rattle.warg_program.specs.Orders.{Order, Line, line_of, empty, bad, good}
+use Rattle.warg_program.specs.Orders.{Order, Line, line_of, empty, bad, good, log}
 use Rattle.warg_program.specs.States.{State, start, log_at, map_at, after, after_line, FindsFull}
 use Rattle.warg_program.specs.Text.{said, is_not_bad, text_from, text_of, all_good, after_lines, answer, verdict_or_refusal, MeetsFull}
 use Rattle.warg_program.specs.Private.Sessions.{IsInState, LineFindsFull, Answers, AddsText}
@@ -180,3 +185,14 @@ told old new s order added stays room is adds at = record {
 pub not_decoded : (e : DecodeError) (verdict : Result Bool CheckError) → (check.Decode e ≡ check.Memory) ⊎ (verdict ≡ Err (check.Decode e))
     → verdict_or_refusal verdict ≡ codes "refused not decoded"
 not_decoded e verdict told = ⊎_elim (λ (memory : check.Decode e ≡ check.Memory). absurd (cc)) (λ (is : verdict ≡ Err (check.Decode e)). rw is refl) told
+
+-- a bundle without the proof is refused for that
+pub no_proof : (verdict : Result Bool CheckError) → (check.NoSuchProof ≡ check.Memory) ⊎ (verdict ≡ Err check.NoSuchProof)
+    → verdict_or_refusal verdict ≡ codes "refused no such proof"
+no_proof verdict told = ⊎_elim (λ (memory : check.NoSuchProof ≡ check.Memory). absurd (cc)) (λ (is : verdict ≡ Err check.NoSuchProof). rw is refl) told
+
+-- what the command `log` adds to the text
+pub log_shown : (text : List ℕ) (s : State) (leaves : List (List ℕ)) (n : ℕ) (root : List ℕ) → leaves ≡ log_at s → n ≡ length leaves → root ≡ root_of sha256 leaves
+    → text ++ (codes "log " ++ (decimal n ++ 32 ∷ (encode_lower root ++ 10 ∷ []))) ≡ text ++ (answer s log ++ 10 ∷ [])
+unfolding answer
+log_shown text s leaves n root at long is = grind (arith, common_steps)

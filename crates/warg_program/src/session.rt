@@ -1,6 +1,6 @@
 //! A run of commands: the log that they push to, the map that they insert into, and the text that answers them.
 
-ghost use Rattle.std.specs.Prelude.{◌≡◌, ◌≢◌, ◌≤◌, [], ◌∷◌, ◌++◌, IfOk, IfErr, OnOk, string_bytes};
+ghost use Rattle.std.specs.Prelude.{◌≡◌, ◌≢◌, ◌≤◌, [], ◌∷◌, ◌++◌, IfOk, IfErr, OnOk, codes, string_bytes};
 ghost use Rattle.hex.specs.Hex.{encode_lower};
 ghost use Rattle.warg_crypto.specs.Digests.{sha256};
 ghost use Rattle.warg_crypto.specs.Tree.{leaf_digest};
@@ -217,13 +217,19 @@ impl<A: Allocator + Copy> Session<A> {
             (bytes_or_refusal (bundle_message bundle.now) ++ 10 ∷ [])) }
     {
         match bundle.encode(self.alloc) {
-            Ok(bytes) => {
-                let digits = hex::encode(self.alloc, bytes.as_slice())?;
-                writeln!(self.text, "bundle {digits}")
-            }
+            Ok(bytes) => self.say_bytes(bytes.as_slice()),
             Err(EncodeError::TooLarge) => self.say("refused too large"),
             Err(EncodeError::Memory) => Err(AllocError),
         }
+    }
+
+    // Answers by a bundle's bytes, in hexadecimal digits.
+    fn say_bytes(&mut self, bytes: &[u8]) -> Result<(), AllocError>
+        ensures { OnOk result (AddsText self.old self.new
+            (codes "bundle " ++ (encode_lower bytes.now ++ 10 ∷ []))) }
+    {
+        let digits = hex::encode(self.alloc, bytes)?;
+        writeln!(self.text, "bundle {digits}")
     }
 
     fn verify(&mut self, mut words: Words<'_>) -> Result<(), LineError>

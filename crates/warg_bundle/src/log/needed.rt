@@ -64,14 +64,24 @@ fn check_inclusions<D, V>(proofs: &[InclusionProof<D, V>], length: usize) -> Res
     ensures { fault_in result ≡ first_fault (inclusion_fault length) proofs.now }
 {
     'proofs: for proof in proofs {
-        if proof.log_length() != length {
-            return Err(BundleError::DifferentRoots);
-        }
-        if !proof.leaf().exists_at_length(length) {
-            return Err(BundleError::Inclusion(InclusionProofError::LeafTooNew));
+        if let Some(fault) = inclusion_fault(proof, length) {
+            return Err(fault);
         }
     }
     Ok(())
+}
+
+// Why an inclusion proof isn't of this length, or its node doesn't exist there.
+fn inclusion_fault<D, V>(proof: &InclusionProof<D, V>, length: usize) -> Option<BundleError>
+    ensures { result ≡ inclusion_fault length proof.now }
+{
+    if proof.log_length() != length {
+        return Some(BundleError::DifferentRoots);
+    }
+    if !proof.leaf().exists_at_length(length) {
+        return Some(BundleError::Inclusion(InclusionProofError::LeafTooNew));
+    }
+    None
 }
 
 // Adds the nodes that an inclusion proof needs.

@@ -1,12 +1,11 @@
-use Rattle.std.proofs.Common.{◌≡◌, ◌∙◌, sym, inr}
+use Rattle.std.proofs.Common.{◌∙◌, sym, inr}
 use Rattle.warg_crypto.specs.EmptyTrees.{empty_root}
 use Rattle.warg_crypto.specs.Tree.{leaf_digest}
 use Rattle.warg_protobuf.specs.MapProofBundle.{MapBundle}
 use Rattle.warg_bundle.specs.MapBundles.{map_bundle_of}
 use Rattle.warg_check.specs.UpdateVerdicts.{leads_both}
-use Rattle.warg_check.proofs.VerdictLemmas.{judged_at, none_at, not_refused, not_decoding, at_place, past_place, leads_to}
+use Rattle.warg_check.proofs.VerdictLemmas.{judged_at, none_at, not_refused, not_decoding, at_place, past_place}
 use Rattle.warg_check.proofs.update.check_insertion.Goals as goal
-use Rattle.warg_check.proofs.update.check_insertion.Goals.{then-eq, else-eq}
 
 pub returns-in-Some-clause-verdict : goal.returns-in-Some-clause-verdict
 returns-in-Some-clause-verdict g c =
@@ -16,14 +15,9 @@ returns-in-Some-clause-verdict g c =
     let old = empty_root H 0 in
     let new = leaf_digest H (g.V.VisitBytes.bytes c.args.value.now) in
     let get = c.in-Some.ensures.lookup in
-    let first = leads_to H old key c.args.old_root.now peers c.evaluate_absent.result c.eq.result c.evaluate_absent.ensures c.eq.ensures in
-    let holds : leads_both H key old new c.args.old_root.now c.args.new_root.now peers ≡ c.if-eq.result = elim c.if-eq.branch [
-      | then-eq w ↦ rw (first, w.if-eq.true, leads_to H new key c.args.new_root.now peers w.evaluate.result w.eq-then-eq.result w.evaluate.ensures w.eq-then-eq.ensures) (sym w.result-is)
-      | else-eq w ↦ rw (first, w.if-eq.false) (sym (w.result-is ∙ w.if-eq.false))
-    ] in
     judged_at (λ (b : MapBundle). b.absences) (λ _. leads_both H key old new c.args.old_root.now c.args.new_root.now) c.args.at (map_bundle_of c.args.bytes.now)
-    c.in_ok-bundle.bundle peers c.if-eq.result c.in_ok-bundle.ensures.exact
-    (at_place _ _ _ _ (c.as_slice.ensures.value ∙ c.unbundle_all-proofs.ensures.absences) get.3.0 get.1) holds
+    c.in_ok-bundle.bundle peers c.is_insertion.result c.in_ok-bundle.ensures.exact
+    (at_place _ _ _ _ (c.as_slice.ensures.value ∙ c.unbundle_all-proofs.ensures.absences) get.3.0 get.1) (sym c.is_insertion.ensures)
 
 pub returns-in-Some-clause-memory : goal.returns-in-Some-clause-memory
 returns-in-Some-clause-memory g c = not_refused _ _

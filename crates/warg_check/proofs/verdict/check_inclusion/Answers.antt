@@ -1,4 +1,4 @@
-use Rattle.std.proofs.Common.{◌≡◌, refl, inr, rules}
+use Rattle.std.proofs.Common.{refl, sym, inr}
 use Rattle.warg_bundle.specs.LogBundles.{Bundle, bundle_of}
 use Rattle.warg_check.specs.Verdicts.{includes}
 use Rattle.warg_check.proofs.VerdictLemmas.{judged_at, none_at, not_refused, not_decoding}
@@ -7,9 +7,8 @@ use Rattle.warg_check.proofs.verdict.check_inclusion.Goals as goal
 pub returns-in-Some-clause-verdict : goal.returns-in-Some-clause-verdict
 returns-in-Some-clause-verdict g c =
     let holds = includes g.D.SupportedDigest.digest (g.V.VisitBytes.bytes c.args.value.now) c.args.root.now in
-    let shown : holds c.in_ok-bundle.bundle c.in-Some.proof.leaf ≡ c.is_ok_and.result = search rules in
-    judged_at (λ (b : Bundle). b.included_nodes) holds c.args.at (bundle_of c.args.bytes.now) c.in_ok-bundle.bundle c.in-Some.proof.leaf c.is_ok_and.result
-    c.in_ok-bundle.ensures.exact c.in-Some.ensures.leaf shown
+    judged_at (λ (b : Bundle). b.included_nodes) holds c.args.at (bundle_of c.args.bytes.now) c.in_ok-bundle.bundle c.in-Some.proof.leaf c.is_included.result
+    c.in_ok-bundle.ensures.exact c.in-Some.ensures.leaf (sym c.is_included.ensures)
 
 pub returns-in-Some-clause-memory : goal.returns-in-Some-clause-memory
 returns-in-Some-clause-memory g c = not_refused _ _
