@@ -125,3 +125,13 @@ push_stands H e ds edge d filled full order stands made added is =
       edge = made ∙ ap (edge_from H (ds ++ d ∷ []) 0) (sym size) ∙ sym (edge_digests_is H (ds ++ d ∷ []));
       full = rw (is, full_more e.taken e.len order) (are_append H (ds ++ d ∷ []) (full_between e.taken e.len) (completed_at (e.len + 1)) e.full filled (tiles_append H ds (d ∷ []) _ e.full stands.full) tiles);
     }
+
+-- a log whose full tiles have been taken
+pub taken_stands : (H : List ℕ → List ℕ) (e : RightEdge) (ds : List (List ℕ)) → StandsFor H e ds → StandsFor H (record e { taken = e.len; full = [] }) ds
+taken_stands H e ds stands =
+    let nothing : e.len - e.len ≡ 0 = omega arith in
+    record {
+      count = stands.count;
+      edge = stands.edge;
+      full = record { places = sym (ap (λ k. flat_map completed_at (range_with_len (e.len + 1) k)) nothing); digests = tt };
+    }

@@ -18,7 +18,7 @@ use Rattle.warg_witness.specs.PathPlaced.{IsRecordAgreementPlaced}
 use Rattle.warg_witness.specs.Placed.{IsAgreementPlaced, IsHashPlaced}
 use Rattle.warg_witness.specs.UpdateClaims.{IsUpdated}
 use Rattle.warg_witness.specs.Private.Agreement.{IsAgreed, IsCompared, IsFoundAt}
-use Rattle.warg_witness.specs.Private.Divergence.{HaveOneDigest, Parts, inputs_of}
+use Rattle.warg_witness.specs.Private.Divergence.{HaveOneDigest, Parts, Shows, inputs_of}
 use Rattle.warg_witness.specs.Private.MapMeeting.{IsKeyMeeting}
 use Rattle.warg_witness.specs.Private.Meeting.{IsMeeting}
 use Rattle.warg_witness.specs.Private.MapPaths.{MeetsOnPath}
@@ -108,3 +108,16 @@ update_found {H = H} {key = key} {insertions = insertions} {own = own} new (Bran
 update_found {H = H} {P = P} {key = key} {value = value} {insertions = insertions} {own = own} new (Branch branches) meeting (Collision pair) is =
     let Placed : List ℕ × List ℕ → Type 0 = λ two. IsPlacedAtPrefix H P value key insertions two.0 two.1 in
     (meeting.met, λ updated. is.1 (updated ∙ sym (own_grown_root H insertions key own meeting.beside new)), subst Placed (sym is.2) meeting.diverges.placed)
+
+-- what is found of a claim that is met, by a pair that shows a collision unless the claim is true, or by what it says itself
+pub finds_shown : {D A : Type 0} {H : Digest} {met at claim : Type 0} {placed : List ℕ → List ℕ → Type 0} {two : List ℕ × List ℕ} → met → (at → claim) → (claim → at) → ((at → ⊥) → Shows H placed two) → (it : Finding D A)
+    → Finds Unit at (λ l r. (l, r) ≡ two) it → Finds met claim placed it
+finds_shown met is from shows NotMet finds = absurd (finds tt)
+finds_shown met is from shows Holds finds = (met, is finds.1)
+finds_shown {placed = placed} met is from shows (Collision pair) finds =
+    let Placed : List ℕ × List ℕ → Type 0 = λ two. placed two.0 two.1 in (met, λ true_claim. finds.1 (from true_claim), subst Placed (sym finds.2) (shows finds.1).placed)
+
+pub finds_met : {D A : Type 0} {met : Type 0} (claim : Type 0) (placed : List ℕ → List ℕ → Type 0) → met → (it : Finding D A) → Finds Unit claim placed it → Finds met claim placed it
+finds_met claim placed met NotMet finds = absurd (finds tt)
+finds_met claim placed met Holds finds = (met, finds.1)
+finds_met claim placed met (Collision pair) finds = (met, finds.1, finds.2)

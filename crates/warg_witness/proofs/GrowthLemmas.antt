@@ -20,8 +20,9 @@ use Rattle.warg_witness.specs.Private.PathDivergence.{tree_input, IsBeside}
 use Rattle.warg_witness.specs.Private.Ranges.{AreSides}
 use Rattle.warg_witness.specs.Private.Climbs.{IsUp}
 use Rattle.warg_witness.specs.Private.TreeDivergence.{IsTreeMeeting, LeadsOver, IsTreeDivergence, PlacedOnGrowth, IsGrowth}
+use Rattle.warg_witness.specs.declared.divergence.Branches.{Branches}
 use Rattle.warg_witness.specs.declared.divergence.Divergence.{Divergence}
-use Rattle.warg_witness.specs.declared.divergence.Divergence.TheVariants.{Target}
+use Rattle.warg_witness.specs.declared.divergence.Divergence.TheVariants.{Target, Branch}
 use Rattle.warg_witness.proofs.ClimbLemmas.{parts_placed}
 use Rattle.warg_witness.proofs.RangeLemmas.{Digest, IsPart-trans, front_aligned, rest_aligned}
 use Rattle.warg_witness.proofs.ShownLemmas.{both_shown}
@@ -213,6 +214,25 @@ module _ (H : Digest) (old_tree new_tree : List (List ℕ)) (place : ℕ) (known
           here : {D : Type 0} {d : List ℕ} (tree : List (List ℕ)) → d ≡ root_over H tree a (front_of n)
               → IsBeside {D = D} H tree (PlacedOnGrowth H old_tree new_tree place known m a n (top ∷ below)) (top ≡ root_over H tree a (front_of n)) a (front_of n) top d Target
           here tree is = record { is = is; parts = λ same. same ∙ is }
+
+-- what a divergence from the old tree or from the new one shows
+module _ {D : Type 0} {H : Digest} {old_tree new_tree : List (List ℕ)} {place : ℕ} {known : Option (List ℕ)} {m a n : ℕ} {ds : List (List ℕ)} {b k : ℕ} {o o' v v' : List ℕ} {p q : Divergence D}
+    (growth : IsGrowth H old_tree new_tree place known m a n ds b k o o' p v v' q) (leads : LeadsOver H old_tree new_tree known m a n ds) where
+  tree_shown : {tree : List (List ℕ)} {meet : Type 0} {c : ℕ} {d e : List ℕ} {r : Divergence D} {branches : Branches D} → IsBeside H tree (PlacedOnGrowth H old_tree new_tree place known m a n ds) meet a c d e r
+      → d ≡ root_over H tree a c → r ≡ Branch branches → IsTreeDivergence H old_tree new_tree place known m a n ds r
+  tree_shown beside root is = λ path old new way. let shows = rw is at (beside.parts (root ∙ sym beside.is)) in rw is (record { collides = shows.collides; placed = shows.placed path old new way })
+
+  pub old_shown : {branches : Branches D} → p ≡ Branch branches → IsTreeDivergence H old_tree new_tree place known m a n ds p
+  old_shown is = tree_shown growth.old (pair_parts _ _ (sym growth.roots ∙ leads)).0 is
+
+  pub new_shown : {branches : Branches D} → q ≡ Branch branches → IsTreeDivergence H old_tree new_tree place known m a n ds q
+  new_shown is = tree_shown growth.new (pair_parts _ _ (sym growth.roots ∙ leads)).1 is
+
+  -- where it diverges from neither, both have one digest at the shared range
+  pub shared_same : p ≡ Target → q ≡ Target → root_over H old_tree b k ≡ root_over H new_tree b k
+  shared_same old_is new_is =
+      let roots = pair_parts _ _ (sym growth.roots ∙ leads) in
+      sym (rw old_is at (growth.old.parts (roots.0 ∙ sym growth.old.is))) ∙ rw new_is at (growth.new.parts (roots.1 ∙ sym growth.new.is))
 
 -- what a divergence of both trees below a shared range shows
 pub shared_shown : {D E : Type 0} {H : Digest} {old_tree new_tree : List (List ℕ)} {place : ℕ} {known : Option (List ℕ)} {m a n : ℕ} {ds : List (List ℕ)} {b k : ℕ} {o o' v v' : List ℕ} {p q : Divergence D}

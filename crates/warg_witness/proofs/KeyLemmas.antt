@@ -140,3 +140,8 @@ module _ (H : List ℕ → List ℕ) (peers : List (Option (List ℕ))) (key val
         of_value : (same : Bool) → same_bytes value e.1 ≡ same → ShowsKey (cond same (key, e.0) (0 ∷ value, 0 ∷ e.1))
         of_value true t = keys_shown e digests last ((bytes_eq-Decides value e.1).0 t)
         of_value false f = leaf_shown e.1 is (ap value_in (sym last)) (not_from_Decides _ (bytes_eq-Decides value e.1) f)
+
+-- where both come to one value, they meet
+pub climb_met : {D : Type 0} {H : List ℕ → List ℕ} {P : List (Option (List ℕ))} {x : List ℕ} {Q : List (Option (List ℕ))} {y : List ℕ} {bits : List Bool} {first second : List ℕ} {p : Divergence D}
+    → IsClimb H P x Q y bits first second p → first ≡ second → MeetsOnPath H P x Q y bits p
+climb_met climb same = record { met = sym climb.first_is ∙ same ∙ climb.second_is; diverges = climb.diverges same }

@@ -1,15 +1,16 @@
 -- What proofs show of given entries, where they diverge from the trees over them.
-use Rattle.std.proofs.Common.{◌≡◌, ℕ, ◌^◌, ◌<◌, List, [], ◌∷◌, Some, refl, sym, ◌∙◌, arith, inl, inr, ap, length, map, get_or}
+use Rattle.std.proofs.Common.{◌≡◌, ℕ, ◌^◌, ◌<◌, ◌≤◌, List, [], ◌∷◌, Option, Some, None, Ok, refl, sym, ◌∙◌, arith, inl, inr, ap, length, map, get_or}
 use Rattle.std.proofs.lemmas.Nat.{pow_pos}
 use Rattle.std.proofs.lemmas.Bool.Decides.{nat_tests}
 use Rattle.warg_log.specs.Nodes.{height_of, start_of, node_over, balanced_roots}
 use Rattle.warg_log.specs.Tree.{leaves_of, root_of, root_over, own_digest}
 use Rattle.warg_log.specs.Claims.{InclusionClaim}
-use Rattle.warg_witness.specs.Claims.{IsEntry, Begins}
+use Rattle.std.specs.Option.{MatchOption}
+use Rattle.warg_witness.specs.Claims.{IsEntry, Begins, IsConsistencyMet}
 use Rattle.warg_witness.specs.Inputs.{plain_input, cut_input, value_input, old_input}
 use Rattle.warg_witness.specs.Placed.{IsValuePlaced, IsHashPlaced, IsAgreementPlaced, IsConsistencyPlaced, IsPlacedInBoth}
 use Rattle.warg_witness.specs.Private.Compared.{IsAt, DiffersFirst}
-use Rattle.warg_witness.specs.Private.Meeting.{IsMeeting, LeadsToBoth}
+use Rattle.warg_witness.specs.Private.Meeting.{IsMeeting, IsConsistencyMeeting, LeadsToBoth}
 use Rattle.warg_witness.specs.Private.Divergence.{IsDivergence, Shows, inputs_of}
 use Rattle.warg_witness.specs.declared.divergence.Divergence.{Divergence}
 use Rattle.warg_witness.proofs.RangeLemmas.{Digest, Data, part_in, IsPart-trans, wider, whole_aligned, node_some, node_bounds, rest_aligned, root_contained, root_stands, root_at_part}
@@ -17,13 +18,13 @@ use Rattle.warg_witness.specs.Private.Ranges.{IsRootOf}
 use Rattle.warg_witness.specs.Private.Ranges.IsRootOf.{all_leaves, at_front, in_rest}
 use Rattle.warg_witness.proofs.ClimbLemmas.{shown}
 use Rattle.warg_witness.proofs.CutLemmas.{leaves_count, DivergesFrom, Meets, plain_digest_is, own_second, own_input}
-use Rattle.warg_log.proofs.ForCallers.{starts, counts, pow_below_pow, cut_old, cut_parts, cut_target, front_is_greatest, old_full, old_parts}
+use Rattle.warg_log.proofs.ForCallers.{starts, counts, pow_below_pow, cut_old, cut_parts, cut_target, front_is_greatest, old_full, old_parts, consistency_only, consistency_then}
 use Rattle.warg_log.specs.Cut.{Evaluation, with_target, cut_over, old_over, IsFull}
 use Rattle.warg_witness.specs.Ranges.{IsPart}
 use Rattle.warg_log.specs.Ranges.{Range, leaves_from, front_part, rest_part, IsAligned}
 use Rattle.std.proofs.lemmas.List.{length-map, get_or-map, get_or-take}
 use Rattle.std.proofs.lemmas.List.Elements.{All-from_recursion, All-contains}
-use Rattle.warg_log.specs.Consistency.{LeadsTo, IsConsistent}
+use Rattle.warg_log.specs.Consistency.{LeadsTo, IsConsistent, consistency}
 
 -- what was read of a list of entries at a place, and a tree's leaf, which is the digest of its entry
 pub entry_at : {V : Type 0} (f : V → List ℕ) (entries : List V) (i : ℕ) {e : V} → i < length entries → e ≡ get_or entries i e → get_or (map f entries) i [] ≡ f e
@@ -80,8 +81,8 @@ module _ {D : Type 0} {H : Digest} {F : Data} {proof : InclusionClaim} {entries 
   pub value_held : {value : List ℕ} → IsMeeting H F proof (H (0 ∷ value)) entries tree start count plain p → IsAt value entries start count → IsEntry value proof.leaf.0 entries
   value_held met at = entry_from proof.leaf.0 (rw (met.start_is, met.count_is) at at)
 
-  pub value_not_held : {value : List ℕ} → IsMeeting H F proof (H (0 ∷ value)) entries tree start count plain p → (IsAt value entries start count → ⊥) → IsEntry value proof.leaf.0 entries → ⊥
-  value_not_held met other is = other (met.count_is ∙ ap (λ h. 2 ^ h) is.leaf, ap (λ s. get_or entries s []) met.start_is ∙ is.same)
+  pub value_from : {value : List ℕ} → IsMeeting H F proof (H (0 ∷ value)) entries tree start count plain p → IsEntry value proof.leaf.0 entries → IsAt value entries start count
+  value_from met is = (met.count_is ∙ ap (λ h. 2 ^ h) is.leaf, ap (λ s. get_or entries s []) met.start_is ∙ is.same)
 
 -- two evaluations that diverge, of other values
 pub agreement_shown : {D : Type 0} (H : Digest) (F : Data) (v : List ℕ) (G : Data) (u : List ℕ) (node n : ℕ) (p : Divergence D) → (v ≡ u → ⊥) → IsDivergence H F (H (0 ∷ v)) G (H (0 ∷ u)) (start_of node) (2 ^ height_of node) 0 n p
@@ -184,3 +185,19 @@ differs_not_begins old new place differs begins = differs.differ (ap (λ xs. get
 
 pub difference_in : (H : Digest) {old new tree : List (List ℕ)} {place : ℕ} → tree ≡ leaves_of H old → DiffersFirst old new place → place < length tree
 difference_in H {old} is differs = rw (is, leaves_count H old) differs.within
+
+-- the trees of a consistency proof, where their roots are those to which it leads
+pub consistency_met : {X : Type 0} (H : Digest) (F : Data) {m n : ℕ} (old new : List (List ℕ)) {x y : List ℕ} (old_of new_of : X → List (List ℕ)) → length old ≡ m → length new ≡ n → length new ≤ 2 ^ 63 → consistency H F m n ≡ Ok (x, y) → (met : Option X)
+    → MatchOption met ((x ≡ root_of H (leaves_of H old)) × (y ≡ root_of H (leaves_of H new)) → ⊥) (λ t. (old_of t ≡ leaves_of H old) × (new_of t ≡ leaves_of H new) × (x ≡ root_of H (leaves_of H old)) × (y ≡ root_of H (leaves_of H new)))
+    → MatchOption met (IsConsistencyMet H F m n old new → ⊥) (λ t. IsConsistencyMeeting H F m n old new (old_of t) (new_of t))
+consistency_met H F old new {x} {y} old_of new_of old_count new_count fits leads None other = λ met.
+    let ok = consistency_then H F _ _ _ _ met.roots in
+    let same : ◌≡◌ {A = List ℕ × List ℕ} (x, y) (root_of H (leaves_of H old), root_of H (leaves_of H new)) = cc in other (ap (λ (two : List ℕ × List ℕ). two.0) same, ap (λ (two : List ℕ × List ℕ). two.1) same)
+consistency_met H F {m} {n} old new old_of new_of old_count new_count fits leads (Some t) is =
+    let roots : IsConsistent H F m n (root_of H (leaves_of H old)) (root_of H (leaves_of H new)) = rw (← is.2, ← is.3) (consistency_only H F _ _ _ _ leads) in record {
+      met = record { old_count = old_count; new_count = new_count; roots = roots };
+      old_is = is.0;
+      new_is = is.1;
+      fits = fits;
+      roots = rw (is.0, is.1, leaves_count H old, leaves_count H new, old_count, new_count) roots;
+    }

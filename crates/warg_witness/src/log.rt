@@ -1,9 +1,10 @@
 //! Witnesses for the log's proofs.
 
-ghost use Rattle.std.specs.Prelude.{◌≡◌, ◌≢◌, ◌+◌, ◌≤◌, ◌∷◌, ◌↔◌, IsTrue, length, map, None, Ok, Err, IfOk, MatchOption, ⊤};
+ghost use Rattle.std.specs.Prelude.{◌≡◌, ◌≢◌, ◌+◌, ◌≤◌, ◌∷◌, ◌↔◌, IsTrue, ℕ, List, length, map, None, Ok, Err, IfOk, MatchOption, ⊤};
 ghost use Rattle.warg_crypto.specs.Collisions.{Collides};
 ghost use Rattle.warg_crypto.specs.Tree.{leaf_digest};
 ghost use Rattle.warg_log.specs.Inclusion.{inclusion};
+ghost use Rattle.warg_log.specs.Nodes.{ExistsAt};
 ghost use Rattle.warg_log.specs.Tree.{leaves_of};
 ghost use Rattle.warg_log.specs.Ranges.{IsAligned};
 ghost use Rattle.warg_log.specs.declared.proof.InclusionProofError.{InclusionProofError};
@@ -40,7 +41,6 @@ pub(crate) struct Meeting<D: SupportedDigest, V: VisitBytes, A: Allocator> {
 }
 
 // The meeting of a proof with a digest at its node with the entries, or None where they don't meet.
-#[tactic(auto, using(crate::proofs::RangeLemmas::whole_aligned, crate::proofs::HashLemmas::meets))]
 fn meet_entries<D: SupportedDigest, V: VisitBytes, L: LogData<D, V>, A: Allocator + Copy>(
     alloc: A,
     proof: &InclusionProof<D, V>,
@@ -66,18 +66,33 @@ fn meet_entries<D: SupportedDigest, V: VisitBytes, L: LogData<D, V>, A: Allocato
         return Ok(None);
     };
     let tree = plain_tree(alloc, entries)?;
+    Ok(meet_tree(proof, hashes, hash, tree))
+}
+
+// The meeting of a proof with a tree that is as long as it says, or None where they don't meet.
+fn meet_tree<D: SupportedDigest, V: VisitBytes, L: LogData<D, V>, A: Allocator>(
+    proof: &InclusionProof<D, V>,
+    hashes: &L,
+    hash: &Hash<D>,
+    tree: VecLog<D, V, A>,
+) -> Option<Meeting<D, V, A>>
+    requires count { length tree ≡ proof.now.log_length }
+    requires exists { ExistsAt proof.now.leaf.0 proof.now.log_length }
+    ensures { (entries : List (List ℕ)) → tree ≡ leaves_of D.digest entries → MatchOption result
+        (¬ (IsMet D.digest (L.digest_at hashes.now) proof.now hash.now entries))
+        (λ m. IsMeeting D.digest (L.digest_at hashes.now) proof.now hash.now entries
+        m.tree m.target.start m.target.count m.plain m.divergence) }
+{
     let target = proof.leaf().leaf_range();
     let whole = LeafRange::new(0, proof.log_length());
     let plain = plain_digest(&tree, &target);
-    let Some(divergence) = meet_ranges(hashes, hash, &tree, &plain, &target, &whole) else {
-        return Ok(None);
-    };
-    Ok(Some(Meeting {
+    let divergence = meet_ranges(hashes, hash, &tree, &plain, &target, &whole)?;
+    Some(Meeting {
         tree,
         target,
         plain,
         divergence,
-    }))
+    })
 }
 
 /// Whether a proof's claim about a value is true of the entries: the node is a leaf, and its entry has the
@@ -120,10 +135,33 @@ pub fn witness_value<D: SupportedDigest, V: VisitBytes, L: LogData<D, V>, A: All
     let Some(met) = meet_entries(alloc, proof, hashes, &hash, entries)? else {
         return Ok(Finding::NotMet);
     };
+    find_value(alloc, value, entries, &met)
+}
+
+// What a value shows whose proof leads to the root of the entries.
+fn find_value<D: SupportedDigest, V: VisitBytes, A: Allocator + Copy>(
+    alloc: A,
+    value: &V,
+    entries: &[V],
+    met: &Meeting<D, V, A>,
+) -> Result<Finding<D, A>, AllocError>
+    requires tree { met.now.tree ≡ leaves_of D.digest (map V.bytes entries.now) }
+    requires aligned { IsAligned met.now.target.start met.now.target.count }
+    requires within { met.now.target.start + met.now.target.count ≤ length met.now.tree }
+    requires collides { ¬ (IsAt (V.bytes value.now) (map V.bytes entries.now)
+        met.now.target.start met.now.target.count)
+        → Collides D.digest (inputs_of met.now.divergence (0 ∷ V.bytes value.now)
+        (plain_input D.digest (map V.bytes entries.now) met.now.target.start met.now.target.count)) }
+    ensures { IfOk result (Finds ⊤
+        (IsAt (V.bytes value.now) (map V.bytes entries.now)
+        met.now.target.start met.now.target.count)
+        (λ first second. (first, second) ≡ inputs_of met.now.divergence (0 ∷ V.bytes value.now)
+        (plain_input D.digest (map V.bytes entries.now) met.now.target.start met.now.target.count))) }
+{
     if is_entry_at(value, entries, &met.target)? {
         return Ok(Finding::Holds);
     }
-    let pair = collide_value(alloc, value, entries, &met)?;
+    let pair = collide_value(alloc, value, entries, met)?;
     Ok(Finding::Collision(pair))
 }
 

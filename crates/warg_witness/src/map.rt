@@ -1,7 +1,9 @@
 //! Witnesses for the map's proofs.
 
-ghost use Rattle.std.specs.Prelude.{◌≡◌, ◌≤◌, [], length, Ok, IfOk, MatchOption};
+ghost use Rattle.std.specs.Prelude.{◌≡◌, ◌≤◌, [], if◌then◌else◌, length, Ok, IfOk, MatchOption, ⊤};
+ghost use Rattle.warg_crypto.specs.Bytes.{same_bytes};
 ghost use Rattle.warg_crypto.specs.Collisions.{Collides};
+ghost use Rattle.warg_crypto.specs.Tree.{leaf_input};
 ghost use Rattle.warg_map.specs.Sparse.{pair_bytes};
 ghost use Rattle.warg_witness.specs.Findings.{Finds};
 ghost use Rattle.warg_witness.specs.MapClaims.{IsKeyMet, IsAbsenceMet, IsKeyAgreement, IsLastValue};
@@ -94,11 +96,31 @@ fn collide<D: SupportedDigest, K: VisitBytes, V: VisitBytes, W: VisitBytes, A: A
     if let Divergence::Branch(branches) = &met.divergence {
         return branches.collide(alloc);
     }
-    let Some((inserted, last)) = met.last else {
-        return Collision::of(alloc, &Leaf(value), &Leaf(&()));
-    };
+    match met.last {
+        Some(last) => collide_inserted(alloc, last, key, value),
+        None => Collision::of(alloc, &Leaf(value), &Leaf(&())),
+    }
+}
+
+// The collision of a key and a value with an insertion: of the keys where the values have the same bytes, else of the
+// leaves.
+fn collide_inserted<
+    D: SupportedDigest,
+    K: VisitBytes,
+    V: VisitBytes,
+    W: VisitBytes,
+    A: Allocator + Copy,
+>(alloc: A, inserted: &(K, V), key: &K, value: &W) -> Result<Collision<D, A>, AllocError>
+    requires { Collides D.digest (if same_bytes (W.bytes value.now) (V.bytes inserted.now.1)
+        then (K.bytes key.now, K.bytes inserted.now.0)
+        else (leaf_input (W.bytes value.now), leaf_input (V.bytes inserted.now.1))) }
+    ensures { IfOk result (λ c. c ≡ if same_bytes (W.bytes value.now) (V.bytes inserted.now.1)
+        then (K.bytes key.now, K.bytes inserted.now.0)
+        else (leaf_input (W.bytes value.now), leaf_input (V.bytes inserted.now.1))) }
+{
+    let (inserted_key, last) = inserted;
     if have_same_bytes(value, last)? {
-        return Collision::of(alloc, key, inserted);
+        return Collision::of(alloc, key, inserted_key);
     }
     Collision::of(alloc, &Leaf(value), &Leaf(last))
 }
@@ -123,10 +145,31 @@ fn find<D: SupportedDigest, K: VisitBytes, V: VisitBytes, W: VisitBytes, A: Allo
     let Some(met) = meet_insertions(alloc, peers, key, value, insertions)? else {
         return Ok(Finding::NotMet);
     };
+    find_key(alloc, &met, key, value, insertions)
+}
+
+// What a proof that leads to the plain root shows of a key.
+fn find_key<D: SupportedDigest, K: VisitBytes, V: VisitBytes, W: VisitBytes, A: Allocator + Copy>(
+    alloc: A,
+    met: &KeyMeeting<'_, D, K, V, A>,
+    key: &K,
+    value: &W,
+    insertions: &[(K, V)],
+) -> Result<Finding<D, A>, AllocError>
+    requires { ¬ (IsLastValue (K.bytes key.now) (W.bytes value.now)
+        (pair_bytes K.bytes V.bytes insertions.now))
+        → Collides D.digest (key_inputs met.now.divergence
+        (lent_pair K.bytes V.bytes met.now.last) (K.bytes key.now) (W.bytes value.now)) }
+    ensures { IfOk result (Finds ⊤
+        (IsLastValue (K.bytes key.now) (W.bytes value.now)
+        (pair_bytes K.bytes V.bytes insertions.now))
+        (λ first second. (first, second) ≡ key_inputs met.now.divergence
+        (lent_pair K.bytes V.bytes met.now.last) (K.bytes key.now) (W.bytes value.now))) }
+{
     if is_last_value(key, value, insertions)? {
         return Ok(Finding::Holds);
     }
-    Ok(Finding::Collision(collide(alloc, &met, key, value)?))
+    Ok(Finding::Collision(collide(alloc, met, key, value)?))
 }
 
 /// Whether a proof's claim about a key's value is true of the insertions: the value inserted last under the key's

@@ -1,6 +1,6 @@
 //! Witnesses for paths.
 
-ghost use Rattle.std.specs.Prelude.{◌≡◌, length, map, None, Some, Ok, IfOk, MatchOption};
+ghost use Rattle.std.specs.Prelude.{◌≡◌, length, map, None, Some, Ok, IfOk, MatchOption, ⊤};
 ghost use Rattle.warg_crypto.specs.Tree.{leaf_digest};
 ghost use Rattle.warg_log.specs.Tree.{leaves_of, root_of};
 ghost use Rattle.warg_paths.specs.Paths.{inclusion_root};
@@ -15,7 +15,7 @@ mod growth;
 mod tree;
 
 use crate::collision::Finding;
-use crate::plain::{entry_at, plain_tree};
+use crate::plain::{entry_at, tree_with_root};
 pub use agreement::agree_record;
 use climbing::divergence_from_tree;
 use std::alloc::{AllocError, Allocator};
@@ -28,7 +28,7 @@ use warg_paths::root_of_inclusion;
 const MOST_LEAVES: usize = GREATEST_LENGTH;
 
 // The tree over the entries, or None where the path doesn't lead from the leaf digest to its root.
-#[tactic(auto, using(crate::proofs::HashLemmas::meets, crate::proofs::RecordLemmas::leads_inside))]
+#[tactic(auto, using(crate::proofs::RecordLemmas::leads_inside))]
 fn meet_path<D: SupportedDigest, V: VisitBytes, A: Allocator>(
     alloc: A,
     index: usize,
@@ -50,11 +50,7 @@ fn meet_path<D: SupportedDigest, V: VisitBytes, A: Allocator>(
     if entries.len() > MOST_LEAVES {
         return Err(AllocError);
     }
-    let tree = plain_tree(alloc, entries)?;
-    if root != tree.root() {
-        return Ok(None);
-    }
-    Ok(Some(tree))
+    tree_with_root(alloc, &root, entries)
 }
 
 /// Whether a path's claim about a record is true of the entries: the entry at `index`, from 0, has the value's
@@ -89,11 +85,30 @@ pub fn witness_record<D: SupportedDigest, V: VisitBytes, A: Allocator + Copy>(
     let Some(tree) = meet_path(alloc, index, path, &leaf, entries)? else {
         return Ok(Finding::NotMet);
     };
+    find_record(alloc, index, path, &leaf, value, entries, &tree)
+}
+
+// What a value shows whose path leads from its leaf digest to the root of the tree over the entries.
+fn find_record<D: SupportedDigest, V: VisitBytes, A: Allocator + Copy>(
+    alloc: A,
+    index: usize,
+    path: &[Hash<D>],
+    leaf: &Hash<D>,
+    value: &V,
+    entries: &[V],
+    tree: &VecLog<D, V, A>,
+) -> Result<Finding<D, A>, AllocError>
+    requires leaf { leaf.now ≡ leaf_digest D.digest (V.bytes value.now) }
+    requires met { IsPathMeeting D.digest index path.now leaf.now (map V.bytes entries.now) tree.now }
+    ensures { IfOk result (Finds ⊤ (IsRecord index (V.bytes value.now) (map V.bytes entries.now))
+        (IsRecordPlaced D.digest index path.now (V.bytes value.now)
+        (map V.bytes entries.now))) }
+{
     let entry = entry_at(entries, index);
     if have_same_bytes(value, entry)? {
         return Ok(Finding::Holds);
     }
-    let divergence = divergence_from_tree(index, &leaf, path, &tree);
+    let divergence = divergence_from_tree(index, leaf, path, tree);
     let pair = divergence.collide(alloc, &Leaf(value), &Leaf(entry))?;
     Ok(Finding::Collision(pair))
 }

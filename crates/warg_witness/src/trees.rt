@@ -1,18 +1,18 @@
 //! The trees over old and new entries, where the entries differ, and where the trees diverge.
 
-ghost use Rattle.std.specs.Prelude.{◌≡◌, ◌+◌, ◌<◌, ◌≤◌, ◌↔◌, [], length, map, IfOk, IsTrue, slice_index_or};
+ghost use Rattle.std.specs.Prelude.{◌≡◌, ◌+◌, ◌<◌, ◌≤◌, ◌↔◌, [], length, map, IfOk, IsTrue, MatchOption, slice_index_or};
 ghost use Rattle.warg_crypto.specs.Tree.{leaf_digest};
-ghost use Rattle.warg_log.specs.Tree.{leaves_of, root_over, own_digest};
+ghost use Rattle.warg_log.specs.Tree.{leaves_of, root_of, root_over, own_digest};
 ghost use Rattle.warg_witness.specs.Ranges.{IsAround};
 ghost use Rattle.warg_log.specs.Ranges.{IsAligned};
 ghost use Rattle.warg_witness.specs.Private.Compared.{IsFirstDifference};
 ghost use Rattle.warg_witness.specs.Private.Divergence.{IsDivergence};
 
 use crate::divergence::Divergence;
-use crate::plain::plain_digest;
+use crate::plain::{plain_digest, tree_with_root};
 use crate::ranges::meet_ranges;
 use std::alloc::{AllocError, Allocator};
-use warg_crypto::{SupportedDigest, VisitBytes, have_same_bytes};
+use warg_crypto::{Hash, SupportedDigest, VisitBytes, have_same_bytes};
 use warg_log::{GREATEST_LENGTH, LeafRange, VecLog};
 
 /// The trees over the old and the new entries.
@@ -20,6 +20,36 @@ use warg_log::{GREATEST_LENGTH, LeafRange, VecLog};
 pub(crate) struct Trees<D: SupportedDigest, V: VisitBytes, A: Allocator> {
     pub(crate) old: VecLog<D, V, A>,
     pub(crate) new: VecLog<D, V, A>,
+}
+
+/// The trees over the old and the new entries, or None where one of them has another root.
+pub(crate) fn trees_with_roots<D: SupportedDigest, V: VisitBytes, A: Allocator + Copy>(
+    alloc: A,
+    old_root: &Hash<D>,
+    new_root: &Hash<D>,
+    old: &[V],
+    new: &[V],
+) -> Result<Option<Trees<D, V, A>>, AllocError>
+    requires old_fits { length old.now ≤ GREATEST_LENGTH }
+    requires new_fits { length new.now ≤ GREATEST_LENGTH }
+    ensures { IfOk result (λ found. MatchOption found
+        ((old_root.now ≡ root_of D.digest (leaves_of D.digest (map V.bytes old.now)))
+        × (new_root.now ≡ root_of D.digest (leaves_of D.digest (map V.bytes new.now))) → ⊥)
+        (λ trees. (trees.old ≡ leaves_of D.digest (map V.bytes old.now))
+        × (trees.new ≡ leaves_of D.digest (map V.bytes new.now))
+        × (old_root.now ≡ root_of D.digest (leaves_of D.digest (map V.bytes old.now)))
+        × (new_root.now ≡ root_of D.digest (leaves_of D.digest (map V.bytes new.now))))) }
+{
+    let Some(old_tree) = tree_with_root(alloc, old_root, old)? else {
+        return Ok(None);
+    };
+    let Some(new_tree) = tree_with_root(alloc, new_root, new)? else {
+        return Ok(None);
+    };
+    Ok(Some(Trees {
+        old: old_tree,
+        new: new_tree,
+    }))
 }
 
 // Whether an old and a new entry at one place have the same bytes. They don't where their leaf digests

@@ -1,6 +1,6 @@
 //! The witness for consistency proofs.
 
-ghost use Rattle.std.specs.Prelude.{◌≡◌, ◌+◌, ◌<◌, ◌≤◌, ◌↔◌, length, map, None, Some, Ok, Err, IfOk, IsTrue, MatchOption};
+ghost use Rattle.std.specs.Prelude.{◌≡◌, ◌+◌, ◌<◌, ◌≤◌, ◌↔◌, length, map, None, Some, Ok, Err, IfOk, IsTrue, MatchOption, ⊤};
 ghost use Rattle.warg_log.specs.Tree.{leaves_of, root_of, root_over, own_digest};
 ghost use Rattle.warg_log.specs.Cut.{with_target, cut_over};
 ghost use Rattle.warg_log.specs.Consistency.{IsConsistent, consistency};
@@ -17,9 +17,9 @@ ghost use Rattle.warg_witness.specs.Private.Meeting.{IsConsistencyDivergence, Is
 
 use crate::collision::{Collision, Finding};
 use crate::divergence::Divergence;
-use crate::plain::{entry_at, plain_digest, plain_tree};
+use crate::plain::{entry_at, plain_digest};
 use crate::ranges::meet_ranges;
-use crate::trees::{Trees, divergence_below, first_difference};
+use crate::trees::{Trees, divergence_below, first_difference, trees_with_roots};
 use std::alloc::{AllocError, Allocator};
 use warg_crypto::{Hash, Leaf, SupportedDigest, VisitBytes};
 use warg_log::{ConsistencyProof, GREATEST_LENGTH, LeafRange, LogData, Node, VecLog};
@@ -37,7 +37,6 @@ fn have_lengths<D, V>(proof: &ConsistencyProof<D, V>, old: &[V], new: &[V]) -> b
 }
 
 // The trees over the entries, or None where the proof doesn't lead to their roots.
-#[tactic(auto, using(crate::proofs::HashLemmas::meets, warg_log::proofs::ForCallers::consistency_only, warg_log::proofs::ForCallers::consistency_then))]
 fn meet_trees<D: SupportedDigest, V: VisitBytes, L: LogData<D, V>, A: Allocator + Copy>(
     alloc: A,
     proof: &ConsistencyProof<D, V>,
@@ -64,18 +63,7 @@ fn meet_trees<D: SupportedDigest, V: VisitBytes, L: LogData<D, V>, A: Allocator 
     let Ok((old_root, new_root)) = proof.evaluate(hashes) else {
         return Ok(None);
     };
-    let old_tree = plain_tree(alloc, old)?;
-    if old_root != old_tree.root() {
-        return Ok(None);
-    }
-    let new_tree = plain_tree(alloc, new)?;
-    if new_root != new_tree.root() {
-        return Ok(None);
-    }
-    Ok(Some(Trees {
-        old: old_tree,
-        new: new_tree,
-    }))
+    trees_with_roots(alloc, &old_root, &new_root, old, new)
 }
 
 // The balanced root of a range that has the leaf at `place`.
@@ -236,9 +224,30 @@ pub fn witness_consistency<
     let Some(trees) = meet_trees(alloc, proof, hashes, old, new)? else {
         return Ok(Finding::NotMet);
     };
-    let Some(place) = first_difference(&trees, old, new)? else {
+    find_difference(alloc, hashes, old, new, &trees)
+}
+
+// What the trees over the entries show to whose roots the proof leads.
+fn find_difference<D: SupportedDigest, V: VisitBytes, L: LogData<D, V>, A: Allocator + Copy>(
+    alloc: A,
+    hashes: &L,
+    old: &[V],
+    new: &[V],
+    trees: &Trees<D, V, A>,
+) -> Result<Finding<D, A>, AllocError>
+    requires order { length old.now ≤ length new.now }
+    requires fits { length new.now ≤ GREATEST_LENGTH }
+    requires old_tree { trees.now.old ≡ leaves_of D.digest (map V.bytes old.now) }
+    requires new_tree { trees.now.new ≡ leaves_of D.digest (map V.bytes new.now) }
+    requires met { IsConsistent D.digest (L.digest_at hashes.now) (length trees.now.old)
+        (length trees.now.new) (root_of D.digest trees.now.old) (root_of D.digest trees.now.new) }
+    ensures { IfOk result (Finds ⊤ (Begins (map V.bytes old.now) (map V.bytes new.now))
+        (IsConsistencyPlaced D.digest (L.digest_at hashes.now) (map V.bytes old.now)
+        (map V.bytes new.now))) }
+{
+    let Some(place) = first_difference(trees, old, new)? else {
         return Ok(Finding::Holds);
     };
-    let pair = collide_trees(alloc, hashes, old, new, &trees, place)?;
+    let pair = collide_trees(alloc, hashes, old, new, trees, place)?;
     Ok(Finding::Collision(pair))
 }

@@ -1,6 +1,6 @@
 //! The witness for consistency paths.
 
-ghost use Rattle.std.specs.Prelude.{◌≡◌, ℕ, ◌<◌, ◌≤◌, ◌↔◌, List, length, map, None, Ok, IfOk, IsTrue, MatchOption, false};
+ghost use Rattle.std.specs.Prelude.{◌≡◌, ℕ, ◌<◌, ◌≤◌, ◌↔◌, List, length, map, None, Ok, IfOk, IsTrue, MatchOption, false, ⊤};
 ghost use Rattle.warg_log.specs.Tree.{leaves_of, root_of};
 ghost use Rattle.warg_paths.specs.Paths.{consistency_roots};
 ghost use Rattle.warg_witness.specs.Findings.{Finds};
@@ -77,7 +77,6 @@ fn meet_trees<D: SupportedDigest, V: VisitBytes, A: Allocator + Copy>(
 }
 
 // The collision of a path and the trees over entries that differ first at `place`.
-#[tactic(auto, using(crate::proofs::RangeLemmas::whole_aligned))]
 fn collide_trees<D: SupportedDigest, V: VisitBytes, A: Allocator + Copy>(
     alloc: A,
     path: &[Hash<D>],
@@ -131,9 +130,26 @@ pub fn witness_tree<D: SupportedDigest, V: VisitBytes, A: Allocator + Copy>(
     let Some(trees) = meet_trees(alloc, path, old, new)? else {
         return Ok(Finding::NotMet);
     };
-    let Some(place) = first_difference(&trees, old, new)? else {
+    find_difference(alloc, path, old, new, &trees)
+}
+
+// What the trees over the entries show to whose roots the path leads.
+fn find_difference<D: SupportedDigest, V: VisitBytes, A: Allocator + Copy>(
+    alloc: A,
+    path: &[Hash<D>],
+    old: &[V],
+    new: &[V],
+    trees: &Trees<D, V, A>,
+) -> Result<Finding<D, A>, AllocError>
+    requires { IsTreeMeeting D.digest path.now (map V.bytes old.now) (map V.bytes new.now)
+        trees.now.old trees.now.new }
+    ensures { IfOk result (Finds ⊤ (Begins (map V.bytes old.now) (map V.bytes new.now))
+        (IsTreePlaced D.digest path.now (map V.bytes old.now)
+        (map V.bytes new.now))) }
+{
+    let Some(place) = first_difference(trees, old, new)? else {
         return Ok(Finding::Holds);
     };
-    let pair = collide_trees(alloc, path, old, new, &trees, place)?;
+    let pair = collide_trees(alloc, path, old, new, trees, place)?;
     Ok(Finding::Collision(pair))
 }

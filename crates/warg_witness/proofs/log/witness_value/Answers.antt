@@ -1,19 +1,19 @@
-use Rattle.std.proofs.lemmas.Bool.{iff_false}
-use Rattle.warg_witness.proofs.ShownLemmas.{value_shown, value_held, value_not_held}
+use Rattle.std.proofs.lemmas.Result.{IfOk-weaker}
+use Rattle.warg_witness.proofs.AgreementLemmas.{finds_shown}
+use Rattle.warg_witness.proofs.HashLemmas.{found_none}
+use Rattle.warg_witness.proofs.ShownLemmas.{value_shown, value_held, value_from}
 use Rattle.warg_witness.proofs.log.witness_value.Goals as goal
 
-pub returns-then-branch-clause-found : goal.returns-then-branch-clause-found
-returns-then-branch-clause-found g c =
-    let meeting = rw (c.in-Some.is, c.hash_leaf-hash.ensures) at c.in_ok-met.ensures.met in
-    (meeting.met, value_held meeting (c.in_ok-is_entry_at.ensures.0 c.if-branch.true))
+pub find_value-requires-clause-collides : goal.find_value-requires-clause-collides
+find_value-requires-clause-collides g c other = (value_shown (rw (c.in-Some.is, c.hash_leaf-hash.ensures) at c.in_ok-met.ensures.met) other).collides
 
-pub collide_value-requires-clause-collides : goal.collide_value-requires-clause-collides
-collide_value-requires-clause-collides g c =
-    let meeting = rw (c.in-Some.is, c.hash_leaf-hash.ensures) at c.in_ok-met.ensures.met in
-    (value_shown meeting (iff_false c.in_ok-is_entry_at.ensures c.if-branch.false)).collides
+pub returns-clause-count : goal.returns-clause-count
+returns-clause-count g c other = absurd (found_none (c.in_ok-met.ensures.count other) c.in-Some.is)
+
+pub returns-clause-fails : goal.returns-clause-fails
+returns-clause-fails g c fault is = absurd (found_none (c.in_ok-met.ensures.fails fault (rw c.hash_leaf-hash.ensures is)) c.in-Some.is)
 
 pub returns-clause-found : goal.returns-clause-found
 returns-clause-found g c =
     let meeting = rw (c.in-Some.is, c.hash_leaf-hash.ensures) at c.in_ok-met.ensures.met in
-    let other = iff_false c.in_ok-is_entry_at.ensures c.if-branch.false in
-    (meeting.met, value_not_held meeting other, rw c.in_ok-pair.ensures (value_shown meeting other).placed)
+    IfOk-weaker c.find_value.result _ _ (finds_shown meeting.met (value_held meeting) (value_from meeting) (value_shown meeting)) c.find_value.ensures

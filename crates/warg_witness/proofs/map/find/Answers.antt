@@ -1,11 +1,12 @@
-use Rattle.std.proofs.Common.{arith}
+use Rattle.std.proofs.lemmas.Result.{IfOk-weaker}
+use Rattle.warg_witness.proofs.AgreementLemmas.{finds_shown}
 use Rattle.warg_witness.proofs.KeyLemmas.{key_shown}
 use Rattle.warg_witness.proofs.map.find.Goals as goal
 
-pub collide-requires : goal.collide-requires
-collide-requires g c = let met = rw c.in-Some.is at c.in_ok-met.ensures in (key_shown _ _ _ _ _ (grind arith) _ _ g.met.D.SupportedDigest.is_digest met.last_is met.diverges).collides
+pub find_key-requires : goal.find_key-requires
+find_key-requires g c = let met = rw c.in-Some.is at c.in_ok-met.ensures in λ other. (key_shown _ _ _ _ _ other _ _ g.met.D.SupportedDigest.is_digest met.last_is met.diverges).collides
 
 pub returns : goal.returns
 returns g c =
     let met = rw c.in-Some.is at c.in_ok-met.ensures in
-    (met.met, grind arith, rw c.in_ok-collide.ensures (key_shown _ _ _ _ _ (grind arith) _ _ g.met.D.SupportedDigest.is_digest met.last_is met.diverges).placed)
+    IfOk-weaker c.find_key.result _ _ (finds_shown met.met (λ is. is) (λ is. is) (λ other. key_shown _ _ _ _ _ other _ _ g.met.D.SupportedDigest.is_digest met.last_is met.diverges)) c.find_key.ensures

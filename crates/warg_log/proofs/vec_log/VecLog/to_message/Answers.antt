@@ -25,3 +25,6 @@ returns-clause-again g c =
 
 pub returns-clause-fits : goal.returns-clause-fits
 returns-clause-fits g c = rw (← c.self.view_is, ← c.self.invariant.0) (omega (arith, c.if-self.false))
+
+pub returns-clause-too_large : goal.returns-clause-too_large
+returns-clause-too_large g c = (λ large. absurd (cc), λ unfit. absurd (omega (arith, returns-clause-fits g c)))

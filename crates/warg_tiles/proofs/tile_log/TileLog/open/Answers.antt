@@ -1,4 +1,4 @@
-use Rattle.std.proofs.Common.{◌++◌, length, map, sym, ap, subst, ◌∙◌, arith}
+use Rattle.std.proofs.Common.{◌++◌, length, map, sym, ap, subst, ◌∙◌, arith, refl}
 use Rattle.warg_tiles.specs.TileLog.{StandsFor}
 use Rattle.warg_tiles.specs.Private.Edges.{joined}
 use Rattle.warg_tiles.proofs.OpenLemmas.{open_width, open_stands}
@@ -14,3 +14,6 @@ returns-clause-stands g c = λ ds count all.
     let edge = c.in_ok-push_digests.ensures ∙ ap (λ l. l ++ joined (map (λ t. t.digests.items) c.args.tiles.now)) c.new-edge.ensures.items in
     subst (λ l. StandsFor g.D.SupportedDigest.digest (record { len = c.args.log_length; taken = c.args.log_length; digests = c.push_digests.new.edge.items; full = map (λ t. (t.tile, t.digests.items)) l }) ds) (sym c.new.ensures.items)
     (open_stands g.D.SupportedDigest.digest ds c.push_digests.new.edge.items (λ t. t.tile) (λ t. t.digests.items) c.args.tiles.now c.args.log_length c.in_ok-check_tiles.ensures.ok count all edge)
+
+pub returns-clause-length : goal.returns-clause-length
+returns-clause-length g c = (refl, refl, ap (map (λ t. (t.tile, t.digests.items))) c.new.ensures.items)

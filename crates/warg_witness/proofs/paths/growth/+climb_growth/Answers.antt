@@ -1,18 +1,17 @@
-use Rattle.std.proofs.Common.{◌≡◌, ◌<◌, refl, sym, ◌∙◌, arith, rules}
+use Rattle.std.proofs.Common.{◌≡◌, refl, ◌∙◌, arith, rules}
 use Rattle.warg_paths.proofs.ForCallers.{both_short}
 use Rattle.warg_log.specs.Tree.{front_of}
 use Rattle.warg_log.proofs.ForCallers.{starts, counts}
 use Rattle.warg_witness.proofs.RangeLemmas.{front_aligned, rest_aligned}
 use Rattle.warg_witness.proofs.RecordLemmas.{turned}
-use Rattle.warg_witness.proofs.GrowthLemmas.{subproof_is, still_more, growth_starts, front_up, rest_up, shared_up, front_lacks, rest_lacks, rest_led, front_takes, rest_takes}
+use Rattle.warg_witness.proofs.GrowthLemmas.{still_more, front_up, rest_up, shared_up, front_lacks, rest_lacks, rest_led, front_takes, rest_takes}
 use Rattle.warg_witness.proofs.paths.growth.+climb_growth.Goals as goal
 
 pub returns-then-old_length-range : goal.returns-then-old_length-range
-returns-then-old_length-range g t c =
-    let width = counts c.range.view_is in
-    let same = subproof_is g.D.SupportedDigest.digest c.args.old_root c.args.old_length c.args.range.now.count c.args.path.now (omega arith) c.requires.order in
-    growth_starts _ c.args.trees.now.old c.args.trees.now.new _ _ _ _ _ c.args.path.now (rw width at c.if-old_length-range.true) c.requires.around (sym same ∙ rw width at (sym c.in_ok-root.ensures))
-    (starts c.growth_at.ensures.shared, counts c.growth_at.ensures.shared) c.growth_at.ensures.first c.growth_at.ensures.old c.growth_at.ensures.new c.growth_at.ensures.targets
+returns-then-old_length-range g t c = let all = c.if-old_length-range.true ∙ counts c.range.view_is in rw all (c.growth_of_range.ensures _ (rw all at c.requires.around))
+
+pub growth_of_range-requires-clause-in_old : goal.growth_of_range-requires-clause-in_old
+growth_of_range-requires-clause-in_old g t c = let all = c.if-old_length-range.true ∙ counts c.range.view_is in rw all at c.requires.in_old
 
 pub returns-then-old_length-front : goal.returns-then-old_length-front
 returns-then-old_length-front g t c =
@@ -45,14 +44,9 @@ returns g t c =
     rest_up _ c.args.trees.now.old c.args.trees.now.new _ _ _ _ _ _ _ more.0 more.1 c.requires.in_old c.requires.in_new (rw turn at c.if-old_length-front.false) (turned _ _ _ c.in_ok-top.ensures.cases.0) turn (starts front, counts front)
     (starts rest, counts rest) c.in_ok-growth-2.ensures (starts up.shared, counts up.shared) up.old up.new
 
-pub returns-in_err-root : goal.returns-in_err-root
-returns-in_err-root g t c =
-    let width = counts c.range.view_is in
-    let same = subproof_is g.D.SupportedDigest.digest c.args.old_root c.args.old_length c.args.range.now.count c.args.path.now (omega arith) c.requires.order in rw c.from_residual.ensures (sym same ∙ rw width at (sym c.in_err-root.ensures))
-
 pub returns-in_err-top : goal.returns-in_err-top
 returns-in_err-top g t c =
-    let more = still_more c.requires.around c.requires.order c.if-old_length-range.false (counts c.range.view_is) in rw c.from_residual-in_err-top.ensures (both_short _ _ _ _ _ more.1 c.in_err-top.ensures.cases)
+    let more = still_more c.requires.around c.requires.order c.if-old_length-range.false (counts c.range.view_is) in rw c.from_residual.ensures (both_short _ _ _ _ _ more.1 c.in_err-top.ensures.cases)
 
 pub returns-in_err-growth : goal.returns-in_err-growth
 returns-in_err-growth g t c =

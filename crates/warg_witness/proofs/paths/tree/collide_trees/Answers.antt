@@ -1,7 +1,10 @@
 use Rattle.std.proofs.lemmas.Result.{IfOk-weaker}
 use Rattle.warg_witness.proofs.HashLemmas.{entries_count}
 use Rattle.warg_witness.proofs.GrowthLemmas.{whole_growth, growth_shown}
-use Rattle.std.proofs.Common.{arith}
+use Rattle.std.proofs.Common.{length, map, refl, ap, arith}
+use Rattle.warg_log.proofs.ForCallers.{starts, counts}
+use Rattle.warg_witness.proofs.CutLemmas.{leaves_count}
+use Rattle.warg_witness.proofs.RangeLemmas.{whole_aligned}
 use Rattle.warg_witness.proofs.paths.tree.collide_trees.Goals as goal
 
 pub growth_divergence-divergence-requires-clause-leads : goal.growth_divergence-divergence-requires-clause-leads
@@ -36,3 +39,25 @@ entry_at-old_entry-requires g c = rw (entries_count g.V.VisitBytes.bytes c.args.
 
 pub entry_at-new_entry-requires : goal.entry_at-new_entry-requires
 entry_at-new_entry-requires g c = omega (arith, c.requires.differs.within, c.requires.meeting.order, entries_count g.V.VisitBytes.bytes c.args.new.now)
+
+pub plain_digest-old_root-requires-clause-aligned : goal.plain_digest-old_root-requires-clause-aligned
+plain_digest-old_root-requires-clause-aligned g c = rw c.new.ensures (whole_aligned _ refl)
+
+pub plain_digest-old_root-requires-clause-within : goal.plain_digest-old_root-requires-clause-within
+plain_digest-old_root-requires-clause-within g c =
+    omega (arith, starts c.new.ensures, counts c.new.ensures, ap length c.requires.meeting.old_is, leaves_count g.D.SupportedDigest.digest (map g.V.VisitBytes.bytes c.args.old.now), entries_count g.V.VisitBytes.bytes c.args.old.now)
+
+pub growth_divergence-divergence-requires-clause-order : goal.growth_divergence-divergence-requires-clause-order
+growth_divergence-divergence-requires-clause-order g c =
+    omega (arith, counts c.new-whole.ensures, c.requires.meeting.order, entries_count g.V.VisitBytes.bytes c.args.old.now, entries_count g.V.VisitBytes.bytes c.args.new.now)
+
+pub growth_divergence-divergence-requires-clause-aligned : goal.growth_divergence-divergence-requires-clause-aligned
+growth_divergence-divergence-requires-clause-aligned g c = rw c.new-whole.ensures (whole_aligned _ refl)
+
+pub growth_divergence-divergence-requires-clause-in_old : goal.growth_divergence-divergence-requires-clause-in_old
+growth_divergence-divergence-requires-clause-in_old g c =
+    omega (arith, starts c.new-whole.ensures, ap length c.requires.meeting.old_is, leaves_count g.D.SupportedDigest.digest (map g.V.VisitBytes.bytes c.args.old.now), entries_count g.V.VisitBytes.bytes c.args.old.now)
+
+pub growth_divergence-divergence-requires-clause-in_new : goal.growth_divergence-divergence-requires-clause-in_new
+growth_divergence-divergence-requires-clause-in_new g c =
+    omega (arith, starts c.new-whole.ensures, counts c.new-whole.ensures, ap length c.requires.meeting.new_is, leaves_count g.D.SupportedDigest.digest (map g.V.VisitBytes.bytes c.args.new.now), entries_count g.V.VisitBytes.bytes c.args.new.now)

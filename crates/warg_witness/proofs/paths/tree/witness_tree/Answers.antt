@@ -1,12 +1,13 @@
-use Rattle.std.proofs.Common.{arith}
-use Rattle.warg_witness.proofs.HashLemmas.{entries_count}
-use Rattle.warg_witness.proofs.ShownLemmas.{differs_not_begins}
+use Rattle.std.proofs.lemmas.Result.{IfOk-weaker}
+use Rattle.warg_witness.proofs.AgreementLemmas.{finds_met}
+use Rattle.warg_witness.proofs.HashLemmas.{found_none}
 use Rattle.warg_witness.proofs.paths.tree.witness_tree.Goals as goal
 
-pub first_difference-requires-clause-fits : goal.first_difference-requires-clause-fits
-first_difference-requires-clause-fits g c =
-    let met = rw c.in-Some.is at c.in_ok-trees.ensures.met in omega (arith, met.fits, met.order, entries_count g.V.VisitBytes.bytes c.args.old.now)
+pub find_difference-requires : goal.find_difference-requires
+find_difference-requires g c = rw c.in-Some.is at c.in_ok-trees.ensures.met
+
+pub returns-clause-leads : goal.returns-clause-leads
+returns-clause-leads g c nowhere = absurd (found_none (c.in_ok-trees.ensures.leads nowhere) c.in-Some.is)
 
 pub returns-clause-found : goal.returns-clause-found
-returns-clause-found g c =
-    let met = rw c.in-Some.is at c.in_ok-trees.ensures.met in (met.met, differs_not_begins _ _ _ (rw c.in-Some-2.is at c.in_ok-place.ensures), c.in_ok-pair.ensures)
+returns-clause-found g c = let met = rw c.in-Some.is at c.in_ok-trees.ensures.met in IfOk-weaker c.find_difference.result _ _ (finds_met _ _ met.met) c.find_difference.ensures

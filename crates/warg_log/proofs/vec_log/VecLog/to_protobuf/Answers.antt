@@ -1,0 +1,11 @@
+use Rattle.std.proofs.Common.{ap, ◌∙◌}
+use Rattle.warg_protobuf.specs.VecLog.{vec_bytes}
+use Rattle.warg_protobuf.specs.Decoding.{held_in}
+use Rattle.warg_log.specs.Images.{vec_in}
+use Rattle.warg_log.proofs.vec_log.VecLog.to_protobuf.Goals as goal
+
+pub returns-clause-written : goal.returns-clause-written
+returns-clause-written g c = c.in_ok-encode.ensures.written ∙ ap vec_bytes c.in_ok-message.ensures.ok
+
+pub returns-clause-again : goal.returns-clause-again
+returns-clause-again g c = ap (held_in (vec_in g.D.SupportedDigest.digest)) c.in_ok-encode.ensures.again ∙ c.in_ok-message.ensures.again
