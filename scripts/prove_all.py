@@ -1,14 +1,13 @@
 #!/usr/bin/env python3
-"""Proves each crate once, but for the tests, the vectors of all but maps, and the program that measures: lowest first, as
-many at a time as the machine has room for. Builds it, runs each program on its stdin, args and data, and compares what it
-prints with its stdout.
+"""Proves each crate once, but for the tests, most vectors, and the program that measures: lowest first, as many at a time as
+the machine has room for. Builds it, runs each program on its stdin, args and data, and compares what it prints with its stdout.
 
 These three call proved code, and no clause says what they print. The tests and the vectors run as rt try makes them, which
-stops at a bad access, an overflow or a failed unwrap; the program that measures has to compile. The vectors of maps hash too
-much for that, so their program is proved and built.
+stops at a bad access, an overflow or a failed unwrap; the program that measures has to compile. The vectors of maps that hash
+most are too slow so, and their program is proved and built.
 
 What a check keeps stays in crates/NAME/out: from nothing where nothing is there. With names, proves these crates and what
-they stand on, where that has changed since, and builds programs by LLVM alone.
+they stand on, and builds programs by LLVM alone.
 
 Usage: prove_all.py [--json FILE] [--cpu CPU] [NAME..]
 """
@@ -146,7 +145,7 @@ class Crate:
                 shutil.copytree(self.folder / "data", room, dirs_exist_ok=True)
             words = ["timeout", str(SECONDS), self.folder / program, *self.text("args").splitlines()]
             with open(self.folder / "stdin" if self.text("stdin") else os.devnull, "rb") as given:
-                status, printed = self.call("proof", words, cwd=room, stdin=given, stderr=subprocess.DEVNULL)
+                status, printed = self.call("tests", words, cwd=room, stdin=given, stderr=subprocess.DEVNULL)
         if printed.decode(errors="replace") != self.text("stdout") or status != int(self.text("status") or 0):
             raise Failed(f"as {backend} makes it, the program prints something else, or ends with another status: {status}")
 

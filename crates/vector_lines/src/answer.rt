@@ -44,14 +44,6 @@ impl Answer {
         self.word(digits.as_str())
     }
 
-    /// Writes a pair of hashes.
-    pub fn pair<D>(&mut self, first: &Hash<D>, second: &Hash<D>) -> Result<(), AllocError> {
-        let first = hex::encode(self.alloc(), first.bytes())?;
-        let second = hex::encode(self.alloc(), second.bytes())?;
-        let pair = format!(in self.alloc(); "{first}:{second}")?;
-        self.word(pair.as_str())
-    }
-
     /// Writes bytes, `-` for none.
     pub fn bytes(&mut self, bytes: &[u8]) -> Result<(), AllocError> {
         if bytes.is_empty() {
@@ -69,15 +61,6 @@ impl Answer {
             self.word("refused")?;
         }
         self.word(name.as_str())
-    }
-
-    /// Writes a list of hashes.
-    pub fn hashes<D>(&mut self, hashes: &[Hash<D>]) -> Result<(), AllocError> {
-        let mut list = List::new(self.alloc());
-        for hash in hashes {
-            list.push_hash(hash)?;
-        }
-        self.list(list)
     }
 
     /// Writes a list.

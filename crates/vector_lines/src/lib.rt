@@ -7,5 +7,6 @@ pub mod digest;
 pub mod each;
 pub mod found;
 pub mod lines;
+pub mod peers;
 pub mod words;
 pub mod wrong;

@@ -2,3 +2,4 @@ pub mod EmptyLemmas
 pub mod ForCallers
 mod FramedLemmas
 mod CompareLemmas
+mod QuickSha256

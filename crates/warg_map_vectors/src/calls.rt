@@ -1,7 +1,6 @@
-//! The calls of maps, by their names.
+//! The calls of maps that hash most, by their names.
 
 mod map_bundles;
-mod map_proofs;
 mod map_witnesses;
 mod maps;
 mod updates;
@@ -14,7 +13,7 @@ use vector_lines::words::{Fault, Given, Words};
 use warg_crypto::weak::{Flat, Own32, Sum};
 use warg_crypto::{Sha256, SupportedDigest};
 
-/// The calls of maps. The first word behind a name is its digest function's.
+/// The calls of maps that hash most. The first word behind a name is its digest function's.
 pub(crate) struct MapCalls;
 
 impl Calls for MapCalls {
@@ -41,33 +40,7 @@ fn by_name<D: SupportedDigest>(
         "prove" => each::answer::<maps::Prove<D>>(words, to),
         "prove_absence" => each::answer::<maps::ProveAbsence<D>>(words, to),
         "map_bundle" => each::answer::<map_bundles::MapBundle<D>>(words, to),
-        "map_proof" => each::answer::<map_proofs::MapProof<D>>(words, to),
-        _ => of_given_proofs::<D>(name, words, to),
-    }
-}
-
-fn of_given_proofs<D: SupportedDigest>(
-    name: &str,
-    words: &mut Words<'_>,
-    to: &mut Answer,
-) -> Result<(), Fault> {
-    match name {
-        "evaluate" => each::answer::<map_proofs::Evaluate<D>>(words, to),
-        "evaluate_absent" => each::answer::<map_proofs::EvaluateAbsent<D>>(words, to),
-        "agree_key" => each::answer::<map_witnesses::AgreeKey<D>>(words, to),
-        _ => of_witnesses::<D>(name, words, to),
-    }
-}
-
-fn of_witnesses<D: SupportedDigest>(
-    name: &str,
-    words: &mut Words<'_>,
-    to: &mut Answer,
-) -> Result<(), Fault> {
-    match name {
         "witness_key" => each::answer::<map_witnesses::WitnessKey<D>>(words, to),
-        "witness_absent" => each::answer::<map_witnesses::WitnessAbsent<D>>(words, to),
-        "witness_update" => each::answer::<updates::WitnessUpdate<D>>(words, to),
         _ => Err(Fault::BadCall),
     }
 }

@@ -5,8 +5,11 @@ mod checkpoint_texts;
 mod checks;
 mod data;
 mod growths;
+mod hashes;
 mod length;
 mod logs;
+mod map_proofs;
+mod map_witnesses;
 mod messages;
 mod nodes;
 mod paths;
@@ -26,7 +29,7 @@ use vector_lines::words::{Fault, Given, Words};
 use warg_crypto::weak::{Flat, Own32, Sum};
 use warg_crypto::{Sha256, SupportedDigest};
 
-/// All calls but those of maps.
+/// All calls but those that hash most.
 pub(crate) struct OtherCalls;
 
 impl Calls for OtherCalls {
@@ -106,6 +109,22 @@ fn of_path<D: SupportedDigest>(
         "roots_of_consistency" => each::answer::<paths::RootsOfConsistency<D>>(words, to),
         "tile_hashes" => each::answer::<tiles::TileHashes<D>>(words, to),
         "tile_data" => each::answer::<tiles::TileDigest<D>>(words, to),
+        _ => of_map_proof::<D>(name, words, to),
+    }
+}
+
+fn of_map_proof<D: SupportedDigest>(
+    name: &str,
+    words: &mut Words<'_>,
+    to: &mut Answer,
+) -> Result<(), Fault> {
+    match name {
+        "map_proof" => each::answer::<map_proofs::MapProof<D>>(words, to),
+        "evaluate" => each::answer::<map_proofs::Evaluate<D>>(words, to),
+        "evaluate_absent" => each::answer::<map_proofs::EvaluateAbsent<D>>(words, to),
+        "agree_key" => each::answer::<map_witnesses::AgreeKey<D>>(words, to),
+        "witness_absent" => each::answer::<map_witnesses::WitnessAbsent<D>>(words, to),
+        "witness_update" => each::answer::<map_witnesses::WitnessUpdate<D>>(words, to),
         _ => Err(Fault::BadCall),
     }
 }

@@ -1,5 +1,5 @@
 //! `warg_vectors`: reads lines of calls on standard input, and writes one line of answer for each on
-//! standard output. `docs/VECTORS.md` has the format. The calls of maps are those of `warg_map_vectors`.
+//! standard output. `docs/VECTORS.md` has the format. The calls of maps that hash most are those of `warg_map_vectors`.
 #![tactic(auto)]
 
 mod calls;

@@ -3,15 +3,15 @@
 ghost use Rattle.std.specs.Prelude.{length};
 ghost use Rattle.std.specs.Iterator.{at_most};
 
-use crate::calls::map_proofs::write_peers;
 use std::alloc::{AllocError, Allocator};
 use std::marker::PhantomData;
 use vector_lines::answer::Answer;
 use vector_lines::each::{Call, Memory};
+use vector_lines::peers::write_peers;
 use vector_lines::words::List;
 use vector_lines::wrong::Wrong;
 use warg_crypto::{Hash, SupportedDigest};
-use warg_map::{Map, MapError, Proof};
+use warg_map::{KeyProof, Map, MapError, Proof};
 
 /// A map from bytes to bytes.
 pub(super) type BytesMap<'a, D, A> = Map<D, &'a [u8], &'a [u8], A>;
@@ -121,27 +121,13 @@ fn insert_again<'a, D: SupportedDigest, M: Memory>(
     pair: &'a Insertion,
 ) -> Result<BytesMap<'a, D, M>, Wrong> {
     let (key, value) = (pair.0.as_slice(), pair.1.as_slice());
-    let proof = proof_at(map, key)?;
+    let (KeyProof::Presence(proof) | KeyProof::Absence(proof)) = map.prove_key(&key)?;
     let next = map.insert(key, value)?;
     Wrong::unless(
         proof.evaluate(&key, &value) == *next.root(),
         "after a refused insertion, another proof",
     )?;
     Err(Wrong::Memory)
-}
-
-// The proof of what is held under a key, or else of its absence, which leads to the map's root.
-fn proof_at<'a, D: SupportedDigest, M: Memory>(
-    map: &BytesMap<'a, D, M>,
-    key: &'a [u8],
-) -> Result<MapProof<'a, D, M>, Wrong> {
-    if let Some(proof) = map.prove(key)? {
-        return Ok(proof);
-    }
-    match map.prove_absence(key)? {
-        Some(proof) if proof.evaluate_absent(&key) == *map.root() => Ok(proof),
-        _ => Err(Wrong::Because("no proof of an absent key")),
-    }
 }
 
 // Extends a map by some pairs, which gives the map that is wanted.

@@ -1,42 +1,17 @@
-//! Insertions into a map with the proofs of their steps, and collisions out of false claims about them.
+//! Insertions into a map with the proofs of their steps.
 
-use crate::calls::map_proofs::{GivenProof, write_peers};
 use crate::calls::maps::{BytesMap, Insertions, grown};
 use std::alloc::{AllocError, Allocator};
 use std::marker::PhantomData;
 use vector_lines::answer::Answer;
 use vector_lines::each::{Call, Memory};
-use vector_lines::found;
-use vector_lines::found::Pairs;
+use vector_lines::peers::write_peers;
 use vector_lines::wrong::Wrong;
 use warg_crypto::SupportedDigest;
 use warg_map::Insertion;
 
 // An insertion into a map from bytes to bytes.
 type Step<'a, D, A> = Insertion<D, &'a [u8], &'a [u8], A>;
-
-// A key, the value that it has, and the value that it is given.
-type Change = (Vec<u8>, (Vec<u8>, Vec<u8>));
-
-// A proof, the key, its old value and the new one, the insertions, and the pairs.
-type UpdateClaim<D> = ((GivenProof<D>, Change), (Insertions, Pairs));
-
-pub(super) struct WitnessUpdate<D>(PhantomData<D>);
-
-impl<D: SupportedDigest> Call for WitnessUpdate<D> {
-    type Given = UpdateClaim<D>;
-
-    fn answer<M: Memory>(
-        given: &UpdateClaim<D>,
-        memory: M,
-        to: &mut Answer,
-    ) -> Result<(), AllocError> {
-        let ((proof, (key, (old, new))), (insertions, pairs)) = given;
-        let insertions = insertions.items.as_slice();
-        let found = warg_witness::witness_update(memory, &proof.proof, key, old, new, insertions);
-        found::write(found, pairs, to)
-    }
-}
 
 pub(super) struct InsertWithProof<D>(PhantomData<D>);
 

@@ -1,5 +1,6 @@
 //! Logs that entries are pushed into: one that keeps all digests, and one that keeps its balanced roots alone.
 
+use crate::calls::hashes::write_hashes;
 use std::alloc::{AllocError, Allocator, Global};
 use std::marker::PhantomData;
 use vector_lines::answer::Answer;
@@ -34,7 +35,7 @@ fn write<D: SupportedDigest, A: Allocator>(
     let checkpoint = log.checkpoint();
     to.shown(&checkpoint.length())?;
     to.hash(&checkpoint.root())?;
-    to.hashes(log.as_ref())
+    write_hashes(log.as_ref(), to)
 }
 
 // A kind of log.

@@ -2,6 +2,7 @@
 
 use crate::calls::checks::{Known, checkpoint};
 use crate::calls::data::Data;
+use crate::calls::hashes::{write_hashes, write_pair};
 use crate::calls::length::Length;
 use std::alloc::{AllocError, Allocator};
 use std::marker::PhantomData;
@@ -51,7 +52,7 @@ fn write<D, A: Allocator>(
     to: &mut Answer,
 ) -> Result<(), AllocError> {
     match path {
-        Ok(path) => to.hashes(path.as_slice()),
+        Ok(path) => write_hashes(path.as_slice(), to),
         Err(fault) => to.refusal(&fault),
     }
 }
@@ -89,7 +90,7 @@ impl<D: SupportedDigest> Call for RootsOfConsistency<D> {
     ) -> Result<(), AllocError> {
         let ((old, new), (old_root, path)) = given;
         match warg_paths::roots_of_consistency(*old, *new, old_root, path.items.as_slice()) {
-            Some((old_root, new_root)) => to.pair(&old_root, &new_root),
+            Some((old_root, new_root)) => write_pair(&old_root, &new_root, to),
             None => to.word("none"),
         }
     }

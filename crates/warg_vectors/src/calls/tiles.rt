@@ -1,5 +1,6 @@
 //! Tiles and their paths.
 
+use crate::calls::hashes::write_hashes;
 use crate::calls::length::Length;
 use std::alloc::{AllocError, Allocator};
 use std::marker::PhantomData;
@@ -194,7 +195,7 @@ impl<D: SupportedDigest> Call for TileHashes<D> {
             return to.word("bad call");
         }
         match warg_tiles::tile_hashes(memory, &log, tile) {
-            Ok(hashes) => to.hashes(hashes.as_slice()),
+            Ok(hashes) => write_hashes(hashes.as_slice(), to),
             Err(fault) => to.refusal(&fault),
         }
     }

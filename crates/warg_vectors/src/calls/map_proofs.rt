@@ -1,61 +1,13 @@
 //! Proofs of maps that are given by their peers, and what they evaluate to.
 
-use std::alloc::{AllocError, Allocator};
+use std::alloc::AllocError;
 use std::marker::PhantomData;
-use vector_lines::answer::{Answer, List as Words};
+use vector_lines::answer::Answer;
 use vector_lines::each::{Call, Memory};
-use vector_lines::words;
-use vector_lines::words::{Fault, Given, List};
+use vector_lines::peers::{BytesProof, GivenProof, Peers, proof_of, write_peers};
 use vector_lines::wrong::Wrong;
-use warg_crypto::{Hash, SupportedDigest};
+use warg_crypto::SupportedDigest;
 use warg_map::Proof;
-use warg_protobuf::{DecodeError, MapInclusionProof, OptionalHash};
-
-/// A proof over bytes.
-pub(super) type BytesProof<D, M> = Proof<D, Vec<u8>, Vec<u8>, M>;
-
-// The peers of a proof, as their bytes.
-type Peers = List<Option<Vec<u8>>>;
-
-/// A proof that a line gives by its peers, of which there are at most 256.
-#[derive(Drop)]
-pub(super) struct GivenProof<D: SupportedDigest> {
-    pub(super) proof: Proof<D, Vec<u8>, Vec<u8>>,
-}
-
-impl<D: SupportedDigest> Given for GivenProof<D> {
-    fn read(words: &mut words::Words<'_>) -> Result<GivenProof<D>, Fault> {
-        let peers = Peers::read(words)?;
-        match proof_of(words.alloc(), &peers) {
-            Ok(proof) => Ok(GivenProof { proof }),
-            Err(DecodeError::Memory) => Err(Fault::Memory),
-            Err(_) => Err(Fault::BadCall),
-        }
-    }
-}
-
-// The proof of the message of these peers.
-fn proof_of<D: SupportedDigest, M: Memory>(
-    memory: M,
-    peers: &Peers,
-) -> Result<BytesProof<D, M>, DecodeError> {
-    let mut hashes = Vec::new(memory);
-    for peer in peers.items.as_slice() {
-        hashes.push(optional_hash(memory, peer)?)?;
-    }
-    Proof::from_message(memory, MapInclusionProof { hashes })
-}
-
-fn optional_hash<M: Memory>(
-    memory: M,
-    peer: &Option<Vec<u8>>,
-) -> Result<OptionalHash<M>, AllocError> {
-    let hash = match peer {
-        Some(bytes) => Some(Vec::from_slice(memory, bytes.as_slice())?),
-        None => None,
-    };
-    Ok(OptionalHash { hash })
-}
 
 pub(super) struct MapProof<D>(PhantomData<D>);
 
@@ -98,18 +50,6 @@ fn through_message<D: SupportedDigest, M: Memory>(
 ) -> Result<BytesProof<D, M>, Wrong> {
     let message = proof.to_message(memory)?;
     Ok(Proof::from_message(memory, message)?)
-}
-
-/// Writes the peers of a proof.
-pub(super) fn write_peers<D>(peers: &[Option<Hash<D>>], to: &mut Answer) -> Result<(), AllocError> {
-    let mut list = Words::new(to.alloc());
-    for peer in peers {
-        match peer {
-            Some(hash) => list.push_hash(hash)?,
-            None => list.push_shown(&"none")?,
-        }
-    }
-    to.list(list)
 }
 
 pub(super) struct Evaluate<D>(PhantomData<D>);
