@@ -40,8 +40,6 @@ ROOM = 1 << 32
 SECONDS = 600
 KEPT = ["--incremental", "out/incremental"]
 TOOLCHAIN = ["--toolchain", f"{kit.KIT}/toolchain"]
-
-
 # What a try that went to its end says last.
 TRIED_WELL = re.compile(r"^run=ended status=0 runners=\d proved=no$", re.M)
 

@@ -1,5 +1,7 @@
 //! What goes wrong in a call that goes on after a refusal.
 
+ghost use Rattle.std.specs.Prelude.{◌↔◌, IsOk, IsTrue};
+
 use crate::answer::Answer;
 use std::alloc::{AllocError, AllocFailed};
 use warg_bundle::BundleError;
@@ -65,7 +67,9 @@ impl From<MapError> for Wrong {
 
 impl Wrong {
     /// A fault of these words unless the promise is kept.
-    pub fn unless(kept: bool, why: &'static str) -> Result<(), Wrong> {
+    pub fn unless(kept: bool, why: &'static str) -> Result<(), Wrong>
+        ensures { IsOk result ↔ IsTrue kept }
+    {
         if kept {
             Ok(())
         } else {

@@ -13,7 +13,6 @@ ghost use Rattle.std.specs.Process.{exit_status};
 
 use anyhow::Result;
 use claim::verdict_on;
-use clap::ArgMatches;
 use std::env;
 use std::process::ExitCode;
 use usage::command;
@@ -32,21 +31,18 @@ fn main(rt: HostRuntime) -> ExitCode {
 // Reads the arguments, and prints the verdict that they ask for.
 fn judge(rt: &HostRuntime) -> Result<ExitCode> {
     let words = env::args(rt)?.collect::<Vec<String>>(rt.alloc())?;
-    match command(rt.alloc())?.try_get_matches_from(words.as_slice()) {
-        Ok(matches) => judge_claim(rt, &matches),
+    let matches = match command(rt.alloc())?.try_get_matches_from(words.as_slice()) {
+        Ok(matches) => matches,
         Err(error) => {
             error.print(rt)?;
-            Ok(ExitCode::from(if error.exit_code() == 0 { 0 } else { 3 }))
+            let is_help = error.exit_code() == 0;
+            return Ok(ExitCode::from(if is_help { 0 } else { 3 }));
         }
-    }
-}
-
-// Prints the verdict on the claim that the arguments make.
-fn judge_claim(rt: &HostRuntime, matches: &ArgMatches<'_>) -> Result<ExitCode> {
-    match matches.subcommand() {
-        Some((name, asked)) => print(rt, verdict_on(rt, name, asked)?),
-        None => Ok(ExitCode::from(3)),
-    }
+    };
+    let Some((name, asked)) = matches.subcommand() else {
+        return Ok(ExitCode::from(3));
+    };
+    print(rt, verdict_on(rt, name, asked)?)
 }
 
 // Prints a verdict, or why the bundle is refused.

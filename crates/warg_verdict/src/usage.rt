@@ -64,28 +64,15 @@ const CLAIMS: [Claim; 4] = [
 
 /// The command line: four verdicts, each on the proof at a place of a bundle's file.
 pub fn command<'a>(alloc: Global) -> Result<Command<'a>, AllocError> {
-    let mut command = program(alloc);
-    for claim in &CLAIMS {
-        command = with_subcommand(alloc, command, claim)?;
-    }
-    Ok(command)
-}
-
-// The program, without its subcommands.
-fn program<'a>(alloc: Global) -> Command<'a> {
-    Command::new(alloc, "warg_verdict")
+    let mut command = Command::new(alloc, "warg_verdict")
         .version("0.9.2-rattle.1")
         .about(ABOUT)
         .after_help(AFTER)
-        .subcommand_required(true)
-}
-
-fn with_subcommand<'a>(
-    alloc: Global,
-    command: Command<'a>,
-    claim: &Claim,
-) -> Result<Command<'a>, AllocError> {
-    command.subcommand(subcommand(alloc, claim)?)
+        .subcommand_required(true);
+    for claim in &CLAIMS {
+        command = command.subcommand(subcommand(alloc, claim)?)?;
+    }
+    Ok(command)
 }
 
 fn subcommand<'a>(alloc: Global, claim: &Claim) -> Result<Command<'a>, AllocError> {

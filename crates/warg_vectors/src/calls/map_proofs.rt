@@ -1,5 +1,6 @@
 //! Proofs of maps that are given by their peers, and what they evaluate to.
 
+use crate::calls::stored::{Messaged, through_message};
 use std::alloc::AllocError;
 use std::marker::PhantomData;
 use vector_lines::answer::Answer;
@@ -9,6 +10,13 @@ use vector_lines::wrong::Wrong;
 use warg_crypto::SupportedDigest;
 use warg_map::Proof;
 
+impl<D: SupportedDigest, M: Memory> Messaged<M> for BytesProof<D, M> {
+    fn through_message(&self, memory: M) -> Result<BytesProof<D, M>, Wrong> {
+        let message = self.to_message(memory)?;
+        Ok(Proof::from_message(memory, message)?)
+    }
+}
+
 pub(super) struct MapProof<D>(PhantomData<D>);
 
 impl<D: SupportedDigest> Call for MapProof<D> {
@@ -17,39 +25,23 @@ impl<D: SupportedDigest> Call for MapProof<D> {
     fn answer<M: Memory>(peers: &Peers, memory: M, to: &mut Answer) -> Result<(), AllocError> {
         let read: Result<BytesProof<D, M>, _> = proof_of(memory, peers);
         match read {
-            Ok(proof) => write_same(&proof, memory, to),
+            Ok(proof) => write_same(&proof, through_message(&proof, memory), to),
             Err(fault) => to.refusal(&fault),
         }
     }
 }
 
-// Writes the peers of a proof, which are those of the proof of its message. Where that is refused, it is asked for again.
+// Writes the peers of a proof, which are those of the proof of its message.
 fn write_same<D: SupportedDigest, M: Memory>(
     proof: &BytesProof<D, M>,
-    memory: M,
+    other: Result<BytesProof<D, M>, Wrong>,
     to: &mut Answer,
 ) -> Result<(), AllocError> {
-    let other = match through_message(proof, memory) {
-        Err(Wrong::Memory) => {
-            memory.grant();
-            through_message(proof, memory)
-        }
-        ended => ended,
-    };
     match other {
         Ok(other) if other.peers() == proof.peers() => write_peers(proof.peers(), to),
         Ok(_) => to.word("another proof"),
         Err(wrong) => wrong.write(to),
     }
-}
-
-// The proof of the proof's message.
-fn through_message<D: SupportedDigest, M: Memory>(
-    proof: &BytesProof<D, M>,
-    memory: M,
-) -> Result<BytesProof<D, M>, Wrong> {
-    let message = proof.to_message(memory)?;
-    Ok(Proof::from_message(memory, message)?)
 }
 
 pub(super) struct Evaluate<D>(PhantomData<D>);
