@@ -14,19 +14,19 @@ try:
 # CPU=x86-64-v3 builds it for newer processors.
 run:
 	@python3 scripts/prove_all.py $(if $(CPU),--cpu $(CPU)) warg_check_cli && \
-	mkdir -p bin && cp crates/warg_check_cli/out/warg_check_cli bin/warg_check && \
+	mkdir -p bin && cp crates/warg_check_cli/out/proved/warg_check_cli bin/warg_check && \
 	echo "bin/warg_check reads commands on standard input, as: printf 'push -\\nlog\\n' | bin/warg_check"
 
 # Proves and builds the program for scripts, as bin/warg_verdict.
 verdict:
 	@python3 scripts/prove_all.py warg_verdict && \
-	mkdir -p bin && cp crates/warg_verdict/out/warg_verdict bin/warg_verdict && \
+	mkdir -p bin && cp crates/warg_verdict/out/proved/warg_verdict bin/warg_verdict && \
 	echo "bin/warg_verdict judges a bundle's file; see bin/warg_verdict --help"
 
 # Proves and builds the program that keeps a log in a folder, as bin/warg_tlog.
 tlog:
 	@python3 scripts/prove_all.py warg_tlog && \
-	mkdir -p bin && cp crates/warg_tlog/out/warg_tlog bin/warg_tlog && \
+	mkdir -p bin && cp crates/warg_tlog/out/proved/warg_tlog bin/warg_tlog && \
 	echo "bin/warg_tlog keeps a log in a folder; see bin/warg_tlog --help"
 
 # Runs the merge gate: each proof from nothing, the tests, the programs, the wrong bodies, the examples.
@@ -43,7 +43,7 @@ wrong-bodies:
 
 # Proves and builds the measuring program, and prints its figures.
 bench:
-	@cd crates/warg_bench && rt run && out/warg_bench measure
+	@python3 scripts/prove_all.py warg_bench && crates/warg_bench/out/proved/warg_bench measure
 
 # Proves and builds the library for C, as ffi/libwarg.a and ffi/libwarg.so.
 ffi:

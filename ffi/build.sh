@@ -8,9 +8,13 @@ kit="$(dirname "$(rt doc)")"
 work="$(mktemp -d)"
 trap 'rm -rf "$work"' EXIT
 
-prove() { (cd crates/warg_ffi && rt lib ${CPU:+--cpu "$CPU"}) > "$work/lib.log" 2>&1 || { tail -20 "$work/lib.log"; exit 1; }; }
-[ "${1:-}" = --as-proved ] || prove
-parts=(crates/warg_ffi/out/libwarg_ffi.a "$kit/c/liblibc_c.a")
+if [ "${1:-}" = --as-proved ]; then
+    library=crates/warg_ffi/out/libwarg_ffi.a
+else
+    python3 scripts/prove_all.py ${CPU:+--cpu "$CPU"} warg_ffi
+    library=crates/warg_ffi/out/proved/libwarg_ffi.a
+fi
+parts=("$library" "$kit/c/liblibc_c.a")
 sed -n 's/^u\{0,1\}int32_t \(warg_[a-z_]*\)(.*/\1/p' ffi/warg.h > "$work/calls"
 { echo '{ global:'; sed 's/$/;/' "$work/calls"; echo 'local: *; };'; } > "$work/version"
 

@@ -17,10 +17,8 @@ settings+=(GOCACHE="$work/cache" GOTMPDIR="$work" XDG_CONFIG_HOME="$work")
 env "${settings[@]}" go list golang.org/x/mod/sumdb/tlog > /dev/null 2>&1 || not_run golang-golang-x-mod-dev
 env "${settings[@]}" go build -o "$work/interop" interop/*.go
 
-built() { (cd "crates/$1" && rt run "${@:2}") > "$work/run.log" 2>&1 || { tail -20 "$work/run.log"; exit 1; }; }
 if [ $# = 0 ]; then
-    built warg_interop < crates/warg_interop/stdin
-    built warg_tlog -- --version < /dev/null
-    programs=(crates/warg_interop/out/warg_interop crates/warg_tlog/out/warg_tlog)
+    python3 scripts/prove_all.py warg_interop warg_tlog
+    programs=(crates/warg_interop/out/proved/warg_interop crates/warg_tlog/out/proved/warg_tlog)
 fi
 "$work/interop" "${programs[@]}"

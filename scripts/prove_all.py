@@ -6,14 +6,18 @@ These three call proved code, and no clause says what they print. The tests and 
 stops at a bad access, an overflow or a failed unwrap; the program that measures has to compile. The vectors of maps that hash
 most are too slow so, and their program is proved and built.
 
-What a check keeps stays in crates/NAME/out: from nothing where nothing is there. With names, proves these crates and what
-they stand on, and builds programs by LLVM alone.
+What a check keeps stays in crates/NAME/out, where the wrong bodies begin: from nothing where nothing is there.
+
+With names, proves these crates and what they stand on, keeps nothing of a proof, and builds programs by LLVM alone: a
+library is built with its statements, which the crates above it read faster than its proofs. What is unchanged since such
+a run, with all below it, isn't proved again.
 
 Usage: prove_all.py [--json FILE] [--cpu CPU] [NAME..]
 """
 
 import argparse
 import concurrent.futures
+import hashlib
 import json
 import os
 import pathlib
@@ -40,12 +44,24 @@ ROOM = 1 << 32
 SECONDS = 600
 KEPT = ["--incremental", "out/incremental"]
 TOOLCHAIN = ["--toolchain", f"{kit.KIT}/toolchain"]
+# What a proof reads of a crate.
+PARTS = ("src", "specs", "proofs")
 # What a try that went to its end says last.
 TRIED_WELL = re.compile(r"^run=ended status=0 runners=\d proved=no$", re.M)
 
 
 class Failed(Exception):
     """Why a crate did not come out."""
+
+
+def sum_of(name, listed):
+    """Returns a sum of all that a crate's proof reads: the kit, and the files of the crate and of those below it."""
+    read = [(kit.KIT / "KIT-ID").read_bytes()]
+    for each in [*kit.below(name, listed), name]:
+        folder = kit.ROOT / "crates" / each
+        files = sorted(it for part in PARTS for it in folder.glob(f"{part}/**/*") if it.is_file())
+        read += [each, listed[each], *((str(it.relative_to(folder)), it.read_bytes()) for it in files)]
+    return hashlib.sha256(repr(read).encode()).hexdigest()
 
 
 class Crate:
@@ -57,6 +73,15 @@ class Crate:
         self.is_program = kit.is_program(name)
         self.has_tests = any("#[test]" in it.read_text() for it in self.folder.glob("src/**/*.rt"))
         self.cpu = ["--cpu", cpu] if cpu else []
+        self.libraries = "out/proved" if is_named else "out/rlib"
+        self.kept = [] if is_named else KEPT
+
+    @property
+    def product(self):
+        """What a build of the crate leaves, in the crate's folder."""
+        if not self.is_program and not kit.is_static(self.name):
+            return f"{self.libraries}/{self.name}.rlib"
+        return ("out/proved/" if self.is_named else "out/") + (self.name if self.is_program else f"lib{self.name}.a")
 
     def call(self, part, words, **how):
         """Runs a command in the crate's folder. Returns its status and what it prints."""
@@ -79,7 +104,7 @@ class Crate:
 
     def build(self, *more):
         """Proves the crate and builds it. The verdict has to rest on no more than it may."""
-        said = self.done("proof", [kit.RATTLE, "build", *kit.words(self.name), "--jobs", "1", "--links", f"{self.name}=", *more])
+        said = self.done("proof", [kit.RATTLE, "build", *kit.words(self.name, self.libraries), "--jobs", "1", "--links", f"{self.name}=", *more])
         verdict = re.search(r"^logic=.*$", said, re.M)
         if not verdict or not VERDICT.fullmatch(verdict[0]):
             raise Failed(f"a verdict that may rest on more: {verdict and verdict[0]}")
@@ -88,9 +113,18 @@ class Crate:
         words = ["--target", "x86_64-unknown-linux-gnu", *TOOLCHAIN, "-o", program, f"{program}.o"]
         self.done("proof", [kit.KIT / "bin/rattle-link", *words, kit.KIT / "c/libos_c.a", kit.KIT / "c/liblibc_c.a"])
 
+    def prove_anew(self):
+        """Proves the crate, unless such a run has proved it as it is and left what it built."""
+        stamp = self.folder / self.libraries / "sum"
+        told = " ".join([sum_of(self.name, kit.crates()), *self.cpu])
+        if not (stamp.is_file() and stamp.read_text() == told and (self.folder / self.product).exists()):
+            stamp.unlink(missing_ok=True)
+            self.prove()
+            stamp.write_text(told)
+
     def prove(self):
         """Proves the crate, and builds and runs what it has."""
-        (self.folder / "out/rlib").mkdir(parents=True, exist_ok=True)
+        (self.folder / self.libraries).mkdir(parents=True, exist_ok=True)
         if self.name in UNPROVED and not self.is_named:
             self.compile()
         elif self.name in TRIED and not self.is_named:
@@ -98,9 +132,9 @@ class Crate:
         elif self.is_program:
             self.prove_program()
         elif kit.is_static(self.name):
-            self.build(*TOOLCHAIN, *KEPT, "-o", f"out/lib{self.name}.a")
+            self.build(*TOOLCHAIN, *self.kept, *self.cpu, "-o", self.product)
         elif self.is_used or not self.has_tests:
-            self.build(*KEPT, "-o", f"out/rlib/{self.name}.rlib")
+            self.build(*(self.kept or ["--statements"]), "-o", self.product)
         if self.has_tests and not self.is_named:
             self.run_tests()
 
@@ -127,10 +161,9 @@ class Crate:
 
     def prove_program(self):
         for backend in ("rattle", "llvm") if self.name in BOTH and not self.is_named else ("llvm",):
-            program = f"out/{self.name}"
-            self.build("--backend", backend, *TOOLCHAIN, *KEPT, *self.cpu, "-o", f"{program}.o")
-            self.link(program)
-            self.run(program, backend)
+            self.build("--backend", backend, *TOOLCHAIN, *self.kept, *self.cpu, "-o", f"{self.product}.o")
+            self.link(self.product)
+            self.run(self.product, backend)
 
     def text(self, name):
         file = self.folder / name
@@ -158,7 +191,7 @@ def prove_all(crates, jobs):
         with room:
             try:
                 if not lacks:
-                    crate.prove()
+                    crate.prove_anew() if crate.is_named else crate.prove()
             except Failed as failed:
                 why = str(failed)
         with printing:

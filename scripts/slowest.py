@@ -20,12 +20,13 @@ LONGEST = 90
 
 
 def part_of(module):
-    """Returns the function or file of lemmas that a module belongs to, and the part of its proof."""
+    """Returns the function or file of lemmas that a module belongs to, and the part of its proof. A part's own modules follow
+    it directly; a type that has the name of a part has a function between."""
     words = module.split(".")
-    for at, word in enumerate(words):
-        kind = word.partition("-")[0]
-        if at and kind in (*PARTS, *OTHERS):
-            return ".".join(words[:at]), PARTS.get(kind, "all else")
+    kinds = [at for at, word in enumerate(words) if at and word.partition("-")[0] in (*PARTS, *OTHERS)]
+    for at in kinds:
+        if kinds[-1] <= at + 1:
+            return ".".join(words[:at]), PARTS.get(words[at].partition("-")[0], "all else")
     return module, "all else"
 
 
