@@ -33,7 +33,7 @@ pub trait SupportedDigest: ByteVisitor {
     /// The digest of the empty tree of `height + 1` levels, given that of `height` levels.
     ///
     /// As provided, it hashes the branch over two trees of `height` levels. A digest that knows
-    /// these values answers without hashing.
+    /// these values returns them without hashing.
     fn empty_above(height: usize, empty: &Hash<Self>) -> Hash<Self>
         requires height { height < 256 }
         requires empty { empty.now ≡ empty_root digest height }
@@ -49,7 +49,7 @@ pub trait SupportedDigest: ByteVisitor {
     /// The digest of the empty tree of `height` levels: `H(00)` at height 0, and at each height above that
     /// of a branch over two trees of the height below.
     ///
-    /// As provided, it goes up from height 0. A digest that knows these values answers without hashing.
+    /// As provided, it goes up from height 0. A digest that knows these values returns them without hashing.
     fn empty_tree(height: usize) -> Hash<Self>
         requires { height ≤ 256 }
         ensures { result ≡ empty_root digest height }

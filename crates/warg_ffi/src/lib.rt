@@ -1,7 +1,7 @@
 //! Verdicts on the proofs in a bundle's bytes, for C and whatever calls C: `warg_check` under SHA-256 as a
 //! static library.
 //!
-//! Each call stands alone. It keeps no state and no pointer, gives back what memory it takes, and answers
+//! Each call stands alone. It keeps no state and no pointer, gives back what memory it takes, and returns
 //! a number: 1 for true, 0 for false, and a negative number for each reason why there is no verdict. The
 //! header `ffi/warg.h` names the numbers, and says what a caller of C has to keep.
 #![tactic(auto)]

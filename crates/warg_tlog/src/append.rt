@@ -37,7 +37,7 @@ pub fn append(rt: &HostRuntime, folder: &Folder) -> Result<(), Refusal> {
     write_checkpoint(rt, folder, text.origin(), checkpoint)
 }
 
-// Adds the entries of standard input to the log, but for its checkpoint, which is the answer.
+// Adds the entries of standard input to the log, but for its checkpoint, which it returns.
 fn append_lines(
     rt: &HostRuntime,
     folder: &Folder,

@@ -22,7 +22,6 @@ use warg_protobuf::{DecodeError, EncodeError, HashEntry, LogProofBundle as Messa
 ///
 /// A bundle that was read from bytes may lack digests, and its proofs may be none that can be evaluated:
 /// their evaluation says so.
-#[derive(Drop)]
 pub struct ProofBundle<D: SupportedDigest, V: VisitBytes, A: Allocator = Global> {
     log_length: u32,
     consistent_lengths: Vec<u32, A>,
@@ -45,6 +44,18 @@ impl<D: SupportedDigest, V: VisitBytes, A: Allocator> Model for ProofBundle<D, V
     } };
 
     ghost invariant = { λ b. IsAscending b.hashes };
+}
+
+// By hand, so that a caller who drops a bundle sees a call and not its parts.
+impl<D: SupportedDigest, V: VisitBytes, A: Allocator> Drop for ProofBundle<D, V, A> {
+    fn drop(self) {
+        let ProofBundle {
+            log_length: _,
+            consistent_lengths: _,
+            included_nodes: _,
+            hashes: _,
+        } = self;
+    }
 }
 
 /// By the length, the old lengths, the nodes and the digests, each in order.
