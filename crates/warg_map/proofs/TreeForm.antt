@@ -1,10 +1,11 @@
 -- The form of the tree.
-use Rattle.std.proofs.Common.{◌≡◌, ℕ, ◌+◌, ◌-◌, ◌<◌, Bool, true, false, List, [], ◌∷◌, ◌++◌, length, refl, sym, ap, ◌∙◌, subst, arith, inl, inr}
+use Rattle.std.proofs.Common.{◌≡◌, ℕ, ◌+◌, ◌-◌, ◌<◌, Bool, true, false, List, [], ◌∷◌, ◌++◌, length, cond, refl, sym, ap, ◌∙◌, subst, arith, inl, inr}
 use Rattle.std.specs.FinMap.{insert, empty, contains_key, get-insert, get-empty}
 use Rattle.std.specs.declared.rc.Rc.{Rc}
 use Rattle.warg_map.specs.declared.node.Node.{Node}
 use Rattle.warg_map.specs.declared.node.Node.TheVariants.{Fork, Singleton, Stem, Empty}
 use Rattle.warg_map.specs.declared.node.Stem.{Stem as Stem'}
+use Rattle.warg_map.specs.declared.node.Fork.{Fork as Fork'}
 use Rattle.warg_map.specs.Bits.{bits_from, last_bits}
 use Rattle.warg_map.specs.Sparse.{SparseMap, bits_cmp}
 use Rattle.warg_map.specs.Private.Under.{join_at, under, HoldsKey, Splits}
@@ -89,6 +90,18 @@ with_longer_stem node lower s link key from len at_node wf sn z high below is =
         formed = rw is (omega (arith, z), stands.0, stands.1);
       };
     })
+
+-- a new fork
+pub with_fork : {D A : _} (b : Bool) (f : Rc (Fork' D A) A) (near far : ℕ × SparseMap) → f.value ≡ record { left = cond b far near; right = cond b near far } → (near.0 ≡ far.0) × (near.0 < 256) → HoldsKey near.1 × HoldsKey far.1
+    → IsSeen (Fork f) (near.0 + 1) (join_at b near.1 far.1)
+with_fork true f near far is level hold = record {
+  seen_as = rw (is, level.0) refl;
+  well_formed = record { level = rw is (sym level.0, omega (arith, level.0, level.1)); formed = rw is (hold.1, hold.0) };
+}
+with_fork false f near far is level hold = record {
+  seen_as = rw is refl;
+  well_formed = record { level = rw is level; formed = rw is hold };
+}
 
 -- a lone key with bits above it
 pub lone_with_stem : (key v : List ℕ) (from len k : ℕ) (below l : ℕ × SparseMap) → from + len + k ≡ 256 → below ≡ (k, insert empty (last_bits key k) v) → l ≡ (below.0 + len, under (bits_from key from len) below.1) → l ≡ (256 - from, insert empty (last_bits key (256 - from)) v)
