@@ -11,7 +11,7 @@ use Rattle.warg_map.specs.Bits.{bit_at, bits_from, last_bits}
 use Rattle.warg_map.specs.Sparse.{SparseMap, bits_cmp}
 use Rattle.warg_map.specs.Private.Lone.{Lone, held_alone}
 use Rattle.warg_map.specs.Private.Under.{join, join_at, under, HoldsKey, Splits}
-use Rattle.warg_map.specs.Private.Grown.{with_leaves, ShareBits, on_side, IsApart, IsPut, IsBesideLeaves}
+use Rattle.warg_map.specs.Private.Grown.{with_leaves, ShareBits, on_side, IsApart, IsPut, IsForkAt, IsBesideLeaves}
 use Rattle.warg_map.specs.Private.Seen.{seen, IsWellFormed, MayCarry}
 use Rattle.warg_map.proofs.BitsInFront.{under-append}
 use Rattle.warg_map.proofs.NodeCounts.{len-join_at, len-lone, len-under}
@@ -158,25 +158,37 @@ pub record IsPutInFork (depth : ℕ) (whole : SparseMap) (es zs os : List Lone) 
   pub few : (inner ≤ length zs) × (outer ≤ length os)
   pub put : (l : ℕ × SparseMap) (count : ℕ) → l ≡ (left.0 + 1, join left.1 right.1) → count ≡ inner + outer → IsPut (256 - depth) whole es l count
 
-pub put_in_fork : {D A : _} (old : Node D A) (f : Rc (Fork' D A) A) (link left right : ℕ × SparseMap) (depth inner outer : ℕ) (es zs os : List Lone) → seen old ≡ link → old ≡ Fork f → IsWellFormed old → link.0 + depth ≡ 256
-    → (zs ≡ on_side depth false es) × (os ≡ on_side depth true es) → IsPut (256 - (depth + 1)) f.value.left.1 zs left inner → IsPut (256 - (depth + 1)) f.value.right.1 os right outer → IsPutInFork depth link.1 es zs os left right inner outer
-put_in_fork old f link left right depth inner outer es zs os sn is wf sum sides x y =
+pub put_in_fork : {D A : _} (f : Fork' D A) (left right : ℕ × SparseMap) (depth inner outer : ℕ) (es zs os : List Lone) → IsForkAt depth f → (zs ≡ on_side depth false es) × (os ≡ on_side depth true es)
+    → IsPut (256 - (depth + 1)) f.left.1 zs left inner → IsPut (256 - (depth + 1)) f.right.1 os right outer → IsPutInFork depth (join f.left.1 f.right.1) es zs os left right inner outer
+put_in_fork f left right depth inner outer es zs os fork sides x y =
+    let r = put_beside false depth f.left.1 f.right.1 left right inner outer es zs os (omega (arith, fork.left_height)) x y sides.0 sides.1 (inl fork.left_holds) (inl fork.right_holds) in
+    record { heights = (r.heights.0, r.heights.1); hold = r.hold; few = r.few; put = λ l count e n. put_same _ _ (join f.left.1 f.right.1) es _ l _ count r.put refl e n }
+
+-- at a fork
+pub in_fork : {D A : _} (old : Node D A) (f : Rc (Fork' D A) A) (link : ℕ × SparseMap) (depth : ℕ) → seen old ≡ link → old ≡ Fork f → IsWellFormed old → link.0 + depth ≡ 256
+    → IsForkAt depth f.value × (join f.value.left.1 f.value.right.1 ≡ link.1)
+in_fork old f link depth sn is wf sum =
     let w : IsWellFormed (Fork f) = rw is at wf in
     let top : seen (Fork f) ≡ link = sym (ap seen is) ∙ sn in
     let h : f.value.left.0 + 1 ≡ link.0 = ap (λ d. d.0) top in
-    let r = put_beside false depth f.value.left.1 f.value.right.1 left right inner outer es zs os (omega (arith, h, sum)) x y sides.0 sides.1 (inl w.formed.0) (inl w.formed.1) in
-    record { heights = (r.heights.0, r.heights.1); hold = r.hold; few = r.few; put = λ l count e n. put_same _ _ link.1 es _ l _ count r.put (sym (ap (λ d. d.1) top)) e n }
+    (record { left_height = omega (arith, h, sum); right_height = omega (arith, h, sum, w.level.0); left_holds = w.formed.0; right_holds = w.formed.1 }, ap (λ d. d.1) top)
 
 -- below a stem
-pub in_stem : {D A : _} (old : Node D A) (s : Rc (Stem' D A) A) (link : ℕ × SparseMap) (depth : ℕ) → seen old ≡ link → old ≡ Stem s → IsWellFormed old → link.0 + depth ≡ 256
-    → under (bits_from s.value.key depth (s.value.from + s.value.len - depth)) s.value.below.1 ≡ link.1
+pub record IsInStem {D A : _} (s : Stem' D A) (depth : ℕ) (held : SparseMap) : Type 0 where
+  pub level : s.from + s.len + s.below.0 ≡ 256
+  pub carries : MayCarry s.key s.below
+  pub place : s.from ≡ depth
+  pub some : 0 < s.len
+  pub same : under (bits_from s.key depth (s.from + s.len - depth)) s.below.1 ≡ held
+
+pub in_stem : {D A : _} (old : Node D A) (s : Rc (Stem' D A) A) (link : ℕ × SparseMap) (depth : ℕ) → seen old ≡ link → old ≡ Stem s → IsWellFormed old → link.0 + depth ≡ 256 → IsInStem s.value depth link.1
 in_stem old s link depth sn is wf sum =
     let w : IsWellFormed (Stem s) = rw is at wf in
     let top : seen (Stem s) ≡ link = sym (ap seen is) ∙ sn in
     let h : s.value.below.0 + s.value.len ≡ link.0 = ap (λ d. d.0) top in
     let at : depth ≡ s.value.from = omega (arith, w.level, h, sum) in
     let len_ : s.value.from + s.value.len - s.value.from ≡ s.value.len = omega arith in
-    rw (at, len_) (ap (λ d. d.1) top)
+    record { level = w.level; carries = w.formed.2; place = sym at; some = w.formed.0; same = rw (at, len_) (ap (λ d. d.1) top) }
 
 pub carries_holds : (key : List ℕ) (below : ℕ × SparseMap) → MayCarry key below → HoldsKey below.1
 carries_holds key below (inl s) = (false ∷ s.0.0, s.0.1)

@@ -4,8 +4,8 @@ ghost use Rattle.std.specs.Prelude.{◌≡◌, ℕ, ◌+◌, ◌-◌, ◌^◌, �
 ghost use Rattle.std.specs.FinMap as map;
 ghost use Rattle.warg_crypto.specs.Sides.{side_bit};
 ghost use Rattle.warg_map.specs.Bits.{bits_from};
-ghost use Rattle.warg_map.specs.Private.Under.{join_at, under, HoldsKey};
-ghost use Rattle.warg_map.specs.Private.Grown.{ShareBits, on_side, IsParting, IsPut, IsBesideLeaves};
+ghost use Rattle.warg_map.specs.Private.Under.{join, join_at, under, HoldsKey};
+ghost use Rattle.warg_map.specs.Private.Grown.{ShareBits, on_side, IsParting, IsPut, IsForkAt, IsBesideLeaves};
 ghost use Rattle.warg_map.specs.Private.Lone.{held_alone};
 ghost use Rattle.warg_map.specs.Private.Seen.{MayCarry};
 
@@ -90,6 +90,14 @@ pub(crate) struct Filled<D: SupportedDigest, A: Allocator> {
 }
 
 impl<D: SupportedDigest, A: Allocator + Copy> Filled<D, A> {
+    // A tree as it is.
+    fn unchanged(link: &Link<D, A>) -> Result<Filled<D, A>, AllocError>
+        ensures { IfOk result (λ p. p ≡ record { link = link.now; fresh = 0 }) }
+    {
+        let link = link.clone()?;
+        Ok(Filled { link, fresh: 0 })
+    }
+
     // The fork of two trees, the first on a side and the second on the other.
     fn beside(
         alloc: A,
@@ -301,6 +309,23 @@ fn spread_stem<D: SupportedDigest, A: Allocator + Copy>(
     }
 }
 
+// As `spread`, at a fork.
+#[cycle(spread)]
+fn spread_fork<D: SupportedDigest, A: Allocator + Copy>(
+    alloc: A,
+    fork: &Fork<D, A>,
+    leaves: Vec<Singleton<D>, A>,
+    depth: usize,
+) -> Result<Filled<D, A>, AllocError>
+    requires { IsForkAt depth fork.now }
+    ensures { IfOk result (λ p. IsPut (256 - depth) (join fork.now.left.1 fork.now.right.1) leaves.items p.link p.fresh) }
+{
+    let (near, far) = parted(alloc, leaves, Side::Left, depth)?;
+    let left = spread(alloc, &fork.left, near, depth + 1)?;
+    let right = spread(alloc, &fork.right, far, depth + 1)?;
+    Filled::beside(alloc, Side::Left, left, right)
+}
+
 /// A link's tree with leaf digests put under their key digests, in order. A branch above several of them is hashed once: a
 /// lone key goes in front of those that meet it, and a stem is cut where the first of them parts from it.
 #[cycle(spread)]
@@ -314,19 +339,12 @@ pub(crate) fn spread<D: SupportedDigest, A: Allocator + Copy>(
     ensures { IfOk result (λ p. IsPut (256 - depth) link.now.1 leaves.items p.link p.fresh) }
 {
     if leaves.is_empty() {
-        let link = link.clone()?;
-        return Ok(Filled { link, fresh: 0 });
+        return Filled::unchanged(link);
     }
     match link.node() {
         Node::Empty => grown(alloc, leaves, depth),
         Node::Singleton(lone) => spread_lone(alloc, lone.as_ref(), leaves, depth),
-        Node::Fork(fork) => {
-            let fork = fork.as_ref();
-            let (near, far) = parted(alloc, leaves, Side::Left, depth)?;
-            let left = spread(alloc, &fork.left, near, depth + 1)?;
-            let right = spread(alloc, &fork.right, far, depth + 1)?;
-            Filled::beside(alloc, Side::Left, left, right)
-        }
+        Node::Fork(fork) => spread_fork(alloc, fork.as_ref(), leaves, depth),
         Node::Stem(stem) => spread_stem(alloc, stem.as_ref(), leaves, depth),
     }
 }

@@ -6,10 +6,11 @@ use Rattle.warg_crypto.specs.Sides.{side_bit}
 use Rattle.warg_map.specs.declared.grown.Filled.{Filled}
 use Rattle.warg_map.specs.declared.grown.Parting.{Parting}
 use Rattle.warg_map.specs.declared.grown.Parting.TheVariants.{Nowhere, Behind}
+use Rattle.warg_map.specs.declared.node.Fork.{Fork}
 use Rattle.warg_map.specs.Bits.{bit_at, bits_from, last_bits}
 use Rattle.warg_map.specs.Sparse.{SparseMap}
 use Rattle.warg_map.specs.Private.Lone.{Lone}
-use Rattle.warg_map.specs.Private.Under.{join_at, under}
+use Rattle.warg_map.specs.Private.Under.{join_at, under, HoldsKey}
 
 -- A map after leaf digests were put under the last k bits of their key digests, in order.
 unfoldable pub with_leaves : ℕ → SparseMap → List Lone → SparseMap
@@ -47,6 +48,13 @@ IsParting key i n es (Behind shared side near far) = IsApart key i n es shared (
 pub record IsPut (k : ℕ) (m : SparseMap) (es : List Lone) (link : ℕ × SparseMap) (fresh : ℕ) : Type 0 where
   pub seen : link ≡ (k, with_leaves k m es)
   pub count : len m + fresh ≡ len link.1
+
+-- A fork below so many bits, with a key on each side.
+pub record IsForkAt {D A : _} (depth : ℕ) (f : Fork D A) : Type 0 where
+  pub left_height : f.left.0 + 1 + depth ≡ 256
+  pub right_height : f.right.0 + 1 + depth ≡ 256
+  pub left_holds : HoldsKey f.left.1
+  pub right_holds : HoldsKey f.right.1
 
 -- A tree beside one of new leaves, below n bits of a key digest from bit i on, with the first on the side of a bit.
 pub record IsBesideLeaves {D A : _} (key : List ℕ) (i n : ℕ) (b : Bool) (near : Filled D A) (far : List Lone) (all : Filled D A) : Type 0 where

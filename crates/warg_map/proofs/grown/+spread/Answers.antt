@@ -3,16 +3,18 @@ use Rattle.std.proofs.lemmas.List.{nil_from_length}
 use Rattle.std.proofs.lemmas.Result.{IfOk-weaker}
 use Rattle.warg_crypto.specs.Sides.{side_bit}
 use Rattle.warg_map.specs.Private.Grown.{IsPut}
+use Rattle.warg_map.specs.Private.Under.{join}
 use Rattle.warg_map.specs.declared.node.Node.TheVariants.{Fork, Singleton, Stem}
 use Rattle.warg_map.proofs.TreeForm.{of_content}
 use Rattle.warg_map.proofs.BitsInFront.{holds-under}
-use Rattle.warg_map.proofs.LeavesBelowNodes.{put_below_bits, put_near, put_beside_leaves, put_none, in_lone, put_in_fork, in_stem, cut_stem, carries_holds, carries_more}
+use Rattle.warg_map.proofs.LeavesBelowNodes.{put_below_bits, put_near, put_beside_leaves, put_none, in_lone, IsPutInFork, put_in_fork, in_fork, in_stem, cut_stem, carries_holds, carries_more}
 use Rattle.warg_map.proofs.grown.+spread.Goals as goal
+use Rattle.warg_map.proofs.grown.+spread.Goals.{spread_fork-In_ok-right}
 
 pub spread-returns-then-is_empty : goal.spread-returns-then-is_empty
 spread-returns-then-is_empty g t c =
     let none = nil_from_length c.args.leaves.items (search rules) in
-    rw c.in_ok-link.ensures.cases (put_none _ _ c.args.leaves.items none (omega (arith, c.requires)))
+    IfOk-weaker c.unchanged.result _ _ (λ p e. rw e (put_none _ _ c.args.leaves.items none (omega (arith, c.requires)))) c.unchanged.ensures
 
 pub spread-returns-in-Empty : goal.spread-returns-in-Empty
 spread-returns-in-Empty g t c = rw (← c.node.ensures.seen, c.in-Empty.is) c.grown.ensures
@@ -24,19 +26,34 @@ spread-spread_lone-requires g t c = (in_lone c.node.result.now _ c.args.link.now
 pub spread-returns-in-Singleton : goal.spread-returns-in-Singleton
 spread-returns-in-Singleton g t c = rw (in_lone c.node.result.now _ c.args.link.now c.args.depth c.node.ensures.seen (of_content Singleton c.in-Singleton.is c.as_ref.ensures) c.requires).1 at c.spread_lone.ensures
 
--- the sides of a fork
-pub spread-beside-requires : goal.spread-beside-requires
-spread-beside-requires g t c =
-    let p = put_in_fork c.node.result.now _ c.args.link.now _ _ c.args.depth _ _ c.args.leaves.items _ _ c.node.ensures.seen (of_content Fork c.in-Fork.is c.as_ref-fork.ensures) c.node.ensures.well_formed c.requires c.in_ok-near-in-Fork.ensures c.in_ok-left-in-Fork.ensures c.in_ok-right-in-Fork.ensures in
-    record { heights = p.heights; hold = p.hold; fits = search (rules, p.few.0, p.few.1) }
+-- a fork
+pub spread-spread_fork-requires : goal.spread-spread_fork-requires
+spread-spread_fork-requires g t c κs within =
+    (omega arith, (within.0, (within.1, (in_fork c.node.result.now _ c.args.link.now c.args.depth c.node.ensures.seen (of_content Fork c.in-Fork.is c.as_ref-in-Fork.ensures) c.node.ensures.well_formed c.requires).0)))
 
-pub spread-returns-in_ok-right-in-Fork : goal.spread-returns-in_ok-right-in-Fork
-spread-returns-in_ok-right-in-Fork g t c =
-    let p = put_in_fork c.node.result.now _ c.args.link.now _ _ c.args.depth _ _ c.args.leaves.items _ _ c.node.ensures.seen (of_content Fork c.in-Fork.is c.as_ref-fork.ensures) c.node.ensures.well_formed c.requires c.in_ok-near-in-Fork.ensures c.in_ok-left-in-Fork.ensures c.in_ok-right-in-Fork.ensures in
-    IfOk-weaker c.beside.result _ _ (λ r e. p.put _ _ (ap (λ x. x.link) e) (ap (λ x. x.fresh) e)) c.beside.ensures
+pub spread-returns-in-Fork : goal.spread-returns-in-Fork
+spread-returns-in-Fork g t c = rw (in_fork c.node.result.now _ c.args.link.now c.args.depth c.node.ensures.seen (of_content Fork c.in-Fork.is c.as_ref-in-Fork.ensures) c.node.ensures.well_formed c.requires).1 at c.spread_fork.ensures
+
+-- a stem
+pub spread-spread_stem-requires : goal.spread-spread_stem-requires
+spread-spread_stem-requires g t c κs within =
+    let p = in_stem c.node.result.now _ c.args.link.now c.args.depth c.node.ensures.seen (of_content Stem c.in-Stem.is c.as_ref-in-Stem.ensures) c.node.ensures.well_formed c.requires in
+    (omega (arith, p.place, p.some), (within.0, (within.1, (p.level, (p.carries, (omega (arith, p.place), omega (arith, p.place)))))))
 
 pub spread-returns-in-Stem : goal.spread-returns-in-Stem
-spread-returns-in-Stem g t c = rw (in_stem c.node.result.now _ c.args.link.now c.args.depth c.node.ensures.seen (of_content Stem c.in-Stem.is c.as_ref-in-Stem.ensures) c.node.ensures.well_formed c.requires) at c.spread_stem.ensures
+spread-returns-in-Stem g t c = rw (in_stem c.node.result.now _ c.args.link.now c.args.depth c.node.ensures.seen (of_content Stem c.in-Stem.is c.as_ref-in-Stem.ensures) c.node.ensures.well_formed c.requires).same at c.spread_stem.ensures
+
+-- the sides of a fork
+sides : (g : _) (t : _) (c : spread_fork-In_ok-right g t) → IsPutInFork c.args.depth (join c.args.fork.now.left.1 c.args.fork.now.right.1) c.args.leaves.items c.in_ok-near.near.items c.in_ok-near.far.items c.in_ok-left.left.link c.in_ok-right.right.link c.in_ok-left.left.fresh c.in_ok-right.right.fresh
+sides g t c = put_in_fork c.args.fork.now _ _ c.args.depth _ _ c.args.leaves.items _ _ c.requires c.in_ok-near.ensures c.in_ok-left.ensures c.in_ok-right.ensures
+
+pub spread_fork-beside-requires : goal.spread_fork-beside-requires
+spread_fork-beside-requires g t c =
+    let p = sides g t (goal.at.spread_fork-beside-requires g t c).In_ok-right in
+    record { heights = p.heights; hold = p.hold; fits = search (rules, p.few.0, p.few.1) }
+
+pub spread_fork-returns : goal.spread_fork-returns
+spread_fork-returns g t c = IfOk-weaker c.beside.result _ _ (λ r e. (sides g t (goal.at.spread_fork-returns g t c).In_ok-right).put _ _ (ap (λ x. x.link) e) (ap (λ x. x.fresh) e)) c.beside.ensures
 
 -- the whole stem
 pub spread_stem-with_stem-requires : goal.spread_stem-with_stem-requires
