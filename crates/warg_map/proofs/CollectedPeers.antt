@@ -192,6 +192,13 @@ collects_beside H whole m height one key d from len k j new run less same apart 
     let up = collects_under H false height 0 a (b ∷ p) (under (c ∷ cs) m) (Some d ∷ []) (λ _ only. absurd (not_lone (under (c ∷ cs) m) (b ∷ p) (holds-under (c ∷ cs) m holds) none only)) base in
     rw (n, parts.held_is, parts.bits_are, under-append a (c ∷ cs) m) (rw (lb, la) at up)
 
+pub collects_apart : (H : List ℕ → List ℕ) (b : Bool) (o : Option Bool) (whole m : SparseMap) (height : ℕ) (one key : List ℕ) (from len k j : ℕ) (new : List (Option (List ℕ))) → IsRun whole height one from len k m → j < len
+    → bits_from one from j ≡ bits_from key from j → ¬ (bit_at one (from + j) ≡ bit_at key (from + j)) → o ≡ then_some b false
+    → MatchOption o (new ≡ []) (λ _. new ≡ Some (sparse_root H (k + (len - (j + 1))) (under (bits_from one (from + (j + 1)) (len - (j + 1))) m)) ∷ empty_halves (empty_half H false) (256 - from - j) j)
+    → MatchOption o (new ≡ []) (λ held. Collects H held height whole (last_bits key (256 - from)) new)
+collects_apart H true o whole m height one key from len k j new run less same apart e n = rw e (collects_beside H whole m height one key _ from len k j new run less same apart refl (rw e at n))
+collects_apart H false o whole m height one key from len k j new run less same apart e n = rw e (rw e at n)
+
 pub lone_far : (H : List ℕ → List ℕ) (one v d : List ℕ) (from len j low : ℕ) → from + len ≡ 256 → j < len → low ≡ len - (j + 1) → d ≡ sparse_root H low (insert empty (last_bits one low) v)
     → d ≡ sparse_root H (0 + (len - (j + 1))) (under (bits_from one (from + (j + 1)) (len - (j + 1))) (insert empty [] v))
 lone_far H one v d from len j low sum less e de =

@@ -9,7 +9,7 @@ use Rattle.warg_map.specs.declared.node.Fork.{Fork as Fork'}
 use Rattle.warg_map.specs.Bits.{bits_from, last_bits}
 use Rattle.warg_map.specs.Sparse.{SparseMap, bits_cmp}
 use Rattle.warg_map.specs.Private.Under.{join_at, under, HoldsKey, Splits}
-use Rattle.warg_map.specs.Private.Seen.{seen, IsWellFormed, IsSeen, IsBelow, MayCarry}
+use Rattle.warg_map.specs.Private.Seen.{seen, IsWellFormed, IsSeen, IsStemOver, IsBelow, MayCarry}
 use Rattle.warg_map.proofs.SparseTree.{bits_total, tied, get-join_true, get-join_false, contains_key-insert_same}
 use Rattle.warg_map.proofs.BitsInFront.{under-append, under-none, under_same, lone-append, get-under_head, no_some}
 use Rattle.warg_map.proofs.KeyBits.{length-bits_from, bits_from-none, bits_from-append, bits_left-split, last_bits-at}
@@ -43,7 +43,7 @@ stem_holds len below (inl s) = (false ∷ s.0.0, s.0.1)
 stem_holds len below (inr o) = (o.2.0, rw o.2.2 (contains_key-insert_same empty o.2.0 o.2.1))
 
 -- what may stand below the bits of a new stem
-stands_below : {D A : _} (node : Node D A) (key : List ℕ) (from len : ℕ) → IsWellFormed node → ((s : Rc (Stem' D A) A) → node ≡ Stem s → ⊥) → ¬ (len ≡ 0) → from + len + (seen node).0 ≡ 256 → MayCarry key (seen node) → IsBelow len (seen node)
+stands_below : {D A : _} (node : Node D A) (key : List ℕ) (from len : ℕ) → IsWellFormed node → ((s : Rc (Stem' D A) A) → node ≡ Stem s → ⊥) → 0 < len → from + len + (seen node).0 ≡ 256 → MayCarry key (seen node) → IsBelow len (seen node)
 stands_below (Fork f) key from len w n z h b = inl (splits_join false f.value.left.1 f.value.right.1 w.formed.0 w.formed.1)
 stands_below (Singleton s) key from len w n z h (inl t) = absurd (lone_no_split _ _ t)
 stands_below (Singleton s) key from len w n z h (inr o) = inr (omega (arith, o.0, h, z), o.0, (_, _, refl))
@@ -54,17 +54,19 @@ stands_below Empty key from len w n z h b = absurd (omega (arith, h, z))
 pub with_no_stem : (link : ℕ × SparseMap) (key : List ℕ) (from len : ℕ) → len ≡ 0 → link ≡ (link.0 + len, under (bits_from key from len) link.1)
 with_no_stem link key from len h = let e : link.0 + 0 ≡ link.0 = omega arith in rw (h, bits_from-none key from, under-none link.1, e)
 
-pub with_new_stem : {D A : _} (node : Node D A) (s : Rc (Stem' D A) A) (link : ℕ × SparseMap) (key : List ℕ) (from len : ℕ) → IsWellFormed node → seen node ≡ link → ((x : Rc (Stem' D A) A) → node ≡ Stem x → ⊥) → ¬ (len ≡ 0) → from + len + link.0 ≡ 256 → MayCarry key link
-    → s.value ≡ record { key = key; from = from; len = len; below = link } → IsSeen (Stem s) (link.0 + len) (under (bits_from key from len) link.1)
+pub with_new_stem : {D A : _} (node : Node D A) (s : Stem' D A) (link : ℕ × SparseMap) (key : List ℕ) (from len : ℕ) → IsWellFormed node → seen node ≡ link → ((x : Rc (Stem' D A) A) → node ≡ Stem x → ⊥) → 0 < len → from + len + link.0 ≡ 256 → MayCarry key link
+    → s ≡ record { key = key; from = from; len = len; below = link } → IsStemOver s (link.0 + len) (under (bits_from key from len) link.1)
 with_new_stem node s link key from len w sn n z h below is =
     let stands = subst (IsBelow len) sn (stands_below node key from len w n z (rw (← sn) at h) (rw (← sn) at below)) in
     record {
-      seen_as = rw is refl;
-      well_formed = record { level = rw is h; formed = rw is (omega (arith, z), stands, below) };
+      level = rw is h;
+      formed = rw is (omega (arith, z), stands, below);
+      height_is = rw is refl;
+      held_is = rw is refl;
     }
 
-pub with_longer_stem : {D A : _} (node : Node D A) (lower s : Rc (Stem' D A) A) (link : ℕ × SparseMap) (key : List ℕ) (from len : ℕ) → node ≡ Stem lower → IsWellFormed node → seen node ≡ link → ¬ (len ≡ 0) → from + len + link.0 ≡ 256 → MayCarry key link
-    → s.value ≡ record { key = key; from = from; len = len + lower.value.len; below = lower.value.below } → IsSeen (Stem s) (link.0 + len) (under (bits_from key from len) link.1)
+pub with_longer_stem : {D A : _} (node : Node D A) (lower : Rc (Stem' D A) A) (s : Stem' D A) (link : ℕ × SparseMap) (key : List ℕ) (from len : ℕ) → node ≡ Stem lower → IsWellFormed node → seen node ≡ link → 0 < len → from + len + link.0 ≡ 256 → MayCarry key link
+    → s ≡ record { key = key; from = from; len = len + lower.value.len; below = lower.value.below } → IsStemOver s (link.0 + len) (under (bits_from key from len) link.1)
 with_longer_stem node lower s link key from len at_node wf sn z high below is =
     let w : IsWellFormed (Stem lower) = rw at_node at wf in
     let top : seen (Stem lower) ≡ link = sym (ap seen at_node) ∙ sn in
@@ -84,11 +86,10 @@ with_longer_stem node lower s link key from len at_node wf sn z high below is =
     let sum : k + (len + l) ≡ k + l + len = omega arith in
     let stands = elim w.formed.1 as (λ _. IsBelow (len + l) (k, m) × MayCarry key (k, m)) [ inl s ↦ (inl s, inl s) | inr o ↦ absurd (omega (arith, o.0, o.1, z, h)) ] in
     rw (← top) (record {
-      seen_as = rw (is, bits_from-append key from len l, under-append (bits_from key from len) (bits_from key (from + len) l) m, same, sum) refl;
-      well_formed = record {
-        level = rw is (omega (arith, h));
-        formed = rw is (omega (arith, z), stands.0, stands.1);
-      };
+      level = rw is (omega (arith, h));
+      formed = rw is (omega (arith, z), stands.0, stands.1);
+      height_is = rw is sum;
+      held_is = rw (is, bits_from-append key from len l, under-append (bits_from key from len) (bits_from key (from + len) l) m, same) refl;
     })
 
 -- a new fork

@@ -148,21 +148,7 @@ impl<D: SupportedDigest, A: Allocator + Copy> Filled<D, A> {
             return Ok(self);
         }
         let Filled { link, fresh } = self;
-        let key = key.copied();
-        let stem = match link.node() {
-            Node::Stem(lower) => Stem {
-                key,
-                from,
-                len: len + lower.len,
-                below: lower.below.clone()?,
-            },
-            _ => Stem {
-                key,
-                from,
-                len,
-                below: link,
-            },
-        };
+        let stem = Stem::above(link, key, from, len)?;
         let link = Link::new(Node::Stem(Rc::new(alloc, stem)?));
         Ok(Filled { link, fresh })
     }

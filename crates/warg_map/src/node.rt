@@ -66,6 +66,44 @@ pub struct Stem<D: SupportedDigest, A: Allocator = Global> {
     pub(crate) below: Link<D, A>,
 }
 
+impl<D: SupportedDigest, A: Allocator> Stem<D, A> {
+    ghost use Rattle.std.specs.Prelude.{IfOk};
+    ghost use Rattle.warg_map.specs.Private.Under.{under};
+    ghost use Rattle.warg_map.specs.Private.Seen.{MayCarry, IsStemOver};
+
+    /// The stem of `len` bits of `key` above a tree, from bit `from` on. It takes in a stem that is the top of the tree.
+    pub(crate) fn above(
+        link: Link<D, A>,
+        key: &Hash<D>,
+        from: usize,
+        len: usize,
+    ) -> Result<Stem<D, A>, AllocError>
+        requires some { 0 < len }
+        requires height { from + len + link.0 ≡ 256 }
+        requires below { MayCarry key.now link }
+        ensures { IfOk result (λ s. IsStemOver s (link.0 + len) (under (bits_from key.now from len) link.1)) }
+    {
+        if let Node::Stem(lower) = link.node() {
+            let len = len + lower.len;
+            let below: Result<_, _> = lower.below.clone();
+            drop(link);
+            let below = below?;
+            return Ok(Stem {
+                key: key.copied(),
+                from,
+                len,
+                below,
+            });
+        }
+        Ok(Stem {
+            key: key.copied(),
+            from,
+            len,
+            below: link,
+        })
+    }
+}
+
 /// The digest of the tree in which `len` bits of `key`, from bit `from` on, lead down to a tree with digest `below`, and
 /// all beside them is empty.
 pub(crate) fn stem_digest<D: SupportedDigest>(

@@ -5,9 +5,9 @@ ghost use Rattle.std.specs.FinMap as map;
 ghost use Rattle.warg_map.specs.Bits.{last_bits};
 ghost use Rattle.warg_map.specs.Private.Lone.{held_alone};
 ghost use Rattle.warg_map.specs.Private.Seen.{tree_height, held_by, IsWellFormed};
-ghost use Rattle.warg_map.specs.Private.Walk.{is_of_absence, is_of_leaf, answer_of, empty_half, empty_halves, Collects};
+ghost use Rattle.warg_map.specs.Private.Walk.{is_of_absence, is_of_leaf, answer_of, empty_half, empty_halves, peers_beside, Collects};
 
-use crate::node::{Node, stem_digest};
+use crate::node::{Node, Stem, stem_digest};
 use crate::path::{shared_bits, side_at};
 use crate::singleton::Singleton;
 use std::alloc::{AllocError, Allocator};
@@ -160,6 +160,31 @@ fn collect_lone<D: SupportedDigest, A: Allocator>(
     to.peers.reserve_exact(depth)
 }
 
+// As `Node::collect`, at a stem from which the bits part after `shared` of its own.
+fn collect_beside<D: SupportedDigest, A: Allocator>(
+    stem: &Stem<D, A>,
+    shared: usize,
+    to: &mut Collected<D, A>,
+) -> Result<(), AllocError>
+    requires level { stem.now.from + stem.now.len + stem.now.below.0 ≡ 256 }
+    requires shared { shared < stem.now.len }
+    requires unknown { to.old.held ≡ None }
+    requires none { to.old.peers.items ≡ [] }
+    ensures answer { to.new.held ≡ answer_of D.digest to.old.asked None }
+    ensures refused { OnErr result (IsSome to.new.held) }
+    ensures peers { let new = to.new.peers.items in
+        OnOk result (MatchOption to.new.held (new ≡ []) (λ _. new ≡ peers_beside D.digest stem.now shared)) }
+{
+    if !to.asked.is_of_absence() {
+        return Ok(());
+    }
+    to.held = Some(false);
+    let cut = shared + 1;
+    let below = stem.below.hash();
+    let far = stem_digest(&stem.key, stem.from + cut, stem.len - cut, below);
+    push_beside(&mut to.peers, far, stem.from, shared)
+}
+
 impl<D: SupportedDigest, A: Allocator> Node<D, A> {
     /// Collects, of the bits of a key digest from bit `depth` on, whether they are held, and then their peers: beside bits
     /// that are held an empty half is written as its digest, and else as `None`. Where no proof is asked for of what is
@@ -197,14 +222,7 @@ impl<D: SupportedDigest, A: Allocator> Node<D, A> {
                 let stem = stem.as_ref();
                 let shared = shared_bits(&stem.key, key, depth, stem.len);
                 if shared < stem.len {
-                    if !to.asked.is_of_absence() {
-                        return Ok(());
-                    }
-                    to.held = Some(false);
-                    let cut = shared + 1;
-                    let below = stem.below.hash();
-                    let far = stem_digest(&stem.key, stem.from + cut, stem.len - cut, below);
-                    return push_beside(&mut to.peers, far, depth, shared);
+                    return collect_beside(stem, shared, to);
                 }
                 stem.below.node().collect(key, depth + stem.len, to)?;
                 to.push_empty(depth, stem.len)

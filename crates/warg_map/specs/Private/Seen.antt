@@ -3,6 +3,7 @@ use Rattle.std.specs.Prelude.{◌≡◌, ℕ, ◌+◌, ◌≤◌, ◌<◌, List,
 use Rattle.std.specs.FinMap.{empty, len, contains_key}
 use Rattle.warg_map.specs.declared.node.Node.{Node}
 use Rattle.warg_map.specs.declared.node.Node.TheVariants.{Fork, Singleton, Stem, Empty}
+use Rattle.warg_map.specs.declared.node.Stem.{Stem as Stem'}
 use Rattle.warg_map.specs.Bits.{bits_from, last_bits}
 use Rattle.warg_map.specs.Sparse.{SparseMap}
 use Rattle.warg_map.specs.Count.{nodes}
@@ -59,6 +60,13 @@ pub record IsWellFormed {D A : _} (n : Node D A) : Type 0 where
 pub record IsSeen {D A : _} (n : Node D A) (height : ℕ) (held : SparseMap) : Type 0 where
   pub seen_as : seen n ≡ (height, held)
   pub well_formed : IsWellFormed n
+
+-- A stem that may stand in a map's tree, with this height and this map.
+pub record IsStemOver {D A : _} (s : Stem' D A) (height : ℕ) (held : SparseMap) : Type 0 where
+  pub level : s.from + s.len + s.below.0 ≡ 256
+  pub formed : (0 < s.len) × IsBelow s.len s.below × MayCarry s.key s.below
+  pub height_is : s.below.0 + s.len ≡ height
+  pub held_is : under (bits_from s.key s.from s.len) s.below.1 ≡ held
 
 -- How many nodes the tree of a height over a map has: one where it holds no key; one for a lone key, and two in the whole tree; and else those of the plain tree that are kept.
 abbrev pub counted : ℕ → SparseMap → ℕ

@@ -1,13 +1,16 @@
 -- What is collected on the way down a key's bits.
-use Rattle.std.specs.Prelude.{◌≡◌, ℕ, zero, suc, ◌+◌, Bool, true, false, cond, nat_eq, ◌⊎◌, IsTrue, List, [], ◌∷◌, ◌++◌, length, reverse, Option, Some, None}
+use Rattle.std.specs.Prelude.{◌≡◌, ℕ, zero, suc, ◌+◌, ◌-◌, Bool, true, false, cond, nat_eq, ◌⊎◌, IsTrue, List, [], ◌∷◌, ◌++◌, length, reverse, Option, Some, None}
 use Rattle.std.specs.Bool.{then_some}
 use Rattle.std.specs.Cmp.Lexicographic.{pointwise}
 use Rattle.std.specs.FinMap.{get, contains_key}
 use Rattle.warg_crypto.specs.EmptyTrees.{empty_root}
 use Rattle.warg_map.specs.declared.walk.Asked.{Asked}
 use Rattle.warg_map.specs.declared.walk.Asked.TheVariants.{Presence, EmptyLeaf, Either}
-use Rattle.warg_map.specs.Sparse.{SparseMap}
+use Rattle.warg_map.specs.declared.node.Stem.{Stem}
+use Rattle.warg_map.specs.Bits.{bits_from}
+use Rattle.warg_map.specs.Sparse.{SparseMap, sparse_root}
 use Rattle.warg_map.specs.Peers.{IsPeers, shared, lone_peers}
+use Rattle.warg_map.specs.Private.Under.{under}
 
 -- Whether a proof is asked for where nothing is held.
 abbrev pub is_of_absence : Asked → Bool
@@ -34,6 +37,12 @@ empty_half H held k = cond held (Some (empty_root H k)) None
 unfoldable pub empty_halves : (ℕ → Option (List ℕ)) → ℕ → ℕ → List (Option (List ℕ))
 empty_halves half k zero = []
 empty_halves half k (suc n) = empty_halves half k n ++ half (k + n) ∷ []
+
+-- The peers of bits that part from a stem after so many of its own: what lies below it there, and empty halves above.
+abbrev pub peers_beside : {D A : _} → (List ℕ → List ℕ) → Stem D A → ℕ → List (Option (List ℕ))
+peers_beside H s n =
+    let rest = s.len - (n + 1) in
+    Some (sparse_root H (s.below.0 + rest) (under (bits_from s.key (s.from + (n + 1)) rest) s.below.1)) ∷ empty_halves (empty_half H false) (256 - s.from - n) n
 
 -- No other bits are held, and there are `lone` peers; or others are that share all but one of as many bits as there are peers.
 abbrev pub Reaches : ℕ → SparseMap → List Bool → ℕ → Type 0

@@ -3,13 +3,13 @@ use Rattle.std.proofs.lemmas.Result.{on_ok_weaker}
 use Rattle.std.specs.FinMap.{get, get-empty}
 use Rattle.warg_map.specs.Bits.{last_bits}
 use Rattle.warg_map.specs.Private.Seen.{held_by}
+use Rattle.warg_map.specs.Private.Walk.{is_of_absence}
 use Rattle.warg_map.specs.declared.node.Node.TheVariants.{Fork, Stem}
 use Rattle.warg_map.proofs.TreeForm.{of_content}
 use Rattle.warg_map.proofs.FoundInNode.{finds_in_fork, run_of_stem, found_below, found_apart}
-use Rattle.warg_map.proofs.StemRoots.{root-stem}
-use Rattle.warg_map.proofs.CollectedPeers.{collects_fork, collects_none, collects_run, collects_beside}
+use Rattle.warg_map.proofs.CollectedPeers.{collects_fork, collects_none, collects_run, collects_apart}
 use Rattle.warg_map.proofs.node.Node.+collect.Goals as goal
-use Rattle.warg_map.proofs.node.Node.+collect.Goals.{After-node, After-is_of_absence-then-shared-stem, After-node-in-Stem}
+use Rattle.warg_map.proofs.node.Node.+collect.Goals.{After-node, After-collect_beside, After-node-in-Stem}
 
 -- the child holds what the fork does
 child : (g : _) (t : _) (c : After-node g t) → get (held_by c.args.self.now) (last_bits c.args.key.now (256 - c.args.depth)) ≡ get (held_by c.node.result.now) (last_bits c.args.key.now (256 - (c.args.depth + 1)))
@@ -19,7 +19,7 @@ child g t c =
     sym (finds_in_fork c.args.self.now c.node.result.now _ c.args.key.now _ c.args.depth is (omega (arith, high)) c.side_at-side.ensures (c.node.ensures.seen ∙ c.index.ensures))
 
 -- the bits part from those of the stem
-apart : (g : _) (t : _) (c : After-is_of_absence-then-shared-stem g t) → get (held_by c.args.self.now) (last_bits c.args.key.now (256 - c.args.depth)) ≡ None
+apart : (g : _) (t : _) (c : After-collect_beside g t) → get (held_by c.args.self.now) (last_bits c.args.key.now (256 - c.args.depth)) ≡ None
 apart g t c =
     let run = run_of_stem c.args.self.now _ c.args.depth (of_content Stem c.in-Stem.is c.as_ref-stem.ensures) c.requires.well_formed c.requires.height in
     found_apart _ _ _ c.args.key.now c.args.depth _ _ _ _ run.1 c.if-shared-stem.true c.shared_bits-shared.ensures.same (c.shared_bits-shared.ensures.apart c.if-shared-stem.true)
@@ -40,22 +40,22 @@ returns-in-Empty-clause-peers g t c = rw (c.in-Empty.is, c.then_some-to.ensures)
 pub returns-in_err-collect-in-Fork-clause-answer : goal.returns-in_err-collect-in-Fork-clause-answer
 returns-in_err-collect-in-Fork-clause-answer g t c = rw (child g t (goal.at.returns-in_err-collect-in-Fork-clause-answer g t c).After-node) c.collect.ensures.answer
 
-pub returns-then-not-is_of_absence-clause-answer : goal.returns-then-not-is_of_absence-clause-answer
-returns-then-not-is_of_absence-clause-answer g t c = rw (apart g t (goal.at.returns-then-not-is_of_absence-clause-answer g t c).After-is_of_absence-then-shared-stem) (search rules)
+pub collect_beside-requires : goal.collect_beside-requires
+collect_beside-requires g t c =
+    let formed = rw (of_content Stem c.in-Stem.is c.as_ref-stem.ensures) at c.requires.well_formed in
+    record { level = formed.level; shared = c.if-shared-stem.true; unknown = c.requires.unknown; none = c.requires.none }
 
-pub returns-then-shared-stem-clause-answer : goal.returns-then-shared-stem-clause-answer
-returns-then-shared-stem-clause-answer g t c = rw (apart g t (goal.at.returns-then-shared-stem-clause-answer g t c).After-is_of_absence-then-shared-stem) (search rules)
-
-pub returns-then-shared-stem-clause-peers : goal.returns-then-shared-stem-clause-peers
-returns-then-shared-stem-clause-peers g t c =
+pub returns-then-shared-stem : goal.returns-then-shared-stem
+returns-then-shared-stem g t c =
     let run = run_of_stem c.args.self.now _ c.args.depth (of_content Stem c.in-Stem.is c.as_ref-stem.ensures) c.requires.well_formed c.requires.height in
     let less = c.if-shared-stem.true in
     let shared = c.shared_bits-shared.ensures in
-    let s = c.as_ref-stem.result.now in
-    let cut = c.shared_bits-shared.result + 1 in
-    let z : 256 - (c.as_ref-stem.result.now.from + (c.shared_bits-shared.result + 1) + (c.as_ref-stem.result.now.len - (c.shared_bits-shared.result + 1))) ≡ c.as_ref-stem.result.now.below.0 = omega (arith, run.0, run.1.whole) in
-    let far = c.stem_digest-far.ensures ∙ root-stem g.D.SupportedDigest.digest _ s.key _ s.below.0 (s.from + cut) (s.len - cut) s.below.1 z c.hash-below.ensures in
-    on_ok_weaker _ (λ added. collects_beside g.D.SupportedDigest.digest _ _ _ _ c.args.key.now _ c.args.depth _ _ _ _ run.1 less shared.same (shared.apart less) (rw run.0 at far) (rw c.requires.none at added)) c.push_beside.ensures
+    record {
+      answer = rw (apart g t (goal.at.returns-then-shared-stem g t c).After-collect_beside) c.collect_beside.ensures.answer;
+      refused = c.collect_beside.ensures.refused;
+      peers = on_ok_weaker c.collect_beside.result (λ added. collects_apart g.D.SupportedDigest.digest (is_of_absence c.args.to.now.asked) c.collect_beside.new.to.held _ _ _ _ c.args.key.now c.args.depth _ _ _ _ run.1 less shared.same (shared.apart less)
+          c.collect_beside.ensures.answer (rw run.0 at added)) c.collect_beside.ensures.peers;
+    }
 
 pub returns-in_err-collect-in-Stem-clause-answer : goal.returns-in_err-collect-in-Stem-clause-answer
 returns-in_err-collect-in-Stem-clause-answer g t c = rw (below g t (goal.at.returns-in_err-collect-in-Stem-clause-answer g t c).After-node-in-Stem) c.collect-in-Stem.ensures.answer
