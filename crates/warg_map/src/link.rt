@@ -14,7 +14,6 @@ use warg_crypto::{Hash, Side, SupportedDigest, hash_branch};
 ///
 /// Contracts see a link as the height of its node and the map that the node stands for.
 #[cycle(tree)]
-#[derive(Drop)]
 pub struct Link<D: SupportedDigest, A: Allocator = Global> {
     hash: Hash<D>,
     node: Node<D, A>,
@@ -41,6 +40,14 @@ impl<D: SupportedDigest, A: Allocator> Model for Link<D, A> {
     ghost use Rattle.std.proofs.Common.{arith};
 
     ghost size_decreases = { λ a h. Prim.grind arith };
+}
+
+// By hand, so that a caller who drops a link sees a call and not the tree.
+impl<D: SupportedDigest, A: Allocator> Drop for Link<D, A> {
+    #[cycle(tree)]
+    fn drop(self) {
+        let Link { hash: _, node: _ } = self;
+    }
 }
 
 impl<D: SupportedDigest, A: Allocator> Link<D, A> {
