@@ -34,6 +34,18 @@ push_near at b es e h = grind (arith, on_side-push at b es e, on_side-push at (n
 pub push_far : (at : ℕ) (b : Bool) (es : List Lone) (e : Lone) → ¬ (bit_at e.key at ≡ b) → (on_side at b (es ++ e ∷ []) ≡ on_side at b es) × (on_side at (not b) (es ++ e ∷ []) ≡ on_side at (not b) es ++ e ∷ [])
 push_far at b es e h = grind (arith, on_side-push at b es e, on_side-push at (not b) es e, append-nil (on_side at b es))
 
+pub on_side-append : (at : ℕ) (b : Bool) (es os : List Lone) → on_side at b (es ++ os) ≡ on_side at b es ++ on_side at b os
+unfolding on_side
+on_side-append at b es os = filter-append (λ x. is_bit b (bit_at x.key at)) es os
+
+pub one_near : (at : ℕ) (b : Bool) (e : Lone) → bit_at e.key at ≡ b → (on_side at b (e ∷ []) ≡ e ∷ []) × (on_side at (not b) (e ∷ []) ≡ [])
+unfolding on_side
+one_near at b e h = push_near at b [] e h
+
+pub one_far : (at : ℕ) (b : Bool) (e : Lone) → ¬ (bit_at e.key at ≡ b) → (on_side at b (e ∷ []) ≡ []) × (on_side at (not b) (e ∷ []) ≡ e ∷ [])
+unfolding on_side
+one_far at b e h = push_far at b [] e h
+
 -- leaves of both sides of a bit
 pub with_leaves-join_at : (b : Bool) (at k : ℕ) → at + 1 + k ≡ 256 → (x y : SparseMap) (es : List Lone) → with_leaves (k + 1) (join_at b x y) es ≡ join_at b (with_leaves k x (on_side at b es)) (with_leaves k y (on_side at (not b) es))
 unfolding with_leaves on_side

@@ -1,6 +1,6 @@
 //! Leaves that are put into a tree, in order, so that a branch above several of them is hashed once.
 
-ghost use Rattle.std.specs.Prelude.{◌≡◌, ℕ, ◌+◌, ◌-◌, ◌^◌, ◌<◌, ◌≤◌, List, not, length, IfOk};
+ghost use Rattle.std.specs.Prelude.{◌≡◌, ℕ, ◌+◌, ◌-◌, ◌^◌, ◌<◌, ◌≤◌, List, [], ◌∷◌, ◌++◌, not, length, IfOk, OnOk};
 ghost use Rattle.std.specs.FinMap as map;
 ghost use Rattle.warg_crypto.specs.Sides.{side_bit};
 ghost use Rattle.warg_map.specs.Bits.{bits_from};
@@ -17,6 +17,26 @@ use std::alloc::{AllocError, Allocator};
 use std::rc::Rc;
 use warg_crypto::{Hash, Side, SupportedDigest};
 
+// Puts a leaf behind the near ones where its key digest goes to a side at a place, and else behind the far ones.
+fn push_by_side<D: SupportedDigest, A: Allocator>(
+    leaf: Singleton<D>,
+    side: Side,
+    at: usize,
+    near: &mut Vec<Singleton<D>, A>,
+    far: &mut Vec<Singleton<D>, A>,
+) -> Result<(), AllocError>
+    requires { at < 256 }
+    ensures { OnOk result ((near.new.items ≡ near.old.items ++ on_side at (side_bit side) (leaf ∷ []))
+        × (far.new.items ≡ far.old.items ++ on_side at (not (side_bit side)) (leaf ∷ []))) }
+{
+    if side_at(leaf.key(), at) == side {
+        near.push(leaf)?;
+        return Ok(());
+    }
+    far.push(leaf)?;
+    Ok(())
+}
+
 // The leaves whose key digests go to a side at a place, and the others, each in their order.
 fn parted<D: SupportedDigest, A: Allocator + Copy>(
     alloc: A,
@@ -31,11 +51,7 @@ fn parted<D: SupportedDigest, A: Allocator + Copy>(
     let mut near = Vec::new(alloc);
     let mut far = Vec::new(alloc);
     for leaf in leaves {
-        if side_at(leaf.key(), at) == side {
-            near.push(leaf)?;
-        } else {
-            far.push(leaf)?;
-        }
+        push_by_side(leaf, side, at, &mut near, &mut far)?;
     }
     Ok((near, far))
 }
