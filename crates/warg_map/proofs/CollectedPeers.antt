@@ -1,8 +1,12 @@
 -- The peers that are collected on the way down.
 use Rattle.std.proofs.Common.{◌≡◌, ℕ, zero, suc, ◌+◌, ◌-◌, ◌<◌, ◌≤◌, Bool, true, false, cond, not, List, [], ◌∷◌, ◌++◌, length, Option, Some, None, is_some, refl, sym, ap, ◌∙◌, subst, arith, add-one, inl, inr, IsTrue, append_assoc, length-append}
 use Rattle.std.proofs.lemmas.List.{reverse-append, length-reverse, append-nil, append_cancel_left, length_push}
-use Rattle.std.proofs.lemmas.Bool.{ne_eqb}
-use Rattle.std.specs.Prelude.{reverse, IsSome, MatchOption}
+use Rattle.std.proofs.lemmas.Bool.{ne_eqb, cases_Bool}
+use Rattle.std.proofs.lemmas.Bool.Decides.{Decides-eqb}
+use Rattle.std.specs.Cmp.Lexicographic.{pointwise, pointwise_decides}
+use Rattle.std.specs.Option.{option_and}
+use Rattle.std.specs.Prelude.{◌↔◌, ◌≢◌, nat_eq, unwrap_or, reverse, IsSome, MatchOption}
+use Rattle.warg_crypto.specs.EmptyTrees.{empty_root}
 use Rattle.std.specs.Bool.{then_some}
 use Rattle.std.specs.FinMap.{insert, empty, contains_key, get, get-empty}
 use Rattle.std.specs.declared.rc.Rc.{Rc}
@@ -10,6 +14,7 @@ use Rattle.warg_map.specs.declared.node.Node.{Node}
 use Rattle.warg_map.specs.declared.node.Node.TheVariants.{Fork}
 use Rattle.warg_map.specs.declared.node.Fork.{Fork as Fork'}
 use Rattle.warg_map.specs.declared.walk.Asked.{Asked}
+use Rattle.warg_map.specs.declared.walk.Asked.TheVariants.{EmptyLeaf}
 use Rattle.warg_map.specs.Bits.{bit_at, last_bits, bits_from}
 use Rattle.warg_map.specs.Sparse.{SparseMap, bits_cmp, sparse_root}
 use Rattle.warg_map.specs.Private.Under.{join_at, under, HoldsKey}
@@ -75,6 +80,17 @@ proves_asked H asked (Some held) child m bits peers at n e c =
     let all : Collects H held 256 m bits peers = rw at at c in
     let same : held ≡ is_some (get m bits) = sym (answered H asked (get m bits) held (rw at at e)) in
     (few_collected H _ (get m) bits peers all.peers_from_top n, λ _. proves_found H m bits peers (get m bits) refl (rw same at all))
+
+-- an empty leaf, held or not
+pub asked_of_empty : {P : Type 0} (H : List ℕ → List ℕ) (leaf : Option (List ℕ)) (o : Option Bool) (given : Option P) (p : P) → o ≡ answer_of H EmptyLeaf leaf → given ≡ option_and o (Some p)
+    → (IsSome given ↔ (unwrap_or leaf (empty_root H 0) ≡ empty_root H 0)) × (unwrap_or leaf (empty_root H 0) ≢ empty_root H 0 → given ≡ None)
+asked_of_empty H None o given p a e = rw (e, a) ((λ _. refl, λ _. refl), λ n. absurd (n refl))
+asked_of_empty H (Some l) o given p a e =
+    let d = pointwise_decides Decides-eqb l (empty_root H 0) in
+    rw (e, a) (elim (cases_Bool (pointwise nat_eq l (empty_root H 0))) [
+      | inl y ↦ rw y ((λ _. d.0 y, λ _. refl), λ n. absurd (n (d.0 y)))
+      | inr n ↦ rw n ((λ is. absurd (cc is), λ same. absurd (cc (d.1 same))), λ _. refl)
+    ])
 
 -- one bit up
 peers_up : (H : List ℕ → List ℕ) (half : ℕ → Option (List ℕ)) (b : Bool) (near far : SparseMap) (p : List Bool) (ps : List (Option (List ℕ))) (x : Option (List ℕ)) → IsPeer H (half (length p)) (length p) (get far) x → IsPeers H half (get near) p (reverse ps) → IsPeers H half (get (join_at b near far)) (b ∷ p) (reverse (ps ++ x ∷ []))
