@@ -1,7 +1,7 @@
 -- How many keys are held, and how many bits each has.
-use Rattle.std.proofs.Common.{◌≡◌, ℕ, Bool, false, List, length, ap, ◌∙◌, inl, inr}
+use Rattle.std.proofs.Common.{◌≡◌, ℕ, ◌-◌, ◌^◌, ◌≤◌, Bool, false, List, length, ap, ◌∙◌, inl, inr, arith}
 use Rattle.std.proofs.lemmas.Bool.{cases_Bool}
-use Rattle.std.specs.FinMap.{insert, empty, contains_key, get-insert}
+use Rattle.std.specs.FinMap.{insert, empty, contains_key, len, get-insert, len-insert}
 use Rattle.std.specs.Ordering.{eq_by_cmp}
 use Rattle.warg_map.specs.Sparse.{SparseMap, HasLevels, bits_cmp}
 use Rattle.warg_map.proofs.SparseTree.{bits_total, contains_key-empty, tied}
@@ -14,3 +14,12 @@ levels-insert m bits v n h = λ other held. elim (cases_Bool (eq_by_cmp bits_cmp
   | inl same ↦ ap length (tied other bits same) ∙ n
   | inr apart ↦ h other (rw (get-insert bits_total m bits v other, apart) at held)
 ]
+
+-- a map that isn't full, or holds the key, has room for it
+pub fits-insert : (m : SparseMap) (bits : List Bool) (v : List ℕ) → len m ≤ 2 ^ 64 - 1 → ¬ ((len m ≡ 2 ^ 64 - 1) × (contains_key m bits ≡ false)) → len (insert m bits v) ≤ 2 ^ 64 - 1
+fits-insert m bits v few room =
+    let one = len-insert bits_total m bits v in
+    elim (cases_Bool (contains_key m bits)) [
+      | inl held ↦ omega (arith, rw held at one, few)
+      | inr new ↦ (let less : ¬ (len m ≡ 2 ^ 64 - 1) = λ e. room (e, new) in omega (arith, rw new at one, few, less))
+    ]

@@ -9,8 +9,8 @@ ghost use Rattle.warg_crypto.specs.EmptyTrees.{empty_root};
 ghost use Rattle.warg_crypto.specs.Tree.{leaf_digest};
 ghost use Rattle.warg_map.specs.Sparse.{HasLevels, sparse_root, leaf_at};
 ghost use Rattle.warg_map.specs.Peers.{Proves, ProvesEmpty};
-ghost use Rattle.warg_map.specs.Private.Grown.{with_leaves};
-ghost use Rattle.warg_map.specs.Private.Walk.{answer_of};
+ghost use Rattle.warg_map.specs.Private.Grown.{with_leaves, AreLeavesOf};
+ghost use Rattle.warg_map.specs.Private.Walk.{answer_of, IsOneTooMany};
 ghost use Rattle.warg_map.specs.Count.{node_count};
 
 mod insertion;
@@ -254,27 +254,6 @@ impl<D: SupportedDigest, K: VisitBytes + Drop, V: VisitBytes + Drop, A: Allocato
         Ok(answer.and(Some(proof)))
     }
 
-    // Whether a key digest is held, with the proof of that, if one is asked for. Else the proof has no peers, and no memory
-    // is taken.
-    pub(crate) fn proof_of(
-        &self,
-        key: &Hash<D>,
-        asked: Asked,
-    ) -> Result<(Option<bool>, Proof<D, K, V, A>), AllocError>
-        ensures answer { let answer = answer_of D.digest asked (map.get self.now (last_bits key.now 256)) in
-            MatchResult result (λ r. r.0 ≡ answer) (λ _. IsSome answer) }
-        ensures proof { let bits = last_bits key.now 256 in
-            IfOk result (λ r. IsSome r.0 → ProvesEmpty D.digest self.now bits r.1) }
-    {
-        let mut to = Collected {
-            asked,
-            held: None,
-            peers: Vec::new(self.alloc),
-        };
-        self.link.node().collect(key, 0, &mut to)?;
-        Ok((to.held, Proof::new(to.peers)))
-    }
-
     /// The map with `val` under `key`, in place of what was held under the key's digest.
     ///
     /// `Full` comes exactly for a new key digest where `len` is `usize::MAX`, before anything grows.
@@ -286,37 +265,6 @@ impl<D: SupportedDigest, K: VisitBytes + Drop, V: VisitBytes + Drop, A: Allocato
             × (map.contains_key self.now (key_bits D.digest (K.bytes key)) ≡ false)) }
     {
         self.with_leaf(&Hash::of(&key), hash_leaf(&val))
-    }
-
-    // The map with a leaf digest under a key digest.
-    fn with_leaf(&self, key: &Hash<D>, leaf: Hash<D>) -> Result<Map<D, K, V, A>, MapError>
-        ensures ok { IfOk result (λ m. m ≡ map.insert self.now (last_bits key.now 256) leaf) }
-        ensures full { (result ≡ Err MapError.Full)
-            ↔ ((map.len self.now ≡ usize.MAX)
-            × (map.contains_key self.now (last_bits key.now 256) ≡ false)) }
-    {
-        // Where the key isn't held, this takes no memory.
-        if self.count == usize::MAX && self.proof_of(key, Asked::Presence)?.0.is_none() {
-            return Err(MapError::Full);
-        }
-        let mut leaves = Vec::with_capacity(self.alloc, 1)?;
-        leaves.push_reserved(Singleton::leaf(key.copied(), leaf));
-        Ok(self.with_leaves(leaves)?)
-    }
-
-    // The map with leaf digests put under their key digests, in order.
-    fn with_leaves(&self, leaves: Vec<Singleton<D>, A>) -> Result<Map<D, K, V, A>, AllocError>
-        requires { map.len (with_leaves 256 self.now leaves.items) ≤ usize.MAX }
-        ensures { IfOk result (λ m. m ≡ with_leaves 256 self.now leaves.items) }
-    {
-        let grown = spread(self.alloc, &self.link, leaves, 0)?;
-        Ok(Map {
-            link: grown.link,
-            count: self.count + grown.fresh,
-            alloc: self.alloc,
-            key: PhantomData,
-            value: PhantomData,
-        })
     }
 
     /// The map with all the pairs of an iterator inserted, in order.
@@ -364,10 +312,7 @@ impl<D: SupportedDigest, K: VisitBytes + Drop, V: VisitBytes + Drop, A: Allocato
         ensures ok { IfOk result (IsExtended D.digest K.bytes V.bytes I.next_gives iter self.now) }
         ensures fits { IfOk result (λ m. map.len m ≤ usize.MAX) }
     {
-        let mut leaves = Vec::new(self.alloc);
-        for (key, value) in iter {
-            leaves.push(Singleton::leaf(Hash::of(&key), hash_leaf(&value)))?;
-        }
+        let leaves = leaves_of(self.alloc, iter)?;
         self.with_leaves(leaves)
     }
 
@@ -390,6 +335,98 @@ impl<D: SupportedDigest, K: VisitBytes + Drop, V: VisitBytes + Drop, A: Allocato
         let _len = all.len();
         Ok(all)
     }
+}
+
+// What is asked of a key digest, whatever the keys and values are.
+impl<D: SupportedDigest, K, V, A: Allocator + Copy> Map<D, K, V, A> {
+    // Whether a key digest is held, with the proof of that, if one is asked for. Else the proof has no peers, and no memory
+    // is taken.
+    pub(crate) fn proof_of(
+        &self,
+        key: &Hash<D>,
+        asked: Asked,
+    ) -> Result<(Option<bool>, Proof<D, K, V, A>), AllocError>
+        ensures answer { let answer = answer_of D.digest asked (map.get self.now (last_bits key.now 256)) in
+            MatchResult result (λ r. r.0 ≡ answer) (λ _. IsSome answer) }
+        ensures proof { let bits = last_bits key.now 256 in
+            IfOk result (λ r. IsSome r.0 → ProvesEmpty D.digest self.now bits r.1) }
+    {
+        let mut to = Collected {
+            asked,
+            held: None,
+            peers: Vec::new(self.alloc),
+        };
+        self.link.node().collect(key, 0, &mut to)?;
+        Ok((to.held, Proof::new(to.peers)))
+    }
+
+    // Whether a key digest is one too many: a new one, where the map is full. For such a one this takes no memory.
+    fn is_full_for(&self, key: &Hash<D>) -> Result<bool, AllocError>
+        ensures few { map.len self.now ≤ usize.MAX }
+        ensures full { let full = IsOneTooMany self.now key.now in
+            MatchResult result (λ r. IsTrue r ↔ full) (λ _. ¬ full) }
+    {
+        if self.count < usize::MAX {
+            return Ok(false);
+        }
+        let (held, _) = self.proof_of(key, Asked::Presence)?;
+        Ok(held.is_none())
+    }
+
+    // The map with a leaf digest under a key digest.
+    fn with_leaf(&self, key: &Hash<D>, leaf: Hash<D>) -> Result<Map<D, K, V, A>, MapError>
+        ensures ok { IfOk result (λ m. m ≡ map.insert self.now (last_bits key.now 256) leaf) }
+        ensures full { (result ≡ Err MapError.Full) ↔ IsOneTooMany self.now key.now }
+    {
+        if self.is_full_for(key)? {
+            return Err(MapError::Full);
+        }
+        Ok(self.with_lone(Singleton::leaf(key.copied(), leaf))?)
+    }
+
+    // The map with a lone key.
+    fn with_lone(&self, lone: Singleton<D>) -> Result<Map<D, K, V, A>, AllocError>
+        requires { map.len (map.insert self.now (last_bits lone.key 256) lone.value) ≤ usize.MAX }
+        ensures { IfOk result (λ m. m ≡ map.insert self.now (last_bits lone.key 256) lone.value) }
+    {
+        let mut leaves = Vec::with_capacity(self.alloc, 1)?;
+        leaves.push_reserved(lone);
+        self.with_leaves(leaves)
+    }
+
+    // The map with leaf digests put under their key digests, in order.
+    fn with_leaves(&self, leaves: Vec<Singleton<D>, A>) -> Result<Map<D, K, V, A>, AllocError>
+        requires { map.len (with_leaves 256 self.now leaves.items) ≤ usize.MAX }
+        ensures { IfOk result (λ m. m ≡ with_leaves 256 self.now leaves.items) }
+    {
+        let grown = spread(self.alloc, &self.link, leaves, 0)?;
+        Ok(Map {
+            link: grown.link,
+            count: self.count + grown.fresh,
+            alloc: self.alloc,
+            key: PhantomData,
+            value: PhantomData,
+        })
+    }
+}
+
+// The leaves of the pairs of an iterator, in order.
+fn leaves_of<
+    D: SupportedDigest,
+    K: VisitBytes + Drop,
+    V: VisitBytes + Drop,
+    A: Allocator,
+    I: Iterator<Item = (K, V)> + Drop,
+>(alloc: A, iter: I) -> Result<Vec<Singleton<D>, A>, AllocError>
+    requires can { I.can_next iter }
+    requires ends { IsFinite (I.remaining iter) }
+    ensures { IfOk result (λ leaves. AreLeavesOf D.digest K.bytes V.bytes I.next_gives iter leaves.items) }
+{
+    let mut leaves = Vec::new(alloc);
+    for (key, value) in iter {
+        leaves.push(Singleton::of(&key, &value))?;
+    }
+    Ok(leaves)
 }
 
 /// As `Map(ROOT)`.

@@ -1,12 +1,13 @@
 //! Lone keys.
 
 ghost use Rattle.std.specs.Prelude.{◌≡◌, ◌≤◌, List, ℕ};
+ghost use Rattle.warg_crypto.specs.Tree.{leaf_digest};
 ghost use Rattle.warg_map.specs.Sparse.{sparse_root};
 ghost use Rattle.warg_map.specs.Private.Lone.{held_alone, IsKept};
 
 use crate::node::stem_digest;
 use std::marker::Model;
-use warg_crypto::{Hash, SupportedDigest};
+use warg_crypto::{Hash, SupportedDigest, VisitBytes, hash_leaf};
 
 /// The digest of a lone key's tree of some height.
 #[derive(Drop)]
@@ -119,6 +120,14 @@ impl<D: SupportedDigest> Singleton<D> {
             two_below,
             one_below,
         }
+    }
+
+    /// A key with its value, alone in the whole tree.
+    pub(crate) fn of<K: VisitBytes, V: VisitBytes>(key: &K, value: &V) -> Singleton<D>
+        ensures key { result.key ≡ D.digest (K.bytes key.now) }
+        ensures value { result.value ≡ leaf_digest D.digest (V.bytes value.now) }
+    {
+        Singleton::leaf(Hash::of(key), hash_leaf(value))
     }
 
     /// The key digest.

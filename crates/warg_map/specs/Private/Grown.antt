@@ -1,6 +1,7 @@
 -- Leaves that are put into a tree: leaf digests, each with its key digest, in the order of their insertion.
-use Rattle.std.specs.Prelude.{◌≡◌, ℕ, ◌+◌, ◌-◌, ◌<◌, length, Bool, true, false, not, List, [], ◌∷◌, filter}
+use Rattle.std.specs.Prelude.{◌≡◌, ℕ, ◌+◌, ◌-◌, ◌<◌, length, Bool, true, false, not, List, [], ◌∷◌, filter, Option}
 use Rattle.std.specs.List.{AllByRecursion}
+use Rattle.std.specs.Iterator.{Drains}
 use Rattle.std.specs.FinMap.{empty, insert, len}
 use Rattle.warg_crypto.specs.Sides.{side_bit}
 use Rattle.warg_map.specs.declared.grown.Filled.{Filled}
@@ -8,7 +9,7 @@ use Rattle.warg_map.specs.declared.grown.Parting.{Parting}
 use Rattle.warg_map.specs.declared.grown.Parting.TheVariants.{Nowhere, Behind}
 use Rattle.warg_map.specs.declared.node.Fork.{Fork}
 use Rattle.warg_map.specs.Bits.{bit_at, bits_from, last_bits}
-use Rattle.warg_map.specs.Sparse.{SparseMap}
+use Rattle.warg_map.specs.Sparse.{SparseMap, inserted, pair_bytes}
 use Rattle.warg_map.specs.Private.Lone.{Lone}
 use Rattle.warg_map.specs.Private.Under.{join_at, under, HoldsKey}
 
@@ -16,6 +17,11 @@ use Rattle.warg_map.specs.Private.Under.{join_at, under, HoldsKey}
 unfoldable pub with_leaves : ℕ → SparseMap → List Lone → SparseMap
 with_leaves k m [] = m
 with_leaves k m (e ∷ es) = with_leaves k (insert m (last_bits e.key k) e.value) es
+
+-- The leaves of the pairs of an iterator: put into a map, they insert these.
+abbrev pub AreLeavesOf : {K V I : Type 0} → (List ℕ → List ℕ) → (K → List ℕ) → (V → List ℕ) → (I → Option (K × V) → I → Type 0) → I → List Lone → Type 0
+AreLeavesOf {K} {V} H key_bytes value_bytes next_gives iter es =
+    (pairs : List (K × V)) × Drains next_gives iter pairs × ((m : SparseMap) → with_leaves 256 m es ≡ inserted H m (pair_bytes key_bytes value_bytes pairs))
 
 -- All key digests have the n bits of `key` from bit i on.
 abbrev pub ShareBits : List ℕ → ℕ → ℕ → List Lone → Type 0

@@ -1,13 +1,13 @@
 -- What is collected on the way down a key's bits.
-use Rattle.std.specs.Prelude.{◌≡◌, ℕ, zero, suc, ◌+◌, ◌-◌, Bool, true, false, cond, nat_eq, ◌⊎◌, IsTrue, List, [], ◌∷◌, ◌++◌, length, reverse, Option, Some, None}
+use Rattle.std.specs.Prelude.{◌≡◌, ℕ, zero, suc, ◌+◌, ◌-◌, ◌^◌, Bool, true, false, cond, nat_eq, ◌⊎◌, IsTrue, List, [], ◌∷◌, ◌++◌, length, reverse, Option, Some, None}
 use Rattle.std.specs.Bool.{then_some}
 use Rattle.std.specs.Cmp.Lexicographic.{pointwise}
-use Rattle.std.specs.FinMap.{get, contains_key}
+use Rattle.std.specs.FinMap.{get, contains_key, len}
 use Rattle.warg_crypto.specs.EmptyTrees.{empty_root}
 use Rattle.warg_map.specs.declared.walk.Asked.{Asked}
 use Rattle.warg_map.specs.declared.walk.Asked.TheVariants.{Presence, EmptyLeaf, Either}
 use Rattle.warg_map.specs.declared.node.Stem.{Stem}
-use Rattle.warg_map.specs.Bits.{bits_from}
+use Rattle.warg_map.specs.Bits.{bits_from, last_bits}
 use Rattle.warg_map.specs.Sparse.{SparseMap, sparse_root}
 use Rattle.warg_map.specs.Peers.{IsPeers, shared, lone_peers}
 use Rattle.warg_map.specs.Private.Under.{under}
@@ -56,3 +56,7 @@ lone_count held height = cond held (lone_peers height) 0
 pub record Collects (H : List ℕ → List ℕ) (held : Bool) (height : ℕ) (m : SparseMap) (bits : List Bool) (peers : List (Option (List ℕ))) : Type 0 where
   pub peers_from_top : IsPeers H (empty_half H held) (get m) bits (reverse peers)
   pub reaches : Reaches (lone_count held height) m bits (length peers)
+
+-- A key digest is one too many: a new one in a full map.
+abbrev pub IsOneTooMany : SparseMap → List ℕ → Type 0
+IsOneTooMany m key = (len m ≡ 2 ^ 64 - 1) × (contains_key m (last_bits key 256) ≡ false)
