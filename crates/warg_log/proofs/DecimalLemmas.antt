@@ -1,7 +1,8 @@
 -- Texts in decimal.
-use Rattle.std.proofs.Common.{◌≡◌, ◌≢◌, inl, inr, ℕ, ◌+◌, ◌^◌, ◌<◌, List, length, get_or, Result, Ok, Err, arith, ap, sym, ◌∙◌}
+use Rattle.std.proofs.Common.{◌≡◌, ◌≢◌, inl, inr, ℕ, ◌+◌, ◌^◌, ◌<◌, length, get_or, List, [], ◌∷◌, Some, None, Result, Ok, Err, refl, arith, ap, sym, ◌∙◌}
 use Rattle.std.proofs.lemmas.Bool.{cases_lt}
 use Rattle.std.specs.Fmt.{decimal}
+use Rattle.std.specs.List.{slice_get}
 use Rattle.std.specs.Str.Parse.{AllDigits, digits_value, ParsesUnsigned}
 use Rattle.std.proofs.lemmas.Str.Parse.{IsNumeralModel, numerals_by_value, tells_digits, not_in_digits, parse_plain}
 use Rattle.std.proofs.lemmas.Fmt.{digits_decimal, decimal_nonempty, decimal_digit, first_decimal, decimal-digits_value, parse-decimal}
@@ -39,6 +40,15 @@ decimal_is_read text n r e parses fails small is = let read = parse-decimal 64 n
 -- a number has digits
 pub none_empty : (n : ℕ) (text : List ℕ) → n < 2 ^ 64 → length text ≡ 0 → text ≢ decimal n
 none_empty n text small empty is = omega (arith, decimal_nonempty n small, ap length is)
+
+-- what the first byte of a text says of it
+pub first_none : (text : List ℕ) → None ≡ slice_get text 0 → length text ≡ 0
+first_none [] is = refl
+first_none (c ∷ cs) is = cc
+
+pub first_some : (text : List ℕ) (c : ℕ) → Some c ≡ slice_get text 0 → (0 < length text) × (get_or text 0 0 ≡ c)
+first_some [] c is = cc
+first_some (d ∷ cs) c is = (omega arith, cc)
 
 -- which texts are decimals, and of which number
 pub ruleset decimals = (none_empty, no_plus, no_zero, read_is, decimal_is_read)

@@ -14,6 +14,7 @@ pub mod SparseLemmas
 pub mod StackLemmas
 pub mod ImageLemmas
 pub mod TreeLemmas
+mod FaultLemmas
 pub mod ForCallers
 mod DecimalLemmas
 mod TextLemmas

@@ -1,10 +1,10 @@
 -- Roots of lists of leaf digests.
-use Rattle.std.proofs.Common.{◌≡◌, ℕ, zero, suc, ◌+◌, ◌-◌, ◌*◌, ◌/◌, ◌^◌, ◌<◌, ◌≤◌, max, ⊎_elim, List, [], ◌∷◌, length, take, drop, refl, sym, ap, ◌∙◌, arith, lit≤, lit<, add-zero, length-drop, length-take-le, slice_index_or}
+use Rattle.std.proofs.Common.{◌≡◌, ◌≢◌, ◌⊎◌, inl, inr, ◌↔◌, Bool, true, false, ◌||◌, nat_le, ℕ, zero, suc, ◌+◌, ◌-◌, ◌*◌, ◌/◌, ◌^◌, ◌<◌, ◌≤◌, max, ⊎_elim, List, [], ◌∷◌, length, take, drop, refl, sym, ap, ◌∙◌, arith, lit≤, lit<, add-zero, length-drop, length-take-le, slice_index_or}
 use Rattle.std.proofs.Math.Nat.{add-suc, add_comm, pow-suc, pow-le-pow_right}
 use Rattle.std.specs.Int.{is_power_of_two}
 use Rattle.std.specs.Int.RustNames.{count_ones}
-use Rattle.std.specs.Bool.{Decides}
-use Rattle.std.proofs.lemmas.Bool.{le-leb, lt-leb, cases_lt, eq-eqb, eqb-true}
+use Rattle.std.specs.Bool.{Decides, IsTrue}
+use Rattle.std.proofs.lemmas.Bool.{false≢true, le-leb, lt-leb, cases_lt, eq-eqb, eqb-true}
 use Rattle.std.proofs.lemmas.Nat.{pow_pos, ones_cat, ones_le_self, zero_from_ones}
 use Rattle.warg_crypto.specs.Tree.{branch}
 use Rattle.warg_log.specs.Tree.{front_within, front_of, root_within, root_of, root_over}
@@ -93,3 +93,22 @@ power_decides (suc m) =
       λ one. (e.0, omega (arith, zero_from_ones (suc m - 2 ^ e.0) (omega (arith, digits, one_digit, eqb-true _ _ one)))),
       λ full. eq-eqb _ _ (rw full.1 (let same : 1 * 2 ^ full.0 + 0 ≡ 2 ^ full.0 = omega arith in omega (arith, rw same at (ones_cat full.0 1 0 (pow_pos full.0)), one_digit, ones_le_self 0))),
     )
+
+-- what an evaluation reads, by the count of leaves and whether they miss the target
+module _ (n : ℕ) (beside : Bool) (more : n ≢ 1) where
+  pub read_if_full : true ≡ is_power_of_two n → IsTrue beside ↔ ((n ≡ 1) ⊎ (IsFull n × IsTrue beside))
+  read_if_full full = (λ yes. inr ((power_decides n).0 (sym full), yes), λ h. elim h [ inl one ↦ absurd (more one) | inr both ↦ both.1 ])
+
+  pub read_if_not_full : (r : Bool) → r ≡ false → false ≡ is_power_of_two n → IsTrue r ↔ ((n ≡ 1) ⊎ (IsFull n × IsTrue beside))
+  read_if_not_full r is other = (
+    λ yes. absurd (false≢true (sym is ∙ yes)),
+    λ h. elim h [ inl one ↦ absurd (more one) | inr both ↦ absurd (false≢true (other ∙ (power_decides n).1 both.0)) ],
+  )
+
+-- a range that ends before a target, and one that may begin behind it
+module _ (a b c d : ℕ) where
+  pub beside_before : a ≤ b → nat_le a b ≡ (nat_le a b || nat_le c d)
+  beside_before le = rw (le-leb a b le) refl
+
+  pub beside_behind : b < a → nat_le c d ≡ (nat_le a b || nat_le c d)
+  beside_behind lt = rw (lt-leb a b lt) refl

@@ -1,12 +1,13 @@
 use Rattle.std.proofs.Common.{◌≡◌, map, nat_eq, true, Ok, sym, ap, inr, ◌∙◌, arith}
 use Rattle.std.specs.List.{zip}
 use Rattle.std.specs.Cmp.Lexicographic.{pointwise}
-use Rattle.std.proofs.lemmas.Result.{err_from_is_err_and}
+use Rattle.std.proofs.lemmas.Result.{IfOk-from_err, err_from_is_err_and}
 use Rattle.warg_protobuf.specs.HashEntry.{Entry, entry_view}
 use Rattle.warg_protobuf.specs.StackLog.{StackImage}
 use Rattle.warg_log.specs.Nodes.{balanced_roots}
 use Rattle.warg_log.specs.Blocks.{Blocks}
 use Rattle.warg_log.specs.Images.{root_entry}
+use Rattle.warg_log.proofs.FaultLemmas.{not_a_stack_is_no_wire, not_refused}
 use Rattle.warg_log.proofs.ImageLemmas.{stack_read, no_stack, none_stack, entries_again, stack_fault, never_wire, never_no_stack}
 use Rattle.warg_log.proofs.stack_log.StackLog.from_message.Goals as goal
 use Rattle.warg_log.proofs.stack_log.StackLog.from_message.Goals.{Else-not-are_roots, After-drop-message-then-not-are_roots}
@@ -15,6 +16,9 @@ pub returns-in_err-digests-clause-exact : goal.returns-in_err-digests-clause-exa
 returns-in_err-digests-clause-exact g c =
     let p = err_from_is_err_and c.from_residual.result c.from_residual.ensures.1 in
     rw (p.1, p.2) (stack_fault c.args.message.length (map entry_view c.args.message.stack.items) _ (rw c.as_slice.ensures.value at c.in_err-digests.ensures.fault))
+
+pub returns-in_err-digests-clause-message : goal.returns-in_err-digests-clause-message
+returns-in_err-digests-clause-message g c = IfOk-from_err c.from_residual.result _ c.from_residual.ensures.0
 
 pub returns-in_err-digests-clause-none : goal.returns-in_err-digests-clause-none
 returns-in_err-digests-clause-none g c = λ bad b count is.
@@ -34,6 +38,12 @@ returns-then-not-are_roots-clause-exact g c =
 pub returns-then-not-are_roots-clause-none : goal.returns-then-not-are_roots-clause-none
 returns-then-not-are_roots-clause-none g c = λ _.
     none_stack _ (map entry_view c.args.message.stack.items) (rw c.as_slice-2.ensures.value at (sym c.are_roots.ensures ∙ c.if-not-are_roots.true))
+
+pub returns-then-not-are_roots-clause-message : goal.returns-then-not-are_roots-clause-message
+returns-then-not-are_roots-clause-message g c = tt
+
+pub returns-then-not-are_roots-clause-wire : goal.returns-then-not-are_roots-clause-wire
+returns-then-not-are_roots-clause-wire g c = not_a_stack_is_no_wire
 
 -- the digests of the entries, whose numbers are the balanced roots
 module _ (g : _) (c : Else-not-are_roots g) where
@@ -58,3 +68,9 @@ returns-clause-message g c =
     let at = (goal.at.returns-clause-message g c).Else-not-are_roots in
     let again = ap (λ ds. map root_entry (zip (balanced_roots c.args.message.length) ds)) (read g at) ∙ entries_again _ _ (roots g at) in
     ap (λ es. let m : StackImage = record { length = c.args.message.length; stack = es } in m) again
+
+pub returns-clause-none : goal.returns-clause-none
+returns-clause-none g c = λ bad _ _ _. not_refused _ _ bad
+
+pub returns-clause-wire : goal.returns-clause-wire
+returns-clause-wire g c = λ _ bad. not_refused _ _ bad

@@ -1,8 +1,9 @@
-use Rattle.std.proofs.Common.{◌≡◌, List, Result, Ok, Err, refl, ap, ◌∙◌}
+use Rattle.std.proofs.Common.{List, refl, ap, ◌∙◌}
 use Rattle.std.proofs.lemmas.Result.{err_from_is_err_and}
 use Rattle.warg_protobuf.specs.HashEntry.{Entry}
 use Rattle.warg_protobuf.specs.StackLog.{StackImage}
 use Rattle.warg_log.specs.Images.{stack_in}
+use Rattle.warg_log.proofs.FaultLemmas.{not_refused}
 use Rattle.warg_log.proofs.ImageLemmas.{roots_fit, roots_too_large, stack_again}
 use Rattle.warg_log.proofs.stack_log.StackLog.to_message.Goals as goal
 
@@ -23,9 +24,6 @@ pub returns-clause-again : goal.returns-clause-again
 returns-clause-again g c =
     ap stack_in (returns-clause-ok g c)
     ∙ rw (← c.self.view_is) (stack_again c.self.inside.count c.self.inside.blocks.items c.self.invariant.0 (rw c.as_slice.ensures.value at c.in_ok-stack.ensures.lengths))
-
-not_refused : {X E : Type 0} (x : X) (e : E) → ◌≡◌ {A = Result X E} (Ok x) (Err e) → ⊥
-not_refused x e is = cc
 
 pub returns-clause-fits : goal.returns-clause-fits
 returns-clause-fits g c = rw (← c.self.view_is) (roots_fit c.self.inside.count c.if-self-gt-GREATEST_IMAGE.false)
