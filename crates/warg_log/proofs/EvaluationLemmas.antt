@@ -1,5 +1,5 @@
 -- What the evaluations of inclusion and consistency proofs say, and which faults they can have.
-use Rattle.std.proofs.Common.{◌≡◌, ℕ, ◌≤◌, nat_le, List, Option, Some, None, Result, Ok, Err, ◌↔◌, if◌then◌else◌, arith, ◌<◌, ◌==◌, Bool, false, nat_eq, nat_lt, [], ◌∷◌, length, take, refl, ap, ◌∙◌, subst}
+use Rattle.std.proofs.Common.{◌≡◌, ℕ, ◌≤◌, nat_le, List, Option, Some, None, Result, Ok, Err, ◌↔◌, if◌then◌else◌, arith, ◌<◌, ◌==◌, Bool, true, false, nat_eq, nat_lt, [], ◌∷◌, length, take, refl, sym, ap, ◌∙◌, subst}
 use Rattle.std.specs.Option.{ok_or}
 use Rattle.std.proofs.lemmas.Bool.Decides.{nat_tests}
 use Rattle.warg_log.specs.declared.proof.InclusionProofError.{InclusionProofError}
@@ -11,7 +11,8 @@ use Rattle.warg_log.specs.declared.consistency.ConsistencyProofError.{Consistenc
 use Rattle.warg_log.specs.declared.consistency.ConsistencyProofError.TheVariants as Consistency
 use Rattle.warg_log.specs.Nodes.{end_of, balanced_roots}
 use Rattle.warg_log.specs.Tree.{root_of, leaves_below, own_digest}
-use Rattle.warg_log.specs.Cut.{old_root}
+use Rattle.warg_crypto.specs.Bytes.{same_bytes}
+use Rattle.warg_log.specs.Cut.{cut_root, old_root}
 use Rattle.warg_protobuf.specs.Reading.{◌>>=◌}
 use Rattle.warg_log.specs.Consistency.{root_to, agreed_root, new_root_of, both_roots, consistency, LeadsTo, IsConsistent}
 use Rattle.warg_protobuf.proofs.ForCallers.{all_weaken}
@@ -85,6 +86,60 @@ module _ (H : List ℕ → List ℕ) (F : ℕ → Option (List ℕ)) where
       let all = rw first.2 at is.new_root_is in
       let agree : new_root_of H F n (balanced_roots m) ≡ Ok new = rw (first.2, all.0.1, all.0.2) (agreed_all n new _ all.1) in
       rw (ne_eqb m 0 (λ none. omega (arith, none, is.some)), le-ltb n m is.order, agree, is.old_root_is) refl
+
+-- the faults of an evaluation: never memory, and within an inclusion proof that a digest isn't known
+pub record EvaluationFault {X : Type 0} (r : Result X ConsistencyProofError) : Type 0 where
+  pub memory : r ≡ Err Consistency.Memory → ⊥
+  pub within : (fault : InclusionProofError) → r ≡ Err (Consistency.InclusionError fault) → fault ≡ Inclusion.HashNotKnown
+
+faults_there : {X : Type 0} (x : X) → EvaluationFault (Ok x)
+faults_there x = record { memory = λ bad. cc; within = λ fault bad. cc }
+
+not_known : {X : Type 0} → EvaluationFault {X = X} (Err Consistency.HashNotKnown)
+not_known = record { memory = λ bad. cc; within = λ fault bad. cc }
+
+not_known_within : {X : Type 0} → EvaluationFault {X = X} (Err (Consistency.InclusionError Inclusion.HashNotKnown))
+not_known_within = record { memory = λ bad. cc; within = λ fault bad. cc }
+
+diverging : {X : Type 0} → EvaluationFault {X = X} (Err Consistency.DivergingRoots)
+diverging = record { memory = λ bad. cc; within = λ fault bad. cc }
+
+no_length : {X : Type 0} → EvaluationFault {X = X} (Err Consistency.OldLengthZero)
+no_length = record { memory = λ bad. cc; within = λ fault bad. cc }
+
+-- a fault that is passed on
+pub passed_on : {A B : Type 0} (q : Result A ConsistencyProofError) (r : Result B ConsistencyProofError) (e f : ConsistencyProofError)
+    → EvaluationFault q → Err e ≡ q → f ≡ e → r ≡ Err f → EvaluationFault r
+passed_on q r e f at was same is = record {
+  memory = λ bad. let memory : e ≡ Consistency.Memory = cc in at.memory (sym was ∙ ap Err memory);
+  within = λ fault bad. let inside : e ≡ Consistency.InclusionError fault = cc in at.within fault (sym was ∙ ap Err inside);
+}
+
+goes_on : {A B : Type 0} (q : Result A ConsistencyProofError) (f : A → Result B ConsistencyProofError) → EvaluationFault q → ((x : A) → EvaluationFault (f x)) → EvaluationFault (◌>>=◌ q f)
+goes_on (Ok x) f at next = next x
+goes_on (Err e) f at next = passed_on (Err e) _ e e at refl refl refl
+
+looked_up : {X : Type 0} (o : Option X) (e : ConsistencyProofError) → EvaluationFault {X = X} (Err e) → EvaluationFault (ok_or o e)
+looked_up None e at = at
+looked_up (Some x) e at = faults_there x
+
+whether : {X : Type 0} (b : Bool) (q r : Result X ConsistencyProofError) → EvaluationFault q → EvaluationFault r → EvaluationFault (if b then q else r)
+whether true q r at other = at
+whether false q r at other = other
+
+module _ (H : List ℕ → List ℕ) (F : ℕ → Option (List ℕ)) where
+  root_faults : (n t : ℕ) → EvaluationFault (root_to H F n t)
+  root_faults n t = goes_on (ok_or (F t) Consistency.HashNotKnown) (λ x. ok_or (cut_root H F t x n) (Consistency.InclusionError Inclusion.HashNotKnown))
+      (looked_up (F t) _ not_known) (λ x. looked_up (cut_root H F t x n) _ not_known_within)
+
+  agreed_faults : (n : ℕ) (a : List ℕ) (ts : List ℕ) → EvaluationFault (agreed_root H F n a ts)
+  agreed_faults n a [] = faults_there a
+  agreed_faults n a (t ∷ ts) = goes_on (root_to H F n t) (λ r. if same_bytes r a then agreed_root H F n a ts else Err Consistency.DivergingRoots)
+      (root_faults n t) (λ r. whether (same_bytes r a) _ _ (agreed_faults n a ts) diverging)
+
+  pub new_root_faults : (n : ℕ) (ts : List ℕ) → EvaluationFault (new_root_of H F n ts)
+  new_root_faults n [] = no_length
+  new_root_faults n (t ∷ ts) = goes_on (root_to H F n t) (λ r. agreed_root H F n r ts) (root_faults n t) (λ r. agreed_faults n r ts)
 
 -- a log's own digests
 pub consistency_own : (H : List ℕ → List ℕ) (ds : List (List ℕ)) (m n : ℕ) → 0 < m → m ≤ n → n ≤ length ds

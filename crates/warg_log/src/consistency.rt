@@ -189,24 +189,37 @@ impl<D: SupportedDigest, V: VisitBytes> ConsistencyProof<D, V> {
 
     // The one root to which the balanced roots of the old length lead.
     fn new_root<L: LogData<D, V>>(&self, hashes: &L) -> Result<Hash<D>, ConsistencyProofError>
-        requires some { 0 < self.now.old_length }
-        requires order { self.now.old_length ≤ self.now.new_length }
-        ensures value { result ≡ new_root_of D.digest (L.digest_at hashes.now) self.now.new_length
+        requires { 0 < self.now.new_length }
+        ensures { result ≡ new_root_of D.digest (L.digest_at hashes.now) self.now.new_length
             (balanced_roots self.now.old_length) }
-        ensures memory { result ≢ Err ConsistencyProofError.Memory }
-        ensures within { (fault : InclusionProofError)
-            → result ≡ Err (ConsistencyProofError.InclusionError fault)
-            → fault ≡ InclusionProofError.HashNotKnown }
     {
         let mut branches = BranchCache::new();
         let whole = LeafRange::new(0, self.new_length);
-        let mut roots = BalancedRoots::of(self.old_length);
-        let Some(first) = roots.next() else {
-            unreachable!()
-        };
-        let agreed = root_from(&mut branches, hashes, first, &whole)?;
-        agree(&mut branches, hashes, roots, &whole, agreed)
+        common_root(
+            &mut branches,
+            hashes,
+            BalancedRoots::of(self.old_length),
+            &whole,
+        )
     }
+}
+
+// The one root to which these balanced roots lead.
+fn common_root<D: SupportedDigest, V: VisitBytes, L: LogData<D, V>>(
+    branches: &mut BranchCache<D>,
+    hashes: &L,
+    mut roots: BalancedRoots,
+    whole: &LeafRange,
+) -> Result<Hash<D>, ConsistencyProofError>
+    requires ends { AllByRecursion (λ t. end_of t ≤ GREATEST_LENGTH) roots }
+    requires whole { whole.now ≡ leaves_from 0 whole.now.count }
+    ensures { result ≡ new_root_of D.digest (L.digest_at hashes.now) whole.now.count roots }
+{
+    let Some(first) = roots.next() else {
+        return Err(ConsistencyProofError::OldLengthZero);
+    };
+    let agreed = root_from(branches, hashes, first, whole)?;
+    agree(branches, hashes, roots, whole, agreed)
 }
 
 // The agreed root, where each of these balanced roots leads to it.
@@ -219,11 +232,7 @@ fn agree<D: SupportedDigest, V: VisitBytes, L: LogData<D, V>>(
 ) -> Result<Hash<D>, ConsistencyProofError>
     requires ends { AllByRecursion (λ t. end_of t ≤ GREATEST_LENGTH) roots }
     requires whole { whole.now ≡ leaves_from 0 whole.now.count }
-    ensures value { result ≡ agreed_root D.digest (L.digest_at hashes.now) whole.now.count agreed roots }
-    ensures memory { result ≢ Err ConsistencyProofError.Memory }
-    ensures within { (fault : InclusionProofError)
-        → result ≡ Err (ConsistencyProofError.InclusionError fault)
-        → fault ≡ InclusionProofError.HashNotKnown }
+    ensures { result ≡ agreed_root D.digest (L.digest_at hashes.now) whole.now.count agreed roots }
 {
     'roots: for root in roots {
         let other = root_from(branches, hashes, root, whole)?;
@@ -263,11 +272,7 @@ fn root_from<D: SupportedDigest, V: VisitBytes, L: LogData<D, V>>(
 ) -> Result<Hash<D>, ConsistencyProofError>
     requires ends { end_of root.0 ≤ GREATEST_LENGTH }
     requires whole { whole.now ≡ leaves_from 0 whole.now.count }
-    ensures value { result ≡ root_to D.digest (L.digest_at hashes.now) whole.now.count root.0 }
-    ensures memory { result ≢ Err ConsistencyProofError.Memory }
-    ensures within { (fault : InclusionProofError)
-        → result ≡ Err (ConsistencyProofError.InclusionError fault)
-        → fault ≡ InclusionProofError.HashNotKnown }
+    ensures { result ≡ root_to D.digest (L.digest_at hashes.now) whole.now.count root.0 }
 {
     match hashes.hash_for(root) {
         Some(hash) => match range_root_by(branches, hashes, &root.leaf_range(), &hash, whole) {
