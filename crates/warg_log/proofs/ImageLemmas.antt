@@ -1,6 +1,9 @@
 -- Messages of logs: their digests, and stacks of balanced roots.
 use Rattle.std.proofs.Common.{◌≡◌, ℕ, ◌+◌, ◌-◌, ◌^◌, ◌<◌, ◌≤◌, List, [], ◌∷◌, ◌++◌, length, get_or, drop, map, nat_eq, true, false, Ok, Err, None, refl, sym, ap, ◌∙◌, arith}
-use Rattle.std.proofs.Common.{◌⊎◌, inl, inr, Result, Some}
+use Rattle.std.proofs.Common.{◌⊎◌, inl, inr, Result, Option, Some, Bool, not}
+use Rattle.std.specs.Option.{is_some}
+use Rattle.std.specs.Iterator.{YieldsFirstBy}
+use Rattle.warg_log.specs.declared.node.Node.{Node}
 use Rattle.std.specs.List.{AllByRecursion, zip}
 use Rattle.std.specs.Cmp.Lexicographic.{pointwise, bytes_decides}
 use Rattle.std.proofs.lemmas.Simd.{map-map}
@@ -115,3 +118,10 @@ module _ {E : Type 0} (f : E → Entry) where
   entries_done ts ds i out whole le was =
       let none : zip ts (drop i ds) ≡ [] = rw (drop_all i ds le) (zip_none ts) in
       sym (append-nil (map f out)) ∙ rw none at was
+
+-- whether roots are left, as their iterator answers
+pub roots_left : (roots rest : List ℕ) (next : Option Node) (r : Bool) → YieldsFirstBy (λ (node : Node). node.0) (λ (rest : List ℕ). rest) roots next rest → is_some next ≡ not r → pointwise nat_eq [] roots ≡ r
+roots_left roots rest None true steps is = rw steps.0 refl
+roots_left roots rest None false steps is = cc
+roots_left roots rest (Some node) true steps is = cc
+roots_left roots rest (Some node) false steps is = rw steps refl

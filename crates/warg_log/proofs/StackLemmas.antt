@@ -1,8 +1,8 @@
 -- The blocks of a stack log.
-use Rattle.std.proofs.Common.{◌≡◌, ℕ, zero, suc, ◌+◌, ◌*◌, ◌/◌, ◌%◌, ◌^◌, ◌<◌, ◌≤◌, nat_eq, false, List, [], ◌∷◌, ◌++◌, length, map, Option, Some, None, refl, sym, ap, ◌∙◌, arith, ⊎_elim}
+use Rattle.std.proofs.Common.{◌≡◌, ℕ, zero, suc, ◌+◌, ◌*◌, ◌/◌, ◌%◌, ◌^◌, ◌<◌, ◌≤◌, nat_eq, false, List, [], ◌∷◌, ◌++◌, length, get_or, take, drop, map, Option, Some, None, refl, sym, ap, ◌∙◌, arith, ⊎_elim}
 use Rattle.std.specs.List.{AllByRecursion, IsDistinct}
 use Rattle.std.proofs.Math.Nat.{pow-suc}
-use Rattle.std.proofs.lemmas.List.{map_push, same_from_push, get_or_push, length_push, length-map, nil_from_length}
+use Rattle.std.proofs.lemmas.List.{map_push, same_from_push, get_or_push, length_push, length-map, nil_from_length, take_all}
 use Rattle.std.proofs.lemmas.Nat.{pow_pos}
 use Rattle.std.proofs.lemmas.Simd.{map-map}
 use Rattle.std.proofs.lemmas.Bool.{le-leb, eq-eqb, ne_eqb, cases_eq}
@@ -175,3 +175,19 @@ stands_root H b (e ∷ es) stands =
     let root : old_root H (own_digest H ds) b.len ≡ Some (root_of H ds) = own_root H ds b.len (omega arith) (sym count) in
     let both : Some (joined_blocks H b.digests) ≡ Some (root_of H ds) = sym joins ∙ root in
     cc
+
+-- joined blocks, by how many there are
+pub joined_none : (H : List ℕ → List ℕ) (blocks : List (List ℕ)) → length blocks < 1 → H [] ≡ joined_blocks H blocks
+joined_none H [] lt = refl
+joined_none H (d ∷ ds) lt = absurd (omega arith)
+
+pub joined_one : (H : List ℕ → List ℕ) (blocks : List (List ℕ)) (d : List ℕ) → length blocks < 2 → 1 ≤ length blocks → d ≡ get_or blocks 0 d → d ≡ joined_blocks H blocks
+joined_one H [] d lt le is = absurd (omega arith)
+joined_one H (e ∷ []) d lt le is = is
+joined_one H (e ∷ f ∷ ds) d lt le is = absurd (omega arith)
+
+pub joined_more : (H : List ℕ → List ℕ) (blocks : List (List ℕ)) (d : List ℕ) (n : ℕ) → 2 ≤ length blocks → length blocks ≤ n + 1 → d ≡ get_or blocks 0 d
+    → branch H d (joined_blocks H (take n (drop 1 blocks))) ≡ joined_blocks H blocks
+joined_more H [] d n le all is = absurd (omega arith)
+joined_more H (e ∷ []) d n le all is = absurd (omega arith)
+joined_more H (e ∷ f ∷ ds) d n le all is = rw (is, take_all n (f ∷ ds) (omega arith)) refl

@@ -1,4 +1,5 @@
 use Rattle.std.proofs.Common.{ap, ◌∙◌}
+use Rattle.std.proofs.lemmas.Result.{IfOk-from_err}
 use Rattle.warg_protobuf.proofs.ForCallers.{copied_more, taken_whole}
 use Rattle.warg_log.proofs.sparse_data.SparseLogData.copied.Goals as goal
 
@@ -10,3 +11,14 @@ pairs-preserved g c =
 
 pub returns : goal.returns
 returns g c = taken_whole _ _ _ c.pairs.invariant (rw (c.as_slice-pair-items.ensures.value ∙ c.self.view_is) at c.pairs-test.false)
+
+pub pairs-init : goal.pairs-init
+pairs-init g c = c.new-pairs.ensures.items
+
+pub returns-in_err-push : goal.returns-in_err-push
+returns-in_err-push g c = IfOk-from_err c.from_residual.result _ c.from_residual.ensures.0
+
+pub invariant_of-result : goal.invariant_of-result
+invariant_of-result g c =
+    let all = taken_whole _ _ _ c.pairs.invariant (rw (c.as_slice-pair-items.ensures.value ∙ c.self.view_is) at c.pairs-test.false) in
+    rw (all, ← c.self.view_is) c.self.invariant
