@@ -12,7 +12,6 @@ mod decimal;
 pub mod laws;
 mod leaf_range;
 mod log;
-mod message;
 mod node;
 mod proof;
 mod sparse_data;

@@ -14,7 +14,6 @@ ghost use Rattle.warg_log.specs.Images.{root_entry, RootsFit, stack_message, sta
 
 use crate::balanced_roots::BalancedRoots;
 use crate::log::GREATEST_LENGTH;
-use crate::message::read_hash;
 use crate::stack_log::StackLog;
 use std::alloc::{AllocError, Allocator};
 use std::marker::PhantomData;
@@ -108,7 +107,7 @@ fn read_blocks<D, A: Allocator>(
 {
     let mut hashes = Vec::new(alloc);
     'entries: for entry in entries {
-        let hash = read_hash(entry.hash.as_slice())?;
+        let hash = Hash::try_from(entry.hash.as_slice())?;
         hashes.push(hash)?;
     }
     Ok(hashes)

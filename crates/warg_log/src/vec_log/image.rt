@@ -9,7 +9,6 @@ ghost use Rattle.warg_protobuf.specs.Decoding.{first_fault, digest_fault};
 ghost use Rattle.warg_log.specs.Images.{vec_message, vec_in, vec_of};
 ghost use Rattle.warg_log.specs.Tree.{leaves_in};
 
-use crate::message::read_hash;
 use crate::vec_log::VecLog;
 use std::alloc::{AllocError, Allocator};
 use std::marker::PhantomData;
@@ -100,7 +99,7 @@ fn grown<D: SupportedDigest, V: VisitBytes, A: Allocator>(
 {
     let mut log = VecLog::default(alloc);
     'places: for (place, digest) in tree.iter().enumerate() {
-        let hash = read_hash(digest.as_slice())?;
+        let hash = Hash::try_from(digest.as_slice())?;
         if place % 2 == 0 {
             log.push_leaf(hash)?;
         }

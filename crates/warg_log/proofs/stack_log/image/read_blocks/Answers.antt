@@ -1,5 +1,5 @@
 use Rattle.std.proofs.Common.{length, map, ap, refl, inr, eq-eqb, ◌∙◌}
-use Rattle.std.proofs.lemmas.Bool.{ne_eqb}
+use Rattle.std.proofs.lemmas.Bool.{ne_eqb, false≢true}
 use Rattle.std.proofs.lemmas.List.{drop_all}
 use Rattle.std.proofs.lemmas.Result.{err_from_is_err_and}
 use Rattle.warg_protobuf.specs.HashEntry.{Entry, entry_view}
@@ -11,13 +11,12 @@ use Rattle.warg_log.proofs.stack_log.image.read_blocks.Goals as goal
 pub returns-in_err-hash-clause-fault : goal.returns-in_err-hash-clause-fault
 returns-in_err-hash-clause-fault g c =
     let p = err_from_is_err_and c.from_residual.result c.from_residual.ensures.1 in
-    let fault = c.in_err-hash.ensures.fault in
-    rw (p.1, p.2, fault.0) (inr (
+    rw (p.1, p.2) (inr (
       refl,
       rw (
         c.entries.invariant.good,
         front_left _ _ c.entry-item.result c.entries-test.true c.entry-item.is,
-        ne_eqb (length c.entry-item.result.hash.items) 32 (rw c.as_slice.ensures.value at fault.1),
+        ne_eqb (length c.entry-item.result.hash.items) 32 (λ is. false≢true (c.in_err-hash.ensures.exactly.1 (rw c.as_slice.ensures.value is))),
       ) refl,
     ))
 
@@ -27,7 +26,7 @@ entries-preserved g c = record {
       (c.in_ok-hash.ensures.ok ∙ c.as_slice.ensures.value);
   good = c.entries.invariant.good ∙ rw (
     front_left _ _ c.entry-item.result c.entries-test.true c.entry-item.is,
-    eq-eqb (length c.entry-item.result.hash.items) 32 (rw c.as_slice.ensures.value at c.in_ok-hash.ensures.length),
+    eq-eqb (length c.entry-item.result.hash.items) 32 (rw c.as_slice.ensures.value at (c.in_ok-hash.ensures.exactly.0 refl)),
   ) refl;
 }
 

@@ -1,5 +1,5 @@
 use Rattle.std.proofs.Common.{arith, ap, ◌∙◌, length, take, sym, refl, inr, eq-eqb}
-use Rattle.std.proofs.lemmas.Bool.{ne_eqb}
+use Rattle.std.proofs.lemmas.Bool.{ne_eqb, false≢true}
 use Rattle.std.proofs.lemmas.List.{length-take-le, take_all}
 use Rattle.std.proofs.lemmas.Result.{err_from_is_err_and}
 use Rattle.warg_protobuf.specs.Decoding.{digest_fault}
@@ -29,19 +29,18 @@ places-preserved g c =
         | else-place-eq0 w ↦ rw (w.log-is, c.places.invariant.grown) (sym (more.1 (omega arith)))
       ];
       good = c.places.invariant.good ∙ fault_after digest_fault c.args.tree.now c.places.place c.index-tree-place.result c.places-test.true c.index-tree-place.is
-          (rw (eq-eqb (length c.index-tree-place.result) 32 (rw c.as_slice.ensures at c.in_ok-hash.ensures.length)) refl);
+          (rw (eq-eqb (length c.index-tree-place.result) 32 (rw c.as_slice.ensures at (c.in_ok-hash.ensures.exactly.0 refl))) refl);
     }
 
 pub returns-in_err-hash-clause-fault : goal.returns-in_err-hash-clause-fault
 returns-in_err-hash-clause-fault g c =
     let p = err_from_is_err_and c.from_residual.result c.from_residual.ensures.1 in
-    let fault = c.in_err-hash.ensures.fault in
-    rw (p.1, p.2, fault.0) (inr (
+    rw (p.1, p.2) (inr (
       refl,
       rw (
         c.places.invariant.good,
         front_left _ _ c.index-tree-place.result c.places-test.true c.index-tree-place.is,
-        ne_eqb (length c.index-tree-place.result) 32 (rw c.as_slice.ensures at fault.1),
+        ne_eqb (length c.index-tree-place.result) 32 (λ is. false≢true (c.in_err-hash.ensures.exactly.1 (rw c.as_slice.ensures is))),
       ) refl,
     ))
 
