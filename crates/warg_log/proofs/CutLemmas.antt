@@ -112,3 +112,7 @@ old_root_own H ds m some fits = own_at H ds (H []) nothing (leaves_from 0 m) m 0
 
 pub own_root : (H : List ℕ → List ℕ) (ds : List (List ℕ)) (n : ℕ) → 0 < n → n ≡ length ds → old_root H (own_digest H ds) n ≡ Some (root_of H ds)
 own_root H ds n some all = old_root_own H ds n some (omega arith) ∙ rw (all, take-length) refl
+
+-- a range that isn't read has two parts
+pub more_than_one : (n : ℕ) → 0 < n → (n ≡ 1 → ⊥) → 1 < n
+more_than_one n some other = omega (arith, other)

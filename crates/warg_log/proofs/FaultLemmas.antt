@@ -3,6 +3,8 @@ use Rattle.std.proofs.Common.{◌≡◌, ℕ, ◌<◌, ◌≤◌, Result, Ok, Er
 use Rattle.warg_protobuf.specs.Decoding.{wire_fault}
 use Rattle.warg_protobuf.specs.declared.error.WireError.{WireError}
 use Rattle.warg_protobuf.specs.declared.error.WireError.TheVariants as wire
+use Rattle.warg_protobuf.specs.declared.value_error.EncodeError.{EncodeError}
+use Rattle.warg_protobuf.specs.declared.value_error.EncodeError.TheVariants as encode
 use Rattle.warg_protobuf.specs.declared.value_error.DecodeError.{DecodeError}
 use Rattle.warg_protobuf.specs.declared.value_error.DecodeError.TheVariants.{Wire, NotAStack, NotALog}
 
@@ -20,6 +22,10 @@ pub not_above : (m n : ℕ) → m ≤ n → n < m → ⊥
 not_above m n le above = absurd (omega arith)
 
 module _ {X : Type 0} where
+  -- memory that was refused is no number that is too large
+  pub memory_fits : (r : Result X EncodeError) (e : EncodeError) → r ≡ Err e → e ≡ encode.Memory → r ≡ Err encode.TooLarge → ⊥
+  memory_fits r e is memory bad = cc
+
   -- the fault of bytes that can't be read is never that memory was refused
   pub wire_is_no_memory : (r : Result X DecodeError) (e : DecodeError) (w : WireError) → e ≡ wire_fault w → r ≡ Err e → r ≡ Err (Wire wire.Memory) → ⊥
   wire_is_no_memory r e wire.Truncated from is bad = cc

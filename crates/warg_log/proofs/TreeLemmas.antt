@@ -1,5 +1,5 @@
 -- Messages of logs that keep the digest of every node.
-use Rattle.std.proofs.Common.{◌≡◌, ℕ, zero, suc, ◌+◌, ◌*◌, ◌/◌, nat_eq, List, [], ◌∷◌, length, get_or, None, Ok, Err, ◌⊎◌, inl, inr, refl, sym, ap, ◌∙◌, arith}
+use Rattle.std.proofs.Common.{◌≡◌, ℕ, zero, suc, ◌+◌, ◌*◌, ◌/◌, ◌^◌, ◌<◌, ◌≤◌, nat_eq, List, [], ◌∷◌, length, get_or, None, Ok, Err, ◌⊎◌, inl, inr, refl, sym, ap, ◌∙◌, arith}
 use Rattle.std.specs.Bool.{Decides}
 use Rattle.std.specs.Cmp.Lexicographic.{pointwise, pointwise_decides, bytes_decides}
 use Rattle.std.proofs.lemmas.List.{ext_get_or}
@@ -63,3 +63,7 @@ log_again H n tree ds is =
 pub log_fault : (H : List ℕ → List ℕ) (n : ℕ) (tree : List (List ℕ)) (e : DecodeError) → IsDigestFault tree e → (e ≡ Memory) ⊎ (vec_in H (record { length = n; tree = tree }) ≡ Err e)
 log_fault H n tree e (inl memory) = inl memory
 log_fault H n tree e (inr fault) = inr (rw fault.1 refl)
+
+-- a length that a message has room for
+pub fits_in_32 : (n : ℕ) → n ≤ 4294967295 → n < 2 ^ 32
+fits_in_32 n le = omega arith

@@ -3,7 +3,7 @@ use Rattle.std.proofs.lemmas.Result.{err_from_is_err_and}
 use Rattle.warg_protobuf.specs.HashEntry.{Entry}
 use Rattle.warg_protobuf.specs.StackLog.{StackImage}
 use Rattle.warg_log.specs.Images.{stack_in}
-use Rattle.warg_log.proofs.FaultLemmas.{not_refused}
+use Rattle.warg_log.proofs.FaultLemmas.{not_refused, memory_fits}
 use Rattle.warg_log.proofs.ImageLemmas.{roots_fit, roots_too_large, stack_again}
 use Rattle.warg_log.proofs.stack_log.StackLog.to_message.Goals as goal
 
@@ -13,7 +13,7 @@ returns-then-self-gt-GREATEST_IMAGE-clause-too_large g c = rw (← c.self.view_i
 pub returns-in_err-stack-clause-too_large : goal.returns-in_err-stack-clause-too_large
 returns-in_err-stack-clause-too_large g c =
     let p = err_from_is_err_and c.from_residual.result c.from_residual.ensures.1 in
-    (λ large _. cc (p.1, p.2, large), λ unfit. absurd (unfit (rw (← c.self.view_is) (roots_fit c.self.inside.count c.if-self-gt-GREATEST_IMAGE.false))))
+    (λ large _. memory_fits _ _ p.1 p.2 large, λ unfit. absurd (unfit (rw (← c.self.view_is) (roots_fit c.self.inside.count c.if-self-gt-GREATEST_IMAGE.false))))
 
 pub returns-clause-ok : goal.returns-clause-ok
 returns-clause-ok g c =
