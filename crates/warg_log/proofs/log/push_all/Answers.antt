@@ -11,10 +11,16 @@ entries-init g c = record { len = omega arith; appends = λ ds stands. rw append
 pub push-requires : goal.push-requires
 push-requires g c = omega arith
 
-pub returns-in_err-push-clause-err : goal.returns-in_err-push-clause-err
-returns-in_err-push-clause-err g c =
+pub returns-in_err-push : goal.returns-in_err-push
+returns-in_err-push g c =
     let p = err_from_is_err_and c.from_residual.result c.from_residual.ensures.1 in
-    rw (p.1, c.in_err-push.ensures.err) (c.entries.entry-index, c.entries-test.true, c.entries.invariant.len, c.entries.invariant.appends)
+    rw (p.1, c.in_err-push.ensures.err) (record {
+      ok = tt;
+      grown = tt;
+      root = tt;
+      length = tt;
+      err = (c.entries.entry-index, c.entries-test.true, c.entries.invariant.len, c.entries.invariant.appends);
+    })
 
 pub entries-preserved : goal.entries-preserved
 entries-preserved g c = record {
@@ -25,11 +31,11 @@ entries-preserved g c = record {
       rw (← more, ← append_assoc) (c.in_ok-push.ensures.ok _ (c.entries.invariant.appends ds stands));
 }
 
-pub returns-clause-ok : goal.returns-clause-ok
-returns-clause-ok g c = λ ds stands. rw (take_all _ _ c.entries-test.false) at (c.entries.invariant.appends ds stands)
-
-pub returns-clause-grown : goal.returns-clause-grown
-returns-clause-grown g c = omega arith
-
-pub returns-clause-root : goal.returns-clause-root
-returns-clause-root g c = c.checkpoint.ensures.root
+pub returns : goal.returns
+returns g c = record {
+  ok = λ ds stands. rw (take_all _ _ c.entries-test.false) at (c.entries.invariant.appends ds stands);
+  grown = omega (arith, c.entries.invariant.len, c.entries-test.false, c.entries.auto.entry-index-end);
+  root = c.checkpoint.ensures.root;
+  length = c.checkpoint.ensures.length;
+  err = tt;
+}
