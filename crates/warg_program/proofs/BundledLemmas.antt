@@ -1,5 +1,5 @@
 -- The bundle of one inclusion proof, and how it is shown.
-use Rattle.std.proofs.Common.{◌≡◌, ◌≢◌, ℕ, ◌^◌, ◌<◌, true, false, nat_lt, List, [], ◌∷◌, ◌++◌, map, codes, Result, Err, ◌⊎◌, refl, ⊎_elim}
+use Rattle.std.proofs.Common.{◌≡◌, ◌≢◌, ℕ, ◌^◌, ◌<◌, true, false, nat_lt, List, [], ◌∷◌, ◌++◌, map, codes, Result, Err, ◌⊎◌, refl, sym, ap, ◌∙◌, ⊎_elim}
 use Rattle.std.specs.List.{AllByRecursion, list_all}
 use Rattle.std.proofs.lemmas.Bool.{ltb-true, lt-ltb, and_from, and_parts, cases_Bool}
 use Rattle.hex.specs.Hex.{encode_lower}
@@ -29,8 +29,8 @@ nodes_fit : (b : Bundle) → numbers_fit (bundle_message b) ≡ true → NodesFi
 nodes_fit b fits = let parts = and_parts _ _ fits in (all_fit (λ x. x) (λ (node : Node). node.0) b.included_nodes parts.0, all_fit (λ (e : Entry). e.index) entry_of b.hashes parts.1)
 
 -- the written form is shown, or that it doesn't fit
-pub bytes_shown : (b : Bundle) → NodesFit b → bytes_or_refusal (bundle_message b) ≡ codes "bundle " ++ encode_lower (log_bytes (bundle_message b))
-bytes_shown b fits = rw (numbers_fit-bundle_message b fits) refl
+pub bytes_shown : (b : Bundle) (bytes shown : List ℕ) → NodesFit b → bytes ≡ log_bytes (bundle_message b) → shown ≡ bytes → bytes_or_refusal (bundle_message b) ≡ codes "bundle " ++ encode_lower shown
+bytes_shown b bytes shown fits written same = rw (numbers_fit-bundle_message b fits) (ap (λ l. codes "bundle " ++ encode_lower l) (sym (same ∙ written)))
 
 pub too_large_shown : (b : Bundle) → ¬ NodesFit b → bytes_or_refusal (bundle_message b) ≡ codes "refused too large"
 too_large_shown b too_large = ⊎_elim

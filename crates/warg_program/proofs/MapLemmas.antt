@@ -1,5 +1,5 @@
 -- The map of insertions, and the answers of commands on it.
-use Rattle.std.proofs.Common.{◌≡◌, ℕ, ◌≤◌, List, [], ◌∷◌, ◌++◌, length, codes, Option, Some, None, IsSome, IfSome, ◌↔◌, false, refl, sym, ap, arith}
+use Rattle.std.proofs.Common.{◌≡◌, ℕ, ◌≤◌, List, [], ◌∷◌, ◌++◌, length, codes, Option, Some, None, IsSome, IfSome, Result, Ok, Err, ◌↔◌, false, refl, sym, ap, arith}
 use Rattle.std.proofs.lemmas.Grind.{common_steps}
 use Rattle.std.proofs.lemmas.Slice.Eq.{bytes_eq-Decides}
 use Rattle.hex.specs.Hex.{encode_lower}
@@ -32,6 +32,10 @@ map_of_none = refl
 -- the map after one more insertion
 pub map_after_insert : (s : State) (key value : List ℕ) → map_at (after s (insert key value)) ≡ finite.insert (map_at s) (key_bits sha256 key) (leaf_digest sha256 value)
 map_after_insert s key value = inserted-push sha256 finite.empty s.insertions key value
+
+-- a call that answered didn't fail
+pub answered_not_failed : {T E : Type 0} (x : T) (e : E) → Ok x ≡ Err e → ⊥
+answered_not_failed x e failed = absurd (cc)
 
 -- what the command `prove` answers by a proof
 pub proved_said : (s : State) (m : SparseMap) (copy key value : List ℕ) (peers : Peers) (root : List ℕ) → m ≡ map_at s → copy ≡ key → length peers ≤ 256 → Proves sha256 256 m (key_bits sha256 copy) peers

@@ -1,43 +1,46 @@
 -- The text of some lines and of those behind them.
-use Rattle.std.proofs.Common.{◌≡◌, ℕ, suc, ◌+◌, Bool, true, false, cond, List, [], ◌∷◌, ◌++◌, length, append_assoc, append-nil, length-append, codes, string_bytes, ◌⊎◌, ⊎_elim, inl, inr, Result, Err, refl, sym, ◌∙◌, ap, arith}
+use Rattle.std.proofs.Common.{◌≡◌, ℕ, suc, ◌+◌, Bool, true, false, cond, List, [], ◌∷◌, ◌++◌, length, append_assoc, append-nil, length-append, codes, string_bytes, Option, Some, ◌⊎◌, ⊎_elim, inl, inr, Result, Ok, Err, refl, sym, ◌∙◌, ap, arith}
 use Rattle.std.proofs.lemmas.Bool.{and_parts, true≢false}
 use Rattle.std.specs.Fmt.{decimal}
 use Rattle.std.proofs.lemmas.Grind.{common_steps}
 use Rattle.hex.specs.Hex.{encode_lower}
 use Rattle.warg_crypto.specs.Digests.{sha256}
+use Rattle.warg_crypto.specs.Tree.{leaf_digest}
 use Rattle.warg_log.specs.Tree.{root_of}
 use Rattle.warg_protobuf.specs.declared.value_error.DecodeError.{DecodeError}
 use Rattle.warg_program.specs.Words.{lines_of}
-use Rattle.warg_program.specs.Orders.{Order, Line, line_of, empty, bad, good, log}
+use Rattle.warg_program.specs.Orders.{Order, Line, line_of, empty, bad, good, good_or_bad, push, log}
 use Rattle.warg_program.specs.States.{State, start, log_at, map_at, after, after_line, FindsFull}
 use Rattle.warg_program.specs.Text.{said, is_not_bad, text_from, text_of, all_good, after_lines, answer, verdict_or_refusal, MeetsFull}
-use Rattle.warg_program.specs.Private.Sessions.{IsInState, LineFindsFull, Answers, AddsText}
+use Rattle.warg_program.specs.Private.Sessions.{IsInState, LineFindsFull, Answers, Says, Takes}
+use Rattle.warg_program.specs.declared.line_error.LineError.{LineError}
+use Rattle.warg_program.specs.declared.line_error.LineError.TheVariants.{BadLine, Memory, Full}
 use Rattle.warg_program.specs.declared.session.Session.{Session}
 use Rattle.warg_check.specs.declared.verdict.CheckError.{CheckError}
 use Rattle.warg_check.specs.declared.verdict.CheckError.TheVariants as check
 
 -- a line of these, before which all are good, has an order that finds no room
-unfoldable pub Full : State → List (List ℕ) → Type 0
-Full s [] = ⊥
-Full s (line ∷ lines) = LineFindsFull s (line_of line) ⊎ ((is_not_bad (line_of line) ≡ true) × Full (after_line s (line_of line)) lines)
+unfoldable pub HasFull : State → List (List ℕ) → Type 0
+HasFull s [] = ⊥
+HasFull s (line ∷ lines) = LineFindsFull s (line_of line) ⊎ ((is_not_bad (line_of line) ≡ true) × HasFull (after_line s (line_of line)) lines)
 
-full_at : (s : State) (before behind : List (List ℕ)) (line : List ℕ) (order : Order) → all_good before ≡ true → line_of line ≡ good order → FindsFull (after_lines s before) order → Full s (before ++ line ∷ behind)
-unfolding Full all_good after_lines
+full_at : (s : State) (before behind : List (List ℕ)) (line : List ℕ) (order : Order) → all_good before ≡ true → line_of line ≡ good order → FindsFull (after_lines s before) order → HasFull s (before ++ line ∷ behind)
+unfolding HasFull all_good after_lines
 full_at s [] behind line order fine is full = inl (rw is full)
 full_at s (other ∷ before) behind line order fine is full =
     let both = and_parts (is_not_bad (line_of other)) (all_good before) fine in
     inr (both.0, full_at (after_line s (line_of other)) before behind line order both.1 is full)
 
-meets : (input : List ℕ) → MeetsFull input → Full start (lines_of input)
+meets : (input : List ℕ) → MeetsFull input → HasFull start (lines_of input)
 meets input at = rw at.parts (full_at start at.before at.behind at.line at.order at.all_good at.is_order at.full)
 
-full_behind : (s : State) (line : List ℕ) (lines : List (List ℕ)) → ¬ LineFindsFull s (line_of line) → Full s (line ∷ lines) → Full (after_line s (line_of line)) lines
-unfolding Full
-full_behind s line lines room full = ⊎_elim (λ (here : LineFindsFull s (line_of line)). absurd (room here)) (λ (later : (is_not_bad (line_of line) ≡ true) × Full (after_line s (line_of line)) lines). later.1) full
+full_behind : (s : State) (line : List ℕ) (lines : List (List ℕ)) → ¬ LineFindsFull s (line_of line) → HasFull s (line ∷ lines) → HasFull (after_line s (line_of line)) lines
+unfolding HasFull
+full_behind s line lines room full = ⊎_elim (λ (here : LineFindsFull s (line_of line)). absurd (room here)) (λ (later : (is_not_bad (line_of line) ≡ true) × HasFull (after_line s (line_of line)) lines). later.1) full
 
-not_at_bad : (s : State) (line : List ℕ) (lines : List (List ℕ)) → line_of line ≡ bad → Full s (line ∷ lines) → ⊥
-unfolding Full
-not_at_bad s line lines is_bad full = ⊎_elim (λ (here : LineFindsFull s (line_of line)). rw is_bad at here) (λ (later : (is_not_bad (line_of line) ≡ true) × Full (after_line s (line_of line)) lines). true≢false (sym later.0 ∙ ap is_not_bad is_bad)) full
+not_at_bad : (s : State) (line : List ℕ) (lines : List (List ℕ)) → line_of line ≡ bad → HasFull s (line ∷ lines) → ⊥
+unfolding HasFull
+not_at_bad s line lines is_bad full = ⊎_elim (λ (here : LineFindsFull s (line_of line)). rw is_bad at here) (λ (later : (is_not_bad (line_of line) ≡ true) × HasFull (after_line s (line_of line)) lines). true≢false (sym later.0 ∙ ap is_not_bad is_bad)) full
 
 -- the lines so far were good, the session stands at the state after them, and its text is theirs
 pub record Stands {A : Type 0} (input rest : List ℕ) (session : Session A) (number : ℕ) : Type 0 where
@@ -47,7 +50,7 @@ pub record Stands {A : Type 0} (input rest : List ℕ) (session : Session A) (nu
   pub state_is : IsInState session (after_lines start before)
   pub text_is : string_bytes session.text ≡ text_from 1 start before
   pub number_is : number ≡ length before
-  pub room : MeetsFull input → Full (after_lines start before) (lines_of rest)
+  pub room : MeetsFull input → HasFull (after_lines start before) (lines_of rest)
 
 -- the text of good lines, and of others behind them
 text_from-append : (n : ℕ) (s : State) (before behind : List (List ℕ)) → all_good before ≡ true
@@ -128,7 +131,7 @@ goes_on input rest line behind old new number stands lines answered =
 -- behind the last line
 pub ends : {A : Type 0} (input rest : List ℕ) (session : Session A) (number : ℕ) → Stands input rest session number → length rest ≡ 0
     → (string_bytes session.text ≡ text_of input) × (all_good (lines_of input) ≡ true) × ¬ MeetsFull input
-unfolding lines_of Full
+unfolding lines_of HasFull
 ends input [] session number stands none =
     let whole : lines_of input ≡ stands.before = stands.parts ∙ append-nil stands.before in
     (stands.text_is ∙ ap (text_from 1 start) (sym whole), ap all_good whole ∙ stands.good, stands.room)
@@ -170,16 +173,54 @@ meets_full input rest line behind session number stands lines finds_full = at (l
       full = full;
     }
 
--- an order that changes neither the log nor the map, by what it adds to the text
-pub told : {A : Type 0} (old new : Session A) (s : State) (order : Order) (added : List ℕ) → after s order ≡ s → ¬ FindsFull s order → answer s order ≡ added
-    → AddsText old new (added ++ 10 ∷ []) → IsInState old s → Answers old new s (good order)
-told old new s order added stays room is adds at = record {
+-- the number of a log's entries
+pub log_length : (s : State) (leaves : List (List ℕ)) → leaves ≡ log_at s → length s.entries ≡ length leaves
+log_length s leaves at = grind (arith, common_steps)
+
+-- the log after one more entry
+pub log_after_push : (s : State) (leaves : List (List ℕ)) (entry : List ℕ) → leaves ≡ log_at s → leaves ++ leaf_digest sha256 entry ∷ [] ≡ log_at (after s (push entry))
+log_after_push s leaves entry at = grind (arith, common_steps)
+
+-- an order that words spell
+pub spelled : {A : Type 0} (old new : Session A) (said : Option Order) (order : Order) (result : Result (Unit {0}) LineError) → said ≡ Some order → Takes old new (good order) result → Takes old new (good_or_bad said) result
+spelled old new said order result is takes = rw is takes
+
+-- the same text under another form
+pub says_same : {A : Type 0} (old new : Session A) (text other : List ℕ) (result : Result (Unit {0}) LineError) → text ≡ other → Says old new (other ++ 10 ∷ []) result → Says old new (text ++ 10 ∷ []) result
+says_same old new text other result same says = rw same says
+
+-- what an order does to a session at a state, and what its answer is
+pub record Leads {A : Type 0} (old new : Session A) (s : State) (order : Order) (added : List ℕ) : Type 0 where
+  pub answer_is : answer s order ≡ added
+  pub room : ¬ FindsFull s order
+  pub log_is : new.log ≡ log_at (after s order)
+  pub map_is : new.map ≡ map_at (after s order)
+  pub text_is : string_bytes new.text ≡ string_bytes old.text
+
+-- an order whose answer is added to the text
+pub led : {A : Type 0} (old mid new : Session A) (order : Order) (added : List ℕ) (result : Result (Unit {0}) LineError) → ((s : State) → IsInState old s → Leads old mid s order added)
+    → Says mid new (added ++ 10 ∷ []) result → Takes old new (good order) result
+led old mid new order added (Ok _) leads adds = λ s at. let step = leads s at in record {
   is_good = refl;
-  room = room;
-  log_is = adds.0 ∙ at.log_is ∙ ap log_at (sym stays);
-  map_is = adds.1 ∙ at.map_is ∙ ap map_at (sym stays);
-  text_is = λ number. adds.2 ∙ ap (λ text. string_bytes old.text ++ (text ++ 10 ∷ [])) (sym is);
+  room = step.room;
+  log_is = adds.0 ∙ step.log_is;
+  map_is = adds.1 ∙ step.map_is;
+  text_is = λ number. adds.2 ∙ ap (λ text. text ++ (added ++ 10 ∷ [])) step.text_is ∙ ap (λ text. string_bytes old.text ++ (text ++ 10 ∷ [])) (sym step.answer_is);
 }
+led old mid new order added (Err BadLine) leads adds = absurd adds
+led old mid new order added (Err Memory) leads adds = tt
+led old mid new order added (Err Full) leads adds = absurd adds
+
+-- the same of an order that changes neither the log nor the map
+pub told : {A : Type 0} (old new : Session A) (order : Order) (added : List ℕ) (result : Result (Unit {0}) LineError) → ((s : State) → IsInState old s → answer s order ≡ added)
+    → ((s : State) → after s order ≡ s) → ((s : State) → ¬ FindsFull s order) → Says old new (added ++ 10 ∷ []) result → Takes old new (good order) result
+told old new order added result is stays room adds = led old old new order added result (λ s at. record {
+  answer_is = is s at;
+  room = room s;
+  log_is = at.log_is ∙ ap log_at (sym (stays s));
+  map_is = at.map_is ∙ ap map_at (sym (stays s));
+  text_is = refl;
+}) adds
 
 -- bytes that are no bundle are refused for that
 pub not_decoded : (e : DecodeError) (verdict : Result Bool CheckError) → (check.Decode e ≡ check.Memory) ⊎ (verdict ≡ Err (check.Decode e))

@@ -9,8 +9,8 @@ use Rattle.std.specs.List.{list_all}
 use Rattle.std.specs.Char.{is_ascii_digit}
 use Rattle.memchr.specs.Find.{IsFirstByte, is_byte}
 use Rattle.warg_program.specs.Words.{onto_first, lines_of, words_of, words_left, is_number, number_in, at_most_2^63, length_in, hex_bytes_in, if_32, root_in, value_from}
-use Rattle.warg_program.specs.Orders.{first_says, none_left, good_or_bad, order_of, line_of, bad}
-use Rattle.warg_program.specs.Private.Parts.{Lacks, IsFirstPart}
+use Rattle.warg_program.specs.Orders.{Order, first_says, none_left, next, done, good_or_bad, order_of, line_of, bad}
+use Rattle.warg_program.specs.Private.Parts.{Lacks, IsFirstPart, last_says}
 
 Lacks-append : (b : ℕ) (xs ys : List ℕ) → Lacks b xs → Lacks b ys → Lacks b (xs ++ ys)
 Lacks-append b [] ys p q = q
@@ -138,6 +138,30 @@ length_says words = says_kept number_in at_most_2^63 words
 pub root_says : (words : List (List ℕ)) → first_says root_in words ≡ first_kept if_32 (first_says hex_bytes_in words)
 unfolding root_in
 root_says words = says_kept hex_bytes_in if_32 words
+
+-- an order of which the last word says something
+pub last_word : {X : Type 0} (say : List ℕ → Option X) (order : X → Order) (words : List (List ℕ)) (x : X) → last_says say words ≡ Some x → next say (λ y. done (order y)) words ≡ Some (order x)
+last_word {X} say order words x says = said (first_says say words) says
+  where
+    left : (y : X) (none : Option (Unit {0})) → option_map (λ _. y) none ≡ Some x → option_map (λ _. order y) none ≡ Some (order x)
+    left y (Some _) e = ap (option_map order) e
+    left y None e = absurd (cc)
+
+    said : (p : Option (X × List (List ℕ))) → option_and_then (λ q. option_map (λ _. q.0) (none_left q.1)) p ≡ Some x → option_and_then (λ q. done (order q.0) q.1) p ≡ Some (order x)
+    said (Some q) e = left q.0 (none_left q.1) e
+    said None e = absurd (cc)
+
+-- an order of which the last word says nothing
+pub no_last_word : {X : Type 0} (say : List ℕ → Option X) (order : X → Order) (words : List (List ℕ)) → last_says say words ≡ None → next say (λ y. done (order y)) words ≡ None
+no_last_word {X} say order words says = said (first_says say words) says
+  where
+    left : (y : X) (none : Option (Unit {0})) → option_map (λ _. y) none ≡ None → option_map (λ _. order y) none ≡ None
+    left y (Some _) e = absurd (cc)
+    left y None e = refl
+
+    said : (p : Option (X × List (List ℕ))) → option_and_then (λ q. option_map (λ _. q.0) (none_left q.1)) p ≡ None → option_and_then (λ q. done (order q.0) q.1) p ≡ None
+    said (Some q) e = left q.0 (none_left q.1) e
+    said None e = refl
 
 lines_front : (front rest : List ℕ) → Lacks 10 front → lines_of (front ++ 10 ∷ rest) ≡ front ∷ lines_of rest
 unfolding lines_of

@@ -1,20 +1,18 @@
 //! A run of commands: the log that they push to, the map that they insert into, and the text that answers them.
 
-ghost use Rattle.std.specs.Prelude.{◌≡◌, ◌≢◌, ◌≤◌, [], ◌∷◌, ◌++◌, IfOk, IfErr, OnOk, codes, string_bytes};
+ghost use Rattle.std.specs.Prelude.{◌≡◌, ◌≢◌, ◌≤◌, [], ◌∷◌, ◌++◌, Ok, IfOk, IfErr, OnOk, codes, string_bytes};
+ghost use Rattle.std.specs.Fmt.{decimal};
 ghost use Rattle.hex.specs.Hex.{encode_lower};
 ghost use Rattle.warg_crypto.specs.Digests.{sha256};
-ghost use Rattle.warg_crypto.specs.Tree.{leaf_digest};
 ghost use Rattle.warg_log.specs.Tree.{own_digest};
-ghost use Rattle.warg_log.specs.Inclusion.{inclusion};
-ghost use Rattle.warg_log.specs.Consistency.{consistency};
+ghost use Rattle.warg_protobuf.specs.Reading.{Answers};
 ghost use Rattle.warg_bundle.specs.Bundling.{bundled};
 ghost use Rattle.warg_bundle.specs.LogBundles.{bundle_message};
-ghost use Rattle.warg_check.specs.Verdicts.{inclusion_verdict};
 ghost use Rattle.warg_program.specs.Words.{lines_of};
-ghost use Rattle.warg_program.specs.Orders.{line_of, good_or_bad, push_in, log_in, include_in, consistent_in, bundle_in, verify_in, insert_in, map_in, prove_in, absent_in, good, insert, prove, absent};
+ghost use Rattle.warg_program.specs.Orders.{line_of, good_or_bad, push_in, log_in, include_in, consistent_in, bundle_in, verify_in, insert_in, map_in, prove_in, absent_in, good, include, consistent, bundle, verify, insert, prove, absent};
 ghost use Rattle.warg_program.specs.States.{start};
 ghost use Rattle.warg_program.specs.Private.Errors.{IsRefusal};
-ghost use Rattle.warg_program.specs.Text.{root_or_refusal, refusal, roots_or_refusal, bytes_or_refusal, bundle_refusal, bundle_or_refusal, verdict_or_refusal, text_of, all_good, MeetsFull};
+ghost use Rattle.warg_program.specs.Text.{refusal, roots_or_refusal, bytes_or_refusal, bundle_refusal, text_of, all_good, MeetsFull};
 ghost use Rattle.warg_log.specs.declared.log.TheConstants.{GREATEST_LENGTH};
 
 use crate::line_error::LineError;
@@ -41,7 +39,7 @@ struct Session<A: Allocator> {
 }
 
 impl<A: Allocator + Copy> Session<A> {
-    ghost use Rattle.warg_program.specs.Private.Sessions.{IsInState, Takes, AddsText, AddsAnswer};
+    ghost use Rattle.warg_program.specs.Private.Sessions.{IsInState, Takes, Says};
 
     // Answers an input's lines up to the first bad one, and says whether there is none.
     fn answer_all(&mut self, input: &[u8]) -> Result<bool, RunError>
@@ -106,22 +104,17 @@ impl<A: Allocator + Copy> Session<A> {
         }
     }
 
-    #[tactic(auto, unfolding(crate::specs::Text::answer))]
-    fn push(&mut self, mut words: Words<'_>) -> Result<(), LineError>
+    fn push(&mut self, words: Words<'_>) -> Result<(), LineError>
         ensures { Takes self.old self.new (good_or_bad (push_in words.entry)) result }
     {
-        let entry = words.bytes(self.alloc)?;
-        words.end()?;
+        let entry = words.last_bytes(self.alloc)?;
         if self.log.length() == GREATEST_LENGTH {
             return Err(LineError::Full);
         }
         let node = self.log.push(&entry)?;
-        let number = node.0;
-        writeln!(self.text, "node {number}")?;
-        Ok(())
+        self.say_number("node", node.0)
     }
 
-    #[tactic(auto, unfolding(crate::specs::Text::answer))]
     fn checkpoint(&mut self, words: Words<'_>) -> Result<(), LineError>
         ensures { Takes self.old self.new (good_or_bad (log_in words.entry)) result }
     {
@@ -137,10 +130,8 @@ impl<A: Allocator + Copy> Session<A> {
     {
         let node = Node(words.number()?);
         let length = words.log_length()?;
-        let value = words.bytes(self.alloc)?;
-        words.end()?;
-        self.say_included(node, length, &value)?;
-        Ok(())
+        let value = words.last_bytes(self.alloc)?;
+        self.say_included(node, length, &value)
     }
 
     // Answers by the root that the log's own digests give with a value at a node, or by why there is none.
@@ -149,18 +140,16 @@ impl<A: Allocator + Copy> Session<A> {
         node: Node,
         length: usize,
         value: &Vec<u8, A>,
-    ) -> Result<(), AllocError>
+    ) -> Result<(), LineError>
         requires { length ≤ GREATEST_LENGTH }
-        ensures { OnOk result (AddsText self.old self.new (root_or_refusal
-            (inclusion sha256 (own_digest sha256 self.old.log) (record { leaf = node; log_length = length })
-            (leaf_digest sha256 value.now.items)) ++ 10 ∷ [])) }
+        ensures { Takes self.old self.new (good (include node.0 length value.now.items)) result }
     {
         let proof = self.log.prove_inclusion(node, length);
         match proof.evaluate_value(&self.log, value) {
             Ok(root) => self.say_root("root", &root),
             Err(InclusionProofError::LeafTooNew) => self.say("refused leaf too new"),
             Err(InclusionProofError::HashNotKnown) => self.say("refused hash not known"),
-            Err(InclusionProofError::Memory) => Err(AllocError),
+            Err(InclusionProofError::Memory) => Err(LineError::Memory),
         }
     }
 
@@ -170,20 +159,18 @@ impl<A: Allocator + Copy> Session<A> {
         let old = words.log_length()?;
         let new = words.log_length()?;
         words.end()?;
-        self.say_consistent(old, new)?;
-        Ok(())
+        self.say_consistent(old, new)
     }
 
     // Answers by the roots of two lengths, or by why the log's own digests give none.
-    fn say_consistent(&mut self, old: usize, new: usize) -> Result<(), AllocError>
+    fn say_consistent(&mut self, old: usize, new: usize) -> Result<(), LineError>
         requires old { old ≤ GREATEST_LENGTH }
         requires new { new ≤ GREATEST_LENGTH }
-        ensures { OnOk result (AddsText self.old self.new
-            (roots_or_refusal (consistency sha256 (own_digest sha256 self.old.log) old new) ++ 10 ∷ [])) }
+        ensures { Takes self.old self.new (good (consistent old new)) result }
     {
         let proof = self.log.prove_consistency(old, new);
         match proof.evaluate(&self.log) {
-            Ok((old_root, new_root)) => writeln!(self.text, "roots {old_root} {new_root}"),
+            Ok((old_root, new_root)) => self.say_roots(&old_root, &new_root),
             Err(fault) => self.say(refusal(&fault)?),
         }
     }
@@ -194,42 +181,54 @@ impl<A: Allocator + Copy> Session<A> {
         let node = Node(words.number()?);
         let length = words.log_length()?;
         words.end()?;
-        self.say_bundle(node, length)?;
-        Ok(())
+        self.say_bundle(node, length)
     }
 
     // Answers by the bundle of an inclusion proof, or by why the log's own digests give none.
-    fn say_bundle(&mut self, node: Node, length: usize) -> Result<(), AllocError>
+    fn say_bundle(&mut self, node: Node, length: usize) -> Result<(), LineError>
         requires { length ≤ GREATEST_LENGTH }
-        ensures { OnOk result (AddsText self.old self.new (bundle_or_refusal
-            (bundled (own_digest sha256 self.old.log) [] (record { leaf = node; log_length = length } ∷ [])) ++ 10 ∷ [])) }
+        ensures { Takes self.old self.new (good (bundle node.0 length)) result }
     {
-        let proofs = Vec::from_slice(self.alloc, &[self.log.prove_inclusion(node, length)])?;
-        match LogProofBundle::bundle(self.alloc, Vec::new(self.alloc), proofs, &self.log) {
+        match self.bundle_of(node, length) {
             Ok(bundle) => self.encode(&bundle),
             Err(fault) => self.say(bundle_refusal(&fault)?),
         }
     }
 
+    // The bundle of an inclusion proof.
+    fn bundle_of(
+        &self,
+        node: Node,
+        length: usize,
+    ) -> Result<LogProofBundle<Sha256, Vec<u8, A>, A>, BundleError>
+        requires { length ≤ GREATEST_LENGTH }
+        ensures { Answers BundleError.Memory result (bundled (own_digest sha256 self.now.log)
+            [] (record { leaf = node; log_length = length } ∷ [])) }
+    {
+        let proofs = Vec::from_slice(self.alloc, &[self.log.prove_inclusion(node, length)])?;
+        LogProofBundle::bundle(self.alloc, Vec::new(self.alloc), proofs, &self.log)
+    }
+
     // Answers a bundle by its bytes.
-    fn encode(&mut self, bundle: &LogProofBundle<Sha256, Vec<u8, A>, A>) -> Result<(), AllocError>
-        ensures { OnOk result (AddsText self.old self.new
-            (bytes_or_refusal (bundle_message bundle.now) ++ 10 ∷ [])) }
+    fn encode(&mut self, bundle: &LogProofBundle<Sha256, Vec<u8, A>, A>) -> Result<(), LineError>
+        ensures { Says self.old self.new
+            (bytes_or_refusal (bundle_message bundle.now) ++ 10 ∷ []) result }
     {
         match bundle.encode(self.alloc) {
             Ok(bytes) => self.say_bytes(bytes.as_slice()),
             Err(EncodeError::TooLarge) => self.say("refused too large"),
-            Err(EncodeError::Memory) => Err(AllocError),
+            Err(EncodeError::Memory) => Err(LineError::Memory),
         }
     }
 
     // Answers by a bundle's bytes, in hexadecimal digits.
-    fn say_bytes(&mut self, bytes: &[u8]) -> Result<(), AllocError>
-        ensures { OnOk result (AddsText self.old self.new
-            (codes "bundle " ++ (encode_lower bytes.now ++ 10 ∷ []))) }
+    fn say_bytes(&mut self, bytes: &[u8]) -> Result<(), LineError>
+        ensures { Says self.old self.new
+            (codes "bundle " ++ (encode_lower bytes.now ++ 10 ∷ [])) result }
     {
         let digits = hex::encode(self.alloc, bytes)?;
-        writeln!(self.text, "bundle {digits}")
+        writeln!(self.text, "bundle {digits}")?;
+        Ok(())
     }
 
     fn verify(&mut self, mut words: Words<'_>) -> Result<(), LineError>
@@ -237,10 +236,8 @@ impl<A: Allocator + Copy> Session<A> {
     {
         let root = words.root(self.alloc)?;
         let value = words.bytes(self.alloc)?;
-        let bundle = words.bytes(self.alloc)?;
-        words.end()?;
-        self.say_verdict(&root, &value, bundle.as_slice())?;
-        Ok(())
+        let bundle = words.last_bytes(self.alloc)?;
+        self.say_verdict(&root, &value, bundle.as_slice())
     }
 
     // Answers by the verdict on the first inclusion proof of a bundle's bytes, or by why there is none.
@@ -249,15 +246,17 @@ impl<A: Allocator + Copy> Session<A> {
         root: &Hash<Sha256>,
         value: &Vec<u8, A>,
         bundle: &[u8],
-    ) -> Result<(), AllocError>
-        ensures { OnOk result (AddsText self.old self.new
-            (verdict_or_refusal (inclusion_verdict sha256 bundle.now 0 value.now.items root.now) ++ 10 ∷ [])) }
+    ) -> Result<(), LineError>
+        ensures { Takes self.old self.new (good (verify root.now value.now.items bundle.now)) result }
     {
         match check_inclusion(self.alloc, bundle, 0, value, root) {
-            Ok(verdict) => writeln!(self.text, "{verdict}"),
+            Ok(verdict) => {
+                writeln!(self.text, "{verdict}")?;
+                Ok(())
+            }
             Err(CheckError::Decode(_)) => self.say("refused not decoded"),
             Err(CheckError::NoSuchProof) => self.say("refused no such proof"),
-            Err(CheckError::Memory) => Err(AllocError),
+            Err(CheckError::Memory) => Err(LineError::Memory),
         }
     }
 
@@ -265,23 +264,20 @@ impl<A: Allocator + Copy> Session<A> {
         ensures { Takes self.old self.new (good_or_bad (insert_in words.entry)) result }
     {
         let key = words.bytes(self.alloc)?;
-        let value = words.bytes(self.alloc)?;
-        words.end()?;
+        let value = words.last_bytes(self.alloc)?;
         self.insert_entry(key, value)
     }
 
     // Inserts an entry, and answers by the count of keys.
-    #[tactic(auto, unfolding(crate::specs::Text::answer), using(crate::proofs::MapLemmas::map_after_insert))]
+    #[tactic(auto, using(crate::proofs::MapLemmas::map_after_insert))]
     fn insert_entry(&mut self, key: Vec<u8, A>, value: Vec<u8, A>) -> Result<(), LineError>
         ensures { Takes self.old self.new (good (insert key.items value.items)) result }
     {
         self.map = self.map.insert(key, value)?;
         let len = self.map.len();
-        writeln!(self.text, "len {len}")?;
-        Ok(())
+        self.say_number("len", len)
     }
 
-    #[tactic(auto, unfolding(crate::specs::Text::answer))]
     fn map_root(&mut self, words: Words<'_>) -> Result<(), LineError>
         ensures { Takes self.old self.new (good_or_bad (map_in words.entry)) result }
     {
@@ -296,15 +292,13 @@ impl<A: Allocator + Copy> Session<A> {
         ensures { Takes self.old self.new (good_or_bad (prove_in words.entry)) result }
     {
         let key = words.bytes(self.alloc)?;
-        let value = words.bytes(self.alloc)?;
-        words.end()?;
-        self.say_proved(&key, &value)?;
-        Ok(())
+        let value = words.last_bytes(self.alloc)?;
+        self.say_proved(&key, &value)
     }
 
     // Answers by the root to which a key's proof leads from a value, or that there is no proof.
-    fn say_proved(&mut self, key: &Vec<u8, A>, value: &Vec<u8, A>) -> Result<(), AllocError>
-        ensures { AddsAnswer self.old self.new (prove key.now.items value.now.items) result }
+    fn say_proved(&mut self, key: &Vec<u8, A>, value: &Vec<u8, A>) -> Result<(), LineError>
+        ensures { Takes self.old self.new (good (prove key.now.items value.now.items)) result }
     {
         let copy = Vec::from_slice(self.alloc, key.as_slice())?;
         match self.map.prove(copy)? {
@@ -313,18 +307,16 @@ impl<A: Allocator + Copy> Session<A> {
         }
     }
 
-    fn absent(&mut self, mut words: Words<'_>) -> Result<(), LineError>
+    fn absent(&mut self, words: Words<'_>) -> Result<(), LineError>
         ensures { Takes self.old self.new (good_or_bad (absent_in words.entry)) result }
     {
-        let key = words.bytes(self.alloc)?;
-        words.end()?;
-        self.say_absent(&key)?;
-        Ok(())
+        let key = words.last_bytes(self.alloc)?;
+        self.say_absent(&key)
     }
 
     // Answers by the root to which a key's absence leads, or that it is present.
-    fn say_absent(&mut self, key: &Vec<u8, A>) -> Result<(), AllocError>
-        ensures { AddsAnswer self.old self.new (absent key.now.items) result }
+    fn say_absent(&mut self, key: &Vec<u8, A>) -> Result<(), LineError>
+        ensures { Takes self.old self.new (good (absent key.now.items)) result }
     {
         let copy = Vec::from_slice(self.alloc, key.as_slice())?;
         match self.map.prove_absence(copy)? {
@@ -334,18 +326,37 @@ impl<A: Allocator + Copy> Session<A> {
     }
 
     // Answers by a word and a root.
-    fn say_root(&mut self, word: &str, root: &Hash<Sha256>) -> Result<(), AllocError>
-        ensures { OnOk result (AddsText self.old self.new
-            (word.now ++ 32 ∷ (encode_lower root.now ++ 10 ∷ []))) }
+    fn say_root(&mut self, word: &str, root: &Hash<Sha256>) -> Result<(), LineError>
+        ensures { Says self.old self.new
+            (word.now ++ 32 ∷ (encode_lower root.now ++ 10 ∷ [])) result }
     {
-        writeln!(self.text, "{word} {root}")
+        writeln!(self.text, "{word} {root}")?;
+        Ok(())
+    }
+
+    // Answers by two roots.
+    fn say_roots(&mut self, old: &Hash<Sha256>, new: &Hash<Sha256>) -> Result<(), LineError>
+        ensures { Says self.old self.new
+            (roots_or_refusal (Ok (old.now, new.now)) ++ 10 ∷ []) result }
+    {
+        writeln!(self.text, "roots {old} {new}")?;
+        Ok(())
+    }
+
+    // Answers by a word and a number.
+    fn say_number(&mut self, word: &str, number: usize) -> Result<(), LineError>
+        ensures { Says self.old self.new (word.now ++ 32 ∷ (decimal number ++ 10 ∷ [])) result }
+    {
+        writeln!(self.text, "{word} {number}")?;
+        Ok(())
     }
 
     // Answers by a line of text.
-    fn say(&mut self, text: &str) -> Result<(), AllocError>
-        ensures { OnOk result (AddsText self.old self.new (text.now ++ 10 ∷ [])) }
+    fn say(&mut self, text: &str) -> Result<(), LineError>
+        ensures { Says self.old self.new (text.now ++ 10 ∷ []) result }
     {
-        writeln!(self.text, "{text}")
+        writeln!(self.text, "{text}")?;
+        Ok(())
     }
 }
 

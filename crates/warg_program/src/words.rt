@@ -5,7 +5,7 @@ ghost use Rattle.std.specs.Option.{option_map};
 ghost use Rattle.warg_crypto.specs.Bytes.{same_bytes};
 ghost use Rattle.warg_program.specs.Words.{number_in, length_in, hex_bytes_in, root_in};
 ghost use Rattle.warg_program.specs.Orders.{first_says, none_left};
-ghost use Rattle.warg_program.specs.Private.Parts.{IsFirstPart};
+ghost use Rattle.warg_program.specs.Private.Parts.{IsFirstPart, last_says};
 ghost use Rattle.warg_program.specs.Private.Errors.{IsUnread};
 ghost use Rattle.warg_log.specs.declared.log.TheConstants.{GREATEST_LENGTH};
 
@@ -105,6 +105,16 @@ impl<'a> Words<'a> {
             Err(FromHexError::OutOfMemory) => Err(LineError::Memory),
             Err(_) => Err(LineError::BadLine),
         }
+    }
+
+    /// The bytes that the last word says, if no words are left behind it.
+    pub(super) fn last_bytes<A: Allocator>(mut self, alloc: A) -> Result<Vec<u8, A>, LineError>
+        ensures ok { IfOk result (λ bytes. last_says hex_bytes_in self.entry ≡ Some bytes.items) }
+        ensures errors { IfErr result (IsUnread (last_says hex_bytes_in self.entry)) }
+    {
+        let bytes = self.bytes(alloc)?;
+        self.end()?;
+        Ok(bytes)
     }
 
     #[tactic(auto, using(crate::proofs::WordLemmas::root_says))]

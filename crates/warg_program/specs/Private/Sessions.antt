@@ -1,9 +1,8 @@
 -- What a session does with a line, by the states that its log and its map stand for.
 use Rattle.std.specs.Prelude.{◌≡◌, ℕ, true, List, [], ◌∷◌, ◌++◌, string_bytes, Result, Ok, Err}
-use Rattle.std.specs.Result.{OnOk}
 use Rattle.warg_program.specs.Orders.{Order, Line, empty, bad, good}
 use Rattle.warg_program.specs.States.{State, log_at, map_at, after_line, FindsFull}
-use Rattle.warg_program.specs.Text.{said, answer, is_not_bad}
+use Rattle.warg_program.specs.Text.{said, is_not_bad}
 use Rattle.warg_program.specs.declared.line_error.LineError.{LineError}
 use Rattle.warg_program.specs.declared.line_error.LineError.TheVariants.{BadLine, Memory, Full}
 use Rattle.warg_program.specs.declared.session.Session.{Session}
@@ -39,6 +38,9 @@ Takes old new line (Err Full) = (s : State) → IsInState old s → LineFindsFul
 abbrev pub AddsText : {A : Type 0} → Session A → Session A → List ℕ → Type 0
 AddsText old new added = (new.log ≡ old.log) × (new.map ≡ old.map) × (string_bytes new.text ≡ string_bytes old.text ++ added)
 
--- Where it is answered, the session only added the answer to an order, at whatever state it stood.
-abbrev pub AddsAnswer : {A E : Type 0} → Session A → Session A → Order → Result (Unit {0}) E → Type 0
-AddsAnswer old new order result = (s : State) → IsInState old s → OnOk result (AddsText old new (answer s order ++ 10 ∷ []))
+-- The session only added text, unless memory was refused.
+abbrev pub Says : {A : Type 0} → Session A → Session A → List ℕ → Result (Unit {0}) LineError → Type 0
+Says old new added (Ok _) = AddsText old new added
+Says old new added (Err BadLine) = ⊥
+Says old new added (Err Memory) = Unit {0}
+Says old new added (Err Full) = ⊥

@@ -1,11 +1,12 @@
-use Rattle.std.proofs.Common.{◌∙◌}
+use Rattle.std.proofs.Common.{◌∙◌, refl}
 use Rattle.warg_program.proofs.MapLemmas.{absent_said, present_said}
+use Rattle.warg_program.proofs.TextLemmas.{told}
 use Rattle.warg_program.proofs.session.Session.say_absent.Goals as goal
 
 pub returns-in-Some : goal.returns-in-Some
-returns-in-Some g c s at =
-    let said = absent_said s _ _ _ _ _ _ at.map_is (c.in_ok-copy.ensures.items ∙ c.as_slice.ensures.value) c.in-Some.is c.in_ok-absence.ensures.empty c.in_ok-absence.ensures.peers c.evaluate_absent.ensures in
-    rw said c.say_root.ensures
+returns-in-Some g c =
+    told _ _ _ _ _ (λ s at. absent_said s _ _ _ _ _ _ at.map_is (c.in_ok-copy.ensures.items ∙ c.as_slice.ensures.value) c.in-Some.is c.in_ok-absence.ensures.empty c.in_ok-absence.ensures.peers c.evaluate_absent.ensures) (λ s. refl) (λ s full. full) c.say_root.ensures
 
 pub returns-in-None : goal.returns-in-None
-returns-in-None g c s at = rw (present_said s _ _ _ _ at.map_is (c.in_ok-copy.ensures.items ∙ c.as_slice.ensures.value) c.in-None.is c.in_ok-absence.ensures.empty) c.say.ensures
+returns-in-None g c =
+    told _ _ _ _ _ (λ s at. present_said s _ _ _ _ at.map_is (c.in_ok-copy.ensures.items ∙ c.as_slice.ensures.value) c.in-None.is c.in_ok-absence.ensures.empty) (λ s. refl) (λ s full. full) c.say.ensures
