@@ -105,10 +105,10 @@ command_line [] name word rest some parts same = absurd (true≢false (sym some)
 command_line (b ∷ line) name word rest some parts same =
     named_line (b ∷ line) name rest (omega arith) parts ∙ ap (λ w. good_or_bad (order_of (w ∷ words_left rest))) (same_text name word same)
 
--- a line whose first word is no command's name
-pub other_line : (line name : List ℕ) (rest : Option (List ℕ)) → false ≡ (length line == 0) → IsFirstPart 32 line name rest → order_of (name ∷ words_left rest) ≡ None → line_of line ≡ bad
-other_line [] name rest some parts none = absurd (true≢false (sym some))
-other_line (b ∷ line) name rest some parts none = named_line (b ∷ line) name rest (omega arith) parts ∙ ap good_or_bad none
+-- a line whose first word names no command on the log
+pub other_line : (line name : List ℕ) (rest : Option (List ℕ)) (order : Option Order) → false ≡ (length line == 0) → IsFirstPart 32 line name rest → order_of (name ∷ words_left rest) ≡ order → line_of line ≡ good_or_bad order
+other_line [] name rest order some parts is = absurd (true≢false (sym some))
+other_line (b ∷ line) name rest order some parts is = named_line (b ∷ line) name rest (omega arith) parts ∙ ap good_or_bad is
 
 -- a line has a word
 pub word_left : (line : List ℕ) → none_left (words_of line) ≡ None
