@@ -9,7 +9,7 @@ use Rattle.std.specs.List.{list_all}
 use Rattle.std.specs.Char.{is_ascii_digit}
 use Rattle.memchr.specs.Find.{IsFirstByte, is_byte}
 use Rattle.warg_program.specs.Words.{onto_first, lines_of, words_of, words_left, is_number, number_in, at_most_2^63, length_in, hex_bytes_in, if_32, root_in, value_from}
-use Rattle.warg_program.specs.Orders.{Order, first_says, none_left, next, done, good_or_bad, order_of, line_of, bad}
+use Rattle.warg_program.specs.Orders.{Order, first_says, none_left, next, done, good_or_bad, order_of, line_of}
 use Rattle.warg_program.specs.Private.Parts.{Lacks, IsFirstPart, last_says}
 
 Lacks-append : (b : ℕ) (xs ys : List ℕ) → Lacks b xs → Lacks b ys → Lacks b (xs ++ ys)
@@ -139,6 +139,10 @@ pub root_says : (words : List (List ℕ)) → first_says root_in words ≡ first
 unfolding root_in
 root_says words = says_kept hex_bytes_in if_32 words
 
+-- a first word that says 32 bytes
+pub root_said : (words rest : List (List ℕ)) (bytes root : List ℕ) → first_says hex_bytes_in words ≡ Some (bytes, rest) → root ≡ bytes → length bytes ≡ 32 → first_says root_in words ≡ Some (root, rest)
+root_said words rest bytes root says is long = rw (root_says words, says, eq-eqb _ _ long, is) refl
+
 -- an order of which the last word says something
 pub last_word : {X : Type 0} (say : List ℕ → Option X) (order : X → Order) (words : List (List ℕ)) (x : X) → last_says say words ≡ Some x → next say (λ y. done (order y)) words ≡ Some (order x)
 last_word {X} say order words x says = said (first_says say words) says
@@ -172,6 +176,11 @@ lines_whole : (b : ℕ) (line : List ℕ) → Lacks 10 (b ∷ line) → lines_of
 unfolding lines_of
 lines_whole b [] lacks = rw (ne_eqb b 10 lacks.0) refl
 lines_whole b (c ∷ line) lacks = rw (ne_eqb b 10 lacks.0, lines_whole c line lacks.1) refl
+
+-- bytes that aren't none
+pub some_bytes : (bytes : List ℕ) → false ≡ (length bytes == 0) → 0 < length bytes
+some_bytes [] some = absurd (true≢false (sym some))
+some_bytes (b ∷ bytes) some = omega arith
 
 -- the first line, and those of what stands behind its LF, if it has one
 pub first_line : (bytes front : List ℕ) (rest : Option (Bor (List ℕ))) (none behind : Bor (List ℕ)) → behind ≡ unwrap_or rest none → none.now ≡ [] → 0 < length bytes → IsFirstPart 10 bytes front (option_map (λ r. r.now) rest)

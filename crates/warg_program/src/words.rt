@@ -48,26 +48,17 @@ impl<'a> Words<'a> {
         Ok(word)
     }
 
-    #[tactic(auto, unfolding(crate::specs::Orders::first_says, crate::specs::Words::number_in, crate::specs::Words::value_from))]
+    #[tactic(auto, unfolding(crate::specs::Orders::first_says))]
     /// The number that the next word says: one to twenty decimal digits, of a value below 2^64.
     pub(super) fn number(&mut self) -> Result<usize, LineError>
         ensures ok { IfOk result (λ n. first_says number_in self.old ≡ Some (n, self.new)) }
         ensures errors { IfErr result (IsUnread (first_says number_in self.old)) }
     {
         let word = self.word()?;
-        if word.is_empty() || word.len() > 20 {
-            return Err(LineError::BadLine);
+        match number_of(word) {
+            Some(number) => Ok(number),
+            None => Err(LineError::BadLine),
         }
-        let mut value = 0usize;
-        for digit in word {
-            if !digit.is_ascii_digit() {
-                return Err(LineError::BadLine);
-            }
-            let tenfold = value.checked_mul(10).ok_or(LineError::BadLine)?;
-            let last = usize::from(*digit - b'0');
-            value = tenfold.checked_add(last).ok_or(LineError::BadLine)?;
-        }
-        Ok(value)
     }
 
     #[tactic(auto, using(crate::proofs::WordLemmas::length_says, std::proofs::lemmas::Bool::Decides::nat_tests))]
@@ -137,6 +128,26 @@ impl<'a> Words<'a> {
             Some(_) => Err(LineError::BadLine),
         }
     }
+}
+
+// The number that a word says.
+#[tactic(auto, unfolding(crate::specs::Words::number_in, crate::specs::Words::value_from))]
+fn number_of(word: &[u8]) -> Option<usize>
+    ensures { result ≡ number_in word.now }
+{
+    if word.is_empty() || word.len() > 20 {
+        return None;
+    }
+    let mut value = 0usize;
+    for digit in word {
+        if !digit.is_ascii_digit() {
+            return None;
+        }
+        let tenfold = value.checked_mul(10)?;
+        let last = usize::from(*digit - b'0');
+        value = tenfold.checked_add(last)?;
+    }
+    Some(value)
 }
 
 /// Whether two words are the same.

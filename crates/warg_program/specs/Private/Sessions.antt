@@ -1,5 +1,5 @@
 -- What a session does with a line, by the states that its log and its map stand for.
-use Rattle.std.specs.Prelude.{◌≡◌, ℕ, true, if◌then◌else◌, List, [], ◌∷◌, ◌++◌, codes, string_bytes, Option, None, Result, Ok, Err}
+use Rattle.std.specs.Prelude.{◌≡◌, ℕ, true, if◌then◌else◌, List, ◌++◌, codes, string_bytes, Option, None, Result, Ok, Err}
 use Rattle.warg_crypto.specs.Bytes.{same_bytes}
 use Rattle.warg_program.specs.Orders.{Order, insert_in, map_in, prove_in, absent_in, Line, empty, bad, good}
 use Rattle.warg_program.specs.States.{State, log_at, map_at, after_line, FindsFull}

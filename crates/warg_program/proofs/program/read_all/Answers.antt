@@ -15,3 +15,7 @@ returns-in-Ok-eq0-clause-bytes g c =
     let read = c.in-Ok-eq0.ensures.bytes in
     let room : 0 < length c.read.new.buf = omega (arith, c.read.auto.buf) in
     all_read _ _ _ _ _ _ c.loop.invariant read.0 c.in-Ok-eq0.field-0-test (read.1 c.in-Ok-eq0.field-0-test room)
+
+pub loop-preserved : goal.loop-preserved
+loop-preserved g c =
+    rw c.in_ok-extend_from_slice-in-Ok.ensures.items (Consumes-trans _ _ _ _ _ c.loop.invariant c.in-Ok.ensures.bytes.0)
