@@ -51,9 +51,6 @@ put_beside b at p q near far inner outer es zs os lt n f z o hz ho =
       };
     })
 
-pub put_same : (k : ℕ) (m whole : SparseMap) (es : List Lone) (l link : ℕ × SparseMap) (n fresh : ℕ) → IsPut k m es l n → whole ≡ m → link ≡ l → fresh ≡ n → IsPut k whole es link fresh
-put_same k m whole es l link n fresh p w e f = rw (w, e, f) p
-
 -- below bits that all share
 pub put_below_bits : (key : List ℕ) (i n : ℕ) (m whole : SparseMap) (low l : ℕ × SparseMap) (fresh count : ℕ) (es : List Lone) → i + n ≤ 256 → ShareBits key i n es → whole ≡ under (bits_from key i n) m → IsPut (256 - (i + n)) m es low fresh
     → l ≡ (low.0 + n, under (bits_from key i n) low.1) → count ≡ fresh → IsPut (256 - i) whole es l count
@@ -66,22 +63,27 @@ put_below_bits key i n m whole low l fresh count es le share is p e f =
       count = rw (len-under (bits_from key i n) m, len-under (bits_from key i n) (with_leaves k m es)) held;
     })
 
--- where leaves part from the bits of a key
-pub record IsPutParted (key : List ℕ) (i n : ℕ) (b : Bool) (whole : SparseMap) (es zs os : List Lone) (near far : ℕ × SparseMap) (inner outer : ℕ) : Type 0 where
-  pub heights : (near.0 ≡ far.0) × (i + n + (near.0 + 1) ≡ 256)
-  pub hold : HoldsKey near.1 × HoldsKey far.1
-  pub few : (inner ≤ length zs) × (outer ≤ length os)
-  pub put : (l : ℕ × SparseMap) (count : ℕ) → l ≡ (near.0 + 1 + n, under (bits_from key i n) (join_at b near.1 far.1)) → count ≡ inner + outer → IsPut (256 - i) whole es l count
+-- below all bits of a stem
+pub put_whole : {D A : _} (key : List ℕ) (i n : ℕ) (m : SparseMap) (es : List Lone) (low all : Filled D A) → i + n ≤ 256 → ShareBits key i n es → IsPut (256 - (i + n)) m es low.link low.fresh
+    → all ≡ record { link = (low.link.0 + n, under (bits_from key i n) low.link.1); fresh = low.fresh } → IsPut (256 - i) (under (bits_from key i n) m) es all.link all.fresh
+put_whole key i n m es low all le share p e = put_below_bits key i n m _ low.link all.link low.fresh all.fresh es le share refl p (ap (λ x. x.link) e) (ap (λ x. x.fresh) e)
 
-pub put_parted : (key : List ℕ) (i len_ n : ℕ) (b : Bool) (p q whole : SparseMap) (es zs os : List Lone) (near far : ℕ × SparseMap) (inner outer : ℕ) → IsApart key i len_ es n b zs os → i + len_ ≤ 256 → whole ≡ under (bits_from key i n) (join_at b p q)
-    → IsPut (256 - (i + n + 1)) p zs near inner → IsPut (256 - (i + n + 1)) q os far outer → HoldsKey p ⊎ (0 < length zs) → IsPutParted key i n b whole es zs os near far inner outer
-put_parted key i len_ n b p q whole es zs os near far inner outer a le is x y hold =
-    let r = put_beside b (i + n) p q near far inner outer es zs os (omega (arith, a.less, le)) x y a.near_is a.far_is hold (inr a.some) in
+-- where leaves part from the bits of a key
+pub record IsPutParted {D A : _} (key : List ℕ) (i n : ℕ) (b : Bool) (whole : SparseMap) (es zs os : List Lone) (near far : Filled D A) : Type 0 where
+  pub heights : (near.link.0 ≡ far.link.0) × (i + n + (near.link.0 + 1) ≡ 256)
+  pub hold : HoldsKey near.link.1 × HoldsKey far.link.1
+  pub few : (near.fresh ≤ length zs) × (far.fresh ≤ length os)
+  pub put : (all : Filled D A) → all ≡ record { link = (near.link.0 + 1 + n, under (bits_from key i n) (join_at b near.link.1 far.link.1)); fresh = near.fresh + far.fresh } → IsPut (256 - i) whole es all.link all.fresh
+
+pub put_parted : {D A : _} (key : List ℕ) (i len_ n : ℕ) (b : Bool) (p q whole : SparseMap) (es zs os : List Lone) (near far : Filled D A) → IsApart key i len_ es n b zs os → i + len_ ≤ 256 → whole ≡ under (bits_from key i n) (join_at b p q)
+    → IsPut (256 - (i + n + 1)) p zs near.link near.fresh → IsPut (256 - (i + n + 1)) q os far.link far.fresh → HoldsKey p ⊎ (0 < length zs) → IsPutParted key i n b whole es zs os near far
+put_parted key i len_ n b p q whole es zs os near far a le is x y hold =
+    let r = put_beside b (i + n) p q near.link far.link near.fresh far.fresh es zs os (omega (arith, a.less, le)) x y a.near_is a.far_is hold (inr a.some) in
     record {
       heights = (r.heights.0, omega (arith, r.heights.2));
       hold = r.hold;
       few = r.few;
-      put = λ l count e f. put_below_bits key i n _ whole _ l _ count es (omega (arith, a.less, le)) a.same is r.put e f;
+      put = λ all e. put_below_bits key i n _ whole _ all.link _ all.fresh es (omega (arith, a.less, le)) a.same is r.put (ap (λ x. x.link) e) (ap (λ x. x.fresh) e);
     }
 
 -- on the side of the key alone
@@ -99,7 +101,7 @@ put_near i n p zs near inner le x hold =
 
 pub put_beside_leaves : {D A : _} (key : List ℕ) (i len_ n : ℕ) (b : Bool) (p whole : SparseMap) (es zs os : List Lone) (near all : Filled D A) → IsApart key i len_ es n b zs os → i + len_ ≤ 256 → whole ≡ under (bits_from key i n) (join_at b p empty)
     → IsPut (256 - (i + n + 1)) p zs near.link near.fresh → HoldsKey p → IsBesideLeaves key i n b near os all → IsPut (256 - i) whole es all.link all.fresh
-put_beside_leaves key i len_ n b p whole es zs os near all a le is x hold w = (put_parted key i len_ n b p empty whole es zs os near.link w.link near.fresh w.fresh a le is x w.put (inl hold)).put all.link all.fresh w.link_is w.fresh_is
+put_beside_leaves key i len_ n b p whole es zs os near all a le is x hold w = (put_parted key i len_ n b p empty whole es zs os near (record { link = w.link; fresh = w.fresh }) a le is x w.put (inl hold)).put all (λ j. record { link = w.link_is j; fresh = w.fresh_is j })
 
 -- in a new tree
 pub put_new : (i n : ℕ) (es : List Lone) (link : ℕ × SparseMap) (fresh : ℕ) → 0 < length es → IsPut (256 - (i + n + 1)) empty es link fresh → (link.0 ≡ 256 - (i + n + 1)) × HoldsKey link.1 × (fresh ≤ length es)
@@ -152,17 +154,17 @@ in_lone old s link depth sn is sum =
     (omega (arith, h, sum), ap (λ d. d.1) top)
 
 -- below a fork
-pub record IsPutInFork (depth : ℕ) (whole : SparseMap) (es zs os : List Lone) (left right : ℕ × SparseMap) (inner outer : ℕ) : Type 0 where
-  pub heights : (left.0 ≡ right.0) × (left.0 < 256)
-  pub hold : HoldsKey left.1 × HoldsKey right.1
-  pub few : (inner ≤ length zs) × (outer ≤ length os)
-  pub put : (l : ℕ × SparseMap) (count : ℕ) → l ≡ (left.0 + 1, join left.1 right.1) → count ≡ inner + outer → IsPut (256 - depth) whole es l count
+pub record IsPutInFork {D A : _} (depth : ℕ) (whole : SparseMap) (es zs os : List Lone) (left right : Filled D A) : Type 0 where
+  pub heights : (left.link.0 ≡ right.link.0) × (left.link.0 < 256)
+  pub hold : HoldsKey left.link.1 × HoldsKey right.link.1
+  pub few : (left.fresh ≤ length zs) × (right.fresh ≤ length os)
+  pub put : (all : Filled D A) → all ≡ record { link = (left.link.0 + 1, join left.link.1 right.link.1); fresh = left.fresh + right.fresh } → IsPut (256 - depth) whole es all.link all.fresh
 
-pub put_in_fork : {D A : _} (f : Fork' D A) (left right : ℕ × SparseMap) (depth inner outer : ℕ) (es zs os : List Lone) → IsForkAt depth f → (zs ≡ on_side depth false es) × (os ≡ on_side depth true es)
-    → IsPut (256 - (depth + 1)) f.left.1 zs left inner → IsPut (256 - (depth + 1)) f.right.1 os right outer → IsPutInFork depth (join f.left.1 f.right.1) es zs os left right inner outer
-put_in_fork f left right depth inner outer es zs os fork sides x y =
-    let r = put_beside false depth f.left.1 f.right.1 left right inner outer es zs os (omega (arith, fork.left_height)) x y sides.0 sides.1 (inl fork.left_holds) (inl fork.right_holds) in
-    record { heights = (r.heights.0, r.heights.1); hold = r.hold; few = r.few; put = λ l count e n. put_same _ _ (join f.left.1 f.right.1) es _ l _ count r.put refl e n }
+pub put_in_fork : {D A : _} (f : Fork' D A) (left right : Filled D A) (depth : ℕ) (es zs os : List Lone) → IsForkAt depth f → (zs ≡ on_side depth false es) × (os ≡ on_side depth true es)
+    → IsPut (256 - (depth + 1)) f.left.1 zs left.link left.fresh → IsPut (256 - (depth + 1)) f.right.1 os right.link right.fresh → IsPutInFork depth (join f.left.1 f.right.1) es zs os left right
+put_in_fork f left right depth es zs os fork sides x y =
+    let r = put_beside false depth f.left.1 f.right.1 left.link right.link left.fresh right.fresh es zs os (omega (arith, fork.left_height)) x y sides.0 sides.1 (inl fork.left_holds) (inl fork.right_holds) in
+    record { heights = (r.heights.0, r.heights.1); hold = r.hold; few = r.few; put = λ all e. rw e r.put }
 
 -- at a fork
 pub in_fork : {D A : _} (old : Node D A) (f : Rc (Fork' D A) A) (link : ℕ × SparseMap) (depth : ℕ) → seen old ≡ link → old ≡ Fork f → IsWellFormed old → link.0 + depth ≡ 256

@@ -291,8 +291,8 @@ impl<D: SupportedDigest, K: VisitBytes + Drop, V: VisitBytes + Drop, A: Allocato
             → BeginsNew D.digest K.bytes I.next_gives iter self.now
             → result ≡ Err MapError.Full }
     {
-        let _len = self.len();
-        if self.len() <= usize::MAX / 2 {
+        let len = self.len();
+        if len <= usize::MAX / 2 {
             return Ok(self.extended_at_once(iter)?);
         }
         let Some((key, val)) = iter.next() else {

@@ -35,11 +35,11 @@ grown-requires-in-Behind g t c κs within =
 
 -- the fork and its leaves
 both : (g : _) (t : _) (c : In_ok-far-in-Behind g t) → 0 < length c.in-Behind.near.items → IsPutParted c.copied-key.result c.args.depth c.in-Behind.shared (side_bit c.in-Behind.side) empty c.args.leaves.items c.in-Behind.near.items c.in-Behind.far.items
-    c.in_ok-near-in-Behind.near.link c.in_ok-far-in-Behind.far.link c.in_ok-near-in-Behind.near.fresh c.in_ok-far-in-Behind.far.fresh
+    c.in_ok-near-in-Behind.near c.in_ok-far-in-Behind.far
 both g t c some =
     let a = rw c.in-Behind.is at c.in_ok-leaves.ensures in
     let none = empty_parted c.copied-key.result c.args.depth c.in-Behind.shared (side_bit c.in-Behind.side) in
-    put_parted c.copied-key.result c.args.depth _ c.in-Behind.shared _ empty empty empty c.args.leaves.items _ _ _ _ _ _ a (omega (arith, c.requires.depth)) none c.in_ok-near-in-Behind.ensures c.in_ok-far-in-Behind.ensures (inr some)
+    put_parted c.copied-key.result c.args.depth _ c.in-Behind.shared _ empty empty empty c.args.leaves.items _ _ c.in_ok-near-in-Behind.near c.in_ok-far-in-Behind.far a (omega (arith, c.requires.depth)) none c.in_ok-near-in-Behind.ensures c.in_ok-far-in-Behind.ensures (inr some)
 
 pub forked-requires : goal.forked-requires
 forked-requires g t c =
@@ -49,4 +49,4 @@ forked-requires g t c =
 pub returns : goal.returns
 returns g t c =
     let p = both g t (goal.at.returns g t c).In_ok-far-in-Behind (near g t (goal.at.returns g t c).In-Behind) in
-    IfOk-weaker c.forked.result _ _ (λ r e. p.put _ _ (ap (λ x. x.link) e) (ap (λ x. x.fresh) e)) c.forked.ensures
+    IfOk-weaker c.forked.result _ _ p.put c.forked.ensures

@@ -7,7 +7,7 @@ use Rattle.warg_map.specs.Private.Under.{join}
 use Rattle.warg_map.specs.declared.node.Node.TheVariants.{Fork, Singleton, Stem}
 use Rattle.warg_map.proofs.TreeForm.{of_content}
 use Rattle.warg_map.proofs.BitsInFront.{holds-under}
-use Rattle.warg_map.proofs.LeavesBelowNodes.{put_below_bits, put_near, put_beside_leaves, put_none, in_lone, IsPutInFork, put_in_fork, in_fork, in_stem, cut_stem, carries_holds, carries_more}
+use Rattle.warg_map.proofs.LeavesBelowNodes.{put_whole, put_near, put_beside_leaves, put_none, in_lone, IsPutInFork, put_in_fork, in_fork, in_stem, cut_stem, carries_holds, carries_more}
 use Rattle.warg_map.proofs.grown.+spread.Goals as goal
 use Rattle.warg_map.proofs.grown.+spread.Goals.{spread_fork-In_ok-right}
 
@@ -44,8 +44,8 @@ pub spread-returns-in-Stem : goal.spread-returns-in-Stem
 spread-returns-in-Stem g t c = rw (in_stem c.node.result.now _ c.args.link.now c.args.depth c.node.ensures.seen (of_content Stem c.in-Stem.is c.as_ref-in-Stem.ensures) c.node.ensures.well_formed c.requires).same at c.spread_stem.ensures
 
 -- the sides of a fork
-sides : (g : _) (t : _) (c : spread_fork-In_ok-right g t) → IsPutInFork c.args.depth (join c.args.fork.now.left.1 c.args.fork.now.right.1) c.args.leaves.items c.in_ok-near.near.items c.in_ok-near.far.items c.in_ok-left.left.link c.in_ok-right.right.link c.in_ok-left.left.fresh c.in_ok-right.right.fresh
-sides g t c = put_in_fork c.args.fork.now _ _ c.args.depth _ _ c.args.leaves.items _ _ c.requires c.in_ok-near.ensures c.in_ok-left.ensures c.in_ok-right.ensures
+sides : (g : _) (t : _) (c : spread_fork-In_ok-right g t) → IsPutInFork c.args.depth (join c.args.fork.now.left.1 c.args.fork.now.right.1) c.args.leaves.items c.in_ok-near.near.items c.in_ok-near.far.items c.in_ok-left.left c.in_ok-right.right
+sides g t c = put_in_fork c.args.fork.now _ _ c.args.depth c.args.leaves.items _ _ c.requires c.in_ok-near.ensures c.in_ok-left.ensures c.in_ok-right.ensures
 
 pub spread_fork-beside-requires : goal.spread_fork-beside-requires
 spread_fork-beside-requires g t c =
@@ -53,7 +53,7 @@ spread_fork-beside-requires g t c =
     record { heights = p.heights; hold = p.hold; fits = search (rules, p.few.0, p.few.1) }
 
 pub spread_fork-returns : goal.spread_fork-returns
-spread_fork-returns g t c = IfOk-weaker c.beside.result _ _ (λ r e. (sides g t (goal.at.spread_fork-returns g t c).In_ok-right).put _ _ (ap (λ x. x.link) e) (ap (λ x. x.fresh) e)) c.beside.ensures
+spread_fork-returns g t c = IfOk-weaker c.beside.result _ _ (sides g t (goal.at.spread_fork-returns g t c).In_ok-right).put c.beside.ensures
 
 -- the whole stem
 pub spread_stem-with_stem-requires : goal.spread_stem-with_stem-requires
@@ -67,7 +67,7 @@ spread_stem-returns-in_ok-below-in-Nowhere g t c =
     let s = c.args.stem.now in
     let whole = rw c.in-Nowhere.is at c.in_ok-leaves.ensures in
     let below : IsPut (256 - (c.args.from + (c.args.stem.now.from + c.args.stem.now.len - c.args.from))) c.args.stem.now.below.1 c.args.leaves.items c.in_ok-below-in-Nowhere.below.link c.in_ok-below-in-Nowhere.below.fresh = rw whole.0 at c.in_ok-below-in-Nowhere.ensures in
-    IfOk-weaker c.with_stem.result _ _ (λ p e. put_below_bits s.key c.args.from _ s.below.1 _ c.in_ok-below-in-Nowhere.below.link _ _ _ c.args.leaves.items (omega (arith, c.requires.level, c.requires.place.1)) whole.1 refl below (ap (λ r. r.link) e) (ap (λ r. r.fresh) e)) c.with_stem.ensures
+    IfOk-weaker c.with_stem.result _ _ (λ all e. put_whole s.key c.args.from (s.from + s.len - c.args.from) s.below.1 c.args.leaves.items c.in_ok-below-in-Nowhere.below all (omega (arith, c.requires.level, c.requires.place.1)) whole.1 below e) c.with_stem.ensures
 
 -- where the first leaf parts from it
 pub spread_stem-beside_leaves-requires : goal.spread_stem-beside_leaves-requires

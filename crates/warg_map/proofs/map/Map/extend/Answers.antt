@@ -37,10 +37,10 @@ returns-clause-full g c = λ full.
     )
 
 pub returns-then-len-clause-at_once : goal.returns-then-len-clause-at_once
-returns-then-len-clause-at_once g c = λ full _. absurd (omega (arith, full, c.len.ensures, c.if-len.true))
+returns-then-len-clause-at_once g c = λ full _. absurd (omega (arith, full, c.len-len.ensures, c.if-len.true))
 
 pub returns-in_err-extended_at_once-clause-at_once : goal.returns-in_err-extended_at_once-clause-at_once
-returns-in_err-extended_at_once-clause-at_once g c = λ full _. absurd (omega (arith, full, c.len.ensures, c.if-len.true))
+returns-in_err-extended_at_once-clause-at_once g c = λ full _. absurd (omega (arith, full, c.len-len.ensures, c.if-len.true))
 
 pub returns-in_default-clause-at_once : goal.returns-in_default-clause-at_once
 returns-in_default-clause-at_once g c = λ _ new. absurd (new _ _ c.in_default.ensures.steps)
