@@ -84,15 +84,11 @@ impl<D: SupportedDigest, A: Allocator> Stem<D, A> {
         ensures { IfOk result (λ s. IsStemOver s (link.0 + len) (under (bits_from key.now from len) link.1)) }
     {
         if let Node::Stem(lower) = link.node() {
-            let len = len + lower.len;
-            let below: Result<_, _> = lower.below.clone();
-            drop(link);
-            let below = below?;
             return Ok(Stem {
                 key: key.copied(),
                 from,
-                len,
-                below,
+                len: len + lower.len,
+                below: lower.below.clone()?,
             });
         }
         Ok(Stem {
