@@ -1,4 +1,4 @@
-use Rattle.std.proofs.Common.{◌+◌, ◌<◌, length, arith, rules, ap, ◌∙◌, inr}
+use Rattle.std.proofs.Common.{◌+◌, ◌<◌, length, arith, rules, ◌∙◌, inr}
 use Rattle.std.specs.FinMap.{empty}
 use Rattle.std.proofs.lemmas.Result.{IfOk-weaker}
 use Rattle.warg_crypto.specs.Sides.{side_bit}

@@ -1,6 +1,5 @@
-use Rattle.std.proofs.Common.{ap, ◌∙◌, subst}
+use Rattle.std.proofs.Common.{ap, subst}
 use Rattle.std.specs.Iterator.{Yields}
-use Rattle.std.proofs.lemmas.Result.{IfOk-from_err}
 use Rattle.warg_map.specs.Sparse.{inserted}
 use Rattle.warg_map.specs.Private.Grown.{with_leaves}
 use Rattle.warg_map.proofs.InsertedPairs.{inserted-pair}

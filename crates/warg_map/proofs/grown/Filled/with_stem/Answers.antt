@@ -1,5 +1,4 @@
-use Rattle.std.proofs.Common.{◌+◌, ◌∙◌, subst, sym, arith}
-use Rattle.warg_map.specs.declared.node.Node.TheVariants.{Stem}
+use Rattle.std.proofs.Common.{◌+◌, ◌∙◌}
 use Rattle.warg_map.specs.Bits.{bits_from}
 use Rattle.warg_map.specs.Private.Under.{under}
 use Rattle.warg_map.specs.Private.Seen.{IsStemOver}

@@ -1,4 +1,4 @@
-use Rattle.std.proofs.Common.{◌≡◌, ◌+◌, ◌-◌, cond, None, ap, sym, ◌∙◌, arith, rules}
+use Rattle.std.proofs.Common.{◌≡◌, ◌+◌, ◌-◌, cond, ap, sym, ◌∙◌, arith, rules}
 use Rattle.std.proofs.lemmas.Result.{on_ok_weaker}
 use Rattle.std.specs.FinMap.{get, get-empty}
 use Rattle.warg_map.specs.Bits.{last_bits}
@@ -9,7 +9,7 @@ use Rattle.warg_map.proofs.TreeForm.{of_content}
 use Rattle.warg_map.proofs.FoundInNode.{finds_in_fork, run_of_stem, found_below, found_apart}
 use Rattle.warg_map.proofs.CollectedPeers.{collects_fork, collects_none, collects_run, collects_apart}
 use Rattle.warg_map.proofs.node.Node.+collect.Goals as goal
-use Rattle.warg_map.proofs.node.Node.+collect.Goals.{After-node, After-collect_beside, After-node-in-Stem}
+use Rattle.warg_map.proofs.node.Node.+collect.Goals.{After-node, After-node-in-Stem}
 
 -- the child holds what the fork does
 child : (g : _) (t : _) (c : After-node g t) → get (held_by c.args.self.now) (last_bits c.args.key.now (256 - c.args.depth)) ≡ get (held_by c.node.result.now) (last_bits c.args.key.now (256 - (c.args.depth + 1)))
@@ -17,12 +17,6 @@ child g t c =
     let is = of_content Fork c.in-Fork.is c.as_ref-fork.ensures in
     let high = rw is at c.requires.height in
     sym (finds_in_fork c.args.self.now c.node.result.now _ c.args.key.now _ c.args.depth is (omega (arith, high)) c.side_at-side.ensures (c.node.ensures.seen ∙ c.index.ensures))
-
--- the bits part from those of the stem
-apart : (g : _) (t : _) (c : After-collect_beside g t) → get (held_by c.args.self.now) (last_bits c.args.key.now (256 - c.args.depth)) ≡ None
-apart g t c =
-    let run = run_of_stem c.args.self.now _ c.args.depth (of_content Stem c.in-Stem.is c.as_ref-stem.ensures) c.requires.well_formed c.requires.height in
-    found_apart _ _ _ c.args.key.now c.args.depth _ _ _ _ run.1 c.if-shared-stem.true c.shared_bits-shared.ensures.same (c.shared_bits-shared.ensures.apart c.if-shared-stem.true)
 
 -- the bits are those of the stem, and what stands below it holds what it does
 below : (g : _) (t : _) (c : After-node-in-Stem g t) → get (held_by c.args.self.now) (last_bits c.args.key.now (256 - c.args.depth)) ≡ get (held_by c.node-in-Stem.result.now) (last_bits c.args.key.now (256 - (c.args.depth + c.as_ref-stem.result.now.len)))
@@ -51,7 +45,7 @@ returns-then-shared-stem g t c =
     let less = c.if-shared-stem.true in
     let shared = c.shared_bits-shared.ensures in
     record {
-      answer = rw (apart g t (goal.at.returns-then-shared-stem g t c).After-collect_beside) c.collect_beside.ensures.answer;
+      answer = rw (found_apart _ _ _ c.args.key.now c.args.depth _ _ _ _ run.1 less shared.same (shared.apart less)) c.collect_beside.ensures.answer;
       refused = c.collect_beside.ensures.refused;
       peers = on_ok_weaker c.collect_beside.result (λ added. collects_apart g.D.SupportedDigest.digest (is_of_absence c.args.to.now.asked) c.collect_beside.new.to.held _ _ _ _ c.args.key.now c.args.depth _ _ _ _ run.1 less shared.same (shared.apart less)
           c.collect_beside.ensures.answer (rw run.0 at added)) c.collect_beside.ensures.peers;
