@@ -1,11 +1,11 @@
 -- What the evaluations of inclusion and consistency proofs say, and which faults they can have.
-use Rattle.std.proofs.Common.{◌≡◌, ℕ, ◌≤◌, nat_le, List, Option, Some, None, Result, Ok, Err, ◌↔◌, if◌then◌else◌, arith, ◌<◌, ◌==◌, Bool, true, false, nat_eq, nat_lt, [], ◌∷◌, length, take, refl, sym, ap, ◌∙◌, subst}
+use Rattle.std.proofs.Common.{◌≡◌, ◌≢◌, ℕ, ◌≤◌, nat_le, List, Option, Some, None, Result, Ok, Err, ◌↔◌, if◌then◌else◌, arith, ◌<◌, ◌==◌, Bool, true, false, nat_eq, nat_lt, [], ◌∷◌, length, take, refl, sym, ap, ◌∙◌, subst}
 use Rattle.std.specs.Option.{ok_or}
 use Rattle.std.proofs.lemmas.Bool.Decides.{nat_tests}
 use Rattle.warg_log.specs.declared.proof.InclusionProofError.{InclusionProofError}
 use Rattle.std.specs.Cmp.Lexicographic.{pointwise, bytes_decides}
 use Rattle.std.specs.List.{AllByRecursion}
-use Rattle.std.proofs.lemmas.Bool.{le-leb, ne_eqb, eqb-false, ltb-false, le-ltb}
+use Rattle.std.proofs.lemmas.Bool.{le-leb, eq-eqb, ne_eqb, eqb-false, ltb-false, lt-ltb, le-ltb}
 use Rattle.warg_log.specs.declared.proof.InclusionProofError.TheVariants as Inclusion
 use Rattle.warg_log.specs.declared.consistency.ConsistencyProofError.{ConsistencyProofError}
 use Rattle.warg_log.specs.declared.consistency.ConsistencyProofError.TheVariants as Consistency
@@ -92,10 +92,10 @@ pub record EvaluationFault {X : Type 0} (r : Result X ConsistencyProofError) : T
   pub memory : r ≡ Err Consistency.Memory → ⊥
   pub within : (fault : InclusionProofError) → r ≡ Err (Consistency.InclusionError fault) → fault ≡ Inclusion.HashNotKnown
 
-faults_there : {X : Type 0} (x : X) → EvaluationFault (Ok x)
+pub faults_there : {X : Type 0} (x : X) → EvaluationFault (Ok x)
 faults_there x = record { memory = λ bad. cc; within = λ fault bad. cc }
 
-not_known : {X : Type 0} → EvaluationFault {X = X} (Err Consistency.HashNotKnown)
+pub not_known : {X : Type 0} → EvaluationFault {X = X} (Err Consistency.HashNotKnown)
 not_known = record { memory = λ bad. cc; within = λ fault bad. cc }
 
 not_known_within : {X : Type 0} → EvaluationFault {X = X} (Err (Consistency.InclusionError Inclusion.HashNotKnown))
@@ -104,8 +104,11 @@ not_known_within = record { memory = λ bad. cc; within = λ fault bad. cc }
 diverging : {X : Type 0} → EvaluationFault {X = X} (Err Consistency.DivergingRoots)
 diverging = record { memory = λ bad. cc; within = λ fault bad. cc }
 
-no_length : {X : Type 0} → EvaluationFault {X = X} (Err Consistency.OldLengthZero)
+pub no_length : {X : Type 0} → EvaluationFault {X = X} (Err Consistency.OldLengthZero)
 no_length = record { memory = λ bad. cc; within = λ fault bad. cc }
+
+pub out_of_order : {X : Type 0} → EvaluationFault {X = X} (Err Consistency.PointsOutOfOrder)
+out_of_order = record { memory = λ bad. cc; within = λ fault bad. cc }
 
 -- a fault that is passed on
 pub passed_on : {A B : Type 0} (q : Result A ConsistencyProofError) (r : Result B ConsistencyProofError) (e f : ConsistencyProofError)
@@ -128,6 +131,16 @@ whether true q r at other = at
 whether false q r at other = other
 
 module _ (H : List ℕ → List ℕ) (F : ℕ → Option (List ℕ)) where
+  -- the evaluation of no length, of lengths that are out of order, and of any other ones
+  pub no_length_is : (m n : ℕ) → m ≡ 0 → Err Consistency.OldLengthZero ≡ consistency H F m n
+  no_length_is m n none = rw (eq-eqb m 0 none) refl
+
+  pub out_of_order_is : (m n : ℕ) → m ≢ 0 → n < m → Err Consistency.PointsOutOfOrder ≡ consistency H F m n
+  out_of_order_is m n some lt = rw (ne_eqb m 0 some, lt-ltb n m lt) refl
+
+  pub in_order_is : (m n : ℕ) (new : Result (List ℕ) ConsistencyProofError) (old : Option (List ℕ)) → m ≢ 0 → m ≤ n → new ≡ new_root_of H F n (balanced_roots m) → old ≡ old_root H F m → both_roots new old ≡ consistency H F m n
+  in_order_is m n new old some le new_is old_is = rw (ne_eqb m 0 some, le-ltb n m le, new_is, old_is) refl
+
   root_faults : (n t : ℕ) → EvaluationFault (root_to H F n t)
   root_faults n t = goes_on (ok_or (F t) Consistency.HashNotKnown) (λ x. ok_or (cut_root H F t x n) (Consistency.InclusionError Inclusion.HashNotKnown))
       (looked_up (F t) _ not_known) (λ x. looked_up (cut_root H F t x n) _ not_known_within)

@@ -6,7 +6,7 @@ use Rattle.std.proofs.lemmas.List.{map_push, same_from_push, get_or_push, length
 use Rattle.std.proofs.lemmas.Nat.{pow_pos}
 use Rattle.std.proofs.lemmas.Simd.{map-map}
 use Rattle.std.proofs.lemmas.Bool.{le-leb, eq-eqb, ne_eqb, cases_eq}
-use Rattle.warg_log.specs.Nodes.{height_of, place_of, start_of, end_of, node_over, balanced_roots}
+use Rattle.warg_log.specs.Nodes.{IsNode, height_of, place_of, start_of, end_of, node_over, balanced_roots}
 use Rattle.warg_crypto.specs.Tree.{branch}
 use Rattle.warg_log.specs.Tree.{root_of, root_over, leaves_below, own_digest}
 use Rattle.warg_log.specs.Cut.{joined, old_root}
@@ -191,3 +191,7 @@ pub joined_more : (H : List ℕ → List ℕ) (blocks : List (List ℕ)) (d : Li
 joined_more H [] d n le all is = absurd (omega arith)
 joined_more H (e ∷ []) d n le all is = absurd (omega arith)
 joined_more H (e ∷ f ∷ ds) d n le all is = rw (is, take_all n (f ∷ ds) (omega arith)) refl
+
+-- the number of a leaf
+pub leaf_number : (x i : ℕ) → IsNode x 0 i → x ≡ 2 * i
+leaf_number x i is = omega arith

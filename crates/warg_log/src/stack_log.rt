@@ -92,7 +92,6 @@ impl<D: SupportedDigest, V: VisitBytes, A: Allocator> LogBuilder<D, V> for Stack
 
     ghost stands_for = { λ l ds. StandsFor D.digest l ds };
 
-    #[tactic(auto, using(crate::proofs::StackLemmas::none_root, crate::proofs::StackLemmas::blocks_root, crate::proofs::StackLemmas::stands_root))]
     fn checkpoint(&self) -> Checkpoint<D>
         ensures root { (ds : List (List ℕ)) → StandsFor D.digest self.now ds
             → result.root ≡ root_of D.digest ds }

@@ -1,4 +1,5 @@
 use Rattle.std.proofs.Common.{◌≡◌, length, ap, refl, arith}
+use Rattle.std.proofs.lemmas.Result.{IfOk-from_err}
 use Rattle.warg_protobuf.specs.HashEntry.{entry_view}
 use Rattle.warg_protobuf.proofs.ForCallers.{all_more, all_whole}
 use Rattle.warg_log.proofs.ImageLemmas.{roots_fit, entry_more, entries_done}
@@ -27,8 +28,17 @@ blocks-2-preserved g c = record {
   lengths = all_more (λ d. length d ≡ 32) _ _ _ c.blocks-2-test.true c.block-item.is c.blocks-2.invariant.lengths c.in_ok-written.ensures.length;
 }
 
-pub returns-clause-entries : goal.returns-clause-entries
-returns-clause-entries g c = entries_done entry_view c.blocks-2.roots _ _ _ _ c.blocks-2-test.false c.blocks-2.invariant.written
+pub returns-in_err-written : goal.returns-in_err-written
+returns-in_err-written g c =
+    record { entries = IfOk-from_err c.from_residual.result _ c.from_residual.ensures.0; lengths = IfOk-from_err c.from_residual.result _ c.from_residual.ensures.0 }
 
-pub returns-clause-lengths : goal.returns-clause-lengths
-returns-clause-lengths g c = all_whole (λ d. length d ≡ 32) _ _ c.blocks-2.invariant.lengths c.blocks-2-test.false
+pub returns-in_err-push : goal.returns-in_err-push
+returns-in_err-push g c =
+    let refused = c.from_residual-in_err-push.ensures.0 in
+    record { entries = IfOk-from_err c.from_residual-in_err-push.result _ refused; lengths = IfOk-from_err c.from_residual-in_err-push.result _ refused }
+
+pub returns : goal.returns
+returns g c = record {
+  entries = entries_done entry_view c.blocks-2.roots _ _ _ _ c.blocks-2-test.false c.blocks-2.invariant.written;
+  lengths = all_whole (λ d. length d ≡ 32) _ _ c.blocks-2.invariant.lengths c.blocks-2-test.false;
+}
