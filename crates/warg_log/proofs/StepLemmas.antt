@@ -4,6 +4,7 @@ use Rattle.std.specs.Prelude.{reverse, nat_eq}
 use Rattle.std.specs.List.{IsDistinct}
 use Rattle.std.proofs.Math.Nat.{pow-suc, pow-le-pow_right, add-sub_of_le}
 use Rattle.std.proofs.lemmas.List.{length-append, length-map, length-reverse}
+use Rattle.std.proofs.lemmas.Grind.{common_steps}
 use Rattle.std.proofs.lemmas.Nat.{pow_pos, shr-shr}
 use Rattle.warg_log.specs.declared.node.Node.{Node}
 use Rattle.warg_log.specs.Nodes.{IsNode, ExistsAt, height_of, place_of, start_of, end_of, sibling_place, number_of, balanced_over, balanced_roots}
@@ -76,3 +77,11 @@ walk_most x n b i l upper nodes walk lt =
     let low : k < b = pow_below_pow k b (omega (arith, ends, over_ends k (place_of x / 2 ^ i))) in
     let few : length (balanced_over 0 n) ≤ b = rw (balanced_at n b 0 n (below_pow n) lt) (balanced_count b 0 n) in
     omega (arith, few, simp length-append at (ap length walk.roots), simp (length-append, length-reverse, siblings_count) at (ap length walk.order))
+
+-- one root more, behind those that come after it
+pub one_root_more : (old mid new : List Node) (root : Node) (roots rest : List ℕ) → roots ≡ root.0 ∷ rest → map (λ (x : Node). x.0) mid ≡ map (λ (x : Node). x.0) old ++ reverse rest → new ≡ mid ++ root ∷ []
+    → map (λ (x : Node). x.0) new ≡ map (λ (x : Node). x.0) old ++ reverse roots
+one_root_more old mid new root roots rest first before now = grind (arith, common_steps)
+
+pub no_root_more : (old : List Node) (roots : List ℕ) → roots ≡ [] → map (λ (x : Node). x.0) old ≡ map (λ (x : Node). x.0) old ++ reverse roots
+no_root_more old roots none = grind (arith, common_steps)
