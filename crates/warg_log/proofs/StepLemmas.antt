@@ -1,18 +1,20 @@
 -- The steps of the walk's program.
 use Rattle.std.proofs.Common.{◌≡◌, ℕ, suc, ◌+◌, ◌-◌, ◌*◌, ◌/◌, ◌^◌, ◌<◌, ◌≤◌, List, [], ◌∷◌, ◌++◌, length, map, refl, lit≤, sym, ap, ◌∙◌, arith, add-one}
-use Rattle.std.specs.Prelude.{reverse, nat_eq}
+use Rattle.std.specs.Prelude.{reverse, nat_eq, nat_lt, ◌↔◌, ◌%◌}
+use Rattle.std.specs.Bool.{IsTrue}
+use Rattle.std.proofs.lemmas.Bool.{ltb-true, lt-ltb}
 use Rattle.std.specs.List.{IsDistinct}
 use Rattle.std.proofs.Math.Nat.{pow-suc, pow-le-pow_right, add-sub_of_le}
 use Rattle.std.proofs.lemmas.List.{length-append, length-map, length-reverse}
 use Rattle.std.proofs.lemmas.Grind.{common_steps}
-use Rattle.std.proofs.lemmas.Nat.{pow_pos, shr-shr}
+use Rattle.std.proofs.lemmas.Nat.{pow_pos, shr-shr, one_shl}
 use Rattle.warg_log.specs.declared.node.Node.{Node}
 use Rattle.warg_log.specs.Nodes.{IsNode, ExistsAt, height_of, place_of, start_of, end_of, sibling_place, number_of, balanced_over, balanced_roots}
 use Rattle.warg_log.specs.Ranges.{Range, range_of}
 use Rattle.warg_log.specs.Private.Climbs.{IsWayUp, IsTop}
 use Rattle.warg_log.specs.Walks.{needed, IsWalk, IsWalkOver}
 use Rattle.warg_protobuf.proofs.ForCallers.{all_parts}
-use Rattle.warg_log.proofs.NodeLemmas.{node_at, only_number, over_ends, pow_below_pow}
+use Rattle.warg_log.proofs.NodeLemmas.{last_leaf, low_by_end, node_at, only_number, over_ends, pow_below_pow}
 use Rattle.warg_log.proofs.RootLemmas.{below_pow}
 use Rattle.warg_log.proofs.BalancedLemmas.{balanced_at}
 use Rattle.warg_log.proofs.OrderLemmas.{siblings_count, balanced_count, roots_by, needed_walk, needed_within, roots_end}
@@ -85,3 +87,16 @@ one_root_more old mid new root roots rest first before now = grind (arith, commo
 
 pub no_root_more : (old : List Node) (roots : List ℕ) → roots ≡ [] → map (λ (x : Node). x.0) old ≡ map (λ (x : Node). x.0) old ++ reverse roots
 no_root_more old roots none = grind (arith, common_steps)
+
+-- whether a node exists, as the program tests it, by its last leaf
+pub last_leaf_test : (x n h : ℕ) → h ≡ height_of x → h < 64 → IsTrue (nat_lt ((x + (1 * 2 ^ h % 2 ^ 64 - 1)) / 2) n) ↔ ExistsAt x n
+last_leaf_test x n h is lt = rw (one_shl h 64 lt, is) (
+    let at = last_leaf x in
+    let half : (x + (2 ^ height_of x - 1)) / 2 + 1 ≡ end_of x = omega arith in
+    (λ yes. let less = ltb-true ((x + (2 ^ height_of x - 1)) / 2) n yes in omega arith, λ ends. lt-ltb ((x + (2 ^ height_of x - 1)) / 2) n (omega arith)))
+
+pub too_high_test : (x n h : ℕ) → h ≡ height_of x → 64 ≤ h → n < 2 ^ 64 → IsTrue (nat_lt h 64) ↔ ExistsAt x n
+too_high_test x n h is high fits = (
+  λ yes. absurd (omega (arith, ltb-true h 64 yes)),
+  λ ends. absurd (omega (arith, low_by_end x (omega arith))),
+)
