@@ -1,7 +1,7 @@
-use Rattle.std.proofs.Common.{ℕ, ◌+◌, List, [], ◌∷◌, ◌++◌, sym, ap, subst}
+use Rattle.std.proofs.Common.{arith, ℕ, ◌+◌, List, [], ◌∷◌, ◌++◌, sym, ap, subst}
 use Rattle.std.proofs.lemmas.Result.{err_from_is_err_and}
 use Rattle.warg_log.specs.Blocks.{Blocks, StandsFor}
-use Rattle.warg_log.proofs.StackLemmas.{grows_over, stands_pushed, leaf_number}
+use Rattle.warg_log.proofs.StackLemmas.{grows_over, stands_pushed}
 use Rattle.warg_log.proofs.stack_log.StackLogLogBuilder.push.Goals as goal
 
 pub returns-in_err-reserve : goal.returns-in_err-reserve
@@ -21,7 +21,7 @@ returns g c =
     let after : List (List ℕ) → Blocks = λ l. record { len = c.self.inside.count + 1; digests = l } in
     let is = ap after (all _ (grows_over H before d c.self.invariant.0)) in
     rw (← c.self.view_is) (record {
-      node = leaf_number _ _ c.leaf-leaf.ensures;
+      node = omega arith;
       ok = is;
       stands = λ ds stands.
           let P : Blocks → Type 0 = λ b. StandsFor H b (ds ++ d ∷ []) in
