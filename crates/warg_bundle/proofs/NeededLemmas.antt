@@ -1,5 +1,5 @@
 -- The one length of proofs, and the nodes that they need.
-use Rattle.std.proofs.Common.{◌≡◌, ℕ, zero, suc, ◌+◌, ◌*◌, ◌<◌, ◌≤◌, ◌==◌, Bool, true, false, nat_eq, nat_lt, nat_le, List, [], ◌∷◌, ◌++◌, length, map, get_or, cond, take, add-one, append-nil, Option, Some, None, Result, Ok, Err, refl, sym, ap, ◌∙◌, arith, ⊎_elim}
+use Rattle.std.proofs.Common.{◌≡◌, ℕ, zero, suc, ◌+◌, ◌*◌, ◌<◌, ◌≤◌, ◌==◌, Bool, true, false, nat_eq, nat_lt, nat_le, List, [], ◌∷◌, ◌++◌, length, map, get_or, cond, take, add-one, append-nil, drop, le-ltb, Option, Some, None, Result, Ok, Err, refl, sym, ap, ◌∙◌, arith, ⊎_elim}
 use Rattle.std.specs.Prelude.{◌||◌, OnOk, IsPermutation, filter, is_some, unwrap_or, if◌then◌else◌}
 use Rattle.std.specs.List.{AllByRecursion, IsDistinct, flat_map, list_any, range_with_len}
 use Rattle.std.specs.List.Sorted.{IsSorted}
@@ -10,7 +10,7 @@ use Rattle.std.proofs.lemmas.List.Sorted.{IsNonDecreasingBy-from_sort, list_any-
 use Rattle.std.proofs.Math.Bool.{or_assoc}
 use Rattle.std.proofs.Math.Seq.{take-suc}
 use Rattle.std.proofs.lemmas.List.Concat.{flat_map-append}
-use Rattle.std.proofs.lemmas.List.{length-map, get_or-map}
+use Rattle.std.proofs.lemmas.List.{length-map, get_or-map, drop_more}
 use Rattle.std.proofs.lemmas.List.Elements.{All-from_recursion}
 use Rattle.std.proofs.lemmas.List.Folds.{list_any_at, list_any-append}
 use Rattle.std.proofs.lemmas.List.FromFn.{length-range_with_len, get_or-range_with_len}
@@ -57,6 +57,15 @@ inclusion_good n p none = ⊎_elim
 
 pub inclusions_good : (n : ℕ) (ps : List InclusionClaim) → first_fault (inclusion_fault n) ps ≡ None → AllByRecursion (λ (p : InclusionClaim). ExistsAt p.leaf.0 p.log_length × (p.log_length ≡ n)) ps
 inclusions_good n = all_without (inclusion_fault n) _ (inclusion_good n)
+
+-- what an end isn't behind, and what ends at the length, has no fault
+pub no_consistency_fault : (n : ℕ) (p : ConsistencyClaim) (old new : ℕ) → old ≡ p.old_length → new ≡ p.new_length → old ≤ new → new ≡ n → consistency_fault n p ≡ None
+no_consistency_fault n p old new is ends before at = rw (le-ltb p.new_length p.old_length (rw (is, ends) at before), eq-eqb p.new_length n (sym ends ∙ at)) refl
+
+-- the faults behind one that there isn't
+pub fault_behind_none : {X : Type 0} (fault_of : X → Option BundleError) (xs : List X) (i : ℕ) (x : X) → i < length xs → x ≡ get_or xs i x → fault_of x ≡ None
+    → first_fault fault_of (drop i xs) ≡ first_fault fault_of (drop (i + 1) xs)
+fault_behind_none fault_of xs i x lt is good = rw (drop_more xs i x lt, ← is, good) refl
 
 -- a length that the proofs have
 pub length_is : (cs : List ConsistencyClaim) (ps : List InclusionClaim) (n : ℕ) (faults : Option BundleError) → first_length cs ps ≡ Ok n → proofs_fault n cs ps ≡ faults → bundle_length cs ps ≡ unless faults n

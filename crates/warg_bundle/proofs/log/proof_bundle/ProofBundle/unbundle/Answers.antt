@@ -1,4 +1,5 @@
 use Rattle.std.proofs.Common.{◌≡◌, ◌∙◌, ap, subst}
+use Rattle.std.proofs.lemmas.Result.{err_from_is_err_and}
 use Rattle.std.specs.List.{AllByRecursion}
 use Rattle.warg_bundle.specs.LogBundles.{Bundle}
 use Rattle.warg_bundle.proofs.log.proof_bundle.ProofBundle.unbundle.Goals as goal
@@ -17,3 +18,18 @@ returns-clause-leaves g c = c.in_ok-inclusion_proofs.ensures.leaves ∙ c.deref-
 
 pub returns-clause-log_lengths : goal.returns-clause-log_lengths
 returns-clause-log_lengths g c = subst (λ (b : Bundle). AllByRecursion (λ p. p.log_length ≡ b.log_length) c.in_ok-inclusion_proofs.field-0.items) c.self.view_is c.in_ok-inclusion_proofs.ensures.log_lengths
+
+pub returns-in_err-copied : goal.returns-in_err-copied
+returns-in_err-copied g c =
+    let p = err_from_is_err_and c.from_residual.result c.from_residual.ensures.1 in
+    rw p.1 (record { hashes = tt; old_lengths = tt; new_lengths = tt; leaves = tt; log_lengths = tt })
+
+pub returns-in_err-consistency_proofs : goal.returns-in_err-consistency_proofs
+returns-in_err-consistency_proofs g c =
+    let p = err_from_is_err_and c.from_residual-in_err-consistency_proofs.result c.from_residual-in_err-consistency_proofs.ensures.1 in
+    rw p.1 (record { hashes = tt; old_lengths = tt; new_lengths = tt; leaves = tt; log_lengths = tt })
+
+pub returns-in_err-inclusion_proofs : goal.returns-in_err-inclusion_proofs
+returns-in_err-inclusion_proofs g c =
+    let p = err_from_is_err_and c.from_residual-in_err-inclusion_proofs.result c.from_residual-in_err-inclusion_proofs.ensures.1 in
+    rw p.1 (record { hashes = tt; old_lengths = tt; new_lengths = tt; leaves = tt; log_lengths = tt })
