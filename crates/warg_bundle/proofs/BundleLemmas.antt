@@ -13,6 +13,8 @@ use Rattle.warg_protobuf.specs.declared.error.WireError.{WireError}
 use Rattle.warg_protobuf.specs.HashEntry.{Entry}
 use Rattle.warg_protobuf.specs.declared.value_error.DecodeError.{DecodeError}
 use Rattle.warg_protobuf.specs.declared.value_error.DecodeError.TheVariants.{HashLength, NotAscending, Wire}
+use Rattle.warg_protobuf.specs.declared.value_error.EncodeError.{EncodeError}
+use Rattle.warg_protobuf.specs.declared.value_error.EncodeError.TheVariants as encoding
 use Rattle.warg_log.specs.declared.node.Node.{Node}
 use Rattle.warg_log.specs.Sparse.{Pairs, IsAscending}
 use Rattle.warg_bundle.specs.LogBundles.{Bundle, entry_of, entries_fault, log_bundle_in, bundle_message}
@@ -101,6 +103,13 @@ some_not_none o x some none = absurd (cc)
 
 pub done_not_failed : {T E : Type 0} (x : T) (e : E) → Ok x ≡ Err e → ⊥
 done_not_failed x e failed = absurd (cc)
+
+pub refused_not_large : {T : Type 0} (result : Result T EncodeError) → result ≡ Err encoding.Memory → result ≡ Err encoding.TooLarge → ⊥
+refused_not_large result refused large = absurd (cc)
+
+-- an error that is passed on
+pub err_again : {T U E : Type 0} (given : Result T E) (passed : Result U E) (e f : E) → given ≡ Err e → passed ≡ Err e → passed ≡ Err f → given ≡ Err f
+err_again given passed e f is same failed = cc
 
 -- a map bundle by its two lists
 pub both_lists : (b m : MapBundle) → b.proofs ≡ m.proofs → b.absences ≡ m.absences → b ≡ m
