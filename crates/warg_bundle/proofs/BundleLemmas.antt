@@ -12,7 +12,7 @@ use Rattle.std.proofs.lemmas.Bool.Decides.{leb_tells}
 use Rattle.warg_protobuf.specs.declared.error.WireError.{WireError}
 use Rattle.warg_protobuf.specs.HashEntry.{Entry}
 use Rattle.warg_protobuf.specs.declared.value_error.DecodeError.{DecodeError}
-use Rattle.warg_protobuf.specs.declared.value_error.DecodeError.TheVariants.{HashLength, NotAscending, Wire}
+use Rattle.warg_protobuf.specs.declared.value_error.DecodeError.TheVariants.{HashLength, NotAscending, Wire, Memory}
 use Rattle.warg_protobuf.specs.declared.value_error.EncodeError.{EncodeError}
 use Rattle.warg_protobuf.specs.declared.value_error.EncodeError.TheVariants as encoding
 use Rattle.warg_log.specs.declared.node.Node.{Node}
@@ -84,6 +84,9 @@ low_not_wire e bad = cc
 
 pub done_not_wire : {X : Type 0} (x : X) (e : WireError) → done x ≡ failed (Wire e) → ⊥
 done_not_wire x e bad = cc
+
+pub refused_not_wire : {X : Type 0} (r : Result X DecodeError) (e : WireError) → r ≡ failed Memory → r ≡ failed (Wire e) → ⊥
+refused_not_wire r e is bad = absurd (cc)
 
 -- a part of a bundle by its place
 pub part_at : {X : Type 0} (xs ys : List X) (i : ℕ) (x y : X) → xs ≡ ys → i < length xs → x ≡ get_or xs i x → y ≡ x → slice_get ys i ≡ Some y

@@ -6,6 +6,7 @@ use Rattle.warg_protobuf.specs.MapInclusionProof.{proof_view}
 use Rattle.warg_protobuf.specs.Decoding.{first_fault, unless}
 use Rattle.warg_map.specs.Messages.{proof_fault}
 use Rattle.warg_protobuf.proofs.ForCallers.{no_fault, fault_behind, read_more}
+use Rattle.warg_bundle.proofs.BundleLemmas.{done_not_wire, refused_not_wire, err_again}
 use Rattle.warg_bundle.proofs.map.proof_bundle.read_proofs.Goals as goal
 
 fault_is : {X E : Type 0} (fault : Option E) (x : X) (e : E) → unless fault x ≡ Err e → fault ≡ Some e
@@ -37,13 +38,13 @@ returns-in_err-from_message g c =
       good = tt;
       fault = ⊎_elim (λ none. inl none) (λ bad. inr
           (met bad)) c.in_err-from_message.ensures.exact;
-      wire = λ e bad. c.in_err-from_message.ensures.wire e (cc);
+      wire = λ e bad. c.in_err-from_message.ensures.wire e (err_again _ _ _ _ refl refl bad);
     })
 
 pub returns-in_err-push : goal.returns-in_err-push
 returns-in_err-push g c =
     let p = err_from_is_err_and c.from_residual-in_err-push.result c.from_residual-in_err-push.ensures.1 in
-    rw (p.1, p.2) (record { ok = tt; good = tt; fault = inl refl; wire = λ e bad. absurd (cc) })
+    rw (p.1, p.2) (record { ok = tt; good = tt; fault = inl refl; wire = λ e bad. absurd (refused_not_wire _ e refl bad) })
 
 pub returns : goal.returns
 returns g c =
@@ -52,5 +53,5 @@ returns g c =
       ok = sym (append-nil c.messages.proofs.items) ∙ ap (λ ys. c.messages.proofs.items ++ map proof_view ys) (sym none) ∙ c.messages.invariant.read;
       good = c.messages.invariant.fault ∙ ap (λ ys. first_fault proof_fault (map proof_view ys)) none;
       fault = tt;
-      wire = λ e bad. absurd (cc);
+      wire = λ e bad. absurd (done_not_wire _ e bad);
     }

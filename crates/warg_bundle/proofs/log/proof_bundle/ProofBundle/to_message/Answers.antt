@@ -1,7 +1,7 @@
 use Rattle.std.proofs.Common.{◌∙◌, refl, ap}
 use Rattle.std.proofs.lemmas.Result.{err_from_is_err_and}
 use Rattle.warg_bundle.specs.LogBundles.{log_bundle_in, NodesFit}
-use Rattle.warg_bundle.proofs.BundleLemmas.{bundle_again}
+use Rattle.warg_bundle.proofs.BundleLemmas.{bundle_again, done_not_failed, refused_not_large}
 use Rattle.warg_bundle.proofs.log.proof_bundle.ProofBundle.to_message.Goals as goal
 use Rattle.warg_bundle.proofs.log.proof_bundle.ProofBundle.to_message.Goals.{Else-not-pairs_fit}
 
@@ -39,7 +39,7 @@ pub returns-clause-fits : goal.returns-clause-fits
 returns-clause-fits g c = fits g (goal.at.returns-clause-fits g c).Else-not-pairs_fit
 
 pub returns-clause-too_large : goal.returns-clause-too_large
-returns-clause-too_large g c = ((λ e. absurd (cc)), (λ no. absurd (no (fits g (goal.at.returns-clause-too_large g c).Else-not-pairs_fit))))
+returns-clause-too_large g c = ((λ e. absurd (done_not_failed _ _ e)), (λ no. absurd (no (fits g (goal.at.returns-clause-too_large g c).Else-not-pairs_fit))))
 
 pub returns-in_err-consistent_lengths : goal.returns-in_err-consistent_lengths
 returns-in_err-consistent_lengths g c =
@@ -48,7 +48,7 @@ returns-in_err-consistent_lengths g c =
       ok = tt;
       again = tt;
       too_large = (
-        (λ e. absurd (cc)),
+        (λ e. absurd (refused_not_large _ refl e)),
         (λ no. absurd (no (fits g
             (goal.at.returns-in_err-consistent_lengths g c).Else-not-pairs_fit))),
       );
@@ -58,9 +58,9 @@ returns-in_err-consistent_lengths g c =
 pub returns-in_err-included_indices : goal.returns-in_err-included_indices
 returns-in_err-included_indices g c =
     let p = err_from_is_err_and c.from_residual-in_err-included_indices.result c.from_residual-in_err-included_indices.ensures.1 in
-    rw (p.1, p.2) (record { ok = tt; again = tt; too_large = ((λ e. absurd (cc)), (λ no. absurd (no (fits g (goal.at.returns-in_err-included_indices g c).Else-not-pairs_fit)))); fits = tt })
+    rw (p.1, p.2) (record { ok = tt; again = tt; too_large = ((λ e. absurd (refused_not_large _ refl e)), (λ no. absurd (no (fits g (goal.at.returns-in_err-included_indices g c).Else-not-pairs_fit)))); fits = tt })
 
 pub returns-in_err-hashes : goal.returns-in_err-hashes
 returns-in_err-hashes g c =
     let p = err_from_is_err_and c.from_residual-in_err-hashes.result c.from_residual-in_err-hashes.ensures.1 in
-    rw (p.1, p.2) (record { ok = tt; again = tt; too_large = ((λ e. absurd (cc)), (λ no. absurd (no (fits g (goal.at.returns-in_err-hashes g c).Else-not-pairs_fit)))); fits = tt })
+    rw (p.1, p.2) (record { ok = tt; again = tt; too_large = ((λ e. absurd (refused_not_large _ refl e)), (λ no. absurd (no (fits g (goal.at.returns-in_err-hashes g c).Else-not-pairs_fit)))); fits = tt })

@@ -2,7 +2,7 @@ use Rattle.std.proofs.Common.{◌∙◌, Ok, ap, sym, refl, ⊎_elim, inl, inr}
 use Rattle.std.proofs.lemmas.Result.{err_from_is_err_and}
 use Rattle.warg_protobuf.specs.Decoding.{unless}
 use Rattle.warg_protobuf.specs.MapProofBundle.{map_view}
-use Rattle.warg_bundle.proofs.BundleLemmas.{both_lists, done_not_wire}
+use Rattle.warg_bundle.proofs.BundleLemmas.{both_lists, done_not_wire, err_again}
 use Rattle.warg_bundle.proofs.map.proof_bundle.ProofBundle.from_message.Goals as goal
 
 pub returns-in_err-absences-clause-exact : goal.returns-in_err-absences-clause-exact
@@ -16,7 +16,7 @@ returns-in_err-proofs g c =
     rw (p.1, p.2) (record {
       exact = ⊎_elim (λ none. inl none) (λ fault. inr (rw fault refl)) c.in_err-proofs.ensures.fault;
       message = tt;
-      wire = λ e bad. c.in_err-proofs.ensures.wire e (cc);
+      wire = λ e bad. c.in_err-proofs.ensures.wire e (err_again _ _ _ _ refl refl bad);
     })
 
 pub returns : goal.returns
