@@ -53,7 +53,7 @@ impl From<InclusionProofError> for ConsistencyProofError {
 /// The claim that the log of an old length is a beginning of the log of a new one.
 ///
 /// It holds the two lengths, up to 2^63; the digests come from any [`LogData`]. Its evaluation shows
-/// that each balanced root of the old length is part of one tree of the new length, and answers the
+/// that each balanced root of the old length is part of one tree of the new length, and returns the
 /// roots of both.
 #[derive_where(Debug, PartialEq, Eq)]
 pub struct ConsistencyProof<D, V> {

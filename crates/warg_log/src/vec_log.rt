@@ -16,9 +16,9 @@ use warg_crypto::{Hash, SupportedDigest, VisitBytes, hash_branch, hash_empty, ha
 
 /// A log that keeps the digest of every node in one slice, at the place of the node's number.
 ///
-/// It answers each of its own inclusion and consistency proofs, at any length up to its own. For `n`
-/// entries it keeps `2 * n - 1` digests; a node that doesn't exist yet has a spacer at its place, the
-/// digest of no bytes, which is never answered as the node's.
+/// It has the digests of each of its own inclusion and consistency proofs, at any length up to its
+/// own. For `n` entries it keeps `2 * n - 1` digests; a node that doesn't exist yet has a spacer at
+/// its place, the digest of no bytes, which is never returned as the node's.
 ///
 /// ```rust
 /// let mut releases: VecLog<Sha256, &str> = VecLog::default(alloc);

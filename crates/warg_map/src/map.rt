@@ -283,7 +283,7 @@ impl<D: SupportedDigest, K: VisitBytes + Drop, V: VisitBytes + Drop, A: Allocato
         ensures ok { IfOk result (IsExtended D.digest K.bytes V.bytes I.next_gives iter self.now) }
         ensures full { result ≡ Err MapError.Full
             → IsFullWithin D.digest K.bytes V.bytes I.next_gives iter self.now }
-        // Where a map is the answer, no pair was one too many.
+        // Where a map is returned, no pair was one too many.
         ensures fits { IfOk result (λ m. map.len m ≤ usize.MAX) }
 
         // Where the map is full, and the first pair, whichever it is, is of a new key digest, memory isn't asked for.
