@@ -1,4 +1,4 @@
-use Rattle.std.proofs.Common.{◌≡◌, ◌∙◌, ◌*◌, ◌++◌, codes, Some, refl, sym, ap}
+use Rattle.std.proofs.Common.{◌≡◌, ◌∙◌, ◌*◌, ◌^◌, ◌++◌, length, codes, Some, refl, sym, ap}
 use Rattle.std.specs.Fmt.{decimal}
 use Rattle.warg_program.specs.Words.{hex_bytes_in}
 use Rattle.warg_program.specs.Orders.{push, push_in}
@@ -10,7 +10,8 @@ use Rattle.warg_program.proofs.session.Session.push.Goals as goal
 pub returns-then-length-eq-GREATEST_LENGTH : goal.returns-then-length-eq-GREATEST_LENGTH
 returns-then-length-eq-GREATEST_LENGTH g c s at =
     let words : push_in c.args.words ≡ Some (push c.in_ok-entry.entry.items) = last_word hex_bytes_in push _ _ c.in_ok-entry.ensures.ok in
-    rw words (log_length s _ at.log_is ∙ sym c.length.ensures.value ∙ c.if-length-eq-GREATEST_LENGTH.true)
+    let full : length s.entries ≡ 2 ^ 63 = log_length s _ at.log_is ∙ sym c.length.ensures.value ∙ c.if-length-eq-GREATEST_LENGTH.true in
+    rw words full
 
 pub returns : goal.returns
 unfolding answer
