@@ -9,7 +9,7 @@ use Rattle.std.specs.List.{list_all}
 use Rattle.std.specs.Char.{is_ascii_digit}
 use Rattle.memchr.specs.Find.{IsFirstByte, is_byte}
 use Rattle.warg_program.specs.Words.{onto_first, lines_of, words_of, words_left, is_number, number_in, at_most_2^63, length_in, hex_bytes_in, if_32, root_in, value_from}
-use Rattle.warg_program.specs.Orders.{Order, first_says, none_left, next, done, good_or_bad, order_of, line_of}
+use Rattle.warg_program.specs.Orders.{Order, first_says, none_left, next, done, good_or_bad, order_of, line_of, bad}
 use Rattle.warg_program.specs.Private.Parts.{Lacks, IsFirstPart, last_says}
 
 Lacks-append : (b : ℕ) (xs ys : List ℕ) → Lacks b xs → Lacks b ys → Lacks b (xs ++ ys)
@@ -105,10 +105,10 @@ command_line [] name word rest some parts same = absurd (true≢false (sym some)
 command_line (b ∷ line) name word rest some parts same =
     named_line (b ∷ line) name rest (omega arith) parts ∙ ap (λ w. good_or_bad (order_of (w ∷ words_left rest))) (same_text name word same)
 
--- a line whose first word names no command on the log
-pub other_line : (line name : List ℕ) (rest : Option (List ℕ)) (order : Option Order) → false ≡ (length line == 0) → IsFirstPart 32 line name rest → order_of (name ∷ words_left rest) ≡ order → line_of line ≡ good_or_bad order
-other_line [] name rest order some parts is = absurd (true≢false (sym some))
-other_line (b ∷ line) name rest order some parts is = named_line (b ∷ line) name rest (omega arith) parts ∙ ap good_or_bad is
+-- a line whose first word is no command's name
+pub other_line : (line name : List ℕ) (rest : Option (List ℕ)) → false ≡ (length line == 0) → IsFirstPart 32 line name rest → order_of (name ∷ words_left rest) ≡ None → line_of line ≡ bad
+other_line [] name rest some parts none = absurd (true≢false (sym some))
+other_line (b ∷ line) name rest some parts none = named_line (b ∷ line) name rest (omega arith) parts ∙ ap good_or_bad none
 
 -- a line has a word
 pub word_left : (line : List ℕ) → none_left (words_of line) ≡ None

@@ -39,7 +39,7 @@ struct Session<A: Allocator> {
 }
 
 impl<A: Allocator + Copy> Session<A> {
-    ghost use Rattle.warg_program.specs.Private.Sessions.{IsInState, Takes, Says, map_order};
+    ghost use Rattle.warg_program.specs.Private.Sessions.{IsInState, Takes, Says};
 
     // Answers an input's lines up to the first bad one, and says whether there is none.
     fn answer_all(&mut self, input: &[u8]) -> Result<bool, RunError>
@@ -91,16 +91,7 @@ impl<A: Allocator + Copy> Session<A> {
             self.bundle(words)
         } else if is_same(name, b"verify") {
             self.verify(words)
-        } else {
-            self.answer_on_map(name, words)
-        }
-    }
-
-    // Answers a line that names no command on the log.
-    fn answer_on_map(&mut self, name: &[u8], words: Words<'_>) -> Result<(), LineError>
-        ensures { Takes self.old self.new (good_or_bad (map_order name.now words.entry)) result }
-    {
-        if is_same(name, b"insert") {
+        } else if is_same(name, b"insert") {
             self.insert(words)
         } else if is_same(name, b"map") {
             self.map_root(words)

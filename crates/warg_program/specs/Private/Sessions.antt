@@ -1,7 +1,6 @@
 -- What a session does with a line, by the states that its log and its map stand for.
-use Rattle.std.specs.Prelude.{◌≡◌, ℕ, true, if◌then◌else◌, List, ◌++◌, codes, string_bytes, Option, None, Result, Ok, Err}
-use Rattle.warg_crypto.specs.Bytes.{same_bytes}
-use Rattle.warg_program.specs.Orders.{Order, insert_in, map_in, prove_in, absent_in, Line, empty, bad, good}
+use Rattle.std.specs.Prelude.{◌≡◌, ℕ, true, List, ◌++◌, string_bytes, Result, Ok, Err}
+use Rattle.warg_program.specs.Orders.{Line, empty, bad, good}
 use Rattle.warg_program.specs.States.{State, log_at, map_at, after_line, FindsFull}
 use Rattle.warg_program.specs.Text.{said, is_not_bad}
 use Rattle.warg_program.specs.declared.line_error.LineError.{LineError}
@@ -34,19 +33,6 @@ Takes old new line (Ok _) = (s : State) → IsInState old s → Answers old new 
 Takes old new line (Err BadLine) = (line ≡ bad) × (new ≡ old)
 Takes old new line (Err Memory) = Unit {0}
 Takes old new line (Err Full) = (s : State) → IsInState old s → LineFindsFull s line
-
--- The order of a command on the map, by its name and the words behind it.
-unfoldable pub map_order : List ℕ → List (List ℕ) → Option Order
-map_order name words =
-    if same_bytes name (codes "insert")
-    then insert_in words
-    else if same_bytes name (codes "map")
-    then map_in words
-    else if same_bytes name (codes "prove")
-    then prove_in words
-    else if same_bytes name (codes "absent")
-    then absent_in words
-    else None
 
 -- The session only added text.
 abbrev pub AddsText : {A : Type 0} → Session A → Session A → List ℕ → Type 0

@@ -1,6 +1,5 @@
-use Rattle.std.proofs.Common.{◌≡◌, ◌∷◌, codes, option_map, refl}
+use Rattle.std.proofs.Common.{◌≡◌, ◌∷◌, codes, option_map, None, refl}
 use Rattle.warg_program.specs.Orders.{order_of}
-use Rattle.warg_program.specs.Private.Sessions.{map_order}
 use Rattle.warg_program.specs.Words.{words_left}
 use Rattle.warg_program.proofs.WordLemmas.{command_line, other_line}
 use Rattle.warg_program.proofs.session.Session.answer.Goals as goal
@@ -29,9 +28,25 @@ pub returns-then-is_same-6 : goal.returns-then-is_same-6
 unfolding order_of
 returns-then-is_same-6 g c = rw (command_line _ _ (codes "verify") _ c.if-is_empty.ensures c.split_first.ensures c.if-is_same-6.ensures) c.verify.ensures
 
-pub returns-else-is_same-6 : goal.returns-else-is_same-6
-unfolding order_of map_order
-returns-else-is_same-6 g c =
-    let order : order_of (c.split_first.result.0.now ∷ words_left (option_map (λ rest. rest.now) c.split_first.result.1)) ≡ map_order c.split_first.result.0.now (words_left (option_map (λ rest. rest.now) c.split_first.result.1)) =
-    rw (← c.if-is_same.ensures, ← c.if-is_same-2.ensures, ← c.if-is_same-3.ensures, ← c.if-is_same-4.ensures, ← c.if-is_same-5.ensures, ← c.if-is_same-6.ensures) refl in
-    rw (other_line _ _ _ _ c.if-is_empty.ensures c.split_first.ensures order) c.answer_on_map.ensures
+pub returns-then-is_same-7 : goal.returns-then-is_same-7
+unfolding order_of
+returns-then-is_same-7 g c = rw (command_line _ _ (codes "insert") _ c.if-is_empty.ensures c.split_first.ensures c.if-is_same-7.ensures) c.insert.ensures
+
+pub returns-then-is_same-8 : goal.returns-then-is_same-8
+unfolding order_of
+returns-then-is_same-8 g c = rw (command_line _ _ (codes "map") _ c.if-is_empty.ensures c.split_first.ensures c.if-is_same-8.ensures) c.map_root.ensures
+
+pub returns-then-is_same-9 : goal.returns-then-is_same-9
+unfolding order_of
+returns-then-is_same-9 g c = rw (command_line _ _ (codes "prove") _ c.if-is_empty.ensures c.split_first.ensures c.if-is_same-9.ensures) c.prove.ensures
+
+pub returns-then-is_same-10 : goal.returns-then-is_same-10
+unfolding order_of
+returns-then-is_same-10 g c = rw (command_line _ _ (codes "absent") _ c.if-is_empty.ensures c.split_first.ensures c.if-is_same-10.ensures) c.absent.ensures
+
+pub returns-else-is_same-10 : goal.returns-else-is_same-10
+unfolding order_of
+returns-else-is_same-10 g c =
+    let none : order_of (c.split_first.result.0.now ∷ words_left (option_map (λ rest. rest.now) c.split_first.result.1)) ≡ None =
+    rw (← c.if-is_same.ensures, ← c.if-is_same-2.ensures, ← c.if-is_same-3.ensures, ← c.if-is_same-4.ensures, ← c.if-is_same-5.ensures, ← c.if-is_same-6.ensures, ← c.if-is_same-7.ensures, ← c.if-is_same-8.ensures, ← c.if-is_same-9.ensures, ← c.if-is_same-10.ensures) refl in
+    (other_line _ _ _ c.if-is_empty.ensures c.split_first.ensures none, refl)
