@@ -72,7 +72,8 @@ class Crate:
         self.seconds, self.said = {"proof": 0.0, "tests": 0.0}, []
         self.is_program = kit.is_program(name)
         self.has_tests = any("#[test]" in it.read_text() for it in self.folder.glob("src/**/*.rt"))
-        self.cpu = ["--cpu", cpu] if cpu else []
+        # A library that other crates stand on is the same for each processor.
+        self.cpu = ["--cpu", cpu] if cpu and (self.is_program or kit.is_static(name)) else []
         self.libraries = "out/proved" if is_named else "out/rlib"
         self.kept = [] if is_named else KEPT
 
@@ -113,7 +114,7 @@ class Crate:
         words = ["--target", "x86_64-unknown-linux-gnu", *TOOLCHAIN, "-o", program, f"{program}.o"]
         self.done("proof", [kit.KIT / "bin/rattle-link", *words, kit.KIT / "c/libos_c.a", kit.KIT / "c/liblibc_c.a"])
 
-    def prove_anew(self):
+    def prove_if_changed(self):
         """Proves the crate, unless such a run has proved it as it is and left what it built."""
         stamp = self.folder / self.libraries / "sum"
         told = " ".join([sum_of(self.name, kit.crates()), *self.cpu])
@@ -191,7 +192,7 @@ def prove_all(crates, jobs):
         with room:
             try:
                 if not lacks:
-                    crate.prove_anew() if crate.is_named else crate.prove()
+                    crate.prove_if_changed() if crate.is_named else crate.prove()
             except Failed as failed:
                 why = str(failed)
         with printing:
