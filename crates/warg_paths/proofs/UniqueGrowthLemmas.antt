@@ -1,13 +1,15 @@
 -- Two consistency paths between the same lengths to the same roots.
-use Rattle.std.proofs.Common.{◌≡◌, ◌⊎◌, inl, inr, ℕ, ◌-◌, ◌<◌, ◌≤◌, Bool, true, false, ◌&&◌, nat_lt, nat_le, List, [], ◌∷◌, length, reverse, Option, Some, None, refl, sym, ap, ◌∙◌}
-use Rattle.std.proofs.lemmas.Bool.{le-leb, lt-leb, eq-eqb, ne_eqb, cases_lt, cases_Bool}
+use Rattle.std.proofs.Common.{◌≡◌, ◌⊎◌, inl, inr, ℕ, ◌+◌, ◌-◌, ◌<◌, ◌≤◌, Bool, true, false, ◌&&◌, nat_lt, nat_le, List, [], ◌∷◌, length, reverse, Option, Some, None, refl, sym, ap, ◌∙◌, arith}
+use Rattle.std.proofs.lemmas.Bool.{le-leb, lt-leb, leb-true, eq-eqb, ne_eqb, cases_lt, cases_Bool, and_parts}
 use Rattle.std.proofs.lemmas.Bool.Decides.{eqb_tells}
 use Rattle.std.proofs.lemmas.List.{reverse-reverse}
-use Rattle.warg_crypto.specs.Collisions.{AreHashes, SomeCollision, Anywhere}
-use Rattle.warg_crypto.specs.Tree.{branch}
+use Rattle.warg_crypto.specs.Collisions.{AreHashes, SomeCollision}
+use Rattle.warg_crypto.specs.Tree.{branch, branch_input, where_both}
 use Rattle.warg_log.specs.Tree.{front_of}
 use Rattle.warg_paths.specs.Paths.{one_root, twice, grown, both_over, roots_down, consistency_roots}
-use Rattle.warg_paths.proofs.UniqueLemmas.{branches_meet, turned}
+use Rattle.warg_paths.specs.Ways.{IsOnGrowth, AreGrowthInputs, AreTurns, new_turn_input, old_of}
+use Rattle.warg_paths.specs.Ways.IsOnGrowth.{whole as way_whole, front as way_front, rest as way_rest}
+use Rattle.warg_paths.proofs.UniqueLemmas.{branches_meet, turned, cons_same}
 use Rattle.warg_paths.proofs.GrowthLemmas.{known}
 use Rattle.warg_crypto.proofs.ForCallers.{HasSize}
 
@@ -89,60 +91,99 @@ new_size H gives whole m n r o w (t ∷ ts) are is = elim (eqb_tells m n) [
   ]
 ]
 
-cons_same : {c d : List ℕ} {cs ds : List (List ℕ)} → c ≡ d → cs ≡ ds → (c ∷ cs) ≡ (d ∷ ds)
-cons_same {c = c} {ds = ds} e f = ap (λ hs. c ∷ hs) f ∙ ap (λ h. h ∷ ds) e
+-- what is taken for the new root at a range whose old leaves end in its first part, and in the rest
+front_turn : (H : List ℕ → List ℕ) (known : Option (List ℕ)) (m n : ℕ) (top o w : List ℕ) (below : List (List ℕ)) → m ≤ front_of n → roots_down H known m (front_of n) below ≡ Some (o, w)
+    → new_turn_input H known m n top below ≡ Some (branch_input w top)
+front_turn H known m n top o w below le is = rw (le-leb m (front_of n) le, is) refl
 
--- two ways down to the same roots are one, or collide
-unique_down : (H : List ℕ → List ℕ) → HasSize H → (whole : Bool) (m n : ℕ) (r s o w : List ℕ) (xs ys : List (List ℕ)) → AreHashes (r ∷ xs) → AreHashes (s ∷ ys)
-    → roots_down H (known whole r) m n xs ≡ Some (o, w) → roots_down H (known whole s) m n ys ≡ Some (o, w) → (xs ≡ ys) ⊎ SomeCollision H Anywhere
-unique_down H gives whole m n r s o w [] ys ax ay ex ey = elim (eqb_tells m n) [
-  | inl same ↦ inl (end_unique whole r s o w [] ys (sym (down_same H (known whole r) m n [] same.1) ∙ ex) (sym (down_same H (known whole s) m n ys same.1) ∙ ey))
-  | inr other ↦ absurd (nothing (sym (down_none H (known whole r) m n other.1) ∙ ex))
-]
-unique_down H gives whole m n r s o w (t ∷ ts) [] ax ay ex ey = elim (eqb_tells m n) [
-  | inl same ↦ inl (end_unique whole r s o w (t ∷ ts) [] (sym (down_same H (known whole r) m n (t ∷ ts) same.1) ∙ ex) (sym (down_same H (known whole s) m n [] same.1) ∙ ey))
-  | inr other ↦ absurd (nothing (sym (down_none H (known whole s) m n other.1) ∙ ey))
-]
-unique_down H gives whole m n r s o w (t ∷ ts) (u ∷ us) ax ay ex ey = elim (eqb_tells m n) [
-  | inl same ↦ inl (end_unique whole r s o w (t ∷ ts) (u ∷ us) (sym (down_same H (known whole r) m n (t ∷ ts) same.1) ∙ ex) (sym (down_same H (known whole s) m n (u ∷ us) same.1) ∙ ey))
-  | inr other ↦ elim (cases_lt (front_of n) m) [
-    | inr low ↦
-        let p = grown_parts H (roots_down H (known whole r) m (front_of n) ts) t o w (sym (down_front H (known whole r) m n t ts other.1 low) ∙ ex) in
-        let q = grown_parts H (roots_down H (known whole s) m (front_of n) us) u o w (sym (down_front H (known whole s) m n u us other.1 low) ∙ ey) in
-        let size : length p.root ≡ length q.root = new_size H gives whole m (front_of n) r o p.root ts (ax.0, ax.1.1) p.below_is ∙ sym (new_size H gives whole m (front_of n) s o q.root us (ay.0, ay.1.1) q.below_is) in
-        elim (branches_meet H p.root t q.root u w size p.is q.is) [
-          | inr c ↦ inr c
-          | inl parts ↦
-              elim (unique_down H gives whole m (front_of n) r s o p.root ts us (ax.0, ax.1.1) (ay.0, ay.1.1) p.below_is (q.below_is ∙ ap (λ z. Some (o, z)) (sym parts.0))) [
-                | inr c ↦ inr c
-                | inl below ↦ inl (cons_same parts.1 below)
+rest_turn : (H : List ℕ → List ℕ) (known : Option (List ℕ)) (m n : ℕ) (top o w : List ℕ) (below : List (List ℕ)) → front_of n < m → roots_down H None (m - front_of n) (n - front_of n) below ≡ Some (o, w)
+    → new_turn_input H known m n top below ≡ Some (branch_input top w)
+rest_turn H known m n top o w below lt is = rw (lt-leb m (front_of n) lt, is) refl
+
+-- two ways down to the same roots are one, or collide at one range
+module _ (H : List ℕ → List ℕ) (gives : HasSize H) (old_count count : ℕ) (r s : List ℕ) (path other : List (List ℕ)) where
+  abbrev Placed : List ℕ → List ℕ → Type 0
+  Placed = AreGrowthInputs H old_count count r path s other
+
+  abbrev OnWay : List ℕ → List (List ℕ) → Option (List ℕ) → ℕ → ℕ → ℕ → List (List ℕ) → Type 0
+  OnWay root digests = IsOnGrowth (Some root) old_count count (reverse digests)
+
+  down : (whole : Bool) (m a n : ℕ) (o w : List ℕ) (xs ys : List (List ℕ)) → AreHashes (r ∷ xs) → AreHashes (s ∷ ys) → m ≤ n
+      → OnWay r path (known whole r) m a n xs → OnWay s other (known whole s) m a n ys
+      → roots_down H (known whole r) m n xs ≡ Some (o, w) → roots_down H (known whole s) m n ys ≡ Some (o, w) → (xs ≡ ys) ⊎ SomeCollision H Placed
+  down whole m a n o w [] ys ax ay order wx wy ex ey = elim (eqb_tells m n) [
+    | inl same ↦ inl (end_unique whole r s o w [] ys (sym (down_same H (known whole r) m n [] same.1) ∙ ex) (sym (down_same H (known whole s) m n ys same.1) ∙ ey))
+    | inr more ↦ absurd (nothing (sym (down_none H (known whole r) m n more.1) ∙ ex))
+  ]
+  down whole m a n o w (t ∷ ts) [] ax ay order wx wy ex ey = elim (eqb_tells m n) [
+    | inl same ↦ inl (end_unique whole r s o w (t ∷ ts) [] (sym (down_same H (known whole r) m n (t ∷ ts) same.1) ∙ ex) (sym (down_same H (known whole s) m n [] same.1) ∙ ey))
+    | inr more ↦ absurd (nothing (sym (down_none H (known whole s) m n more.1) ∙ ey))
+  ]
+  down whole m a n o w (t ∷ ts) (u ∷ us) ax ay order wx wy ex ey = elim (eqb_tells m n) [
+    | inl same ↦ inl (end_unique whole r s o w (t ∷ ts) (u ∷ us) (sym (down_same H (known whole r) m n (t ∷ ts) same.1) ∙ ex) (sym (down_same H (known whole s) m n (u ∷ us) same.1) ∙ ey))
+    | inr differ ↦
+        let more : m < n = omega (arith, order, differ.1) in
+        elim (cases_lt (front_of n) m) [
+          | inr low ↦
+              let p = grown_parts H (roots_down H (known whole r) m (front_of n) ts) t o w (sym (down_front H (known whole r) m n t ts differ.1 low) ∙ ex) in
+              let q = grown_parts H (roots_down H (known whole s) m (front_of n) us) u o w (sym (down_front H (known whole s) m n u us differ.1 low) ∙ ey) in
+              let size : length p.root ≡ length q.root = new_size H gives whole m (front_of n) r o p.root ts (ax.0, ax.1.1) p.below_is ∙ sym (new_size H gives whole m (front_of n) s o q.root us (ay.0, ay.1.1) q.below_is) in
+              let turns = inr (front_turn H (known whole r) m n t o p.root ts low p.below_is, front_turn H (known whole s) m n u o q.root us low q.below_is) in
+              elim (branches_meet H Placed p.root t q.root u w size p.is q.is (at _ _ m a n t ts u us wx wy more turns)) [
+                | inr collision ↦ inr collision
+                | inl parts ↦
+                    elim (down whole m a (front_of n) o p.root ts us (ax.0, ax.1.1) (ay.0, ay.1.1) low (way_front _ m a n t ts wx more low) (way_front _ m a n u us wy more low) p.below_is (q.below_is ∙ ap (λ z. Some (o, z)) (sym parts.0))) [
+                      | inr collision ↦ inr collision
+                      | inl below ↦ inl (cons_same parts.1 below)
+                    ]
+              ]
+          | inl high ↦
+              let p = both_parts H t (roots_down H None (m - front_of n) (n - front_of n) ts) o w (sym (down_rest H (known whole r) m n t ts differ.1 high) ∙ ex) in
+              let q = both_parts H u (roots_down H None (m - front_of n) (n - front_of n) us) o w (sym (down_rest H (known whole s) m n u us differ.1 high) ∙ ey) in
+              let size : length t ≡ length u = ax.1.0 ∙ sym ay.1.0 in
+              let order_in_rest : m - front_of n ≤ n - front_of n = omega (arith, order) in
+              let olds = inl (high, ap (where_both branch_input (Some t)) (ap old_of p.below_is), ap (where_both branch_input (Some u)) (ap old_of q.below_is)) in
+              elim (branches_meet H Placed t p.old u q.old o size p.old_is q.old_is (at _ _ m a n t ts u us wx wy more olds)) [
+                | inr collision ↦ inr collision
+                | inl same_olds ↦
+                    let news = inr (rest_turn H (known whole r) m n t p.old p.new ts high p.below_is, rest_turn H (known whole s) m n u q.old q.new us high q.below_is) in
+                    elim (branches_meet H Placed t p.new u q.new w size p.new_is q.new_is (at _ _ m a n t ts u us wx wy more news)) [
+                      | inr collision ↦ inr collision
+                      | inl same_news ↦
+                          elim (down false (m - front_of n) (a + front_of n) (n - front_of n) p.old p.new ts us (ax.0, ax.1.1) (ay.0, ay.1.1) order_in_rest (way_rest _ m a n t ts wx more high) (way_rest _ m a n u us wy more high)
+                              p.below_is (q.below_is ∙ ap (λ z. Some (z, q.new)) (sym same_olds.1) ∙ ap (λ z. Some (p.old, z)) (sym same_news.1))) [
+                                | inr collision ↦ inr collision
+                                | inl below ↦ inl (cons_same same_olds.0 below)
+                              ]
+                    ]
               ]
         ]
-    | inl high ↦
-        let p = both_parts H t (roots_down H None (m - front_of n) (n - front_of n) ts) o w (sym (down_rest H (known whole r) m n t ts other.1 high) ∙ ex) in
-        let q = both_parts H u (roots_down H None (m - front_of n) (n - front_of n) us) o w (sym (down_rest H (known whole s) m n u us other.1 high) ∙ ey) in
-        let size : length t ≡ length u = ax.1.0 ∙ sym ay.1.0 in
-        elim (branches_meet H t p.old u q.old o size p.old_is q.old_is) [
-          | inr c ↦ inr c
-          | inl olds ↦ elim (branches_meet H t p.new u q.new w size p.new_is q.new_is) [
-            | inr c ↦ inr c
-            | inl news ↦
-                elim (unique_down H gives false (m - front_of n) (n - front_of n) r s p.old p.new ts us (ax.0, ax.1.1) (ay.0, ay.1.1) p.below_is (q.below_is ∙ ap (λ z. Some (z, q.new)) (sym olds.1) ∙ ap (λ z. Some (p.old, z)) (sym news.1))) [
-                  | inr c ↦ inr c
-                  | inl below ↦ inl (cons_same olds.0 below)
-                ]
-          ]
-        ]
   ]
-]
+    where
+      at : (k j : Option (List ℕ)) (m a n : ℕ) (t : List ℕ) (ts : List (List ℕ)) (u : List ℕ) (us : List (List ℕ)) {first second : List ℕ}
+          → OnWay r path k m a n (t ∷ ts) → OnWay s other j m a n (u ∷ us) → m < n → AreTurns H k j m n (t ∷ ts) (u ∷ us) first second → Placed first second
+      at k j m a n t ts u us wx wy more turns = record {
+        known = k;
+        other_known = j;
+        old_count = m;
+        from = a;
+        count = n;
+        digests = t ∷ ts;
+        other_digests = u ∷ us;
+        on_way = wx;
+        other_on_way = wy;
+        more = more;
+        turns = turns;
+      }
 
 pub unique : (H : List ℕ → List ℕ) (m n : ℕ) (r s old new : List ℕ) (xs ys : List (List ℕ)) → HasSize H → AreHashes (r ∷ xs) → AreHashes (s ∷ ys)
-    → consistency_roots H m n r xs ≡ Some (old, new) → consistency_roots H m n s ys ≡ Some (old, new) → (xs ≡ ys) ⊎ SomeCollision H Anywhere
+    → consistency_roots H m n r xs ≡ Some (old, new) → consistency_roots H m n s ys ≡ Some (old, new) → (xs ≡ ys) ⊎ SomeCollision H (AreGrowthInputs H m n r xs s ys)
 unique H m n r s old new xs ys gives ax ay ex ey = elim (cases_Bool (nat_lt 0 m && nat_le m n)) [
   | inr other ↦ absurd (nothing (rw other at ex))
   | inl order ↦
-      elim (unique_down H gives true m n r s old new (reverse xs) (reverse ys) (ax.0, turned _ xs ax.1) (ay.0, turned _ ys ay.1) (rw order at ex) (rw order at ey)) [
-        | inr c ↦ inr c
+      let both = and_parts (nat_lt 0 m) (nat_le m n) order in
+      elim (down H gives m n r s xs ys true m 0 n old new (reverse xs) (reverse ys) (ax.0, turned _ xs ax.1) (ay.0, turned _ ys ay.1) (leb-true m n both.1) way_whole way_whole (rw order at ex) (rw order at ey)) [
+        | inr collision ↦ inr collision
         | inl same ↦ inl (sym (reverse-reverse xs) ∙ ap reverse same ∙ reverse-reverse ys)
       ]
 ]

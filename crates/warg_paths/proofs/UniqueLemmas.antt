@@ -5,14 +5,16 @@ use Rattle.std.proofs.Math.Nat.{pow-le-pow_right}
 use Rattle.std.proofs.lemmas.Bool.{lt-ltb, le-ltb, le-leb, lt-leb, eq-eqb, ne_eqb, cases_lt}
 use Rattle.std.proofs.lemmas.Bool.Decides.{eqb_tells}
 use Rattle.std.proofs.lemmas.List.{reverse-reverse, reverse-append, length-append}
-use Rattle.warg_crypto.specs.Collisions.{AreHashes, SomeCollision, Anywhere}
-use Rattle.warg_crypto.specs.Tree.{branch}
+use Rattle.warg_crypto.specs.Collisions.{AreHashes, SomeCollision}
+use Rattle.warg_crypto.specs.Tree.{branch, branch_input}
 use Rattle.warg_log.specs.Ranges.{Range, leaves_from, front_part, rest_part}
 use Rattle.warg_log.specs.Tree.{front_of}
 use Rattle.warg_crypto.proofs.ForCallers.{HasSize, same_or_not, branch_parts}
 use Rattle.warg_log.specs.Cut.{joined}
 use Rattle.warg_log.proofs.ForCallers.{front_is_greatest, pow_below_pow}
 use Rattle.warg_paths.specs.Paths.{beside, inclusion_over, inclusion_of, inclusion_root, root_down}
+use Rattle.warg_paths.specs.Ways.{IsOnWay, ArePathInputs, turn_input}
+use Rattle.warg_paths.specs.Ways.IsOnWay.{whole as way_whole, front as way_front, rest as way_rest}
 use Rattle.warg_paths.proofs.MakeLemmas.{inclusion_one, inclusion_front, inclusion_rest}
 
 -- a branch that is there has both parts
@@ -115,63 +117,98 @@ root_size H gives m n x root (t ∷ ts) size is = elim (cases_lt 1 n) [
   ]
 ]
 
--- two branches of one digest have the same parts, or collide
-pub branches_meet : (H : List ℕ → List ℕ) (a b c d root : List ℕ) → length a ≡ length c → branch H a b ≡ root → branch H c d ≡ root → ((a ≡ c) × (b ≡ d)) ⊎ SomeCollision H Anywhere
-branches_meet H a b c d root size first second = elim (same_or_not (1 ∷ a ++ b) (1 ∷ c ++ d)) [
+-- two branches of one digest have the same parts, or collide where they stand
+pub branches_meet : (H : List ℕ → List ℕ) (P : List ℕ → List ℕ → Type 0) (a b c d root : List ℕ) → length a ≡ length c → branch H a b ≡ root → branch H c d ≡ root
+    → P (branch_input a b) (branch_input c d) → ((a ≡ c) × (b ≡ d)) ⊎ SomeCollision H P
+branches_meet H P a b c d root size first second placed = elim (same_or_not (branch_input a b) (branch_input c d)) [
   | inl same ↦ inl (branch_parts a b c d size same)
-  | inr differ ↦ inr (record { first = 1 ∷ a ++ b; second = 1 ∷ c ++ d; collide = record { differ = differ; same = first ∙ sym second }; placed = tt })
+  | inr differ ↦ inr (record { first = branch_input a b; second = branch_input c d; collide = record { differ = differ; same = first ∙ sym second }; placed = placed })
 ]
 
--- two ways down to one root come from one digest along one path, or collide
-unique_down : (H : List ℕ → List ℕ) → HasSize H → (m n : ℕ) (x y root : List ℕ) (xs ys : List (List ℕ)) → AreHashes (x ∷ xs) → AreHashes (y ∷ ys)
-    → root_down H m n x xs ≡ Some root → root_down H m n y ys ≡ Some root → ((x ≡ y) × (xs ≡ ys)) ⊎ SomeCollision H Anywhere
-unique_down H gives m n x y root [] [] ax ay ex ey = elim (eqb_tells n 1) [
-  | inl one ↦ inl (down_one H m n x root one.1 ex ∙ sym (down_one H m n y root one.1 ey), refl)
-  | inr other ↦ absurd (down_none H m n x root other.1 ex)
-]
-unique_down H gives m n x y root [] (t ∷ ts) ax ay ex ey = elim (eqb_tells n 1) [
-  | inl one ↦ absurd (down_few H m n y root t ts (omega (arith, one.1)) ey)
-  | inr other ↦ absurd (down_none H m n x root other.1 ex)
-]
-unique_down H gives m n x y root (t ∷ ts) [] ax ay ex ey = elim (eqb_tells n 1) [
-  | inl one ↦ absurd (down_few H m n x root t ts (omega (arith, one.1)) ex)
-  | inr other ↦ absurd (down_none H m n y root other.1 ey)
-]
-unique_down H gives m n x y root (t ∷ ts) (u ∷ us) ax ay ex ey = elim (cases_lt 1 n) [
-  | inr few ↦ absurd (down_few H m n x root t ts few ex)
-  | inl more ↦ elim (cases_lt m (front_of n)) [
-    | inl front ↦
-        let p = joined_parts H (root_down H m (front_of n) x ts) (Some t) root (sym (down_front H m n x t ts more front) ∙ ex) in
-        let q = joined_parts H (root_down H m (front_of n) y us) (Some u) root (sym (down_front H m n y u us more front) ∙ ey) in
-        let size : length p.first ≡ length q.first = root_size H gives m (front_of n) x p.first ts ax.0 p.left_is ∙ sym (root_size H gives m (front_of n) y q.first us ay.0 q.left_is) in
-        elim (branches_meet H p.first p.second q.first q.second root size p.is q.is) [
-          | inr c ↦ inr c
-          | inl parts ↦
-              elim (unique_down H gives m (front_of n) x y p.first ts us (ax.0, ax.1.1) (ay.0, ay.1.1) p.left_is (q.left_is ∙ ap Some (sym parts.0))) [
-                | inr c ↦ inr c
-                | inl below ↦ inl (below.0, cons_same (top p.right_is ∙ parts.1 ∙ sym (top q.right_is)) below.1)
-              ]
-        ]
-    | inr rest ↦
-        let p = joined_parts H (Some t) (root_down H (m - front_of n) (n - front_of n) x ts) root (sym (down_rest H m n x t ts more rest) ∙ ex) in
-        let q = joined_parts H (Some u) (root_down H (m - front_of n) (n - front_of n) y us) root (sym (down_rest H m n y u us more rest) ∙ ey) in
-        let size : length p.first ≡ length q.first = sym (ap length (top p.left_is)) ∙ ax.1.0 ∙ sym ay.1.0 ∙ ap length (top q.left_is) in
-        elim (branches_meet H p.first p.second q.first q.second root size p.is q.is) [
-          | inr c ↦ inr c
-          | inl parts ↦
-              elim (unique_down H gives (m - front_of n) (n - front_of n) x y p.second ts us (ax.0, ax.1.1) (ay.0, ay.1.1) p.right_is (q.right_is ∙ ap Some (sym parts.1))) [
-                | inr c ↦ inr c
-                | inl below ↦ inl (below.0, cons_same (top p.left_is ∙ parts.0 ∙ sym (top q.left_is)) below.1)
-              ]
-        ]
+some_same : {c d : List ℕ} → Some c ≡ Some d → c ≡ d
+some_same e = cc
+
+pub cons_same : {c d : List ℕ} {cs ds : List (List ℕ)} → c ≡ d → cs ≡ ds → (c ∷ cs) ≡ (d ∷ ds)
+cons_same {c = c} {ds = ds} e f = ap (λ hs. c ∷ hs) f ∙ ap (λ h. h ∷ ds) e
+
+-- what the evaluation takes at a range whose leaf is in its first part, and in the rest
+front_turn : (H : List ℕ → List ℕ) (x : List ℕ) (m n : ℕ) (top l r : List ℕ) (below : List (List ℕ)) → m < front_of n → root_down H m (front_of n) x below ≡ Some l → top ≡ r
+    → turn_input H x m n top below ≡ Some (branch_input l r)
+front_turn H x m n top l r below lt is same = rw (lt-ltb m (front_of n) lt, is, same) refl
+
+rest_turn : (H : List ℕ → List ℕ) (x : List ℕ) (m n : ℕ) (top l r : List ℕ) (below : List (List ℕ)) → front_of n ≤ m → root_down H (m - front_of n) (n - front_of n) x below ≡ Some r → top ≡ l
+    → turn_input H x m n top below ≡ Some (branch_input l r)
+rest_turn H x m n top l r below le is same = rw (le-ltb m (front_of n) le, is, same) refl
+
+-- two ways down to one root come from one digest along one path, or collide at one range
+module _ (H : List ℕ → List ℕ) (gives : HasSize H) (index count : ℕ) (x y : List ℕ) (path other : List (List ℕ)) where
+  abbrev Alike : List (List ℕ) → List (List ℕ) → Type 0
+  Alike xs ys = ((x ≡ y) × (xs ≡ ys)) ⊎ SomeCollision H (ArePathInputs H index count x path y other)
+
+  down : (m a n : ℕ) (root : List ℕ) (xs ys : List (List ℕ)) → AreHashes (x ∷ xs) → AreHashes (y ∷ ys)
+      → IsOnWay index 0 count (reverse path) m a n xs → IsOnWay index 0 count (reverse other) m a n ys → root_down H m n x xs ≡ Some root → root_down H m n y ys ≡ Some root → Alike xs ys
+  down m a n root [] [] ax ay wx wy ex ey = elim (eqb_tells n 1) [
+    | inl one ↦ inl (down_one H m n x root one.1 ex ∙ sym (down_one H m n y root one.1 ey), refl)
+    | inr more ↦ absurd (down_none H m n x root more.1 ex)
   ]
-]
-  where
-    top : {c d : List ℕ} → Some c ≡ Some d → c ≡ d
-    top e = cc
-
-    cons_same : {c d : List ℕ} {cs ds : List (List ℕ)} → c ≡ d → cs ≡ ds → (c ∷ cs) ≡ (d ∷ ds)
-    cons_same {c = c} {ds = ds} e f = ap (λ hs. c ∷ hs) f ∙ ap (λ h. h ∷ ds) e
+  down m a n root [] (u ∷ us) ax ay wx wy ex ey = elim (eqb_tells n 1) [
+    | inl one ↦ absurd (down_few H m n y root u us (omega (arith, one.1)) ey)
+    | inr more ↦ absurd (down_none H m n x root more.1 ex)
+  ]
+  down m a n root (t ∷ ts) [] ax ay wx wy ex ey = elim (eqb_tells n 1) [
+    | inl one ↦ absurd (down_few H m n x root t ts (omega (arith, one.1)) ex)
+    | inr more ↦ absurd (down_none H m n y root more.1 ey)
+  ]
+  down m a n root (t ∷ ts) (u ∷ us) ax ay wx wy ex ey = elim (cases_lt 1 n) [
+    | inr few ↦ absurd (down_few H m n x root t ts few ex)
+    | inl more ↦ elim (cases_lt m (front_of n)) [
+      | inl lt ↦
+          let p = joined_parts H (root_down H m (front_of n) x ts) (Some t) root (sym (down_front H m n x t ts more lt) ∙ ex) in
+          let q = joined_parts H (root_down H m (front_of n) y us) (Some u) root (sym (down_front H m n y u us more lt) ∙ ey) in
+          let size : length p.first ≡ length q.first = root_size H gives m (front_of n) x p.first ts ax.0 p.left_is ∙ sym (root_size H gives m (front_of n) y q.first us ay.0 q.left_is) in
+          let takes = front_turn H x m n t p.first p.second ts lt p.left_is (some_same p.right_is) in
+          let other_takes = front_turn H y m n u q.first q.second us lt q.left_is (some_same q.right_is) in
+          elim (branches_meet H (ArePathInputs H index count x path y other) p.first p.second q.first q.second root size p.is q.is (at m a n t ts u us wx wy takes other_takes)) [
+            | inr collision ↦ inr collision
+            | inl parts ↦
+                elim (down m a (front_of n) p.first ts us (ax.0, ax.1.1) (ay.0, ay.1.1) (way_front m a n t ts wx more lt) (way_front m a n u us wy more lt) p.left_is (q.left_is ∙ ap Some (sym parts.0))) [
+                  | inr collision ↦ inr collision
+                  | inl below ↦ inl (below.0, cons_same (some_same p.right_is ∙ parts.1 ∙ sym (some_same q.right_is)) below.1)
+                ]
+          ]
+      | inr le ↦
+          let p = joined_parts H (Some t) (root_down H (m - front_of n) (n - front_of n) x ts) root (sym (down_rest H m n x t ts more le) ∙ ex) in
+          let q = joined_parts H (Some u) (root_down H (m - front_of n) (n - front_of n) y us) root (sym (down_rest H m n y u us more le) ∙ ey) in
+          let size : length p.first ≡ length q.first = sym (ap length (some_same p.left_is)) ∙ ax.1.0 ∙ sym ay.1.0 ∙ ap length (some_same q.left_is) in
+          let takes = rest_turn H x m n t p.first p.second ts le p.right_is (some_same p.left_is) in
+          let other_takes = rest_turn H y m n u q.first q.second us le q.right_is (some_same q.left_is) in
+          elim (branches_meet H (ArePathInputs H index count x path y other) p.first p.second q.first q.second root size p.is q.is (at m a n t ts u us wx wy takes other_takes)) [
+            | inr collision ↦ inr collision
+            | inl parts ↦
+                elim (down (m - front_of n) (a + front_of n) (n - front_of n) p.second ts us (ax.0, ax.1.1) (ay.0, ay.1.1) (way_rest m a n t ts wx more le) (way_rest m a n u us wy more le) p.right_is (q.right_is ∙ ap Some (sym parts.1))) [
+                  | inr collision ↦ inr collision
+                  | inl below ↦ inl (below.0, cons_same (some_same p.left_is ∙ parts.0 ∙ sym (some_same q.left_is)) below.1)
+                ]
+          ]
+    ]
+  ]
+    where
+      at : (m a n : ℕ) (t : List ℕ) (ts : List (List ℕ)) (u : List ℕ) (us : List (List ℕ)) {first second : List ℕ}
+          → IsOnWay index 0 count (reverse path) m a n (t ∷ ts) → IsOnWay index 0 count (reverse other) m a n (u ∷ us)
+          → turn_input H x m n t ts ≡ Some first → turn_input H y m n u us ≡ Some second → ArePathInputs H index count x path y other first second
+      at m a n t ts u us wx wy takes other_takes = record {
+        leaf = m;
+        from = a;
+        count = n;
+        top = t;
+        other_top = u;
+        below = ts;
+        other_below = us;
+        on_way = wx;
+        other_on_way = wy;
+        first_evaluation = takes;
+        second_evaluation = other_takes;
+      }
 
 -- all of a list's elements, in the other order
 pub turned : (P : List ℕ → Type 0) (ds : List (List ℕ)) → AllByRecursion P ds → AllByRecursion P (reverse ds)
@@ -183,12 +220,12 @@ turned P (d ∷ ds) all = rw (reverse-append (d ∷ []) ds) (both (reverse ds) (
     both (h ∷ hs) hold last = (hold.0, both hs hold.1 last)
 
 pub unique : (H : List ℕ → List ℕ) (m n : ℕ) (x y root : List ℕ) (xs ys : List (List ℕ)) → HasSize H → AreHashes (x ∷ xs) → AreHashes (y ∷ ys)
-    → inclusion_root H m n x xs ≡ Some root → inclusion_root H m n y ys ≡ Some root → ((x ≡ y) × (xs ≡ ys)) ⊎ SomeCollision H Anywhere
+    → inclusion_root H m n x xs ≡ Some root → inclusion_root H m n y ys ≡ Some root → ((x ≡ y) × (xs ≡ ys)) ⊎ SomeCollision H (ArePathInputs H m n x xs y ys)
 unique H m n x y root xs ys gives ax ay ex ey = elim (cases_lt m n) [
   | inr outside ↦ let none : None ≡ Some root = rw (le-ltb m n outside) at ex in absurd (cc)
   | inl inside ↦
-      elim (unique_down H gives m n x y root (reverse xs) (reverse ys) (ax.0, turned _ xs ax.1) (ay.0, turned _ ys ay.1) (rw (lt-ltb m n inside) at ex) (rw (lt-ltb m n inside) at ey)) [
-        | inr c ↦ inr c
+      elim (down H gives m n x y xs ys m 0 n root (reverse xs) (reverse ys) (ax.0, turned _ xs ax.1) (ay.0, turned _ ys ay.1) way_whole way_whole (rw (lt-ltb m n inside) at ex) (rw (lt-ltb m n inside) at ey)) [
+        | inr collision ↦ inr collision
         | inl same ↦ inl (same.0, sym (reverse-reverse xs) ∙ ap reverse same.1 ∙ reverse-reverse ys)
       ]
 ]

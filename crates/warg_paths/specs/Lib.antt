@@ -1,2 +1,3 @@
 pub mod Paths
 pub mod Pieces
+pub mod Ways

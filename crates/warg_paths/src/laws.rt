@@ -4,8 +4,9 @@ ghost use Rattle.std.specs.Prelude.{◌≡◌, ℕ, ◌-◌, ◌*◌, ◌^◌, �
 ghost use Rattle.warg_log.specs.Ranges.{Range, front_part, rest_part};
 ghost use Rattle.warg_log.specs.Tree.{front_of, root_of, own_digest};
 ghost use Rattle.warg_log.specs.Cut.{cut_root, old_over};
-ghost use Rattle.warg_crypto.specs.Collisions.{GivesHashes, AreHashes, SomeCollision, Anywhere};
+ghost use Rattle.warg_crypto.specs.Collisions.{GivesHashes, AreHashes, SomeCollision};
 ghost use Rattle.warg_paths.specs.Paths.{beside, inclusion_over, inclusion_of, path_at_end, consistency_over, consistency_of, inclusion_root, consistency_roots, led_to, led_to_both};
+ghost use Rattle.warg_paths.specs.Ways.{ArePathInputs, AreGrowthInputs};
 
 /// The inclusion path of one leaf is empty (RFC 6962, section 2.1.1).
 pub fn inclusion_of_one()
@@ -68,21 +69,24 @@ pub fn own_consistency_path()
 {}
 
 /// A path is unique: two inclusion paths of one place and length that lead to one root lead from one digest and are
-/// one, or two byte strings collide.
+/// one, or what the digest function takes in the one evaluation and in the other, at one range on the way to the leaf,
+/// collides.
 pub fn path_is_unique()
     ensures { (H : List ℕ → List ℕ) (m n : ℕ) (x y root : List ℕ) (xs ys : List (List ℕ))
         → GivesHashes H → AreHashes (x ∷ xs) → AreHashes (y ∷ ys)
         → inclusion_root H m n x xs ≡ Some root → inclusion_root H m n y ys ≡ Some root
-        → ((x ≡ y) × (xs ≡ ys)) ⊎ SomeCollision H Anywhere }
+        → ((x ≡ y) × (xs ≡ ys)) ⊎ SomeCollision H (ArePathInputs H m n x xs y ys) }
 {}
 
-/// A consistency path is unique: two between one pair of lengths that lead to the same roots are one, or two byte
-/// strings collide.
+/// A consistency path is unique: two between one pair of lengths that lead to the same roots are one, or what the digest
+/// function takes in the one evaluation and in the other, for the old root or for the new one at one range on the way,
+/// collides.
 pub fn consistency_path_is_unique()
     ensures { (H : List ℕ → List ℕ) (m n : ℕ) (r s old new : List ℕ) (xs ys : List (List ℕ))
         → GivesHashes H → AreHashes (r ∷ xs) → AreHashes (s ∷ ys)
         → consistency_roots H m n r xs ≡ Some (old, new)
-        → consistency_roots H m n s ys ≡ Some (old, new) → (xs ≡ ys) ⊎ SomeCollision H Anywhere }
+        → consistency_roots H m n s ys ≡ Some (old, new)
+        → (xs ≡ ys) ⊎ SomeCollision H (AreGrowthInputs H m n r xs s ys) }
 {}
 
 /// An inclusion path of a log of at most 2^h entries has at most h digests, so one of at most 2^63 has 63.

@@ -12,8 +12,9 @@ use Rattle.warg_witness.specs.Ranges.{IsPart, IsAround}
 use Rattle.warg_witness.specs.Ranges.IsPart.{whole as part_whole, front as part_front, rest as part_rest}
 use Rattle.warg_witness.specs.Inputs.{plain_input}
 use Rattle.warg_witness.specs.PathClaims.{IsTreeMet}
-use Rattle.warg_witness.specs.TreePlaced.{IsOnGrowth, IsTurn, IsTreePlaced, old_turn_input, new_turn_input}
-use Rattle.warg_witness.specs.TreePlaced.IsOnGrowth.{whole, front, rest}
+use Rattle.warg_paths.specs.Ways.{IsOnGrowth, old_turn_input, new_turn_input}
+use Rattle.warg_witness.specs.TreePlaced.{IsTurn, IsTreePlaced}
+use Rattle.warg_paths.specs.Ways.IsOnGrowth.{whole, front, rest}
 use Rattle.warg_witness.specs.Private.Compared.{DiffersFirst}
 use Rattle.warg_witness.specs.Private.Divergence.{IsDivergence, Shows, inputs_of}
 use Rattle.warg_witness.specs.Private.PathDivergence.{tree_input, IsBeside}

@@ -9,3 +9,6 @@ pub mod InsertionLemmas
 pub mod RangeLemmas
 pub mod KeyLemmas
 pub mod AgreementLemmas
+pub mod PathLawLemmas
+pub mod TreeLawLemmas
+pub mod MapLawLemmas

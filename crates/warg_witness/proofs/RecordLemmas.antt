@@ -15,8 +15,9 @@ use Rattle.warg_witness.proofs.CutLemmas.{leaves_count, plain_digest_is}
 use Rattle.warg_crypto.specs.Tree.{input_beside}
 use Rattle.warg_witness.specs.Ranges.{IsAround}
 use Rattle.warg_witness.specs.Private.Ranges.{AreSides}
-use Rattle.warg_witness.specs.PathPlaced.{IsOnWay, IsRecordAgreementPlaced, turn_input, IsRecordPlaced}
-use Rattle.warg_witness.specs.PathPlaced.IsOnWay.{whole, front, rest}
+use Rattle.warg_paths.specs.Ways.{IsOnWay, turn_input}
+use Rattle.warg_witness.specs.PathPlaced.{IsRecordAgreementPlaced, IsRecordPlaced}
+use Rattle.warg_paths.specs.Ways.IsOnWay.{whole, front, rest}
 use Rattle.warg_witness.specs.Private.Climbs.{IsUp}
 use Rattle.warg_witness.specs.Private.Divergence.{Shows, inputs_of}
 use Rattle.warg_witness.specs.Private.PathClimbs.{LeadNowhere, PathsDiverge, PathsMeet, IsPathClimb, IsPathsMeeting, PathLeaves, PathMeets, DivergesFromTree, IsTreeClimb}

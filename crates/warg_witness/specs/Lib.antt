@@ -13,3 +13,4 @@ pub mod PathClaims
 pub mod PathPlaced
 pub mod TreePlaced
 pub mod Private
+pub mod MapsPlaced

@@ -1,28 +1,9 @@
 -- Where the two byte lists of a collision stand that a path shows. The digests of a path are given from the topmost
 -- down, as the recursion over the leaves meets them.
-use Rattle.std.specs.Prelude.{◌≡◌, ℕ, ◌+◌, ◌-◌, ◌<◌, ◌≤◌, nat_lt, if◌then◌else◌, List, [], ◌∷◌, length, reverse, Option, Some}
-use Rattle.warg_log.specs.Tree.{front_of}
-use Rattle.warg_paths.specs.Paths.{root_down}
-use Rattle.warg_crypto.specs.Tree.{where_both, leaf_input, leaf_digest, branch_input}
+use Rattle.std.specs.Prelude.{◌≡◌, ℕ, List, [], ◌∷◌, length, reverse, Option, Some}
+use Rattle.warg_crypto.specs.Tree.{leaf_input, leaf_digest}
+use Rattle.warg_paths.specs.Ways.{IsOnWay, turn_input}
 use Rattle.warg_witness.specs.Inputs.{plain_input}
-
--- The ranges of the recursion on the way to leaf m₀ of the n₀ leaves from a₀ on, each with the leaf's number m in
--- it, its first leaf, its count and the digests that are left there: the whole with all digests, and of each range
--- of more than one leaf the part that has the leaf, with the digests below the topmost one.
-pub data IsOnWay (m₀ a₀ n₀ : ℕ) (digests₀ : List (List ℕ)) : ℕ → ℕ → ℕ → List (List ℕ) → Type 0 where
-  whole : IsOnWay m₀ a₀ n₀ digests₀ m₀ a₀ n₀ digests₀
-  front : (m a n : ℕ) (top : List ℕ) (below : List (List ℕ)) → IsOnWay m₀ a₀ n₀ digests₀ m a n (top ∷ below) → 1 < n → m < front_of n
-      → IsOnWay m₀ a₀ n₀ digests₀ m a (front_of n) below
-  rest : (m a n : ℕ) (top : List ℕ) (below : List (List ℕ)) → IsOnWay m₀ a₀ n₀ digests₀ m a n (top ∷ below) → 1 < n → front_of n ≤ m
-      → IsOnWay m₀ a₀ n₀ digests₀ (m - front_of n) (a + front_of n) (n - front_of n) below
-
--- The evaluation's input at a range of n leaves, of which leaf m has the digest x: that of the branch over the root
--- of the part that has the leaf, by the digests below, and the topmost digest, each on its side.
-abbrev pub turn_input : (List ℕ → List ℕ) → List ℕ → ℕ → ℕ → List ℕ → List (List ℕ) → Option (List ℕ)
-turn_input H x m n top below =
-    if nat_lt m (front_of n)
-    then where_both branch_input (root_down H m (front_of n) x below) (Some top)
-    else where_both branch_input (Some top) (root_down H (m - front_of n) (n - front_of n) x below)
 
 -- The evaluation's input at a range of n leaves, of which leaf m has the value v: at the leaf, where no digests are
 -- left, the byte 00 and v.

@@ -16,15 +16,20 @@ ghost use Rattle.warg_map.specs.Last.{last_under};
 ghost use Rattle.warg_map.specs.Peers.{Proves, ProvesAbsent};
 ghost use Rattle.warg_map.specs.Sparse.{sparse_root, map_of};
 ghost use Rattle.warg_witness.specs.MapClaims.{IsKeyMet, IsAbsenceMet, IsKeyAgreement, IsLastValue};
+ghost use Rattle.warg_witness.specs.PathClaims.{IsRecord, IsRecordMet, IsRecordAgreement, IsTreeMet};
+ghost use Rattle.warg_witness.specs.PathPlaced.{IsRecordPlaced, IsRecordAgreementPlaced};
+ghost use Rattle.warg_witness.specs.TreePlaced.{IsTreePlaced};
+ghost use Rattle.warg_witness.specs.MapsPlaced.{HaveSameValues, IsPlacedInMaps};
 ghost use Rattle.warg_witness.specs.MapPlaced.{IsPlacedAtPrefix, IsKeyPlaced, IsKeyAgreementPlaced};
 ghost use Rattle.warg_witness.specs.UpdateClaims.{IsUpdated, Step, insertions_of, LeadThrough, CollidesAtStep};
-ghost use Rattle.warg_crypto.specs.Collisions.{GivesHashes, SomeCollision};
+ghost use Rattle.warg_crypto.specs.Collisions.{GivesHashes, AreHashes, SomeCollision};
 ghost use Rattle.warg_crypto.specs.Tree.{leaf_digest};
 ghost use Rattle.warg_witness.specs.Laws.{HoldsHashes, HoldsPeers};
 
 use crate::collision::Finding;
 use std::alloc::Allocator;
 use warg_crypto::SupportedDigest;
+use warg_paths::laws::path_is_unique;
 
 /// A value's claim that is met and isn't true gives a collision.
 #[tactic(auto, using(crate::proofs::LawLemmas::value_collides))]
@@ -62,6 +67,34 @@ pub fn consistency_or_collision()
         → GivesHashes H → HoldsHashes F
         → IsConsistencyMet H F m n old new → (Begins old new → ⊥)
         → SomeCollision H (IsConsistencyPlaced H F old new) }
+{}
+
+/// A record's claim that is met and isn't true gives a collision.
+#[tactic(auto, using(crate::proofs::PathLawLemmas::record_collides))]
+pub fn record_or_collision()
+    ensures { (H : List ℕ → List ℕ) (index : ℕ) (path : List (List ℕ)) (value : List ℕ)
+        (entries : List (List ℕ)) → GivesHashes H → AreHashes path
+        → IsRecordMet H index path value entries → ¬ (IsRecord index value entries)
+        → SomeCollision H (IsRecordPlaced H index path value entries) }
+{}
+
+/// Two different values that two paths of one place lead to one root give a collision.
+pub fn record_agreement_or_collision()
+    ensures { (H : List ℕ → List ℕ) (index n : ℕ) (path : List (List ℕ)) (value : List ℕ)
+        (other_path : List (List ℕ)) (other : List ℕ) → GivesHashes H → AreHashes path
+        → AreHashes other_path
+        → IsRecordAgreement H index n path value other_path other → value ≢ other
+        → SomeCollision H (IsRecordAgreementPlaced H index n path value other_path other) }
+{
+    path_is_unique();
+}
+
+/// A consistency path's claim that is met and isn't true gives a collision.
+#[tactic(auto, using(crate::proofs::TreeLawLemmas::tree_collides))]
+pub fn tree_or_collision()
+    ensures { (H : List ℕ → List ℕ) (path old new : List (List ℕ)) → GivesHashes H → AreHashes path
+        → IsTreeMet H path old new → ¬ (Begins old new)
+        → SomeCollision H (IsTreePlaced H path old new) }
 {}
 
 /// Two different values that two proofs of one key lead to one root give a collision.
@@ -145,6 +178,15 @@ pub fn equal_roots()
         → last_under H (key_bits H key) insertions ≡ Some (key, value) → length peers ≤ 256
         → Proves H 256 (map_of H insertions) (key_bits H key) peers
         → IsKeyMet H peers key value others }
+{}
+
+/// Two maps of one root have one last value under each key, or give a collision.
+#[tactic(auto, using(crate::proofs::MapLawLemmas::maps_collide))]
+pub fn equal_maps_or_collision()
+    ensures { (H : List ℕ → List ℕ) (insertions others : List (List ℕ × List ℕ)) → GivesHashes H
+        → sparse_root H 256 (map_of H insertions) ≡ sparse_root H 256 (map_of H others)
+        → ¬ (HaveSameValues insertions others)
+        → SomeCollision H (IsPlacedInMaps H insertions others) }
 {}
 
 /// Findings are equal exactly if they are of one kind, and, as collisions, have the same byte strings.

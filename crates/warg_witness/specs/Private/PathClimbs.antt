@@ -3,7 +3,7 @@
 use Rattle.std.specs.Prelude.{◌≡◌, ℕ, ◌-◌, ◌<◌, List, [], ◌∷◌, reverse, Some}
 use Rattle.warg_log.specs.Tree.{root_over}
 use Rattle.warg_paths.specs.Paths.{inclusion_root, root_down}
-use Rattle.warg_witness.specs.PathPlaced.{IsOnWay, turn_input}
+use Rattle.warg_paths.specs.Ways.{IsOnWay, turn_input}
 use Rattle.warg_witness.specs.declared.divergence.Divergence.{Divergence}
 use Rattle.warg_witness.specs.Private.Divergence.{Parts}
 use Rattle.warg_witness.specs.Private.PathDivergence.{tree_input, IsBeside}

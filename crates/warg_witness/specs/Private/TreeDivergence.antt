@@ -5,7 +5,8 @@ use Rattle.warg_log.specs.Tree.{leaves_of, root_of, root_over}
 use Rattle.warg_paths.specs.Paths.{roots_down}
 use Rattle.warg_witness.specs.PathClaims.{IsTreeMet}
 use Rattle.warg_witness.specs.Ranges.{IsPart, IsAround}
-use Rattle.warg_witness.specs.TreePlaced.{IsOnGrowth, IsTreePlaced}
+use Rattle.warg_paths.specs.Ways.{IsOnGrowth}
+use Rattle.warg_witness.specs.TreePlaced.{IsTreePlaced}
 use Rattle.warg_witness.specs.Private.Divergence.{Shows, inputs_of}
 use Rattle.warg_witness.specs.Private.PathDivergence.{IsBeside}
 use Rattle.warg_witness.specs.declared.divergence.Divergence.{Divergence}

@@ -1,0 +1,241 @@
+-- A consistency path that leads to the roots of two trees shows that the one's entries begin the other's, or collides with
+-- a tree, or both trees collide.
+use Rattle.std.proofs.Common.{◌≡◌, ℕ, zero, suc, ◌+◌, ◌-◌, ◌<◌, ◌≤◌, ◌⊎◌, inl, inr, List, [], ◌∷◌, length, reverse, slice_index_or, Option, Some, None, refl, sym, ap, subst, ◌∙◌, arith, pow-suc}
+use Rattle.std.proofs.lemmas.Bool.{cases_lt, lt-leb, le-leb, eq-eqb, ne_eqb}
+use Rattle.warg_crypto.specs.Collisions.{GivesHashes, AreHashes, SomeCollision}
+use Rattle.warg_crypto.specs.Tree.{branch_input, where_both}
+use Rattle.warg_crypto.proofs.ForCallers.{same_or_not, branch_parts}
+use Rattle.warg_log.specs.Tree.{front_of, leaves_of, root_of, root_over}
+use Rattle.warg_log.proofs.ForCallers.{front_is_greatest, front_of_is}
+use Rattle.warg_paths.specs.Paths.{roots_down, subproof_roots, grown, both_over, twice, one_root}
+use Rattle.warg_witness.specs.Ranges.{IsPart}
+use Rattle.warg_witness.specs.Ranges.IsPart.{whole as part_whole, front as part_front, rest as part_rest}
+use Rattle.warg_witness.specs.Claims.{Begins}
+use Rattle.warg_witness.specs.PathClaims.{IsTreeMet}
+use Rattle.warg_witness.specs.Inputs.{plain_input}
+use Rattle.warg_paths.specs.Ways.{IsOnGrowth, old_turn_input, new_turn_input, old_of}
+use Rattle.warg_paths.specs.Ways.IsOnGrowth.{whole, front, rest}
+use Rattle.warg_paths.proofs.ForCallers.{all_reversed}
+use Rattle.warg_witness.specs.TreePlaced.{IsTreePlaced}
+use Rattle.std.proofs.lemmas.Bool.Decides.{nat_tests}
+use Rattle.warg_witness.proofs.RecordLemmas.{plain_root}
+use Rattle.warg_witness.proofs.LawLemmas.{difference}
+use Rattle.warg_witness.proofs.CutLemmas.{plain_digest_is}
+use Rattle.warg_witness.proofs.RangeLemmas.{part_in}
+use Rattle.warg_witness.proofs.PathLawLemmas.{left_parts, over_size}
+
+-- the first part of a range on the way is that of its old leaves, where they end behind it
+same_front : (m n : ℕ) → front_of n < m → m < n → front_of m ≡ front_of n
+same_front m n lt more = let f = front_is_greatest n (omega arith) in front_of_is f.0.0 m (omega (arith, f.0.1)) (omega (arith, pow-suc, f.0.1, f.2)) ∙ sym f.0.1
+
+-- where all leaves are old, there is one root
+twice_same : (known : Option (List ℕ)) (o w : List ℕ) → twice known ≡ Some (o, w) → o ≡ w
+twice_same None o w is = absurd cc
+twice_same (Some r) o w is = let both : ◌≡◌ {A = List ℕ × List ℕ} (r, r) (o, w) = cc in sym (ap (λ (p : List ℕ × List ℕ). p.0) both) ∙ ap (λ (p : List ℕ × List ℕ). p.1) both
+
+all_old : (H : List ℕ → List ℕ) (known : Option (List ℕ)) (m n : ℕ) (digests : List (List ℕ)) (o w : List ℕ) → m ≡ n → roots_down H known m n digests ≡ Some (o, w) → o ≡ w
+unfolding roots_down
+all_old H known m n [] o w equal is = twice_same (one_root known []) o w (rw (eq-eqb m n equal) at is)
+all_old H known m n (top ∷ below) o w equal is = twice_same (one_root known (top ∷ below)) o w (rw (eq-eqb m n equal) at is)
+
+-- where some aren't, no roots are there without digests, and else those of a part
+no_roots : (H : List ℕ → List ℕ) (known : Option (List ℕ)) (m n : ℕ) (roots : List ℕ × List ℕ) → m < n → roots_down H known m n [] ≡ Some roots → ⊥
+unfolding roots_down
+no_roots H known m n roots more is = let none = rw (ne_eqb m n (λ e. omega arith)) at is in absurd cc
+
+in_front : (H : List ℕ → List ℕ) (known : Option (List ℕ)) (m n : ℕ) (top : List ℕ) (below : List (List ℕ)) → m < n → m ≤ front_of n → roots_down H known m n (top ∷ below) ≡ grown H (roots_down H known m (front_of n) below) top
+unfolding roots_down
+in_front H known m n top below more le = rw (ne_eqb m n (λ e. omega arith), le-leb m (front_of n) le) refl
+
+in_rest : (H : List ℕ → List ℕ) (known : Option (List ℕ)) (m n : ℕ) (top : List ℕ) (below : List (List ℕ)) → m < n → front_of n < m
+    → roots_down H known m n (top ∷ below) ≡ both_over H top (roots_down H None (m - front_of n) (n - front_of n) below)
+unfolding roots_down
+in_rest H known m n top below more lt = rw (ne_eqb m n (λ e. omega arith), lt-leb m (front_of n) lt) refl
+
+grown_is : (H : List ℕ → List ℕ) (below : Option (List ℕ × List ℕ)) (top o w : List ℕ) → grown H below top ≡ Some (o, w) → (x : List ℕ) × (below ≡ Some (o, x)) × (H (branch_input x top) ≡ w)
+grown_is H None top o w is = absurd cc
+grown_is H (Some (p, x)) top o w is =
+    let both : ◌≡◌ {A = List ℕ × List ℕ} (p, H (branch_input x top)) (o, w) = cc in
+    (x, ap (λ z. Some (z, x)) (ap (λ (p : List ℕ × List ℕ). p.0) both), ap (λ (p : List ℕ × List ℕ). p.1) both)
+
+over_is : (H : List ℕ → List ℕ) (below : Option (List ℕ × List ℕ)) (top o w : List ℕ) → both_over H top below ≡ Some (o, w)
+    → (y : List ℕ) × (x : List ℕ) × (below ≡ Some (y, x)) × (H (branch_input top y) ≡ o) × (H (branch_input top x) ≡ w)
+over_is H None top o w is = absurd cc
+over_is H (Some (y, x)) top o w is =
+    let both : ◌≡◌ {A = List ℕ × List ℕ} (H (branch_input top y), H (branch_input top x)) (o, w) = cc in
+    (y, x, refl, ap (λ (p : List ℕ × List ℕ). p.0) both, ap (λ (p : List ℕ × List ℕ). p.1) both)
+
+-- what is taken at a range for the new root
+front_turn : (H : List ℕ → List ℕ) (known : Option (List ℕ)) (m n : ℕ) (top : List ℕ) (below : List (List ℕ)) (o x : List ℕ) → m ≤ front_of n → roots_down H known m (front_of n) below ≡ Some (o, x)
+    → new_turn_input H known m n top below ≡ Some (branch_input x top)
+front_turn H known m n top below o x le is = rw (le-leb m (front_of n) le, is) refl
+
+rest_turn : (H : List ℕ → List ℕ) (known : Option (List ℕ)) (m n : ℕ) (top : List ℕ) (below : List (List ℕ)) (o x : List ℕ) → front_of n < m → roots_down H None (m - front_of n) (n - front_of n) below ≡ Some (o, x)
+    → new_turn_input H known m n top below ≡ Some (branch_input top x)
+rest_turn H known m n top below o x lt is = rw (lt-leb m (front_of n) lt, is) refl
+
+-- roots that are there
+leads_both : (H : List ℕ → List ℕ) (known : Option (List ℕ)) (m n : ℕ) (path : List (List ℕ)) (roots : List ℕ × List ℕ) → subproof_roots H known m n path ≡ Some roots
+    → (0 < m) × (m ≤ n) × (roots_down H known m n (reverse path) ≡ Some roots)
+leads_both H known m n path roots is = grind (arith, nat_tests)
+
+module _ (H : List ℕ → List ℕ) (gives : GivesHashes H) (path old new : List (List ℕ)) where
+  abbrev over : List (List ℕ) → ℕ → ℕ → List ℕ
+  over entries a n = root_over H (leaves_of H entries) a n
+
+  -- the branch over a range of a tree
+  abbrev branch_at : List (List ℕ) → ℕ → ℕ → List ℕ
+  branch_at entries a n = branch_input (over entries a (front_of n)) (over entries (a + front_of n) (n - front_of n))
+
+  is_plain : (entries : List (List ℕ)) (a n : ℕ) → 1 < n → branch_at entries a n ≡ plain_input H entries a n
+  is_plain entries a n more = rw (lt-leb n 1 more) refl
+
+  abbrev Same : ℕ → ℕ → Type 0
+  Same a m = (i : ℕ) → a ≤ i → i < a + m → slice_index_or old i [] ≡ slice_index_or new i []
+
+  abbrev Collide : Type 0
+  Collide = SomeCollision H (IsTreePlaced H path old new)
+
+  joined : (a f m : ℕ) → f ≤ m → Same a f → Same (a + f) (m - f) → Same a m
+  joined a f m le left right i low high = elim (cases_lt i (a + f)) [ inl lt ↦ left i low lt | inr ge ↦ right i ge (omega arith) ]
+
+  -- two trees of one root over a range
+  both_plain : (k a n : ℕ) → n ≤ k → 0 < n → IsPart 0 (length old) a n → IsPart 0 (length new) a n → over old a n ≡ over new a n → Same a n ⊎ Collide
+  both_plain zero a n le some old_part new_part same = absurd (omega arith)
+  both_plain (suc k) a n le some old_part new_part same =
+      let in_old = (part_in old_part).0 in
+      let in_new = (part_in new_part).0 in
+      elim (same_or_not (plain_input H old a n) (plain_input H new a n)) [
+        | inr differ ↦ inr (record {
+          first = _;
+          second = _;
+          collide = record { differ = differ; same = sym (plain_digest_is H old a n some in_old) ∙ same ∙ plain_digest_is H new a n some in_new };
+          placed = inr (inr (record { from = a; count = n; old_part = old_part; new_part = new_part; old_plain = refl; new_plain = refl }));
+        })
+        | inl equal ↦ elim (cases_lt 1 n) [
+          | inr few ↦ inl (λ i low high. let here : i ≡ a = omega arith in let leaves = rw (le-leb n 1 few) at equal in rw here (cc))
+          | inl more ↦
+              let f = front_is_greatest n more in
+              let parts = branch_parts (over old a (front_of n)) _ (over new a (front_of n)) _
+              (over_size H gives old a (front_of n) (omega arith) (omega arith) ∙ sym (over_size H gives new a (front_of n) (omega arith) (omega arith))) (is_plain old a n more ∙ equal ∙ sym (is_plain new a n more)) in
+              elim (both_plain k a (front_of n) (omega arith) (omega arith) (part_front a n old_part more) (part_front a n new_part more) parts.0) [
+                | inr collision ↦ inr collision
+                | inl left ↦ elim (both_plain k (a + front_of n) (n - front_of n) (omega arith) (omega arith) (part_rest a n old_part more) (part_rest a n new_part more) parts.1) [
+                  | inr collision ↦ inr collision
+                  | inl right ↦ inl (joined a (front_of n) n (omega arith) left right)
+                ]
+              ]
+        ]
+      ]
+
+  abbrev OnWay : Option (List ℕ) → ℕ → ℕ → ℕ → List (List ℕ) → Type 0
+  OnWay known m a n digests = IsOnGrowth (Some (root_of H (leaves_of H old))) (length old) (length new) (reverse path) known m a n digests
+
+  -- a branch of the evaluation is the tree's, or collides with it
+  new_fork : (known : Option (List ℕ)) (m a n : ℕ) (top : List ℕ) (below : List (List ℕ)) (l r : List ℕ) → m < n → 1 < n → a + n ≤ length new → OnWay known m a n (top ∷ below)
+      → new_turn_input H known m n top below ≡ Some (branch_input l r) → H (branch_input l r) ≡ over new a n → (branch_input l r ≡ branch_at new a n) ⊎ Collide
+  new_fork known m a n top below l r less more within way takes root = elim (same_or_not (branch_input l r) (branch_at new a n)) [
+    | inl same ↦ inl same
+    | inr differ ↦ inr (record {
+      first = _;
+      second = _;
+      collide = record { differ = differ; same = root ∙ plain_digest_is H new a n (omega arith) within ∙ ap H (sym (is_plain new a n more)) };
+      placed = inr (inl (record {
+        known = known;
+        old_count = m;
+        from = a;
+        count = n;
+        top = top;
+        below = below;
+        turn = record { on_way = way; more = less };
+        evaluation = takes;
+        plain = is_plain new a n more;
+      }));
+    })
+  ]
+
+  old_fork : (known : Option (List ℕ)) (m a n : ℕ) (top : List ℕ) (below : List (List ℕ)) (l r : List ℕ) → m < n → 1 < m → front_of n < m → a + m ≤ length old → OnWay known m a n (top ∷ below)
+      → old_turn_input H m n top below ≡ Some (branch_input l r) → H (branch_input l r) ≡ over old a m → (branch_input l r ≡ branch_at old a m) ⊎ Collide
+  old_fork known m a n top below l r less more turns within way takes root = elim (same_or_not (branch_input l r) (branch_at old a m)) [
+    | inl same ↦ inl same
+    | inr differ ↦ inr (record {
+      first = _;
+      second = _;
+      collide = record { differ = differ; same = root ∙ plain_digest_is H old a m (omega arith) within ∙ ap H (sym (is_plain old a m more)) };
+      placed = inl (record {
+        known = known;
+        old_count = m;
+        from = a;
+        count = n;
+        top = top;
+        below = below;
+        turn = record { on_way = way; more = less };
+        in_rest = turns;
+        evaluation = takes;
+        plain = is_plain old a m more;
+      });
+    })
+  ]
+
+  level : (digests : List (List ℕ)) (known : Option (List ℕ)) (m a n : ℕ) → 0 < m → n ≡ m → IsPart 0 (length old) a m → IsPart 0 (length new) a n
+      → roots_down H known m n digests ≡ Some (over old a m, over new a n) → Same a m ⊎ Collide
+  level digests known m a n some equal old_part new_part leads =
+      let one = all_old H known m n digests _ _ (sym equal) leads in
+      both_plain m a m (omega arith) some old_part (subst (λ k. IsPart 0 (length new) a k) equal new_part) (one ∙ ap (over new a) equal)
+
+  down : (digests : List (List ℕ)) (known : Option (List ℕ)) (m a n : ℕ) → AreHashes digests → 0 < m → m ≤ n → IsPart 0 (length old) a m → IsPart 0 (length new) a n → OnWay known m a n digests
+      → roots_down H known m n digests ≡ Some (over old a m, over new a n) → Same a m ⊎ Collide
+  down [] known m a n sized some order old_part new_part way leads = elim (cases_lt m n) [
+    | inl less ↦ absurd (no_roots H known m n _ less leads)
+    | inr same ↦ level [] known m a n some (omega arith) old_part new_part leads
+  ]
+  down (top ∷ below) known m a n sized some order old_part new_part way leads = elim (cases_lt m n) [
+    | inr same ↦ level (top ∷ below) known m a n some (omega arith) old_part new_part leads
+    | inl less ↦
+        let more : 1 < n = omega arith in
+        let f = front_is_greatest n more in
+        let in_new = (part_in new_part).0 in
+        let in_old = (part_in old_part).0 in
+        let top_size : (entries : List (List ℕ)) (b k : ℕ) → 0 < k → b + k ≤ length entries → length top ≡ length (over entries b k) = λ entries b k some within. sized.0 ∙ sym (over_size H gives entries b k some within) in
+        elim (cases_lt (front_of n) m) [
+          | inr le ↦
+              let (x, below_is, root) = grown_is H (roots_down H known m (front_of n) below) top _ _ (sym (in_front H known m n top below less le) ∙ leads) in
+              elim (new_fork known m a n top below x top less more in_new way (front_turn H known m n top below _ x le below_is) root) [
+                | inr collision ↦ inr collision
+                | inl same ↦
+                    let parts = left_parts x top _ _ (top_size new (a + front_of n) (n - front_of n) (omega arith) (omega arith)) same in
+                    down below known m a (front_of n) sized.1 some le old_part (part_front a n new_part more) (front known m a n top below way less le) (below_is ∙ ap (λ w. Some (over old a m, w)) parts.0)
+              ]
+          | inl lt ↦
+              let fronts = same_front m n lt less in
+              let (y, x, below_is, old_root, new_root) = over_is H (roots_down H None (m - front_of n) (n - front_of n) below) top _ _ (sym (in_rest H known m n top below less lt) ∙ leads) in
+              elim (old_fork known m a n top below top y less (omega arith) lt in_old way (ap (where_both branch_input (Some top)) (ap old_of below_is)) old_root) [
+                | inr collision ↦ inr collision
+                | inl old_same ↦ elim (new_fork known m a n top below top x less more in_new way (rest_turn H known m n top below y x lt below_is) new_root) [
+                  | inr collision ↦ inr collision
+                  | inl new_same ↦
+                      let old_parts = branch_parts top y (over old a (front_of n)) (over old (a + front_of n) (m - front_of n)) (top_size old a (front_of n) (omega arith) (omega arith)) (rw fronts at old_same) in
+                      let new_parts = branch_parts top x (over new a (front_of n)) (over new (a + front_of n) (n - front_of n)) (top_size new a (front_of n) (omega arith) (omega arith)) new_same in
+                      elim (both_plain (front_of n) a (front_of n) (omega arith) (omega arith) (rw fronts at (part_front a m old_part (omega arith))) (part_front a n new_part more) (sym old_parts.0 ∙ new_parts.0)) [
+                        | inr collision ↦ inr collision
+                        | inl left ↦ elim (down below None (m - front_of n) (a + front_of n) (n - front_of n) sized.1 (omega arith) (omega arith) (rw fronts at (part_rest a m old_part (omega arith))) (part_rest a n new_part more)
+                            (rest known m a n top below way less lt) (below_is ∙ ap (λ z. Some (z, x)) old_parts.1 ∙ ap (λ z. Some (over old (a + front_of n) (m - front_of n), z)) new_parts.1)) [
+                              | inr collision ↦ inr collision
+                              | inl right ↦ inl (joined a (front_of n) m (omega arith) left right)
+                            ]
+                      ]
+                ]
+              ]
+        ]
+  ]
+
+pub tree_collides : (H : List ℕ → List ℕ) → GivesHashes H → (digests old new : List (List ℕ)) → AreHashes digests → IsTreeMet H digests old new → ¬ Begins old new → SomeCollision H (IsTreePlaced H digests old new)
+tree_collides H gives digests old new sized met untrue =
+    let (some, order, leads) = leads_both H (Some (root_of H (leaves_of H old))) (length old) (length new) digests _ met in
+    let differs = difference old new order untrue in
+    let roots : roots_down H (Some (root_of H (leaves_of H old))) (length old) (length new) (reverse digests) ≡ Some (root_over H (leaves_of H old) 0 (length old), root_over H (leaves_of H new) 0 (length new)) =
+    rw (plain_root H old, plain_root H new) leads in
+    elim (down H gives digests old new (reverse digests) _ (length old) 0 (length new) (all_reversed digests sized) some order part_whole part_whole whole roots) [
+      | inl same ↦ absurd (differs.2 (same differs.0 (omega arith) (omega (arith, differs.1))))
+      | inr collision ↦ collision
+    ]
