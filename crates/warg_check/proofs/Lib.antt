@@ -1,2 +1,3 @@
 pub mod VerdictLemmas
 pub mod ShownLemmas
+pub mod ForCallers

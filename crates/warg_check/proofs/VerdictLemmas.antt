@@ -12,19 +12,19 @@ use Rattle.warg_check.specs.declared.verdict.CheckError.TheVariants as fault
 use Rattle.warg_map.specs.Bits.{key_bits}
 use Rattle.warg_map.specs.ProofValue.{proof_value}
 use Rattle.warg_map.specs.Messages.{Peers}
-use Rattle.warg_check.specs.Verdicts.{judged, verdict, is_root, are_roots, leads}
+use Rattle.warg_check.specs.Verdicts.{judged, verdict_at, is_root, are_roots, leads}
 use Rattle.warg_check.specs.UpdateVerdicts.{leads_both}
 
 -- from a bundle that is read to the verdict on one of its proofs
 pub judged_at : {B P : Type 0} (proofs : B → List P) (holds : B → P → Bool) (at : ℕ) (read : Result B DecodeError) (b : B) (proof : P) (is : Bool)
-    → read ≡ Ok b → slice_get (proofs b) at ≡ Some proof → holds b proof ≡ is → verdict proofs holds at read ≡ Ok is
+    → read ≡ Ok b → slice_get (proofs b) at ≡ Some proof → holds b proof ≡ is → verdict_at proofs holds at read ≡ Ok is
 judged_at proofs holds at read b proof is reads there judges =
-    ap (verdict proofs holds at) reads ∙ ap (judged (holds b)) there ∙ ap Ok judges
+    ap (verdict_at proofs holds at) reads ∙ ap (judged (holds b)) there ∙ ap Ok judges
 
 -- a place past the last proof
 pub none_at : {B P : Type 0} (proofs : B → List P) (holds : B → P → Bool) (at : ℕ) (read : Result B DecodeError) (b : B)
-    → read ≡ Ok b → slice_get (proofs b) at ≡ None → verdict proofs holds at read ≡ Err fault.NoSuchProof
-none_at proofs holds at read b reads none = ap (verdict proofs holds at) reads ∙ ap (judged (holds b)) none
+    → read ≡ Ok b → slice_get (proofs b) at ≡ None → verdict_at proofs holds at read ≡ Err fault.NoSuchProof
+none_at proofs holds at read b reads none = ap (verdict_at proofs holds at) reads ∙ ap (judged (holds b)) none
 
 -- a verdict is no fault of the bytes, and neither is a place past the last proof
 pub not_refused : (holds : Bool) (e : CheckError) → ◌≢◌ {A = Result Bool CheckError} (Ok holds) (Err e)
@@ -57,7 +57,7 @@ true_judged : {P : Type 0} (holds : P → Bool) (o : Option P) → judged holds 
 true_judged holds None is = absurd cc
 true_judged holds (Some proof) is = let holds_is : holds proof ≡ true = cc in (proof, holds_is, refl)
 
-pub true_verdict : {B P : Type 0} (proofs : B → List P) (holds : B → P → Bool) (at : ℕ) (read : Result B DecodeError) → verdict proofs holds at read ≡ Ok true
+pub true_verdict : {B P : Type 0} (proofs : B → List P) (holds : B → P → Bool) (at : ℕ) (read : Result B DecodeError) → verdict_at proofs holds at read ≡ Ok true
     → (b : B) × (proof : P) × (read ≡ Ok b) × (holds b proof ≡ true) × (slice_get (proofs b) at ≡ Some proof)
 true_verdict proofs holds at (Err e) is = absurd cc
 true_verdict proofs holds at (Ok b) is = let judge = true_judged (holds b) (slice_get (proofs b) at) is in (b, judge.0, refl, judge.1, judge.2)

@@ -8,7 +8,7 @@ use Rattle.warg_log.specs.Consistency.{IsConsistent}
 use Rattle.warg_log.specs.Sparse.{held_digest}
 use Rattle.warg_bundle.specs.LogBundles.{Bundle, bundle_of}
 use Rattle.warg_check.specs.declared.verdict.CheckError.{CheckError}
-use Rattle.warg_check.specs.Verdicts.{verdict, includes, extends}
+use Rattle.warg_check.specs.Verdicts.{verdict_at, includes, extends}
 
 -- The node is that of the leaf at an index: leaf i is node 2 * i.
 abbrev pub is_leaf_at : ℕ → Node → Bool
@@ -20,7 +20,7 @@ shows_entry H index value length root b node = is_leaf_at index node && (b.log_l
 
 -- The verdict on the inclusion proof at a place of a log bundle's bytes, for an index and a checkpoint.
 abbrev pub entry_verdict : (List ℕ → List ℕ) → List ℕ → ℕ → ℕ → List ℕ → ℕ → List ℕ → Result Bool CheckError
-entry_verdict H bytes at index value length root = verdict (λ (b : Bundle). b.included_nodes) (shows_entry H index value length root) at (bundle_of bytes)
+entry_verdict H bytes at index value length root = verdict_at (λ (b : Bundle). b.included_nodes) (shows_entry H index value length root) at (bundle_of bytes)
 
 -- A proof of a bundle is from the old length to the new one, and evaluates to both roots.
 abbrev pub shows_growth : (List ℕ → List ℕ) → ℕ → List ℕ → ℕ → List ℕ → Bundle → ℕ → Bool
@@ -28,7 +28,7 @@ shows_growth H old_length old new_length new b m = m == old_length && (b.log_len
 
 -- The verdict on the consistency proof at a place of a log bundle's bytes, for two checkpoints.
 abbrev pub growth_verdict : (List ℕ → List ℕ) → List ℕ → ℕ → ℕ → List ℕ → ℕ → List ℕ → Result Bool CheckError
-growth_verdict H bytes at old_length old new_length new = verdict (λ (b : Bundle). b.consistent_lengths) (shows_growth H old_length old new_length new) at (bundle_of bytes)
+growth_verdict H bytes at old_length old new_length new = verdict_at (λ (b : Bundle). b.consistent_lengths) (shows_growth H old_length old new_length new) at (bundle_of bytes)
 
 -- Every digest of the bundle has 32 bytes.
 abbrev pub HasHashes : Bundle → Type 0

@@ -1,3 +1,5 @@
 pub mod Verdicts
 pub mod CheckpointVerdicts
 pub mod UpdateVerdicts
+pub mod PathVerdicts
+pub mod Claims

@@ -31,9 +31,9 @@ judged holds None = Err fault.NoSuchProof
 judged holds (Some proof) = Ok (holds proof)
 
 -- The verdict on the proof at a place of a bundle, in what bytes were read as.
-abbrev pub verdict : {B P : Type 0} → (B → List P) → (B → P → Bool) → ℕ → Result B DecodeError → Result Bool CheckError
-verdict proofs holds at (Ok bundle) = judged (holds bundle) (slice_get (proofs bundle) at)
-verdict proofs holds at (Err e) = Err (fault.Decode e)
+abbrev pub verdict_at : {B P : Type 0} → (B → List P) → (B → P → Bool) → ℕ → Result B DecodeError → Result Bool CheckError
+verdict_at proofs holds at (Ok bundle) = judged (holds bundle) (slice_get (proofs bundle) at)
+verdict_at proofs holds at (Err e) = Err (fault.Decode e)
 
 -- An evaluation leads to this root.
 abbrev pub is_root : List ℕ → Result (List ℕ) InclusionProofError → Bool
@@ -46,7 +46,7 @@ includes H value root b node = is_root root (inclusion H (held_digest b.hashes) 
 
 -- The verdict on the inclusion proof at a place of a log bundle's bytes.
 abbrev pub inclusion_verdict : (List ℕ → List ℕ) → List ℕ → ℕ → List ℕ → List ℕ → Result Bool CheckError
-inclusion_verdict H bytes at value root = verdict (λ (b : Bundle). b.included_nodes) (includes H value root) at (bundle_of bytes)
+inclusion_verdict H bytes at value root = verdict_at (λ (b : Bundle). b.included_nodes) (includes H value root) at (bundle_of bytes)
 
 -- The two roots are there, and are these.
 abbrev pub are_roots : List ℕ → List ℕ → Result (List ℕ × List ℕ) ConsistencyProofError → Bool
@@ -59,7 +59,7 @@ extends H old new b m = are_roots old new (consistency H (held_digest b.hashes) 
 
 -- The verdict on the consistency proof at a place of a log bundle's bytes.
 abbrev pub consistency_verdict : (List ℕ → List ℕ) → List ℕ → ℕ → List ℕ → List ℕ → Result Bool CheckError
-consistency_verdict H bytes at old new = verdict (λ (b : Bundle). b.consistent_lengths) (extends H old new) at (bundle_of bytes)
+consistency_verdict H bytes at old new = verdict_at (λ (b : Bundle). b.consistent_lengths) (extends H old new) at (bundle_of bytes)
 
 -- The peers lead from this leaf digest under the key to this root.
 abbrev pub leads : (List ℕ → List ℕ) → List ℕ → List ℕ → List ℕ → Peers → Bool
@@ -67,33 +67,32 @@ leads H leaf key root peers = same_bytes (proof_value H peers leaf (key_bits H k
 
 -- The verdict on the proof at a place of a map bundle's bytes: from the value's leaf digest.
 abbrev pub key_verdict : (List ℕ → List ℕ) → List ℕ → ℕ → List ℕ → List ℕ → List ℕ → Result Bool CheckError
-key_verdict H bytes at key value root = verdict (λ (b : MapBundle). b.proofs) (λ b. leads H (leaf_digest H value) key root) at (map_bundle_of bytes)
+key_verdict H bytes at key value root = verdict_at (λ (b : MapBundle). b.proofs) (λ b. leads H (leaf_digest H value) key root) at (map_bundle_of bytes)
 
 -- The verdict on the absence at a place of a map bundle's bytes: from an empty leaf.
 abbrev pub absent_verdict : (List ℕ → List ℕ) → List ℕ → ℕ → List ℕ → List ℕ → Result Bool CheckError
-absent_verdict H bytes at key root = verdict (λ (b : MapBundle). b.absences) (λ b. leads H (empty_root H 0) key root) at (map_bundle_of bytes)
+absent_verdict H bytes at key root = verdict_at (λ (b : MapBundle). b.absences) (λ b. leads H (empty_root H 0) key root) at (map_bundle_of bytes)
 
 -- Every peer that is there has 32 bytes.
 abbrev pub HasHashes : Peers → Type 0
 HasHashes peers = (place : ℕ) (digest : List ℕ) → slice_index_or peers place None ≡ Some digest → length digest ≡ 32
 
--- The bytes are a map bundle with a proof, of peers of 32 bytes, that lead from the value under the key to this root.
-pub record IsKeyShown (H : List ℕ → List ℕ) (bytes key value root : List ℕ) : Type 0 where
+-- The bytes are a map bundle with a proof at this place, of peers of 32 bytes, that lead from the value under the key to
+-- this root.
+pub record IsKeyShown (H : List ℕ → List ℕ) (bytes : List ℕ) (at : ℕ) (key value root : List ℕ) : Type 0 where
   pub bundle : MapBundle
   pub spelled : map_bundle_of bytes ≡ Ok bundle
   pub peers : Peers
-  pub place : ℕ
-  pub stands : slice_get bundle.proofs place ≡ Some peers
+  pub stands : slice_get bundle.proofs at ≡ Some peers
   pub hashes : HasHashes peers
   pub is : proof_value H peers (leaf_digest H value) (key_bits H key) ≡ root
 
--- The bytes are a map bundle with an absence, of peers of 32 bytes, that lead from an empty leaf under the key to this
--- root.
-pub record IsAbsenceShown (H : List ℕ → List ℕ) (bytes key root : List ℕ) : Type 0 where
+-- The bytes are a map bundle with an absence at this place, of peers of 32 bytes, that lead from an empty leaf under the
+-- key to this root.
+pub record IsAbsenceShown (H : List ℕ → List ℕ) (bytes : List ℕ) (at : ℕ) (key root : List ℕ) : Type 0 where
   pub bundle : MapBundle
   pub spelled : map_bundle_of bytes ≡ Ok bundle
   pub peers : Peers
-  pub place : ℕ
-  pub stands : slice_get bundle.absences place ≡ Some peers
+  pub stands : slice_get bundle.absences at ≡ Some peers
   pub hashes : HasHashes peers
   pub is : proof_value H peers (empty_root H 0) (key_bits H key) ≡ root

@@ -4,7 +4,10 @@ ghost use Rattle.std.specs.Prelude.{◌≡◌, ◌≢◌, Err};
 ghost use Rattle.warg_protobuf.specs.declared.error.WireError.TheVariants as wire;
 ghost use Rattle.warg_protobuf.specs.declared.value_error.DecodeError.TheVariants as decoding;
 ghost use Rattle.warg_protobuf.specs.Reading.{Answers};
-ghost use Rattle.warg_check.specs.CheckpointVerdicts.{is_leaf_at, shows_entry, entry_verdict, shows_growth, growth_verdict};
+ghost use Rattle.warg_check.specs.CheckpointVerdicts.{is_leaf_at, shows_entry, shows_growth};
+ghost use Rattle.warg_check.specs.Claims.{verdict};
+ghost use Rattle.warg_check.specs.Claims.Claim.{entry_at, growth};
+ghost use Rattle.warg_check.specs.Claims.Evidence.{by_bundle};
 
 use crate::verdict::{CheckError, is_extended, is_included};
 use std::alloc::Allocator;
@@ -30,8 +33,7 @@ pub fn check_entry<D: SupportedDigest, V: VisitBytes, A: Allocator + Copy>(
     checkpoint: &Checkpoint<D>,
 ) -> Result<bool, CheckError>
     ensures verdict { Answers CheckError.Memory result
-        (entry_verdict D.digest bytes.now at index
-        (V.bytes value.now) checkpoint.now.length checkpoint.now.root) }
+        (verdict D.digest (entry_at index (V.bytes value.now) checkpoint.now) (by_bundle bytes.now at)) }
     ensures memory { result ≢ Err (CheckError.Decode decoding.Memory) }
     ensures wire { result ≢ Err (CheckError.Decode (decoding.Wire wire.Memory)) }
 {
@@ -83,8 +85,7 @@ pub fn check_growth<D: SupportedDigest, A: Allocator + Copy>(
     new: &Checkpoint<D>,
 ) -> Result<bool, CheckError>
     ensures verdict { Answers CheckError.Memory result
-        (growth_verdict D.digest bytes.now at old.now.length old.now.root new.now.length
-        new.now.root) }
+        (verdict D.digest (growth old.now new.now) (by_bundle bytes.now at)) }
     ensures memory { result ≢ Err (CheckError.Decode decoding.Memory) }
     ensures wire { result ≢ Err (CheckError.Decode (decoding.Wire wire.Memory)) }
 {

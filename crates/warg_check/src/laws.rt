@@ -26,32 +26,33 @@ pub fn growth_is_shown()
         ≡ Ok true → IsGrowthShown H bytes old_length old new_length new }
 {}
 
-/// Where the verdict on a key is true, the bundle has peers that lead from the value under the key to the root.
+/// Where the verdict on a key is true, the bundle has at the place peers of 32 bytes that lead from the
+/// value under the key to the root.
 pub fn key_is_shown()
     ensures { (H : List ℕ → List ℕ) (bytes : List ℕ) (at : ℕ) (key value root : List ℕ)
-        → key_verdict H bytes at key value root ≡ Ok true → IsKeyShown H bytes key value root }
+        → key_verdict H bytes at key value root ≡ Ok true → IsKeyShown H bytes at key value root }
 {}
 
-/// Where the verdict on an absence is true, the bundle has peers that lead from an empty leaf under the key to the
-/// root.
+/// Where the verdict on an absence is true, the bundle has at the place peers of 32 bytes that lead from an
+/// empty leaf under the key to the root.
 pub fn absence_is_shown()
     ensures { (H : List ℕ → List ℕ) (bytes : List ℕ) (at : ℕ) (key root : List ℕ)
-        → absent_verdict H bytes at key root ≡ Ok true → IsAbsenceShown H bytes key root }
+        → absent_verdict H bytes at key root ≡ Ok true → IsAbsenceShown H bytes at key root }
 {}
 
-/// Where the verdict on an update is true, the bundle has peers that lead from both values under the key to the two
-/// roots.
+/// Where the verdict on an update is true, the bundle has at the place peers of 32 bytes that lead from both
+/// values under the key to the two roots.
 pub fn update_is_shown()
     ensures { (H : List ℕ → List ℕ) (bytes : List ℕ) (at : ℕ)
         (key old_value new_value old_root new_root : List ℕ)
         → update_verdict H bytes at key old_value new_value old_root new_root ≡ Ok true
-        → IsUpdateShown H bytes key old_value new_value old_root new_root }
+        → IsUpdateShown H bytes at key old_value new_value old_root new_root }
 {}
 
-/// Where the verdict on an insertion is true, the bundle has peers that lead under the key from an empty leaf to the old
-/// root, and from the value to the new one.
+/// Where the verdict on an insertion is true, the bundle has at the place peers of 32 bytes that lead under the
+/// key from an empty leaf to the old root, and from the value to the new one.
 pub fn insertion_is_shown()
     ensures { (H : List ℕ → List ℕ) (bytes : List ℕ) (at : ℕ) (key value old_root new_root : List ℕ)
         → insertion_verdict H bytes at key value old_root new_root ≡ Ok true
-        → IsInsertionShown H bytes key value old_root new_root }
+        → IsInsertionShown H bytes at key value old_root new_root }
 {}

@@ -6,7 +6,10 @@ ghost use Rattle.warg_crypto.specs.Tree.{leaf_digest};
 ghost use Rattle.warg_protobuf.specs.declared.error.WireError.TheVariants as wire;
 ghost use Rattle.warg_protobuf.specs.declared.value_error.DecodeError.TheVariants as decoding;
 ghost use Rattle.warg_protobuf.specs.Reading.{Answers};
-ghost use Rattle.warg_check.specs.UpdateVerdicts.{leads_both, update_verdict, insertion_verdict};
+ghost use Rattle.warg_check.specs.UpdateVerdicts.{leads_both};
+ghost use Rattle.warg_check.specs.Claims.{verdict};
+ghost use Rattle.warg_check.specs.Claims.Claim.{update, insertion};
+ghost use Rattle.warg_check.specs.Claims.Evidence.{by_bundle};
 
 use crate::verdict::CheckError;
 use std::alloc::Allocator;
@@ -36,8 +39,8 @@ pub fn check_update<D: SupportedDigest, K: VisitBytes, V: VisitBytes, A: Allocat
     new_root: &Hash<D>,
 ) -> Result<bool, CheckError>
     ensures verdict { Answers CheckError.Memory result
-        (update_verdict D.digest bytes.now at (K.bytes key.now) (V.bytes old_value.now)
-        (V.bytes new_value.now) old_root.now new_root.now) }
+        (verdict D.digest (update (K.bytes key.now) (V.bytes old_value.now) (V.bytes new_value.now)
+        old_root.now new_root.now) (by_bundle bytes.now at)) }
     ensures memory { result ≢ Err (CheckError.Decode decoding.Memory) }
     ensures wire { result ≢ Err (CheckError.Decode (decoding.Wire wire.Memory)) }
 {
@@ -85,8 +88,8 @@ pub fn check_insertion<D: SupportedDigest, K: VisitBytes, V: VisitBytes, A: Allo
     new_root: &Hash<D>,
 ) -> Result<bool, CheckError>
     ensures verdict { Answers CheckError.Memory result
-        (insertion_verdict D.digest bytes.now at (K.bytes key.now)
-        (V.bytes value.now) old_root.now new_root.now) }
+        (verdict D.digest (insertion (K.bytes key.now) (V.bytes value.now) old_root.now new_root.now)
+        (by_bundle bytes.now at)) }
     ensures memory { result ≢ Err (CheckError.Decode decoding.Memory) }
     ensures wire { result ≢ Err (CheckError.Decode (decoding.Wire wire.Memory)) }
 {

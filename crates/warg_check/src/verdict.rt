@@ -4,7 +4,10 @@ ghost use Rattle.std.specs.Prelude.{◌≡◌, ◌≢◌, Err};
 ghost use Rattle.warg_protobuf.specs.declared.error.WireError.TheVariants as wire;
 ghost use Rattle.warg_protobuf.specs.declared.value_error.DecodeError.TheVariants as decoding;
 ghost use Rattle.warg_protobuf.specs.Reading.{Answers};
-ghost use Rattle.warg_check.specs.Verdicts.{check_fault, includes, inclusion_verdict, extends, consistency_verdict, key_verdict, absent_verdict};
+ghost use Rattle.warg_check.specs.Verdicts.{check_fault, includes, inclusion_verdict, extends, consistency_verdict};
+ghost use Rattle.warg_check.specs.Claims.{verdict};
+ghost use Rattle.warg_check.specs.Claims.Claim.{value_under, nothing_under};
+ghost use Rattle.warg_check.specs.Claims.Evidence.{by_bundle};
 
 use std::alloc::Allocator;
 use thiserror::Error;
@@ -131,7 +134,8 @@ pub fn check_key<D: SupportedDigest, K: VisitBytes, V: VisitBytes, A: Allocator 
     root: &Hash<D>,
 ) -> Result<bool, CheckError>
     ensures verdict { Answers CheckError.Memory result
-        (key_verdict D.digest bytes.now at (K.bytes key.now) (V.bytes value.now) root.now) }
+        (verdict D.digest (value_under (K.bytes key.now) (V.bytes value.now) root.now)
+        (by_bundle bytes.now at)) }
     ensures memory { result ≢ Err (CheckError.Decode decoding.Memory) }
     ensures wire { result ≢ Err (CheckError.Decode (decoding.Wire wire.Memory)) }
 {
@@ -155,7 +159,7 @@ pub fn check_absent<D: SupportedDigest, K: VisitBytes, A: Allocator + Copy>(
     root: &Hash<D>,
 ) -> Result<bool, CheckError>
     ensures verdict { Answers CheckError.Memory result
-        (absent_verdict D.digest bytes.now at (K.bytes key.now) root.now) }
+        (verdict D.digest (nothing_under (K.bytes key.now) root.now) (by_bundle bytes.now at)) }
     ensures memory { result ≢ Err (CheckError.Decode decoding.Memory) }
     ensures wire { result ≢ Err (CheckError.Decode (decoding.Wire wire.Memory)) }
 {

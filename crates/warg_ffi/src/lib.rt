@@ -6,23 +6,24 @@
 //! header `ffi/warg.h` names the numbers, and says what a caller of C has to keep.
 #![tactic(auto)]
 
-ghost use Rattle.std.specs.Prelude.{◌≡◌, ◌+◌, ◌*◌, ◌^◌, [], ◌∷◌};
+ghost use Rattle.std.specs.Prelude.{◌≡◌, ◌+◌, ◌*◌, ◌^◌, [], ◌∷◌, None, Err};
+ghost use Rattle.warg_protobuf.specs.declared.value_error.DecodeError.TheVariants as decoding;
+ghost use Rattle.warg_check.specs.declared.verdict.CheckError.TheVariants as CheckError;
 ghost use Rattle.warg_crypto.specs.Digests.{sha256};
-ghost use Rattle.warg_check.specs.Verdicts.{inclusion_verdict, consistency_verdict, key_verdict, absent_verdict};
-ghost use Rattle.warg_check.specs.CheckpointVerdicts.{entry_verdict, growth_verdict};
-ghost use Rattle.warg_check.specs.UpdateVerdicts.{update_verdict, insertion_verdict};
-ghost use Rattle.warg_ffi.specs.Numbers.{Returns};
-ghost use Rattle.warg_ffi.specs.PathVerdicts.{shows_record, shows_tree, path_verdict};
+ghost use Rattle.warg_paths.specs.Pieces.{hashes_of};
+ghost use Rattle.warg_check.specs.Verdicts.{inclusion_verdict, consistency_verdict};
+ghost use Rattle.warg_check.specs.Claims.{verdict};
+ghost use Rattle.warg_check.specs.Claims.Claim.{entry_at, growth, value_under, nothing_under, update, insertion};
+ghost use Rattle.warg_check.specs.Claims.Evidence.{by_bundle, by_path};
+ghost use Rattle.warg_ffi.specs.Numbers.{Returns, number_under};
 
 mod number;
-mod paths;
 
 use number::{ROOT_LENGTH, number};
-use paths::{check_record_in, check_tree_in};
 use std::alloc::Global;
 use warg_check::{
-    check_absent, check_consistency, check_entry, check_growth, check_inclusion, check_insertion,
-    check_key, check_update,
+    check_absent, check_consistency, check_entry, check_entry_path, check_growth,
+    check_growth_path, check_inclusion, check_insertion, check_key, check_update,
 };
 use warg_crypto::{Hash, Sha256};
 use warg_log::Checkpoint;
@@ -50,7 +51,8 @@ pub extern "C" fn warg_check_entry(
     root: &[u8],
 ) -> i32
     ensures { Returns (root.now ∷ [])
-        (entry_verdict sha256 bundle.now at index value.now length root.now) result }
+        (verdict sha256 (entry_at index value.now (record { root = root.now; length = length }))
+        (by_bundle bundle.now at)) result }
 {
     match Hash::<Sha256>::try_from(root) {
         Ok(root) => {
@@ -75,8 +77,8 @@ pub extern "C" fn warg_check_growth(
     new_root: &[u8],
 ) -> i32
     ensures { Returns (old_root.now ∷ new_root.now ∷ [])
-        (growth_verdict sha256 bundle.now at old_length old_root.now new_length
-        new_root.now) result }
+        (verdict sha256 (growth (record { root = old_root.now; length = old_length })
+        (record { root = new_root.now; length = new_length })) (by_bundle bundle.now at)) result }
 {
     match (
         Hash::<Sha256>::try_from(old_root),
@@ -146,7 +148,7 @@ pub extern "C" fn warg_check_key(
     root: &[u8],
 ) -> i32
     ensures { Returns (root.now ∷ [])
-        (key_verdict sha256 bundle.now at key.now value.now root.now) result }
+        (verdict sha256 (value_under key.now value.now root.now) (by_bundle bundle.now at)) result }
 {
     match Hash::<Sha256>::try_from(root) {
         Ok(root) => number(check_key(alloc, bundle, at, &key, &value, &root)),
@@ -166,7 +168,7 @@ pub extern "C" fn warg_check_absent(
     root: &[u8],
 ) -> i32
     ensures { Returns (root.now ∷ [])
-        (absent_verdict sha256 bundle.now at key.now root.now) result }
+        (verdict sha256 (nothing_under key.now root.now) (by_bundle bundle.now at)) result }
 {
     match Hash::<Sha256>::try_from(root) {
         Ok(root) => number(check_absent(alloc, bundle, at, &key, &root)),
@@ -189,8 +191,8 @@ pub extern "C" fn warg_check_update(
     new_root: &[u8],
 ) -> i32
     ensures { Returns (old_root.now ∷ new_root.now ∷ [])
-        (update_verdict sha256 bundle.now at key.now old_value.now new_value.now old_root.now
-        new_root.now) result }
+        (verdict sha256 (update key.now old_value.now new_value.now old_root.now new_root.now)
+        (by_bundle bundle.now at)) result }
 {
     match (
         Hash::<Sha256>::try_from(old_root),
@@ -217,8 +219,8 @@ pub extern "C" fn warg_check_insertion(
     new_root: &[u8],
 ) -> i32
     ensures { Returns (old_root.now ∷ new_root.now ∷ [])
-        (insertion_verdict sha256 bundle.now at key.now value.now old_root.now
-        new_root.now) result }
+        (verdict sha256 (insertion key.now value.now old_root.now new_root.now)
+        (by_bundle bundle.now at)) result }
 {
     match (
         Hash::<Sha256>::try_from(old_root),
@@ -230,8 +232,8 @@ pub extern "C" fn warg_check_insertion(
 }
 
 /// Whether an inclusion path shows that entry `index`, from 0, of the log of this length and root has the value's
-/// bytes: the number of the verdict of `warg_paths::check_record`. The path's bytes are its digests, 32 bytes each,
-/// from the bottom up (RFC 6962, section 2.1.1).
+/// bytes: the number of the verdict of `warg_check::check_entry_path`. The path's bytes are its digests, 32 bytes each,
+/// from the bottom up (RFC 6962, section 2.1.1); of other bytes it is that of the fault, and never -1.
 #[unsafe(no_mangle)]
 pub extern "C" fn warg_check_record(
     alloc: Global,
@@ -241,21 +243,25 @@ pub extern "C" fn warg_check_record(
     length: usize,
     root: &[u8],
 ) -> i32
-    ensures { Returns (root.now ∷ []) (path_verdict
-        (shows_record sha256 index value.now length root.now) path.now) result }
+    ensures verdict { Returns (root.now ∷ [])
+        (verdict sha256 (entry_at index value.now (record { root = root.now; length = length }))
+        (by_path path.now)) result }
+    ensures fault { hashes_of path.now ≡ None
+        → result ≡ number_under (root.now ∷ []) (Err (CheckError.Decode decoding.HashLength)) }
 {
     match Hash::<Sha256>::try_from(root) {
         Ok(root) => {
             let checkpoint = Checkpoint::new(root, length);
-            number(check_record_in(alloc, path, index, value, &checkpoint))
+            number(check_entry_path(alloc, path, index, &value, &checkpoint))
         }
         Err(_) => ROOT_LENGTH,
     }
 }
 
 /// Whether a consistency path shows that the log of the old length and root is a beginning of the log of the new
-/// ones: the number of the verdict of `warg_paths::check_tree`. The path's bytes are its digests, 32 bytes each,
-/// from the bottom up (RFC 6962, section 2.1.2). From an empty log it is false: no path is made of it.
+/// ones: the number of the verdict of `warg_check::check_growth_path`. The path's bytes are its digests, 32 bytes each,
+/// from the bottom up (RFC 6962, section 2.1.2); of other bytes it is that of the fault, and never -1. From an empty log
+/// it is false: no path is made of it.
 #[unsafe(no_mangle)]
 pub extern "C" fn warg_check_tree(
     alloc: Global,
@@ -265,9 +271,11 @@ pub extern "C" fn warg_check_tree(
     new_length: usize,
     new_root: &[u8],
 ) -> i32
-    ensures { Returns (old_root.now ∷ new_root.now ∷ [])
-        (path_verdict
-        (shows_tree sha256 old_length old_root.now new_length new_root.now) path.now) result }
+    ensures verdict { Returns (old_root.now ∷ new_root.now ∷ [])
+        (verdict sha256 (growth (record { root = old_root.now; length = old_length })
+        (record { root = new_root.now; length = new_length })) (by_path path.now)) result }
+    ensures fault { hashes_of path.now ≡ None → result ≡ number_under
+        (old_root.now ∷ new_root.now ∷ []) (Err (CheckError.Decode decoding.HashLength)) }
 {
     match (
         Hash::<Sha256>::try_from(old_root),
@@ -276,7 +284,7 @@ pub extern "C" fn warg_check_tree(
         (Ok(old_root), Ok(new_root)) => {
             let old = Checkpoint::new(old_root, old_length);
             let new = Checkpoint::new(new_root, new_length);
-            number(check_tree_in(alloc, path, &old, &new))
+            number(check_growth_path(alloc, path, &old, &new))
         }
         _ => ROOT_LENGTH,
     }

@@ -1,3 +1,2 @@
-pub mod CollisionLemmas
 mod MapCallers
 mod TileCallers

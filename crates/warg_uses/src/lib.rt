@@ -9,5 +9,4 @@ pub mod log;
 pub mod map;
 pub mod paths;
 pub mod tiles;
-pub mod verdict;
 pub mod witness;

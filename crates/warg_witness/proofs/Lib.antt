@@ -12,3 +12,4 @@ pub mod AgreementLemmas
 pub mod PathLawLemmas
 pub mod TreeLawLemmas
 pub mod MapLawLemmas
+pub mod ForCallers

@@ -1,0 +1,4 @@
+pub mod SoundLemmas
+pub mod PremiseLemmas
+pub mod OwnLemmas
+pub mod HasLemmas

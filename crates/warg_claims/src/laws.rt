@@ -1,0 +1,69 @@
+//! The theorem: what a true verdict is worth. The contract of each function is the law, and it has no effect.
+
+ghost use Rattle.std.specs.Prelude.{◌≡◌, ℕ, List, Ok, true};
+ghost use Rattle.warg_crypto.specs.Collisions.{GivesHashes, SomeCollision};
+ghost use Rattle.warg_check.specs.Claims.{Claim, Evidence, verdict};
+ghost use Rattle.warg_claims.specs.Worlds.{World, HasRoots, IsTrueOf};
+ghost use Rattle.warg_claims.specs.Placed.{IsPlaced};
+ghost use Rattle.warg_claims.specs.Own.{Has, IsOwn};
+
+use warg_bundle::laws::{bundled_as_source, bundled_parts};
+use warg_check::laws::{
+    absence_is_shown, entry_is_shown, growth_is_shown, insertion_is_shown, key_is_shown,
+    update_is_shown,
+};
+use warg_log::laws::{own_consistency, own_inclusion};
+use warg_map::laws::{last_held, own_absence, own_proof};
+use warg_paths::laws::{own_consistency_path, own_inclusion_path};
+use warg_witness::laws::{
+    absence_or_collision, consistency_or_collision, equal_maps_or_collision, key_or_collision,
+    record_or_collision, tree_or_collision, update_or_collision, value_or_collision,
+};
+
+/// A true verdict is true: under the roots of its world a claim that evidence shows is true, or two different byte strings
+/// of one digest stand at a named place, `IsPlaced`: the one is what the verdict's evaluation hashes, the other what the
+/// tree over the world hashes at the same range or prefix; or two such trees, or two keys, collide.
+pub fn true_or_collision()
+    ensures { (H : List ℕ → List ℕ) (claim : Claim) (evidence : Evidence) (world : World claim)
+        → GivesHashes H → verdict H claim evidence ≡ Ok true → HasRoots H claim world
+        → ¬ IsTrueOf claim world → SomeCollision H (IsPlaced H claim evidence world) }
+{
+    entry_is_shown();
+    growth_is_shown();
+    key_is_shown();
+    absence_is_shown();
+    update_is_shown();
+    insertion_is_shown();
+    value_or_collision();
+    consistency_or_collision();
+    key_or_collision();
+    absence_or_collision();
+    update_or_collision();
+    equal_maps_or_collision();
+    record_or_collision();
+    tree_or_collision();
+}
+
+/// What is true has a true verdict: the evidence that a log or a map gives of what it has, a bundle or a path, shows the
+/// claim under its roots.
+pub fn own_evidence_is_true()
+    ensures { (H : List ℕ → List ℕ) (claim : Claim) (evidence : Evidence) (world : World claim)
+        → HasRoots H claim world → Has H claim world → IsOwn H claim evidence world
+        → verdict H claim evidence ≡ Ok true }
+{
+    bundled_parts();
+    bundled_as_source();
+    own_inclusion();
+    own_consistency();
+    own_inclusion_path();
+    own_consistency_path();
+    own_proof();
+    own_absence();
+    last_held();
+}
+
+/// What a log or a map has is true of it.
+pub fn what_is_had_is_true()
+    ensures { (H : List ℕ → List ℕ) (claim : Claim) (world : World claim)
+        → Has H claim world → IsTrueOf claim world }
+{}

@@ -1,0 +1,41 @@
+//! What the premises and the placement of [`true_or_collision`](crate::laws::true_or_collision) are for: the contract of
+//! each function is the law, and it has no effect. Without any one premise the law is false, of every digest function.
+
+ghost use Rattle.std.specs.Prelude.{◌≡◌, ℕ, List, Ok, true};
+ghost use Rattle.warg_crypto.specs.Collisions.{GivesHashes, SomeCollision};
+ghost use Rattle.warg_check.specs.Claims.{Claim, Evidence, verdict};
+ghost use Rattle.warg_claims.specs.Worlds.{World, HasRoots, IsTrueOf};
+ghost use Rattle.warg_claims.specs.Placed.{IsPlaced, Anywhere};
+
+/// A claim without a true verdict may be untrue where no byte strings of those places collide.
+pub fn verdict_is_needed()
+    ensures { (H : List ℕ → List ℕ) → ¬ ((claim : Claim) (evidence : Evidence) (world : World claim)
+        → HasRoots H claim world → ¬ IsTrueOf claim world
+        → SomeCollision H (IsPlaced H claim evidence world)) }
+{}
+
+/// Nor is a claim with a true verdict true of a world with other roots.
+pub fn roots_are_needed()
+    ensures { (H : List ℕ → List ℕ) → ¬ ((claim : Claim) (evidence : Evidence) (world : World claim)
+        → verdict H claim evidence ≡ Ok true → ¬ IsTrueOf claim world
+        → SomeCollision H (IsPlaced H claim evidence world)) }
+{}
+
+/// Where a claim with a true verdict is true, there need be no collision.
+pub fn untruth_is_needed()
+    ensures { (H : List ℕ → List ℕ) → ¬ ((claim : Claim) (evidence : Evidence) (world : World claim)
+        → verdict H claim evidence ≡ Ok true → HasRoots H claim world
+        → SomeCollision H (IsPlaced H claim evidence world)) }
+{}
+
+/// That two byte strings collide anywhere says nothing: under every function to 32 bytes some do.
+pub fn some_collide_anywhere()
+    ensures { (H : List ℕ → List ℕ) → GivesHashes H → SomeCollision H Anywhere }
+{}
+
+/// Where digests have any length, a claim may be untrue though no two byte strings have one digest.
+pub fn hashes_are_needed()
+    ensures { ¬ ((H : List ℕ → List ℕ) (claim : Claim) (evidence : Evidence) (world : World claim)
+        → verdict H claim evidence ≡ Ok true → HasRoots H claim world → ¬ IsTrueOf claim world
+        → SomeCollision H (IsPlaced H claim evidence world)) }
+{}
