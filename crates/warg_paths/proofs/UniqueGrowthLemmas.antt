@@ -11,7 +11,6 @@ use Rattle.warg_paths.specs.Ways.{IsOnGrowth, AreGrowthInputs, AreTurns, new_tur
 use Rattle.warg_paths.specs.Ways.IsOnGrowth.{whole as way_whole, front as way_front, rest as way_rest}
 use Rattle.warg_paths.proofs.UniqueLemmas.{branches_meet, turned, cons_same}
 use Rattle.warg_paths.proofs.GrowthLemmas.{known}
-use Rattle.warg_crypto.proofs.ForCallers.{HasSize}
 
 nothing : {p : List ℕ × List ℕ} → None ≡ Some p → ⊥
 nothing e = cc
@@ -70,27 +69,6 @@ end_unique false r s o w (t ∷ []) (u ∷ []) ex ey = ap (λ h. h ∷ []) ((pai
 end_unique false r s o w (t ∷ []) (u ∷ v ∷ us) ex ey = absurd (nothing ey)
 end_unique false r s o w (t ∷ k ∷ ts) ys ex ey = absurd (nothing ex)
 
-end_size : (whole : Bool) (r o w : List ℕ) (hs : List (List ℕ)) → AreHashes (r ∷ hs) → twice (one_root (known whole r) hs) ≡ Some (o, w) → length w ≡ 32
-end_size true r o w [] are is = sym (ap length (pair_parts _ _ is).1) ∙ are.0
-end_size true r o w (t ∷ ts) are is = absurd (nothing is)
-end_size false r o w [] are is = absurd (nothing is)
-end_size false r o w (t ∷ []) are is = sym (ap length (pair_parts _ _ is).1) ∙ are.1.0
-end_size false r o w (t ∷ k ∷ ts) are is = absurd (nothing is)
-
--- the new root that is reckoned has 32 bytes
-new_size : (H : List ℕ → List ℕ) → HasSize H → (whole : Bool) (m n : ℕ) (r o w : List ℕ) (hs : List (List ℕ)) → AreHashes (r ∷ hs) → roots_down H (known whole r) m n hs ≡ Some (o, w) → length w ≡ 32
-new_size H gives whole m n r o w [] are is = elim (eqb_tells m n) [
-  | inl same ↦ end_size whole r o w [] are (sym (down_same H (known whole r) m n [] same.1) ∙ is)
-  | inr other ↦ absurd (nothing (sym (down_none H (known whole r) m n other.1) ∙ is))
-]
-new_size H gives whole m n r o w (t ∷ ts) are is = elim (eqb_tells m n) [
-  | inl same ↦ end_size whole r o w (t ∷ ts) are (sym (down_same H (known whole r) m n (t ∷ ts) same.1) ∙ is)
-  | inr other ↦ elim (cases_lt (front_of n) m) [
-    | inl high ↦ let b = both_parts H t _ o w (sym (down_rest H (known whole r) m n t ts other.1 high) ∙ is) in sym (ap length b.new_is) ∙ gives _
-    | inr low ↦ let b = grown_parts H _ t o w (sym (down_front H (known whole r) m n t ts other.1 low) ∙ is) in sym (ap length b.is) ∙ gives _
-  ]
-]
-
 -- what is taken for the new root at a range whose old leaves end in its first part, and in the rest
 front_turn : (H : List ℕ → List ℕ) (known : Option (List ℕ)) (m n : ℕ) (top o w : List ℕ) (below : List (List ℕ)) → m ≤ front_of n → roots_down H known m (front_of n) below ≡ Some (o, w)
     → new_turn_input H known m n top below ≡ Some (branch_input w top)
@@ -101,14 +79,14 @@ rest_turn : (H : List ℕ → List ℕ) (known : Option (List ℕ)) (m n : ℕ) 
 rest_turn H known m n top o w below lt is = rw (lt-leb m (front_of n) lt, is) refl
 
 -- two ways down to the same roots are one, or collide at one range
-module _ (H : List ℕ → List ℕ) (gives : HasSize H) (old_count count : ℕ) (r s : List ℕ) (path other : List (List ℕ)) where
+module _ (H : List ℕ → List ℕ) (old_count count : ℕ) (r s : List ℕ) (path other : List (List ℕ)) where
   abbrev Placed : List ℕ → List ℕ → Type 0
   Placed = AreGrowthInputs H old_count count r path s other
 
   abbrev OnWay : List ℕ → List (List ℕ) → Option (List ℕ) → ℕ → ℕ → ℕ → List (List ℕ) → Type 0
   OnWay root digests = IsOnGrowth (Some root) old_count count (reverse digests)
 
-  down : (whole : Bool) (m a n : ℕ) (o w : List ℕ) (xs ys : List (List ℕ)) → AreHashes (r ∷ xs) → AreHashes (s ∷ ys) → m ≤ n
+  down : (whole : Bool) (m a n : ℕ) (o w : List ℕ) (xs ys : List (List ℕ)) → AreHashes xs → AreHashes ys → m ≤ n
       → OnWay r path (known whole r) m a n xs → OnWay s other (known whole s) m a n ys
       → roots_down H (known whole r) m n xs ≡ Some (o, w) → roots_down H (known whole s) m n ys ≡ Some (o, w) → (xs ≡ ys) ⊎ SomeCollision H Placed
   down whole m a n o w [] ys ax ay order wx wy ex ey = elim (eqb_tells m n) [
@@ -127,12 +105,12 @@ module _ (H : List ℕ → List ℕ) (gives : HasSize H) (old_count count : ℕ)
           | inr low ↦
               let p = grown_parts H (roots_down H (known whole r) m (front_of n) ts) t o w (sym (down_front H (known whole r) m n t ts differ.1 low) ∙ ex) in
               let q = grown_parts H (roots_down H (known whole s) m (front_of n) us) u o w (sym (down_front H (known whole s) m n u us differ.1 low) ∙ ey) in
-              let size : length p.root ≡ length q.root = new_size H gives whole m (front_of n) r o p.root ts (ax.0, ax.1.1) p.below_is ∙ sym (new_size H gives whole m (front_of n) s o q.root us (ay.0, ay.1.1) q.below_is) in
+              let size : length t ≡ length u = ax.0 ∙ sym ay.0 in
               let turns = inr (front_turn H (known whole r) m n t o p.root ts low p.below_is, front_turn H (known whole s) m n u o q.root us low q.below_is) in
-              elim (branches_meet H Placed p.root t q.root u w size p.is q.is (at _ _ m a n t ts u us wx wy more turns)) [
+              elim (branches_meet H Placed p.root t q.root u w (inr size) p.is q.is (at _ _ m a n t ts u us wx wy more turns)) [
                 | inr collision ↦ inr collision
                 | inl parts ↦
-                    elim (down whole m a (front_of n) o p.root ts us (ax.0, ax.1.1) (ay.0, ay.1.1) low (way_front _ m a n t ts wx more low) (way_front _ m a n u us wy more low) p.below_is (q.below_is ∙ ap (λ z. Some (o, z)) (sym parts.0))) [
+                    elim (down whole m a (front_of n) o p.root ts us ax.1 ay.1 low (way_front _ m a n t ts wx more low) (way_front _ m a n u us wy more low) p.below_is (q.below_is ∙ ap (λ z. Some (o, z)) (sym parts.0))) [
                       | inr collision ↦ inr collision
                       | inl below ↦ inl (cons_same parts.1 below)
                     ]
@@ -140,17 +118,17 @@ module _ (H : List ℕ → List ℕ) (gives : HasSize H) (old_count count : ℕ)
           | inl high ↦
               let p = both_parts H t (roots_down H None (m - front_of n) (n - front_of n) ts) o w (sym (down_rest H (known whole r) m n t ts differ.1 high) ∙ ex) in
               let q = both_parts H u (roots_down H None (m - front_of n) (n - front_of n) us) o w (sym (down_rest H (known whole s) m n u us differ.1 high) ∙ ey) in
-              let size : length t ≡ length u = ax.1.0 ∙ sym ay.1.0 in
+              let size : length t ≡ length u = ax.0 ∙ sym ay.0 in
               let order_in_rest : m - front_of n ≤ n - front_of n = omega (arith, order) in
               let olds = inl (high, ap (where_both branch_input (Some t)) (ap old_of p.below_is), ap (where_both branch_input (Some u)) (ap old_of q.below_is)) in
-              elim (branches_meet H Placed t p.old u q.old o size p.old_is q.old_is (at _ _ m a n t ts u us wx wy more olds)) [
+              elim (branches_meet H Placed t p.old u q.old o (inl size) p.old_is q.old_is (at _ _ m a n t ts u us wx wy more olds)) [
                 | inr collision ↦ inr collision
                 | inl same_olds ↦
                     let news = inr (rest_turn H (known whole r) m n t p.old p.new ts high p.below_is, rest_turn H (known whole s) m n u q.old q.new us high q.below_is) in
-                    elim (branches_meet H Placed t p.new u q.new w size p.new_is q.new_is (at _ _ m a n t ts u us wx wy more news)) [
+                    elim (branches_meet H Placed t p.new u q.new w (inl size) p.new_is q.new_is (at _ _ m a n t ts u us wx wy more news)) [
                       | inr collision ↦ inr collision
                       | inl same_news ↦
-                          elim (down false (m - front_of n) (a + front_of n) (n - front_of n) p.old p.new ts us (ax.0, ax.1.1) (ay.0, ay.1.1) order_in_rest (way_rest _ m a n t ts wx more high) (way_rest _ m a n u us wy more high)
+                          elim (down false (m - front_of n) (a + front_of n) (n - front_of n) p.old p.new ts us ax.1 ay.1 order_in_rest (way_rest _ m a n t ts wx more high) (way_rest _ m a n u us wy more high)
                               p.below_is (q.below_is ∙ ap (λ z. Some (z, q.new)) (sym same_olds.1) ∙ ap (λ z. Some (p.old, z)) (sym same_news.1))) [
                                 | inr collision ↦ inr collision
                                 | inl below ↦ inl (cons_same same_olds.0 below)
@@ -176,13 +154,13 @@ module _ (H : List ℕ → List ℕ) (gives : HasSize H) (old_count count : ℕ)
         turns = turns;
       }
 
-pub unique : (H : List ℕ → List ℕ) (m n : ℕ) (r s old new : List ℕ) (xs ys : List (List ℕ)) → HasSize H → AreHashes (r ∷ xs) → AreHashes (s ∷ ys)
+pub unique : (H : List ℕ → List ℕ) (m n : ℕ) (r s old new : List ℕ) (xs ys : List (List ℕ)) → AreHashes xs → AreHashes ys
     → consistency_roots H m n r xs ≡ Some (old, new) → consistency_roots H m n s ys ≡ Some (old, new) → (xs ≡ ys) ⊎ SomeCollision H (AreGrowthInputs H m n r xs s ys)
-unique H m n r s old new xs ys gives ax ay ex ey = elim (cases_Bool (nat_lt 0 m && nat_le m n)) [
+unique H m n r s old new xs ys ax ay ex ey = elim (cases_Bool (nat_lt 0 m && nat_le m n)) [
   | inr other ↦ absurd (nothing (rw other at ex))
   | inl order ↦
       let both = and_parts (nat_lt 0 m) (nat_le m n) order in
-      elim (down H gives m n r s xs ys true m 0 n old new (reverse xs) (reverse ys) (ax.0, turned _ xs ax.1) (ay.0, turned _ ys ay.1) (leb-true m n both.1) way_whole way_whole (rw order at ex) (rw order at ey)) [
+      elim (down H m n r s xs ys true m 0 n old new (reverse xs) (reverse ys) (turned _ xs ax) (turned _ ys ay) (leb-true m n both.1) way_whole way_whole (rw order at ex) (rw order at ey)) [
         | inr collision ↦ inr collision
         | inl same ↦ inl (sym (reverse-reverse xs) ∙ ap reverse same ∙ reverse-reverse ys)
       ]

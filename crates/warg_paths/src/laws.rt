@@ -1,10 +1,10 @@
 //! Laws of the paths: the contract of each function is the law, and it has no effect.
 
-ghost use Rattle.std.specs.Prelude.{◌≡◌, ℕ, ◌-◌, ◌*◌, ◌^◌, ◌<◌, ◌≤◌, ◌⊎◌, Bool, false, List, [], ◌∷◌, length, take, Option, Some, slice_index_or};
+ghost use Rattle.std.specs.Prelude.{◌≡◌, ℕ, ◌+◌, ◌-◌, ◌*◌, ◌^◌, ◌<◌, ◌≤◌, ◌⊎◌, Bool, false, List, [], ◌∷◌, length, take, Option, Some, slice_index_or};
 ghost use Rattle.warg_log.specs.Ranges.{Range, front_part, rest_part};
 ghost use Rattle.warg_log.specs.Tree.{front_of, root_of, own_digest};
 ghost use Rattle.warg_log.specs.Cut.{cut_root, old_over};
-ghost use Rattle.warg_crypto.specs.Collisions.{GivesHashes, AreHashes, SomeCollision};
+ghost use Rattle.warg_crypto.specs.Collisions.{AreHashes, SomeCollision};
 ghost use Rattle.warg_paths.specs.Paths.{beside, inclusion_over, inclusion_of, path_at_end, consistency_over, consistency_of, inclusion_root, consistency_roots, led_to, led_to_both};
 ghost use Rattle.warg_paths.specs.Ways.{ArePathInputs, AreGrowthInputs};
 
@@ -73,7 +73,7 @@ pub fn own_consistency_path()
 /// collides.
 pub fn path_is_unique()
     ensures { (H : List ℕ → List ℕ) (m n : ℕ) (x y root : List ℕ) (xs ys : List (List ℕ))
-        → GivesHashes H → AreHashes (x ∷ xs) → AreHashes (y ∷ ys)
+        → AreHashes xs → AreHashes ys
         → inclusion_root H m n x xs ≡ Some root → inclusion_root H m n y ys ≡ Some root
         → ((x ≡ y) × (xs ≡ ys)) ⊎ SomeCollision H (ArePathInputs H m n x xs y ys) }
 {}
@@ -83,7 +83,7 @@ pub fn path_is_unique()
 /// collides.
 pub fn consistency_path_is_unique()
     ensures { (H : List ℕ → List ℕ) (m n : ℕ) (r s old new : List ℕ) (xs ys : List (List ℕ))
-        → GivesHashes H → AreHashes (r ∷ xs) → AreHashes (s ∷ ys)
+        → AreHashes xs → AreHashes ys
         → consistency_roots H m n r xs ≡ Some (old, new)
         → consistency_roots H m n s ys ≡ Some (old, new)
         → (xs ≡ ys) ⊎ SomeCollision H (AreGrowthInputs H m n r xs s ys) }
@@ -93,4 +93,10 @@ pub fn consistency_path_is_unique()
 pub fn path_is_short()
     ensures { (R : Range → Option (List ℕ)) (m n h : ℕ) (path : List (List ℕ)) → m < n → n ≤ 2 ^ h
         → inclusion_of R m n ≡ Some path → length path ≤ h }
+{}
+
+/// A consistency path to at most 2^h entries has at most h + 1 digests, so one to at most 2^63 has 64.
+pub fn consistency_path_is_short()
+    ensures { (R : Range → Option (List ℕ)) (m n h : ℕ) (path : List (List ℕ)) → 0 < m → m ≤ n
+        → n ≤ 2 ^ h → consistency_of R m n ≡ Some path → length path ≤ h + 1 }
 {}

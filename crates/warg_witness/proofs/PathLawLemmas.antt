@@ -170,13 +170,13 @@ at_branch H m n path v other_path u c = record {
 
 -- Two paths of one place that lead to one root are one, or their evaluations collide.
 abbrev pub PathIsUnique : (List ℕ → List ℕ) → Type 0
-PathIsUnique H = (m n : ℕ) (x y root : List ℕ) (xs ys : List (List ℕ)) → GivesHashes H → AreHashes (x ∷ xs) → AreHashes (y ∷ ys)
+PathIsUnique H = (m n : ℕ) (x y root : List ℕ) (xs ys : List (List ℕ)) → AreHashes xs → AreHashes ys
     → inclusion_root H m n x xs ≡ Some root → inclusion_root H m n y ys ≡ Some root → ((x ≡ y) × (xs ≡ ys)) ⊎ SomeCollision H (ArePathInputs H m n x xs y ys)
 
-pub record_agreement_collides : (H : List ℕ → List ℕ) → PathIsUnique H → (index n : ℕ) (path : List (List ℕ)) (value : List ℕ) (other_path : List (List ℕ)) (other : List ℕ) → GivesHashes H
-    → AreHashes path → AreHashes other_path → IsRecordAgreement H index n path value other_path other → value ≢ other → SomeCollision H (IsRecordAgreementPlaced H index n path value other_path other)
-record_agreement_collides H unique index n path v other_path u gives sized other_sized met differ =
-    elim (unique index n (leaf_digest H v) (leaf_digest H u) met.root path other_path gives (sizes gives (leaf_input v), sized) (sizes gives (leaf_input u), other_sized) met.first_is met.second_is) [
+pub record_agreement_collides : (H : List ℕ → List ℕ) → PathIsUnique H → (index n : ℕ) (path : List (List ℕ)) (value : List ℕ) (other_path : List (List ℕ)) (other : List ℕ) → AreHashes path → AreHashes other_path
+    → IsRecordAgreement H index n path value other_path other → value ≢ other → SomeCollision H (IsRecordAgreementPlaced H index n path value other_path other)
+record_agreement_collides H unique index n path v other_path u sized other_sized met differ =
+    elim (unique index n (leaf_digest H v) (leaf_digest H u) met.root path other_path sized other_sized met.first_is met.second_is) [
       | inr collision ↦ at_branch H index n path v other_path u collision
       | inl same ↦
           let leads = (leads_inside H index n _ _ path met.first_is).1 in

@@ -81,8 +81,7 @@ pub fn record_or_collision()
 /// Two different values that two paths of one place lead to one root give a collision.
 pub fn record_agreement_or_collision()
     ensures { (H : List ℕ → List ℕ) (index n : ℕ) (path : List (List ℕ)) (value : List ℕ)
-        (other_path : List (List ℕ)) (other : List ℕ) → GivesHashes H → AreHashes path
-        → AreHashes other_path
+        (other_path : List (List ℕ)) (other : List ℕ) → AreHashes path → AreHashes other_path
         → IsRecordAgreement H index n path value other_path other → value ≢ other
         → SomeCollision H (IsRecordAgreementPlaced H index n path value other_path other) }
 {
