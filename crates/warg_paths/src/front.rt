@@ -3,8 +3,9 @@
 ghost use Rattle.std.specs.Prelude.{◌≡◌, ◌<◌};
 ghost use Rattle.warg_log.specs.Tree.{front_of};
 
-// The greatest power of two below the count: that of the leaves of a range's first part.
-pub(crate) fn front_of(count: usize) -> usize
+/// The greatest power of two below a count of leaves: the number of the leaves of a range's first part (RFC 6962, section
+/// 2.1, where it is k).
+pub fn front_of(count: usize) -> usize
     requires { 1 < count }
     ensures value { result ≡ front_of count }
     ensures some { 0 < result }

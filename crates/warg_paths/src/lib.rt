@@ -17,4 +17,5 @@ pub mod laws;
 pub use bytes::hashes_in;
 pub use consistency::{check_tree, consistency_path, roots_of_consistency, roots_of_subproof};
 pub use error::{HashesError, PathError};
+pub use front::front_of;
 pub use inclusion::{check_record, inclusion_path, root_of_inclusion};

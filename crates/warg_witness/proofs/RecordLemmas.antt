@@ -20,7 +20,7 @@ use Rattle.warg_witness.specs.PathPlaced.{IsRecordAgreementPlaced, IsRecordPlace
 use Rattle.warg_paths.specs.Ways.IsOnWay.{whole, front, rest}
 use Rattle.warg_witness.specs.Private.Climbs.{IsUp}
 use Rattle.warg_witness.specs.Private.Divergence.{Shows, inputs_of}
-use Rattle.warg_witness.specs.Private.PathClimbs.{LeadNowhere, PathsDiverge, PathsMeet, IsPathClimb, IsPathsMeeting, PathLeaves, PathMeets, DivergesFromTree, IsTreeClimb}
+use Rattle.warg_witness.specs.Private.PathClimbs.{LeadNowhere, LeadNowhereAt, PathsDiverge, PathsMeet, IsPathClimb, IsClimbAt, NeverMeet, IsPathsMeeting, PathLeaves, PathMeets, DivergesFromTree, IsTreeClimb}
 use Rattle.warg_witness.specs.declared.divergence.Divergence.{Divergence}
 use Rattle.warg_witness.specs.declared.divergence.Divergence.TheVariants.{Target}
 use Rattle.warg_witness.proofs.ClimbLemmas.{parts_placed, shown, up_parts, both_there}
@@ -154,11 +154,66 @@ module _ {right : Bool} {s a n b k c j : ℕ} (sides : AreSides right a n b k c 
       let one = part_there H x t first ds is in
       let two = part_there H y u second es other in nowhere one.0 two.0 one.1 two.1
 
+-- the first part of a range and the rest
+front_sides : (a n : ℕ) → AreSides false a n a (front_of n) (a + front_of n) (n - front_of n)
+front_sides a n = record { start = refl; count = refl; other_start = refl; other_count = refl }
+
+rest_sides : (a n : ℕ) → AreSides true a n (a + front_of n) (n - front_of n) a (front_of n)
+rest_sides a n = record { start = refl; count = refl; other_start = refl; other_count = refl }
+
+front_around : (a m n : ℕ) → m < front_of n → IsAround (a + m) 1 a (front_of n)
+front_around a m n lt = record { starts = omega arith; ends = omega arith }
+
+rest_around : (a m n : ℕ) → front_of n ≤ m → m < n → IsAround (a + m) 1 (a + front_of n) (n - front_of n)
+rest_around a m n le lt = record { starts = omega arith; ends = omega arith }
+
+-- both evaluations from a leaf up to a range of one leaf, and from the part that has the leaf up to a range
+module _ {D : Type 0} (H : Digest) (x y : List ℕ) where
+  pub leaf_climb : {m n : ℕ} {first second : List ℕ} {p : Divergence D} (path other : List (List ℕ)) → n ≡ 1 → m < n → length path ≡ 0 → length other ≡ 0 → first ≡ x → second ≡ y → p ≡ Target
+      → IsClimbAt H x (reverse path) y (reverse other) m n first second p
+  leaf_climb {m} path other one inside none others first second target = λ a. paths_start one (record { starts = omega arith; ends = omega arith }) H path other none others first second target
+
+  module _ {t u : List ℕ} {ds es : List (List ℕ)} (m n : ℕ) (more : 1 < n) where
+    pub front_up : {d e f g : List ℕ} {p q : Divergence D} → m < front_of n → IsClimbAt H x ds y es m (front_of n) d e p → IsUp H false d t e u p f g q → IsClimbAt H x (t ∷ ds) y (u ∷ es) m n f g q
+    front_up lt climb up = λ a. paths_up (front_sides a n) (front_around a m n lt) (omega arith) more (climb a) up
+
+    pub rest_up : {d e f g : List ℕ} {p q : Divergence D} → front_of n ≤ m → m < n → IsClimbAt H x ds y es (m - front_of n) (n - front_of n) d e p → IsUp H true d t e u p f g q
+        → IsClimbAt H x (t ∷ ds) y (u ∷ es) m n f g q
+    rest_up le lt climb up = λ a.
+        let place : a + front_of n + (m - front_of n) ≡ a + m = omega arith in
+        paths_up (rest_sides a n) (rest_around a m n le lt) (omega arith) more (rw place at (climb (a + front_of n))) up
+
+-- where one leads nowhere in the part that has the leaf, it leads nowhere
+module _ (H : List ℕ → List ℕ) (x y t u : List ℕ) (ds es : List (List ℕ)) (m n : ℕ) (more : 1 < n) where
+  pub front_nowhere : m < front_of n → LeadNowhereAt H x ds y es m (front_of n) → LeadNowhereAt H x (t ∷ ds) y (u ∷ es) m n
+  front_nowhere lt nowhere = λ a. paths_nowhere (front_sides a n) (front_around a m n lt) (omega arith) more H x y t u ds es (nowhere a)
+
+  pub rest_nowhere : front_of n ≤ m → m < n → LeadNowhereAt H x ds y es (m - front_of n) (n - front_of n) → LeadNowhereAt H x (t ∷ ds) y (u ∷ es) m n
+  rest_nowhere le lt nowhere = λ a.
+      let place : a + front_of n + (m - front_of n) ≡ a + m = omega arith in
+      paths_nowhere (rest_sides a n) (rest_around a m n le lt) (omega arith) more H x y t u ds es (rw place at (nowhere (a + front_of n)))
+
+-- two paths of which one leads nowhere, or that lead to two digests
+pub nowhere_never : (H : Digest) (x y : List ℕ) (path other : List (List ℕ)) (m n : ℕ) → LeadNowhereAt H x (reverse path) y (reverse other) m n → NeverMeet H x path y other m n
+nowhere_never H x y path other m n nowhere = λ root first second.
+    let start : 0 + m - 0 ≡ m = omega arith in
+    let none = rw start at (nowhere 0) in none root root (leads_inside H m n x root path first).1 (leads_inside H m n y root other second).1
+
+pub apart_never : {D : Type 0} (H : Digest) (x y : List ℕ) (path other : List (List ℕ)) (m n : ℕ) (first second : List ℕ) (p : Divergence D) → IsClimbAt H x (reverse path) y (reverse other) m n first second p
+    → (first ≡ second → ⊥) → NeverMeet H x path y other m n
+apart_never H x y path other m n first second p climbs apart = λ root is other_is.
+    let start : 0 + m - 0 ≡ m = omega arith in
+    let climb = climbs 0 in
+    let one : Some first ≡ Some root = sym (rw start at climb.first_is) ∙ (leads_inside H m n x root path is).1 in
+    let two : Some second ≡ Some root = sym (rw start at climb.second_is) ∙ (leads_inside H m n y root other other_is).1 in apart (cc)
+
 -- both evaluations over all leaves
 pub climbs_meet : {D : Type 0} {H : Digest} {x y : List ℕ} (path other_path : List (List ℕ)) {m n : ℕ} {first second : List ℕ} {p : Divergence D} → m < n
-    → IsPathClimb H x (reverse path) y (reverse other_path) m 0 n first second p → first ≡ second → IsPathsMeeting H x path y other_path m n p
-climbs_meet {D} {H} {x} {y} path other_path {m} {n} {first} inside climb same =
-    let place : m - 0 ≡ m = omega arith in record {
+    → IsClimbAt H x (reverse path) y (reverse other_path) m n first second p → first ≡ second → IsPathsMeeting H x path y other_path m n p
+climbs_meet {D} {H} {x} {y} path other_path {m} {n} {first} inside climbs same =
+    let start : 0 + m ≡ m = omega arith in
+    let place : m - 0 ≡ m = omega arith in
+    let climb = rw start at (climbs 0) in record {
       root = first;
       first_is = inside_leads H m n x path inside ∙ rw place at climb.first_is;
       second_is = inside_leads H m n y other_path inside ∙ rw place at climb.second_is ∙ ap Some (sym same);

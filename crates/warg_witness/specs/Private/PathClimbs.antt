@@ -1,6 +1,6 @@
 -- An evaluation along an inclusion path to the leaf at a place beside another one, or beside a tree, and where the two diverge
 -- if they have one digest over a range. The digests of a path are given from the topmost down.
-use Rattle.std.specs.Prelude.{◌≡◌, ℕ, ◌-◌, ◌<◌, List, [], ◌∷◌, reverse, Some}
+use Rattle.std.specs.Prelude.{◌≡◌, ℕ, ◌+◌, ◌-◌, ◌<◌, List, [], ◌∷◌, reverse, Some}
 use Rattle.warg_log.specs.Tree.{root_over}
 use Rattle.warg_paths.specs.Paths.{inclusion_root, root_down}
 use Rattle.warg_paths.specs.Ways.{IsOnWay, turn_input}
@@ -45,6 +45,13 @@ pub record IsPathClimb {D : _} (H : List ℕ → List ℕ) (x : List ℕ) (diges
   pub first_is : root_down H (place - a) n x digests ≡ Some first
   pub second_is : root_down H (place - a) n y other_digests ≡ Some second
   pub diverges : first ≡ second → IsPathsDivergence H x digests y other_digests place a n p
+
+-- One of two paths of leaf m of n leads to no digest, and both lead to these digests: wherever the n leaves begin.
+abbrev pub LeadNowhereAt : (List ℕ → List ℕ) → List ℕ → List (List ℕ) → List ℕ → List (List ℕ) → ℕ → ℕ → Type 0
+LeadNowhereAt H x digests y other_digests m n = (start : ℕ) → LeadNowhere H x digests y other_digests (start + m) start n
+
+abbrev pub IsClimbAt : {D : _} → (List ℕ → List ℕ) → List ℕ → List (List ℕ) → List ℕ → List (List ℕ) → ℕ → ℕ → List ℕ → List ℕ → Divergence D → Type 0
+IsClimbAt H x digests y other_digests m n first second p = (start : ℕ) → IsPathClimb H x digests y other_digests (start + m) start n first second p
 
 -- Two paths of leaf m of n, the first from the digest x and the second from y, don't lead to one root.
 abbrev pub NeverMeet : (List ℕ → List ℕ) → List ℕ → List (List ℕ) → List ℕ → List (List ℕ) → ℕ → ℕ → Type 0

@@ -1,6 +1,6 @@
 //! The agreement of two paths that lead to one root.
 
-ghost use Rattle.std.specs.Prelude.{◌≡◌, ◌<◌, ◌≤◌, Ok, IfOk};
+ghost use Rattle.std.specs.Prelude.{◌≡◌, Ok, IfOk};
 ghost use Rattle.warg_witness.specs.Findings.{Finds};
 ghost use Rattle.warg_witness.specs.PathClaims.{IsRecordAgreement};
 ghost use Rattle.warg_witness.specs.PathPlaced.{IsRecordAgreementPlaced};
@@ -10,7 +10,6 @@ use crate::collision::Finding;
 use crate::divergence::compare_values;
 use std::alloc::{AllocError, Allocator};
 use warg_crypto::{Hash, SupportedDigest, VisitBytes, hash_leaf};
-use warg_log::GREATEST_LENGTH;
 
 /// Whether two paths of the place `index`, from 0, of `length` entries, from two values, that lead to one root,
 /// whichever it is, are of the same value: for a client that holds no entries.
@@ -31,7 +30,6 @@ pub fn agree_record<D: SupportedDigest, V: VisitBytes, A: Allocator + Copy>(
     second_value: &V,
     second_path: &[Hash<D>],
 ) -> Result<Finding<D, A>, AllocError>
-    requires { length ≤ GREATEST_LENGTH }
     ensures unmet { ¬ (IsRecordAgreement D.digest index length first_path.now
         (V.bytes first_value.now)
         second_path.now (V.bytes second_value.now)) → result ≡ Ok Finding.NotMet }

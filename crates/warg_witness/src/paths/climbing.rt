@@ -5,7 +5,7 @@ ghost use Rattle.warg_log.specs.Ranges.{IsAligned};
 ghost use Rattle.warg_log.specs.Tree.{root_of};
 ghost use Rattle.warg_paths.specs.Paths.{inclusion_root, root_down};
 ghost use Rattle.warg_witness.specs.Ranges.{IsAround};
-ghost use Rattle.warg_witness.specs.Private.PathClimbs.{LeadNowhere, IsPathClimb, NeverMeet, IsPathsMeeting, IsTreeClimb, DivergesFromTree};
+ghost use Rattle.warg_witness.specs.Private.PathClimbs.{LeadNowhereAt, IsClimbAt, NeverMeet, IsPathsMeeting, IsTreeClimb, DivergesFromTree};
 
 use crate::divergence::{Climb, Divergence};
 use crate::plain::plain_digest;
@@ -13,28 +13,27 @@ use crate::ranges::sides_around;
 use std::alloc::Allocator;
 use warg_crypto::{Hash, SupportedDigest, VisitBytes};
 use warg_log::{GREATEST_LENGTH, LeafRange, VecLog};
+use warg_paths::front_of;
 
-// Both evaluations from a leaf of a range up to the range. None where a path has another length than that of this leaf.
+// Both evaluations from the leaf at an index of so many leaves up to their root. None where a path has another length than
+// that of this leaf.
 #[tactic(auto, using(warg_paths::proofs::ForCallers::root_long, warg_paths::proofs::ForCallers::root_short))]
 fn climb_paths<D: SupportedDigest>(
-    leaf: &LeafRange,
-    range: &LeafRange,
+    index: usize,
+    count: usize,
     first_leaf: &Hash<D>,
     first_path: &[Hash<D>],
     second_leaf: &Hash<D>,
     second_path: &[Hash<D>],
 ) -> Option<Climb<D>>
-    requires one { leaf.now.count ≡ 1 }
-    requires aligned { IsAligned range.now.start range.now.count }
-    requires around { IsAround leaf.now.start leaf.now.count range.now.start range.now.count }
+    requires { index < count }
     ensures { MatchOption result
-        (LeadNowhere D.digest first_leaf.now (reverse first_path.now) second_leaf.now
-        (reverse second_path.now) leaf.now.start range.now.start range.now.count)
-        (λ climb. IsPathClimb D.digest first_leaf.now (reverse first_path.now) second_leaf.now
-        (reverse second_path.now) leaf.now.start range.now.start range.now.count
-        climb.first climb.second climb.divergence) }
+        (LeadNowhereAt D.digest first_leaf.now (reverse first_path.now) second_leaf.now
+        (reverse second_path.now) index count)
+        (λ climb. IsClimbAt D.digest first_leaf.now (reverse first_path.now) second_leaf.now
+        (reverse second_path.now) index count climb.first climb.second climb.divergence) }
 {
-    if range.count == 1 {
+    if count == 1 {
         if first_path.is_empty() && second_path.is_empty() {
             return Some(Climb::new(first_leaf.copied(), second_leaf.copied()));
         }
@@ -42,21 +41,31 @@ fn climb_paths<D: SupportedDigest>(
     }
     let (first_top, first_below) = first_path.split_last()?;
     let (second_top, second_below) = second_path.split_last()?;
-    let (held, _, right) = sides_around(leaf, range);
-    let climb = climb_paths(
-        leaf,
-        &held,
+    let front = front_of(count);
+    if index < front {
+        let below = climb_paths(
+            index,
+            front,
+            first_leaf,
+            first_below,
+            second_leaf,
+            second_below,
+        )?;
+        return Some(below.up(false, first_top, second_top));
+    }
+    let below = climb_paths(
+        index - front,
+        count - front,
         first_leaf,
         first_below,
         second_leaf,
         second_below,
     )?;
-    Some(climb.up(right, first_top, second_top))
+    Some(below.up(true, first_top, second_top))
 }
 
 /// Where two evaluations along paths of the place `index` of `length` leaves diverge, or None where they don't lead to one
 /// root. It hashes each branch of both once.
-#[tactic(auto, using(crate::proofs::RangeLemmas::whole_aligned))]
 pub(crate) fn meet_paths<D: SupportedDigest>(
     index: usize,
     length: usize,
@@ -65,7 +74,6 @@ pub(crate) fn meet_paths<D: SupportedDigest>(
     second_leaf: &Hash<D>,
     second_path: &[Hash<D>],
 ) -> Option<Divergence<D>>
-    requires { length ≤ GREATEST_LENGTH }
     ensures { MatchOption result
         (NeverMeet D.digest first_leaf.now first_path.now second_leaf.now second_path.now index length)
         (IsPathsMeeting D.digest first_leaf.now first_path.now second_leaf.now second_path.now
@@ -74,11 +82,9 @@ pub(crate) fn meet_paths<D: SupportedDigest>(
     if index >= length {
         return None;
     }
-    let leaf = LeafRange::new(index, 1);
-    let whole = LeafRange::new(0, length);
     let climb = climb_paths(
-        &leaf,
-        &whole,
+        index,
+        length,
         first_leaf,
         first_path,
         second_leaf,

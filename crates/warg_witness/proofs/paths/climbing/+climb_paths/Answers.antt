@@ -1,24 +1,28 @@
 use Rattle.std.proofs.Common.{arith}
 use Rattle.std.proofs.lemmas.Bool.Decides.{nat_tests}
-use Rattle.warg_log.proofs.ForCallers.{counts}
-use Rattle.warg_witness.proofs.RecordLemmas.{paths_start, paths_nowhere, paths_up, turned}
-use Rattle.warg_witness.proofs.RangeLemmas.{leaf_node}
+use Rattle.warg_witness.proofs.RecordLemmas.{leaf_climb, front_up, rest_up, front_nowhere, rest_nowhere, turned}
 use Rattle.warg_witness.proofs.paths.climbing.+climb_paths.Goals as goal
 
 pub returns-then-is_empty-2 : goal.returns-then-is_empty-2
 returns-then-is_empty-2 g t c =
-    paths_start (rw (counts c.range.view_is) at c.if-range-eq1.true) (rw c.requires.one at c.requires.around) _ c.args.first_path.now c.args.second_path.now (grind (arith, nat_tests)) (grind (arith, nat_tests))
-    (grind arith) (grind arith) c.new.ensures.divergence
+    leaf_climb _ _ _ c.args.first_path.now c.args.second_path.now (grind (arith, nat_tests)) c.requires (grind (arith, nat_tests)) (grind (arith, nat_tests)) (grind arith) (grind arith) c.new.ensures.divergence
 
-pub returns-in_err-climb : goal.returns-in_err-climb
-returns-in_err-climb g t c =
-    rw (c.from_residual-in_err-climb.ensures, turned _ _ _ c.in_ok-first_top.ensures.cases.0, turned _ _ _ c.in_ok-second_top.ensures.cases.0)
-    (paths_nowhere c.sides_around-held.ensures.sides (rw c.requires.one at c.sides_around-held.ensures.around) (omega arith) (omega (arith, counts c.range.view_is)) _ _ _ _ _ _ _ c.in_err-climb.ensures)
+pub returns-in_err-below : goal.returns-in_err-below
+returns-in_err-below g t c =
+    rw (c.from_residual-in_err-below.ensures, turned _ _ _ c.in_ok-first_top.ensures.cases.0, turned _ _ _ c.in_ok-second_top.ensures.cases.0)
+    (front_nowhere _ _ _ _ _ _ _ c.args.index c.args.count (grind (arith, nat_tests)) (grind (arith, nat_tests)) (rw c.front_of-front.ensures.value at c.in_err-below.ensures))
+
+pub returns-then-index-front : goal.returns-then-index-front
+returns-then-index-front g t c =
+    rw (turned _ _ _ c.in_ok-first_top.ensures.cases.0, turned _ _ _ c.in_ok-second_top.ensures.cases.0)
+    (front_up _ _ _ c.args.index c.args.count (grind (arith, nat_tests)) (grind (arith, nat_tests)) (rw c.front_of-front.ensures.value at c.in_ok-below.ensures) c.up.ensures)
+
+pub returns-in_err-below-2 : goal.returns-in_err-below-2
+returns-in_err-below-2 g t c =
+    rw (c.from_residual-in_err-below-2.ensures, turned _ _ _ c.in_ok-first_top.ensures.cases.0, turned _ _ _ c.in_ok-second_top.ensures.cases.0)
+    (rest_nowhere _ _ _ _ _ _ _ c.args.index c.args.count (grind (arith, nat_tests)) (grind (arith, nat_tests)) c.requires (rw c.front_of-front.ensures.value at c.in_err-below-2.ensures))
 
 pub returns : goal.returns
 returns g t c =
     rw (turned _ _ _ c.in_ok-first_top.ensures.cases.0, turned _ _ _ c.in_ok-second_top.ensures.cases.0)
-    (paths_up c.sides_around-held.ensures.sides (rw c.requires.one at c.sides_around-held.ensures.around) (omega arith) (omega (arith, counts c.range.view_is)) c.in_ok-climb.ensures c.up.ensures)
-
-pub sides_around-held-requires-clause-node : goal.sides_around-held-requires-clause-node
-sides_around-held-requires-clause-node g t c = leaf_node c.requires.one
+    (rest_up _ _ _ c.args.index c.args.count (grind (arith, nat_tests)) (grind (arith, nat_tests)) c.requires (rw c.front_of-front.ensures.value at c.in_ok-below-2.ensures) c.up-2.ensures)
