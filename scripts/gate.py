@@ -23,10 +23,12 @@ import time
 import kit
 
 ROOT = pathlib.Path(__file__).resolve().parent.parent
-BEFORE = (["foreign_proofs.py"], ["definitions.py", "--check"], ["calls.py", "--check"], ["counts.py", "--check"], ["check_docs.py"], ["check_header.py"])
-# What runs the programs that have just been built.
+BEFORE = (["kit_looks.py"], ["foreign_proofs.py"], ["definitions.py", "--check"], ["calls.py", "--check"], ["counts.py", "--check"], ["check_docs.py"], ["check_header.py"])
+# What looks at the programs that have just been built, and runs them.
+PROGRAMS = ("warg_check_cli", "warg_verdict", "warg_tlog")
 BEHIND = (
-    ["check_programs.py", *(f"crates/{name}/out/{name}" for name in ("warg_check_cli", "warg_verdict", "warg_tlog"))],
+    ["kit_looks.py", *(f"{name}=crates/{name}/out/{name}" for name in PROGRAMS)],
+    ["check_programs.py", *(f"crates/{name}/out/{name}" for name in PROGRAMS)],
     ["tlog_kills.py", "crates/warg_tlog/out/warg_tlog", "20"],
     ["check_protobuf.py"],
 )

@@ -1,5 +1,5 @@
 -- Where two evaluations part that go up side by side, and what that shows.
-use Rattle.std.proofs.Common.{◌≡◌, ℕ, Bool, true, false, List, length, Option, Some, ◌⊎◌, inl, inr, refl, sym, ◌∙◌}
+use Rattle.std.proofs.Common.{◌≡◌, ℕ, Bool, true, false, List, length, Option, Some, ◌⊎◌, inl, inr, refl, sym, ap, ◌∙◌, arith, length-append}
 use Rattle.warg_crypto.proofs.ForCallers.{branch_parts, same_or_not}
 use Rattle.warg_crypto.specs.Tree.{input_beside}
 use Rattle.warg_log.specs.Cut.{joined}
@@ -19,21 +19,21 @@ pub shown : {D : Type 0} {H : List ℕ → List ℕ} {P Q : List ℕ → List �
 shown Target placed first second meet is = meet is
 shown (Branch branches) placed first second meet is = record { collides = is.collides; placed = placed _ _ is.placed }
 
--- two branches are one where their digests are
-beside_parts : (b : Bool) {x u y v : List ℕ} → length x ≡ length y → length u ≡ length v → input_beside b u x ≡ input_beside b v y → (x ≡ y) × (u ≡ v)
-beside_parts true sizes others same = let parts = branch_parts _ _ _ _ others same in (parts.1, parts.0)
-beside_parts false sizes others same = branch_parts _ _ _ _ sizes same
+-- two branches are one where their digests are: those of one side have one length
+beside_parts : (b : Bool) {x u y v : List ℕ} → length x ≡ length y → input_beside b u x ≡ input_beside b v y → (x ≡ y) × (u ≡ v)
+beside_parts true {x} {u} {y} {v} sizes same = let parts = branch_parts u x v y (omega (arith, sizes, length-append u x, length-append v y, ap length same)) same in (parts.1, parts.0)
+beside_parts false sizes same = branch_parts _ _ _ _ sizes same
 
 -- a step up, by which of the digests are the same
-pub diverges_up : {D : Type 0} (b : Bool) {x u y v : List ℕ} {p q : Divergence D} → length x ≡ length y → length u ≡ length v
+pub diverges_up : {D : Type 0} (b : Bool) {x u y v : List ℕ} {p q : Divergence D} → length x ≡ length y
     → ((x ≡ y) × (u ≡ v) × (q ≡ p)) ⊎ ((x ≡ y → u ≡ v → ⊥) × (q ≡ Branch (record { right = b; first = x; first_beside = u; second = y; second_beside = v }))) → DivergesUp b x u y v p q
-diverges_up b sizes others ends = elim ends [ inl same ↦ inl same | inr other ↦ inr (λ e. let parts = beside_parts b sizes others e in other.0 parts.0 parts.1, other.1) ]
+diverges_up b sizes ends = elim ends [ inl same ↦ inl same | inr other ↦ inr (λ e. let parts = beside_parts b sizes e in other.0 parts.0 parts.1, other.1) ]
 
--- a step from digests of one length, with digests of one length beside them
-pub up_somewhere : {D : Type 0} {H : List ℕ → List ℕ} (b : Bool) {x u y v : List ℕ} (p : Divergence D) → length x ≡ length y → length u ≡ length v
+-- a step from digests of one length, whatever stands beside them
+pub up_somewhere : {D : Type 0} {H : List ℕ → List ℕ} (b : Bool) {x u y v : List ℕ} (p : Divergence D) → length x ≡ length y
     → (q : Divergence D) × IsUp H b x u y v p (H (input_beside b u x)) (H (input_beside b v y)) q
-up_somewhere b {x} {u} {y} {v} p sizes others = elim (same_or_not (input_beside b u x) (input_beside b v y)) [
-  | inl same ↦ let parts = beside_parts b sizes others same in (p, record { first_is = refl; second_is = refl; diverges = inl (parts.0, parts.1, refl) })
+up_somewhere b {x} {u} {y} {v} p sizes = elim (same_or_not (input_beside b u x) (input_beside b v y)) [
+  | inl same ↦ let parts = beside_parts b sizes same in (p, record { first_is = refl; second_is = refl; diverges = inl (parts.0, parts.1, refl) })
   | inr differ ↦ (_, record { first_is = refl; second_is = refl; diverges = inr (differ, refl) })
 ]
 

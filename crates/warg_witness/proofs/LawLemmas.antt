@@ -1,14 +1,13 @@
 -- What the laws state: a claim that is met and isn't true gives a collision.
-use Rattle.std.proofs.Common.{◌≡◌, ℕ, zero, suc, ◌+◌, ◌-◌, ◌<◌, ◌≤◌, ◌⊎◌, inl, inr, List, [], ◌∷◌, length, get_or, refl, sym, ap, ◌∙◌, arith, ◌^◌, Some, Bool, true, false, not, ◌++◌, Option, unwrap_or, append_assoc}
+use Rattle.std.proofs.Common.{◌≡◌, ℕ, zero, suc, ◌+◌, ◌-◌, ◌<◌, ◌≤◌, ◌⊎◌, inl, inr, List, [], ◌∷◌, length, get_or, refl, sym, ap, ◌∙◌, arith, ◌^◌, Some, Bool, true, false, not, ◌++◌, Option, unwrap_or, append_assoc, length-append}
 use Rattle.std.proofs.lemmas.Bool.{cases_lt}
-use Rattle.std.proofs.lemmas.Bool.Decides.{nat_tests}
 use Rattle.warg_crypto.proofs.ForCallers.{same_or_not, HasSize, sizes, branch_parts}
 use Rattle.warg_log.specs.Tree.{front_of, leaves_of, root_of, root_over, own_digest}
 use Rattle.warg_log.specs.Cut.{Evaluation, with_target, cut_over}
 use Rattle.warg_witness.specs.Ranges.{IsAround}
 use Rattle.warg_witness.specs.Claims.{Begins, IsMet, IsEntry, IsRootBelow, IsAgreement, IsConsistencyMet}
 use Rattle.warg_crypto.specs.Collisions.{GivesHashes, SomeCollision}
-use Rattle.warg_witness.specs.Laws.{HoldsHashes, HoldsPeers}
+use Rattle.warg_witness.specs.Laws.{HoldsHashes}
 use Rattle.warg_log.specs.Ranges.{leaves_from, range_of, IsAligned}
 use Rattle.warg_witness.specs.Private.Ranges.{IsNodeRange, IsRootOf}
 use Rattle.warg_witness.specs.Private.Divergence.{HaveOneDigest, IsDivergence, Parts, Shows, inputs}
@@ -18,13 +17,12 @@ use Rattle.warg_witness.proofs.RangeLemmas.{Digest, node_range, Data, more_than_
 use Rattle.warg_witness.specs.Private.Ranges.IsRootOf.{all_leaves, at_front, in_rest}
 use Rattle.warg_witness.proofs.ClimbLemmas.{shown, up_somewhere}
 use Rattle.warg_witness.proofs.CutLemmas.{ranges_start, sides_there, ranges_up, leaves_count, have_root, have_range, plain_digest_is}
-use Rattle.std.proofs.lemmas.Nat.{pow_pos}
 use Rattle.warg_log.specs.Nodes.{height_of, start_of}
 use Rattle.warg_witness.specs.Placed.{IsValuePlaced, IsHashPlaced, IsAgreementPlaced, IsConsistencyPlaced}
 use Rattle.warg_witness.specs.declared.divergence.Divergence.TheVariants.{Target, Branch}
 use Rattle.warg_witness.proofs.ShownLemmas.{entry_from, value_placed, value_meets, hash_placed, agreement_shown, root_leads, old_placed, new_placed, below_shown}
 use Rattle.warg_log.specs.Claims.{InclusionClaim}
-use Rattle.warg_log.proofs.ForCallers.{cut_size, front_is_greatest, inclusion_leads}
+use Rattle.warg_log.proofs.ForCallers.{front_is_greatest, inclusion_leads}
 use Rattle.std.specs.FinMap.{get, empty}
 use Rattle.std.specs.Option.{IfSome}
 use Rattle.warg_crypto.specs.EmptyTrees.{empty_root}
@@ -37,12 +35,11 @@ use Rattle.warg_witness.specs.MapClaims.{IsKeyAgreement, IsLastValue, IsKeyMet}
 use Rattle.warg_witness.specs.MapPlaced.{IsKeyPlaced, IsKeyAgreementPlaced, IsPlacedAtPrefix}
 use Rattle.warg_witness.specs.Private.MapPaths.{IsPathDivergence, IsClimb}
 use Rattle.warg_witness.specs.Private.MapMeeting.{IsAlike}
-use Rattle.warg_map.specs.ProofValue.{peer_of, proof_value}
+use Rattle.warg_map.specs.ProofValue.{proof_value}
 use Rattle.warg_witness.specs.MapInputs.{fork_input}
 use Rattle.warg_witness.proofs.KeyLemmas.{no_bits, climb_up, key_agreement_shown, plain_leaf_is, own_grown_root, key_shown}
 use Rattle.warg_map.proofs.ForCallers.{all_bits, last_held, same_bits-itself, same_bits-true, root_at_prefix, absent_root, absent_replaced_root}
 use Rattle.std.proofs.lemmas.List.{append-nil, map-append}
-use Rattle.std.specs.List.{AllByRecursion}
 use Rattle.warg_witness.specs.UpdateClaims.{IsUpdated, Step, insertions_of, LeadThrough, CollidesAtStep}
 
 -- a range is the target or not
@@ -63,7 +60,7 @@ difference (x ∷ old) (y ∷ new) order other = elim (same_or_not x y) [
 ]
 
 -- two evaluations with digests at a range go up to it
-module _ (H : Digest) (F : Data) (x : List ℕ) (G : Data) (y : List ℕ) (s w : ℕ) (gives : HasSize H) (holds : HoldsHashes F) (holds' : HoldsHashes G) (size : length x ≡ 32) (size' : length y ≡ 32) (node : IsNodeRange s w) where
+module _ (H : Digest) (F : Data) (x : List ℕ) (G : Data) (y : List ℕ) (s w : ℕ) (gives : HasSize H) (size : length x ≡ length y) (node : IsNodeRange s w) where
   abbrev e : Evaluation
   e = with_target F (leaves_from s w) x
 
@@ -71,19 +68,18 @@ module _ (H : Digest) (F : Data) (x : List ℕ) (G : Data) (y : List ℕ) (s w :
   f = with_target G (leaves_from s w) y
 
   climbed : (k a n : ℕ) → n ≤ k → IsAligned a n → IsAround s w a n → (p q : List ℕ) → cut_over H e (leaves_from a n) ≡ Some p → cut_over H f (leaves_from a n) ≡ Some q
-      → (first : List ℕ) × (second : List ℕ) × (p : SomeDivergence) × IsRangeClimb H F x G y s w a n first second p
+      → (first : List ℕ) × (second : List ℕ) × (p : SomeDivergence) × IsRangeClimb H F x G y s w a n first second p × (length first ≡ length second)
   climbed zero a n le aligned around p q is is' = let some = node_some node in absurd (omega arith)
   climbed (suc k) a n le aligned around p q is is' = elim (target_or_other s w a n) [
-    | inl here ↦ (x, y, Target, ranges_start here.0 here.1 refl refl refl)
+    | inl here ↦ (x, y, Target, ranges_start here.0 here.1 refl refl refl, size)
     | inr other ↦
         let more : 1 < n = let wide = wider around other in let some = node_some node in omega arith in
         let (right, b, m, c, j, sides, at, smaller) = side_around node aligned around other in
         let first = sides_there H (node_some node) around other F x sides is in
         let second = sides_there H (node_some node) around other G y sides is' in
         let below = climbed k b m (omega arith) (sides_aligned sides aligned more) at first.0 second.0 first.2 second.2 in
-        let near = cut_size H e (leaves_from b m) _ gives holds size below.3.first_is ∙ sym (cut_size H f (leaves_from b m) _ gives holds' size' below.3.second_is) in
-        let far = cut_size H e (leaves_from c j) _ gives holds size first.3 ∙ sym (cut_size H f (leaves_from c j) _ gives holds' size' second.3) in
-        let step = up_somewhere right below.2 near far in (H _, H _, step.0, ranges_up H (node_some node) around other F x G y sides below.3 first.3 second.3 step.1)
+        let step = up_somewhere right below.2 below.4 in
+        (H _, H _, step.0, ranges_up H (node_some node) around other F x G y sides below.3 first.3 second.3 step.1, gives _ ∙ sym (gives _))
   ]
 
   -- so two with one digest there diverge somewhere
@@ -115,49 +111,46 @@ some_collision Target placed meet is = meet is
 some_collision (Branch branches) placed meet is = shown_collides (inputs branches) (record { collides = is.collides; placed = placed _ _ is.placed })
 
 module _ (H : Digest) where
-  -- each root over the entries has 32 bytes, and so has what their log holds
+  -- each root over the entries has 32 bytes
   root_size : (entries : List (List ℕ)) (a n : ℕ) → HasSize H → 0 < n → a + n ≤ length (leaves_of H entries) → length (root_over H (leaves_of H entries) a n) ≡ 32
   root_size entries a n gives some within = grind (arith, plain_digest_is H entries a n some, leaves_count H entries)
 
-  own_holds : (entries : List (List ℕ)) → HasSize H → HoldsHashes (own_digest H (leaves_of H entries))
-  own_holds entries gives node digest is = grind (arith, nat_tests, pow_pos (height_of node), root_size entries (start_of node) (2 ^ height_of node) gives)
-
   -- an evaluation that leads to the root of a tree, and that tree
-  from_tree : {F : Data} {x : List ℕ} (entries : List (List ℕ)) {s w : ℕ} → HasSize H → HoldsHashes F → length x ≡ 32 → IsNodeRange s w
+  from_tree : {F : Data} {x : List ℕ} (entries : List (List ℕ)) {s w : ℕ} → HasSize H → length x ≡ 32 → IsNodeRange s w
       → s + w ≤ length (leaves_of H entries) → cut_over H (with_target F (leaves_from s w) x) (leaves_from 0 (length (leaves_of H entries))) ≡ Some (root_of H (leaves_of H entries))
       → (p : SomeDivergence) × IsDivergence H F x (own_digest H (leaves_of H entries)) (root_over H (leaves_of H entries) s w) s w 0 (length (leaves_of H entries)) p
-  from_tree {F} {x} entries {s} {w} gives holds size node within leads =
+  from_tree {F} {x} entries {s} {w} gives size node within leads =
       let ds = leaves_of H entries in
       let n = length ds in
       let some = node_some node in
-      diverged _ _ _ _ _ _ _ gives holds (own_holds entries gives) size (root_size entries s w gives some within) node (whole_aligned n refl) (omega arith) (have_root H ds s w leads (omega arith))
+      diverged _ _ _ _ _ _ _ gives (size ∙ sym (root_size entries s w gives some within)) node (whole_aligned n refl) (omega arith) (have_root H ds s w leads (omega arith))
 
   -- a claim that is met leads to the root of the tree
   leads_to : {F : Data} {p : InclusionClaim} {digest : List ℕ} {entries : List (List ℕ)} → IsMet H F p digest entries → let ds = leaves_of H entries in let node = p.leaf.0 in
       (start_of node + 2 ^ height_of node ≤ length ds) × (cut_over H (with_target F (range_of node) digest) (leaves_from 0 (length ds)) ≡ Some (root_of H ds))
   leads_to {F} {p} {digest} {entries} met = let at = (inclusion_leads H F p digest _).0 met.is in grind (arith, leaves_count H entries)
 
-  pub value_collides : (F : Data) (p : InclusionClaim) (value : List ℕ) (entries : List (List ℕ)) → GivesHashes H → HoldsHashes F → IsMet H F p (H (0 ∷ value)) entries
+  pub value_collides : (F : Data) (p : InclusionClaim) (value : List ℕ) (entries : List (List ℕ)) → GivesHashes H → IsMet H F p (H (0 ∷ value)) entries
       → ¬ (IsEntry value p.leaf.0 entries) → SomeCollision H (IsValuePlaced H F value p.leaf.0 entries)
-  value_collides F p value entries digests holds met untrue =
+  value_collides F p value entries digests met untrue =
       let leads = leads_to met in
-      let (at, diverges) = from_tree entries (sizes digests) holds (sizes digests (0 ∷ value)) (node_range p.leaf.0) leads.0 leads.1 in
+      let (at, diverges) = from_tree entries (sizes digests) (sizes digests (0 ∷ value)) (node_range p.leaf.0) leads.0 leads.1 in
       shown_collides _ (shown at (value_placed H F entries _ refl p.leaf.0 value) _ _ (value_meets H F entries _ refl p.leaf.0 value (λ is. untrue (entry_from p.leaf.0 is))) diverges)
 
-  pub hash_collides : (F : Data) (p : InclusionClaim) (hash : List ℕ) (entries : List (List ℕ)) → GivesHashes H → HoldsHashes F → length hash ≡ 32 → IsMet H F p hash entries
+  pub hash_collides : (F : Data) (p : InclusionClaim) (hash : List ℕ) (entries : List (List ℕ)) → GivesHashes H → length hash ≡ 32 → IsMet H F p hash entries
       → ¬ (IsRootBelow H hash p.leaf.0 entries) → SomeCollision H (IsHashPlaced H F hash p.leaf.0 entries)
-  hash_collides F p hash entries digests holds size met untrue =
+  hash_collides F p hash entries digests size met untrue =
       let leads = leads_to met in
-      let (at, diverges) = from_tree entries (sizes digests) holds size (node_range p.leaf.0) leads.0 leads.1 in
+      let (at, diverges) = from_tree entries (sizes digests) size (node_range p.leaf.0) leads.0 leads.1 in
       some_collision at (hash_placed H F entries _ refl p.leaf.0 hash) (λ meets. absurd (untrue meets.same)) diverges
 
-  pub agreement_collides : (p : InclusionClaim) (F : Data) (value : List ℕ) (G : Data) (other : List ℕ) → GivesHashes H → HoldsHashes F → HoldsHashes G
+  pub agreement_collides : (p : InclusionClaim) (F : Data) (value : List ℕ) (G : Data) (other : List ℕ) → GivesHashes H
       → IsAgreement H p F (H (0 ∷ value)) G (H (0 ∷ other)) → ¬ (value ≡ other) → SomeCollision H (IsAgreementPlaced H F value G other p.leaf.0 p.log_length)
-  agreement_collides p F value G other digests holds holds' met untrue =
+  agreement_collides p F value G other digests met untrue =
       let n = p.log_length in
       let first = (inclusion_leads H F p _ met.root).0 met.first_is in
       let second = (inclusion_leads H G p _ met.root).0 met.second_is in
-      let (at, diverges) = diverged _ _ _ _ _ _ _ (sizes digests) holds holds' (sizes digests (0 ∷ value)) (sizes digests (0 ∷ other)) (node_range p.leaf.0)
+      let (at, diverges) = diverged _ _ _ _ _ _ _ (sizes digests) (sizes digests (0 ∷ value) ∙ sym (sizes digests (0 ∷ other))) (node_range p.leaf.0)
       (whole_aligned n refl) (omega arith) (record { digest = met.root; first = first.1; second = second.1 }) in
       shown_collides _ (agreement_shown H F value G other p.leaf.0 n at untrue diverges)
 
@@ -174,41 +167,30 @@ module _ (H : Digest) where
       let at = leads.1 in
       let place = found.0 in
       let size = holds _ _ at.held in
-      let from_old = from_tree old gives holds size at.node at.in_old at.to_old in
-      let from_new = from_tree new gives holds size at.node at.in_new at.to_new in
+      let from_old = from_tree old gives size at.node at.in_old at.to_old in
+      let from_new = from_tree new gives size at.node at.in_new at.to_new in
       some_collision from_old.0 (old_placed refl refl at)
       (λ in_old. some_collision from_new.0 (new_placed refl refl at)
       (λ in_new.
-      let below = diverged _ _ _ _ _ _ _ gives (own_holds old gives) (own_holds new gives)
-      (root_size old place 1 gives (omega arith) (omega arith)) (root_size new place 1 gives (omega arith) (omega arith)) (leaf_node refl)
+      let below = diverged _ _ _ _ _ _ _ gives (root_size old place 1 gives (omega arith) (omega arith) ∙ sym (root_size new place 1 gives (omega arith) (omega arith))) (leaf_node refl)
       (node_aligned at.node) root.3 (have_range H ds es place 1 (node_aligned at.node) (node_some at.node) at.in_old at.in_new (sym in_old.same ∙ in_new.same)) in
       shown_collides _ (below_shown refl refl at place in_new.part found.2 below.0 below.1)) from_new.1) from_old.1
 
--- the values and the peers have 32 bytes
+-- what is evaluated has 32 bytes
 value_len : (H : List ℕ → List ℕ) (P : List (Option (List ℕ))) (x : List ℕ) → HasSize H → length x ≡ 32 → (bits : List Bool) → length (proof_value H P x bits) ≡ 32
 unfolding proof_value
 value_len H P x gives size [] = size
 value_len H P x gives size (b ∷ bits) = gives (fork_input H P x b bits)
 
-empty_len : (H : List ℕ → List ℕ) → HasSize H → (k : ℕ) → length (empty_root H k) ≡ 32
-unfolding empty_root
-empty_len H gives zero = gives (0 ∷ [])
-empty_len H gives (suc k) = gives (1 ∷ (empty_root H k ++ empty_root H k))
-
-peer_len : (H : List ℕ → List ℕ) (P : List (Option (List ℕ))) → HasSize H → HoldsPeers P → (i : ℕ) → length (peer_of H P i) ≡ 32
-peer_len H P gives holds i = grind (arith, empty_len H gives i, holds (i - (256 - length P)))
-
 -- two evaluations of one root diverge at a branch, or have one leaf digest
-module _ (H : List ℕ → List ℕ) (P : List (Option (List ℕ))) (x : List ℕ) (Q : List (Option (List ℕ))) (y : List ℕ) (gives : HasSize H) (holds : HoldsPeers P) (holds' : HoldsPeers Q)
-    (size : length x ≡ 32) (size' : length y ≡ 32) where
+module _ (H : List ℕ → List ℕ) (P : List (Option (List ℕ))) (x : List ℕ) (Q : List (Option (List ℕ))) (y : List ℕ) (gives : HasSize H) (size : length x ≡ 32) (size' : length y ≡ 32) where
   climbed_on_path : (bits : List Bool) → (p : SomeDivergence) × IsClimb H P x Q y bits (proof_value H P x bits) (proof_value H Q y bits) p
   unfolding proof_value
   climbed_on_path [] = (Target, no_bits H P x Q y)
   climbed_on_path (b ∷ bits) =
       let below = climbed_on_path bits in
       let values = value_len H P x gives size bits ∙ sym (value_len H Q y gives size' bits) in
-      let peers = peer_len H P gives holds (length bits) ∙ sym (peer_len H Q gives holds' (length bits)) in
-      let up = up_somewhere b below.0 values peers in (up.0, climb_up refl refl below.1 up.1)
+      let up = up_somewhere b below.0 values in (up.0, climb_up refl refl below.1 up.1)
 
   pub diverged_on_path : (bits : List Bool) → proof_value H P x bits ≡ proof_value H Q y bits → (p : SomeDivergence) × IsPathDivergence H P x Q y bits p
   diverged_on_path bits e = let climb = climbed_on_path bits in (climb.0, climb.1.diverges e)
@@ -228,20 +210,21 @@ module _ (H : List ℕ → List ℕ) (gives : HasSize H) where
   held_len insertions q = rw last_held (grind (arith, gives))
 
 -- an agreement of two values, and a claim of a key, that are met and aren't true
-pub key_agreement_collides : (H : List ℕ → List ℕ) (key : List ℕ) (P : List (Option (List ℕ))) (v : List ℕ) (Q : List (Option (List ℕ))) (u : List ℕ) → GivesHashes H → HoldsPeers P → HoldsPeers Q
+pub key_agreement_collides : (H : List ℕ → List ℕ) (key : List ℕ) (P : List (Option (List ℕ))) (v : List ℕ) (Q : List (Option (List ℕ))) (u : List ℕ) → GivesHashes H
     → IsKeyAgreement H key P v Q u → (v ≡ u → ⊥) → SomeCollision H (IsKeyAgreementPlaced H key P v Q u)
-key_agreement_collides H key P v Q u digests holds holds' met other =
+key_agreement_collides H key P v Q u digests met other =
     let gives = sizes digests in
-    let (p, diverges) = diverged_on_path H P _ Q _ gives holds holds' (gives _) (gives _) (key_bits H key) met in
+    let (p, diverges) = diverged_on_path H P _ Q _ gives (gives _) (gives _) (key_bits H key) met in
     shown_collides _ (key_agreement_shown H key P v Q u p diverges other)
 
 -- a branch has the digests of both sides, on either side of a bit
-sides_same : (f : Bool → List ℕ) (b : Bool) (peer value : List ℕ) → ((c : Bool) → length (f c) ≡ 32) → length peer ≡ 32 → length value ≡ 32 → input_beside b peer value ≡ branch_input (f false) (f true) → (peer ≡ f (not b)) × (value ≡ f b)
-sides_same f true peer value sized p v e = branch_parts peer value (f false) (f true) (p ∙ sym (sized false)) e
-sides_same f false peer value sized p v e = let parts = branch_parts value peer (f false) (f true) (v ∙ sym (sized false)) e in (parts.1, parts.0)
+sides_same : (f : Bool → List ℕ) (b : Bool) (peer value : List ℕ) → ((c : Bool) → length (f c) ≡ 32) → length value ≡ 32 → input_beside b peer value ≡ branch_input (f false) (f true) → (peer ≡ f (not b)) × (value ≡ f b)
+sides_same f true peer value sized v e =
+    branch_parts peer value (f false) (f true) (omega (arith, v, sized true, length-append peer value, length-append (f false) (f true), ap length e)) e
+sides_same f false peer value sized v e = let parts = branch_parts value peer (f false) (f true) (v ∙ sym (sized false)) e in (parts.1, parts.0)
 
 -- an evaluation that leads to a plain root is that of the plain tree, or collides with it at a branch
-module _ (H : List ℕ → List ℕ) (P : List (Option (List ℕ))) (x : List ℕ) (gives : HasSize H) (holds : HoldsPeers P) (size : length x ≡ 32) (Q : List ℕ → List ℕ → Type 0) where
+module _ (H : List ℕ → List ℕ) (P : List (Option (List ℕ))) (x : List ℕ) (gives : HasSize H) (size : length x ≡ 32) (Q : List ℕ → List ℕ → Type 0) where
   -- The root over what is held behind a bit.
   abbrev side : ℕ → (List Bool → Option (List ℕ)) → Bool → List ℕ
   side k held b = root_of_levels H k (λ q. held (b ∷ q))
@@ -253,7 +236,7 @@ module _ (H : List ℕ → List ℕ) (P : List (Option (List ℕ))) (x : List �
   plain_or_collides held sized [] e placed = inl (e, tt)
   plain_or_collides held sized (b ∷ bits) e placed = elim (same_or_not (fork_input H P x b bits) (branch_input (side (length bits) held false) (side (length bits) held true))) [
     | inl same ↦
-        let sides = sides_same (side (length bits) held) b _ _ (λ c. root_len H gives (length bits) (λ q. held (c ∷ q)) (λ q. sized (c ∷ q))) (peer_len H P gives holds (length bits)) (value_len H P x gives size bits) same in
+        let sides = sides_same (side (length bits) held) b _ _ (λ c. root_len H gives (length bits) (λ q. held (c ∷ q)) (λ q. sized (c ∷ q))) (value_len H P x gives size bits) same in
         elim (plain_or_collides (λ q. held (b ∷ q)) (λ q. sized (b ∷ q)) bits sides.1 (λ prefix below c split. placed (b ∷ prefix) below c (ap (λ q. b ∷ q) split))) [
           | inl (is, beside) ↦ inl (is, (sides.0, beside))
           | inr collision ↦ inr collision
@@ -262,13 +245,13 @@ module _ (H : List ℕ → List ℕ) (P : List (Option (List ℕ))) (x : List �
   ]
 
 -- a claim of a key that is met
-module _ (H : List ℕ → List ℕ) (peers : List (Option (List ℕ))) (key value : List ℕ) (insertions : List (List ℕ × List ℕ)) (digests : GivesHashes H) (holds : HoldsPeers peers) (met : IsKeyMet H peers key value insertions) where
+module _ (H : List ℕ → List ℕ) (peers : List (Option (List ℕ))) (key value : List ℕ) (insertions : List (List ℕ × List ℕ)) (digests : GivesHashes H) (met : IsKeyMet H peers key value insertions) where
   alike_or_collides : IsAlike H peers key value insertions ⊎ SomeCollision H (IsPlacedAtPrefix H peers value key insertions)
   alike_or_collides =
       let gives = sizes digests in
       let bits = key_bits H key in
       let all = all_bits H key in
-      elim (plain_or_collides H peers (leaf_digest H value) gives holds (gives _) (IsPlacedAtPrefix H peers value key insertions) (get (map_of H insertions)) (held_len H gives insertions) bits (rw all met)
+      elim (plain_or_collides H peers (leaf_digest H value) gives (gives _) (IsPlacedAtPrefix H peers value key insertions) (get (map_of H insertions)) (held_len H gives insertions) bits (rw all met)
       (λ prefix below b split. record { prefix = prefix; rest = b ∷ below; bits = split; evaluation = refl; plain = refl })) [
         | inl (same, beside) ↦ inl (record { same = same ∙ sym (plain_leaf_is H insertions bits); updates = own_grown_root H insertions key peers beside })
         | inr collision ↦ inr collision
@@ -294,19 +277,17 @@ own_met H insertions key value peers last few proves =
 pub ruleset proves_absent = (all_bits, absent_root, absent_replaced_root)
 
 -- a list of steps, behind others that led to the plain root
-steps_lead : (H : List ℕ → List ℕ) → GivesHashes H → (before steps : List Step) (root end : List ℕ) → AllByRecursion (λ (s : Step). HoldsPeers s.peers) steps
-    → root ≡ sparse_root H 256 (map_of H (insertions_of before)) → LeadThrough H root steps end
+steps_lead : (H : List ℕ → List ℕ) → GivesHashes H → (before steps : List Step) (root end : List ℕ) → root ≡ sparse_root H 256 (map_of H (insertions_of before)) → LeadThrough H root steps end
     → (end ≡ sparse_root H 256 (map_of H (insertions_of (before ++ steps)))) ⊎ CollidesAtStep H (before ++ steps)
 unfolding LeadThrough
-steps_lead H digests before [] root end all is through = inl (rw append-nil (sym through ∙ is))
-steps_lead H digests before (s ∷ steps) root end all is through =
+steps_lead H digests before [] root end is through = inl (rw append-nil (sym through ∙ is))
+steps_lead H digests before (s ∷ steps) root end is through =
     let (next, from_old, from_new, rest) = through in
     elim (same_or_not (proof_value H s.peers (leaf_digest H s.new_value) (key_bits H s.key)) (sparse_root H 256 (map_of H (insertions_of before ++ (s.key, s.new_value) ∷ [])))) [
-      | inl updated ↦ rw append_assoc at (steps_lead H digests (before ++ s ∷ []) steps next end all.1 (rw map-append (sym from_new ∙ updated)) rest)
-      | inr untrue ↦ inr (record { before = before; step = s; after = steps; split = refl; collision = update_collides H s.peers s.key s.old_value (insertions_of before) digests all.0 (from_old ∙ is) s.new_value untrue })
+      | inl updated ↦ rw append_assoc at (steps_lead H digests (before ++ s ∷ []) steps next end (rw map-append (sym from_new ∙ updated)) rest)
+      | inr untrue ↦ inr (record { before = before; step = s; after = steps; split = refl; collision = update_collides H s.peers s.key s.old_value (insertions_of before) digests (from_old ∙ is) s.new_value untrue })
     ]
 
-pub steps_end : (H : List ℕ → List ℕ) (steps : List Step) (root : List ℕ) → GivesHashes H → AllByRecursion (λ (s : Step). HoldsPeers s.peers) steps
-    → LeadThrough H (sparse_root H 256 empty) steps root → (root ≡ sparse_root H 256 (map_of H (insertions_of steps))) ⊎ CollidesAtStep H steps
+pub steps_end : (H : List ℕ → List ℕ) (steps : List Step) (root : List ℕ) → GivesHashes H → LeadThrough H (sparse_root H 256 empty) steps root → (root ≡ sparse_root H 256 (map_of H (insertions_of steps))) ⊎ CollidesAtStep H steps
 unfolding inserted
-steps_end H steps root digests all through = steps_lead H digests [] steps (sparse_root H 256 empty) root all refl through
+steps_end H steps root digests through = steps_lead H digests [] steps (sparse_root H 256 empty) root refl through

@@ -11,7 +11,6 @@ use Rattle.warg_log.proofs.ForCallers.{front_is_greatest}
 use Rattle.warg_paths.specs.Paths.{root_down, inclusion_root}
 use Rattle.warg_paths.specs.Ways.{IsOnWay, ArePathInputs, turn_input}
 use Rattle.warg_paths.specs.Ways.IsOnWay.{whole, front, rest}
-use Rattle.warg_paths.proofs.ForCallers.{all_reversed}
 use Rattle.warg_witness.specs.PathClaims.{IsRecord, IsRecordMet, IsRecordAgreement}
 use Rattle.warg_witness.specs.PathPlaced.{IsRecordPlaced, IsRecordAgreementPlaced}
 use Rattle.warg_witness.specs.Inputs.{plain_input}
@@ -56,7 +55,17 @@ joined_right : (H : List ℕ → List ℕ) (left : List ℕ) (right : Option (Li
 joined_right H left (Some r) root is = (r, refl, cc)
 joined_right H left None root is = absurd (cc)
 
--- two branches that are one, of which one digest on either side has 32 bytes with that beside it
+-- the root that is reckoned has 32 bytes, if the leaf digest has
+led_size : (H : List ℕ → List ℕ) → GivesHashes H → (m n : ℕ) (x root : List ℕ) (digests : List (List ℕ)) → length x ≡ 32 → root_down H m n x digests ≡ Some root → length root ≡ 32
+led_size H gives m n x root [] size is = sym (ap length (at_leaf H m n x root is).1) ∙ size
+led_size H gives m n x root (top ∷ below) size is =
+    let more = more_leaves H m n x root top below is in
+    elim (cases_lt m (front_of n)) [
+      | inl lt ↦ let (l, _, root_is) = joined_left H _ top _ (sym (in_front H m n x top below more lt) ∙ is) in sym (ap length root_is) ∙ sizes gives _
+      | inr le ↦ let (r, _, root_is) = joined_right H top _ _ (sym (in_rest H m n x top below more le) ∙ is) in sym (ap length root_is) ∙ sizes gives _
+    ]
+
+-- two branches that are one, of which the digests on the right have one length
 pub left_parts : (l r p q : List ℕ) → length r ≡ length q → branch_input l r ≡ branch_input p q → (l ≡ p) × (r ≡ q)
 left_parts l r p q sized same = branch_parts l r p q (omega (arith, length-append l r, length-append p q, ap length same)) same
 
@@ -88,16 +97,16 @@ module _ (H : List ℕ → List ℕ) (gives : GivesHashes H) (index : ℕ) (path
         })
       ]
 
-  down : (digests : List (List ℕ)) (m a n : ℕ) → AreHashes digests → m < n → a + n ≤ length entries → IsOnWay index 0 (length entries) (reverse path) m a n digests
+  down : (digests : List (List ℕ)) (m a n : ℕ) → m < n → a + n ≤ length entries → IsOnWay index 0 (length entries) (reverse path) m a n digests
       → root_down H m n (leaf_digest H value) digests ≡ Some (over a n) → Found (a + m)
-  down [] m a n sized inside within way leads =
+  down [] m a n inside within way leads =
       let (one, same) = at_leaf H m n (leaf_digest H value) (over a n) leads in
       let plain : leaf_input (slice_index_or entries a []) ≡ plain_input H entries a n = rw one refl in
       elim (same_or_not (leaf_input value) (leaf_input (slice_index_or entries a []))) [
         | inl equal ↦ let here : a + m ≡ a = omega arith in inl (rw here (cc))
         | inr differ ↦ inr (record { first = _; second = _; collide = record { differ = differ; same = same ∙ plain_digest_is H entries a n (omega arith) within ∙ ap H (sym plain) }; placed = record { leaf = m; from = a; count = n; digests = []; on_way = way; evaluation = refl; plain = plain } })
       ]
-  down (top ∷ below) m a n sized inside within way leads =
+  down (top ∷ below) m a n inside within way leads =
       let x = leaf_digest H value in
       let more = more_leaves H m n x _ top below leads in
       let f = front_is_greatest n more in
@@ -105,24 +114,25 @@ module _ (H : List ℕ → List ℕ) (gives : GivesHashes H) (index : ℕ) (path
         | inl lt ↦
             let (l, l_is, root) = joined_left H _ top _ (sym (in_front H m n x top below more lt) ∙ leads) in
             elim (fork m a n top below l top more within way (front_turn H x m n top below l lt l_is) root) [
-              | inl same ↦ down below m a (front_of n) sized.1 lt (omega arith) (front m a n top below way more lt)
-                  (l_is ∙ ap Some (left_parts l top _ _ (sized.0 ∙ sym (over_size H gives entries (a + front_of n) (n - front_of n) (omega arith) (omega arith))) same).0)
+              | inl same ↦ down below m a (front_of n) lt (omega arith) (front m a n top below way more lt)
+                  (l_is ∙ ap Some (branch_parts l top _ _ (led_size H gives m (front_of n) x l below (sizes gives _) l_is ∙ sym (over_size H gives entries a (front_of n) (omega arith) (omega arith))) same).0)
               | inr collision ↦ inr collision
             ]
         | inr le ↦
             let (r, r_is, root) = joined_right H top _ _ (sym (in_rest H m n x top below more le) ∙ leads) in
             let place : a + front_of n + (m - front_of n) ≡ a + m = omega arith in
             elim (fork m a n top below top r more within way (rest_turn H x m n top below r le r_is) root) [
-              | inl same ↦ rw place at (down below (m - front_of n) (a + front_of n) (n - front_of n) sized.1 (omega arith) (omega arith) (rest m a n top below way more le)
-                  (r_is ∙ ap Some (branch_parts top r _ _ (sized.0 ∙ sym (over_size H gives entries a (front_of n) (omega arith) (omega arith))) same).1))
+              | inl same ↦ rw place at (down below (m - front_of n) (a + front_of n) (n - front_of n) (omega arith) (omega arith) (rest m a n top below way more le)
+                  (r_is ∙ ap Some (left_parts top r _ _ (led_size H gives (m - front_of n) (n - front_of n) x r below (sizes gives _) r_is
+                  ∙ sym (over_size H gives entries (a + front_of n) (n - front_of n) (omega arith) (omega arith))) same).1))
               | inr collision ↦ inr collision
             ]
       ]
 
-  pub record_collides : AreHashes path → IsRecordMet H index path value entries → ¬ IsRecord index value entries → SomeCollision H (IsRecordPlaced H index path value entries)
-  record_collides sized met untrue =
+  pub record_collides : IsRecordMet H index path value entries → ¬ IsRecord index value entries → SomeCollision H (IsRecordPlaced H index path value entries)
+  record_collides met untrue =
       let (inside, leads) = leads_inside H index (length entries) _ _ path met in
-      elim (down (reverse path) index 0 (length entries) (all_reversed path sized) inside (omega arith) whole (leads ∙ ap Some (sym (plain_root H entries)))) [
+      elim (down (reverse path) index 0 (length entries) inside (omega arith) whole (leads ∙ ap Some (sym (plain_root H entries)))) [
         | inl is ↦ absurd (untrue (rw zero-add at is))
         | inr collision ↦ collision
       ]

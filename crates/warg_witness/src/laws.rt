@@ -2,11 +2,10 @@
 //!
 //! They are what the witnesses rest on, with no program in it: whenever the claim of a proof is met and isn't
 //! true, two byte strings that differ and have one digest stand in the evaluation and the trees over the
-//! entries or the insertions. They hold for every function from byte lists to 32 bytes, and for all data and
-//! peers of such digests.
+//! entries or the insertions. They hold for every function from byte lists to 32 bytes, whatever digests a proof has; only
+//! of consistency are those asked to have 32 bytes, too.
 
 ghost use Rattle.std.specs.Prelude.{◌≡◌, ◌≢◌, ℕ, ◌≤◌, ◌↔◌, ◌⊎◌, IsTrue, List, [], length, Option, Some};
-ghost use Rattle.std.specs.List.{AllByRecursion};
 ghost use Rattle.std.specs.FinMap.{empty};
 ghost use Rattle.warg_witness.specs.Claims.{IsMet, IsEntry, IsRootBelow, IsAgreement, IsConsistencyMet, Begins};
 ghost use Rattle.warg_witness.specs.Placed.{IsValuePlaced, IsHashPlaced, IsAgreementPlaced, IsConsistencyPlaced};
@@ -24,7 +23,7 @@ ghost use Rattle.warg_witness.specs.MapPlaced.{IsPlacedAtPrefix, IsKeyPlaced, Is
 ghost use Rattle.warg_witness.specs.UpdateClaims.{IsUpdated, Step, insertions_of, LeadThrough, CollidesAtStep};
 ghost use Rattle.warg_crypto.specs.Collisions.{GivesHashes, AreHashes, SomeCollision};
 ghost use Rattle.warg_crypto.specs.Tree.{leaf_digest};
-ghost use Rattle.warg_witness.specs.Laws.{HoldsHashes, HoldsPeers};
+ghost use Rattle.warg_witness.specs.Laws.{HoldsHashes};
 
 use crate::collision::Finding;
 use std::alloc::Allocator;
@@ -36,7 +35,7 @@ use warg_paths::laws::path_is_unique;
 pub fn value_or_collision()
     ensures { (H : List ℕ → List ℕ) (F : ℕ → Option (List ℕ)) (proof : InclusionClaim)
         (value : List ℕ)
-        (entries : List (List ℕ)) → GivesHashes H → HoldsHashes F
+        (entries : List (List ℕ)) → GivesHashes H
         → IsMet H F proof (leaf_digest H value) entries → ¬ (IsEntry value proof.leaf.0 entries)
         → SomeCollision H (IsValuePlaced H F value proof.leaf.0 entries) }
 {}
@@ -46,7 +45,7 @@ pub fn value_or_collision()
 pub fn hash_or_collision()
     ensures { (H : List ℕ → List ℕ) (F : ℕ → Option (List ℕ)) (proof : InclusionClaim)
         (hash : List ℕ)
-        (entries : List (List ℕ)) → GivesHashes H → HoldsHashes F → length hash ≡ 32
+        (entries : List (List ℕ)) → GivesHashes H → length hash ≡ 32
         → IsMet H F proof hash entries → ¬ (IsRootBelow H hash proof.leaf.0 entries)
         → SomeCollision H (IsHashPlaced H F hash proof.leaf.0 entries) }
 {}
@@ -56,7 +55,7 @@ pub fn hash_or_collision()
 pub fn agreement_or_collision()
     ensures { (H : List ℕ → List ℕ) (proof : InclusionClaim)
         (F : ℕ → Option (List ℕ)) (value : List ℕ)
-        (G : ℕ → Option (List ℕ)) (other : List ℕ) → GivesHashes H → HoldsHashes F → HoldsHashes G
+        (G : ℕ → Option (List ℕ)) (other : List ℕ) → GivesHashes H
         → IsAgreement H proof F (leaf_digest H value) G (leaf_digest H other) → value ≢ other
         → SomeCollision H (IsAgreementPlaced H F value G other proof.leaf.0 proof.log_length) }
 {}
@@ -73,7 +72,7 @@ pub fn consistency_or_collision()
 #[tactic(auto, using(crate::proofs::PathLawLemmas::record_collides))]
 pub fn record_or_collision()
     ensures { (H : List ℕ → List ℕ) (index : ℕ) (path : List (List ℕ)) (value : List ℕ)
-        (entries : List (List ℕ)) → GivesHashes H → AreHashes path
+        (entries : List (List ℕ)) → GivesHashes H
         → IsRecordMet H index path value entries → ¬ (IsRecord index value entries)
         → SomeCollision H (IsRecordPlaced H index path value entries) }
 {}
@@ -100,8 +99,7 @@ pub fn tree_or_collision()
 #[tactic(auto, using(crate::proofs::LawLemmas::key_agreement_collides))]
 pub fn key_agreement_or_collision()
     ensures { (H : List ℕ → List ℕ) (key : List ℕ) (peers : List (Option (List ℕ))) (value : List ℕ)
-        (other_peers : List (Option (List ℕ))) (other : List ℕ) → GivesHashes H → HoldsPeers peers
-        → HoldsPeers other_peers
+        (other_peers : List (Option (List ℕ))) (other : List ℕ) → GivesHashes H
         → IsKeyAgreement H key peers value other_peers other → (value ≡ other → ⊥)
         → SomeCollision H (IsKeyAgreementPlaced H key peers value other_peers other) }
 {}
@@ -110,7 +108,7 @@ pub fn key_agreement_or_collision()
 #[tactic(auto, using(crate::proofs::LawLemmas::key_collides))]
 pub fn key_or_collision()
     ensures { (H : List ℕ → List ℕ) (peers : List (Option (List ℕ))) (key value : List ℕ)
-        (insertions : List (List ℕ × List ℕ)) → GivesHashes H → HoldsPeers peers
+        (insertions : List (List ℕ × List ℕ)) → GivesHashes H
         → IsKeyMet H peers key value insertions → (IsLastValue key value insertions → ⊥)
         → SomeCollision H (IsKeyPlaced H peers value key insertions) }
 {}
@@ -119,7 +117,7 @@ pub fn key_or_collision()
 #[tactic(auto, using(crate::proofs::LawLemmas::key_collides), unfolding(warg_crypto::specs::EmptyTrees::empty_root))]
 pub fn absence_or_collision()
     ensures { (H : List ℕ → List ℕ) (peers : List (Option (List ℕ))) (key : List ℕ)
-        (insertions : List (List ℕ × List ℕ)) → GivesHashes H → HoldsPeers peers
+        (insertions : List (List ℕ × List ℕ)) → GivesHashes H
         → IsAbsenceMet H peers key insertions → (IsLastValue key [] insertions → ⊥)
         → SomeCollision H (IsKeyPlaced H peers [] key insertions) }
 {}
@@ -129,7 +127,7 @@ pub fn absence_or_collision()
 pub fn update_or_collision()
     ensures { (H : List ℕ → List ℕ) (peers : List (Option (List ℕ)))
         (key old_value new_value : List ℕ)
-        → (insertions : List (List ℕ × List ℕ)) → GivesHashes H → HoldsPeers peers
+        → (insertions : List (List ℕ × List ℕ)) → GivesHashes H
         → IsKeyMet H peers key old_value insertions → ¬ (IsUpdated H peers key new_value insertions)
         → SomeCollision H (IsPlacedAtPrefix H peers old_value key insertions) }
 {}
@@ -140,7 +138,6 @@ pub fn update_or_collision()
 #[tactic(auto, using(crate::proofs::LawLemmas::steps_end))]
 pub fn steps_or_collision()
     ensures { (H : List ℕ → List ℕ) (steps : List Step) (root : List ℕ) → GivesHashes H
-        → AllByRecursion (λ s. HoldsPeers s.peers) steps
         → LeadThrough H (sparse_root H 256 empty) steps root
         → (root ≡ sparse_root H 256 (map_of H (insertions_of steps))) ⊎ CollidesAtStep H steps }
 {}

@@ -30,13 +30,13 @@ returns c = λ H claim evidence. elim claim as (λ claim. Sound H claim evidence
         let F = held_digest shown.bundle.hashes in
         let leads = subst (λ n. inclusion H F (leaf_claim index n) (leaf_digest H value) ≡ Ok (root_of H (leaves_of H entries))) roots.length (shown.is ∙ ap Ok roots.root) in
         subst (λ F. SomeCollision H (IsValuePlaced H F value (2 * index) entries)) (sym (ap digests_in shown.spelled))
-        (c.value_or_collision.ensures H F (leaf_claim index (length entries)) value entries gives shown.hashes (record { count = refl; is = leads }) (λ at. untrue (is_held H F index value _ entries _ leads at)))
+        (c.value_or_collision.ensures H F (leaf_claim index (length entries)) value entries gives (record { count = refl; is = leads }) (λ at. untrue (is_held H F index value _ entries _ leads at)))
     | by_path bytes ↦ λ entries gives passed roots untrue.
         let judged = judged_true (shows H (entry_at index value log)) (hashes_of bytes) passed in
         let digests = path_in (hashes_of bytes) in
         let leads = found_is log.root (inclusion_root H index log.length (leaf_digest H value) digests) judged.1 in
         let met = rw (roots.length, roots.root) at leads in
-        c.record_or_collision.ensures H index digests value entries gives (pieces_sized bytes digests judged.0) met (λ at. untrue (is_recorded H index value _ entries _ digests met at))
+        c.record_or_collision.ensures H index digests value entries gives met (λ at. untrue (is_recorded H index value _ entries _ digests met at))
   ]
   | growth old new ↦ elim evidence as (λ evidence. Sound H (growth old new) evidence) [
     | by_bundle bytes place ↦ λ entries gives passed roots untrue.
@@ -54,14 +54,14 @@ returns c = λ H claim evidence. elim claim as (λ claim. Sound H claim evidence
     | by_bundle bytes place ↦ λ insertions gives passed roots untrue.
         let shown = c.key_is_shown.ensures H bytes place key value root passed in
         subst (λ peers. SomeCollision H (IsKeyPlaced H peers value key insertions)) (found_peers (λ (b : MapBundle). b.proofs) place _ shown.bundle shown.peers shown.spelled shown.stands)
-        (c.key_or_collision.ensures H shown.peers key value insertions gives shown.hashes (shown.is ∙ roots) untrue)
+        (c.key_or_collision.ensures H shown.peers key value insertions gives (shown.is ∙ roots) untrue)
     | by_path bytes ↦ λ insertions gives passed roots untrue. absurd ((let wrong = (judged_true (shows H (value_under key value root)) (hashes_of bytes) passed).1 in cc))
   ]
   | nothing_under key root ↦ elim evidence as (λ evidence. Sound H (nothing_under key root) evidence) [
     | by_bundle bytes place ↦ λ insertions gives passed roots untrue.
         let shown = c.absence_is_shown.ensures H bytes place key root passed in
         subst (λ peers. SomeCollision H (IsKeyPlaced H peers [] key insertions)) (found_peers (λ (b : MapBundle). b.absences) place _ shown.bundle shown.peers shown.spelled shown.stands)
-        (c.absence_or_collision.ensures H shown.peers key insertions gives shown.hashes (shown.is ∙ roots) untrue)
+        (c.absence_or_collision.ensures H shown.peers key insertions gives (shown.is ∙ roots) untrue)
     | by_path bytes ↦ λ insertions gives passed roots untrue. absurd ((let wrong = (judged_true (shows H (nothing_under key root)) (hashes_of bytes) passed).1 in cc))
   ]
   | update key old_value new_value old_root new_root ↦ elim evidence as (λ evidence. Sound H (update key old_value new_value old_root new_root) evidence) [
@@ -69,8 +69,8 @@ returns c = λ H claim evidence. elim claim as (λ claim. Sound H claim evidence
         let shown = c.update_is_shown.ensures H bytes place key old_value new_value old_root new_root passed in
         let met = shown.old_is ∙ roots.0 in
         subst (λ peers. SomeCollision H (IsUpdatePlaced H peers old_value new_value key maps)) (found_peers (λ (b : MapBundle). b.proofs) place _ shown.bundle shown.peers shown.spelled shown.stands)
-        (changed H shown.peers key old_value new_value new_root maps (c.key_or_collision.ensures H shown.peers key old_value maps.0 gives shown.hashes met)
-        (c.update_or_collision.ensures H shown.peers key old_value new_value maps.0 gives shown.hashes met) (c.equal_maps_or_collision.ensures H _ maps.1 gives) shown.new_is roots.1 untrue)
+        (changed H shown.peers key old_value new_value new_root maps (c.key_or_collision.ensures H shown.peers key old_value maps.0 gives met)
+        (c.update_or_collision.ensures H shown.peers key old_value new_value maps.0 gives met) (c.equal_maps_or_collision.ensures H _ maps.1 gives) shown.new_is roots.1 untrue)
     | by_path bytes ↦ λ maps gives passed roots untrue. absurd ((let wrong = (judged_true (shows H (update key old_value new_value old_root new_root)) (hashes_of bytes) passed).1 in cc))
   ]
   | insertion key value old_root new_root ↦ elim evidence as (λ evidence. Sound H (insertion key value old_root new_root) evidence) [
@@ -78,8 +78,8 @@ returns c = λ H claim evidence. elim claim as (λ claim. Sound H claim evidence
         let shown = c.insertion_is_shown.ensures H bytes place key value old_root new_root passed in
         let met = shown.old_is ∙ roots.0 in
         subst (λ peers. SomeCollision H (IsUpdatePlaced H peers [] value key maps)) (found_peers (λ (b : MapBundle). b.absences) place _ shown.bundle shown.peers shown.spelled shown.stands)
-        (changed H shown.peers key [] value new_root maps (c.absence_or_collision.ensures H shown.peers key maps.0 gives shown.hashes met)
-        (c.update_or_collision.ensures H shown.peers key [] value maps.0 gives shown.hashes (rw (empty_leaf H) at met)) (c.equal_maps_or_collision.ensures H _ maps.1 gives) shown.new_is roots.1 untrue)
+        (changed H shown.peers key [] value new_root maps (c.absence_or_collision.ensures H shown.peers key maps.0 gives met)
+        (c.update_or_collision.ensures H shown.peers key [] value maps.0 gives (rw (empty_leaf H) at met)) (c.equal_maps_or_collision.ensures H _ maps.1 gives) shown.new_is roots.1 untrue)
     | by_path bytes ↦ λ maps gives passed roots untrue. absurd ((let wrong = (judged_true (shows H (insertion key value old_root new_root)) (hashes_of bytes) passed).1 in cc))
   ]
 ]
