@@ -3,6 +3,7 @@
 
 - The README's program is crates/example_first/src/main.rt as it stands.
 - docs/PROVED.md and docs/HEADLINE.md name nothing that isn't there, and no clause that the call beside it hasn't.
+- The laws in docs/HEADLINE.md stand in crates/warg_claims as they are shown there, and the page has at most 40 lines.
 - The code in each CALLING.md stands in crates/warg_uses as it is shown.
 """
 
@@ -15,7 +16,7 @@ import definitions
 ROOT = pathlib.Path(__file__).parents[1]
 # Names of the standard library and of the kit.
 OF_OTHERS = {"Debug", "D", "H", "L", "Ok", "Err", "usize", "digest", "MAX", "n", "sha2"}
-LIBRARIES = ["warg_crypto", "warg_protobuf", "warg_log", "warg_paths", "warg_tiles", "warg_map", "warg_bundle", "warg_witness", "warg_check", "warg_program", "warg_ffi"]
+LIBRARIES = ["warg_crypto", "warg_protobuf", "warg_log", "warg_paths", "warg_tiles", "warg_map", "warg_bundle", "warg_witness", "warg_check", "warg_claims", "warg_program", "warg_ffi"]
 
 
 def code_blocks(text):
@@ -27,6 +28,15 @@ def readme_faults():
     program = (ROOT / "crates/example_first/src/main.rt").read_text()
     if program not in code_blocks((ROOT / "README.md").read_text()):
         yield "README.md: no code block is crates/example_first/src/main.rt"
+
+
+def headline_faults():
+    page, laws = (ROOT / "docs/HEADLINE.md").read_text(), (ROOT / "crates/warg_claims/src/laws.rt").read_text()
+    for law in code_blocks(page):
+        if law not in laws:
+            yield f"docs/HEADLINE.md: this is no law of warg_claims: {law.splitlines()[0]}"
+    if len(page.splitlines()) > 40:
+        yield "docs/HEADLINE.md has more than 40 lines"
 
 
 def calling_faults():
@@ -79,7 +89,7 @@ def proved_faults():
 
 
 def main():
-    faults = [*readme_faults(), *calling_faults(), *proved_faults()]
+    faults = [*readme_faults(), *headline_faults(), *calling_faults(), *proved_faults()]
     for fault in faults:
         print(fault)
     sys.exit(1 if faults else 0)

@@ -23,6 +23,7 @@ TITLES = {
     "warg_bundle": "Bundles",
     "warg_witness": "Witnesses",
     "warg_check": "Verdicts",
+    "warg_claims": "What verdicts are worth",
     "warg_program": "The program",
     "warg_ffi": "Verdicts for C",
 }

@@ -129,10 +129,10 @@ module _ (H : List ℕ → List ℕ) (old_count count : ℕ) (r s : List ℕ) (p
                       | inr collision ↦ inr collision
                       | inl same_news ↦
                           elim (down false (m - front_of n) (a + front_of n) (n - front_of n) p.old p.new ts us ax.1 ay.1 order_in_rest (way_rest _ m a n t ts wx more high) (way_rest _ m a n u us wy more high)
-                              p.below_is (q.below_is ∙ ap (λ z. Some (z, q.new)) (sym same_olds.1) ∙ ap (λ z. Some (p.old, z)) (sym same_news.1))) [
-                                | inr collision ↦ inr collision
-                                | inl below ↦ inl (cons_same same_olds.0 below)
-                              ]
+                          p.below_is (q.below_is ∙ ap (λ z. Some (z, q.new)) (sym same_olds.1) ∙ ap (λ z. Some (p.old, z)) (sym same_news.1))) [
+                            | inr collision ↦ inr collision
+                            | inl below ↦ inl (cons_same same_olds.0 below)
+                          ]
                     ]
               ]
         ]

@@ -4,6 +4,7 @@
 
 pub mod bundle;
 pub mod check;
+pub mod claims;
 pub mod crypto;
 pub mod log;
 pub mod map;
