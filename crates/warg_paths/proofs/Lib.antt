@@ -6,3 +6,4 @@ mod LawLemmas
 mod GrowthLemmas
 mod UniqueLemmas
 mod UniqueGrowthLemmas
+pub mod PremiseLemmas

@@ -13,6 +13,7 @@ mod error;
 mod front;
 mod inclusion;
 pub mod laws;
+pub mod premises;
 
 pub use bytes::hashes_in;
 pub use consistency::{check_tree, consistency_path, roots_of_consistency, roots_of_subproof};

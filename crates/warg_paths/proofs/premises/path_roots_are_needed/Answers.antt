@@ -1,0 +1,5 @@
+use Rattle.warg_paths.proofs.PremiseLemmas.{path_roots_are_needed}
+use Rattle.warg_paths.proofs.premises.path_roots_are_needed.Goals as goal
+
+pub returns : goal.returns
+returns c = path_roots_are_needed
