@@ -2,3 +2,4 @@ pub mod SoundLemmas
 pub mod PremiseLemmas
 pub mod OwnLemmas
 pub mod HasLemmas
+pub mod AuditLemmas

@@ -1,3 +1,4 @@
 pub mod Worlds
 pub mod Placed
 pub mod Own
+pub mod Audits

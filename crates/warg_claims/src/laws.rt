@@ -1,11 +1,15 @@
 //! The theorem: what a true verdict is worth. The contract of each function is the law, and it has no effect.
 
-ghost use Rattle.std.specs.Prelude.{◌≡◌, ℕ, List, Ok, true};
+ghost use Rattle.std.specs.Prelude.{◌≡◌, ◌⊎◌, ℕ, List, Ok, true};
 ghost use Rattle.warg_crypto.specs.Collisions.{GivesHashes, SomeCollision};
 ghost use Rattle.warg_check.specs.Claims.{Claim, Evidence, verdict};
 ghost use Rattle.warg_claims.specs.Worlds.{World, HasRoots, IsTrueOf};
 ghost use Rattle.warg_claims.specs.Placed.{IsPlaced};
 ghost use Rattle.warg_claims.specs.Own.{Has, IsOwn};
+ghost use Rattle.warg_claims.specs.Audits.{AreChecked, steps_of};
+ghost use Rattle.warg_map.specs.Sparse.{sparse_root, map_of};
+ghost use Rattle.warg_witness.specs.UpdateClaims.{insertions_of, CollidesAtStep};
+ghost use Rattle.std.specs.FinMap.{empty};
 
 use warg_bundle::laws::{bundled_as_source, bundled_parts};
 use warg_check::laws::{
@@ -17,7 +21,8 @@ use warg_map::laws::{last_held, own_absence, own_proof};
 use warg_paths::laws::{own_consistency_path, own_inclusion_path};
 use warg_witness::laws::{
     absence_or_collision, consistency_or_collision, equal_maps_or_collision, key_or_collision,
-    record_or_collision, tree_or_collision, update_or_collision, value_or_collision,
+    record_or_collision, steps_or_collision, tree_or_collision, update_or_collision,
+    value_or_collision,
 };
 
 /// A true verdict is true: under the roots of its world a claim that evidence shows is true, or two different byte strings
@@ -67,3 +72,17 @@ pub fn what_is_had_is_true()
     ensures { (H : List ℕ → List ℕ) (claim : Claim) (world : World claim)
         → Has H claim world → IsTrueOf claim world }
 {}
+
+/// Checked steps end at the root of exactly what they insert: where updates and insertions with true verdicts lead from the
+/// empty map's root to another, each from the root before it, that is the root of their insertions in order, or at one of
+/// the steps what the evaluation from its old value and the tree over the insertions before it hash at one prefix collides.
+pub fn checked_steps_or_collision()
+    ensures { (H : List ℕ → List ℕ) (steps : List (Claim × Evidence)) (end : List ℕ) → GivesHashes H
+        → AreChecked H (sparse_root H 256 empty) steps end
+        → (end ≡ sparse_root H 256 (map_of H (insertions_of (steps_of steps))))
+        ⊎ CollidesAtStep H (steps_of steps) }
+{
+    update_is_shown();
+    insertion_is_shown();
+    steps_or_collision();
+}
