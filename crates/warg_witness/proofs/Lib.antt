@@ -13,3 +13,4 @@ pub mod PathLawLemmas
 pub mod TreeLawLemmas
 pub mod MapLawLemmas
 pub mod ForCallers
+pub mod PremiseLemmas

@@ -10,6 +10,7 @@
 mod collision;
 mod divergence;
 pub mod laws;
+pub mod premises;
 mod log;
 mod map;
 mod paths;
