@@ -2,9 +2,9 @@
 -- a tree, or both trees collide.
 use Rattle.std.proofs.Common.{◌≡◌, ℕ, zero, suc, ◌+◌, ◌-◌, ◌<◌, ◌≤◌, ◌⊎◌, inl, inr, List, [], ◌∷◌, length, reverse, slice_index_or, Option, Some, None, refl, sym, ap, subst, ◌∙◌, arith, pow-suc}
 use Rattle.std.proofs.lemmas.Bool.{cases_lt, lt-leb, le-leb, eq-eqb, ne_eqb}
-use Rattle.warg_crypto.specs.Collisions.{GivesHashes, AreHashes, SomeCollision}
+use Rattle.warg_crypto.specs.Collisions.{GivesHashes, SomeCollision}
 use Rattle.warg_crypto.specs.Tree.{branch_input, where_both}
-use Rattle.warg_crypto.proofs.ForCallers.{same_or_not, branch_parts}
+use Rattle.warg_crypto.proofs.ForCallers.{same_or_not, branch_parts, sizes}
 use Rattle.warg_log.specs.Tree.{front_of, leaves_of, root_of, root_over}
 use Rattle.warg_log.proofs.ForCallers.{front_is_greatest, front_of_is}
 use Rattle.warg_paths.specs.Paths.{roots_down, subproof_roots, grown, both_over, twice, one_root}
@@ -15,7 +15,6 @@ use Rattle.warg_witness.specs.PathClaims.{IsTreeMet}
 use Rattle.warg_witness.specs.Inputs.{plain_input}
 use Rattle.warg_paths.specs.Ways.{IsOnGrowth, old_turn_input, new_turn_input, old_of}
 use Rattle.warg_paths.specs.Ways.IsOnGrowth.{whole, front, rest}
-use Rattle.warg_paths.proofs.ForCallers.{all_reversed}
 use Rattle.warg_witness.specs.TreePlaced.{IsTreePlaced}
 use Rattle.std.proofs.lemmas.Bool.Decides.{nat_tests}
 use Rattle.warg_witness.proofs.RecordLemmas.{plain_root}
@@ -64,6 +63,14 @@ over_is H None top o w is = absurd cc
 over_is H (Some (y, x)) top o w is =
     let both : ◌≡◌ {A = List ℕ × List ℕ} (H (branch_input top y), H (branch_input top x)) (o, w) = cc in
     (y, x, refl, ap (λ (p : List ℕ × List ℕ). p.0) both, ap (λ (p : List ℕ × List ℕ). p.1) both)
+
+-- the new root that is reckoned has 32 bytes, where not all leaves are old
+new_size : (H : List ℕ → List ℕ) → GivesHashes H → (known : Option (List ℕ)) (m n : ℕ) (digests : List (List ℕ)) (o w : List ℕ) → m < n → roots_down H known m n digests ≡ Some (o, w) → length w ≡ 32
+new_size H gives known m n [] o w less is = absurd (no_roots H known m n _ less is)
+new_size H gives known m n (top ∷ below) o w less is = elim (cases_lt (front_of n) m) [
+  | inr le ↦ let (x, _, root) = grown_is H (roots_down H known m (front_of n) below) top o w (sym (in_front H known m n top below less le) ∙ is) in sym (ap length root) ∙ sizes gives _
+  | inl lt ↦ let (y, x, _, _, root) = over_is H (roots_down H None (m - front_of n) (n - front_of n) below) top o w (sym (in_rest H known m n top below less lt) ∙ is) in sym (ap length root) ∙ sizes gives _
+]
 
 -- what is taken at a range for the new root
 front_turn : (H : List ℕ → List ℕ) (known : Option (List ℕ)) (m n : ℕ) (top : List ℕ) (below : List (List ℕ)) (o x : List ℕ) → m ≤ front_of n → roots_down H known m (front_of n) below ≡ Some (o, x)
@@ -183,28 +190,34 @@ module _ (H : List ℕ → List ℕ) (gives : GivesHashes H) (path old new : Lis
       let one = all_old H known m n digests _ _ (sym equal) leads in
       both_plain m a m (omega arith) some old_part (subst (λ k. IsPart 0 (length new) a k) equal new_part) (one ∙ ap (over new a) equal)
 
-  down : (digests : List (List ℕ)) (known : Option (List ℕ)) (m a n : ℕ) → AreHashes digests → 0 < m → m ≤ n → IsPart 0 (length old) a m → IsPart 0 (length new) a n → OnWay known m a n digests
+  -- the new root of a part has 32 bytes: it is reckoned, or the old one where all leaves are old
+  part_size : (digests : List (List ℕ)) (known : Option (List ℕ)) (m a n : ℕ) (x : List ℕ) → 0 < m → m ≤ n → a + m ≤ length old → roots_down H known m n digests ≡ Some (over old a m, x) → length x ≡ 32
+  part_size digests known m a n x some order within is = elim (cases_lt m n) [
+    | inl less ↦ new_size H gives known m n digests (over old a m) x less is
+    | inr all ↦ sym (ap length (all_old H known m n digests (over old a m) x (omega (arith, all, order)) is)) ∙ over_size H gives old a m some within
+  ]
+
+  down : (digests : List (List ℕ)) (known : Option (List ℕ)) (m a n : ℕ) → 0 < m → m ≤ n → IsPart 0 (length old) a m → IsPart 0 (length new) a n → OnWay known m a n digests
       → roots_down H known m n digests ≡ Some (over old a m, over new a n) → Same a m ⊎ Collide
-  down [] known m a n sized some order old_part new_part way leads = elim (cases_lt m n) [
+  down [] known m a n some order old_part new_part way leads = elim (cases_lt m n) [
     | inl less ↦ absurd (no_roots H known m n _ less leads)
     | inr same ↦ level [] known m a n some (omega arith) old_part new_part leads
   ]
-  down (top ∷ below) known m a n sized some order old_part new_part way leads = elim (cases_lt m n) [
+  down (top ∷ below) known m a n some order old_part new_part way leads = elim (cases_lt m n) [
     | inr same ↦ level (top ∷ below) known m a n some (omega arith) old_part new_part leads
     | inl less ↦
         let more : 1 < n = omega arith in
         let f = front_is_greatest n more in
         let in_new = (part_in new_part).0 in
         let in_old = (part_in old_part).0 in
-        let top_size : (entries : List (List ℕ)) (b k : ℕ) → 0 < k → b + k ≤ length entries → length top ≡ length (over entries b k) = λ entries b k some within. sized.0 ∙ sym (over_size H gives entries b k some within) in
         elim (cases_lt (front_of n) m) [
           | inr le ↦
               let (x, below_is, root) = grown_is H (roots_down H known m (front_of n) below) top _ _ (sym (in_front H known m n top below less le) ∙ leads) in
               elim (new_fork known m a n top below x top less more in_new way (front_turn H known m n top below _ x le below_is) root) [
                 | inr collision ↦ inr collision
                 | inl same ↦
-                    let parts = left_parts x top _ _ (top_size new (a + front_of n) (n - front_of n) (omega arith) (omega arith)) same in
-                    down below known m a (front_of n) sized.1 some le old_part (part_front a n new_part more) (front known m a n top below way less le) (below_is ∙ ap (λ w. Some (over old a m, w)) parts.0)
+                    let parts = branch_parts x top _ _ (part_size below known m a (front_of n) x some le in_old below_is ∙ sym (over_size H gives new a (front_of n) (omega arith) (omega arith))) same in
+                    down below known m a (front_of n) some le old_part (part_front a n new_part more) (front known m a n top below way less le) (below_is ∙ ap (λ w. Some (over old a m, w)) parts.0)
               ]
           | inl lt ↦
               let fronts = same_front m n lt less in
@@ -214,11 +227,13 @@ module _ (H : List ℕ → List ℕ) (gives : GivesHashes H) (path old new : Lis
                 | inl old_same ↦ elim (new_fork known m a n top below top x less more in_new way (rest_turn H known m n top below y x lt below_is) new_root) [
                   | inr collision ↦ inr collision
                   | inl new_same ↦
-                      let old_parts = branch_parts top y (over old a (front_of n)) (over old (a + front_of n) (m - front_of n)) (top_size old a (front_of n) (omega arith) (omega arith)) (rw fronts at old_same) in
-                      let new_parts = branch_parts top x (over new a (front_of n)) (over new (a + front_of n) (n - front_of n)) (top_size new a (front_of n) (omega arith) (omega arith)) new_same in
+                      let right = new_size H gives None (m - front_of n) (n - front_of n) below y x (omega arith) below_is ∙ sym (over_size H gives new (a + front_of n) (n - front_of n) (omega arith) (omega arith)) in
+                      let new_parts = left_parts top x (over new a (front_of n)) (over new (a + front_of n) (n - front_of n)) right new_same in
+                      let left = ap length new_parts.0 ∙ over_size H gives new a (front_of n) (omega arith) (omega arith) ∙ sym (over_size H gives old a (front_of n) (omega arith) (omega arith)) in
+                      let old_parts = branch_parts top y (over old a (front_of n)) (over old (a + front_of n) (m - front_of n)) left (rw fronts at old_same) in
                       elim (both_plain (front_of n) a (front_of n) (omega arith) (omega arith) (rw fronts at (part_front a m old_part (omega arith))) (part_front a n new_part more) (sym old_parts.0 ∙ new_parts.0)) [
                         | inr collision ↦ inr collision
-                        | inl left ↦ elim (down below None (m - front_of n) (a + front_of n) (n - front_of n) sized.1 (omega arith) (omega arith) (rw fronts at (part_rest a m old_part (omega arith))) (part_rest a n new_part more)
+                        | inl left ↦ elim (down below None (m - front_of n) (a + front_of n) (n - front_of n) (omega arith) (omega arith) (rw fronts at (part_rest a m old_part (omega arith))) (part_rest a n new_part more)
                             (rest known m a n top below way less lt) (below_is ∙ ap (λ z. Some (z, x)) old_parts.1 ∙ ap (λ z. Some (over old (a + front_of n) (m - front_of n), z)) new_parts.1)) [
                               | inr collision ↦ inr collision
                               | inl right ↦ inl (joined a (front_of n) m (omega arith) left right)
@@ -229,13 +244,13 @@ module _ (H : List ℕ → List ℕ) (gives : GivesHashes H) (path old new : Lis
         ]
   ]
 
-pub tree_collides : (H : List ℕ → List ℕ) → GivesHashes H → (digests old new : List (List ℕ)) → AreHashes digests → IsTreeMet H digests old new → ¬ Begins old new → SomeCollision H (IsTreePlaced H digests old new)
-tree_collides H gives digests old new sized met untrue =
+pub tree_collides : (H : List ℕ → List ℕ) → GivesHashes H → (digests old new : List (List ℕ)) → IsTreeMet H digests old new → ¬ Begins old new → SomeCollision H (IsTreePlaced H digests old new)
+tree_collides H gives digests old new met untrue =
     let (some, order, leads) = leads_both H (Some (root_of H (leaves_of H old))) (length old) (length new) digests _ met in
     let differs = difference old new order untrue in
     let roots : roots_down H (Some (root_of H (leaves_of H old))) (length old) (length new) (reverse digests) ≡ Some (root_over H (leaves_of H old) 0 (length old), root_over H (leaves_of H new) 0 (length new)) =
     rw (plain_root H old, plain_root H new) leads in
-    elim (down H gives digests old new (reverse digests) _ (length old) 0 (length new) (all_reversed digests sized) some order part_whole part_whole whole roots) [
+    elim (down H gives digests old new (reverse digests) _ (length old) 0 (length new) some order part_whole part_whole whole roots) [
       | inl same ↦ absurd (differs.2 (same differs.0 (omega arith) (omega (arith, differs.1))))
       | inr collision ↦ collision
     ]

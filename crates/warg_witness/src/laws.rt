@@ -90,7 +90,7 @@ pub fn record_agreement_or_collision()
 /// A consistency path's claim that is met and isn't true gives a collision.
 #[tactic(auto, using(crate::proofs::TreeLawLemmas::tree_collides))]
 pub fn tree_or_collision()
-    ensures { (H : List ℕ → List ℕ) (path old new : List (List ℕ)) → GivesHashes H → AreHashes path
+    ensures { (H : List ℕ → List ℕ) (path old new : List (List ℕ)) → GivesHashes H
         → IsTreeMet H path old new → ¬ (Begins old new)
         → SomeCollision H (IsTreePlaced H path old new) }
 {}
