@@ -2,10 +2,13 @@
 //! effect. Without any one premise the law is false.
 
 ghost use Rattle.std.specs.Prelude.{◌≡◌, ◌≢◌, ℕ, List, length, Option};
-ghost use Rattle.warg_crypto.specs.Collisions.{GivesHashes, SomeCollision};
+ghost use Rattle.warg_crypto.specs.Collisions.{GivesHashes, AreHashes, SomeCollision};
 ghost use Rattle.warg_crypto.specs.Tree.{leaf_digest};
 ghost use Rattle.warg_log.specs.Claims.{InclusionClaim};
-ghost use Rattle.warg_witness.specs.Claims.{IsMet, IsEntry, IsRootBelow, IsAgreement};
+ghost use Rattle.warg_witness.specs.Claims.{IsMet, IsEntry, IsRootBelow, IsAgreement, Begins};
+ghost use Rattle.warg_witness.specs.PathClaims.{IsRecord, IsRecordMet, IsRecordAgreement, IsTreeMet};
+ghost use Rattle.warg_witness.specs.PathPlaced.{IsRecordPlaced, IsRecordAgreementPlaced};
+ghost use Rattle.warg_witness.specs.TreePlaced.{IsTreePlaced};
 ghost use Rattle.warg_witness.specs.Placed.{IsValuePlaced, IsHashPlaced, IsAgreementPlaced};
 
 /// A value's claim may be met and untrue, without a collision, where digests have any length.
@@ -29,4 +32,124 @@ pub fn value_untruth_is_needed()
         (value : List ℕ) (entries : List (List ℕ))
         → IsMet H F proof (leaf_digest H value) entries
         → SomeCollision H (IsValuePlaced H F value proof.leaf.0 entries)) }
+{}
+
+/// A hash's claim may be met and untrue, without a collision, where digests have any length.
+pub fn hash_hashes_are_needed()
+    ensures { ¬ ((H : List ℕ → List ℕ) (F : ℕ → Option (List ℕ)) (proof : InclusionClaim)
+        (hash : List ℕ) (entries : List (List ℕ)) → length hash ≡ 32
+        → IsMet H F proof hash entries → ¬ (IsRootBelow H hash proof.leaf.0 entries)
+        → SomeCollision H (IsHashPlaced H F hash proof.leaf.0 entries)) }
+{}
+
+/// And where the claimed hash has any length.
+pub fn hash_size_is_needed()
+    ensures { (H : List ℕ → List ℕ) → GivesHashes H → ¬ ((F : ℕ → Option (List ℕ))
+        (proof : InclusionClaim) (hash : List ℕ) (entries : List (List ℕ))
+        → IsMet H F proof hash entries → ¬ (IsRootBelow H hash proof.leaf.0 entries)
+        → SomeCollision H (IsHashPlaced H F hash proof.leaf.0 entries)) }
+{}
+
+/// And untrue where it isn't met.
+pub fn hash_meeting_is_needed()
+    ensures { (H : List ℕ → List ℕ) → ¬ ((F : ℕ → Option (List ℕ)) (proof : InclusionClaim)
+        (hash : List ℕ) (entries : List (List ℕ)) → length hash ≡ 32
+        → ¬ (IsRootBelow H hash proof.leaf.0 entries)
+        → SomeCollision H (IsHashPlaced H F hash proof.leaf.0 entries)) }
+{}
+
+/// Where it is met and true, nothing need collide.
+pub fn hash_untruth_is_needed()
+    ensures { (H : List ℕ → List ℕ) → GivesHashes H → ¬ ((F : ℕ → Option (List ℕ))
+        (proof : InclusionClaim) (hash : List ℕ) (entries : List (List ℕ)) → length hash ≡ 32
+        → IsMet H F proof hash entries
+        → SomeCollision H (IsHashPlaced H F hash proof.leaf.0 entries)) }
+{}
+
+/// Two values may lead to one root, without a collision, where digests have any length.
+pub fn agreement_hashes_are_needed()
+    ensures { ¬ ((H : List ℕ → List ℕ) (proof : InclusionClaim) (F : ℕ → Option (List ℕ))
+        (value : List ℕ) (G : ℕ → Option (List ℕ)) (other : List ℕ)
+        → IsAgreement H proof F (leaf_digest H value) G (leaf_digest H other) → value ≢ other
+        → SomeCollision H (IsAgreementPlaced H F value G other proof.leaf.0 proof.log_length)) }
+{}
+
+/// And differ where they don't lead to one.
+pub fn agreement_meeting_is_needed()
+    ensures { (H : List ℕ → List ℕ) → ¬ ((proof : InclusionClaim) (F : ℕ → Option (List ℕ))
+        (value : List ℕ) (G : ℕ → Option (List ℕ)) (other : List ℕ) → value ≢ other
+        → SomeCollision H (IsAgreementPlaced H F value G other proof.leaf.0 proof.log_length)) }
+{}
+
+/// One value leads to one root without a collision.
+pub fn agreement_difference_is_needed()
+    ensures { (H : List ℕ → List ℕ) → ¬ ((proof : InclusionClaim) (F : ℕ → Option (List ℕ))
+        (value : List ℕ) (G : ℕ → Option (List ℕ)) (other : List ℕ)
+        → IsAgreement H proof F (leaf_digest H value) G (leaf_digest H other)
+        → SomeCollision H (IsAgreementPlaced H F value G other proof.leaf.0 proof.log_length)) }
+{}
+
+/// A record's claim may be met and untrue, without a collision, where digests have any length.
+pub fn record_hashes_are_needed()
+    ensures { ¬ ((H : List ℕ → List ℕ) (index : ℕ) (path : List (List ℕ)) (value : List ℕ)
+        (entries : List (List ℕ))
+        → IsRecordMet H index path value entries → ¬ (IsRecord index value entries)
+        → SomeCollision H (IsRecordPlaced H index path value entries)) }
+{}
+
+/// And untrue where it isn't met.
+pub fn record_meeting_is_needed()
+    ensures { (H : List ℕ → List ℕ) → ¬ ((index : ℕ) (path : List (List ℕ)) (value : List ℕ)
+        (entries : List (List ℕ)) → ¬ (IsRecord index value entries)
+        → SomeCollision H (IsRecordPlaced H index path value entries)) }
+{}
+
+/// Where it is met and true, nothing need collide.
+pub fn record_untruth_is_needed()
+    ensures { (H : List ℕ → List ℕ) → ¬ ((index : ℕ) (path : List (List ℕ)) (value : List ℕ)
+        (entries : List (List ℕ)) → IsRecordMet H index path value entries
+        → SomeCollision H (IsRecordPlaced H index path value entries)) }
+{}
+
+/// Two paths of one place may lead two values to one root, without a collision, where one has digests of other lengths.
+pub fn record_agreement_sizes_are_needed()
+    ensures { ¬ ((H : List ℕ → List ℕ) (index n : ℕ) (path : List (List ℕ)) (value : List ℕ)
+        (other_path : List (List ℕ)) (other : List ℕ) → AreHashes other_path
+        → IsRecordAgreement H index n path value other_path other → value ≢ other
+        → SomeCollision H (IsRecordAgreementPlaced H index n path value other_path other)) }
+{}
+
+/// And two values may differ where they don't lead to one.
+pub fn record_agreement_meeting_is_needed()
+    ensures { (H : List ℕ → List ℕ) → ¬ ((index n : ℕ) (path : List (List ℕ)) (value : List ℕ)
+        (other_path : List (List ℕ)) (other : List ℕ) → AreHashes path → AreHashes other_path
+        → value ≢ other
+        → SomeCollision H (IsRecordAgreementPlaced H index n path value other_path other)) }
+{}
+
+/// One value leads to one root without a collision.
+pub fn record_agreement_difference_is_needed()
+    ensures { (H : List ℕ → List ℕ) → ¬ ((index n : ℕ) (path : List (List ℕ)) (value : List ℕ)
+        (other_path : List (List ℕ)) (other : List ℕ) → AreHashes path → AreHashes other_path
+        → IsRecordAgreement H index n path value other_path other
+        → SomeCollision H (IsRecordAgreementPlaced H index n path value other_path other)) }
+{}
+
+/// A consistency path's claim may be met and untrue, without a collision, where digests have any length.
+pub fn tree_hashes_are_needed()
+    ensures { ¬ ((H : List ℕ → List ℕ) (path old new : List (List ℕ))
+        → IsTreeMet H path old new → ¬ (Begins old new)
+        → SomeCollision H (IsTreePlaced H path old new)) }
+{}
+
+/// And untrue where it isn't met.
+pub fn tree_meeting_is_needed()
+    ensures { (H : List ℕ → List ℕ) → ¬ ((path old new : List (List ℕ)) → ¬ (Begins old new)
+        → SomeCollision H (IsTreePlaced H path old new)) }
+{}
+
+/// Where it is met and true, nothing need collide.
+pub fn tree_untruth_is_needed()
+    ensures { (H : List ℕ → List ℕ) → ¬ ((path old new : List (List ℕ)) → IsTreeMet H path old new
+        → SomeCollision H (IsTreePlaced H path old new)) }
 {}
