@@ -5,15 +5,19 @@ use Rattle.warg_crypto.specs.Collisions.{GivesHashes, AreHashes, SomeCollision}
 use Rattle.warg_crypto.specs.Tree.{leaf_digest, leaf_input}
 use Rattle.warg_log.specs.Claims.{InclusionClaim, leaf_claim}
 use Rattle.warg_log.specs.Cut.{way_within, top_of}
-use Rattle.warg_log.specs.Nodes.{height_of, height_within, place_of, start_of}
+use Rattle.warg_log.specs.Nodes.{height_of, height_within, place_of, start_of, balanced_within, balanced_roots}
 use Rattle.warg_log.specs.Tree.{root_within, front_of, front_within, root_over, leaves_of}
 use Rattle.warg_paths.specs.Paths.{root_down, roots_down}
 use Rattle.warg_paths.specs.Ways.{IsOnWay, IsOnGrowth}
 use Rattle.warg_paths.specs.Ways.IsOnWay.{whole, front, rest}
 use Rattle.warg_paths.specs.Ways.IsOnGrowth.{whole as grown_whole, front as grown_front, rest as grown_rest}
 use Rattle.warg_crypto.proofs.ForCallers.{same_or_not}
-use Rattle.warg_witness.specs.Claims.{IsMet, IsEntry, IsRootBelow, IsAgreement, Begins}
-use Rattle.warg_witness.specs.Placed.{IsValuePlaced, IsHashPlaced, IsAgreementPlaced}
+use Rattle.warg_witness.specs.Claims.{IsMet, IsEntry, IsRootBelow, IsAgreement, IsConsistencyMet, Begins}
+use Rattle.warg_witness.specs.Placed.{IsValuePlaced, IsHashPlaced, IsAgreementPlaced, IsConsistencyPlaced}
+use Rattle.warg_log.specs.Consistency.{IsConsistent}
+use Rattle.warg_witness.specs.Laws.{HoldsHashes}
+use Rattle.std.specs.List.{Contains}
+use Rattle.std.proofs.lemmas.Nat.{pow_pos}
 use Rattle.warg_witness.specs.PathClaims.{IsRecord, IsRecordMet, IsRecordAgreement, IsTreeMet}
 use Rattle.warg_witness.specs.PathPlaced.{IsRecordPlaced, IsRecordAgreementPlaced}
 use Rattle.warg_witness.specs.TreePlaced.{IsTreePlaced}
@@ -40,6 +44,9 @@ zero_everywhere node = Some (0 ∷ [])
 
 abbrev zeros : List ℕ
 zeros = replicate 32 0
+
+abbrev zeros_everywhere : ℕ → Option (List ℕ)
+zeros_everywhere node = Some zeros
 
 -- The claim of the first of two leaves, and of the only one.
 abbrev first_of_two : InclusionClaim
@@ -203,5 +210,48 @@ tree_untruth_is_needed H law =
     elim c.placed [
       | inl old ↦ no_turn old.turn.on_way
       | inr (inl new) ↦ no_turn new.turn.on_way
+      | inr (inr both) ↦ c.collide.differ (both.old_plain ∙ sym both.new_plain)
+    ]
+
+-- One leaf has one balanced root.
+only_root : {root : ℕ} → Contains (balanced_roots 1) root → root ≡ 0
+unfolding balanced_within
+only_root (i, within, is) = let first : i ≡ 0 = omega (arith, within) in sym (rw first at is)
+
+-- The length of the first of some byte lists.
+first_length : List (List ℕ) → ℕ
+first_length [] = 0
+first_length (x ∷ xs) = length x
+
+pub consistency_hashes_are_needed : ¬ ((H : List ℕ → List ℕ) (F : ℕ → Option (List ℕ)) (m n : ℕ) (old new : List (List ℕ)) → HoldsHashes F → IsConsistencyMet H F m n old new → ¬ (Begins old new) → SomeCollision H (IsConsistencyPlaced H F old new))
+unfolding way_within top_of height_of height_within place_of balanced_within root_within front_of front_within first_length
+consistency_hashes_are_needed law =
+    let holds : (node : ℕ) (digest : List ℕ) → Some zeros ≡ Some digest → length digest ≡ 32 = λ node digest is. let same : zeros ≡ digest = cc in sym (ap length same) in
+    let roots : IsConsistent own zeros_everywhere 1 2 zeros (1 ∷ zeros ++ zeros) = record { some = omega arith; order = omega arith; old_root_is = refl; new_root_is = ((zeros, refl, refl), tt) } in
+    none_collide _ (law own zeros_everywhere 1 2 (replicate 31 0 ∷ []) ([] ∷ replicate 62 0 ∷ []) holds (record { old_count = refl; new_count = refl; roots = roots }) (λ is. absurd (omega (arith, ap first_length is))))
+
+pub consistency_meeting_is_needed : (H : List ℕ → List ℕ) → ¬ ((F : ℕ → Option (List ℕ)) (m n : ℕ) (old new : List (List ℕ)) → HoldsHashes F → ¬ (Begins old new) → SomeCollision H (IsConsistencyPlaced H F old new))
+consistency_meeting_is_needed H law =
+    let c = law nothing 1 0 ((0 ∷ []) ∷ []) [] (λ node digest is. absurd cc) (λ is. absurd cc) in
+    elim c.placed [
+      | inl old ↦ old.split (0, (part_of_one old.part).1)
+      | inr (inl new) ↦ omega (arith, (part_in new.part).0, new.around.ends, pow_pos (height_of new.root))
+      | inr (inr both) ↦ let one = part_of_one both.old_part in omega (arith, one.1, (part_in both.new_part).0)
+    ]
+
+pub consistency_untruth_is_needed : (H : List ℕ → List ℕ) → GivesHashes H → ¬ ((F : ℕ → Option (List ℕ)) (m n : ℕ) (old new : List (List ℕ)) → HoldsHashes F → IsConsistencyMet H F m n old new → SomeCollision H (IsConsistencyPlaced H F old new))
+unfolding way_within top_of height_of height_within place_of balanced_within root_within
+consistency_untruth_is_needed H gives law =
+    let leaf = H (0 ∷ []) in
+    let held : ℕ → Option (List ℕ) = λ node. Some leaf in
+    let holds : (node : ℕ) (digest : List ℕ) → Some leaf ≡ Some digest → length digest ≡ 32 = λ node digest is. let same : leaf ≡ digest = cc in sym (ap length same) ∙ (gives (0 ∷ [])).has_32 in
+    let roots : IsConsistent H held 1 1 leaf leaf = record { some = omega arith; order = omega arith; old_root_is = refl; new_root_is = ((leaf, refl, refl), tt) } in
+    let c = law held 1 1 ([] ∷ []) ([] ∷ []) holds (record { old_count = refl; new_count = refl; roots = roots }) in
+    elim c.placed [
+      | inl old ↦ old.split (0, (part_of_one old.part).1)
+      | inr (inl new) ↦
+          let one = part_of_one new.part in
+          let root : new.root ≡ 0 = only_root new.is_root in
+          new.other (one.0 ∙ sym (rw root refl)) (one.1 ∙ sym (rw root refl))
       | inr (inr both) ↦ c.collide.differ (both.old_plain ∙ sym both.new_plain)
     ]

@@ -1,15 +1,17 @@
 //! What the premises of the laws that end in a collision are for: the contract of each function is the law, and it has no
-//! effect. Without any one premise the law is false.
+//! effect. Without any one premise the law is false. That a consistency proof's digests have 32 bytes is the one premise of
+//! which that isn't shown.
 
 ghost use Rattle.std.specs.Prelude.{◌≡◌, ◌≢◌, ℕ, List, length, Option};
 ghost use Rattle.warg_crypto.specs.Collisions.{GivesHashes, AreHashes, SomeCollision};
 ghost use Rattle.warg_crypto.specs.Tree.{leaf_digest};
 ghost use Rattle.warg_log.specs.Claims.{InclusionClaim};
-ghost use Rattle.warg_witness.specs.Claims.{IsMet, IsEntry, IsRootBelow, IsAgreement, Begins};
+ghost use Rattle.warg_witness.specs.Claims.{IsMet, IsEntry, IsRootBelow, IsAgreement, IsConsistencyMet, Begins};
 ghost use Rattle.warg_witness.specs.PathClaims.{IsRecord, IsRecordMet, IsRecordAgreement, IsTreeMet};
 ghost use Rattle.warg_witness.specs.PathPlaced.{IsRecordPlaced, IsRecordAgreementPlaced};
 ghost use Rattle.warg_witness.specs.TreePlaced.{IsTreePlaced};
-ghost use Rattle.warg_witness.specs.Placed.{IsValuePlaced, IsHashPlaced, IsAgreementPlaced};
+ghost use Rattle.warg_witness.specs.Placed.{IsValuePlaced, IsHashPlaced, IsAgreementPlaced, IsConsistencyPlaced};
+ghost use Rattle.warg_witness.specs.Laws.{HoldsHashes};
 
 /// A value's claim may be met and untrue, without a collision, where digests have any length.
 pub fn value_hashes_are_needed()
@@ -152,4 +154,26 @@ pub fn tree_meeting_is_needed()
 pub fn tree_untruth_is_needed()
     ensures { (H : List ℕ → List ℕ) → ¬ ((path old new : List (List ℕ)) → IsTreeMet H path old new
         → SomeCollision H (IsTreePlaced H path old new)) }
+{}
+
+/// A claim of consistency may be met and untrue, without a collision, where the function's digests have any length.
+pub fn consistency_hashes_are_needed()
+    ensures { ¬ ((H : List ℕ → List ℕ) (F : ℕ → Option (List ℕ)) (m n : ℕ)
+        (old new : List (List ℕ)) → HoldsHashes F
+        → IsConsistencyMet H F m n old new → ¬ (Begins old new)
+        → SomeCollision H (IsConsistencyPlaced H F old new)) }
+{}
+
+/// And untrue where it isn't met.
+pub fn consistency_meeting_is_needed()
+    ensures { (H : List ℕ → List ℕ) → ¬ ((F : ℕ → Option (List ℕ)) (m n : ℕ)
+        (old new : List (List ℕ)) → HoldsHashes F → ¬ (Begins old new)
+        → SomeCollision H (IsConsistencyPlaced H F old new)) }
+{}
+
+/// Where it is met and true, nothing need collide.
+pub fn consistency_untruth_is_needed()
+    ensures { (H : List ℕ → List ℕ) → GivesHashes H → ¬ ((F : ℕ → Option (List ℕ)) (m n : ℕ)
+        (old new : List (List ℕ)) → HoldsHashes F → IsConsistencyMet H F m n old new
+        → SomeCollision H (IsConsistencyPlaced H F old new)) }
 {}
