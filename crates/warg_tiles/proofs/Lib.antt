@@ -14,3 +14,6 @@ mod PushLemmas
 mod ChunkLemmas
 mod PartialLemmas
 mod OpenLemmas
+mod RowLemmas
+mod StoredLemmas
+mod SplitLemmas

@@ -1,10 +1,14 @@
 //! Laws of the tiles: the contract of each function is the law, and it has no effect.
 
-ghost use Rattle.std.specs.Prelude.{◌≡◌, ℕ, ◌≤◌, List, Option, Some};
+ghost use Rattle.std.specs.Prelude.{◌≡◌, ℕ, ◌≤◌, ◌⊎◌, true, List, length, Option, Some};
 ghost use Rattle.std.specs.List.{AllByRecursion};
-ghost use Rattle.warg_log.specs.Tree.{own_digest};
+ghost use Rattle.warg_crypto.specs.Collisions.{GivesHashes, AreHashes, SomeCollision};
+ghost use Rattle.warg_log.specs.Tree.{root_of, own_digest};
 ghost use Rattle.warg_tiles.specs.Between.{AreNew, tiles_between};
-ghost use Rattle.warg_tiles.specs.TileData.{Tiles, IsTileBy, digest_by};
+ghost use Rattle.warg_tiles.specs.Tiles.{TileAt};
+ghost use Rattle.warg_tiles.specs.TileData.{Tiles, IsTileBy, has_below, root_below, digest_by, AreOwnBelow};
+ghost use Rattle.warg_tiles.specs.TileLog.{root_by_tiles, ArePartialTiles};
+ghost use Rattle.warg_tiles.specs.Placed.{IsTilePlaced, IsEdgePlaced};
 ghost use Rattle.warg_tiles.specs.CheckpointText.{Said, CanBeSaid, text_before};
 
 use warg_log::GREATEST_LENGTH;
@@ -16,6 +20,28 @@ pub fn digest_by_own_tiles()
     ensures { (H : List ℕ → List ℕ) (ds : List (List ℕ)) (tiles : Tiles) (x : ℕ) (d : List ℕ)
         → AllByRecursion (λ t. IsTileBy (own_digest H ds) t.0 t.1) tiles
         → digest_by H tiles x ≡ Some d → own_digest H ds x ≡ Some d }
+{}
+
+/// Tiles of anyone: where a tile's digests give a node's own digest in a log, those below the node are the log's own, or
+/// two byte strings collide, which the tree over these digests and that over the log's leaves hash at one range.
+#[tactic(auto, using(crate::proofs::StoredLemmas::tile_collides))]
+pub fn tile_or_collision()
+    ensures { (H : List ℕ → List ℕ) (ds : List (List ℕ)) (t : TileAt) (digests : List (List ℕ))
+        (x : ℕ) → GivesHashes H → AreHashes ds → AreHashes digests → length digests ≡ t.width
+        → has_below t x ≡ true → own_digest H ds x ≡ Some (root_below H digests x)
+        → AreOwnBelow H ds t digests x ⊎ SomeCollision H (IsTilePlaced H digests x ds) }
+{}
+
+/// Partial tiles of anyone: where they lead to a log's root at its length, they are the log's own, or two byte strings
+/// collide, which the tree over a tile's digests and the root behind them, and that over the log's leaves hash at one range.
+/// So a log that was opened from stored tiles, and has the checkpoint of the one that stored them, has its digests.
+#[tactic(auto, using(crate::proofs::StoredLemmas::edge_collides))]
+pub fn partial_tiles_or_collision()
+    ensures { (H : List ℕ → List ℕ) (ds : List (List ℕ)) (tiles : Tiles) → GivesHashes H → AreHashes ds
+        → length ds ≤ GREATEST_LENGTH → ArePartialTiles (length ds) tiles
+        → root_by_tiles H tiles ≡ root_of H ds
+        → AllByRecursion (λ t. IsTileBy (own_digest H ds) t.0 t.1) tiles
+        ⊎ SomeCollision H (IsEdgePlaced H tiles ds) }
 {}
 
 /// A checkpoint text is read in one way: where two are the same bytes, each with what stands behind it, they say the same
