@@ -17,3 +17,4 @@ mod OpenLemmas
 mod RowLemmas
 mod StoredLemmas
 mod SplitLemmas
+mod FullLemmas

@@ -1,11 +1,12 @@
 -- A log that keeps the digests of its right edge alone: those of its partial tiles.
-use Rattle.std.specs.Prelude.{◌≡◌, ℕ, zero, suc, ◌+◌, ◌-◌, ◌*◌, ◌/◌, ◌%◌, ◌^◌, ◌==◌, ◌&&◌, nat_lt, if◌then◌else◌, List, [], ◌∷◌, ◌++◌, length, map, filter, take, drop, Option, Some, None, unwrap_or}
+use Rattle.std.specs.Prelude.{◌≡◌, ◌≢◌, ◌<◌, ◌↔◌, ◌⊎◌, Contains, AllPairs, ℕ, zero, suc, ◌+◌, ◌-◌, ◌*◌, ◌/◌, ◌%◌, ◌^◌, ◌==◌, ◌&&◌, nat_lt, if◌then◌else◌, List, [], ◌∷◌, ◌++◌, length, map, filter, take, drop, Option, Some, None, unwrap_or}
 use Rattle.std.specs.List.{AllByRecursion, flat_map, range_with_len}
 use Rattle.std.specs.Option.{option_to_list}
 use Rattle.warg_crypto.specs.Collisions.{AreHashes}
 use Rattle.warg_log.specs.Tree.{root_of, leaves_below, own_digest}
 use Rattle.warg_protobuf.specs.Decoding.{earlier}
-use Rattle.warg_tiles.specs.Tiles.{TileAt, node_in}
+use Rattle.warg_tiles.specs.Tiles.{TileAt, node_in, tile_end}
+use Rattle.warg_tiles.specs.Between.{IsTileOf}
 use Rattle.warg_tiles.specs.TileData.{Tiles, IsTileBy}
 use Rattle.warg_tiles.specs.declared.error.OpenError.{OpenError}
 use Rattle.warg_tiles.specs.declared.error.OpenError.TheVariants.{Count, Place, Width}
@@ -42,6 +43,22 @@ completed_at n = completed_from 8 0 n
 -- The full tiles that a length has and an older one hasn't, in the order in which the entries complete them.
 abbrev pub full_between : ℕ → ℕ → List TileAt
 full_between old new = flat_map completed_at (range_with_len (old + 1) (new - old))
+
+-- One full tile is filled before another: by an earlier entry, or by the same one on a lower level.
+abbrev pub IsFilledBefore : TileAt → TileAt → Type 0
+IsFilledBefore s t = (tile_end s < tile_end t) ⊎ ((tile_end s ≡ tile_end t) × (s.level < t.level))
+
+-- The tiles are the full ones that a length has and an older one hasn't, each once, in the order in which they are filled.
+pub record AreFullBetween (old new : ℕ) (tiles : List TileAt) : Type 0 where
+  pub exactly : (t : TileAt) → Contains tiles t ↔ ((t.width ≡ 256) × IsTileOf new t × (IsTileOf old t → ⊥))
+  pub once : AllPairs (λ (s t : TileAt). s ≢ t) tiles
+  pub order : AllPairs IsFilledBefore tiles
+
+-- The tiles are the partial ones of a length, each once, by level.
+pub record ArePartialOf (n : ℕ) (tiles : List TileAt) : Type 0 where
+  pub exactly : (t : TileAt) → Contains tiles t ↔ (IsTileOf n t × (t.width < 256))
+  pub once : AllPairs (λ (s t : TileAt). s ≢ t) tiles
+  pub order : AllPairs (λ (s t : TileAt). s.level < t.level) tiles
 
 -- The digests of a tile's nodes in a log of these leaf digests, from left to right: each the root of the leaves below.
 abbrev pub tile_digests : (List ℕ → List ℕ) → List (List ℕ) → TileAt → List (List ℕ)

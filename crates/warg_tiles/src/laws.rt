@@ -7,7 +7,7 @@ ghost use Rattle.warg_log.specs.Tree.{root_of, own_digest};
 ghost use Rattle.warg_tiles.specs.Between.{AreNew, tiles_between};
 ghost use Rattle.warg_tiles.specs.Tiles.{TileAt};
 ghost use Rattle.warg_tiles.specs.TileData.{Tiles, IsTileBy, has_below, root_below, digest_by, AreOwnBelow};
-ghost use Rattle.warg_tiles.specs.TileLog.{root_by_tiles, ArePartialTiles};
+ghost use Rattle.warg_tiles.specs.TileLog.{partial_tiles, full_between, root_by_tiles, ArePartialTiles, AreFullBetween, ArePartialOf};
 ghost use Rattle.warg_tiles.specs.Placed.{IsTilePlaced, IsEdgePlaced};
 ghost use Rattle.warg_tiles.specs.CheckpointText.{Said, CanBeSaid, text_before};
 
@@ -56,4 +56,17 @@ pub fn checkpoint_text_once()
 /// once. A wider tile in the place of a partial one is another tile.
 pub fn each_new_tile_once()
     ensures { (old new : ℕ) → old ≤ new → new ≤ GREATEST_LENGTH → AreNew old new (tiles_between old new) }
+{}
+
+/// The full tiles that `take_full` hands out are exactly those that the log has now and hadn't at the last call, each once,
+/// in the order in which entries fill them.
+pub fn each_full_tile_once()
+    ensures { (old new : ℕ) → old ≤ new → new ≤ GREATEST_LENGTH
+        → AreFullBetween old new (full_between old new) }
+{}
+
+/// The partial tiles of a length, which `partial` gives and `open` takes, are exactly its tiles that aren't full, each once,
+/// by level.
+pub fn each_partial_tile_once()
+    ensures { (n : ℕ) → n ≤ GREATEST_LENGTH → ArePartialOf n (partial_tiles n) }
 {}
