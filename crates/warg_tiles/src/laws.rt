@@ -1,13 +1,15 @@
 //! Laws of the tiles: the contract of each function is the law, and it has no effect.
 
-ghost use Rattle.std.specs.Prelude.{◌≡◌, ℕ, ◌≤◌, ◌⊎◌, true, List, length, Option, Some};
+ghost use Rattle.std.specs.Prelude.{◌≡◌, ℕ, ◌≤◌, ◌⊎◌, true, List, length, map, Option, Some};
 ghost use Rattle.std.specs.List.{AllByRecursion};
 ghost use Rattle.warg_crypto.specs.Collisions.{GivesHashes, AreHashes, SomeCollision};
 ghost use Rattle.warg_log.specs.Tree.{root_of, own_digest};
+ghost use Rattle.warg_log.specs.Walks.{IsKnown};
 ghost use Rattle.warg_tiles.specs.Between.{AreNew, tiles_between};
 ghost use Rattle.warg_tiles.specs.Tiles.{TileAt};
 ghost use Rattle.warg_tiles.specs.TileData.{Tiles, IsTileBy, has_below, root_below, digest_by, AreOwnBelow};
 ghost use Rattle.warg_tiles.specs.TileLog.{partial_tiles, full_between, root_by_tiles, ArePartialTiles, AreFullBetween, ArePartialOf};
+ghost use Rattle.warg_tiles.specs.Fetching.{AreFor};
 ghost use Rattle.warg_tiles.specs.Placed.{IsTilePlaced, IsEdgePlaced};
 ghost use Rattle.warg_tiles.specs.CheckpointText.{Said, CanBeSaid, text_before};
 
@@ -69,4 +71,12 @@ pub fn each_full_tile_once()
 /// by level.
 pub fn each_partial_tile_once()
     ensures { (n : ℕ) → n ≤ GREATEST_LENGTH → ArePartialOf n (partial_tiles n) }
+{}
+
+/// The tiles that `tiles_for_inclusion` and `tiles_for_consistency` name are enough: whoever has them knows the digest of
+/// each needed node, so the evaluation has a root (`warg_log::laws::needed_known`), and the path is made
+/// (`warg_paths::laws::path_leads_as_proof`).
+pub fn named_tiles_are_enough()
+    ensures { (H : List ℕ → List ℕ) (n : ℕ) (tiles : Tiles) (nodes : List ℕ)
+        → AreFor n (map (λ t. t.0) tiles) nodes → IsKnown (digest_by H tiles) nodes }
 {}
