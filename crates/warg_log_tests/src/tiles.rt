@@ -7,7 +7,7 @@ use warg_crypto::weak::Sum;
 use warg_crypto::{Hash, Sha256, SupportedDigest};
 use warg_log::{GREATEST_LENGTH, LogBuilder, Node, VecLog};
 use warg_tiles::{
-    EntriesError, OpenError, StoredTile, Tile, TileLog, push_entry, tile_hashes, tiles_between,
+    EntryError, OpenError, StoredTile, Tile, TileLog, push_entry, tile_hashes, tiles_between,
 };
 
 // The same entries in two logs: one holds the digest of every node, the other those of its right edge.
@@ -323,7 +323,7 @@ fn the_longest_entry(rt: HostRuntime) -> Result<(), Fail> {
     let long = vec![in rt.alloc(); 7u8; 65536]?;
     let mut bytes = b"\x00\x02ab\x00\x00".to_vec(rt.alloc())?;
     let refused = push_entry(&mut bytes, long.as_slice());
-    assert!(rt; refused == Err(EntriesError::TooLong) && bytes.len() == 6);
+    assert!(rt; refused == Err(EntryError::TooLong) && bytes.len() == 6);
     push_entry(&mut bytes, &long.as_slice()[1..])?;
     assert!(rt; bytes.len() == 6 + 65537 && bytes[6] == 255 && bytes[7] == 255);
     Ok(())
@@ -334,5 +334,5 @@ fn an_entry_without_memory(rt: HostRuntime) {
     let memory = Refusing::after(rt.alloc(), 0);
     let mut none = Vec::new(&memory);
     let refused = push_entry(&mut none, b"ab");
-    assert!(rt; refused == Err(EntriesError::Memory) && none.len() == 0);
+    assert!(rt; refused == Err(EntryError::Memory) && none.len() == 0);
 }

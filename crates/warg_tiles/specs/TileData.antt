@@ -1,5 +1,6 @@
 -- Digests of tiles, and what they come to.
-use Rattle.std.specs.Prelude.{◌≡◌, ℕ, ◌+◌, ◌%◌, ◌^◌, ◌<◌, ◌==◌, ◌&&◌, nat_le, if◌then◌else◌, Bool, List, [], ◌∷◌, length, take, drop, Option, Some, None, slice_index_or}
+use Rattle.std.specs.Prelude.{◌≡◌, ℕ, ◌+◌, ◌*◌, ◌%◌, ◌^◌, ◌<◌, ◌==◌, ◌&&◌, nat_le, if◌then◌else◌, Bool, List, [], ◌∷◌, length, map, take, drop, Option, Some, None, slice_index_or}
+use Rattle.std.specs.List.{range_with_len}
 use Rattle.std.specs.Option.{option_or}
 use Rattle.warg_log.specs.Nodes.{height_of}
 use Rattle.warg_log.specs.Tree.{root_of, own_digest}
@@ -13,6 +14,10 @@ pub record IsTileBy (F : ℕ → Option (List ℕ)) (t : TileAt) (digests : List
 -- A digest of the tile isn't held.
 abbrev pub LacksOf : (ℕ → Option (List ℕ)) → TileAt → Type 0
 LacksOf F t = (i : ℕ) × (i < t.width) × (F (node_in t i) ≡ None)
+
+-- The digests that bytes are, in pieces of 32 one after the other, so many of them.
+abbrev pub digests_in : ℕ → List ℕ → List (List ℕ)
+digests_in count bytes = map (λ i. take 32 (drop (32 * i) bytes)) (range_with_len 0 count)
 
 -- Tiles with their digests.
 abbrev pub Tiles : Type 0

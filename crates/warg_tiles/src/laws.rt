@@ -2,6 +2,7 @@
 
 ghost use Rattle.std.specs.Prelude.{◌≡◌, ℕ, ◌≤◌, ◌⊎◌, true, List, length, map, Option, Some};
 ghost use Rattle.std.specs.List.{AllByRecursion};
+ghost use Rattle.std.specs.Ordering.{nat_cmp, ordering_then};
 ghost use Rattle.warg_crypto.specs.Collisions.{GivesHashes, AreHashes, SomeCollision};
 ghost use Rattle.warg_log.specs.Tree.{root_of, own_digest};
 ghost use Rattle.warg_log.specs.Walks.{IsKnown};
@@ -13,6 +14,8 @@ ghost use Rattle.warg_tiles.specs.Fetching.{AreFor};
 ghost use Rattle.warg_tiles.specs.Placed.{IsTilePlaced, IsEdgePlaced};
 ghost use Rattle.warg_tiles.specs.CheckpointText.{Said, CanBeSaid, text_before};
 
+use crate::tile::Tile;
+use std::cmp::Ordering;
 use warg_log::GREATEST_LENGTH;
 
 /// A digest that the tiles of a log give is the node's: where each tile has the log's own digests, and they give a digest for
@@ -80,3 +83,12 @@ pub fn named_tiles_are_enough()
     ensures { (H : List ℕ → List ℕ) (n : ℕ) (tiles : Tiles) (nodes : List ℕ)
         → AreFor n (map (λ t. t.0) tiles) nodes → IsKnown (digest_by H tiles) nodes }
 {}
+
+/// Tiles are ordered by their levels, where these are equal by their numbers, and then by their widths.
+pub fn order_by_level_then_number(first: &Tile, second: &Tile) -> Ordering
+    ensures { result ≡ ordering_then (nat_cmp first.now.level second.now.level)
+        (ordering_then (nat_cmp first.now.number second.now.number)
+        (nat_cmp first.now.width second.now.width)) }
+{
+    first.cmp(second)
+}
