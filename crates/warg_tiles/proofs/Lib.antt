@@ -18,3 +18,4 @@ mod RowLemmas
 mod StoredLemmas
 mod SplitLemmas
 mod FullLemmas
+mod ReadLemmas

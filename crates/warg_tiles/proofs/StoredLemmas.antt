@@ -31,7 +31,7 @@ use Rattle.warg_tiles.proofs.ChunkLemmas.{tile_start, chunk_at, root_if_some, ro
 use Rattle.warg_tiles.proofs.OpenLemmas.{from_none, from_some}
 
 -- some digests have 32 bytes where all have
-some_hashes : (a n : ℕ) (ds : List (List ℕ)) → AreHashes ds → AreHashes (take n (drop a ds))
+pub some_hashes : (a n : ℕ) (ds : List (List ℕ)) → AreHashes ds → AreHashes (take n (drop a ds))
 some_hashes a n ds all =
     let Size : List ℕ → Type 0 = λ d. length d ≡ 32 in
     let behind = (all_parts Size (take a ds) (drop a ds) (subst AreHashes (sym (take-append-drop a ds)) all)).1 in
@@ -93,7 +93,7 @@ drop_hashes : (a : ℕ) (ds : List (List ℕ)) → AreHashes ds → AreHashes (d
 drop_hashes a ds all = (all_parts (λ (d : List ℕ). length d ≡ 32) (take a ds) (drop a ds) (subst AreHashes (sym (take-append-drop a ds)) all)).1
 
 -- the root over digests of 32 bytes has 32 bytes
-root_len : (H : List ℕ → List ℕ) → HasSize H → (ds : List (List ℕ)) → 0 < length ds → AreHashes ds → length (root_of H ds) ≡ 32
+pub root_len : (H : List ℕ → List ℕ) → HasSize H → (ds : List (List ℕ)) → 0 < length ds → AreHashes ds → length (root_of H ds) ≡ 32
 root_len H gives ds some hashes = ap length (sym (roots.whole H ds)) ∙ root_size H gives ds hashes 0 (length ds) some (omega arith)
 
 -- the root by tiles is there where a tile is

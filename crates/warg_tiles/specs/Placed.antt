@@ -1,7 +1,9 @@
 -- Where the two byte lists of a collision stand: in the tree over digests in a row, and in that over the leaves below them.
-use Rattle.std.specs.Prelude.{◌≡◌, ℕ, ◌+◌, ◌-◌, ◌*◌, ◌/◌, ◌^◌, ◌<◌, min, List, ◌∷◌, ◌++◌, length, drop, None}
+use Rattle.std.specs.Prelude.{◌≡◌, ℕ, ◌+◌, ◌-◌, ◌*◌, ◌/◌, ◌^◌, ◌<◌, min, List, ◌∷◌, ◌++◌, length, drop, Some, None}
 use Rattle.std.specs.Option.{option_to_list}
-use Rattle.warg_crypto.specs.Tree.{branch_input}
+use Rattle.warg_crypto.specs.Tree.{branch_input, where_both}
+use Rattle.warg_log.specs.Ranges.{leaves_from, front_part, rest_part}
+use Rattle.warg_log.specs.Cut.{Evaluation, cut_over}
 use Rattle.warg_log.specs.Nodes.{height_of}
 use Rattle.warg_log.specs.Tree.{front_of, root_over, leaves_below}
 use Rattle.warg_tiles.specs.Tiles.{TileAt}
@@ -41,3 +43,13 @@ pub record IsEdgePlaced (H : List ℕ → List ℕ) (tiles : Tiles) (ds : List (
   pub upper : Tiles
   pub split : tiles ≡ lower ++ tile ∷ upper
   pub row : IsRowPlaced H (tile.1 ++ option_to_list (root_on H None lower)) (2 ^ (8 * tile.0.level)) (drop (256 * tile.0.number * 2 ^ (8 * tile.0.level)) ds) first second
+
+-- For an evaluation by digests that are held: its input at a range of the recursion (first), and that of the tree over the
+-- leaves at the same one (second).
+pub record IsEvaluationPlaced (H : List ℕ → List ℕ) (e : Evaluation) (ds : List (List ℕ)) (first second : List ℕ) : Type 0 where
+  pub from : ℕ
+  pub count : ℕ
+  pub part : IsPart (length ds) from count
+  pub more : 1 < count
+  pub by_data : where_both branch_input (cut_over H e (front_part (leaves_from from count))) (cut_over H e (rest_part (leaves_from from count))) ≡ Some first
+  pub by_leaves : second ≡ range_input H ds from count

@@ -1,17 +1,19 @@
 //! Laws of the tiles: the contract of each function is the law, and it has no effect.
 
-ghost use Rattle.std.specs.Prelude.{◌≡◌, ℕ, ◌≤◌, ◌⊎◌, true, List, length, map, Option, Some};
+ghost use Rattle.std.specs.Prelude.{◌≡◌, ℕ, ◌<◌, ◌≤◌, ◌⊎◌, true, List, length, map, Option, Some};
 ghost use Rattle.std.specs.List.{AllByRecursion};
 ghost use Rattle.std.specs.Ordering.{nat_cmp, ordering_then};
 ghost use Rattle.warg_crypto.specs.Collisions.{GivesHashes, AreHashes, SomeCollision};
 ghost use Rattle.warg_log.specs.Tree.{root_of, own_digest};
-ghost use Rattle.warg_log.specs.Walks.{IsKnown};
+ghost use Rattle.warg_log.specs.Cut.{with_target, cut_root};
+ghost use Rattle.warg_log.specs.Ranges.{range_of};
+ghost use Rattle.warg_log.specs.Walks.{needed, IsKnown};
 ghost use Rattle.warg_tiles.specs.Between.{AreNew, tiles_between};
 ghost use Rattle.warg_tiles.specs.Tiles.{TileAt};
 ghost use Rattle.warg_tiles.specs.TileData.{Tiles, IsTileBy, has_below, root_below, digest_by, AreOwnBelow};
 ghost use Rattle.warg_tiles.specs.TileLog.{partial_tiles, full_between, root_by_tiles, ArePartialTiles, AreFullBetween, ArePartialOf};
 ghost use Rattle.warg_tiles.specs.Fetching.{AreFor};
-ghost use Rattle.warg_tiles.specs.Placed.{IsTilePlaced, IsEdgePlaced};
+ghost use Rattle.warg_tiles.specs.Placed.{IsTilePlaced, IsEvaluationPlaced, IsEdgePlaced};
 ghost use Rattle.warg_tiles.specs.CheckpointText.{Said, CanBeSaid, text_before};
 
 use crate::tile::Tile;
@@ -35,6 +37,20 @@ pub fn tile_or_collision()
         (x : ℕ) → GivesHashes H → AreHashes ds → AreHashes digests → length digests ≡ t.width
         → has_below t x ≡ true → own_digest H ds x ≡ Some (root_below H digests x)
         → AreOwnBelow H ds t digests x ⊎ SomeCollision H (IsTilePlaced H digests x ds) }
+{}
+
+/// Tiles of anyone, as data of a proof: where they lead from a node and its digest to a log's root at its length, each digest
+/// that they give for a needed node is the log's own, or two byte strings collide, which the evaluation and the tree over
+/// the log's leaves hash at one range.
+#[tactic(auto, using(crate::proofs::ReadLemmas::tiles_collide))]
+pub fn tiles_or_collision()
+    ensures { (H : List ℕ → List ℕ) (ds : List (List ℕ)) (tiles : Tiles) (node : ℕ) (x : List ℕ)
+        → GivesHashes H → AreHashes ds → AllByRecursion (λ t. AreHashes t.1) tiles → length x ≡ 32
+        → 0 < length ds
+        → cut_root H (digest_by H tiles) node x (length ds) ≡ Some (root_of H ds)
+        → AllByRecursion (λ y. digest_by H tiles y ≡ own_digest H ds y) (needed node (length ds))
+        ⊎ SomeCollision H
+        (IsEvaluationPlaced H (with_target (digest_by H tiles) (range_of node) x) ds) }
 {}
 
 /// Partial tiles of anyone: where they lead to a log's root at its length, they are the log's own, or two byte strings
