@@ -1,5 +1,5 @@
 -- Verdicts on the bytes of paths.
-use Rattle.std.specs.Prelude.{ℕ, Bool, false, ◌&&◌, nat_eq, List, ◌∷◌, Option, Some, None, Result, Ok, Err}
+use Rattle.std.specs.Prelude.{◌≡◌, ◌⊎◌, ◌%◌, ℕ, ℤ, Bool, false, IsTrue, ◌&&◌, nat_eq, List, ◌∷◌, length, Option, Some, None, Result, Ok, Err}
 use Rattle.warg_crypto.specs.Tree.{leaf_digest}
 use Rattle.warg_crypto.specs.Bytes.{same_bytes}
 use Rattle.warg_protobuf.specs.declared.value_error.DecodeError.TheVariants as decoding
@@ -7,6 +7,7 @@ use Rattle.warg_paths.specs.Paths.{inclusion_root, consistency_roots}
 use Rattle.warg_paths.specs.Pieces.{hashes_of}
 use Rattle.warg_check.specs.declared.verdict.CheckError.{CheckError}
 use Rattle.warg_check.specs.declared.verdict.CheckError.TheVariants as fault
+use Rattle.warg_ffi.specs.Numbers.{minus, are_roots, number_under}
 
 -- The root is there, and is this one.
 abbrev pub is_found : List ℕ → Option (List ℕ) → Bool
@@ -34,3 +35,14 @@ judged_path holds (Some path) = Ok (holds path)
 -- The verdict on a path's bytes.
 abbrev pub path_verdict : (List (List ℕ) → Bool) → List ℕ → Result Bool CheckError
 path_verdict holds bytes = judged_path holds (hashes_of bytes)
+
+-- What a call answered for a path's bytes is the verdict, or, where they go out even in pieces of 32, that memory was refused:
+-- this is looked at before memory is asked for.
+abbrev pub AnswersPath : (List (List ℕ) → Bool) → List ℕ → Result Bool CheckError → Type 0
+AnswersPath holds bytes answered = (answered ≡ path_verdict holds bytes) ⊎ ((length bytes % 32 ≡ 0) × (answered ≡ Err fault.Memory))
+
+-- A call with these roots and a path's bytes returned this number: that of the verdict, or -1 where memory was refused. Roots
+-- and the number of bytes are looked at before memory is asked for.
+abbrev pub ReturnsForPath : List (List ℕ) → (List (List ℕ) → Bool) → List ℕ → ℤ → Type 0
+ReturnsForPath roots holds bytes returned =
+    (returned ≡ number_under roots (path_verdict holds bytes)) ⊎ (IsTrue (are_roots roots) × (length bytes % 32 ≡ 0) × (returned ≡ minus 1))

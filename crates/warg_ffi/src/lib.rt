@@ -12,7 +12,7 @@ ghost use Rattle.warg_check.specs.Verdicts.{inclusion_verdict, consistency_verdi
 ghost use Rattle.warg_check.specs.CheckpointVerdicts.{entry_verdict, growth_verdict};
 ghost use Rattle.warg_check.specs.UpdateVerdicts.{update_verdict, insertion_verdict};
 ghost use Rattle.warg_ffi.specs.Numbers.{Returns};
-ghost use Rattle.warg_ffi.specs.PathVerdicts.{shows_record, shows_tree, path_verdict};
+ghost use Rattle.warg_ffi.specs.PathVerdicts.{shows_record, shows_tree, ReturnsForPath};
 
 mod number;
 mod paths;
@@ -231,7 +231,7 @@ pub extern "C" fn warg_check_insertion(
 
 /// Whether an inclusion path shows that entry `index`, from 0, of the log of this length and root has the value's
 /// bytes: the number of the verdict of `warg_paths::check_record`. The path's bytes are its digests, 32 bytes each,
-/// from the bottom up (RFC 6962, section 2.1.1).
+/// from the bottom up (RFC 6962, section 2.1.1). Bytes that don't go out even are told before memory is asked for.
 #[unsafe(no_mangle)]
 pub extern "C" fn warg_check_record(
     alloc: Global,
@@ -241,8 +241,8 @@ pub extern "C" fn warg_check_record(
     length: usize,
     root: &[u8],
 ) -> i32
-    ensures { Returns (root.now ∷ []) (path_verdict
-        (shows_record sha256 index value.now length root.now) path.now) result }
+    ensures { ReturnsForPath (root.now ∷ [])
+        (shows_record sha256 index value.now length root.now) path.now result }
 {
     match Hash::<Sha256>::try_from(root) {
         Ok(root) => {
@@ -265,9 +265,8 @@ pub extern "C" fn warg_check_tree(
     new_length: usize,
     new_root: &[u8],
 ) -> i32
-    ensures { Returns (old_root.now ∷ new_root.now ∷ [])
-        (path_verdict
-        (shows_tree sha256 old_length old_root.now new_length new_root.now) path.now) result }
+    ensures { ReturnsForPath (old_root.now ∷ new_root.now ∷ [])
+        (shows_tree sha256 old_length old_root.now new_length new_root.now) path.now result }
 {
     match (
         Hash::<Sha256>::try_from(old_root),

@@ -1,8 +1,7 @@
 //! Verdicts on the bytes of inclusion and consistency paths.
 
 ghost use Rattle.warg_crypto.specs.Digests.{sha256};
-ghost use Rattle.warg_protobuf.specs.Reading.{Answers};
-ghost use Rattle.warg_ffi.specs.PathVerdicts.{shows_record, shows_tree, path_verdict};
+ghost use Rattle.warg_ffi.specs.PathVerdicts.{shows_record, shows_tree, AnswersPath};
 
 use std::alloc::Global;
 use warg_check::CheckError;
@@ -19,9 +18,9 @@ pub(crate) fn check_record_in(
     value: &[u8],
     checkpoint: &Checkpoint<Sha256>,
 ) -> Result<bool, CheckError>
-    ensures { Answers CheckError.Memory result
-        (path_verdict
-        (shows_record sha256 index value.now checkpoint.now.length checkpoint.now.root) path.now) }
+    ensures { AnswersPath
+        (shows_record sha256 index value.now checkpoint.now.length checkpoint.now.root) path.now
+        result }
 {
     match hashes_in::<Sha256, Global>(alloc, path) {
         Ok(path) => Ok(check_record(checkpoint, index, &value, path.as_slice())),
@@ -37,9 +36,8 @@ pub(crate) fn check_tree_in(
     old: &Checkpoint<Sha256>,
     new: &Checkpoint<Sha256>,
 ) -> Result<bool, CheckError>
-    ensures { Answers CheckError.Memory result
-        (path_verdict
-        (shows_tree sha256 old.now.length old.now.root new.now.length new.now.root) path.now) }
+    ensures { AnswersPath
+        (shows_tree sha256 old.now.length old.now.root new.now.length new.now.root) path.now result }
 {
     match hashes_in::<Sha256, Global>(alloc, path) {
         Ok(path) => Ok(check_tree(old, new, path.as_slice())),
