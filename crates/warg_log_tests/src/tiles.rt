@@ -5,9 +5,10 @@ use std::alloc::{Allocator, Global};
 use std::test::Fail;
 use warg_crypto::weak::Sum;
 use warg_crypto::{Hash, Sha256, SupportedDigest};
-use warg_log::{GREATEST_LENGTH, LogBuilder, Node, VecLog};
+use warg_log::{GREATEST_LENGTH, LogBuilder, LogData, Node, VecLog};
 use warg_tiles::{
-    EntryError, OpenError, StoredTile, Tile, TileLog, push_entry, tile_hashes, tiles_between,
+    EntryError, OpenError, StoredTile, Tile, TileBytesError, TileData, TileLog, push_entry,
+    tile_hashes, tiles_between,
 };
 
 // The same entries in two logs: one holds the digest of every node, the other those of its right edge.
@@ -276,6 +277,22 @@ fn full_tiles_in_turn(rt: HostRuntime) -> Result<(), Fail> {
     assert_eq!(rt; full.len(), 2);
     assert_eq!(rt; log.take_full().len(), 0);
     assert_eq!(rt; log.partial(rt.alloc())?.len(), 1);
+    Ok(())
+}
+
+// A tile by the bytes of its file, of which one is missing at first.
+#[test]
+fn a_tile_by_its_bytes(rt: HostRuntime) -> Result<(), Fail> {
+    let mut data: TileData<Sha256, u64> = TileData::new(rt.alloc());
+    let tile = Tile::new(0, 0, 2);
+    assert!(rt; data.insert_bytes(tile, &[1; 63]) == Err(TileBytesError::Length));
+    assert!(rt; !data.has_hash(Node(0)));
+    let mut bytes = Vec::new(rt.alloc());
+    bytes.extend_from_slice(&[1; 32])?;
+    bytes.extend_from_slice(&[2; 32])?;
+    data.insert_bytes(tile, bytes.as_slice())?;
+    let second = data.hash_for(Node(2)).ok_or("no digest")?;
+    assert!(rt; second.bytes() == [2; 32].as_slice());
     Ok(())
 }
 

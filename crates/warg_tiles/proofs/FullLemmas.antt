@@ -1,5 +1,5 @@
 -- The full and the partial tiles of a length, each once.
-use Rattle.std.proofs.Common.{◌≡◌, ◌≢◌, ◌⊎◌, inl, inr, ℕ, zero, suc, ◌+◌, ◌-◌, ◌*◌, ◌/◌, ◌%◌, ◌^◌, ◌<◌, ◌≤◌, min, List, [], ◌∷◌, ◌++◌, length, get_or, refl, sym, ap, subst, ◌∙◌, arith}
+use Rattle.std.proofs.Common.{◌≡◌, ◌≢◌, ◌⊎◌, inl, inr, ℕ, zero, suc, ◌+◌, ◌-◌, ◌*◌, ◌/◌, ◌%◌, ◌^◌, ◌<◌, ◌≤◌, min, List, [], ◌∷◌, ◌++◌, refl, sym, ap, subst, ◌∙◌, arith}
 use Rattle.std.specs.List.{Contains, AllPairs, flat_map, range_with_len}
 use Rattle.std.proofs.Math.Nat.{div-mul-le_self, mul-le-mul_left, eq_of_mul-eq-mul_right}
 use Rattle.std.proofs.lemmas.Bool.{cases_lt, eq-eqb, ne_eqb}
@@ -155,14 +155,14 @@ all_full old new order fits =
     let pairs = subst (λ n. AllPairs IsFilledBefore (full_between old n)) whole (full_order (new - old) old) in
     record {
       exactly = λ t. (
-          λ has.
+        λ has.
             let f = full_only (new - old) old t (subst (λ n. Contains (full_between old n) t) (sym whole) has) in
             (f.0, there_from new t f.0 (omega (arith, f.2)), λ older. omega (arith, f.1, end_there old t f.0 older)),
-          λ is.
+        λ is.
             let to = end_there new t is.0 is.1 in
             let from : old < tile_end t = elim (cases_lt old (tile_end t)) [ inl more ↦ more | inr less ↦ absurd (is.2 (there_from old t is.0 less)) ] in
             subst (λ n. Contains (full_between old n) t) whole (in_full (new - old) old t is.0 (low_level new t fits is.1) from (omega arith)),
-        );
+      );
       once = once_by IsFilledBefore differ_by_order (full_between old new) pairs;
       order = pairs;
     }

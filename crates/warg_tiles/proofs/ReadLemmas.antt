@@ -1,25 +1,24 @@
 -- An evaluation that leads to a log's root reads the log's own digests, or two byte lists collide.
-use Rattle.std.proofs.Common.{◌≡◌, ◌⊎◌, inl, inr, ℕ, zero, suc, ◌+◌, ◌-◌, ◌*◌, ◌^◌, ◌<◌, ◌≤◌, ◌==◌, ◌&&◌, Bool, true, false, List, [], ◌∷◌, ◌++◌, length, Option, Some, None, refl, sym, ap, subst, ◌∙◌, arith}
+use Rattle.std.proofs.Common.{◌≡◌, ◌⊎◌, inl, inr, ℕ, zero, suc, ◌+◌, ◌-◌, ◌*◌, ◌^◌, ◌<◌, ◌≤◌, ◌==◌, ◌&&◌, Bool, true, false, List, [], ◌∷◌, length, Option, Some, None, refl, sym, ap, subst, ◌∙◌, arith}
 use Rattle.std.specs.List.{AllByRecursion}
 use Rattle.std.specs.Option.{option_or}
-use Rattle.std.proofs.Math.Nat.{pow-suc, mul-le-mul_left}
+use Rattle.std.proofs.Math.Nat.{pow-suc}
 use Rattle.std.proofs.lemmas.Nat.{pow_pos}
-use Rattle.std.proofs.lemmas.Bool.{cases_lt, cases_Bool, le-leb, lt-leb, eq-eqb, eqb-true, and_parts}
+use Rattle.std.proofs.lemmas.Bool.{cases_lt, cases_Bool, le-leb, lt-leb, eqb-true, and_parts}
 use Rattle.std.proofs.Math.Pow.{pow_mono}
-use Rattle.std.proofs.lemmas.List.{take_all}
 use Rattle.warg_crypto.specs.Collisions.{GivesHashes, AreHashes, SomeCollision}
 use Rattle.warg_crypto.specs.Tree.{branch, branch_input, where_both}
 use Rattle.warg_crypto.proofs.ForCallers.{HasSize, sizes, same_or_not, branch_parts}
-use Rattle.warg_log.specs.Nodes.{end_of, node_over, number_of}
-use Rattle.warg_log.specs.Ranges.{Range, leaves_from, range_of, front_part, rest_part}
+use Rattle.warg_log.specs.Nodes.{end_of, node_over}
+use Rattle.warg_log.specs.Ranges.{Range, leaves_from, range_of}
 use Rattle.warg_log.specs.Tree.{front_of, root_of, root_over, own_digest}
-use Rattle.warg_log.specs.Cut.{Evaluation, with_target, is_target, is_beside, joined, Way, at_target, at_node, at_parts, way_within, way_over, top_of, cut_over, cut_root}
+use Rattle.warg_log.specs.Cut.{with_target, is_target, is_beside, joined, Way, at_target, at_node, at_parts, way_within, way_over, top_of, cut_over, cut_root}
 use Rattle.warg_log.specs.Walks.{read_on, needed}
 use Rattle.warg_log.proofs.ForCallers.{below_pow, over_at, front_of_is, root_over_parts, cut_size}
 use Rattle.warg_protobuf.proofs.ForCallers.{all_append}
 use Rattle.warg_tiles.specs.Tiles.{TileAt}
 use Rattle.warg_tiles.specs.TileData.{Tiles, digest_of, digest_by, has_below, root_below}
-use Rattle.warg_tiles.specs.Placed.{IsPart, whole, front, rest, range_input, IsEvaluationPlaced}
+use Rattle.warg_tiles.specs.Placed.{IsPart, whole, front, rest, IsEvaluationPlaced}
 use Rattle.warg_tiles.proofs.EdgeLemmas.{node_root}
 use Rattle.warg_tiles.proofs.RowLemmas.{root_size}
 use Rattle.warg_tiles.proofs.StoredLemmas.{some_hashes, root_len}
@@ -126,18 +125,18 @@ module _ (H : List ℕ → List ℕ) (digests : GivesHashes H) (F : ℕ → Opti
                 let lengths : length l ≡ length own_left = cut_size H by (leaves_from a (2 ^ h)) l (sizes digests) holds size cut_left ∙ sym (root_size H (sizes digests) ds leaves a (2 ^ h) unit (omega arith)) in
                 elim (same_or_not (branch_input l r) (branch_input own_left own_right)) [
                   | inr differ ↦ inr (record {
-                      first = branch_input l r;
-                      second = branch_input own_left own_right;
-                      collide = record { differ = differ; same = both };
-                      placed = record {
-                        from = a;
-                        count = n;
-                        part = part;
-                        more = many;
-                        by_data = ap (λ k. where_both branch_input (cut_over H by (leaves_from a k)) (cut_over H by (leaves_from (a + k) (n - k)))) split ∙ rw (cut_left, cut_right) refl;
-                        by_leaves = sym (ap (λ k. branch_input (root_over H ds a k) (root_over H ds (a + k) (n - k))) split);
-                      };
-                    })
+                    first = branch_input l r;
+                    second = branch_input own_left own_right;
+                    collide = record { differ = differ; same = both };
+                    placed = record {
+                      from = a;
+                      count = n;
+                      part = part;
+                      more = many;
+                      by_data = ap (λ k. where_both branch_input (cut_over H by (leaves_from a k)) (cut_over H by (leaves_from (a + k) (n - k)))) split ∙ rw (cut_left, cut_right) refl;
+                      by_leaves = sym (ap (λ k. branch_input (root_over H ds a k) (root_over H ds (a + k) (n - k))) split);
+                    };
+                  })
                   | inl equal ↦
                       let parts = branch_parts l r own_left own_right lengths equal in
                       at_both misses left right (reads h (2 * j) a (2 ^ h) here unit (omega arith) (omega arith) part_left (l_is ∙ ap Some parts.0))

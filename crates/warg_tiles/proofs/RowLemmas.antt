@@ -1,5 +1,5 @@
 -- Digests in a row whose root is that over the leaves below them are the roots of these, or two byte lists collide.
-use Rattle.std.proofs.Common.{◌≡◌, ◌⊎◌, inl, inr, ℕ, zero, suc, zero-add, ◌+◌, ◌-◌, ◌*◌, ◌^◌, ◌<◌, ◌≤◌, min, List, [], ◌∷◌, length, take, drop, slice_index_or, refl, sym, ap, subst, ◌∙◌, arith}
+use Rattle.std.proofs.Common.{◌≡◌, ◌⊎◌, inl, inr, ℕ, zero, suc, ◌+◌, ◌-◌, ◌*◌, ◌^◌, ◌<◌, ◌≤◌, min, List, [], length, take, drop, slice_index_or, refl, sym, ap, subst, ◌∙◌, arith}
 use Rattle.std.proofs.Math.Nat.{mul-le-mul_left}
 use Rattle.std.proofs.lemmas.Nat.{pow_pos, pow-add}
 use Rattle.std.proofs.lemmas.Bool.{cases_lt}
@@ -69,11 +69,11 @@ module _ (H : List ℕ → List ℕ) (digests : GivesHashes H) (xs ys : List (Li
         let both = sym (root_over_parts H xs a n more fits) ∙ e ∙ root_over_parts H ys (a * p) c many inside in
         elim (same_or_not (range_input H xs a n) (range_input H ys (a * p) c)) [
           | inr differ ↦ inr (record {
-              first = range_input H xs a n;
-              second = range_input H ys (a * p) c;
-              collide = record { differ = differ; same = both };
-              placed = record { from = a; count = n; part = part; more = more; by_row = refl; by_leaves = ap (range_input H ys (a * p)) is };
-            })
+            first = range_input H xs a n;
+            second = range_input H ys (a * p) c;
+            collide = record { differ = differ; same = both };
+            placed = record { from = a; count = n; part = part; more = more; by_row = refl; by_leaves = ap (range_input H ys (a * p)) is };
+          })
           | inl same ↦
               let parts = branch_parts _ _ _ _ (root_size H (sizes digests) xs row a f (omega arith) (omega arith) ∙ sym (root_size H (sizes digests) ys leaves (a * p) (front_of c) (omega arith) (omega arith))) same in
               let first = at_range fuel a f (f * p) (omega arith) (omega arith) (front a n part more) (omega arith) (omega arith) (omega arith) (parts.0 ∙ left) in

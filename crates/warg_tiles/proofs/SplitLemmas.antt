@@ -2,8 +2,7 @@
 use Rattle.std.proofs.Common.{◌≡◌, inl, inr, ℕ, ◌+◌, ◌-◌, ◌*◌, ◌/◌, ◌%◌, ◌^◌, ◌<◌, ◌≤◌, List, [], ◌∷◌, ◌++◌, length, map, take, drop, Option, Some, None, refl, sym, ap, ◌∙◌, arith}
 use Rattle.std.specs.Option.{option_to_list}
 use Rattle.std.proofs.lemmas.Bool.{cases_lt}
-use Rattle.std.proofs.lemmas.List.{append_assoc, append-nil, length-append, length-drop, take_all, drop_all, take_at, drop_at}
-use Rattle.warg_log.specs.Tree.{root_of}
+use Rattle.std.proofs.lemmas.List.{append_assoc, length-append, length-drop, take_all, drop_all, take_at, drop_at}
 use Rattle.warg_tiles.specs.Tiles.{TileAt}
 use Rattle.warg_tiles.specs.TileData.{Tiles}
 use Rattle.warg_tiles.specs.TileLog.{last_tile, partial_tiles, split_into, root_on, tiles_fault}

@@ -1,31 +1,30 @@
 -- Digests of tiles that come to a log's own, or two byte lists collide.
-use Rattle.std.proofs.Common.{◌≡◌, ◌⊎◌, inl, inr, ℕ, zero, suc, ◌+◌, ◌-◌, ◌*◌, ◌/◌, ◌%◌, ◌^◌, ◌<◌, ◌≤◌, List, [], ◌∷◌, ◌++◌, length, map, take, drop, slice_index_or, get_or, Option, Some, None, unwrap_or, refl, sym, ap, subst, ◌∙◌, arith, true}
+use Rattle.std.proofs.Common.{◌≡◌, ◌⊎◌, inl, inr, ℕ, zero, suc, ◌+◌, ◌-◌, ◌*◌, ◌/◌, ◌%◌, ◌^◌, ◌<◌, ◌≤◌, List, [], ◌∷◌, ◌++◌, length, map, take, drop, slice_index_or, Option, Some, None, unwrap_or, refl, sym, ap, subst, ◌∙◌, arith, true}
 use Rattle.std.specs.List.{AllByRecursion}
-use Rattle.std.specs.Option.{option_to_list, option_or}
+use Rattle.std.specs.Option.{option_to_list}
 use Rattle.std.proofs.Math.Nat.{mul-le-mul_left}
 use Rattle.std.proofs.Math.Seq.{get_or-append_seam}
 use Rattle.std.proofs.Math.ListN.{get_or-append}
 use Rattle.std.proofs.lemmas.Bool.{cases_lt, le-leb}
-use Rattle.std.proofs.lemmas.Nat.{pow_pos, pow-add}
-use Rattle.std.proofs.lemmas.List.{take-append-drop, append_assoc, append-nil, length-append, length-drop, length-take-le, get_or-take, get_or-drop, drop-drop, take_all, take-take}
+use Rattle.std.proofs.lemmas.Nat.{pow_pos}
+use Rattle.std.proofs.lemmas.List.{take-append-drop, append_assoc, append-nil, length-append, length-drop, length-take-le, get_or-take, get_or-drop, drop-drop, take_all}
 use Rattle.std.proofs.lemmas.List.FromFn.{fill_by_all}
-use Rattle.std.proofs.lemmas.Option.{cond_some}
 use Rattle.warg_crypto.specs.Collisions.{GivesHashes, AreHashes, SomeCollision}
 use Rattle.warg_crypto.proofs.ForCallers.{HasSize, sizes}
 use Rattle.warg_log.specs.Nodes.{height_of, start_of, end_of}
 use Rattle.warg_log.specs.Tree.{root_of, root_over, leaves_below, own_digest}
 use Rattle.warg_log.proofs.ForCallers.{over_at}
-use Rattle.warg_protobuf.proofs.ForCallers.{all_at, all_append, all_push, all_parts}
-use Rattle.warg_tiles.specs.Tiles.{TileAt, node_in, place_in_level, tile_over}
-use Rattle.warg_tiles.specs.TileData.{Tiles, IsTileBy, has_below, digests_below, root_below, digest_of, digest_by, AreOwnBelow}
-use Rattle.warg_tiles.specs.TileLog.{last_tile, partial_tiles, tile_digests, root_on, root_by_tiles, ArePartialTiles}
+use Rattle.warg_protobuf.proofs.ForCallers.{all_append, all_push, all_parts}
+use Rattle.warg_tiles.specs.Tiles.{TileAt, node_in, place_in_level}
+use Rattle.warg_tiles.specs.TileData.{Tiles, IsTileBy, has_below, digests_below, root_below, AreOwnBelow}
+use Rattle.warg_tiles.specs.TileLog.{last_tile, partial_tiles, root_on, root_by_tiles, ArePartialTiles}
 use Rattle.warg_tiles.specs.Placed.{IsRowPlaced, IsTilePlaced, IsEdgePlaced}
 use Rattle.warg_tiles.specs.Private.Edges.{root_if, partial_from}
 use Rattle.warg_tiles.proofs.OwnLemmas.{own_is, below_is, leaves_by_tile}
 use Rattle.warg_tiles.proofs.RowLemmas.{row_or_collides, root_size}
 use Rattle.warg_tiles.proofs.RootLemmas.{take_drop_take}
 use Rattle.warg_tiles.proofs.RootLemmas as roots
-use Rattle.warg_tiles.proofs.EdgeLemmas.{own_tile, tile_count, node_root, digest_at_place, pow_up}
+use Rattle.warg_tiles.proofs.EdgeLemmas.{own_tile, node_root, digest_at_place, pow_up}
 use Rattle.warg_tiles.proofs.PushLemmas.{level_count}
 use Rattle.warg_tiles.proofs.ChunkLemmas.{tile_start, chunk_at, root_if_some, root_if_none, root_end}
 use Rattle.warg_tiles.proofs.OpenLemmas.{from_none, from_some}
@@ -151,24 +150,24 @@ module _ (H : List ℕ → List ℕ) (digests : GivesHashes H) (ds : List (List 
       let least = mul-le-mul_left p some in
       let start : 256 * (m / 256) * p ≡ a = omega (arith, ap (λ k. m / 256 * k) (pow_up level)) in
       let same : root_of H (stored ++ option_to_list behind) ≡ root_of H ys =
-          let found : Some (root_of H (stored ++ option_to_list behind)) ≡ Some (root_of H ys) = e ∙ ap (λ b. root_if H (drop (b * 2 ^ (8 * (level + 1))) ds)) (sym (level_count n level)) ∙ root_if_some H ys (omega arith) in cc in
+      let found : Some (root_of H (stored ++ option_to_list behind)) ≡ Some (root_of H ys) = e ∙ ap (λ b. root_if H (drop (b * 2 ^ (8 * (level + 1))) ds)) (sym (level_count n level)) ∙ root_if_some H ys (omega arith) in cc in
       let tile : ((i : ℕ) → i < w → slice_index_or stored i [] ≡ root_of H (take p (drop (i * p) ys))) → IsTileBy (own_digest H ds) (last_tile n level) stored = λ are.
-          subst (IsTileBy (own_digest H ds) (last_tile n level)) (sym (fill_by_all (λ i. root_of H (leaves_below (node_in (last_tile n level) i) ds)) stored w [] size
-          (λ i low. are i low ∙ sym (chunk_at H ds level m i low) ∙ digest_at_place H ds (last_tile n level) i low)))
-          ((own_tile H ds (last_tile n level) (omega (arith, ap (λ k. k * p) whole))).digests.0) in
+      subst (IsTileBy (own_digest H ds) (last_tile n level)) (sym (fill_by_all (λ i. root_of H (leaves_below (node_in (last_tile n level) i) ds)) stored w [] size
+      (λ i low. are i low ∙ sym (chunk_at H ds level m i low) ∙ digest_at_place H ds (last_tile n level) i low)))
+      ((own_tile H ds (last_tile n level) (omega (arith, ap (λ k. k * p) whole))).digests.0) in
       let put : (row : List (List ℕ)) → row ≡ stored ++ option_to_list behind → SomeCollision H (IsRowPlaced H row p ys) → SomeCollision H (IsEdgePlaced H (lower ++ (last_tile n level, stored) ∷ upper) ds) = λ row is c. record {
-          first = c.first;
-          second = c.second;
-          collide = c.collide;
-          placed = record {
-            lower = lower;
-            tile = (last_tile n level, stored);
-            upper = upper;
-            split = refl;
-            row = subst (λ b. IsRowPlaced H (stored ++ option_to_list b) p (drop (256 * (m / 256) * p) ds) c.first c.second) made
-                (subst (λ l. IsRowPlaced H l p (drop (256 * (m / 256) * p) ds) c.first c.second) is (subst (λ b. IsRowPlaced H row p (drop b ds) c.first c.second) (sym start) c.placed));
-          };
-        } in
+        first = c.first;
+        second = c.second;
+        collide = c.collide;
+        placed = record {
+          lower = lower;
+          tile = (last_tile n level, stored);
+          upper = upper;
+          split = refl;
+          row = subst (λ b. IsRowPlaced H (stored ++ option_to_list b) p (drop (256 * (m / 256) * p) ds) c.first c.second) made
+              (subst (λ l. IsRowPlaced H l p (drop (256 * (m / 256) * p) ds) c.first c.second) is (subst (λ b. IsRowPlaced H row p (drop b ds) c.first c.second) (sym start) c.placed));
+        };
+      } in
       elim (cases_lt 0 (n % p)) [
         | inr none ↦
             let nothing = has.none (omega arith) in
@@ -188,10 +187,12 @@ module _ (H : List ℕ → List ℕ) (digests : GivesHashes H) (ds : List (List 
               | inl are ↦
                   let place : w * p + a ≡ m * p = omega (arith, tile_start level m) in
                   let last : r ≡ root_of H (drop (m * p) ds) =
-                      sym (ap (λ j. slice_index_or (stored ++ r ∷ []) j []) (sym size) ∙ get_or-append_seam stored r [] []) ∙ are w (omega arith) (omega arith)
-                      ∙ ap (root_of H) (take_all p (drop (w * p) ys) (omega (arith, length-drop (w * p) ys))) ∙ ap (root_of H) (drop-drop (w * p) a ds) ∙ ap (λ b. root_of H (drop b ds)) (let o : a + w * p ≡ m * p = omega arith in o) in
-                  inl (tile (λ i low. sym (get_or-append stored (r ∷ []) [] i (omega arith)) ∙ are i (omega arith) (omega arith)),
-                  is ∙ ap Some last ∙ sym (root_if_some H (drop (m * p) ds) (omega (arith, length-drop (m * p) ds))))
+                  sym (ap (λ j. slice_index_or (stored ++ r ∷ []) j []) (sym size) ∙ get_or-append_seam stored r [] []) ∙ are w (omega arith) (omega arith)
+                  ∙ ap (root_of H) (take_all p (drop (w * p) ys) (omega (arith, length-drop (w * p) ys))) ∙ ap (root_of H) (drop-drop (w * p) a ds) ∙ ap (λ b. root_of H (drop b ds)) (let o : a + w * p ≡ m * p = omega arith in o) in
+                  inl (
+                    tile (λ i low. sym (get_or-append stored (r ∷ []) [] i (omega arith)) ∙ are i (omega arith) (omega arith)),
+                    is ∙ ap Some last ∙ sym (root_if_some H (drop (m * p) ds) (omega (arith, length-drop (m * p) ds))),
+                  )
             ]
       ]
 
@@ -210,7 +211,7 @@ module _ (H : List ℕ → List ℕ) (digests : GivesHashes H) (ds : List (List 
         let nought = ap (λ w. w * 2 ^ (8 * level)) none in
         let same : n % 2 ^ (8 * (level + 1)) ≡ n % 2 ^ (8 * level) = omega arith in
         let ends : n / 2 ^ (8 * (level + 1)) * 2 ^ (8 * (level + 1)) ≡ n / 2 ^ (8 * level) * 2 ^ (8 * level) =
-            omega (arith, tile_start level (n / 2 ^ (8 * level)), ap (λ q. q * 2 ^ (8 * (level + 1))) (level_count n level)) in
+        omega (arith, tile_start level (n / 2 ^ (8 * level)), ap (λ q. q * 2 ^ (8 * (level + 1))) (level_count n level)) in
         elim (from_level k (level + 1) lower tiles behind (omega arith) (places ∙ from_none n level (omega arith) none) counts hashes
         (record { none = λ is. has.none (sym same ∙ is); some = λ more. has.some (omega arith) }) made e) [
           | inl own ↦ inl (own.0, own.1 ∙ ap (λ b. root_if H (drop b ds)) ends)
@@ -223,19 +224,19 @@ module _ (H : List ℕ → List ℕ) (digests : GivesHashes H) (ds : List (List 
         let next = behind_next level in
         let (stored, upper, split, above) = first_tile tiles (last_tile n level) (partial_from n (level + 1)) (places ∙ from_some n level (omega arith) some) in
         let P : Tiles → Type 0 = λ tiles. AllByRecursion (λ (t : TileAt × List (List ℕ)). length t.1 ≡ t.0.width) tiles → AllByRecursion (λ (t : TileAt × List (List ℕ)). AreHashes t.1) tiles → root_on H behind tiles ≡ root_if H ds
-            → (AllByRecursion (λ (t : TileAt × List (List ℕ)). IsTileBy (own_digest H ds) t.0 t.1) tiles × (behind ≡ own_behind level)) ⊎ SomeCollision H (IsEdgePlaced H (lower ++ tiles) ds) in
+        → (AllByRecursion (λ (t : TileAt × List (List ℕ)). IsTileBy (own_digest H ds) t.0 t.1) tiles × (behind ≡ own_behind level)) ⊎ SomeCollision H (IsEdgePlaced H (lower ++ tiles) ds) in
         let at : P ((last_tile n level, stored) ∷ upper) = λ counts hashes e.
-            let root = root_of H (stored ++ option_to_list behind) in
-            let tile : TileAt × List (List ℕ) = (last_tile n level, stored) in
-            let size : length root ≡ 32 = root_len H (sizes digests) (stored ++ option_to_list behind) (omega (arith, length-append stored (option_to_list behind), counts.0)) (all_append (λ (d : List ℕ). length d ≡ 32) stored (option_to_list behind) hashes.0 (behind_hashes level behind has)) in
-            let above_has : HasBehind (level + 1) (Some root) = record { none = λ is. absurd (omega arith); some = λ more. (root, refl, size) } in
-            elim (from_level k (level + 1) (lower ++ tile ∷ []) upper (Some root) (omega arith) above counts.1 hashes.1 above_has (ap (λ b. Some (root_of H (stored ++ option_to_list b))) made ∙ sym (root_on_append H None lower (tile ∷ []))) e) [
-              | inr collision ↦ inr (subst (λ l. SomeCollision H (IsEdgePlaced H l ds)) (append_assoc lower (tile ∷ []) upper) collision)
-              | inl own ↦ elim (at_tile level stored behind lower upper (omega arith) some counts.0 hashes.0 has made own.1) [
-                | inr collision ↦ inr collision
-                | inl here ↦ inl ((here.0, own.0), here.1)
-              ]
-            ] in
+        let root = root_of H (stored ++ option_to_list behind) in
+        let tile : TileAt × List (List ℕ) = (last_tile n level, stored) in
+        let size : length root ≡ 32 = root_len H (sizes digests) (stored ++ option_to_list behind) (omega (arith, length-append stored (option_to_list behind), counts.0)) (all_append (λ (d : List ℕ). length d ≡ 32) stored (option_to_list behind) hashes.0 (behind_hashes level behind has)) in
+        let above_has : HasBehind (level + 1) (Some root) = record { none = λ is. absurd (omega arith); some = λ more. (root, refl, size) } in
+        elim (from_level k (level + 1) (lower ++ tile ∷ []) upper (Some root) (omega arith) above counts.1 hashes.1 above_has (ap (λ b. Some (root_of H (stored ++ option_to_list b))) made ∙ sym (root_on_append H None lower (tile ∷ []))) e) [
+          | inr collision ↦ inr (subst (λ l. SomeCollision H (IsEdgePlaced H l ds)) (append_assoc lower (tile ∷ []) upper) collision)
+          | inl own ↦ elim (at_tile level stored behind lower upper (omega arith) some counts.0 hashes.0 has made own.1) [
+            | inr collision ↦ inr collision
+            | inl here ↦ inl ((here.0, own.0), here.1)
+          ]
+        ] in
         subst P (sym split) at counts hashes e
   ]
 
