@@ -189,7 +189,7 @@ among P x (y ∷ ys) all there = ⊎_elim
     (λ (t : nat_eq x y ≡ false). among P x ys all.1 (rw t at there))
     (cases_Bool (nat_eq x y))
 
-all_among : (P : ℕ → Type 0) (xs : List ℕ) → ((x : ℕ) → list_any (nat_eq x) xs ≡ true → P x) → AllByRecursion P xs
+pub all_among : (P : ℕ → Type 0) (xs : List ℕ) → ((x : ℕ) → list_any (nat_eq x) xs ≡ true → P x) → AllByRecursion P xs
 all_among P [] each = tt
 all_among P (x ∷ xs) each = (each x (or_left (nat_eq x x) _ (eq-eqb x x refl)), all_among P xs (λ y there. each y (or_right (nat_eq y x) _ there)))
 
