@@ -37,24 +37,28 @@ import functions
 import kit
 
 PARTS = ("src", "specs", "proofs")
+RENAMED = "its goals have other names"
 # more seconds than a wrong body should take
 SLOW = 20
 PROGRESS = re.compile(r"checked (\S+), \d+ of \d+$")
 WAITS = re.compile(r"which (is|are) not proved")
 CYCLE = re.compile(r"#\[cycle\((\w+)\)\]\s*(?:#\[[^\n]*\]\s*|//[^\n]*\n\s*)*(?:pub(?:\(\w+\))? )?\Z")
 EMPTY = re.compile(r"^(?:warning: no call of `(?![^`]*::fn::)|note: the search for empty contracts did not end).*", re.M)
+LACKS_A_GOAL = re.compile(r"^(?:\./)?proofs/(\S+)/\w+\.antt:\d+:\d+: error: `[^`]+`: `goal\.([^`]+)`: module", re.M)
+ASKS = re.compile(r"^help: `Goals` has no `([^`]+)`; rattle asks for ([^;]*)", re.M)
 LACKS_A_NAME = re.compile(r"has no field|is not in scope|has no `|was not admitted|is no name")
 
 
 @dataclasses.dataclass(eq=False)
 class Edit:
-    """A wrong body: its pairs of texts by file, the one function that it changes, if it is one, and those that have one
-    proof with it, itself first."""
+    """A wrong body: its pairs of texts by file, the one function that it changes, if it is one, those that have one proof
+    with it, itself first, and the words of its goals' names that it changes, by the folder of the answers."""
 
     path: pathlib.Path
     pairs: list
     function: str = ""
     proved_with: tuple = ()
+    renamed: set = dataclasses.field(default_factory=set)
 
     @property
     def name(self):
@@ -99,6 +103,21 @@ def fits(edit, texts):
 def apply(edit, texts):
     for file, old, new in edit.pairs:
         texts[file] = texts[file].replace(old, new)
+
+
+def word_changed(old, new):
+    """Returns the word in which two names of goals differ behind the first one, with the word before it; none where they
+    differ in more."""
+    olds, news = old.split("-"), new.split("-")
+    at = [it for it in range(len(olds)) if len(olds) == len(news) and olds[it] != news[it]]
+    return (olds[at[0] - 1], olds[at[0]], news[at[0]]) if len(at) == 1 and at[0] > 0 else None
+
+
+def rename(folder, before, old, new):
+    """Writes the new word for the old one, where the word before it or a branch's stands there, in a folder's answers."""
+    names = re.compile(rf"\b({re.escape(before)}|then|else|if)-{re.escape(old)}(?!\w)", re.I)
+    for file in pathlib.Path(folder).glob("*.antt"):
+        file.write_text(names.sub(rf"\1-{new}", file.read_text()))
 
 
 def function_of(edit, texts, crate):
@@ -159,6 +178,7 @@ class Check:
         for folder, fault in re.findall(r"^(?:\./)?proofs/(\S*?)/?\w+\.antt:\d+:\d+: error: (.*)$", said, re.M):
             if not LACKS_A_NAME.search(fault):
                 self.faults[folder.replace("+", "")].append(fault)
+        self.asked = {it.partition(": ")[0]: dict(ASKS.findall(it)) for it in re.split(r"^fn ", said, flags=re.M)[1:]}
         self.is_whole = has_named
         self.is_proved = bool(re.search(r"^(logic=proved|only=(\d+) proved=\2$)", said, re.M))
 
@@ -167,6 +187,16 @@ class Check:
         said = self.lines.get(name, "proved")
         own = "/".join(name.split("::")[1:])
         return "did not prove" in said or not said.startswith("proved") and own in self.faults
+
+    def renamed(self, name):
+        """Returns the words of the names that a function's answers lack, and for each the one that stands there now."""
+        own, found = "/".join(name.split("::")[1:]), set()
+        for folder, old in LACKS_A_GOAL.findall(self.said):
+            asked = re.findall(r"`([^`]+)`", self.asked.get(name, {}).get(old, ""))
+            words = next(filter(None, (word_changed(old, it) for it in asked)), None)
+            if folder.replace("+", "") == own and words:
+                found.add((folder, *words))
+        return found
 
 
 class Crate:
@@ -205,6 +235,8 @@ class Crate:
                     shutil.copytree(self.folder / part, f"{room}/{part}")
             for file, text in texts.items():
                 pathlib.Path(room, file).write_text(text)
+            for folder, *words in {it for edit in edits for it in edit.renamed}:
+                rename(f"{room}/proofs/{folder}", *words)
             if not keeps:
                 shutil.copytree(self.kept, f"{room}/kept", copy_function=os.link)
             words = [kit.RATTLE, "check", *kit.words(self.name), *self.scope, "--jobs", "1", "--incremental", keeps or f"{room}/kept"]
@@ -248,6 +280,9 @@ class Crate:
                 answers[edit] = "refused"
             elif said.startswith("proved") or len(edits) == 1 and checked.is_proved:
                 answers[edit] = "proved"
+            elif own and checked.renamed(own[0]) - edit.renamed:
+                edit.renamed |= checked.renamed(own[0])
+                answers[edit] = RENAMED
             else:
                 answers[edit] = "waits" if WAITS.search(said) else "unjudged: " + said[:200]
         return answers
@@ -288,7 +323,7 @@ class Crate:
                 told[edit].append(answer)
                 if answer == "refused":
                     self.refused[edit] = number
-                if answer == "refused" or alone or edit.is_planted and answer == "proved":
+                if answer == "refused" or alone and answer != RENAMED or edit.is_planted and answer == "proved":
                     left.remove(edit)
             for edit in rest if len(rest) == 1 else []:
                 report(f"{self.name}: {edit.name}: {answers[edit]}")

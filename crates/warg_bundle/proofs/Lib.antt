@@ -3,3 +3,4 @@ pub mod BundleLemmas
 pub mod NeededLemmas
 pub mod SourceLemmas
 pub mod ServeLemmas
+mod LargeLemmas

@@ -182,14 +182,14 @@ filtered test a (suc n) (x ∷ xs) up low high is =
     rw inside (rw (rest, same) refl))
     (cases_lt a x)
 
-among : (P : ℕ → Type 0) (x : ℕ) (xs : List ℕ) → AllByRecursion P xs → list_any (nat_eq x) xs ≡ true → P x
+pub among : (P : ℕ → Type 0) (x : ℕ) (xs : List ℕ) → AllByRecursion P xs → list_any (nat_eq x) xs ≡ true → P x
 among P x [] all there = absurd (cc there)
 among P x (y ∷ ys) all there = ⊎_elim
     (λ (t : nat_eq x y ≡ true). rw (eqb-true x y t) all.0)
     (λ (t : nat_eq x y ≡ false). among P x ys all.1 (rw t at there))
     (cases_Bool (nat_eq x y))
 
-all_among : (P : ℕ → Type 0) (xs : List ℕ) → ((x : ℕ) → list_any (nat_eq x) xs ≡ true → P x) → AllByRecursion P xs
+pub all_among : (P : ℕ → Type 0) (xs : List ℕ) → ((x : ℕ) → list_any (nat_eq x) xs ≡ true → P x) → AllByRecursion P xs
 all_among P [] each = tt
 all_among P (x ∷ xs) each = (each x (or_left (nat_eq x x) _ (eq-eqb x x refl)), all_among P xs (λ y there. each y (or_right (nat_eq y x) _ there)))
 
@@ -253,7 +253,7 @@ needed_exactly_by P Q old new leaf len n xs ys keys adds all_x all_y x =
 
 -- ---- they are numbers below twice the length
 
-all_flat : {X : Type 0} (P : ℕ → Type 0) (Q : X → Type 0) (f : X → List ℕ) → ((x : X) → Q x → AllByRecursion P (f x)) → (xs : List X) → AllByRecursion Q xs → AllByRecursion P (flat_map f xs)
+pub all_flat : {X : Type 0} (P : ℕ → Type 0) (Q : X → Type 0) (f : X → List ℕ) → ((x : X) → Q x → AllByRecursion P (f x)) → (xs : List X) → AllByRecursion Q xs → AllByRecursion P (flat_map f xs)
 all_flat P Q f each [] all = tt
 all_flat P Q f each (x ∷ xs) all = all_append P (f x) _ (each x all.0) (all_flat P Q f each xs all.1)
 
@@ -267,7 +267,7 @@ between_below : (n m : ℕ) → m ≤ n → AllByRecursion (λ x. x < 2 * n) (ne
 between_below n m le = all_flat (λ x. x < 2 * n) (λ t. end_of t ≤ m) (λ t. t ∷ needed t n)
     (λ t exists. let exists' : ExistsAt t n = omega (arith, exists) in (exists_below n t exists', needed_below n t exists')) (balanced_roots m) (roots_exist m)
 
-all_mapped : {X Y : Type 0} (P : Y → Type 0) (f : X → Y) (xs : List X) → AllByRecursion (λ x. P (f x)) xs → AllByRecursion P (map f xs)
+pub all_mapped : {X Y : Type 0} (P : Y → Type 0) (f : X → Y) (xs : List X) → AllByRecursion (λ x. P (f x)) xs → AllByRecursion P (map f xs)
 all_mapped P f [] all = tt
 all_mapped P f (x ∷ xs) all = (all.0, all_mapped P f xs all.1)
 
@@ -279,6 +279,18 @@ all_below cs ps n is =
     (all_flat (λ x. x < 2 * n) (λ m. m ≤ n) (λ m. needed_between m n) (between_below n) _
     (all_mapped (λ m. m ≤ n) (λ (p : ConsistencyClaim). p.old_length) cs (all_weaken _ (λ (p : ConsistencyClaim). p.old_length ≤ n) (λ p q. omega (arith, q.0, q.1)) cs (consistencies_good n cs good.0))))
     (all_flat (λ x. x < 2 * n) (λ (node : Node). ExistsAt node.0 n) (λ (node : Node). needed node.0 n) (λ node. needed_below n node.0) _
+    (all_mapped (λ (node : Node). ExistsAt node.0 n) (λ (p : InclusionClaim). p.leaf) ps (all_weaken _ (λ (p : InclusionClaim). ExistsAt p.leaf.0 n) (λ p q. rw (← q.1) q.0) ps (inclusions_good n ps good.1))))
+
+-- and those of nodes that exist at the length
+pub all_exist : (cs : List ConsistencyClaim) (ps : List InclusionClaim) (n : ℕ) → bundle_length cs ps ≡ Ok n
+    → AllByRecursion (λ x. ExistsAt x n) (needed_by (map (λ (p : ConsistencyClaim). p.old_length) cs) (map (λ (p : InclusionClaim). p.leaf) ps) n)
+all_exist cs ps n is =
+    let good = length_good cs ps n is in
+    all_append (λ x. ExistsAt x n) (flat_map (λ m. needed_between m n) (map (λ (p : ConsistencyClaim). p.old_length) cs)) _
+    (all_flat (λ x. ExistsAt x n) (λ m. m ≤ n) (λ m. needed_between m n) (λ m le. all_flat (λ x. ExistsAt x n) (λ t. end_of t ≤ m) (λ t. t ∷ needed t n)
+    (λ t exists. let exists' : ExistsAt t n = omega (arith, exists) in (exists', needed_exist t n (let lt = exists_below n t exists' in omega arith))) (balanced_roots m) (roots_exist m)) _
+    (all_mapped (λ m. m ≤ n) (λ (p : ConsistencyClaim). p.old_length) cs (all_weaken _ (λ (p : ConsistencyClaim). p.old_length ≤ n) (λ p q. omega (arith, q.0, q.1)) cs (consistencies_good n cs good.0))))
+    (all_flat (λ x. ExistsAt x n) (λ (node : Node). ExistsAt node.0 n) (λ (node : Node). needed node.0 n) (λ node exists. needed_exist node.0 n (let lt = exists_below n node.0 exists in omega arith)) _
     (all_mapped (λ (node : Node). ExistsAt node.0 n) (λ (p : InclusionClaim). p.leaf) ps (all_weaken _ (λ (p : InclusionClaim). ExistsAt p.leaf.0 n) (λ p q. rw (← q.1) q.0) ps (inclusions_good n ps good.1))))
 
 -- so the numbers that were collected and sorted are the needed ones

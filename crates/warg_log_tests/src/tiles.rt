@@ -5,9 +5,10 @@ use std::alloc::{Allocator, Global};
 use std::test::Fail;
 use warg_crypto::weak::Sum;
 use warg_crypto::{Hash, Sha256, SupportedDigest};
-use warg_log::{GREATEST_LENGTH, LogBuilder, Node, VecLog};
+use warg_log::{GREATEST_LENGTH, LogBuilder, LogData, Node, VecLog};
 use warg_tiles::{
-    EntriesError, OpenError, StoredTile, Tile, TileLog, push_entry, tile_hashes, tiles_between,
+    EntryError, OpenError, StoredTile, Tile, TileBytesError, TileData, TileLog, push_entry,
+    tile_hashes, tiles_between,
 };
 
 // The same entries in two logs: one holds the digest of every node, the other those of its right edge.
@@ -279,6 +280,22 @@ fn full_tiles_in_turn(rt: HostRuntime) -> Result<(), Fail> {
     Ok(())
 }
 
+// A tile by the bytes of its file, of which one is missing at first.
+#[test]
+fn a_tile_by_its_bytes(rt: HostRuntime) -> Result<(), Fail> {
+    let mut data: TileData<Sha256, u64> = TileData::new(rt.alloc());
+    let tile = Tile::new(0, 0, 2);
+    assert!(rt; data.insert_bytes(tile, &[1; 63]) == Err(TileBytesError::Length));
+    assert!(rt; !data.has_hash(Node(0)));
+    let mut bytes = Vec::new(rt.alloc());
+    bytes.extend_from_slice(&[1; 32])?;
+    bytes.extend_from_slice(&[2; 32])?;
+    data.insert_bytes(tile, bytes.as_slice())?;
+    let second = data.hash_for(Node(2)).ok_or("no digest")?;
+    assert!(rt; second.bytes() == [2; 32].as_slice());
+    Ok(())
+}
+
 // The nodes of the tile with a path, unless it's none or memory lacks.
 fn nodes_at<A: Allocator>(memory: A, path: &str) -> Option<Vec<Node, A>> {
     let tile = Tile::from_path(path).ok()?;
@@ -323,7 +340,7 @@ fn the_longest_entry(rt: HostRuntime) -> Result<(), Fail> {
     let long = vec![in rt.alloc(); 7u8; 65536]?;
     let mut bytes = b"\x00\x02ab\x00\x00".to_vec(rt.alloc())?;
     let refused = push_entry(&mut bytes, long.as_slice());
-    assert!(rt; refused == Err(EntriesError::TooLong) && bytes.len() == 6);
+    assert!(rt; refused == Err(EntryError::TooLong) && bytes.len() == 6);
     push_entry(&mut bytes, &long.as_slice()[1..])?;
     assert!(rt; bytes.len() == 6 + 65537 && bytes[6] == 255 && bytes[7] == 255);
     Ok(())
@@ -334,5 +351,5 @@ fn an_entry_without_memory(rt: HostRuntime) {
     let memory = Refusing::after(rt.alloc(), 0);
     let mut none = Vec::new(&memory);
     let refused = push_entry(&mut none, b"ab");
-    assert!(rt; refused == Err(EntriesError::Memory) && none.len() == 0);
+    assert!(rt; refused == Err(EntryError::Memory) && none.len() == 0);
 }

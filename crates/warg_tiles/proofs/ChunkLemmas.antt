@@ -41,11 +41,11 @@ root_if_none H [] none = refl
 root_if_none H (d ∷ ds) none = absurd (omega arith)
 
 -- the leaves before a level's nodes are those before its last tile and those below the tile
-tile_start : (level m : ℕ) → m * 2 ^ (8 * level) ≡ m / 256 * 2 ^ (8 * (level + 1)) + m % 256 * 2 ^ (8 * level)
+pub tile_start : (level m : ℕ) → m * 2 ^ (8 * level) ≡ m / 256 * 2 ^ (8 * (level + 1)) + m % 256 * 2 ^ (8 * level)
 tile_start level m = let whole : m ≡ 256 * (m / 256) + m % 256 = omega arith in omega (arith, ap (λ n. n * 2 ^ (8 * level)) whole, ap (λ n. m / 256 * n) (pow_up level))
 
 -- a digest of the last tile of a level, by the leaves from the tile's first one on
-chunk_at : (H : List ℕ → List ℕ) (ds : List (List ℕ)) (level m i : ℕ) → i < m % 256
+pub chunk_at : (H : List ℕ → List ℕ) (ds : List (List ℕ)) (level m i : ℕ) → i < m % 256
     → slice_index_or (tile_digests H ds (record { level = level; number = m / 256; width = m % 256 })) i [] ≡ root_of H (take (2 ^ (8 * level)) (drop (i * 2 ^ (8 * level)) (drop (m / 256 * 2 ^ (8 * (level + 1))) ds)))
 chunk_at H ds level m i low =
     let t : TileAt = record { level = level; number = m / 256; width = m % 256 } in

@@ -1,31 +1,45 @@
 -- The tiles to fetch, one by one.
-use Rattle.std.proofs.Common.{◌≡◌, ◌≢◌, ℕ, ◌+◌, ◌-◌, ◌*◌, ◌/◌, ◌%◌, ◌^◌, ◌<◌, ◌≤◌, ◌==◌, ◌&&◌, nat_le, min, true, false, List, [], ◌∷◌, ◌++◌, length, take, map, get_or, refl, sym, ap, ◌∙◌, arith}
-use Rattle.std.specs.List.{AllByRecursion, flat_map}
+use Rattle.std.proofs.Common.{Bool, ◌||◌, subst, ◌≡◌, ◌≢◌, ℕ, ◌+◌, ◌-◌, ◌*◌, ◌/◌, ◌%◌, ◌^◌, ◌<◌, ◌≤◌, ◌==◌, ◌&&◌, nat_le, min, true, false, List, [], ◌∷◌, ◌++◌, length, take, map, get_or, refl, sym, ap, ◌∙◌, arith}
+use Rattle.std.specs.List.{AllByRecursion, flat_map, list_any}
+use Rattle.std.specs.Prelude.{IsSome, Option}
+use Rattle.std.specs.Option.{option_or}
 use Rattle.std.proofs.lemmas.Nat.{pow_pos, le-div}
 use Rattle.std.proofs.lemmas.Bool.{le-leb, eq-eqb, true≢false}
 use Rattle.std.proofs.lemmas.Grind.{flat_map-append}
-use Rattle.std.proofs.lemmas.List.{append-nil, map_more}
+use Rattle.std.proofs.lemmas.List.{append_assoc, append-nil, map_more}
 use Rattle.std.proofs.lemmas.List.Folds.{list_any-append, list_any_at}
 use Rattle.std.proofs.lemmas.List.Quantifiers.{all_pairs_push}
 use Rattle.warg_log.specs.declared.node.Node.{Node}
 use Rattle.warg_log.specs.Nodes.{ExistsAt, height_of, place_of, end_of, balanced_roots}
-use Rattle.warg_log.specs.Walks.{needed}
+use Rattle.warg_log.specs.Walks.{needed, IsKnown}
 use Rattle.warg_log.proofs.ForCallers.{pow_below_pow, roots_exist}
 use Rattle.warg_protobuf.proofs.ForCallers.{all_append, all_push, all_weaken, all_at}
 use Rattle.warg_tiles.specs.Tiles.{TileAt, place_in_level, tile_over}
 use Rattle.warg_tiles.specs.Between.{IsTileOf}
-use Rattle.warg_tiles.specs.TileData.{has_below}
-use Rattle.warg_tiles.specs.Fetching.{gives, AreFor, IsAdded}
+use Rattle.warg_tiles.specs.TileData.{Tiles, has_below, digest_of, digest_by}
+use Rattle.warg_tiles.specs.Fetching.{gives, serves, AreFor, IsAdded}
 use Rattle.warg_tiles.proofs.TileLemmas.{place_in_level_is, width_most}
 use Rattle.warg_tiles.proofs.OwnLemmas.{leaves_by_tile}
 
+-- a tile that serves nodes serves more of them
+serves_more : (xs ys : List ℕ) (tiles : List TileAt) → AllByRecursion (λ t. serves xs t ≡ true) tiles → AllByRecursion (λ t. serves (xs ++ ys) t ≡ true) tiles
+serves_more xs ys tiles all = all_weaken (λ t. serves xs t ≡ true) (λ t. serves (xs ++ ys) t ≡ true) (λ t is. list_any-append (has_below t) xs ys ∙ rw is refl) tiles all
+
+-- or with what is true
+or_true : (b : Bool) → (b || true) ≡ true
+or_true true = refl
+or_true false = refl
+
+serves_last : (xs : List ℕ) (x : ℕ) (t : TileAt) → has_below t x ≡ true → serves (xs ++ x ∷ []) t ≡ true
+serves_last xs x t has = list_any-append (has_below t) xs (x ∷ []) ∙ (let last : list_any (has_below t) (x ∷ []) ≡ true = rw has refl in rw last (or_true (list_any (has_below t) xs)))
+
 -- no tiles were added for no nodes
 pub added_none : (n : ℕ) (tiles : List TileAt) → IsAdded n tiles tiles []
-added_none n tiles = record { tiles_of = λ are. are; keep = λ x given. given; give = tt }
+added_none n tiles = record { tiles_of = λ are. are; serve = λ before all. serves_more before [] tiles all; keep = λ x given. given; give = tt }
 
 -- nor for a node that the tiles give
 pub added_known : (n x : ℕ) (tiles : List TileAt) → gives tiles x ≡ true → IsAdded n tiles tiles (x ∷ [])
-added_known n x tiles given = record { tiles_of = λ are. are; keep = λ x given. given; give = (given, tt) }
+added_known n x tiles given = record { tiles_of = λ are. are; serve = λ before all. serves_more before (x ∷ []) tiles all; keep = λ x given. given; give = (given, tt) }
 
 -- and one for a node that they don't
 pub added_new : (n x : ℕ) (tiles : List TileAt) (t : TileAt) → gives tiles x ≡ false → IsTileOf n t → has_below t x ≡ true → IsAdded n tiles (tiles ++ t ∷ []) (x ∷ [])
@@ -35,6 +49,7 @@ added_new n x tiles t none of_length has = record {
     once = all_pairs_push (λ (s u : TileAt). s ≢ u) tiles t are.once
         (λ k d inside same. true≢false (sym (list_any_at (λ s. has_below s x) tiles k d inside (ap (λ s. has_below s x) same ∙ has)) ∙ none));
   };
+  serve = λ before all. all_push (λ t. serves (before ++ x ∷ []) t ≡ true) tiles t (serves_more before (x ∷ []) tiles all) (serves_last before x t has);
   keep = λ y given. list_any-append (λ s. has_below s y) tiles (t ∷ []) ∙ rw given refl;
   give = (list_any-append (λ s. has_below s x) tiles (t ∷ []) ∙ rw (none, has) refl, tt);
 }
@@ -43,13 +58,28 @@ added_new n x tiles t none of_length has = record {
 pub added_append : (n : ℕ) (first second third : List TileAt) (xs ys : List ℕ) → IsAdded n first second xs → IsAdded n second third ys → IsAdded n first third (xs ++ ys)
 added_append n first second third xs ys one two = record {
   tiles_of = λ are. two.tiles_of (one.tiles_of are);
+  serve = λ before all. subst (λ l. AllByRecursion (λ t. serves l t ≡ true) third) (append_assoc before xs ys) (two.serve (before ++ xs) (one.serve before all));
   keep = λ x given. two.keep x (one.keep x given);
   give = all_append (λ x. gives third x ≡ true) xs ys (all_weaken (λ x. gives second x ≡ true) (λ x. gives third x ≡ true) two.keep xs one.give) two.give;
 }
 
 -- what was added to no tiles
 pub added_first : (n : ℕ) (tiles : List TileAt) (nodes : List ℕ) → IsAdded n [] tiles nodes → AreFor n tiles nodes
-added_first n tiles nodes added = record { tiles_of = added.tiles_of (record { of_length = tt; once = λ i j d less inside. absurd (omega arith) }); give = added.give }
+added_first n tiles nodes added = record { tiles_of = added.tiles_of (record { of_length = tt; once = λ i j d less inside. absurd (omega arith) }); give = added.give; serve = added.serve [] tt }
+
+-- the tiles give the digests of the nodes
+first_given : (H : List ℕ → List ℕ) (t : TileAt × List (List ℕ)) (x : ℕ) (rest : Option (List ℕ)) (b : Bool) → has_below t.0 x ≡ b → (b ≡ false → IsSome rest) → IsSome (option_or (digest_of H t x) rest)
+first_given H t x rest true has others = rw has refl
+first_given H t x rest false has others = rw has (others refl)
+
+gives_digest : (H : List ℕ → List ℕ) (tiles : Tiles) (x : ℕ) → gives (map (λ (t : TileAt × List (List ℕ)). t.0) tiles) x ≡ true → IsSome (digest_by H tiles x)
+gives_digest H [] x is = absurd (true≢false (sym is))
+gives_digest H (t ∷ tiles) x is = first_given H t x (digest_by H tiles x) (has_below t.0 x) refl
+    (λ none. gives_digest H tiles x (ap (λ b. b || gives (map (λ (t : TileAt × List (List ℕ)). t.0) tiles) x) (sym none) ∙ is))
+
+pub all_known : (H : List ℕ → List ℕ) (tiles : Tiles) (nodes : List ℕ) → AllByRecursion (λ x. gives (map (λ (t : TileAt × List (List ℕ)). t.0) tiles) x ≡ true) nodes → IsKnown (digest_by H tiles) nodes
+all_known H tiles [] all = tt
+all_known H tiles (x ∷ nodes) all = (gives_digest H tiles x all.0, all_known H tiles nodes all.1)
 
 -- a node of a log has its digests among those of its level at the log's length
 pub least_there : (x n : ℕ) (least : TileAt) → least ≡ tile_over x → ExistsAt x n → n ≤ 2 ^ 63

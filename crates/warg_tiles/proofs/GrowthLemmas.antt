@@ -72,17 +72,16 @@ in_levels (suc k) level old new t order from to is isnt =
     ]
 
 -- pairs of two lists
-all_pairs_append : (xs ys : List TileAt) → AllPairs (λ (s t : TileAt). s ≢ t) xs → AllPairs (λ (s t : TileAt). s ≢ t) ys
-    → ((s t : TileAt) → Contains xs s → Contains ys t → s ≢ t) → AllPairs (λ (s t : TileAt). s ≢ t) (xs ++ ys)
-all_pairs_append xs ys left right across i j d order inside same =
+pub all_pairs_append : (R : TileAt → TileAt → Type 0) (xs ys : List TileAt) → AllPairs R xs → AllPairs R ys → ((s t : TileAt) → Contains xs s → Contains ys t → R s t) → AllPairs R (xs ++ ys)
+all_pairs_append R xs ys left right across i j d order inside =
     let count = length-append xs ys in
+    let low_at : (k : ℕ) → k < length xs → get_or xs k d ≡ get_or (xs ++ ys) k d = λ k low. sym (get_or-append xs ys d k low) in
+    let high_at : (k : ℕ) → length xs ≤ k → get_or ys (k - length xs) d ≡ get_or (xs ++ ys) k d = λ k high. sym (get_or-append_right xs ys (length xs) k d refl high) in
     elim (cases_lt j (length xs)) [
-      | inl low ↦ left i j d order low (sym (get_or-append xs ys d i (omega arith)) ∙ same ∙ get_or-append xs ys d j low)
+      | inl low ↦ subst (λ s. R s (get_or (xs ++ ys) j d)) (low_at i (omega arith)) (subst (R (get_or xs i d)) (low_at j low) (left i j d order low))
       | inr high ↦ elim (cases_lt i (length xs)) [
-        | inl low ↦ across (get_or xs i d) (get_or ys (j - length xs) d) (Contains-get_or xs i d low) (Contains-get_or ys (j - length xs) d (omega arith))
-            (sym (get_or-append xs ys d i low) ∙ same ∙ get_or-append_right xs ys (length xs) j d refl high)
-        | inr both ↦ right (i - length xs) (j - length xs) d (omega arith) (omega arith)
-            (sym (get_or-append_right xs ys (length xs) i d refl both) ∙ same ∙ get_or-append_right xs ys (length xs) j d refl high)
+        | inl low ↦ subst (λ s. R s (get_or (xs ++ ys) j d)) (low_at i low) (subst (R (get_or xs i d)) (high_at j high) (across (get_or xs i d) (get_or ys (j - length xs) d) (Contains-get_or xs i d low) (Contains-get_or ys (j - length xs) d (omega arith))))
+        | inr both ↦ subst (λ s. R s (get_or (xs ++ ys) j d)) (high_at i both) (subst (R (get_or ys (i - length xs) d)) (high_at j high) (right (i - length xs) (j - length xs) d (omega arith) (omega arith)))
       ]
     ]
 
@@ -101,11 +100,11 @@ once_levels : (k level old new : ℕ) → old ≤ new → AllPairs (λ (s t : Ti
 unfolding levels_from
 once_levels zero level old new order = λ i j d before inside same. omega arith
 once_levels (suc k) level old new order =
-    all_pairs_append _ (levels_from k (level + 1) old new) (once_level level (old / 2 ^ (8 * level)) (new / 2 ^ (8 * level)) (higher old new level order)) (once_levels k (level + 1) old new order)
+    all_pairs_append (λ (s t : TileAt). s ≢ t) _ (levels_from k (level + 1) old new) (once_level level (old / 2 ^ (8 * level)) (new / 2 ^ (8 * level)) (higher old new level order)) (once_levels k (level + 1) old new order)
     (λ s t here there same. omega (arith, (level_only level old new s order here).0, (levels_only k (level + 1) old new t order there).0, ap (λ (x : TileAt). x.level) same))
 
 -- a tile of a log stands below level 8
-low_level : (n : ℕ) (t : TileAt) → n ≤ 2 ^ 63 → IsTileOf n t → t.level < 8
+pub low_level : (n : ℕ) (t : TileAt) → n ≤ 2 ^ 63 → IsTileOf n t → t.level < 8
 low_level n t fits is = elim (cases_lt t.level 8) [
   | inl low ↦ low
   | inr high ↦

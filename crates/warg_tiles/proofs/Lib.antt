@@ -14,3 +14,8 @@ mod PushLemmas
 mod ChunkLemmas
 mod PartialLemmas
 mod OpenLemmas
+mod RowLemmas
+mod StoredLemmas
+mod SplitLemmas
+mod FullLemmas
+mod ReadLemmas

@@ -30,7 +30,7 @@ tile_digest_is H ds digests t i tile inside =
     )
 
 -- the test of a tile that has all digests below a node
-below_is : (t : TileAt) (x : ℕ) → has_below t x ≡ true → (t.level ≡ (tile_over x).level) × (t.number ≡ (tile_over x).number) × ((tile_over x).width ≤ t.width)
+pub below_is : (t : TileAt) (x : ℕ) → has_below t x ≡ true → (t.level ≡ (tile_over x).level) × (t.number ≡ (tile_over x).number) × ((tile_over x).width ≤ t.width)
 below_is t x is =
     let level = and_parts (t.level == (tile_over x).level) (t.number == (tile_over x).number && nat_le (tile_over x).width t.width) is in
     let number = and_parts (t.number == (tile_over x).number) (nat_le (tile_over x).width t.width) level.1 in

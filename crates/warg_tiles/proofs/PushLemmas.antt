@@ -108,7 +108,7 @@ push_ends H ds edge d n count is =
     }
 
 -- the full tiles with an entry more
-full_more : (old new : ℕ) → old ≤ new → full_between old (new + 1) ≡ full_between old new ++ completed_at (new + 1)
+pub full_more : (old new : ℕ) → old ≤ new → full_between old (new + 1) ≡ full_between old new ++ completed_at (new + 1)
 full_more old new order =
     let count : new + 1 - old ≡ new - old + 1 = omega arith in
     let more = simp map-id at (map-range_with_len_more (λ (n : ℕ). n) (old + 1) (new - old) (new + 1) (omega arith)) in

@@ -9,7 +9,7 @@ use Rattle.warg_log.specs.Tree.{front_of, root_of, root_over, root_within}
 use Rattle.warg_log.proofs.ForCallers.{root_over_one, root_over_parts, front_of_is}
 
 -- the root over all digests
-whole : (H : List ℕ → List ℕ) (ds : List (List ℕ)) → root_over H ds 0 (length ds) ≡ root_of H ds
+pub whole : (H : List ℕ → List ℕ) (ds : List (List ℕ)) → root_over H ds 0 (length ds) ≡ root_of H ds
 whole H ds = ap (root_of H) (take_all (length ds) ds (omega arith))
 
 -- the root over one digest is it
@@ -36,7 +36,7 @@ root_parts H ds front rest e low high more first second =
     ∙ ap (λ l. branch H (root_of H l) (root_of H rest)) (sym first)
 
 -- some of the first elements, without and with a cut behind them
-take_drop_take : (a b c : ℕ) (xs : List (List ℕ)) → a + b ≤ c → take b (drop a (take c xs)) ≡ take b (drop a xs)
+pub take_drop_take : (a b c : ℕ) (xs : List (List ℕ)) → a + b ≤ c → take b (drop a (take c xs)) ≡ take b (drop a xs)
 take_drop_take a b c xs fits =
     let parts : a + (c - a) ≡ c = omega arith in
     ap (λ n. take b (drop a (take n xs))) (sym parts) ∙ ap (take b) (drop-take a (c - a) xs) ∙ take-take b (c - a) (drop a xs) (omega arith)

@@ -8,3 +8,4 @@ pub mod Private
 pub mod CheckpointText
 pub mod CheckpointFaults
 pub mod TileLog
+pub mod Placed

@@ -1,10 +1,10 @@
 //! Digests of tiles: made out of a log's data, and data of proofs.
 
-ghost use Rattle.std.specs.Prelude.{◌≡◌, ◌<◌, ◌≤◌, ◌↔◌, [], ◌∷◌, ◌++◌, length, map, Err, Option, IfOk, OnOk, OnErr};
+ghost use Rattle.std.specs.Prelude.{◌≡◌, ◌≢◌, ◌*◌, ◌<◌, ◌≤◌, ◌↔◌, [], ◌∷◌, ◌++◌, length, map, Err, Option, IfOk, OnOk, OnErr};
 ghost use Rattle.warg_tiles.specs.Tiles.{tile_end};
-ghost use Rattle.warg_tiles.specs.TileData.{IsTileBy, LacksOf, digest_by};
+ghost use Rattle.warg_tiles.specs.TileData.{IsTileBy, LacksOf, digest_by, digests_in};
 
-use crate::error::TileError;
+use crate::error::{TileBytesError, TileError};
 use crate::stored::StoredTile;
 use crate::tile::Tile;
 use std::alloc::{AllocError, Allocator, Global};
@@ -81,6 +81,25 @@ impl<D: SupportedDigest, V: VisitBytes, A: Allocator> TileData<D, V, A> {
     }
 }
 
+impl<D: SupportedDigest, V: VisitBytes, A: Allocator + Copy> TileData<D, V, A> {
+    /// Adds a tile by the bytes of its file, which are its digests one after the other. `Length` exactly if they aren't 32
+    /// for each digest of its width, before memory is taken; else memory is the only error. A refused call leaves the data
+    /// as it was.
+    pub fn insert_bytes(&mut self, tile: Tile, bytes: &[u8]) -> Result<(), TileBytesError>
+        ensures ok { OnOk result (self.new ≡ self.old ++ (tile, digests_in tile.width bytes.now) ∷ []) }
+        ensures fits { OnOk result (length bytes.now ≡ 32 * tile.width) }
+        ensures length { (result ≡ Err TileBytesError.Length) ↔ (length bytes.now ≢ 32 * tile.width) }
+        ensures err { OnErr result (self.new ≡ self.old) }
+    {
+        if bytes.len() != 32 * tile.width() {
+            return Err(TileBytesError::Length);
+        }
+        let digests = digests_in(*self.tiles.allocator(), tile.width(), bytes)?;
+        self.insert(tile, digests)?;
+        Ok(())
+    }
+}
+
 impl<D: SupportedDigest, V: VisitBytes, A: Allocator> LogData<D, V> for TileData<D, V, A> {
     ghost digest_at = { λ d x. digest_by D.digest d x };
 
@@ -106,4 +125,24 @@ fn digest_in<D: SupportedDigest, A: Allocator>(
         }
     }
     None
+}
+
+// The digests that bytes are, so many of them.
+fn digests_in<D, A: Allocator>(
+    alloc: A,
+    count: usize,
+    bytes: &[u8],
+) -> Result<Vec<Hash<D>, A>, AllocError>
+    requires count { count ≤ 256 }
+    requires length { length bytes.now ≡ 32 * count }
+    ensures { IfOk result (λ digests. digests.items ≡ digests_in count bytes.now) }
+{
+    let mut digests = Vec::with_capacity(alloc, count)?;
+    'places: for place in 0..count {
+        match Hash::try_from(&bytes[32 * place..32 * place + 32]) {
+            Ok(digest) => digests.push(digest)?,
+            Err(_) => unreachable!(),
+        }
+    }
+    Ok(digests)
 }

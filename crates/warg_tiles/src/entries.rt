@@ -4,7 +4,7 @@ ghost use Rattle.std.specs.Prelude.{◌≡◌, ◌≢◌, ℕ, ◌<◌, ◌≤�
 ghost use Rattle.std.specs.List.{AllByRecursion};
 ghost use Rattle.warg_tiles.specs.EntryBundles.{two_bytes, bundle_of};
 
-use crate::error::EntriesError;
+use crate::error::{EntriesError, EntryError};
 use std::alloc::{AllocError, Allocator};
 use std::convert::AsSlice;
 
@@ -18,13 +18,13 @@ const TOO_LONG: usize = 1 << 16;
 pub fn write_entries<T: AsSlice<u8>, A: Allocator>(
     alloc: A,
     entries: &[T],
-) -> Result<Vec<u8, A>, EntriesError>
+) -> Result<Vec<u8, A>, EntryError>
     ensures ok { IfOk result (λ bytes. bytes.items ≡ bundle_of (map (λ e. T.items e) entries.now)) }
-    ensures short { (result ≡ Err EntriesError.TooLong → ⊥)
+    ensures short { (result ≡ Err EntryError.TooLong → ⊥)
         ↔ AllByRecursion (λ e. length (T.items e) < 65536) entries.now }
 {
     if !are_short(entries) {
-        return Err(EntriesError::TooLong);
+        return Err(EntryError::TooLong);
     }
     let mut bytes = Vec::new(alloc);
     'entries: for entry in entries {
@@ -36,14 +36,13 @@ pub fn write_entries<T: AsSlice<u8>, A: Allocator>(
 /// Adds an entry behind those of a bundle's bytes. `TooLong` exactly if it has more than 65,535 bytes; else memory is the
 /// only error. A refused call leaves the bytes as they were.
 #[tactic(auto, unfolding(crate::specs::EntryBundles::bundle_of))]
-pub fn push_entry<A: Allocator>(bytes: &mut Vec<u8, A>, entry: &[u8]) -> Result<(), EntriesError>
+pub fn push_entry<A: Allocator>(bytes: &mut Vec<u8, A>, entry: &[u8]) -> Result<(), EntryError>
     ensures ok { OnOk result (bytes.new.items ≡ bytes.old.items ++ bundle_of (entry.now ∷ [])) }
     ensures err { OnErr result (bytes.new.items ≡ bytes.old.items) }
-    ensures too_long { (result ≡ Err EntriesError.TooLong) ↔ (65536 ≤ length entry.now) }
-    ensures never { result ≢ Err EntriesError.Truncated }
+    ensures too_long { (result ≡ Err EntryError.TooLong) ↔ (65536 ≤ length entry.now) }
 {
     if entry.len() >= TOO_LONG {
-        return Err(EntriesError::TooLong);
+        return Err(EntryError::TooLong);
     }
     write_entry(bytes, entry)?;
     Ok(())
@@ -82,7 +81,6 @@ pub fn read_entries<A: Allocator>(alloc: A, bytes: &[u8]) -> Result<Vec<&[u8], A
     ensures truncated { result ≡ Err EntriesError.Truncated → (entries : List (List ℕ))
         → AllByRecursion (λ e. length e < 65536) entries
         → bytes.now ≢ bundle_of entries }
-    ensures never { result ≢ Err EntriesError.TooLong }
 {
     let mut entries = Vec::new(alloc);
     let mut rest = bytes;

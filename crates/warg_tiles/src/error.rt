@@ -5,28 +5,36 @@ ghost use Rattle.std.specs.Prelude.{◌≡◌};
 use std::alloc::{AllocError, AllocFailed};
 use thiserror::Error;
 
-/// Why entries are no bundle, or bytes no entries.
+/// Why an entry isn't written to a bundle.
 #[derive(Debug, PartialEq, Eq, Drop, Error)]
-pub enum EntriesError {
+pub enum EntryError {
     /// An entry has more than 65,535 bytes.
     #[error("entry is too long")]
     TooLong,
+    /// Memory was refused.
+    #[error("out of memory")]
+    Memory,
+}
+
+impl From<AllocError> for EntryError {
+    ghost use Rattle.warg_tiles.specs.declared.error.EntryError.TheVariants.{Memory};
+
+    ghost from_gives = { λ _ error. error ≡ Memory };
+
+    fn from(_error: AllocError) -> Self {
+        EntryError::Memory
+    }
+}
+
+/// Why bytes are no bundle's.
+#[derive(Debug, PartialEq, Eq, Drop, Error)]
+pub enum EntriesError {
     /// The bytes end within an entry's length, or within an entry.
     #[error("bundle is cut short")]
     Truncated,
     /// Memory was refused.
     #[error("out of memory")]
     Memory,
-}
-
-impl From<AllocError> for EntriesError {
-    ghost use Rattle.warg_tiles.specs.declared.error.EntriesError.TheVariants.{Memory};
-
-    ghost from_gives = { λ _ error. error ≡ Memory };
-
-    fn from(_error: AllocError) -> Self {
-        EntriesError::Memory
-    }
 }
 
 impl<T: Drop> From<AllocFailed<T>> for EntriesError {
@@ -57,6 +65,27 @@ impl<T: Drop> From<AllocFailed<T>> for TileError {
 
     fn from(_error: AllocFailed<T>) -> Self {
         TileError::Memory
+    }
+}
+
+/// Why bytes aren't taken for a tile's.
+#[derive(Debug, PartialEq, Eq, Drop, Error)]
+pub enum TileBytesError {
+    /// The bytes aren't 32 for each digest of the tile's width.
+    #[error("not 32 bytes for each digest of the tile")]
+    Length,
+    /// Memory was refused.
+    #[error("out of memory")]
+    Memory,
+}
+
+impl From<AllocError> for TileBytesError {
+    ghost use Rattle.warg_tiles.specs.declared.error.TileBytesError.TheVariants.{Memory};
+
+    ghost from_gives = { λ _ error. error ≡ Memory };
+
+    fn from(_error: AllocError) -> Self {
+        TileBytesError::Memory
     }
 }
 

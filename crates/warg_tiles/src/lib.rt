@@ -21,7 +21,9 @@ pub use between::tiles_between;
 pub use checkpoint_text::CheckpointText;
 pub use data::{TileData, tile_hashes};
 pub use entries::{push_entry, read_entries, write_entries};
-pub use error::{CheckpointTextError, EntriesError, OpenError, TileError};
+pub use error::{
+    CheckpointTextError, EntriesError, EntryError, OpenError, TileBytesError, TileError,
+};
 pub use fetch::{tiles_for_consistency, tiles_for_inclusion};
 pub use path::BadPath;
 pub use stored::StoredTile;

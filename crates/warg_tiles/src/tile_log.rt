@@ -6,7 +6,7 @@ ghost use Rattle.std.specs.Option.{option_to_list};
 ghost use Rattle.warg_crypto.specs.Tree.{leaf_digest};
 ghost use Rattle.warg_log.specs.Tree.{root_of, own_digest};
 ghost use Rattle.warg_tiles.specs.TileData.{IsTileBy};
-ghost use Rattle.warg_tiles.specs.TileLog.{StandsFor, AreTilesOf, partial_tiles, full_between, completed_from, tile_fault, tiles_fault};
+ghost use Rattle.warg_tiles.specs.TileLog.{StandsFor, AreTilesOf, edge_tiles, split_into, root_on, root_by_tiles, partial_tiles, full_between, completed_from, tile_fault, tiles_fault};
 ghost use Rattle.warg_tiles.specs.Private.Edges.{width_from, edge_from, EndsWith, AreAdded, root_if, tile_behind, partial_from, joined};
 
 use crate::error::OpenError;
@@ -77,6 +77,8 @@ impl<D: SupportedDigest, V: VisitBytes, A: Allocator + Copy> TileLog<D, V, A> {
         requires { log_length ≤ GREATEST_LENGTH }
         ensures length { IfOk result (λ log. (log.len ≡ log_length) × (log.taken ≡ log_length)
             × (log.full ≡ [])) }
+        ensures edge { IfOk result (λ log.
+            edge_tiles log ≡ map (λ t. (t.tile, t.digests.items)) tiles.now) }
         ensures stands { IfOk result (λ log. (ds : List (List ℕ)) → length ds ≡ log_length
             → AllByRecursion
             (λ t. IsTileBy (own_digest D.digest ds) t.tile t.digests.items) tiles.now
@@ -137,7 +139,9 @@ impl<D: SupportedDigest, V: VisitBytes, A: Allocator + Copy> TileLog<D, V, A> {
     /// The partial tiles, those of the right edge, by level: none for a level whose nodes fill tiles. Memory is the only
     /// error.
     pub fn partial(&self, alloc: A) -> Result<Vec<StoredTile<D, A>, A>, AllocError>
-        ensures { IfOk result (λ tiles. (ds : List (List ℕ)) → StandsFor D.digest self.now ds
+        ensures value { IfOk result (λ tiles.
+            map (λ t. (t.tile, t.digests.items)) tiles.items ≡ edge_tiles self.now) }
+        ensures tiles { IfOk result (λ tiles. (ds : List (List ℕ)) → StandsFor D.digest self.now ds
             → AreTilesOf D.digest ds (partial_tiles self.now.len)
             (map (λ t. (t.tile, t.digests.items)) tiles.items)) }
     {
@@ -199,8 +203,9 @@ impl<D: SupportedDigest, V: VisitBytes, A: Allocator + Copy> LogBuilder<D, V> fo
         Ok(leaf)
     }
 
-    /// The root is made of the digests of the right edge.
+    /// The root is made of the digests of the partial tiles, wherever these are from.
     fn checkpoint(&self) -> Checkpoint<D>
+        ensures by_tiles { result.root ≡ root_by_tiles D.digest (edge_tiles self.now) }
         ensures root { (ds : List (List ℕ)) → StandsFor D.digest self.now ds
             → result.root ≡ root_of D.digest ds }
         ensures length { result.length ≡ self.now.len }
@@ -223,7 +228,9 @@ fn partial_tiles<D, A: Allocator + Copy>(
 ) -> Result<Vec<StoredTile<D, A>, A>, AllocError>
     requires fits { count ≤ GREATEST_LENGTH }
     requires width { length edge.now ≡ width_from 0 count }
-    ensures { IfOk result (λ tiles. (H : List ℕ → List ℕ) (ds : List (List ℕ)) → length ds ≡ count
+    ensures split { IfOk result (λ tiles. map (λ t. (t.tile, t.digests.items)) tiles.items
+        ≡ split_into (partial_tiles count) edge.now) }
+    ensures own { IfOk result (λ tiles. (H : List ℕ → List ℕ) (ds : List (List ℕ)) → length ds ≡ count
         → edge.now ≡ edge_from H ds 0 count → AreTilesOf H ds (partial_tiles count)
         (map (λ t. (t.tile, t.digests.items)) tiles.items)) }
 {
@@ -267,7 +274,8 @@ fn push_partial<D, A: Allocator + Copy>(
 fn root_of_edge<D: SupportedDigest>(edge: &[Hash<D>], count: usize) -> Option<Hash<D>>
     requires fits { count ≤ GREATEST_LENGTH }
     requires width { length edge.now ≡ width_from 0 count }
-    ensures { (ds : List (List ℕ)) → length ds ≡ count → edge.now ≡ edge_from D.digest ds 0 count
+    ensures by_tiles { result ≡ root_on D.digest None (split_into (partial_tiles count) edge.now) }
+    ensures own { (ds : List (List ℕ)) → length ds ≡ count → edge.now ≡ edge_from D.digest ds 0 count
         → result ≡ root_if D.digest ds }
 {
     let mut root = None;

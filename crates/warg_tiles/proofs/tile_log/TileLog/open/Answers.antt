@@ -2,6 +2,7 @@ use Rattle.std.proofs.Common.{◌++◌, length, map, sym, ap, subst, ◌∙◌, 
 use Rattle.warg_tiles.specs.TileLog.{StandsFor}
 use Rattle.warg_tiles.specs.Private.Edges.{joined}
 use Rattle.warg_tiles.proofs.OpenLemmas.{open_width, open_stands}
+use Rattle.warg_tiles.proofs.SplitLemmas.{open_tiles}
 use Rattle.warg_tiles.proofs.tile_log.TileLog.open.Goals as goal
 
 pub invariant_of-result : goal.invariant_of-result
@@ -17,3 +18,8 @@ returns-clause-stands g c = λ ds count all.
 
 pub returns-clause-length : goal.returns-clause-length
 returns-clause-length g c = (refl, refl, ap (map (λ t. (t.tile, t.digests.items))) c.new.ensures.items)
+
+pub returns-clause-edge : goal.returns-clause-edge
+returns-clause-edge g c =
+    let edge = c.in_ok-push_digests.ensures ∙ ap (λ l. l ++ joined (map (λ t. t.digests.items) c.args.tiles.now)) c.new-edge.ensures.items in
+    open_tiles (λ t. t.tile) (λ t. t.digests.items) c.args.tiles.now c.args.log_length c.push_digests.new.edge.items (λ t. t.count) c.in_ok-check_tiles.ensures.ok edge
