@@ -26,5 +26,6 @@ step_of (insertion key value old_root new_root, by_bundle bytes place) =
     record { peers = peers_in (λ b. b.absences) place (map_bundle_of bytes); key = key; old_value = []; new_value = value }
 step_of _ = record { peers = []; key = []; old_value = []; new_value = [] }
 
+-- The steps with their peers.
 abbrev pub steps_of : List (Claim × Evidence) → List Step
 steps_of steps = map step_of steps

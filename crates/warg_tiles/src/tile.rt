@@ -13,8 +13,7 @@ use warg_log::{GREATEST_LENGTH, LeafRange, Node};
 /// is that of the node of height `8 * L` whose leaves begin at `(256 * N + i) * 2^(8 * L)` (C2SP tlog-tiles).
 ///
 /// The level is at most 63. The width, the number of digests, is between 1 and 256; a tile of width 256 is full, any other
-/// is partial. Tiles are ordered by level, then by
-/// number, then by width.
+/// is partial. Tiles are ordered by level, then by number, then by width.
 #[derive(Clone, Copy, PartialEq, Eq, PartialOrd, Ord, Hash, Debug)]
 pub struct Tile {
     level: u32,
