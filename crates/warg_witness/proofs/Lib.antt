@@ -14,3 +14,4 @@ pub mod TreeLawLemmas
 pub mod MapLawLemmas
 pub mod ForCallers
 pub mod PremiseLemmas
+pub mod MapPremiseLemmas

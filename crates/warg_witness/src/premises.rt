@@ -2,7 +2,7 @@
 //! effect. Without any one premise the law is false. That a consistency proof's digests have 32 bytes is the one premise of
 //! which that isn't shown.
 
-ghost use Rattle.std.specs.Prelude.{◌≡◌, ◌≢◌, ℕ, List, length, Option};
+ghost use Rattle.std.specs.Prelude.{◌≡◌, ◌≢◌, ◌⊎◌, ℕ, List, length, Option};
 ghost use Rattle.warg_crypto.specs.Collisions.{GivesHashes, AreHashes, SomeCollision};
 ghost use Rattle.warg_crypto.specs.Tree.{leaf_digest};
 ghost use Rattle.warg_log.specs.Claims.{InclusionClaim};
@@ -12,6 +12,11 @@ ghost use Rattle.warg_witness.specs.PathPlaced.{IsRecordPlaced, IsRecordAgreemen
 ghost use Rattle.warg_witness.specs.TreePlaced.{IsTreePlaced};
 ghost use Rattle.warg_witness.specs.Placed.{IsValuePlaced, IsHashPlaced, IsAgreementPlaced, IsConsistencyPlaced};
 ghost use Rattle.warg_witness.specs.Laws.{HoldsHashes};
+ghost use Rattle.warg_map.specs.Sparse.{sparse_root, map_of};
+ghost use Rattle.warg_witness.specs.MapClaims.{IsKeyAgreement};
+ghost use Rattle.warg_witness.specs.MapPlaced.{IsKeyAgreementPlaced};
+ghost use Rattle.warg_witness.specs.MapsPlaced.{IsPlacedInMaps};
+ghost use Rattle.warg_witness.specs.UpdateClaims.{Step, insertions_of, CollidesAtStep};
 
 /// A value's claim may be met and untrue, without a collision, where digests have any length.
 pub fn value_hashes_are_needed()
@@ -176,4 +181,33 @@ pub fn consistency_untruth_is_needed()
     ensures { (H : List ℕ → List ℕ) → GivesHashes H → ¬ ((F : ℕ → Option (List ℕ)) (m n : ℕ)
         (old new : List (List ℕ)) → HoldsHashes F → IsConsistencyMet H F m n old new
         → SomeCollision H (IsConsistencyPlaced H F old new)) }
+{}
+
+/// Two values may lead one key to one root, without a collision, where digests have any length.
+pub fn key_agreement_hashes_are_needed()
+    ensures { ¬ ((H : List ℕ → List ℕ) (key : List ℕ) (peers : List (Option (List ℕ)))
+        (value : List ℕ) (other_peers : List (Option (List ℕ))) (other : List ℕ)
+        → IsKeyAgreement H key peers value other_peers other → ¬ (value ≡ other)
+        → SomeCollision H (IsKeyAgreementPlaced H key peers value other_peers other)) }
+{}
+
+/// One value leads to one root without a collision.
+pub fn key_agreement_difference_is_needed()
+    ensures { (H : List ℕ → List ℕ) → ¬ ((key : List ℕ) (peers : List (Option (List ℕ)))
+        (value : List ℕ) (other_peers : List (Option (List ℕ))) (other : List ℕ)
+        → IsKeyAgreement H key peers value other_peers other
+        → SomeCollision H (IsKeyAgreementPlaced H key peers value other_peers other)) }
+{}
+
+/// Two maps of one root that have the same values need have no collision.
+pub fn equal_maps_difference_is_needed()
+    ensures { (H : List ℕ → List ℕ) → ¬ ((insertions others : List (List ℕ × List ℕ))
+        → sparse_root H 256 (map_of H insertions) ≡ sparse_root H 256 (map_of H others)
+        → SomeCollision H (IsPlacedInMaps H insertions others)) }
+{}
+
+/// Steps that don't lead from the empty map's root may end anywhere, without a collision.
+pub fn steps_leading_is_needed()
+    ensures { (H : List ℕ → List ℕ) → ¬ ((steps : List Step) (root : List ℕ)
+        → (root ≡ sparse_root H 256 (map_of H (insertions_of steps))) ⊎ CollidesAtStep H steps) }
 {}
