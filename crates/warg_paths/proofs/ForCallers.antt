@@ -2,11 +2,7 @@
 use Rattle.std.proofs.Common.{◌≡◌, ℕ, ◌-◌, ◌<◌, ◌≤◌, List, [], ◌∷◌, ◌++◌, length, reverse, Option, Some, None}
 use Rattle.warg_log.specs.Tree.{front_of}
 use Rattle.warg_paths.specs.Paths.{root_down, roots_down, one_root, twice, grown, both_over}
-use Rattle.warg_crypto.specs.Collisions.{AreHashes}
-use Rattle.warg_paths.specs.Pieces.{hashes_of}
 use Rattle.warg_paths.proofs.PathLemmas as paths
-use Rattle.warg_paths.proofs.BytesLemmas as bytes
-use Rattle.warg_paths.proofs.UniqueLemmas as unique
 
 -- of one leaf, no digests lead to its own
 pub root_one : (H : List ℕ → List ℕ) (m : ℕ) (x : List ℕ) (path : List (List ℕ)) → length path ≡ 0 → root_down H m 1 x (reverse path) ≡ Some x
@@ -37,11 +33,3 @@ both_front = paths.both_front
 pub both_rest : (H : List ℕ → List ℕ) (old : Option (List ℕ)) (m n : ℕ) (top : List ℕ) (below : List (List ℕ)) → m < n → front_of n < m
     → roots_down H old m n (reverse (below ++ top ∷ [])) ≡ both_over H top (roots_down H None (m - front_of n) (n - front_of n) (reverse below))
 both_rest = paths.both_rest
-
--- digests of 32 bytes in the other order
-pub all_reversed : (ds : List (List ℕ)) → AreHashes ds → AreHashes (reverse ds)
-all_reversed = unique.turned (λ d. length d ≡ 32)
-
--- the digests that bytes are have 32 bytes
-pub pieces_sized : (bs : List ℕ) (digests : List (List ℕ)) → hashes_of bs ≡ Some digests → AreHashes digests
-pieces_sized = bytes.pieces_sized

@@ -8,7 +8,6 @@ use Rattle.warg_log.specs.Sparse.{held_digest}
 use Rattle.warg_log.specs.Tree.{leaves_of, root_of}
 use Rattle.warg_paths.specs.Paths.{inclusion_root, consistency_roots}
 use Rattle.warg_paths.specs.Pieces.{hashes_of}
-use Rattle.warg_paths.proofs.ForCallers.{pieces_sized}
 use Rattle.warg_witness.specs.Placed.{IsValuePlaced, IsConsistencyPlaced}
 use Rattle.warg_witness.specs.MapPlaced.{IsKeyPlaced}
 use Rattle.warg_check.specs.Claims.{Claim, Evidence, verdict, shows}
@@ -48,7 +47,7 @@ returns c = λ H claim evidence. elim claim as (λ claim. Sound H claim evidence
         let judged = judged_true (shows H (growth old new)) (hashes_of bytes) passed in
         let digests = path_in (hashes_of bytes) in
         let leads = both_are old.root new.root (consistency_roots H old.length new.length old.root digests) judged.1 in
-        c.tree_or_collision.ensures H digests entries.0 entries.1 gives (pieces_sized bytes digests judged.0) (rw (roots.0.length, roots.1.length, roots.0.root, roots.1.root) at leads) untrue
+        c.tree_or_collision.ensures H digests entries.0 entries.1 gives (rw (roots.0.length, roots.1.length, roots.0.root, roots.1.root) at leads) untrue
   ]
   | value_under key value root ↦ elim evidence as (λ evidence. Sound H (value_under key value root) evidence) [
     | by_bundle bytes place ↦ λ insertions gives passed roots untrue.
