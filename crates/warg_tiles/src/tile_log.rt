@@ -72,7 +72,8 @@ impl<D: SupportedDigest, V: VisitBytes, A: Allocator + Copy> TileLog<D, V, A> {
     /// its full tiles count as taken. The first fault by name: `Place` and `Width` of a tile that isn't the one of its place
     /// or its width, `Count` where there are more or fewer; before memory is taken. Else memory is the only error.
     ///
-    /// The digests are taken on trust: whoever keeps the log's checkpoint compares it.
+    /// The digests are taken as they are: compare the checkpoint, which has the root by them, with that of the log. Where the
+    /// two are equal, the digests are the log's own, or two byte strings collide (`laws::partial_tiles_or_collision`).
     pub fn open(alloc: A, log_length: usize, tiles: &[StoredTile<D, A>]) -> Result<Self, OpenError>
         requires { log_length ≤ GREATEST_LENGTH }
         ensures length { IfOk result (λ log. (log.len ≡ log_length) × (log.taken ≡ log_length)
