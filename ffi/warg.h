@@ -145,7 +145,7 @@ int32_t warg_check_insertion(const uint8_t *bundle, size_t bundle_bytes, size_t 
 
 /* Whether an inclusion path shows that entry `index`, from 0, of the log of this length and root has the value's
  * bytes. A path is its digests, 32 bytes each, from the bottom up (RFC 6962, section 2.1.1). Bytes that are no multiple
- * of 32 are WARG_HASH_LENGTH, before memory is asked for. */
+ * of 32 are WARG_HASH_LENGTH, before allocating. */
 int32_t warg_check_record(const uint8_t *path, size_t path_bytes, size_t index,
                           const uint8_t *value, size_t value_bytes, size_t length,
                           const uint8_t *root, size_t root_bytes);

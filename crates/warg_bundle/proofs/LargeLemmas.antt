@@ -92,7 +92,7 @@ needed_large t n large there fit =
     let beside : IsBeside target rest = inr (omega arith) in
     let behind = cut_old H e rest unit (omega arith) beside ∙ behind_none H F rest (omega arith) (omega arith) in
     let none : cut_root H (small_of F) t x n ≡ None =
-        cut_parts H e all (omega arith) (λ is. omega (arith, counts is)) (λ whole apart. ⊎_elim (λ low. omega arith) (λ high. omega arith) apart) ∙ no_branch H _ _ (inr behind) in
+    cut_parts H e all (omega arith) (λ is. omega (arith, counts is)) (λ whole apart. ⊎_elim (λ low. omega arith) (λ high. omega arith) apart) ∙ no_branch H _ _ (inr behind) in
     let both : Some _ ≡ None = sym own ∙ same ∙ none in cc
 
 -- what holds of all numbers of a bundle holds of those that its proofs need

@@ -1,11 +1,6 @@
 -- Checked steps lead from root to root.
-use Rattle.std.proofs.Common.{◌≡◌, ℕ, true, List, [], ◌∷◌, Ok, Err, sym, subst, ◌∙◌}
+use Rattle.std.proofs.Common.{◌≡◌, ℕ, true, List, [], ◌∷◌, Ok, subst, ◌∙◌}
 use Rattle.warg_protobuf.specs.MapProofBundle.{MapBundle}
-use Rattle.warg_crypto.specs.EmptyTrees.{empty_root}
-use Rattle.warg_crypto.specs.Tree.{leaf_digest}
-use Rattle.warg_map.specs.Bits.{key_bits}
-use Rattle.warg_map.specs.ProofValue.{proof_value}
-use Rattle.warg_bundle.specs.MapBundles.{map_bundle_of}
 use Rattle.warg_witness.specs.UpdateClaims.{LeadThrough, Leads, Step}
 use Rattle.warg_check.specs.UpdateVerdicts.{update_verdict, insertion_verdict, IsUpdateShown, IsInsertionShown}
 use Rattle.warg_check.specs.Claims.{Claim, Evidence, verdict, shows}

@@ -130,7 +130,7 @@ impl<D> Model for Hash<D> {
     ghost inverse = { λ l. record { bytes = l; of = record {} } };
 }
 
-/// Never refuses: a hash takes no memory beside its own.
+/// Never refuses: a hash allocates nothing.
 impl<D> Clone for Hash<D> {
     ghost is_clone = { λ x y. y ≡ x };
 
@@ -189,7 +189,7 @@ impl<D> Hash<D> {
         }
     }
 
-    /// The same hash again, which takes no memory and can't be refused.
+    /// The same hash again, which does not allocate and can't be refused.
     pub fn copied(&self) -> Hash<D>
         ensures { result ≡ self.now }
     {

@@ -214,7 +214,7 @@ fn begins_with<V: VisitBytes, W: VisitBytes>(value: &V, front: &W) -> Result<boo
 }
 
 /// Whether two values have the same bytes, for a look at each piece of the one beside each of the other. It
-/// takes no memory, and refuses only values of more than `usize::MAX` bytes, of which no copy could be had.
+/// does not allocate, and refuses only values of more than `usize::MAX` bytes, of which no copy could be had.
 pub fn have_same_bytes<V: VisitBytes, W: VisitBytes>(
     first: &V,
     second: &W,

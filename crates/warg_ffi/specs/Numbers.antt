@@ -50,6 +50,6 @@ abbrev pub number_under : List (List ℕ) → Result Bool CheckError → ℤ
 number_under roots verdict = if are_roots roots then verdict_number verdict else minus 3
 
 -- A call with these roots returned this number for the verdict: its own, or -1 where memory was refused. Roots are
--- looked at before memory is asked for.
+-- looked at before allocating.
 abbrev pub Returns : List (List ℕ) → Result Bool CheckError → ℤ → Type 0
 Returns roots verdict returned = (returned ≡ number_under roots verdict) ⊎ (IsTrue (are_roots roots) × (returned ≡ minus 1))

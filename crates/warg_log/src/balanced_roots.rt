@@ -70,7 +70,7 @@ impl Iterator for BalancedRoots {
 
 impl Node {
     /// The balanced roots of a length: the nodes that its binary digits cut from the left, greatest
-    /// first. Memory is the only error.
+    /// first. It fails only if allocation fails.
     pub fn broots_for_len<A: Allocator>(alloc: A, length: usize) -> Result<Vec<Node, A>, AllocError>
         requires { length ≤ GREATEST_LENGTH }
         ensures { IfOk result (λ roots. map (λ x. x.0) roots.items ≡ balanced_roots length) }

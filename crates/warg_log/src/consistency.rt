@@ -83,7 +83,7 @@ impl<D, V> Model for ConsistencyProof<D, V> {
 
 impl<D, V> Copy for ConsistencyProof<D, V> {}
 
-/// Never refuses: a proof takes no memory beside its own.
+/// Never refuses: a proof allocates nothing.
 impl<D, V> Clone for ConsistencyProof<D, V> {
     ghost is_clone = { λ x y. y ≡ x };
 
@@ -130,8 +130,8 @@ impl<D: SupportedDigest, V: VisitBytes> ConsistencyProof<D, V> {
     /// The inclusion proofs that make up this one: one at the new length for each balanced root of the
     /// old length, from left to right. None for the old length zero.
     ///
-    /// `PointsOutOfOrder` exactly if the old length is above the new one; else memory is the only
-    /// error.
+    /// `PointsOutOfOrder` exactly if the old length is above the new one; else it fails only if allocation
+    /// fails.
     pub fn inclusions<A: Allocator>(
         &self,
         alloc: A,
@@ -156,7 +156,7 @@ impl<D: SupportedDigest, V: VisitBytes> ConsistencyProof<D, V> {
     }
 
     /// The roots of the old and the new log: the old root over the data, and the one root to which the
-    /// inclusion proofs of the old length's balanced roots lead. It takes no memory.
+    /// inclusion proofs of the old length's balanced roots lead. It does not allocate.
     ///
     /// `OldLengthZero` where the old length is 0, then `PointsOutOfOrder` where it is above the new one.
     /// Then the first fault, from left to right, decides: `HashNotKnown` where a balanced root's digest

@@ -109,7 +109,7 @@ impl LeafRange {
 }
 
 /// The cut root of one range: the root of the range's leaves by the data's digests, with `hash` in the
-/// place of the target. None exactly if the data lacks a digest that it reads. It takes no memory.
+/// place of the target. None exactly if the data lacks a digest that it reads. It does not allocate.
 ///
 /// It goes down the recursion of RFC 6962, section 2.1: it reads the digest of a range that misses the
 /// target and has a power of two of leaves, and hashes the branch of the two parts of any other range.
@@ -135,7 +135,7 @@ pub fn range_root<D: SupportedDigest, V: VisitBytes, L: LogData<D, V>>(
 }
 
 /// The old root of one range: the root of the range's leaves by the digests that the data holds for the
-/// range's balanced roots. None exactly if the data lacks one of them. It takes no memory.
+/// range's balanced roots. None exactly if the data lacks one of them. It does not allocate.
 pub fn stored_root<D: SupportedDigest, V: VisitBytes, L: LogData<D, V>>(
     hashes: &L,
     range: &LeafRange,

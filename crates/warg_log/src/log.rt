@@ -37,7 +37,7 @@ impl<D> Model for Checkpoint<D> {
 }
 
 impl<D> Checkpoint<D> {
-    /// The checkpoint of this root and this length, as whoever keeps a log has said them.
+    /// The checkpoint of this root and this length, as published.
     pub fn new(root: Hash<D>, length: usize) -> Checkpoint<D>
         ensures root { result.root ≡ root }
         ensures length { result.length ≡ length }

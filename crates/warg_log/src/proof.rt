@@ -61,7 +61,7 @@ impl<D, V> Model for InclusionProof<D, V> {
 
 impl<D, V> Copy for InclusionProof<D, V> {}
 
-/// Never refuses: a proof takes no memory beside its own.
+/// Never refuses: a proof allocates nothing.
 impl<D, V> Clone for InclusionProof<D, V> {
     ghost is_clone = { λ x y. y ≡ x };
 
@@ -107,7 +107,7 @@ impl<D: SupportedDigest, V: VisitBytes> InclusionProof<D, V> {
     /// a balanced root of the length, then the balanced roots right of that root, and then those left of
     /// it, both from right to left.
     ///
-    /// `LeafTooNew` exactly if the node doesn't exist at the length; else memory is the only error. A
+    /// `LeafTooNew` exactly if the node doesn't exist at the length; else it fails only if allocation fails. A
     /// length of `b` binary digits has at most `2 * (b - 1)` such nodes.
     pub fn walk<A: Allocator>(&self, alloc: A) -> Result<InclusionProofWalk<A>, InclusionProofError>
         ensures too_new { (result ≡ Err InclusionProofError.LeafTooNew)
@@ -134,7 +134,7 @@ impl<D: SupportedDigest, V: VisitBytes> InclusionProof<D, V> {
 
     /// The root that the log has if the proof's node is a leaf with this value: as
     /// [`InclusionProof::evaluate_hash`] with the digest of the byte 00 and the value's bytes, whatever
-    /// the node. It takes no memory.
+    /// the node. It does not allocate.
     pub fn evaluate_value<L: LogData<D, V>>(
         &self,
         hashes: &L,
@@ -147,7 +147,7 @@ impl<D: SupportedDigest, V: VisitBytes> InclusionProof<D, V> {
     }
 
     /// The root that the log has if the proof's node has this digest: the cut root at the proof's
-    /// length. It takes no memory.
+    /// length. It does not allocate.
     ///
     /// `LeafTooNew` exactly if the node doesn't exist at the length, and then `HashNotKnown` exactly
     /// if the data lacks a digest that the cut root reads.

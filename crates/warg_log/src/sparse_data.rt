@@ -29,7 +29,7 @@ impl<D: SupportedDigest, V: VisitBytes, A: Allocator> Model for SparseLogData<D,
 }
 
 impl<D: SupportedDigest, V: VisitBytes, A: Allocator> SparseLogData<D, V, A> {
-    /// The data that holds these digests. It takes no memory.
+    /// The data that holds these digests. It does not allocate.
     pub fn from(pairs: Vec<(Node, Hash<D>), A>) -> Self
         requires { IsAscending pairs.items }
         ensures { result ≡ pairs.items }
@@ -41,7 +41,7 @@ impl<D: SupportedDigest, V: VisitBytes, A: Allocator> SparseLogData<D, V, A> {
     }
 
     /// The data that holds these digests: `NotAscending` exactly if the nodes' numbers don't ascend
-    /// strictly. It takes no memory.
+    /// strictly. It does not allocate.
     pub fn try_from(pairs: Vec<(Node, Hash<D>), A>) -> Result<Self, NotAscending>
         ensures ok { IfOk result (λ made. made ≡ pairs.items) }
         ensures exactly { IsOk result ↔ IsAscending pairs.items }
@@ -61,7 +61,7 @@ impl<D: SupportedDigest, V: VisitBytes, A: Allocator> SparseLogData<D, V, A> {
         self.pairs.as_slice()
     }
 
-    /// The same data once more, in memory of `alloc`.
+    /// The same data cloned into `alloc`.
     pub fn copied(&self, alloc: A) -> Result<Self, AllocError>
         ensures { IfOk result (λ again. again ≡ self.now) }
     {

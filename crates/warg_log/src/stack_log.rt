@@ -44,7 +44,7 @@ impl<D: SupportedDigest, V: VisitBytes, A: Allocator> Model for StackLog<D, V, A
 }
 
 impl<D: SupportedDigest, V: VisitBytes, A: Allocator> StackLog<D, V, A> {
-    /// The log of no entries. It takes no memory yet.
+    /// The log of no entries. It does not allocate yet.
     #[tactic(auto, unfolding(crate::specs::Nodes::balanced_within))]
     pub fn default(alloc: A) -> Self
         ensures value { result ≡ record { len = 0; digests = [] } }
@@ -72,7 +72,7 @@ impl<D: SupportedDigest, V: VisitBytes, A: Allocator> StackLog<D, V, A> {
         self.count == 0
     }
 
-    /// A log of the same length and blocks. Memory is the only error.
+    /// A log of the same length and blocks. It fails only if allocation fails.
     pub fn clone(&self) -> Result<Self, AllocError>
     where
         A: Clone,

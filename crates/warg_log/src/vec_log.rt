@@ -49,7 +49,7 @@ impl<D: SupportedDigest, V: VisitBytes, A: Allocator> Model for VecLog<D, V, A> 
 }
 
 impl<D: SupportedDigest, V: VisitBytes, A: Allocator> VecLog<D, V, A> {
-    /// The log of no entries. It takes no memory yet.
+    /// The log of no entries. It does not allocate yet.
     pub fn default(alloc: A) -> Self
         ensures { result ≡ [] }
     {
@@ -69,8 +69,9 @@ impl<D: SupportedDigest, V: VisitBytes, A: Allocator> VecLog<D, V, A> {
         self.count
     }
 
-    /// The root of the tree over the entries, as in the [`checkpoint`](LogBuilder::checkpoint): for no entries the digest of
-    /// no bytes (RFC 6962, section 2.1). It hashes the branches over the balanced roots, which the log doesn't keep.
+    /// The root of the tree over the entries, as in the [`checkpoint`](LogBuilder::checkpoint): for no entries the
+    /// digest of no bytes (RFC 6962, section 2.1). It hashes the branches over the balanced roots, which the log
+    /// doesn't keep.
     #[tactic(auto, using(crate::proofs::NodeLemmas::last_width))]
     pub fn root(&self) -> Hash<D>
         ensures { result ≡ root_of D.digest self.now }
@@ -97,7 +98,7 @@ impl<D: SupportedDigest, V: VisitBytes, A: Allocator> VecLog<D, V, A> {
         self.tree.as_slice()
     }
 
-    /// A log of the same entries. Memory is the only error.
+    /// A log of the same entries. It fails only if allocation fails.
     pub fn clone(&self) -> Result<Self, AllocError>
     where
         A: Clone,

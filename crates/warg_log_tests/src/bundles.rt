@@ -1,4 +1,4 @@
-//! Bundles of a log's proofs: their parts, and refusals that come before any growth.
+//! Bundles of a log's proofs: their parts, and refusals that come before allocating.
 
 use crate::digests::{all, bytes_of, hash_of};
 use refusing::Refusing;

@@ -1,5 +1,5 @@
-//! What the vectors can't say of digests, messages and logs: types compared, ordered and hashed, calls that take no
-//! memory, and what stands after a refusal.
+//! What the vectors can't say of digests, messages and logs: types compared, ordered and hashed, calls that do not
+//! allocate, and what stands after a refusal.
 #![tactic(auto)]
 
 #[cfg(test)]

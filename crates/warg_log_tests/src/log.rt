@@ -266,7 +266,7 @@ fn walks_compared(rt: HostRuntime) -> Result<(), Fail> {
 
 type Scarce<'a> = &'a Refusing<Global>;
 
-// The answers of a log's calls that take no memory.
+// The answers of a log's calls that do not allocate.
 fn answers_alone(log: &ByteLog<Scarce<'_>>) -> bool {
     let proof = log.prove_inclusion(Node(2), 3);
     let consistency = log.prove_consistency(2, 3);
@@ -291,7 +291,7 @@ fn is_walk_of_second(walk: &InclusionProofWalk<Scarce<'_>>) -> bool {
     ])
 }
 
-// Whether new logs take no memory.
+// Whether new logs do not allocate.
 fn are_empty(memory: Scarce<'_>) -> bool {
     let log: ByteLog<Scarce<'_>> = VecLog::default(memory);
     let stack: StackLog<Sum, u8, Scarce<'_>> = StackLog::default(memory);

@@ -89,7 +89,7 @@ impl<D: SupportedDigest, A: Allocator> Link<D, A> {
     }
 }
 
-/// The node is shared. It takes no memory, and refuses only where the owners of the node can't be counted.
+/// The node is shared. It does not allocate, and refuses only where the owners of the node can't be counted.
 impl<D: SupportedDigest, A: Allocator> Clone for Link<D, A> {
     ghost use Rattle.std.specs.Prelude.{◌≡◌};
 

@@ -55,12 +55,13 @@ impl From<AllocError> for MapError {
 
 /// An immutable map from keys to values, as a sparse Merkle tree of 256 levels.
 ///
-/// A key's bits are those of its digest, and lead from the top of the tree to a leaf: 0 goes left and 1 right. A leaf has
-/// the digest of the byte 00 and the value's bytes, a branch that of the byte 01, the left digest and the right one, and
-/// where no key is held the leaf is that of no bytes. Under each key digest the value inserted last counts.
+/// A key's bits are those of its digest, and lead from the top of the tree to a leaf: 0 goes left and 1 right. A leaf
+/// has the digest of the byte 00 and the value's bytes, a branch that of the byte 01, the left digest and the right
+/// one, and where no key is held the leaf is that of no bytes. Under each key digest the value inserted last counts.
 ///
-/// An insertion gives a new map, which shares with the old one what it doesn't change. The root fixes the contents, up to
-/// a collision and values without bytes: a key with such a value counts in [`len`](Map::len), and has the root of a map without it.
+/// An insertion gives a new map, which shares with the old one what it doesn't change. The root fixes the contents, up
+/// to a collision and values without bytes: a key with such a value counts in [`len`](Map::len), and has the root of a
+/// map without it.
 ///
 /// Contracts see a map as the finite map from key bits to leaf digests.
 ///
@@ -147,7 +148,7 @@ impl<D: SupportedDigest, K, V, A: Allocator> std::hash::Hash for Map<D, K, V, A>
     }
 }
 
-/// The tree is shared. It takes no memory, and refuses only where the owners of the tree can't be counted.
+/// The tree is shared. It does not allocate, and refuses only where the owners of the tree can't be counted.
 impl<D: SupportedDigest, K, V, A: Allocator + Copy> Clone for Map<D, K, V, A> {
     ghost use Rattle.std.specs.Prelude.{◌≡◌};
 
@@ -203,7 +204,7 @@ impl<D: SupportedDigest, K: VisitBytes + Drop, V: VisitBytes + Drop, A: Allocato
     V,
     A,
 > {
-    /// The empty map, which keeps `alloc` for its nodes and proofs. It takes no memory.
+    /// The empty map, which keeps `alloc` for its nodes and proofs. It does not allocate.
     pub fn default(alloc: A) -> Map<D, K, V, A>
         ensures { result ≡ map.empty }
     {
@@ -216,13 +217,14 @@ impl<D: SupportedDigest, K: VisitBytes + Drop, V: VisitBytes + Drop, A: Allocato
         }
     }
 
-    /// The proof of what is held under `key`, or `None` exactly if its digest isn't held, which takes no memory.
+    /// The proof of what is held under `key`, or `None` exactly if its digest isn't held, which does not allocate.
     ///
-    /// The proof has one peer more than the most bits that the key's digest shares with another that is held, and one for
-    /// a lone key. It leads from the leaf digest that is held to the root ([`own_proof`](crate::laws::own_proof)).
+    /// The proof has one peer more than the most bits that the key's digest shares with another that is held, and one
+    /// for a lone key. It leads from the leaf digest that is held to the root ([`own_proof`](crate::laws::own_proof)).
     ///
-    /// It takes the key by value, as the Rust crate does, where [`evaluate`](Proof::evaluate) lends it: whoever evaluates
-    /// the proof keeps a copy, which costs nothing for a reference, and a growth and the key's bytes for an owned one.
+    /// It takes the key by value, as the Rust crate does, where [`evaluate`](Proof::evaluate) lends it: whoever
+    /// evaluates the proof keeps a copy, which costs nothing for a reference, and a growth and the key's bytes for an
+    /// owned one.
     pub fn prove(&self, key: K) -> Result<Option<Proof<D, K, V, A>>, AllocError>
         ensures answer { let bits = key_bits D.digest (K.bytes key) in
             IfOk result (λ o. MatchOption o (map.contains_key self.now bits ≡ false)
@@ -234,14 +236,14 @@ impl<D: SupportedDigest, K: VisitBytes + Drop, V: VisitBytes + Drop, A: Allocato
         Ok(answer.and(Some(proof)))
     }
 
-    /// The proof that the leaf digest under `key` is that of an empty leaf, or `None` exactly if it isn't, which takes
-    /// no memory.
+    /// The proof that the leaf digest under `key` is that of an empty leaf, or `None` exactly if it isn't, which does
+    /// not allocate.
     ///
-    /// For a key whose digest isn't held the proof has one peer more than the most bits that this digest shares with one
-    /// that is held, and none in the empty map; a peer is `None` where its subtree holds no key. For one that is held
-    /// with the digest of an empty leaf, as a value without bytes gives it, it is the proof of [`prove`](Map::prove). It
-    /// leads from an empty leaf to the root ([`own_absence`](crate::laws::own_absence)), and takes the key by value, as
-    /// `prove` does.
+    /// For a key whose digest isn't held the proof has one peer more than the most bits that this digest shares with
+    /// one that is held, and none in the empty map; a peer is `None` where its subtree holds no key. For one that is
+    /// held with the digest of an empty leaf, as a value without bytes gives it, it is the proof of
+    /// [`prove`](Map::prove). It leads from an empty leaf to the root ([`own_absence`](crate::laws::own_absence)), and
+    /// takes the key by value, as `prove` does.
     pub fn prove_absence(&self, key: K) -> Result<Option<Proof<D, K, V, A>>, AllocError>
         ensures empty { let bits = key_bits D.digest (K.bytes key) in
             IfOk result (λ o. IsSome o ↔ (leaf_at D.digest self.now bits ≡ empty_root D.digest 0)) }
@@ -339,8 +341,8 @@ impl<D: SupportedDigest, K: VisitBytes + Drop, V: VisitBytes + Drop, A: Allocato
 
 // What is asked of a key digest, whatever the keys and values are.
 impl<D: SupportedDigest, K, V, A: Allocator + Copy> Map<D, K, V, A> {
-    // Whether a key digest is held, with the proof of that, if one is asked for. Else the proof has no peers, and no memory
-    // is taken.
+    // Whether a key digest is held, with the proof of that, if one is asked for. Else the proof has no peers, and no
+    // memory is taken.
     pub(crate) fn proof_of(
         &self,
         key: &Hash<D>,
@@ -360,7 +362,7 @@ impl<D: SupportedDigest, K, V, A: Allocator + Copy> Map<D, K, V, A> {
         Ok((to.held, Proof::new(to.peers)))
     }
 
-    // Whether a key digest is one too many: a new one, where the map is full. For such a one this takes no memory.
+    // Whether a key digest is one too many: a new one, where the map is full. For such a one this does not allocate.
     fn is_full_for(&self, key: &Hash<D>) -> Result<bool, AllocError>
         ensures few { map.len self.now ≤ usize.MAX }
         ensures full { let full = IsOneTooMany self.now key.now in

@@ -7,8 +7,8 @@ use crate::error::HashesError;
 use std::alloc::Allocator;
 use warg_crypto::Hash;
 
-/// The hashes that bytes are, in pieces of 32 one after the other. `HashLength` exactly if the bytes don't
-/// go out even, before any growth; else memory is the only error.
+/// The hashes that bytes are, in pieces of 32 one after the other. `HashLength` exactly if their number is not a
+/// multiple of 32, before allocating; else it fails only if allocation fails.
 pub fn hashes_in<D, A: Allocator>(alloc: A, bytes: &[u8]) -> Result<Vec<Hash<D>, A>, HashesError>
     ensures ok { IfOk result (λ hashes. hashes_of bytes.now ≡ Some hashes.items) }
     ensures length { (result ≡ Err HashesError.HashLength) ↔ (hashes_of bytes.now ≡ None) }

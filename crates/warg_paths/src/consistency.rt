@@ -15,7 +15,7 @@ use warg_log::{Checkpoint, GREATEST_LENGTH, LeafRange, LogData, stored_root};
 /// holds: each is the stored root of a part of the new log, from the bottom up (RFC 6962, section 2.1.2).
 ///
 /// `OutOfRange` exactly if the old length isn't between 1 and the new one, and else `HashNotKnown` exactly
-/// if one of these parts has no stored root, both before memory is taken; else memory is the only error.
+/// if one of these parts has no stored root, both before allocating; else it fails only if allocation fails.
 pub fn consistency_path<D: SupportedDigest, V: VisitBytes, L: LogData<D, V>, A: Allocator>(
     alloc: A,
     hashes: &L,
@@ -157,7 +157,7 @@ impl Turn {
 
 /// The roots of a log at its old length and at its new one, in this order, by a consistency path and the root
 /// that the log had at the old length (RFC 6962, section 2.1.2). None where the path has another length than
-/// that of these lengths, and where the old length isn't between 1 and the new one. It takes no memory.
+/// that of these lengths, and where the old length isn't between 1 and the new one. It does not allocate.
 pub fn roots_of_consistency<D: SupportedDigest>(
     old_length: usize,
     new_length: usize,
@@ -172,7 +172,7 @@ pub fn roots_of_consistency<D: SupportedDigest>(
 /// The roots over the first `old_length` leaves and over all `new_length` of a part of a log, in this order, by what a
 /// consistency path has for that part (RFC 6962, section 2.1.2: SUBPROOF). The old root is None where these leaves
 /// aren't the whole old log, so that the path begins with their root. None where the path has another length than that
-/// of these lengths, and where the old length isn't between 1 and the new one. It takes no memory.
+/// of these lengths, and where the old length isn't between 1 and the new one. It does not allocate.
 pub fn roots_of_subproof<D: SupportedDigest>(
     old_root: Option<Hash<D>>,
     old_length: usize,
@@ -225,7 +225,7 @@ fn only_root<D>(known: Option<Hash<D>>, path: &[Hash<D>]) -> Option<Hash<D>>
 }
 
 /// Whether a consistency path shows that the log of the old checkpoint is a beginning of the log of the new one:
-/// whether the path leads from the old root to both checkpoints' roots, at their lengths. It takes no memory.
+/// whether the path leads from the old root to both checkpoints' roots, at their lengths. It does not allocate.
 pub fn check_tree<D: SupportedDigest>(
     old: &Checkpoint<D>,
     new: &Checkpoint<D>,

@@ -17,7 +17,7 @@ use warg_log::{Checkpoint, GREATEST_LENGTH, LeafRange, LogData, stored_root};
 /// section 2.1.1).
 ///
 /// `OutOfRange` exactly if `index` isn't below `length`, and else `HashNotKnown` exactly if one of these
-/// parts has no stored root, both before memory is taken; else memory is the only error.
+/// parts has no stored root, both before allocating; else it fails only if allocation fails.
 pub fn inclusion_path<D: SupportedDigest, V: VisitBytes, L: LogData<D, V>, A: Allocator>(
     alloc: A,
     hashes: &L,
@@ -107,7 +107,7 @@ impl Turn {
 
 /// The root of a log of `length` entries by an inclusion path, where the entry at `index`, from 0, has this leaf
 /// digest (RFC 6962, section 2.1.1). None where the path has another length than that of this place, and where
-/// `index` isn't below `length`. It takes no memory.
+/// `index` isn't below `length`. It does not allocate.
 pub fn root_of_inclusion<D: SupportedDigest>(
     index: usize,
     length: usize,
@@ -150,7 +150,7 @@ fn root_within<D: SupportedDigest>(
 }
 
 /// Whether an inclusion path shows that the log of this checkpoint has the value at `index`, from 0: whether
-/// the path leads from the value's leaf digest to the checkpoint's root, at its length. It takes no memory.
+/// the path leads from the value's leaf digest to the checkpoint's root, at its length. It does not allocate.
 pub fn check_record<D: SupportedDigest, V: VisitBytes>(
     checkpoint: &Checkpoint<D>,
     index: usize,

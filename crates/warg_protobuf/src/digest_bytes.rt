@@ -5,7 +5,7 @@ ghost use Rattle.std.specs.Prelude.{◌≡◌, IfOk};
 use std::alloc::{AllocError, Allocator, Global};
 use std::marker::Model;
 
-/// A digest's bytes, of any length on the wire. Where they are 32, they take no memory of their own.
+/// A digest's bytes, of any length on the wire. Where they are 32, they allocate nothing of their own.
 #[derive(Drop)]
 pub struct DigestBytes<A: Allocator = Global> {
     stored: Stored<A>,
@@ -53,7 +53,7 @@ impl<A: Allocator> Eq for DigestBytes<A> {
 
 #[tactic(auto, unfolding(crate::specs::Private::Stored::stored_bytes))]
 impl<A: Allocator> DigestBytes<A> {
-    /// These 32 bytes, which takes no memory.
+    /// These 32 bytes, which does not allocate.
     pub fn from_array(bytes: [u8; 32]) -> Self
         ensures { result ≡ bytes }
     {

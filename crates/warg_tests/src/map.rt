@@ -90,7 +90,7 @@ fn proven(alloc: Global, pairs: &[(Text, Text)], key: Text) -> Result<TextProof,
     Ok(grown(alloc, pairs)?.prove(key)?.ok_or("held")?)
 }
 
-// A bundle's lists stay in the allocators that they lie in, and bundling takes no memory.
+// A bundle's lists stay in the allocators that they lie in, and bundling does not allocate.
 #[test]
 fn lists_of_a_bundle_stay_where_they_lie(rt: HostRuntime) -> Result<(), Fail> {
     let held = Refusing::after(rt.alloc(), 1);
@@ -192,7 +192,8 @@ fn proofs_of_keys_as_bytes(rt: HostRuntime) -> Result<(), Fail> {
     Ok(())
 }
 
-// The proof's bytes are refused with so few growths, or those of a key that is held and of one that isn't are more than two.
+// The proof's bytes are refused with so few growths, or those of a key that is held and of one that isn't are more than
+// two.
 fn are_refused(alloc: Global, growths: u64) -> Result<bool, Fail> {
     let memory = Refusing::after(alloc, 90);
     let map = foo(&memory)?.insert("baz", "bat")?;

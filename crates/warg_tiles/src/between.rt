@@ -7,8 +7,8 @@ use crate::tile::Tile;
 use std::alloc::{AllocError, Allocator};
 use warg_log::GREATEST_LENGTH;
 
-/// The tiles that a log has at its new length and hadn't at its old one, each once and as wide as it is at the new length,
-/// by level and then by number. Memory is the only error.
+/// The tiles that a log has at its new length and hadn't at its old one, each once and as wide as it is at the new
+/// length, by level and then by number. It fails only if allocation fails.
 pub fn tiles_between<A: Allocator>(
     alloc: A,
     old_length: usize,

@@ -52,7 +52,7 @@ impl<D, A: Allocator> Model for CheckpointText<D, A> {
 impl<D, A: Allocator + Copy> CheckpointText<D, A> {
     /// The text that says this checkpoint of the log with this origin, with no further lines. `Origin` exactly if the
     /// origin is empty or has a newline; `Length` exactly if the length is above 2^63 and the origin is none; both
-    /// before memory is taken, else memory is the only error.
+    /// before allocating, else it fails only if allocation fails.
     pub fn new(
         alloc: A,
         origin: &[u8],
@@ -84,8 +84,8 @@ impl<D, A: Allocator + Copy> CheckpointText<D, A> {
         })
     }
 
-    /// Adds a further line. `Extension` exactly if it is empty or has a newline, before memory is taken; else memory is
-    /// the only error. A refused call leaves the text as it was.
+    /// Adds a further line. `Extension` exactly if it is empty or has a newline, before allocating; else it fails only
+    /// if allocation fails. A refused call leaves the text as it was.
     pub fn push_extension(&mut self, extension: &[u8]) -> Result<(), CheckpointTextError>
         ensures ok { OnOk result
             (self.new
@@ -104,11 +104,12 @@ impl<D, A: Allocator + Copy> CheckpointText<D, A> {
         Ok(())
     }
 
-    /// The text that bytes begin with, and what is behind the empty line that ends it; none where the text goes up to the
-    /// end. What stands there, as the signatures of a signed note, is the caller's to read.
+    /// The text that bytes begin with, and what is behind the empty line that ends it; none where the text goes up to
+    /// the end. What stands there, as the signatures of a signed note, is the caller's to read.
     ///
-    /// The first fault by name: `Origin`, `Length`, `Root`, `Extension`; a line that has no newline counts as a fault of
-    /// its kind. Else memory is the only error. What is written is read as the same, and nothing else is read as it.
+    /// The first fault by name: `Origin`, `Length`, `Root`, `Extension`; a line that has no newline counts as a fault
+    /// of its kind. Else it fails only if allocation fails. What is written is read as the same, and nothing else is
+    /// read as it.
     pub fn read(
         alloc: A,
         bytes: &[u8],
@@ -157,7 +158,7 @@ impl<D, A: Allocator + Copy> CheckpointText<D, A> {
 }
 
 impl<D, A: Allocator> CheckpointText<D, A> {
-    /// The text's bytes. Memory is the only error.
+    /// The text's bytes. It fails only if allocation fails.
     pub fn write<B: Allocator + Copy>(&self, alloc: B) -> Result<Vec<u8, B>, AllocError>
         ensures { IfOk result (λ bytes. bytes.items ≡ text_of self.now) }
     {

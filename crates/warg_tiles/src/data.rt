@@ -12,8 +12,8 @@ use std::marker::{Model, PhantomData};
 use warg_crypto::{Hash, SupportedDigest, VisitBytes};
 use warg_log::{GREATEST_LENGTH, LogData, Node};
 
-/// The digests of a tile by the data: of each of its nodes, from left to right. `HashNotKnown` exactly if the data lacks
-/// one of them, before memory is taken; else memory is the only error.
+/// The digests of a tile by the data: of each of its nodes, from left to right. `HashNotKnown` exactly if the data
+/// lacks one of them, before allocating; else it fails only if allocation fails.
 pub fn tile_hashes<D: SupportedDigest, V: VisitBytes, L: LogData<D, V>, A: Allocator>(
     alloc: A,
     hashes: &L,
@@ -39,8 +39,9 @@ pub fn tile_hashes<D: SupportedDigest, V: VisitBytes, L: LogData<D, V>, A: Alloc
     Ok(digests)
 }
 
-/// The digests of tiles that were fetched, as data of proofs: the digest of a node is the root over those of the first tile
-/// that has all digests of the node's level below it. So each proof and each path of a log is made out of its tiles.
+/// The digests of tiles that were fetched, as data of proofs: the digest of a node is the root over those of the first
+/// tile that has all digests of the node's level below it. So each proof and each path of a log is made out of its
+/// tiles.
 ///
 /// A search goes through the tiles, of which a proof needs a few.
 #[derive(Drop)]
@@ -60,7 +61,7 @@ impl<D: SupportedDigest, V: VisitBytes, A: Allocator> Model for TileData<D, V, A
 }
 
 impl<D: SupportedDigest, V: VisitBytes, A: Allocator> TileData<D, V, A> {
-    /// The data of no tiles. It takes no memory yet.
+    /// The data of no tiles. It does not allocate yet.
     pub fn new(alloc: A) -> Self
         ensures { result ≡ [] }
     {
@@ -70,7 +71,7 @@ impl<D: SupportedDigest, V: VisitBytes, A: Allocator> TileData<D, V, A> {
         }
     }
 
-    /// Adds a tile with its digests. A refused call leaves the data as it was; memory is the only error.
+    /// Adds a tile with its digests. A refused call leaves the data as it was; it fails only if allocation fails.
     pub fn insert(&mut self, tile: Tile, digests: Vec<Hash<D>, A>) -> Result<(), AllocError>
         requires { length digests.items ≡ tile.width }
         ensures ok { OnOk result (self.new ≡ self.old ++ (tile, digests.items) ∷ []) }
@@ -82,9 +83,9 @@ impl<D: SupportedDigest, V: VisitBytes, A: Allocator> TileData<D, V, A> {
 }
 
 impl<D: SupportedDigest, V: VisitBytes, A: Allocator + Copy> TileData<D, V, A> {
-    /// Adds a tile by the bytes of its file, which are its digests one after the other. `Length` exactly if they aren't 32
-    /// for each digest of its width, before memory is taken; else memory is the only error. A refused call leaves the data
-    /// as it was.
+    /// Adds a tile by the bytes of its file, which are its digests one after the other. `Length` exactly if they aren't
+    /// 32 for each digest of its width, before allocating; else it fails only if allocation fails. A refused call
+    /// leaves the data as it was.
     pub fn insert_bytes(&mut self, tile: Tile, bytes: &[u8]) -> Result<(), TileBytesError>
         ensures ok { OnOk result (self.new ≡ self.old ++ (tile, digests_in tile.width bytes.now) ∷ []) }
         ensures fits { OnOk result (length bytes.now ≡ 32 * tile.width) }

@@ -11,9 +11,9 @@ use std::convert::AsSlice;
 // One more than the greatest length of an entry in a bundle.
 const TOO_LONG: usize = 1 << 16;
 
-/// The bytes of the bundle of these entries: for each its length as two bytes, the greater one first, and then its bytes
-/// (C2SP tlog-tiles). `TooLong` exactly if an entry has more than 65,535 bytes, before memory is taken; else memory is
-/// the only error.
+/// The bytes of the bundle of these entries: for each its length as two bytes, the greater one first, and then its
+/// bytes (C2SP tlog-tiles). `TooLong` exactly if an entry has more than 65,535 bytes, before allocating; else it fails
+/// only if allocation fails.
 #[tactic(auto, unfolding(crate::specs::EntryBundles::bundle_of))]
 pub fn write_entries<T: AsSlice<u8>, A: Allocator>(
     alloc: A,
@@ -33,8 +33,8 @@ pub fn write_entries<T: AsSlice<u8>, A: Allocator>(
     Ok(bytes)
 }
 
-/// Adds an entry behind those of a bundle's bytes. `TooLong` exactly if it has more than 65,535 bytes; else memory is the
-/// only error. A refused call leaves the bytes as they were.
+/// Adds an entry behind those of a bundle's bytes. `TooLong` exactly if it has more than 65,535 bytes; else it fails
+/// only if allocation fails. A refused call leaves the bytes as they were.
 #[tactic(auto, unfolding(crate::specs::EntryBundles::bundle_of))]
 pub fn push_entry<A: Allocator>(bytes: &mut Vec<u8, A>, entry: &[u8]) -> Result<(), EntryError>
     ensures ok { OnOk result (bytes.new.items ≡ bytes.old.items ++ bundle_of (entry.now ∷ [])) }
@@ -74,7 +74,7 @@ fn write_entry<A: Allocator>(bytes: &mut Vec<u8, A>, entry: &[u8]) -> Result<(),
 }
 
 /// The entries of a bundle, lent from its bytes. `Truncated` only where the bytes are no bundle's: they end within an
-/// entry's length or within an entry. Else memory is the only error.
+/// entry's length or within an entry. Else it fails only if allocation fails.
 #[tactic(auto, unfolding(crate::specs::EntryBundles::bundle_of))]
 pub fn read_entries<A: Allocator>(alloc: A, bytes: &[u8]) -> Result<Vec<&[u8], A>, EntriesError>
     ensures ok { IfOk result (λ entries. bytes.now ≡ bundle_of (map (λ e. e.now) entries.items)) }

@@ -14,9 +14,9 @@ use std::alloc::{AllocError, Allocator};
 use warg_crypto::Sha256;
 use warg_log::{GREATEST_LENGTH, LogData, Node};
 
-/// The tiles from which the proof of the entry at `index`, from 0, in the log of the first `length` entries is made: each
-/// node that the proof needs has all digests of its level below it in one of them, and each of them has those of such a
-/// node. Each is named once, and is as wide as it is at that length. Memory is the only error.
+/// The tiles from which the proof of the entry at `index`, from 0, in the log of the first `length` entries is made:
+/// each node that the proof needs has all digests of its level below it in one of them, and each of them has those of
+/// such a node. Each is named once, and is as wide as it is at that length. It fails only if allocation fails.
 pub fn tiles_for_inclusion<A: Allocator + Copy>(
     alloc: A,
     index: usize,
@@ -31,9 +31,10 @@ pub fn tiles_for_inclusion<A: Allocator + Copy>(
     Ok(tiles)
 }
 
-/// The tiles from which the proof is made that the log of the first `old_length` entries is a beginning of that of the first
-/// `new_length`: each node that the proof needs has all digests of its level below it in one of them, and each of them has
-/// those of such a node. Each is named once, and is as wide as it is at the new length. Memory is the only error.
+/// The tiles from which the proof is made that the log of the first `old_length` entries is a beginning of that of the
+/// first `new_length`: each node that the proof needs has all digests of its level below it in one of them, and each of
+/// them has those of such a node. Each is named once, and is as wide as it is at the new length. It fails only if
+/// allocation fails.
 pub fn tiles_for_consistency<A: Allocator + Copy>(
     alloc: A,
     old_length: usize,

@@ -17,7 +17,7 @@ use warg_log::decimal_in;
 pub struct BadPath;
 
 impl Tile {
-    /// The path under which the tile is served, as `tile/0/x001/x234/067.p/8`. Memory is the only error.
+    /// The path under which the tile is served, as `tile/0/x001/x234/067.p/8`. It fails only if allocation fails.
     pub fn path<A: Allocator>(&self, alloc: A) -> Result<String<A>, AllocError>
         ensures { IfOk result (λ text. string_bytes text ≡ tile_path self.now) }
     {
@@ -28,8 +28,8 @@ impl Tile {
         Ok(text)
     }
 
-    /// The path under which the bundle of the entries below a tile of level 0 is served, as `tile/entries/067.p/8`. Memory
-    /// is the only error.
+    /// The path under which the bundle of the entries below a tile of level 0 is served, as `tile/entries/067.p/8`. It
+    /// fails only if allocation fails.
     pub fn entries_path<A: Allocator>(&self, alloc: A) -> Result<String<A>, AllocError>
         requires { self.now.level ≡ 0 }
         ensures { IfOk result (λ text. string_bytes text ≡ entries_path self.now) }
@@ -39,7 +39,7 @@ impl Tile {
         Ok(text)
     }
 
-    /// The tile whose path a text is: `BadPath` exactly if it is no tile's. It takes no memory.
+    /// The tile whose path a text is: `BadPath` exactly if it is no tile's. It does not allocate.
     pub fn from_path(path: &str) -> Result<Tile, BadPath>
         ensures ok { IfOk result (λ tile. IsTile tile × (path.now ≡ tile_path tile)) }
         ensures err { OnErr result ((tile : TileAt) → IsTile tile → path.now ≢ tile_path tile) }
@@ -47,8 +47,8 @@ impl Tile {
         tile_in(path).ok_or(BadPath)
     }
 
-    /// The tile of level 0 whose entry bundle's path a text is: `BadPath` exactly if it is no bundle's. It takes no
-    /// memory.
+    /// The tile of level 0 whose entry bundle's path a text is: `BadPath` exactly if it is no bundle's. It does not
+    /// allocate.
     pub fn from_entries_path(path: &str) -> Result<Tile, BadPath>
         ensures ok { IfOk result (λ tile. IsTile tile × (tile.level ≡ 0)
             × (path.now ≡ entries_path tile)) }

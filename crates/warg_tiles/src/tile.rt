@@ -9,11 +9,11 @@ use std::alloc::{AllocError, Allocator};
 use std::marker::Model;
 use warg_log::{GREATEST_LENGTH, LeafRange, Node};
 
-/// The digests of one height in a row, up to 256 of them, as one file: digest `i` of the tile with level `L` and number `N`
-/// is that of the node of height `8 * L` whose leaves begin at `(256 * N + i) * 2^(8 * L)` (C2SP tlog-tiles).
+/// The digests of one height in a row, up to 256 of them, as one file: digest `i` of the tile with level `L` and number
+/// `N` is that of the node of height `8 * L` whose leaves begin at `(256 * N + i) * 2^(8 * L)` (C2SP tlog-tiles).
 ///
-/// The level is at most 63. The width, the number of digests, is between 1 and 256; a tile of width 256 is full, any other
-/// is partial. Tiles are ordered by level, then by number, then by width.
+/// The level is at most 63. The width, the number of digests, is between 1 and 256; a tile of width 256 is full, any
+/// other is partial. Tiles are ordered by level, then by number, then by width.
 #[derive(Clone, Copy, PartialEq, Eq, PartialOrd, Ord, Hash, Debug)]
 pub struct Tile {
     level: u32,
@@ -52,8 +52,8 @@ impl Tile {
         }
     }
 
-    /// The least tile from which a node's digest can be made: its level is the node's height by 8, and it ends where the
-    /// node's leaves end.
+    /// The least tile from which a node's digest can be made: its level is the node's height by 8, and it ends where
+    /// the node's leaves end.
     pub fn over(node: Node) -> Tile
         ensures { result ≡ tile_over node.0 }
     {
@@ -97,7 +97,7 @@ impl Tile {
         Node::over(&LeafRange::new((256 * self.number + place) * count, count))
     }
 
-    /// The nodes whose digests the tile has, from left to right. Memory is the only error.
+    /// The nodes whose digests the tile has, from left to right. It fails only if allocation fails.
     pub fn nodes<A: Allocator>(&self, alloc: A) -> Result<Vec<Node, A>, AllocError>
         requires { tile_end self.now ≤ GREATEST_LENGTH }
         ensures { IfOk result (λ nodes. map (λ node. node.0) nodes.items

@@ -19,8 +19,8 @@ use std::mem;
 use warg_crypto::{Hash, SupportedDigest, VisitBytes, hash_branch, hash_empty, hash_leaf};
 use warg_log::{Checkpoint, GREATEST_LENGTH, LogBuilder, Node};
 
-/// A log that keeps its right edge alone, the digests of its partial tiles: at most 255 of each level, whatever the log's
-/// length. Full tiles wait until they are taken, for whoever stores them.
+/// A log that keeps its right edge alone, the digests of its partial tiles: at most 255 of each level, whatever the
+/// log's length. Full tiles wait until they are taken, for whoever stores them.
 ///
 /// It returns checkpoints, but no digests for proofs: these are made out of the stored tiles.
 #[derive(Drop)]
@@ -53,7 +53,7 @@ impl<D: SupportedDigest, V: VisitBytes, A: Allocator> Model for TileLog<D, V, A>
 }
 
 impl<D: SupportedDigest, V: VisitBytes, A: Allocator + Copy> TileLog<D, V, A> {
-    /// The log of no entries. It takes no memory yet.
+    /// The log of no entries. It does not allocate yet.
     #[tactic(auto, unfolding(crate::specs::Private::Edges::edge_width))]
     pub fn new(alloc: A) -> Self
         ensures value { result ≡ record { len = 0; taken = 0; digests = []; full = [] } }
@@ -68,12 +68,14 @@ impl<D: SupportedDigest, V: VisitBytes, A: Allocator + Copy> TileLog<D, V, A> {
         }
     }
 
-    /// The log of this length whose partial tiles these are, by level, as `partial` gives them: it goes on from there, and
-    /// its full tiles count as taken. The first fault by name: `Place` and `Width` of a tile that isn't the one of its place
-    /// or its width, `Count` where there are more or fewer; before memory is taken. Else memory is the only error.
+    /// The log of this length whose partial tiles these are, by level, as `partial` gives them: it goes on from there,
+    /// and its full tiles count as taken. The first fault by name: `Place` and `Width` of a tile that isn't the one of
+    /// its place or its width, `Count` where there are more or fewer; before allocating. Else it fails only if
+    /// allocation fails.
     ///
-    /// The digests are taken as they are: compare the checkpoint, which has the root by them, with that of the log. Where the
-    /// two are equal, the digests are the log's own, or two byte strings collide (`laws::partial_tiles_or_collision`).
+    /// The digests are taken as they are: compare the checkpoint, which has the root by them, with that of the log.
+    /// Where the two are equal, the digests are the log's own, or two byte strings collide
+    /// (`laws::partial_tiles_or_collision`).
     pub fn open(alloc: A, log_length: usize, tiles: &[StoredTile<D, A>]) -> Result<Self, OpenError>
         requires { log_length ≤ GREATEST_LENGTH }
         ensures length { IfOk result (λ log. (log.len ≡ log_length) × (log.taken ≡ log_length)
@@ -121,8 +123,8 @@ impl<D: SupportedDigest, V: VisitBytes, A: Allocator + Copy> TileLog<D, V, A> {
         self.count == 0
     }
 
-    /// Takes the tiles that were filled since the last call, each once, in the order in which entries filled them. The log
-    /// goes on with none of them.
+    /// Takes the tiles that were filled since the last call, each once, in the order in which entries filled them. The
+    /// log goes on with none of them.
     pub fn take_full(&mut self) -> Vec<StoredTile<D, A>, A>
         ensures value { map (λ t. (t.tile, t.digests.items)) result.items ≡ self.old.full }
         ensures tiles { (ds : List (List ℕ)) → StandsFor D.digest self.old ds
@@ -137,8 +139,8 @@ impl<D: SupportedDigest, V: VisitBytes, A: Allocator + Copy> TileLog<D, V, A> {
         mem::replace(&mut self.full, Vec::new(alloc))
     }
 
-    /// The partial tiles, those of the right edge, by level: none for a level whose nodes fill tiles. Memory is the only
-    /// error.
+    /// The partial tiles, those of the right edge, by level: none for a level whose nodes fill tiles. It fails only if
+    /// allocation fails.
     pub fn partial(&self, alloc: A) -> Result<Vec<StoredTile<D, A>, A>, AllocError>
         ensures value { IfOk result (λ tiles.
             map (λ t. (t.tile, t.digests.items)) tiles.items ≡ edge_tiles self.now) }
@@ -350,9 +352,9 @@ fn push_digests<D, A: Allocator + Copy>(
     edge.append(&mut digests)
 }
 
-// Puts a node's digest behind the right edge from a level on, where so many nodes of the level stand before it. Each tile
-// that this fills goes behind the others, and its root up by one level. What is left are the first digests of the edge, so
-// many, and the digest behind them.
+// Puts a node's digest behind the right edge from a level on, where so many nodes of the level stand before it. Each
+// tile that this fills goes behind the others, and its root up by one level. What is left are the first digests of the
+// edge, so many, and the digest behind them.
 fn fill<D: SupportedDigest, A: Allocator + Copy>(
     alloc: A,
     filled: &mut Vec<StoredTile<D, A>, A>,

@@ -37,7 +37,7 @@ impl Folder {
         Ok(path)
     }
 
-    /// The refusal for a file that lacks, or isn't what it is to be.
+    /// The refusal for a file that is missing or corrupt.
     pub fn damaged(&self, alloc: Global, file: &str, fault: &'static str) -> Refusal {
         match self.path(alloc, file) {
             Ok(path) => Refusal::about(path, Cause::Damaged { fault }),

@@ -35,7 +35,7 @@ pub enum Cause {
     /// The log has no such entry or length.
     #[error("{rule} {bound}: see warg_tlog checkpoint FOLDER")]
     OutOfRange { rule: &'static str, bound: usize },
-    /// A file of the log lacks, or isn't what it is to be.
+    /// A file of the log is missing or corrupt.
     #[error(" {fault}: put it back from a copy of the log")]
     Damaged { fault: &'static str },
     /// The checkpoint is an older one than the log has had.

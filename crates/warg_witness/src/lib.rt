@@ -10,11 +10,11 @@
 mod collision;
 mod divergence;
 pub mod laws;
-pub mod premises;
 mod log;
 mod map;
 mod paths;
 mod plain;
+pub mod premises;
 mod ranges;
 mod trees;
 

@@ -99,12 +99,12 @@ fn meet_tree<D: SupportedDigest, V: VisitBytes, L: LogData<D, V>, A: Allocator>(
 /// value's bytes.
 ///
 /// `NotMet` exactly if the entries aren't as many as the proof's length says, or the evaluation over the
-/// data isn't Ok, both of which are decided before any growth, or it isn't with the root of the tree over the
+/// data isn't Ok, both of which are decided before allocating, or it isn't with the root of the tree over the
 /// entries. `Holds` exactly if it is, and the claim is true. Else a collision: what the digest function
 /// takes in the evaluation (first) and in the tree over the entries (second) at one range around the node.
 ///
 /// It hashes each leaf and branch of the tree over the entries once, and besides the value and at most three
-/// times as many branches as the proof's evaluation has. Out of memory is the only error. A value or an entry of
+/// times as many branches as the proof's evaluation has. It fails only if allocation fails. A value or an entry of
 /// more than `usize::MAX` bytes counts as that: no copy of it could be had.
 ///
 /// ```rust
@@ -212,12 +212,12 @@ fn collide_value<D: SupportedDigest, V: VisitBytes, A: Allocator + Copy>(
 /// the node.
 ///
 /// `NotMet` exactly if the entries aren't as many as the proof's length says, or the evaluation over the
-/// data isn't Ok, both of which are decided before any growth, or it isn't with the root of the tree over the
+/// data isn't Ok, both of which are decided before allocating, or it isn't with the root of the tree over the
 /// entries. `Holds` exactly if it is, and the claim is true. Else a collision: what the digest function
 /// takes in the evaluation (first) and in the tree over the entries (second) at one range around the node.
 ///
 /// It hashes each leaf and branch of the tree over the entries once, and besides at most three times as many
-/// branches as the proof's evaluation has. Out of memory is the only error.
+/// branches as the proof's evaluation has. It fails only if allocation fails.
 pub fn witness_hash<D: SupportedDigest, V: VisitBytes, L: LogData<D, V>, A: Allocator + Copy>(
     alloc: A,
     proof: &InclusionProof<D, V>,
@@ -263,11 +263,11 @@ fn find_hash<D: SupportedDigest, A: Allocator + Copy>(
 /// Whether two evaluations of one proof, over two data and with two values, that lead to one root, whichever
 /// it is, are of the same value: for a client that holds no entries.
 ///
-/// `NotMet` exactly if one evaluation isn't Ok or both lead to different roots, which takes no memory.
+/// `NotMet` exactly if one evaluation isn't Ok or both lead to different roots, which does not allocate.
 /// `Holds` exactly if both are Ok with one root, and the values have the same bytes. Else a collision: what
 /// the digest function takes in the first and in the second evaluation at one range around the node.
 ///
-/// It hashes both values, and each branch of both evaluations once. Out of memory is the only error. A value of more
+/// It hashes both values, and each branch of both evaluations once. It fails only if allocation fails. A value of more
 /// than `usize::MAX` bytes counts as that.
 pub fn agree_value<
     D: SupportedDigest,

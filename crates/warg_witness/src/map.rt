@@ -181,10 +181,10 @@ fn find_key<D: SupportedDigest, K: VisitBytes, V: VisitBytes, W: VisitBytes, A: 
 /// (first) and those of an inserted key with the same digest (second).
 ///
 /// It grows the map of the insertions in one go ([`Map::extend`](warg_map::Map::extend)), and evaluates that map's own
-/// proof of the key beside the given one, 256 branches each. To find the last insertion under the key's digest it hashes
-/// the inserted keys once more, from the last one on, up to that one. It keeps the map until its proof is made, and copies
-/// no key and no value but into a collision. Out of memory is the only error. A key or a value of more than `usize::MAX`
-/// bytes counts as that: no copy of it could be had.
+/// proof of the key beside the given one, 256 branches each. To find the last insertion under the key's digest it
+/// hashes the inserted keys once more, from the last one on, up to that one. It keeps the map until its proof is made,
+/// and copies no key and no value but into a collision. It fails only if allocation fails. A key or a value of more
+/// than `usize::MAX` bytes counts as that: no copy of it could be had.
 pub fn witness_key<
     D: SupportedDigest,
     K: VisitBytes,
@@ -214,7 +214,7 @@ pub fn witness_key<
 ///
 /// `NotMet` exactly if the proof doesn't lead from an empty leaf to the root of the map of the insertions. `Holds`
 /// exactly if it does, and the claim is true. Else a collision, as that of [`witness_key`] for a value without
-/// bytes, and at the same cost. Out of memory is the only error, as there.
+/// bytes, and at the same cost. It fails only if allocation fails, as there.
 pub fn witness_absent<
     D: SupportedDigest,
     K: VisitBytes,
@@ -239,10 +239,10 @@ pub fn witness_absent<
 
 /// Whether two proofs of one key, each with a value, agree under one root, whichever it is.
 ///
-/// `NotMet` exactly if the two don't lead to one root, which takes no memory. `Holds` exactly if they do, and the
+/// `NotMet` exactly if the two don't lead to one root, which does not allocate. `Holds` exactly if they do, and the
 /// values have the same bytes. Else a collision: what the digest function takes in the first and in the second
-/// evaluation at one prefix of the key's bits. Out of memory is the only error. A value of more than `usize::MAX` bytes
-/// counts as that.
+/// evaluation at one prefix of the key's bits. It fails only if allocation fails. A value of more than `usize::MAX`
+/// bytes counts as that.
 pub fn agree_key<
     D: SupportedDigest,
     K: VisitBytes,

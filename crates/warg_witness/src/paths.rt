@@ -58,12 +58,12 @@ fn meet_path<D: SupportedDigest, V: VisitBytes, A: Allocator>(
 ///
 /// `NotMet` exactly if the path doesn't lead from the value's leaf digest to the root of the tree over the
 /// entries; where it leads to no root, as where it has another length than that of this place or `index` is no
-/// place of the entries, before any growth. `Holds` exactly if it leads there, and the claim is true. Else a
+/// place of the entries, before allocating. `Holds` exactly if it leads there, and the claim is true. Else a
 /// collision: what the digest function takes in the evaluation of the path (first; RFC 6962, section 2.1.1) and in
 /// the tree over the entries (second) at one range on the way to the leaf.
 ///
 /// It hashes each leaf and branch of the tree over the entries once, and besides the value and at most as many branches
-/// as four times the path's length. Out of memory is the only error. A value or an entry of more than
+/// as four times the path's length. It fails only if allocation fails. A value or an entry of more than
 /// `usize::MAX` bytes counts as that, and so do more than 2^63 entries.
 pub fn witness_record<D: SupportedDigest, V: VisitBytes, A: Allocator + Copy>(
     alloc: A,

@@ -153,7 +153,7 @@ impl<D: SupportedDigest, V: VisitBytes, A: Allocator> ProofBundle<D, V, A> {
 impl<D: SupportedDigest, V: VisitBytes, A: Allocator + Copy> ProofBundle<D, V, A> {
     /// The bundle of these proofs, in their order, with exactly the digests that their evaluation reads.
     ///
-    /// The errors, each before any growth: for the consistency proofs in turn `Consistency` with
+    /// The errors, each before allocating: for the consistency proofs in turn `Consistency` with
     /// `PointsOutOfOrder`, and then `DifferentRoots` where the new length isn't the first proof's; for the
     /// inclusion proofs in turn `DifferentRoots`, and then `Inclusion` with `LeafTooNew`; `NoProofs`; and
     /// `TooLarge` where the length is above `u32::MAX`. Then `HashNotFound` where the data lacks a needed
@@ -247,7 +247,7 @@ impl<D: SupportedDigest, V: VisitBytes, A: Allocator + Copy> ProofBundle<D, V, A
     }
 
     /// The bundle's message, which holds the same bundle. `TooLarge` exactly if a node's number is above
-    /// `u32::MAX`, before any growth.
+    /// `u32::MAX`, before allocating.
     pub fn to_message(&self, alloc: A) -> Result<Message<A>, EncodeError>
         ensures ok { IfOk result (λ message. log_view message ≡ bundle_message self.now) }
         ensures again { IfOk result (λ message. log_bundle_in (log_view message) ≡ Ok self.now) }
@@ -270,7 +270,7 @@ impl<D: SupportedDigest, V: VisitBytes, A: Allocator + Copy> ProofBundle<D, V, A
     }
 
     /// Writes the bytes of the bundle's message, which are read as the same bundle. `TooLarge` exactly if
-    /// a node's number is above `u32::MAX`, before any growth.
+    /// a node's number is above `u32::MAX`, before allocating.
     pub fn encode(&self, alloc: A) -> Result<Vec<u8, A>, EncodeError>
         ensures written { IfOk result (λ bytes. bytes.items ≡ log_bytes (bundle_message self.now)) }
         ensures again { IfOk result (λ bytes. bundle_of bytes.items ≡ Ok self.now) }

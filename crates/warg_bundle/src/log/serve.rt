@@ -67,8 +67,8 @@ const GREATEST_SERVED: usize = 1 << 31;
 
 /// The bytes of a bundle with the proof of the entry at an index, counted from 0, in the log of a length, and with the
 /// digests that it needs. The errors: `OutOfRange` exactly if the index isn't below the length, or the length is above
-/// the log's; else `TooLarge` exactly if the length is above 2^31, where a number of the bundle doesn't fit in 32 bits, both
-/// before memory is taken; else memory is the only error.
+/// the log's; else `TooLarge` exactly if the length is above 2^31, where a number of the bundle doesn't fit in 32 bits,
+/// both before allocating; else it fails only if allocation fails.
 pub fn inclusion_bytes<D: SupportedDigest, V: VisitBytes, A: Allocator, B: Allocator + Copy>(
     alloc: B,
     log: &VecLog<D, V, A>,
@@ -92,8 +92,8 @@ pub fn inclusion_bytes<D: SupportedDigest, V: VisitBytes, A: Allocator, B: Alloc
 
 /// The bytes of a bundle with the proof that the log of an old length is a beginning of that of a new one, and with the
 /// digests that it needs. The errors: `OutOfRange` exactly if the old length is 0 or above the new one, or the new one
-/// is above the log's; else `TooLarge` exactly if the new length is above 2^31, where a number of the bundle doesn't fit in
-/// 32 bits, both before memory is taken; else memory is the only error.
+/// is above the log's; else `TooLarge` exactly if the new length is above 2^31, where a number of the bundle doesn't
+/// fit in 32 bits, both before allocating; else it fails only if allocation fails.
 pub fn growth_bytes<D: SupportedDigest, V: VisitBytes, A: Allocator, B: Allocator + Copy>(
     alloc: B,
     log: &VecLog<D, V, A>,
@@ -115,8 +115,8 @@ pub fn growth_bytes<D: SupportedDigest, V: VisitBytes, A: Allocator, B: Allocato
     Ok(bundle_bytes(alloc, proofs, Vec::new(alloc), log)?)
 }
 
-// The bytes of the bundle of these proofs, which are the log's own and have room in one, with the digests that they need.
-// Memory is the only error.
+// The bytes of the bundle of these proofs, which are the log's own and have room in one, with the digests that they
+// need. It fails only if allocation fails.
 fn bundle_bytes<D: SupportedDigest, V: VisitBytes, A: Allocator, B: Allocator + Copy>(
     alloc: B,
     consistencies: Vec<ConsistencyProof<D, V>, B>,

@@ -67,8 +67,8 @@ fn same_lists<D, K, V, A: Allocator>(
 }
 
 impl<D, K, V, A: Allocator + Copy> ProofBundle<D, K, V, A> {
-    /// The bundle of these proofs in their order, and of no absences. It takes no memory: the list and each proof stay
-    /// where they lie, and the empty list of absences has the allocator of the list of proofs.
+    /// The bundle of these proofs in their order, and of no absences. It does not allocate: the list and each proof
+    /// stay where they lie, and the empty list of absences has the allocator of the list of proofs.
     pub fn bundle(proofs: Vec<Proof<D, K, V, A>, A>) -> Self
         ensures proofs { result.proofs ≡ proofs.items }
         ensures absences { result.absences ≡ [] }
@@ -77,8 +77,8 @@ impl<D, K, V, A: Allocator + Copy> ProofBundle<D, K, V, A> {
         ProofBundle::bundle_with(proofs, absences)
     }
 
-    /// The bundle of these proofs and these absences, each in their order. It takes no memory: both lists and each proof
-    /// stay where they lie, and may lie in different allocators.
+    /// The bundle of these proofs and these absences, each in their order. It does not allocate: both lists and each
+    /// proof stay where they lie, and may lie in different allocators.
     pub fn bundle_with(
         proofs: Vec<Proof<D, K, V, A>, A>,
         absences: Vec<Proof<D, K, V, A>, A>,
@@ -89,14 +89,14 @@ impl<D, K, V, A: Allocator + Copy> ProofBundle<D, K, V, A> {
         ProofBundle { proofs, absences }
     }
 
-    /// The bundle's proofs in order. The absences are dropped. It takes no memory.
+    /// The bundle's proofs in order. The absences are dropped. It does not allocate.
     pub fn unbundle(self) -> Vec<Proof<D, K, V, A>, A>
         ensures { result.items ≡ self.proofs }
     {
         self.unbundle_all().0
     }
 
-    /// The bundle's proofs and its absences, each in order. It takes no memory.
+    /// The bundle's proofs and its absences, each in order. It does not allocate.
     pub fn unbundle_all(self) -> (Vec<Proof<D, K, V, A>, A>, Vec<Proof<D, K, V, A>, A>)
         ensures proofs { result.0.items ≡ self.proofs }
         ensures absences { result.1.items ≡ self.absences }

@@ -11,8 +11,9 @@ use warg_crypto::{SupportedDigest, VisitBytes};
 use warg_map::{KeyProof, Map};
 use warg_protobuf::EncodeError;
 
-/// The bytes of a bundle with one proof: that of what is held under `key`, or that of its absence where its digest isn't
-/// held. All of it lies in `alloc`, but the proof, which lies where the map does. Memory is the only error.
+/// The bytes of a bundle with one proof: that of what is held under `key`, or that of its absence where its digest
+/// isn't held. All of it lies in `alloc`, but the proof, which lies where the map does. It fails only if allocation
+/// fails.
 pub fn key_bytes<
     D: SupportedDigest,
     K: VisitBytes + Drop,

@@ -60,7 +60,7 @@ impl<D: SupportedDigest, V: VisitBytes, A: Allocator + Copy> StackLog<D, V, A> {
     }
 
     /// The log's message, which holds the same log. `TooLarge` exactly if the length or a balanced root's
-    /// number is above `u32::MAX`, which is above 2^31 entries, before any growth.
+    /// number is above `u32::MAX`, which is above 2^31 entries, before allocating.
     pub fn to_message(&self) -> Result<Message<A>, EncodeError>
         ensures ok { IfOk result (λ message. stack_view message ≡ stack_message self.now) }
         ensures again { IfOk result (λ message. stack_in (stack_view message) ≡ Ok self.now) }
@@ -79,7 +79,7 @@ impl<D: SupportedDigest, V: VisitBytes, A: Allocator + Copy> StackLog<D, V, A> {
     }
 
     /// Writes the bytes of the log's message, which are read as the same log. `TooLarge` exactly if the
-    /// length or a balanced root's number is above `u32::MAX`, which is above 2^31 entries, before any growth.
+    /// length or a balanced root's number is above `u32::MAX`, which is above 2^31 entries, before allocating.
     pub fn to_protobuf(&self) -> Result<Vec<u8, A>, EncodeError>
         ensures written { IfOk result (λ bytes.
             bytes.items ≡ stack_bytes (stack_message self.now)) }

@@ -48,7 +48,7 @@ impl<D: SupportedDigest, V: VisitBytes, A: Allocator + Copy> VecLog<D, V, A> {
     }
 
     /// The log's message, which holds the same log. `TooLarge` exactly if the length is above `u32::MAX`,
-    /// before any growth.
+    /// before allocating.
     pub fn to_message(&self) -> Result<Message<A>, EncodeError>
         ensures ok { IfOk result (λ message. vec_view message ≡ vec_message D.digest self.now) }
         ensures again { IfOk result (λ message. vec_in D.digest (vec_view message) ≡ Ok self.now) }
@@ -66,7 +66,7 @@ impl<D: SupportedDigest, V: VisitBytes, A: Allocator + Copy> VecLog<D, V, A> {
     }
 
     /// Writes the bytes of the log's message, which are read as the same log. `TooLarge` exactly if the
-    /// length is above `u32::MAX`, before any growth.
+    /// length is above `u32::MAX`, before allocating.
     pub fn to_protobuf(&self) -> Result<Vec<u8, A>, EncodeError>
         ensures written { IfOk result (λ bytes.
             bytes.items ≡ vec_bytes (vec_message D.digest self.now)) }

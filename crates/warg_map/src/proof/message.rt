@@ -18,8 +18,8 @@ const MOST_PEERS: usize = 256;
 impl<D, K, V, A: Allocator + Copy> Proof<D, K, V, A> {
     /// The proof that a message holds.
     ///
-    /// The errors: `TooManyPeers` where there are more than 256 peers, before any growth; then `HashLength` where one of
-    /// them is there and doesn't have 32 bytes.
+    /// The errors: `TooManyPeers` where there are more than 256 peers, before allocating; then `HashLength` where one
+    /// of them is there and doesn't have 32 bytes.
     pub fn from_message(alloc: A, message: Message<A>) -> Result<Self, DecodeError>
         ensures exact { Answers DecodeError.Memory result (proof_in (proof_view message)) }
         ensures most { 256 < length (proof_view message) → result ≡ Err DecodeError.TooManyPeers }

@@ -185,16 +185,16 @@ fn collide_trees<D: SupportedDigest, V: VisitBytes, L: LogData<D, V>, A: Allocat
 /// by byte.
 ///
 /// `NotMet` exactly if the entries aren't as many as the proof's lengths say, or the evaluation over the data
-/// isn't Ok, both of which are decided before any growth, or it isn't with the roots of the trees over the
-/// entries: so for the old length 0, and for an old length above the new one. `Holds` exactly if it is, and the claim is true.
-/// Else a collision, one of: what the digest function takes for the old root (first) and in the tree over the
-/// old entries (second) at one range; what it takes in the evaluation (first) and in the tree over the new
-/// entries (second) at one range around a balanced root of the old length; what it takes in the old tree
-/// (first) and in the new one (second) at one range of both.
+/// isn't Ok, both of which are decided before allocating, or it isn't with the roots of the trees over the
+/// entries: so for the old length 0, and for an old length above the new one. `Holds` exactly if it is, and the claim
+/// is true. Else a collision, one of: what the digest function takes for the old root (first) and in the tree over the
+/// old entries (second) at one range; what it takes in the evaluation (first) and in the tree over the new entries
+/// (second) at one range around a balanced root of the old length; what it takes in the old tree (first) and in the new
+/// one (second) at one range of both.
 ///
 /// It hashes each leaf and branch of both trees once, and the branches of the proof's evaluation; besides, on at most
 /// three ways, each branch of two evaluations once: from that balanced root up to the old root and to the new one, and
-/// from the first entry that differs up to it. Out of memory is the only error. An entry of more than `usize::MAX`
+/// from the first entry that differs up to it. It fails only if allocation fails. An entry of more than `usize::MAX`
 /// bytes counts as that.
 pub fn witness_consistency<
     D: SupportedDigest,

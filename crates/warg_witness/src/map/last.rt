@@ -7,7 +7,7 @@ ghost use Rattle.warg_witness.specs.MapClaims.{IsLastValue};
 use std::alloc::AllocError;
 use warg_crypto::{VisitBytes, have_same_bytes};
 
-/// Whether a key's last value has these bytes. It takes no memory, and refuses only values of more bytes than can be
+/// Whether a key's last value has these bytes. It does not allocate, and refuses only values of more bytes than can be
 /// counted.
 pub(crate) fn is_last_value<K: VisitBytes, V: VisitBytes, W: VisitBytes>(
     key: &K,

@@ -25,8 +25,8 @@ use warg_map::Proof;
 /// in the evaluation from the old value (first) and in the plain tree over the insertions (second) at one prefix of the
 /// key's bits.
 ///
-/// It costs what [`witness_key`](crate::witness_key) does, and at most two digests of the key and of the new value and 512
-/// branches more. Out of memory is the only error.
+/// It costs what [`witness_key`](crate::witness_key) does, and at most two digests of the key and of the new value and
+/// 512 branches more. It fails only if allocation fails.
 pub fn witness_update<
     D: SupportedDigest,
     K: VisitBytes,
@@ -55,7 +55,8 @@ pub fn witness_update<
     find_update(alloc, &met, proof, key, new_value)
 }
 
-// What a proof shows that doesn't lead from the new value to the new root, where its evaluation diverges from the plain tree.
+// What a proof shows that doesn't lead from the new value to the new root, where its evaluation diverges from the plain
+// tree.
 fn find_update<
     'a,
     D: SupportedDigest,

@@ -15,12 +15,12 @@ use warg_crypto::{Hash, SupportedDigest, VisitBytes, hash_leaf};
 /// whichever it is, are of the same value: for a client that holds no entries.
 ///
 /// `NotMet` exactly if one path leads to no root, as where it has another length than that of this place or `index`
-/// isn't below `length`, or both lead to different roots, which takes no memory. `Holds` exactly if both lead to one
+/// isn't below `length`, or both lead to different roots, which does not allocate. `Holds` exactly if both lead to one
 /// root, and the values have the same bytes. Else a collision: what the digest function takes in the evaluation of the
 /// first path and in that of the second (RFC 6962, section 2.1.1) at one range on the way to the leaf.
 ///
-/// It hashes both values, and each branch of both evaluations once. Out of memory is the only error. A value of more than
-/// `usize::MAX` bytes counts as that.
+/// It hashes both values, and each branch of both evaluations once. It fails only if allocation fails. A value of more
+/// than `usize::MAX` bytes counts as that.
 pub fn agree_record<D: SupportedDigest, V: VisitBytes, A: Allocator + Copy>(
     alloc: A,
     index: usize,

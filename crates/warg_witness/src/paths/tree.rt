@@ -102,16 +102,16 @@ fn collide_trees<D: SupportedDigest, V: VisitBytes, A: Allocator + Copy>(
 ///
 /// `NotMet` exactly if the path doesn't lead from the root of the tree over the old entries to this root and that of
 /// the tree over the new ones; where it leads to no roots, as where it has another length than that of these lengths,
-/// there are no old entries or more old than new ones, before any growth. `Holds` exactly if it leads there, and the
+/// there are no old entries or more old than new ones, before allocating. `Holds` exactly if it leads there, and the
 /// claim is true. Else a collision, one of: what the digest function takes in the evaluation of the path (first; RFC
 /// 6962, section 2.1.2) for the old root and in the tree over the old entries (second), or for the new root and in the
-/// tree over the new entries, at one range on the way to the old length's end; what it takes in the old tree (first) and
-/// in the new one (second) at one range of both.
+/// tree over the new entries, at one range on the way to the old length's end; what it takes in the old tree (first)
+/// and in the new one (second) at one range of both.
 ///
-/// It hashes each leaf and branch of both trees once; besides, at most three times each branch of the path's evaluation,
-/// and at most twice more each branch of both trees on the way from the first entry that differs up to the roots, or
-/// beside that way. Out of memory is the only error. An entry of more than `usize::MAX` bytes counts as that, and so do
-/// more than 2^63 entries.
+/// It hashes each leaf and branch of both trees once; besides, at most three times each branch of the path's
+/// evaluation, and at most twice more each branch of both trees on the way from the first entry that differs up to the
+/// roots, or beside that way. It fails only if allocation fails. An entry of more than `usize::MAX` bytes counts as
+/// that, and so do more than 2^63 entries.
 pub fn witness_tree<D: SupportedDigest, V: VisitBytes, A: Allocator + Copy>(
     alloc: A,
     path: &[Hash<D>],
