@@ -1,5 +1,5 @@
 -- Proofs of a log of more than 2 ^ 31 entries need a node whose number doesn't fit in 32 bits.
-use Rattle.std.proofs.Common.{◌≡◌, ◌⊎◌, inl, inr, ℕ, suc, ◌+◌, ◌-◌, ◌*◌, ◌/◌, ◌^◌, ◌<◌, ◌≤◌, nat_lt, nat_eq, cond, List, [], ◌∷◌, ◌++◌, length, map, append-nil, ⊎_elim, Option, Some, None, Ok, refl, sym, ap, subst, ◌∙◌, arith, le-ltb}
+use Rattle.std.proofs.Common.{◌≡◌, ◌⊎◌, inl, inr, ℕ, suc, ◌+◌, ◌-◌, ◌*◌, ◌^◌, ◌<◌, ◌≤◌, nat_lt, nat_eq, List, [], ◌∷◌, ◌++◌, length, map, append-nil, ⊎_elim, Option, Some, None, Ok, refl, sym, ap, subst, ◌∙◌, arith, le-ltb}
 use Rattle.std.specs.Prelude.{replicate, if◌then◌else◌}
 use Rattle.std.specs.List.{AllByRecursion, flat_map, list_any}
 use Rattle.std.proofs.lemmas.Bool.{cases_lt, lt-ltb, eq-eqb}
@@ -8,12 +8,12 @@ use Rattle.std.proofs.Math.Pow.{pow_mono}
 use Rattle.std.proofs.Math.Nat.{pow-suc}
 use Rattle.std.proofs.lemmas.Nat.{pow_pos}
 use Rattle.warg_log.specs.declared.node.Node.{Node}
-use Rattle.warg_log.specs.Nodes.{ExistsAt, height_of, place_of, start_of, end_of, node_over, balanced_over, balanced_roots}
+use Rattle.warg_log.specs.Nodes.{ExistsAt, height_of, start_of, end_of, node_over, balanced_over, balanced_roots}
 use Rattle.warg_log.specs.Ranges.{Range, leaves_from, range_of, rest_part, front_part}
 use Rattle.warg_log.specs.Tree.{front_of, root_over, own_digest}
-use Rattle.warg_log.specs.Cut.{joined, with_target, cut_over, cut_root, old_over, IsFull}
+use Rattle.warg_log.specs.Cut.{joined, with_target, cut_root, old_over, IsFull}
 use Rattle.warg_log.specs.Walks.{needed, needed_between}
-use Rattle.warg_log.specs.Claims.{InclusionClaim, ConsistencyClaim, leaf_claim}
+use Rattle.warg_log.specs.Claims.{ConsistencyClaim, leaf_claim}
 use Rattle.warg_log.proofs.ForCallers.{below_pow, balanced_full, balanced_parts, roots_exist, front_is_greatest, pow_below_pow, cut_parts, cut_old, cut_own_range, old_full, old_parts, same_cut, node_at, counts, IsBeside}
 use Rattle.warg_protobuf.proofs.ForCallers.{all_weaken, all_parts}
 use Rattle.warg_bundle.specs.LogBundles.{Bundle, NodesFit}

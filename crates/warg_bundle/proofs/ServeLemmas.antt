@@ -1,6 +1,6 @@
 -- Proofs of a log as bytes.
-use Rattle.std.proofs.Common.{◌≡◌, ℕ, ◌*◌, ◌^◌, ◌<◌, ◌≤◌, Bool, true, false, cond, nat_eq, List, [], ◌∷◌, length, map, Option, Some, None, Ok, refl, sym, ap, ◌∙◌, arith, le-ltb}
-use Rattle.std.specs.Prelude.{filter, unwrap_or}
+use Rattle.std.proofs.Common.{◌≡◌, ℕ, ◌*◌, ◌^◌, ◌<◌, ◌≤◌, Bool, true, false, nat_eq, List, [], ◌∷◌, length, map, Option, None, Ok, refl, ap, ◌∙◌, arith, le-ltb}
+use Rattle.std.specs.Prelude.{filter}
 use Rattle.std.specs.List.{AllByRecursion, list_any, range_with_len}
 use Rattle.std.proofs.lemmas.Bool.{le-leb, lt-ltb, eq-eqb}
 use Rattle.warg_log.specs.declared.node.Node.{Node}
@@ -9,7 +9,6 @@ use Rattle.warg_log.specs.Tree.{own_digest}
 use Rattle.warg_log.specs.Claims.{InclusionClaim, ConsistencyClaim, leaf_claim}
 use Rattle.warg_log.proofs.ForCallers.{existing_number, node_at}
 use Rattle.warg_protobuf.specs.Decoding.{first_fault}
-use Rattle.warg_protobuf.proofs.ForCallers.{all_weaken}
 use Rattle.warg_bundle.specs.LogBundles.{Bundle, NodesFit}
 use Rattle.warg_bundle.specs.Bundling.{needed_by, needed_ascending, bundle_length, node_fault, node_with_digest, bundled, SpellsBundle}
 use Rattle.warg_bundle.proofs.NeededLemmas.{among, all_mapped, all_exist}
