@@ -1,0 +1,6 @@
+mod NameLemmas
+mod FileLemmas
+mod ListLemmas
+mod MomentLemmas
+mod StepLemmas
+mod ReadLemmas

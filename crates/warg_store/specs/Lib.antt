@@ -1,0 +1,5 @@
+pub mod Files
+pub mod Moments
+pub mod Names
+pub mod Opening
+pub mod Private

@@ -1,0 +1,15 @@
+//! A log in a folder of files: what a crash at any moment leaves of it, and what its readers find.
+//!
+//! The definitions that the contracts cite stand in `specs/`: read Files, Moments and Opening first.
+#![tactic(auto)]
+
+mod committing;
+mod device;
+mod names;
+mod recovery;
+mod staging;
+
+pub use committing::commit;
+pub use device::{Folder, FolderError};
+pub use recovery::recover;
+pub use staging::{discard, stage};
