@@ -4,3 +4,4 @@ mod ListLemmas
 mod MomentLemmas
 mod StepLemmas
 mod ReadLemmas
+mod ServeLemmas

@@ -2,4 +2,5 @@ pub mod Files
 pub mod Moments
 pub mod Names
 pub mod Opening
+pub mod Serving
 pub mod Private

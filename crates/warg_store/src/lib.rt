@@ -7,9 +7,11 @@ mod committing;
 mod device;
 mod names;
 mod recovery;
+mod serving;
 mod staging;
 
 pub use committing::commit;
 pub use device::{Folder, FolderError};
 pub use recovery::recover;
+pub use serving::{Serve, publish, resume};
 pub use staging::{discard, stage};
