@@ -5,3 +5,5 @@ mod MomentLemmas
 mod StepLemmas
 mod ReadLemmas
 mod ServeLemmas
+mod MemoryLemmas
+mod ListedLemmas

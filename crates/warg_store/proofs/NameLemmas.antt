@@ -58,3 +58,10 @@ mark_not_staged_file n is e = apart (sym is ∙ ap is_served (append_cancel_left
 -- a name that is served isn't a staged one
 pub served_apart_staged : (m n : List ℕ) → is_served m ≡ true → m ≢ staged n
 served_apart_staged m n is e = apart (sym is ∙ ap is_served e)
+
+-- what a test of two names tells
+pub same_name : (s a n : List ℕ) → a ≡ s → true ≡ pointwise nat_eq a n → s ≡ n
+same_name s a n value test = sym value ∙ (bytes_decides a n).0 (sym test)
+
+pub other_name : (s a n : List ℕ) → a ≡ s → false ≡ pointwise nat_eq a n → s ≡ n → ⊥
+other_name s a n value test here = not_from_Decides _ (bytes_decides a n) (sym test) (value ∙ here)

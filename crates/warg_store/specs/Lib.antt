@@ -4,3 +4,4 @@ pub mod Names
 pub mod Opening
 pub mod Serving
 pub mod Private
+pub mod Memory

@@ -5,6 +5,7 @@
 
 mod committing;
 mod device;
+mod memory;
 mod names;
 mod recovery;
 mod serving;
@@ -12,6 +13,7 @@ mod staging;
 
 pub use committing::commit;
 pub use device::{Folder, FolderError};
+pub use memory::{Call, MemoryFolder};
 pub use recovery::recover;
 pub use serving::{Serve, publish, resume};
 pub use staging::{discard, stage};
