@@ -7,3 +7,4 @@ mod ReadLemmas
 mod ServeLemmas
 mod MemoryLemmas
 mod ListedLemmas
+mod ReadyLemmas

@@ -29,6 +29,7 @@ pub fn commit<F: Folder>(alloc: Global, folder: &mut F, text: &[u8]) -> Result<(
     ensures committed { OnOk result
         (F.seen folder.new ≡ committed text.now (F.seen folder.old)) }
     ensures durable { OnOk result (Only (F.seen folder.new) (F.may_leave folder.new)) }
+    ensures ready { OnOk result (IsStaging (F.seen folder.new) (F.may_leave folder.new)) }
 
     ensures cause { HasCause (F.faults folder.old) (F.faults folder.new) result }
 {

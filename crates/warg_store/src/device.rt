@@ -69,7 +69,7 @@ pub trait Folder {
             ≡ option_map (take (most + 1)) (seen self.now name.now)) }
         ensures not_long { result ≡ Err FolderError.TooLong → ⊥ };
 
-    /// The names that begin with a prefix and have a file.
+    /// The names that begin with a prefix and have a file, in any order, each at least once.
     fn list(&mut self, alloc: Global, prefix: &str) -> Result<Vec<String>, FolderError>
         ensures there { IfOk result (λ names. All (λ name. IsSome (seen self.old (string_bytes name))
             × (starts_with nat_eq (string_bytes name) prefix.now ≡ true)) names.items) }

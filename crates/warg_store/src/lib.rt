@@ -17,3 +17,6 @@ pub use memory::{Call, MemoryFolder};
 pub use recovery::recover;
 pub use serving::{Serve, publish, resume};
 pub use staging::{discard, stage};
+
+#[cfg(test)]
+mod tests;

@@ -54,6 +54,7 @@ pub fn publish<S: Serve, F: Folder>(
         → LeavesOnly F.moment F.left_since folder.old folder.new (KeepsNames (F.seen folder.old)) }
 
     ensures durable { OnOk result (Only (F.seen folder.new) (F.may_leave folder.new)) }
+    ensures ready { OnOk result (IsStaging (F.seen folder.new) (F.may_leave folder.new)) }
     ensures cause { HasCause (F.faults folder.old) (F.faults folder.new) result }
 {
     commit(alloc, folder, text)
@@ -70,6 +71,7 @@ pub fn resume<S: Serve, F: Folder>(alloc: Global, folder: &mut F) -> Result<(), 
         (λ c. F.may_leave folder.old c ⊎ KeepsNames (F.seen folder.old) c) }
     ensures opened { OnOk result (F.seen folder.new ≡ opened (F.seen folder.old)) }
     ensures durable { OnOk result (Only (F.seen folder.new) (F.may_leave folder.new)) }
+    ensures ready { OnOk result (IsStaging (F.seen folder.new) (F.may_leave folder.new)) }
 {
     recover(alloc, folder)
 }

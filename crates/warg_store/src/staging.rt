@@ -37,6 +37,7 @@ pub fn discard<F: Folder>(alloc: Global, folder: &mut F) -> Result<(), FolderErr
     requires { IsStaging (F.seen folder.old) (F.may_leave folder.old) }
     ensures dropped { OnOk result (F.seen folder.new ≡ without_staged (F.seen folder.old)) }
     ensures durable { OnOk result (Only (F.seen folder.new) (F.may_leave folder.new)) }
+    ensures ready { OnOk result (IsStaging (F.seen folder.new) (F.may_leave folder.new)) }
     ensures any_moment { LeavesOnly F.moment F.left_since folder.old folder.new
         (IsBeside (F.seen folder.old)) }
     ensures cause { HasCause (F.faults folder.old) (F.faults folder.new) result }

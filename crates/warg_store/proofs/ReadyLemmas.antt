@@ -1,0 +1,24 @@
+-- A folder that is ready for the next commit.
+use Rattle.std.proofs.Common.{◌≡◌, ℕ, List, Option, Some, None, Result, refl, sym, ap, ◌∙◌, subst}
+use Rattle.std.specs.Prelude.{OnOk, Ok, Err}
+use Rattle.warg_store.specs.Files.{Files}
+use Rattle.warg_store.specs.Moments.{Only}
+use Rattle.warg_store.specs.Names.{mark}
+use Rattle.warg_store.specs.Opening.{without_staged, opened_by, opened, IsStaging}
+
+pub without_mark : (s : Files) → without_staged s mark ≡ None
+without_mark s = refl
+
+opened_mark_by : (s : Files) (o : Option (List ℕ)) → opened_by o s mark ≡ None
+opened_mark_by s None = refl
+opened_mark_by s (Some text) = refl
+
+pub opened_mark : (s : Files) → opened s mark ≡ None
+opened_mark s = opened_mark_by s (s mark)
+
+ready_one : (t : Files) (may : Files → Type 0) → t mark ≡ None → Only t may → IsStaging t may
+ready_one t may none only c left = (record { outside = λ n isnt. ap (λ (f : Files). f n) (only c left); no_mark = ap (λ (f : Files). f mark) (only c left) ∙ none })
+
+pub ready : {T E : Type 0} (r : Result T E) (s t : Files) (may : Files → Type 0) → s mark ≡ None → OnOk r (t ≡ s) → OnOk r (Only t may) → OnOk r (IsStaging t may)
+ready (Ok v) s t may none is only = ready_one t may (ap (λ (f : Files). f mark) is ∙ none) only
+ready (Err e) s t may none is only = is
