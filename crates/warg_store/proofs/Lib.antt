@@ -8,3 +8,6 @@ mod ServeLemmas
 mod MemoryLemmas
 mod ListedLemmas
 mod ReadyLemmas
+mod PathLemmas
+mod LeadLemmas
+mod GrowthLemmas

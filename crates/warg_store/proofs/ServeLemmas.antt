@@ -48,9 +48,13 @@ opened_keeps s c fresh was n is = ⊎_elim (λ e. inr e)
     (λ e. ⊎_elim (λ same. inr (e ∙ same)) (λ chosen. kept_name s c n (s (staged n)) refl (fresh n is) (e ∙ chosen)) (opened_name s n (s mark) refl is))
     (was.each n (served_not_own n is))
 
+-- what stands at a served name once a commit stands
+pub committed_served : (s : Files) (text n : List ℕ) → is_served n ≡ true → committed text s n ≡ option_or (s (staged n)) (s n)
+committed_served s text n is =
+    opened_served (put (mark, text) s) text n refl is ∙ ap (λ (o : Option (List ℕ)). option_or o (put (mark, text) s n)) (put_apart (mark, text) s (staged n) (λ here. mark_not_staged_file n is (sym here)))
+    ∙ ap (λ (o : Option (List ℕ)). option_or (s (staged n)) o) (unmarked s text n (served_not_own n is))
+
 pub committed_keeps : (s c : Files) (text : List ℕ) → IsFresh s → IsBetween s (committed text s) c → KeepsNames s c
 committed_keeps s c text fresh was n is = ⊎_elim (λ e. inr e)
-    (λ e. kept_name s c n (s (staged n)) refl (fresh n is)
-    (e ∙ opened_served (put (mark, text) s) text n refl is ∙ ap (λ (o : Option (List ℕ)). option_or o (put (mark, text) s n)) (put_apart (mark, text) s (staged n) (λ here. mark_not_staged_file n is (sym here)))
-    ∙ ap (λ (o : Option (List ℕ)). option_or (s (staged n)) o) (unmarked s text n (served_not_own n is))))
+    (λ e. kept_name s c n (s (staged n)) refl (fresh n is) (e ∙ committed_served s text n is))
     (was.each n (served_not_own n is))

@@ -1,5 +1,5 @@
 -- What stands in a folder, and what a call makes of it.
-use Rattle.std.specs.Prelude.{◌≡◌, ◌⊎◌, ℕ, nat_eq, List, Option, Some, None, if◌then◌else◌}
+use Rattle.std.specs.Prelude.{◌≡◌, ◌⊎◌, ℕ, nat_eq, List, [], ◌∷◌, Option, Some, None, if◌then◌else◌}
 use Rattle.std.specs.Cmp.Lexicographic.{pointwise}
 use Rattle.std.specs.Option.{option_or}
 
@@ -30,3 +30,8 @@ SameBut name old new = (n : List ℕ) → (name ≡ n → ⊥) → new n ≡ old
 -- As it was, or as the call makes it.
 abbrev pub Either : (Files → Files) → Files → Files → Type 0
 Either change old new = (new ≡ old) ⊎ (new ≡ change old)
+
+-- One of these files has the name.
+abbrev pub IsNameOf : List File → List ℕ → Type 0
+IsNameOf [] n = ⊥
+IsNameOf (f ∷ fs) n = (f.0 ≡ n) ⊎ IsNameOf fs n

@@ -3,5 +3,7 @@ pub mod Moments
 pub mod Names
 pub mod Opening
 pub mod Serving
+pub mod Log
+pub mod NewFiles
 pub mod Private
 pub mod Memory

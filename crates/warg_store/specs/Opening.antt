@@ -1,5 +1,5 @@
 -- What a folder stands for: its files once it has been opened.
-use Rattle.std.specs.Prelude.{◌≡◌, ◌⊎◌, ℕ, false, List, Option, Some, None, if◌then◌else◌}
+use Rattle.std.specs.Prelude.{◌≡◌, ◌⊎◌, ℕ, true, false, List, Option, Some, None, if◌then◌else◌}
 use Rattle.std.specs.Option.{option_or}
 use Rattle.warg_store.specs.Files.{Files, put}
 use Rattle.warg_store.specs.Names.{checkpoint, state, mark, staged, is_staged, is_own, is_served}
@@ -15,6 +15,10 @@ published s = λ n. if is_served n then option_or (s (staged n)) (s n) else s n
 -- With each staged file at its name, and this text as the log's state and its checkpoint.
 abbrev pub finished : List ℕ → Files → Files
 finished text s = put (checkpoint, text) (put (state, text) (published s))
+
+-- No file is staged.
+abbrev pub NothingStaged : Files → Type 0
+NothingStaged s = (n : List ℕ) → is_staged n ≡ true → s n ≡ None
 
 -- A commit that stands is finished, and one that doesn't is dropped.
 abbrev pub opened_by : Option (List ℕ) → Files → Files

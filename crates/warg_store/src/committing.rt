@@ -4,7 +4,7 @@ ghost use Rattle.std.specs.Prelude.{◌≡◌, ◌≤◌, ℕ, List, length, Som
 ghost use Rattle.warg_store.specs.Files.{Files, put};
 ghost use Rattle.warg_store.specs.Moments.{Only, LeavesOnly, HasCause};
 ghost use Rattle.warg_store.specs.Names.{checkpoint, state, mark, staged, is_served};
-ghost use Rattle.warg_store.specs.Opening.{opened, committed, IsStaging, IsBetween};
+ghost use Rattle.warg_store.specs.Opening.{opened, committed, IsStaging, NothingStaged, IsBetween};
 ghost use Rattle.warg_store.specs.Private.Steps.{IsMoving, IsPut};
 
 use crate::device::{Folder, FolderError};
@@ -30,6 +30,7 @@ pub fn commit<F: Folder>(alloc: Global, folder: &mut F, text: &[u8]) -> Result<(
         (F.seen folder.new ≡ committed text.now (F.seen folder.old)) }
     ensures durable { OnOk result (Only (F.seen folder.new) (F.may_leave folder.new)) }
     ensures ready { OnOk result (IsStaging (F.seen folder.new) (F.may_leave folder.new)) }
+    ensures empty { OnOk result (NothingStaged (F.seen folder.new)) }
 
     ensures cause { HasCause (F.faults folder.old) (F.faults folder.new) result }
 {

@@ -3,16 +3,20 @@
 //! The definitions that the contracts cite stand in `specs/`: read Files, Moments and Opening first.
 #![tactic(auto)]
 
+mod append_files;
 mod committing;
 mod device;
+mod log;
 mod memory;
 mod names;
 mod recovery;
 mod serving;
 mod staging;
 
+pub use append_files::{NewFile, append};
 pub use committing::commit;
 pub use device::{Folder, FolderError};
+pub use log::{ServedLog, commit_log, stage_bundle, stage_tile};
 pub use memory::{Call, MemoryFolder};
 pub use recovery::recover;
 pub use serving::{Serve, publish, resume};

@@ -3,7 +3,7 @@
 ghost use Rattle.std.specs.Prelude.{◌≡◌, ◌⊎◌, ◌+◌, ◌<◌, ℕ, List, length, take, option_map, Some, Err, OnOk};
 ghost use Rattle.warg_store.specs.Moments.{Only, LeavesOnly};
 ghost use Rattle.warg_store.specs.Names.{mark};
-ghost use Rattle.warg_store.specs.Opening.{opened, IsStaging, IsBetween};
+ghost use Rattle.warg_store.specs.Opening.{opened, IsStaging, NothingStaged, IsBetween};
 
 use crate::committing::{MOST_TEXT, finish};
 use crate::device::{Folder, FolderError};
@@ -17,6 +17,7 @@ pub fn recover<F: Folder>(alloc: Global, folder: &mut F) -> Result<(), FolderErr
     ensures opened { OnOk result (F.seen folder.new ≡ opened (F.seen folder.old)) }
     ensures durable { OnOk result (Only (F.seen folder.new) (F.may_leave folder.new)) }
     ensures ready { OnOk result (IsStaging (F.seen folder.new) (F.may_leave folder.new)) }
+    ensures empty { OnOk result (NothingStaged (F.seen folder.new)) }
 
     // A crash, or a reader, at any moment finds what it might have found before, or what the folder stands for.
     ensures any_moment { LeavesOnly F.moment F.left_since folder.old folder.new

@@ -4,7 +4,7 @@ ghost use Rattle.std.specs.Prelude.{◌≡◌, ◌⊎◌, ◌≤◌, ℕ, List, 
 ghost use Rattle.warg_store.specs.Files.{Files};
 ghost use Rattle.warg_store.specs.Moments.{Only, LeavesOnly, HasCause};
 ghost use Rattle.warg_store.specs.Names.{mark, is_own};
-ghost use Rattle.warg_store.specs.Opening.{opened, committed, IsStaging};
+ghost use Rattle.warg_store.specs.Opening.{opened, committed, IsStaging, NothingStaged};
 ghost use Rattle.warg_store.specs.Serving.{LeadsTo, ServesOneOf, IsFresh, KeepsNames};
 
 use crate::committing::{MOST_TEXT, commit};
@@ -55,6 +55,7 @@ pub fn publish<S: Serve, F: Folder>(
 
     ensures durable { OnOk result (Only (F.seen folder.new) (F.may_leave folder.new)) }
     ensures ready { OnOk result (IsStaging (F.seen folder.new) (F.may_leave folder.new)) }
+    ensures empty { OnOk result (NothingStaged (F.seen folder.new)) }
     ensures cause { HasCause (F.faults folder.old) (F.faults folder.new) result }
 {
     commit(alloc, folder, text)
@@ -72,6 +73,7 @@ pub fn resume<S: Serve, F: Folder>(alloc: Global, folder: &mut F) -> Result<(), 
     ensures opened { OnOk result (F.seen folder.new ≡ opened (F.seen folder.old)) }
     ensures durable { OnOk result (Only (F.seen folder.new) (F.may_leave folder.new)) }
     ensures ready { OnOk result (IsStaging (F.seen folder.new) (F.may_leave folder.new)) }
+    ensures empty { OnOk result (NothingStaged (F.seen folder.new)) }
 {
     recover(alloc, folder)
 }

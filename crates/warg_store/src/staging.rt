@@ -4,7 +4,7 @@ ghost use Rattle.std.specs.Prelude.{◌≡◌, ◌⊎◌, ℕ, List, None, true,
 ghost use Rattle.warg_store.specs.Files.{Files, put};
 ghost use Rattle.warg_store.specs.Moments.{Only, LeavesOnly, HasCause};
 ghost use Rattle.warg_store.specs.Names.{staged, is_staged, is_served};
-ghost use Rattle.warg_store.specs.Opening.{without_staged, IsBeside, IsStaging};
+ghost use Rattle.warg_store.specs.Opening.{without_staged, NothingStaged, IsBeside, IsStaging};
 ghost use Rattle.warg_store.specs.Private.Steps.{IsRemoving};
 
 use crate::device::{Folder, FolderError};
@@ -38,6 +38,7 @@ pub fn discard<F: Folder>(alloc: Global, folder: &mut F) -> Result<(), FolderErr
     ensures dropped { OnOk result (F.seen folder.new ≡ without_staged (F.seen folder.old)) }
     ensures durable { OnOk result (Only (F.seen folder.new) (F.may_leave folder.new)) }
     ensures ready { OnOk result (IsStaging (F.seen folder.new) (F.may_leave folder.new)) }
+    ensures empty { OnOk result (NothingStaged (F.seen folder.new)) }
     ensures any_moment { LeavesOnly F.moment F.left_since folder.old folder.new
         (IsBeside (F.seen folder.old)) }
     ensures cause { HasCause (F.faults folder.old) (F.faults folder.new) result }
