@@ -1,5 +1,6 @@
 -- The names of a log's files.
 use Rattle.std.specs.Prelude.{ℕ, nat_eq, Bool, ◌||◌, List, ◌++◌, codes}
+use Rattle.std.specs.Cmp.Lexicographic.{pointwise}
 use Rattle.std.specs.List.{starts_with}
 
 -- The checkpoint that is served.
@@ -29,3 +30,7 @@ is_own n = starts_with nat_eq n (codes ".log/")
 -- The name is one at which a commit puts files: of a tile, an entry bundle or a page.
 abbrev pub is_served : List ℕ → Bool
 is_served n = starts_with nat_eq n (codes "tile/") || starts_with nat_eq n (codes "map/")
+
+-- The name is one of a log's files.
+abbrev pub is_log_file : List ℕ → Bool
+is_log_file n = is_served n || (is_own n || pointwise nat_eq n checkpoint)

@@ -5,6 +5,7 @@
 
 mod append_files;
 mod committing;
+mod creating;
 mod device;
 mod log;
 mod memory;
@@ -14,7 +15,8 @@ mod serving;
 mod staging;
 
 pub use append_files::{NewFile, append};
-pub use committing::commit;
+pub use committing::{MOST_TEXT, commit};
+pub use creating::{CreateError, create};
 pub use device::{Folder, FolderError};
 pub use log::{ServedLog, commit_log, stage_bundle, stage_tile};
 pub use memory::{Call, MemoryFolder};

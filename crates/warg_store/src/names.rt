@@ -1,7 +1,7 @@
 //! The names of a log's files.
 
 ghost use Rattle.std.specs.Prelude.{◌≡◌, ◌≢◌, ℕ, List, ◌++◌, true, codes, IfOk, MatchOption, string_bytes};
-ghost use Rattle.warg_store.specs.Names.{staged, is_served};
+ghost use Rattle.warg_store.specs.Names.{staged, is_served, is_own, is_log_file};
 
 use std::alloc::{AllocError, Global};
 
@@ -40,4 +40,18 @@ pub fn served_name(staged: &str) -> Option<&str>
 {
     let name = staged.strip_prefix(STAGED)?;
     if is_served(name) { Some(name) } else { None }
+}
+
+/// Whether the name is one of a log's files.
+pub fn is_log_file(name: &str) -> bool
+    ensures { result ≡ is_log_file name.now }
+{
+    is_served(name) || (is_own(name) || name == CHECKPOINT)
+}
+
+/// Whether the name is the log's own.
+fn is_own(name: &str) -> bool
+    ensures { result ≡ is_own name.now }
+{
+    name.starts_with(".log/")
 }

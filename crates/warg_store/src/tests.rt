@@ -1,9 +1,15 @@
 //! Every moment of a small run, and everything that a crash may leave there.
 
-use crate::{Call, Folder, FolderError, MemoryFolder, commit, discard, recover, stage};
+use crate::{
+    Call, CreateError, Folder, FolderError, MemoryFolder, NewFile, append, commit, commit_log,
+    create, discard, recover, stage, stage_bundle, stage_tile,
+};
 use std::alloc::Global;
 use std::process::Abort;
 use std::test::Fail;
+use warg_crypto::{Sha256, hash_leaf};
+use warg_log::LogBuilder;
+use warg_tiles::{Tile, TileLog};
 
 // A folder whose log had one commit, and the number of calls up to its end; and then another one.
 fn two_commits(alloc: Global) -> Result<(MemoryFolder, usize), FolderError> {
@@ -181,5 +187,28 @@ fn a_read_gives_no_more_than_it_is_told(rt: HostRuntime) -> Result<(), Fail> {
     assert!(rt; folder.read(alloc, "a", 9)?.is_none());
     let front = folder.read(alloc, "b", 1)?.ok_or("no file")?;
     assert_eq!(rt; front.as_slice(), b"ab".as_slice());
+    Ok(())
+}
+
+#[test]
+fn a_log_of_one_entry_is_served(rt: HostRuntime) -> Result<(), Fail> {
+    let alloc = rt.alloc();
+    let mut folder = MemoryFolder::new(alloc);
+    create(alloc, &mut folder, b"none")?;
+    let mut log: TileLog<Sha256, &'static str> = TileLog::new(alloc);
+    log.push(&"first")?;
+    let tiles = log.partial(alloc)?;
+    let tile = tiles.as_slice().first().ok_or("no tile")?;
+    stage_tile(alloc, &mut folder, tile)?;
+    stage_bundle(alloc, &mut folder, &Tile::new(0, 0, 1), b"\x00\x05first")?;
+    commit_log(alloc, &mut folder, b"one")?;
+    let leaf = hash_leaf::<Sha256, &'static str>(&"first");
+    assert!(rt; has(alloc, &folder, "tile/0/000.p/1", leaf.bytes())?);
+    assert!(rt; has(alloc, &folder, "tile/entries/000.p/1", b"\x00\x05first")?);
+    assert!(rt; has(alloc, &folder, "checkpoint", b"one")?);
+    let files: [NewFile; 0] = [];
+    append(alloc, &mut folder, &files, b"again")?;
+    assert!(rt; has(alloc, &folder, "checkpoint", b"again")?);
+    assert!(rt; create(alloc, &mut folder, b"none") == Err(CreateError::LogThere));
     Ok(())
 }
