@@ -1,5 +1,5 @@
 -- One file put, removed or moved.
-use Rattle.std.proofs.Common.{◌≡◌, ◌≢◌, ◌⊎◌, inl, inr, ℕ, List, true, false, Option, Some, None, nat_eq, refl, sym, ap, ◌∙◌, subst}
+use Rattle.std.proofs.Common.{◌≡◌, ◌≢◌, ◌⊎◌, inl, inr, ℕ, List, Some, None, refl}
 use Rattle.std.specs.Option.{option_or}
 use Rattle.warg_store.specs.Files.{File, Files, put, without, moved}
 use Rattle.warg_store.proofs.NameLemmas.{told}

@@ -1,17 +1,16 @@
 -- Files that are staged for a log that grows.
-use Rattle.std.proofs.Common.{◌≡◌, ◌≢◌, ◌⊎◌, inl, inr, ⊎_elim, ℕ, ◌+◌, ◌<◌, List, [], ◌∷◌, ◌++◌, length, take, get_or, true, false, Option, Some, None, IsSome, refl, sym, ap, ◌∙◌, subst, string_bytes}
+use Rattle.std.proofs.Common.{◌≡◌, ◌⊎◌, inl, inr, ⊎_elim, ℕ, ◌+◌, ◌<◌, List, [], ◌∷◌, ◌++◌, length, take, get_or, true, false, Some, None, IsSome, refl, sym, ap, ◌∙◌, subst, string_bytes}
 use Rattle.std.specs.Option.{is_some}
 use Rattle.std.specs.List.{AllByRecursion}
 use Rattle.std.proofs.lemmas.List.{take_more}
-use Rattle.warg_tiles.specs.Tiles.{TileAt}
 use Rattle.warg_tiles.specs.TilePaths.{tile_path, entries_path}
 use Rattle.warg_store.specs.declared.append_files.NewFile.{NewFile}
 use Rattle.warg_store.specs.Files.{File, Files, put, IsNameOf}
-use Rattle.warg_store.specs.Names.{mark, staged, is_staged, is_own, is_served}
+use Rattle.warg_store.specs.Names.{mark, staged, is_staged}
 use Rattle.warg_store.specs.Opening.{opened, IsBeside}
 use Rattle.warg_store.specs.Serving.{ServesOneOf}
 use Rattle.warg_store.specs.NewFiles.{files_of, staged_all}
-use Rattle.warg_store.specs.Log.{LogOf, tile_bytes, bundle_bytes, IsTileIn, IsBundleIn, Serves, Needs, looks_only, looks_outside, IsNewName, IsNewFile, AreStagedFor, GrowsBy}
+use Rattle.warg_store.specs.Log.{LogOf, tile_bytes, bundle_bytes, Serves, looks_only, looks_outside, IsNewFile, AreStagedFor, GrowsBy}
 use Rattle.warg_store.proofs.NameLemmas.{told, apart, not_staged, staged_once}
 use Rattle.warg_store.proofs.FileLemmas.{put_here, put_apart}
 use Rattle.warg_store.proofs.StepLemmas.{beside_opened}

@@ -1,9 +1,9 @@
 -- A log that grows, as files.
-use Rattle.std.proofs.Common.{◌≡◌, ◌⊎◌, inl, inr, ⊎_elim, ℕ, zero, suc, ◌+◌, ◌-◌, ◌*◌, ◌/◌, ◌^◌, ◌<◌, ◌≤◌, true, List, [], ◌∷◌, ◌++◌, length, take, drop, map, min, Option, Some, None, IsSome, refl, sym, ap, ◌∙◌, subst, arith}
+use Rattle.std.proofs.Common.{◌≡◌, ◌⊎◌, inl, inr, ⊎_elim, ℕ, zero, suc, ◌+◌, ◌-◌, ◌*◌, ◌/◌, ◌^◌, ◌<◌, ◌≤◌, true, List, ◌++◌, length, take, drop, map, min, Option, Some, None, IsSome, refl, sym, ap, ◌∙◌, subst, arith}
 use Rattle.std.specs.Option.{option_or}
 use Rattle.std.specs.List.{flat_map, range_with_len}
 use Rattle.std.proofs.lemmas.Bool.{cases_eq}
-use Rattle.std.proofs.lemmas.List.{take-append-le, drop-append-le, length-drop, length-append, length-map, map-append}
+use Rattle.std.proofs.lemmas.List.{take-append-le, drop-append-le, length-drop, length-map, map-append}
 use Rattle.std.proofs.Math.Nat.{div-mul-le_self, mul-le-mul_right}
 use Rattle.warg_crypto.specs.Digests.{sha256}
 use Rattle.warg_crypto.specs.Tree.{leaf_digest}
@@ -16,7 +16,7 @@ use Rattle.warg_tiles.specs.Between.{IsTileOf}
 use Rattle.warg_tiles.specs.TileLog.{tile_digests}
 use Rattle.warg_tiles.specs.EntryBundles.{bundle_of}
 use Rattle.warg_store.specs.Files.{Files}
-use Rattle.warg_store.specs.Names.{checkpoint, mark, staged, is_served}
+use Rattle.warg_store.specs.Names.{staged, is_served}
 use Rattle.warg_store.specs.Opening.{committed}
 use Rattle.warg_store.specs.Serving.{LeadsTo}
 use Rattle.warg_store.specs.Log.{LogOf, checkpoint_of, tile_bytes, bundle_bytes, IsTileIn, IsBundleIn, Serves, Needs, IsNewName, AreStagedFor, Extends}

@@ -1,5 +1,5 @@
 -- How a run of calls goes on.
-use Rattle.std.proofs.Common.{◌≡◌, inl, inr, ⊎_elim, ℕ, ◌≤◌, arith}
+use Rattle.std.proofs.Common.{inl, inr, ⊎_elim, ℕ, arith}
 use Rattle.warg_store.specs.Files.{Files}
 use Rattle.warg_store.specs.Moments.{Elapses, LeavesOnly}
 

@@ -1,5 +1,5 @@
 -- What a crash leaves within a commit.
-use Rattle.std.proofs.Common.{◌≡◌, ◌≢◌, ◌⊎◌, inl, inr, ⊎_elim, ℕ, List, Bool, true, false, Option, Some, None, IsSome, map, refl, sym, ap, ◌∙◌, subst, string_bytes}
+use Rattle.std.proofs.Common.{◌≡◌, ◌≢◌, ◌⊎◌, inl, inr, ⊎_elim, ℕ, List, true, false, Option, Some, None, IsSome, map, refl, sym, ap, ◌∙◌, subst, string_bytes}
 use mathlib.Core.Path.{fun_ext}
 use Rattle.std.specs.Option.{option_or}
 use Rattle.std.specs.List.{All, Contains}
@@ -11,8 +11,8 @@ use Rattle.warg_store.specs.Files.{Files, put, without, moved, SameBut, Either}
 use Rattle.warg_store.specs.Names.{checkpoint, state, mark, staged, is_staged, is_own, is_served}
 use Rattle.warg_store.specs.Opening.{without_staged, published, finished, opened_by, opened, committed, IsBeside, IsBetween}
 use Rattle.warg_store.specs.Private.Steps.{IsRemoving, IsMoving, IsPut}
-use Rattle.warg_store.proofs.NameLemmas.{told, apart, not_staged, served_not_own, served_not_staged, served_not_checkpoint, served_not_state, mark_not_staged_file, served_apart_staged, staged_once}
-use Rattle.warg_store.proofs.FileLemmas.{put_here, put_apart, without_here, without_apart, without_either, moved_to, moved_from, moved_apart}
+use Rattle.warg_store.proofs.NameLemmas.{told, apart, not_staged, served_not_staged, served_not_checkpoint, served_not_state, mark_not_staged_file, served_apart_staged, staged_once}
+use Rattle.warg_store.proofs.FileLemmas.{put_apart, without_here, without_apart, without_either, moved_to, moved_from, moved_apart}
 
 -- a step that was done or wasn't
 pub either : (P : Files → Type 0) (change : Files → Files) (d c : Files) → Either change d c → P d → P (change d) → P c

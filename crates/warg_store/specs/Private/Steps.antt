@@ -1,5 +1,5 @@
 -- What a crash leaves within a commit.
-use Rattle.std.specs.Prelude.{◌≡◌, ◌⊎◌, ℕ, List, true, false, Some, None, IsSome}
+use Rattle.std.specs.Prelude.{◌≡◌, ◌⊎◌, ℕ, List, true, false, None, IsSome}
 use Rattle.warg_store.specs.Files.{Files, put}
 use Rattle.warg_store.specs.Names.{checkpoint, state, mark, staged, is_staged, is_served}
 

@@ -1,7 +1,7 @@
-use Rattle.std.proofs.Common.{List, ℕ, ◌≡◌, sym, ap, subst, ◌∙◌}
+use Rattle.std.proofs.Common.{sym, ap, subst, ◌∙◌}
 use Rattle.std.proofs.lemmas.Result.{on_ok_weaker}
 use Rattle.warg_store.specs.Files.{Files}
-use Rattle.warg_store.specs.NewFiles.{files_of, staged_all}
+use Rattle.warg_store.specs.NewFiles.{files_of}
 use Rattle.warg_store.specs.Log.{AreStagedFor}
 use Rattle.warg_store.proofs.MomentLemmas.{weaker, then}
 use Rattle.warg_store.proofs.GrowthLemmas.{staged_outside, growth_staged, beside_serves, beside_one_of}

@@ -1,4 +1,4 @@
-use Rattle.std.proofs.Common.{◌≡◌, List, ℕ, None, sym, ap, subst, ◌∙◌}
+use Rattle.std.proofs.Common.{◌≡◌, sym, ap, subst, ◌∙◌}
 use Rattle.warg_store.specs.Files.{Files, put}
 use Rattle.warg_store.specs.Names.{mark}
 use Rattle.warg_store.specs.Opening.{opened, committed, IsBetween}

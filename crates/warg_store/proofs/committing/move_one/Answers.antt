@@ -1,5 +1,5 @@
 use Rattle.std.proofs.Common.{ℕ, List, sym, subst}
-use Rattle.warg_store.specs.Files.{Files, moved}
+use Rattle.warg_store.specs.Files.{moved}
 use Rattle.warg_store.specs.Private.Steps.{IsMoving}
 use Rattle.warg_store.proofs.MomentLemmas.{begins}
 use Rattle.warg_store.proofs.StepLemmas.{either, moved_one}

@@ -1,4 +1,4 @@
-use Rattle.std.proofs.Common.{ℕ, List, IsSome, map, sym, ap, subst, ◌∙◌, string_bytes, refl}
+use Rattle.std.proofs.Common.{List, IsSome, map, sym, ap, subst, ◌∙◌, string_bytes, refl}
 use Rattle.std.specs.List.{Contains}
 use Rattle.std.proofs.lemmas.Result.{on_ok_weaker}
 use Rattle.std.specs.declared.string.String.{String}

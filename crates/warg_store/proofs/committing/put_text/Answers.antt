@@ -1,5 +1,5 @@
 use Rattle.std.proofs.Common.{inl, ap, ◌∙◌}
-use Rattle.warg_store.specs.Files.{Files, put}
+use Rattle.warg_store.specs.Files.{put}
 use Rattle.warg_store.specs.Names.{state}
 use Rattle.warg_store.proofs.MomentLemmas.{begins, goes_on}
 use Rattle.warg_store.proofs.StepLemmas.{first_put, second_put}

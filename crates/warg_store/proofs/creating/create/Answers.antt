@@ -1,4 +1,4 @@
-use Rattle.std.proofs.Common.{ℕ, List, IsSome, map, refl, sym, ap, subst, ◌∙◌, string_bytes}
+use Rattle.std.proofs.Common.{List, map, refl, sym, ap, subst, ◌∙◌, string_bytes}
 use Rattle.std.specs.List.{Contains}
 use Rattle.std.specs.declared.string.String.{String}
 use Rattle.std.specs.declared.alloc.Global.{Global}

@@ -5,7 +5,7 @@ use Rattle.std.specs.declared.alloc.Global.{Global}
 use Rattle.warg_store.specs.declared.committing.TheConstants.{MOST_TEXT}
 use Rattle.warg_store.specs.Files.{Files}
 use Rattle.warg_store.specs.Names.{mark}
-use Rattle.warg_store.specs.Opening.{opened, without_staged}
+use Rattle.warg_store.specs.Opening.{opened}
 use Rattle.warg_store.specs.Private.Steps.{IsRemoving}
 use Rattle.warg_store.proofs.MomentLemmas.{begins, then}
 use Rattle.warg_store.proofs.ReadLemmas.{read_none}

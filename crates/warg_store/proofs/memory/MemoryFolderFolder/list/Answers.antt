@@ -4,7 +4,7 @@ use Rattle.std.specs.declared.string.String.{String}
 use Rattle.std.specs.declared.alloc.Global.{Global}
 use Rattle.warg_store.specs.declared.memory.Call.{Call}
 use Rattle.warg_store.specs.declared.memory.Call.TheVariants.{Synced}
-use Rattle.warg_store.specs.Memory.{seen_after, name_put}
+use Rattle.warg_store.specs.Memory.{seen_after}
 use Rattle.warg_store.proofs.ListedLemmas.{AreThere, AreAll, there_more, all_more, all_same, all_put}
 use Rattle.warg_store.proofs.memory.MemoryFolderFolder.list.Goals as goal
 use Rattle.warg_store.proofs.memory.MemoryFolderFolder.list.Goals.{in-Some+in_ok-copied-in-Some+in_ok-push-in-Some, in-None}

@@ -1,5 +1,5 @@
-use Rattle.std.proofs.Common.{sym, subst, ◌∙◌}
-use Rattle.warg_store.specs.Memory.{MayLeave, seen_after, stays}
+use Rattle.std.proofs.Common.{sym, subst}
+use Rattle.warg_store.specs.Memory.{MayLeave, stays}
 use Rattle.warg_store.proofs.MemoryLemmas.{synced}
 use Rattle.warg_store.proofs.memory.MemoryFolderFolder.sync.Goals as goal
 

@@ -1,5 +1,4 @@
-use Rattle.warg_store.specs.declared.memory.Call.TheVariants.{Written}
-use Rattle.warg_store.proofs.MemoryLemmas.{wrote, elapses}
+use Rattle.warg_store.proofs.MemoryLemmas.{wrote}
 use Rattle.warg_store.proofs.memory.MemoryFolderFolder.write.Goals as goal
 
 pub returns-clause-written : goal.returns-clause-written
