@@ -1,0 +1,13 @@
+mod NameLemmas
+mod FileLemmas
+mod ListLemmas
+mod MomentLemmas
+mod StepLemmas
+mod ReadLemmas
+mod ServeLemmas
+mod MemoryLemmas
+mod ListedLemmas
+mod ReadyLemmas
+mod PathLemmas
+mod LeadLemmas
+mod GrowthLemmas

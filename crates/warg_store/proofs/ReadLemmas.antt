@@ -1,0 +1,26 @@
+-- A text that was read up to a length.
+use Rattle.std.proofs.Common.{◌≡◌, inl, inr, ℕ, ◌+◌, ◌<◌, ◌≤◌, List, length, take, Option, Some, None, refl, sym, ap, ◌∙◌, arith}
+use Rattle.std.specs.Prelude.{option_map}
+use Rattle.std.proofs.lemmas.Bool.{cases_lt}
+use Rattle.std.proofs.lemmas.List.{take_all, length-take-le}
+
+-- one that is longer than that
+pub read_long : (o : Option (List ℕ)) (text : List ℕ) (most : ℕ) → Some text ≡ option_map (take (most + 1)) o → most < length text → (t : List ℕ) × (o ≡ Some t) × (most < length t)
+read_long None text most read long = cc
+read_long (Some t) text most read long = let is : text ≡ take (most + 1) t = cc in elim (cases_lt most (length t)) [
+  | inl more ↦ (t, refl, more)
+  | inr whole ↦ absurd (omega (arith, ap length (is ∙ take_all (most + 1) t (omega arith))))
+]
+
+-- and one that is whole
+pub read_whole : (o : Option (List ℕ)) (text : List ℕ) (most : ℕ) → Some text ≡ option_map (take (most + 1)) o → length text ≤ most → o ≡ Some text
+read_whole None text most read short = cc
+read_whole (Some t) text most read short = let is : text ≡ take (most + 1) t = cc in elim (cases_lt most (length t)) [
+  | inl more ↦ absurd (omega (arith, ap length is, length-take-le (most + 1) t (omega arith)))
+  | inr whole ↦ ap (λ (l : List ℕ). Some l) (sym (is ∙ take_all (most + 1) t (omega arith)))
+]
+
+-- none that was read
+pub read_none : (o : Option (List ℕ)) (most : ℕ) → None ≡ option_map (take (most + 1)) o → o ≡ None
+read_none None most read = refl
+read_none (Some t) most read = cc

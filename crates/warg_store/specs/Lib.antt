@@ -1,0 +1,9 @@
+pub mod Files
+pub mod Moments
+pub mod Names
+pub mod Opening
+pub mod Serving
+pub mod Log
+pub mod NewFiles
+pub mod Private
+pub mod Memory

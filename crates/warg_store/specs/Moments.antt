@@ -1,0 +1,36 @@
+-- What a crash may leave, from moment to moment.
+use Rattle.std.specs.Prelude.{◌≡◌, ◌⊎◌, ◌≤◌, ◌<◌, ℕ, Result, IsErrOf}
+use Rattle.warg_store.specs.declared.device.FolderError.{FolderError}
+use Rattle.warg_store.specs.declared.device.FolderError.TheVariants.{Failed, TooLong}
+use Rattle.warg_store.specs.Files.{Files}
+
+-- A crash leaves this and nothing else.
+abbrev pub Only : Files → (Files → Type 0) → Type 0
+Only files outcomes = (c : Files) → outcomes c → c ≡ files
+
+-- Each new outcome of a crash is an old outcome.
+abbrev pub Within : (Files → Type 0) → (Files → Type 0) → Type 0
+Within old new = (c : Files) → new c → old c
+
+-- Each new outcome of a crash is an old outcome after a step.
+abbrev pub Follows : (Files → Files → Type 0) → (Files → Type 0) → (Files → Type 0) → Type 0
+Follows step old new = (c : Files) → new c → (d : Files) × old d × step d c
+
+-- Time goes on: a crash since t might have left what it might have left before, or what it may leave now.
+pub record Elapses {D : Type 0} (moment : D → ℕ) (left_since : D → ℕ → Files → Type 0) (may_leave : D → Files → Type 0) (old new : D) : Type 0 where
+  pub later : moment old ≤ moment new
+  pub nothing_else : (t : ℕ) (c : Files) → t ≤ moment old → left_since new t c → left_since old t c ⊎ may_leave new c
+  pub keeps : (t : ℕ) (c : Files) → t ≤ moment old → left_since old t c → left_since new t c
+
+-- A crash at any moment since old leaves files that have P.
+pub record LeavesOnly {D : Type 0} (moment : D → ℕ) (left_since : D → ℕ → Files → Type 0) (old new : D) (P : Files → Type 0) : Type 0 where
+  pub later : moment old ≤ moment new
+  pub each : (c : Files) → left_since new (moment old) c → P c
+  -- for a run that began earlier
+  pub before : (t : ℕ) (c : Files) → t ≤ moment old → left_since new t c → left_since old t c ⊎ P c
+
+-- `Failed` is told only where the device has failed since, and `TooLong` isn't told.
+pub record HasCause {T : Type 0} (before now : ℕ) (result : Result T FolderError) : Type 0 where
+  pub later : before ≤ now
+  pub failed : IsErrOf result Failed → before < now
+  pub not_long : IsErrOf result TooLong → ⊥

@@ -1,0 +1,36 @@
+-- The names of a log's files.
+use Rattle.std.specs.Prelude.{ℕ, nat_eq, Bool, ◌||◌, List, ◌++◌, codes}
+use Rattle.std.specs.Cmp.Lexicographic.{pointwise}
+use Rattle.std.specs.List.{starts_with}
+
+-- The checkpoint that is served.
+abbrev pub checkpoint : List ℕ
+checkpoint = codes "checkpoint"
+
+-- The newest checkpoint's text, the log's own.
+abbrev pub state : List ℕ
+state = codes ".log/state"
+
+-- The text of a commit that stands and isn't done yet.
+abbrev pub mark : List ℕ
+mark = codes ".log/staged/state"
+
+-- Where a file stands before its commit does.
+abbrev pub staged : List ℕ → List ℕ
+staged n = codes ".log/staged/" ++ n
+
+-- The name is one of a commit's, before it is done.
+abbrev pub is_staged : List ℕ → Bool
+is_staged n = starts_with nat_eq n (codes ".log/staged/")
+
+-- The name is the log's own. A reader looks at no such name.
+abbrev pub is_own : List ℕ → Bool
+is_own n = starts_with nat_eq n (codes ".log/")
+
+-- The name is one at which a commit puts files: of a tile, an entry bundle or a page.
+abbrev pub is_served : List ℕ → Bool
+is_served n = starts_with nat_eq n (codes "tile/") || starts_with nat_eq n (codes "map/")
+
+-- The name is one of a log's files.
+abbrev pub is_log_file : List ℕ → Bool
+is_log_file n = is_served n || (is_own n || pointwise nat_eq n checkpoint)
