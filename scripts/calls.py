@@ -47,7 +47,7 @@ def refusal(signature):
 
 def needs(clauses):
     """Returns what the `requires` of a call ask, each without its name."""
-    asked = re.findall(r"requires\*?(?: \w+)? \{ (.*?) \}\s*(?=$|requires|ensures)", " ".join(clauses.split()))
+    asked = re.findall(r"requires\*?(?: \w+)? \{ (.*?) \}\s*(?=$|requires|ensures)", " ".join(re.sub(r"//[^\n]*", "", clauses).split()))
     return "; ".join(f"`{it}`" for it in asked).replace("|", "\\|")
 
 

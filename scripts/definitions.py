@@ -19,6 +19,7 @@ TITLES = {
     "warg_log": "The log",
     "warg_paths": "Paths",
     "warg_tiles": "Tiles",
+    "warg_store": "A log in a folder",
     "warg_map": "The map",
     "warg_bundle": "Bundles",
     "warg_witness": "Witnesses",
