@@ -55,6 +55,7 @@ pub record Serves (log : LogOf) (files : Files) : Type 0 where
 abbrev pub Needs : LogOf → List ℕ → Type 0
 Needs log n = (checkpoint ≡ n) ⊎ ((t : TileAt) × IsTileIn log t × (tile_path t ≡ n)) ⊎ ((t : TileAt) × IsBundleIn log t × (entries_path t ≡ n))
 
+-- Whether a folder serves a log depends on what stands at the names that it needs alone.
 pub looks_only : (log : LogOf) (old new : Files) → ((n : List ℕ) → Needs log n → new n ≡ old n) → Serves log old → Serves log new
 looks_only log old new same serves = record {
   checkpoint = same checkpoint (inl refl) ∙ serves.checkpoint;
@@ -62,6 +63,7 @@ looks_only log old new same serves = record {
   bundle = λ t is. same (entries_path t) (inr (inr (t, is, refl))) ∙ serves.bundle t is;
 }
 
+-- None of these is one of the log's own.
 pub looks_outside : (log : LogOf) (n : List ℕ) → Needs log n → is_own n ≡ false
 looks_outside log n (inl here) = ap is_own (sym here)
 looks_outside log n (inr (inl tile)) = ap is_own (sym tile.2)

@@ -24,10 +24,12 @@ may_after (Removed name) s may c = (d : Files) × may d × Either (without (stri
 may_after Synced s may c = c ≡ s
 may_after (Replaced name bytes) s may c = (d : Files) × may d × (c ≡ put (string_bytes name, bytes.items) d)
 
+-- What a reader finds after calls, from what was found before.
 abbrev pub seen_from : Files → List Call → Files
 seen_from s [] = s
 seen_from s (x ∷ xs) = seen_from (after x s) xs
 
+-- What a crash after calls may leave, from what was found before and from what a crash might have left.
 abbrev pub may_from : Files → (Files → Type 0) → List Call → Files → Type 0
 may_from s may [] = may
 may_from s may (x ∷ xs) = may_from (after x s) (may_after x s may) xs
@@ -67,11 +69,14 @@ stays_from : (xs : List Call) (s : Files) (may : Files → Type 0) → may s →
 stays_from [] s may was = was
 stays_from (x ∷ xs) s may was = stays_from xs (after x s) (may_after x s may) (stays_after x s may was)
 
+-- What a reader finds is among what a crash may leave.
 pub stays : (xs : List Call) → MayLeave xs (seen_after xs)
 stays xs = stays_from xs empty (λ c. c ≡ empty) refl
 
+-- This moment is one of those since an earlier one.
 pub counts : (xs : List Call) (t : ℕ) (c : Files) → t ≤ length xs → MayLeave xs c → LeftSince xs t c
 counts xs t c le now = (length xs, le, omega arith, subst (λ (l : List Call). MayLeave l c) (sym (take_all (length xs) xs (omega arith))) now)
 
+-- Since this moment there is no other.
 pub is_only : (xs : List Call) (c : Files) → LeftSince xs (length xs) c → MayLeave xs c
 is_only xs c left = subst (λ (l : List Call). MayLeave l c) (take_all left.0 xs left.1) left.3
