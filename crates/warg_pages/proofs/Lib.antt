@@ -1,0 +1,15 @@
+mod ByteNumbers
+mod PageRoots
+mod SlotRanges
+mod KeyPrefixes
+mod BesideSlots
+mod OneMore
+mod PutSlots
+mod OwnPages
+mod LoneSlots
+mod HeldHalves
+mod PagesBelow
+mod GivenPages
+mod PageFormat
+mod SlotsAmong
+mod PathText
