@@ -23,7 +23,7 @@ use Rattle.warg_pages.proofs.BesideSlots.{beside_tree}
 use Rattle.warg_pages.proofs.KeyPrefixes.{length-bits_from}
 
 -- a slot has an insertion, and so a key below it
-begins-rest : (p k : List Bool) → begins p k ≡ true → (q : List Bool) × (k ≡ p ++ q)
+pub begins-rest : (p k : List Bool) → begins p k ≡ true → (q : List Bool) × (k ≡ p ++ q)
 begins-rest [] k e = (k, refl)
 begins-rest (b ∷ p) [] e = absurd (cc)
 begins-rest (true ∷ p) (true ∷ k) e = let r = begins-rest p k e in (r.0, ap (λ t. true ∷ t) r.1)
@@ -31,7 +31,7 @@ begins-rest (true ∷ p) (false ∷ k) e = absurd (cc)
 begins-rest (false ∷ p) (true ∷ k) e = absurd (cc)
 begins-rest (false ∷ p) (false ∷ k) e = let r = begins-rest p k e in (r.0, ap (λ t. false ∷ t) r.1)
 
-held_key : (H : List ℕ → List ℕ) (p : List Bool) (es : List (List ℕ × List ℕ)) (e : List ℕ × List ℕ) → last_with (is_below H p) es ≡ Some e → (is_below H p e ≡ true) × (is_some (last_under H (key_bits H e.0) es) ≡ true)
+pub held_key : (H : List ℕ → List ℕ) (p : List Bool) (es : List (List ℕ × List ℕ)) (e : List ℕ × List ℕ) → last_with (is_below H p) es ≡ Some e → (is_below H p e ≡ true) × (is_some (last_under H (key_bits H e.0) es) ≡ true)
 unfolding last_with
 held_key H p [] e h = absurd (cc)
 held_key H p (x ∷ es) e h = either (last_with (is_below H p) es) (is_below H p x) refl (held_key H p es e) h
@@ -63,11 +63,11 @@ slot_holds H es p s (Some e) x l h =
     (rest.0, ap is_some (last_held H (p ++ rest.0) es) ∙ is_some-map (λ (y : List ℕ × List ℕ). leaf_digest H y.1) (last_under H (p ++ rest.0) es) (rw (← rest.1) held.1))
 
 -- no slot, no key
-no_slot : (H : List ℕ → List ℕ) (es : List (List ℕ × List ℕ)) (p : List Bool) (s : ℕ) (last : Option (List ℕ × List ℕ)) → last_with (is_below H p) es ≡ last → slot_over H es p s last ≡ None → (q : List Bool) → below (map_of H es) p q ≡ None
+pub no_slot : (H : List ℕ → List ℕ) (es : List (List ℕ × List ℕ)) (p : List Bool) (s : ℕ) (last : Option (List ℕ × List ℕ)) → last_with (is_below H p) es ≡ last → slot_over H es p s last ≡ None → (q : List Bool) → below (map_of H es) p q ≡ None
 no_slot H es p s None l h q = last_held H (p ++ q) es ∙ ap (option_map (λ (x : List ℕ × List ℕ). leaf_digest H x.1)) (none_under H p q es l)
 no_slot H es p s (Some e) l h q = absurd (cc)
 
-short_bits : (H : List ℕ → List ℕ) (bits : List Bool) (es : List (List ℕ × List ℕ)) → ¬ (length bits ≡ 256) → last_under H bits es ≡ None
+pub short_bits : (H : List ℕ → List ℕ) (bits : List Bool) (es : List (List ℕ × List ℕ)) → ¬ (length bits ≡ 256) → last_under H bits es ≡ None
 unfolding last_with
 short_bits H bits [] n = refl
 short_bits H bits (x ∷ es) n = rw (short_bits H bits es n) (cond-false _ _ _ (false_from_ne_true _ (λ s. n (ap length (same_bits-true bits (key_bits H x.0) s) ∙ all_bits H x.0))))

@@ -12,7 +12,7 @@ length-bits_from bytes i zero = refl
 length-bits_from bytes i (suc n) = ap suc (length-bits_from bytes (i + 1) n)
 
 -- the bits from a place on, by a part of them
-bits_from-append : (bytes : List ℕ) (i m n : ℕ) → bits_from bytes i (m + n) ≡ bits_from bytes i m ++ bits_from bytes (i + m) n
+pub bits_from-append : (bytes : List ℕ) (i m n : ℕ) → bits_from bytes i (m + n) ≡ bits_from bytes i m ++ bits_from bytes (i + m) n
 unfolding bits_from
 bits_from-append bytes i zero n =
     let all : zero + n ≡ n = omega arith in
@@ -24,7 +24,7 @@ bits_from-append bytes i (suc m) n =
     rw (all, at, bits_from-append bytes (i + 1) m n)
 
 -- the same bits elsewhere
-bits_from-same : (a b : List ℕ) (i j n : ℕ) → ((m : ℕ) → m < n → bit_at a (i + m) ≡ bit_at b (j + m)) → bits_from a i n ≡ bits_from b j n
+pub bits_from-same : (a b : List ℕ) (i j n : ℕ) → ((m : ℕ) → m < n → bit_at a (i + m) ≡ bit_at b (j + m)) → bits_from a i n ≡ bits_from b j n
 unfolding bits_from
 bits_from-same a b i j zero h = refl
 bits_from-same a b i j (suc n) h = rw (first, bits_from-same a b (i + 1) (j + 1) n rest) refl
@@ -36,7 +36,7 @@ bits_from-same a b i j (suc n) h = rw (first, bits_from-same a b (i + 1) (j + 1)
     rest m lt = let at : i + suc m ≡ i + 1 + m = omega arith in let and : j + suc m ≡ j + 1 + m = omega arith in rw (at, and) at (h (suc m) (omega arith))
 
 -- the bits of one byte
-byte_at_depth : (bytes : List ℕ) (depth : ℕ) → bits_from bytes (8 * depth) 8 ≡ byte_bits (slice_index bytes depth)
+pub byte_at_depth : (bytes : List ℕ) (depth : ℕ) → bits_from bytes (8 * depth) 8 ≡ byte_bits (slice_index bytes depth)
 byte_at_depth bytes depth = bits_from-same bytes (slice_index bytes depth ∷ []) (8 * depth) 0 8 same
   where
     same : (m : ℕ) → m < 8 → bit_at bytes (8 * depth + m) ≡ bit_at (slice_index bytes depth ∷ []) (0 + m)

@@ -13,3 +13,11 @@ mod GivenPages
 mod PageFormat
 mod SlotsAmong
 mod PathText
+mod ValuesAbove
+mod PeerCounts
+mod OwnDescent
+mod ProofValues
+mod LoneEnds
+mod SideBits
+mod BitParts
+mod HashEquality

@@ -13,7 +13,7 @@ use Rattle.warg_pages.specs.Slots.{SlotAt, is_lone, slot_over, slot_of}
 use Rattle.warg_pages.proofs.PageRoots.{begins-append}
 
 -- the last element passes the test
-last_passes : {X : Type 0} (p : X → Bool) (xs : List X) (e : X) → last_with p xs ≡ Some e → p e ≡ true
+pub last_passes : {X : Type 0} (p : X → Bool) (xs : List X) (e : X) → last_with p xs ≡ Some e → p e ≡ true
 unfolding last_with
 last_passes p [] e h = absurd (cc)
 last_passes {X = X} p (x ∷ xs) e h = either (last_with p xs) (p x) refl (last_passes p xs e) h
@@ -24,7 +24,7 @@ last_passes {X = X} p (x ∷ xs) e h = either (last_with p xs) (p x) refl (last_
     either (Some y) b t h f = h f
 
 -- all insertions below a prefix have one key's bits
-agree : (b s : Bool) → (not b || s) ≡ true → (s ≡ true → b ≡ true) → s ≡ b
+pub agree : (b s : Bool) → (not b || s) ≡ true → (s ≡ true → b ≡ true) → s ≡ b
 agree true s h g = h
 agree false true h g = absurd (let e : false ≡ true = g refl in cc)
 agree false false h g = refl
@@ -46,11 +46,11 @@ other_last H p e bits (x ∷ es) t n h =
     let under : is_below H p x ≡ true = ap (begins p) (sym same) ∙ t in
     n (same ∙ sym (same_bits-true (key_bits H e.0) (key_bits H x.0) (rw under at parts.0))))))
 
-lone_of : {X : Type 0} (b : Bool) (v w : X) → then_some b v ≡ Some w → (b ≡ true) × (v ≡ w)
+pub lone_of : {X : Type 0} (b : Bool) (v w : X) → then_some b v ≡ Some w → (b ≡ true) × (v ≡ w)
 lone_of true v w e = (refl, cc)
 lone_of false v w e = absurd (cc)
 
-some_same : {X : Type 0} {v w : X} → Some v ≡ Some w → v ≡ w
+pub some_same : {X : Type 0} {v w : X} → Some v ≡ Some w → v ≡ w
 some_same e = cc
 
 by_test : (H : List ℕ → List ℕ) (es : List (List ℕ × List ℕ)) (p q : List Bool) (e : List ℕ × List ℕ) → is_lone H es p e ≡ true → last_with (is_below H p) es ≡ Some e

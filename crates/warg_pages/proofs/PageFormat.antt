@@ -12,7 +12,7 @@ use Rattle.warg_pages.specs.Slots.{SlotAt, IsLone, IsSlot, IsPage, Ascends}
 use Rattle.warg_pages.specs.PageBytes.{kind_of, lone_bytes, slot_bytes, page_bytes}
 
 -- parts of one length, and what is behind them
-pub same_parts : (a b c d : List ℕ) → length a ≡ length c → a ++ b ≡ c ++ d → (a ≡ c) × (b ≡ d)
+pub same_parts : {X : Type 0} (a b c d : List X) → length a ≡ length c → a ++ b ≡ c ++ d → (a ≡ c) × (b ≡ d)
 same_parts a b c d len e =
     (sym (take_at a b (length a) refl) ∙ ap (take (length a)) e ∙ take_at c d (length a) (sym len), sym (drop_at a b (length a) refl) ∙ ap (drop (length a)) e ∙ drop_at c d (length a) (sym len))
 

@@ -88,7 +88,7 @@ none_under H p q (x ∷ es) e =
     other : is_below H p x ≡ false → same_bits (p ++ q) (key_bits H x.0) ≡ true → ⊥
     other f s = let e : begins p (p ++ q) ≡ false = ap (begins p) (same_bits-true (p ++ q) (key_bits H x.0) s) ∙ f in let t = begins-append p q in cc
 
-root-nothing : (H : List ℕ → List ℕ) (k : ℕ) → root_of_levels H k (λ q. None) ≡ empty_root H k
+pub root-nothing : (H : List ℕ → List ℕ) (k : ℕ) → root_of_levels H k (λ q. None) ≡ empty_root H k
 unfolding root_of_levels empty_root
 root-nothing H zero = refl
 root-nothing H (suc k) = rw (root-nothing H k) refl

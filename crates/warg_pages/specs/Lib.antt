@@ -6,3 +6,6 @@ pub mod PagePaths
 pub mod PagePeers
 pub mod PageInsertions
 pub mod GivenPages
+pub mod Private
+pub mod OwnPages
+pub mod Refusals

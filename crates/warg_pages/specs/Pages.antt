@@ -1,5 +1,5 @@
 -- The digest of a page.
-use Rattle.std.specs.Prelude.{ℕ, zero, suc, ◌+◌, ◌-◌, ◌*◌, ◌^◌, cond, nat_eq, List, [], ◌∷◌}
+use Rattle.std.specs.Prelude.{ℕ, zero, suc, ◌+◌, ◌-◌, ◌*◌, ◌^◌, cond, nat_eq, List, [], ◌∷◌, Option, find}
 use Rattle.warg_crypto.specs.EmptyTrees.{empty_root}
 use Rattle.warg_crypto.specs.Tree.{branch}
 use Rattle.warg_pages.specs.Slots.{SlotAt}
@@ -21,3 +21,7 @@ slot_height depth = 248 - 8 * depth
 -- The digest of the page with these slots at a prefix of so many bytes: the root over its 256 slots.
 abbrev pub page_digest : (List ℕ → List ℕ) → ℕ → List SlotAt → List ℕ
 page_digest H depth slots = root_over H (digest_at H (slot_height depth) slots) 0 8
+
+-- The slot of a byte, or nothing.
+abbrev pub slot_at : List SlotAt → ℕ → Option SlotAt
+slot_at slots s = find (λ x. nat_eq x.byte s) slots

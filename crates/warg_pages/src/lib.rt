@@ -8,17 +8,22 @@
 //! The definitions that the contracts cite stand in `specs/`: read Prefixes, Slots and Pages first.
 #![tactic(auto)]
 
+mod bits;
 mod bytes;
+mod climb;
 mod error;
 pub mod laws;
+mod lone;
 mod page;
 mod path;
 mod peers;
 mod put;
 mod root;
 mod slot;
+mod source;
 
-pub use error::PageError;
+pub use error::{PageError, ProveError, WayError};
 pub use page::MapPage;
 pub use path::page_path;
 pub use slot::{LoneKey, Slot};
+pub use source::Pages;

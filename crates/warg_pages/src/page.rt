@@ -2,8 +2,9 @@
 
 ghost use Rattle.std.specs.Prelude.{◌≡◌, ◌≢◌, ◌<◌, ◌↔◌, ℕ, List, Err, IfOk, IsTrue};
 ghost use Rattle.std.specs.List.{All};
+ghost use Rattle.std.specs.Option.{option_copied};
 ghost use Rattle.warg_pages.specs.Slots.{SlotAt, Ascends, IsPage};
-ghost use Rattle.warg_pages.specs.Pages.{page_digest};
+ghost use Rattle.warg_pages.specs.Pages.{page_digest, slot_at};
 ghost use Rattle.warg_pages.specs.PageBytes.{page_bytes};
 
 use crate::bytes::{first_slot, write_slot};
@@ -80,6 +81,15 @@ impl<D, A: Allocator> MapPage<D, A> {
         ensures page { IsPage result.now }
     {
         self.slots.as_slice()
+    }
+}
+
+impl<D, A: Allocator> MapPage<D, A> {
+    /// The slot of a byte, or `None` if no held key digest goes on with it.
+    pub fn slot(&self, byte: u8) -> Option<&Slot<D>>
+        ensures { option_copied result ≡ slot_at self.now byte }
+    {
+        self.slots().iter().find(|slot| slot.byte == byte)
     }
 }
 
