@@ -21,3 +21,5 @@ mod LoneEnds
 mod SideBits
 mod BitParts
 mod HashEquality
+mod OwnWays
+mod Refused

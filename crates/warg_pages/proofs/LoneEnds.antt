@@ -78,7 +78,7 @@ held_end H key depth index slot lone lt same root version = record {
   few = omega arith;
   leads = root;
   own = own;
-  index = version;
+  index = (version, same);
 }
   where
     own_rest : (key other : List ℕ) (depth : ℕ) (rest : List Bool) → depth < 32 → bits_from key 0 256 ≡ bits_from other 0 256 → last_bits other 256 ≡ bits_from key 0 (8 * depth + 8) ++ rest → last_bits key (slot_height depth) ≡ rest

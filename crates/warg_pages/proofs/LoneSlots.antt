@@ -62,7 +62,7 @@ by_test H es p q e lone l false f =
     ap (option_map (λ (x : List ℕ × List ℕ). leaf_digest H x.1)) (other_last H p e (p ++ q) es (begins-append p q) (λ same. let t : same_bits (p ++ q) (key_bits H e.0) ≡ true = rw same (same_bits-itself (key_bits H e.0)) in cc) lone)
 
 -- below it this key is held, and no other
-lone_over : (H : List ℕ → List ℕ) (es : List (List ℕ × List ℕ)) (p : List Bool) (s : ℕ) (last : Option (List ℕ × List ℕ)) (x : SlotAt) (key leaf : List ℕ) → last_with (is_below H p) es ≡ last → slot_over H es p s last ≡ Some x → x.lone ≡ Some (key, leaf)
+pub lone_over : (H : List ℕ → List ℕ) (es : List (List ℕ × List ℕ)) (p : List Bool) (s : ℕ) (last : Option (List ℕ × List ℕ)) (x : SlotAt) (key leaf : List ℕ) → last_with (is_below H p) es ≡ last → slot_over H es p s last ≡ Some x → x.lone ≡ Some (key, leaf)
     → (q : List Bool) → below (map_of H es) p q ≡ cond (same_bits (p ++ q) (last_bits key 256)) (Some leaf) None
 lone_over H es p s None x key leaf l h is q = absurd (cc)
 lone_over H es p s (Some e) x key leaf l h is q =

@@ -76,7 +76,7 @@ begins-front [] a b = refl
 begins-front (true ∷ p) a b = begins-front p a b
 begins-front (false ∷ p) a b = begins-front p a b
 
-begins-same : (a b c : List Bool) → length a ≡ length b → begins a (b ++ c) ≡ true → a ≡ b
+pub begins-same : (a b c : List Bool) → length a ≡ length b → begins a (b ++ c) ≡ true → a ≡ b
 begins-same [] [] c n e = refl
 begins-same [] (y ∷ b) c n e = absurd (omega arith)
 begins-same (x ∷ a) [] c n e = absurd (omega arith)

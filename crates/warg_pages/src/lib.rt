@@ -11,6 +11,7 @@
 mod bits;
 mod bytes;
 mod climb;
+mod descent;
 mod error;
 pub mod laws;
 mod lone;

@@ -1,13 +1,13 @@
 -- The way down through pages.
-use Rattle.std.specs.Prelude.{◌≡◌, ◌≢◌, ℕ, zero, suc, ◌+◌, ◌-◌, ◌*◌, ◌<◌, ◌≤◌, Bool, not, List, [], ◌∷◌, ◌++◌, length, slice_index, Option, Some, None, unwrap_or, IfSome}
+use Rattle.std.specs.Prelude.{◌≡◌, ℕ, zero, suc, ◌+◌, ◌-◌, ◌*◌, ◌^◌, ◌<◌, ◌≤◌, Bool, true, List, [], ◌∷◌, ◌++◌, length, slice_index, Option, Some, None, unwrap_or, IfSome}
 use Rattle.std.specs.Option.{option_map}
 use Rattle.std.specs.FinMap.{get}
 use Rattle.warg_crypto.specs.EmptyTrees.{empty_root}
 use Rattle.warg_crypto.specs.Tree.{input_beside}
 use Rattle.warg_map.specs.Bits.{bits_from, last_bits}
-use Rattle.warg_map.specs.Sparse.{root_of_levels, sparse_root, map_of}
-use Rattle.warg_map.specs.Peers.{IsPeer, IsPeers}
-use Rattle.warg_pages.specs.Prefixes.{version}
+use Rattle.warg_map.specs.Sparse.{root_of_levels, map_of}
+use Rattle.warg_map.specs.Peers.{IsPeers}
+use Rattle.warg_pages.specs.Prefixes.{below, version}
 use Rattle.warg_pages.specs.Slots.{SlotAt}
 use Rattle.warg_pages.specs.Pages.{digest_at, slot_height}
 use Rattle.warg_pages.specs.PagePeers.{optional_peer}
@@ -52,22 +52,25 @@ pub record StandsAlone (H : List ℕ → List ℕ) (prefix : List Bool) (lone : 
 abbrev pub held_leaf : Option (ℕ × List ℕ) → Option (List ℕ)
 held_leaf held = option_map (λ (h : ℕ × List ℕ). h.1) held
 
--- The peers, from the top, lead from what is held under a key digest to a root.
-pub record LeadsUp (H : List ℕ → List ℕ) (root key : List ℕ) (peers : List (Option (List ℕ))) (held : Option (ℕ × List ℕ)) : Type 0 where
-  pub few : length peers ≤ 256
-  pub leads : value_above H 0 peers (unwrap_or (held_leaf held) (empty_root H 0)) (last_bits key 256) ≡ root
-
--- A source has the pages of these insertions, of which the version is the number and the root that of their map.
-pub record IsOwnSource (H : List ℕ → List ℕ) (bytes_at : List ℕ → ℕ → Option (List ℕ)) (root : List ℕ) (count : ℕ) (insertions : List (List ℕ × List ℕ)) : Type 0 where
+-- At a prefix of so many bytes of a key digest a source has the page of these insertions, of this version and this digest.
+pub record IsOwnAt (H : List ℕ → List ℕ) (bytes_at : List ℕ → ℕ → Option (List ℕ)) (key : List ℕ) (depth : ℕ) (digest : List ℕ) (number : ℕ) (insertions : List (List ℕ × List ℕ)) : Type 0 where
   pub pages : AreOwnPages H bytes_at insertions
-  pub all : length insertions ≡ count
-  pub is_root : root ≡ sparse_root H 256 (map_of H insertions)
+  pub fits : length insertions < 2 ^ 64
+  pub is_there : stands H insertions (bits_from key 0 (8 * depth)) ≡ true
+  pub is_version : number ≡ version H insertions (bits_from key 0 (8 * depth))
+  pub is_digest : digest ≡ root_of_levels H (256 - 8 * depth) (below (map_of H insertions) (bits_from key 0 (8 * depth)))
 
--- The peers, from the top, are those of a key digest in the map of these insertions, and what is held is what the map holds, by the last insertion under this digest.
-pub record IsOwnWay (H : List ℕ → List ℕ) (insertions : List (List ℕ × List ℕ)) (key : List ℕ) (peers : List (Option (List ℕ))) (held : Option (ℕ × List ℕ)) : Type 0 where
-  pub are_peers : IsPeers H (λ k. None) (get (map_of H insertions)) (last_bits key 256) peers
+-- The peers from a prefix of a key digest on, from the top, are those of the map of these insertions, and what is held is what the map holds, by the last insertion under this digest.
+pub record IsOwnWay (H : List ℕ → List ℕ) (insertions : List (List ℕ × List ℕ)) (key : List ℕ) (depth : ℕ) (peers : List (Option (List ℕ))) (held : Option (ℕ × List ℕ)) : Type 0 where
+  pub are_peers : IsPeers H (λ k. None) (below (map_of H insertions) (bits_from key 0 (8 * depth))) (last_bits key (256 - 8 * depth)) peers
   pub is_leaf : get (map_of H insertions) (last_bits key 256) ≡ held_leaf held
   pub is_index : IfSome held (λ h. h.0 + 1 ≡ version H insertions (last_bits key 256))
+
+-- The way down from a prefix of a key digest: the peers lead from what is held to the digest there, and where the pages are those of insertions, they are the map's.
+pub record IsWayDown (H : List ℕ → List ℕ) (bytes_at : List ℕ → ℕ → Option (List ℕ)) (key : List ℕ) (depth : ℕ) (digest : List ℕ) (number : ℕ) (peers : List (Option (List ℕ))) (held : Option (ℕ × List ℕ)) : Type 0 where
+  pub few : length peers ≤ 256 - 8 * depth
+  pub leads : value_above H 0 peers (unwrap_or (held_leaf held) (empty_root H 0)) (last_bits key (256 - 8 * depth)) ≡ digest
+  pub own : (insertions : List (List ℕ × List ℕ)) → IsOwnAt H bytes_at key depth digest number insertions → IsOwnWay H insertions key depth peers held
 
 -- Where the way down ends at the lone key of a slot: the further peers lead from what is held to the slot's digest, and where the lone key stands alone there, they are those of the key digest.
 pub record EndsAt (H : List ℕ → List ℕ) (key : List ℕ) (depth : ℕ) (slot : SlotAt) (lone : List ℕ × List ℕ) (more : List (Option (List ℕ))) (held : Option (ℕ × List ℕ)) : Type 0 where
@@ -75,7 +78,7 @@ pub record EndsAt (H : List ℕ → List ℕ) (key : List ℕ) (depth : ℕ) (sl
   pub leads : value_above H 0 more (unwrap_or (held_leaf held) (empty_root H 0)) (last_bits key (slot_height depth)) ≡ slot.digest
   pub own : (f : List Bool → Option (List ℕ)) → StandsAlone H (bits_from key 0 (8 * depth + 8)) lone (slot_height depth) slot.digest f
       → IsPeers H (λ k. None) f (last_bits key (slot_height depth)) more × (f (last_bits key (slot_height depth)) ≡ held_leaf held)
-  pub index : IfSome held (λ h. h.0 + 1 ≡ slot.version)
+  pub index : IfSome held (λ h. (h.0 + 1 ≡ slot.version) × (last_bits key 256 ≡ last_bits lone.0 256))
 
 -- The lone key of a slot doesn't stand alone there, or its version is 0.
 abbrev pub IsNoLoneKey : (List ℕ → List ℕ) → List ℕ → ℕ → SlotAt → List ℕ × List ℕ → Type 0
