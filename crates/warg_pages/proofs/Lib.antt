@@ -4,7 +4,6 @@ mod SlotRanges
 mod KeyPrefixes
 mod BesideSlots
 mod OneMore
-mod PutSlots
 mod OwnPages
 mod LoneSlots
 mod HeldHalves
@@ -23,3 +22,4 @@ mod BitParts
 mod HashEquality
 mod OwnWays
 mod Refused
+mod FinalPeers

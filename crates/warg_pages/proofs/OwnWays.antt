@@ -56,7 +56,7 @@ below_page H k digest y depth page more lt leads foot =
     ap (value_above H 0 (page_peers H depth page k ++ more) y) (rest_at k depth lt) ∙ value_above-append H 0 (page_peers H depth page k) more y (bits_from k (8 * depth) 8) (last_bits k (slot_height depth)) sizes
     ∙ (λ i. value_above H (height i) (page_peers H depth page k) (foot i) (bits_from k (8 * depth) 8)) ∙ leads
 
-nothing_value : (H : List ℕ → List ℕ) (k : List ℕ) (height : ℕ) → value_above H 0 [] (empty_root H 0) (last_bits k height) ≡ empty_root H height
+pub nothing_value : (H : List ℕ → List ℕ) (k : List ℕ) (height : ℕ) → value_above H 0 [] (empty_root H 0) (last_bits k height) ≡ empty_root H height
 nothing_value H k height = value_above-empty H 0 (last_bits k height) ∙ ap (empty_root H) (let n : length (last_bits k height) + 0 ≡ height = rw (length-last_bits k height) (omega arith) in n)
 
 -- over an own page

@@ -9,6 +9,7 @@ use Rattle.std.proofs.lemmas.Bool.{cases_Bool}
 use Rattle.warg_map.specs.Last.{same_bits}
 use Rattle.warg_map.proofs.ForCallers.{same_bits-true, same_bits-itself}
 use Rattle.warg_pages.specs.Private.Descents.{value_above}
+use Rattle.warg_pages.specs.Private.Finals.{EndsInSome}
 use Rattle.warg_pages.proofs.ValuesAbove.{value_above-None}
 
 -- who else is held shares fewer bits than there are peers
@@ -84,9 +85,9 @@ pub trimmed_value : (H : List ℕ → List ℕ) (x : List ℕ) (bits : List Bool
 trimmed_value H x bits os zero = ap (λ t. value_above H 0 t x bits) (append-nil os)
 trimmed_value H x bits os (suc n) = ap (λ t. value_above H 0 t x bits) (replicate-last os n) ∙ trimmed_value H x bits (os ++ None ∷ []) n ∙ value_above-None H 0 os x bits
 
--- the count of peers of which the last isn't None
-abbrev pub EndsInSome : List (Option (List ℕ)) → Type 0
-EndsInSome os = (front : List (Option (List ℕ))) × (y : List ℕ) × (os ≡ front ++ Some y ∷ [])
+
+
+
 
 pub some_count : (H : List ℕ → List ℕ) (m : SparseMap) (bits : List Bool) (os : List (Option (List ℕ))) (lone : ℕ) → IsPeers H (λ k. None) (get m) bits os → EndsInSome os → IsPeerCount lone m bits (length os)
 some_count H m bits os lone h ends =

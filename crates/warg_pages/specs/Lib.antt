@@ -9,3 +9,4 @@ pub mod GivenPages
 pub mod Private
 pub mod OwnPages
 pub mod Refusals
+pub mod ProvedKeys
