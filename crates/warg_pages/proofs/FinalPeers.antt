@@ -1,23 +1,23 @@
 -- The peers of a proof, from those of a way down.
-use Rattle.std.proofs.Common.{◌≡◌, ℕ, zero, suc, ◌+◌, ◌-◌, ◌<◌, ◌≤◌, Bool, true, false, not, cond, eqb, List, [], ◌∷◌, ◌++◌, length, take, drop, get_or, Option, Some, None, is_some, refl, sym, ap, subst, ◌∙◌, ◌^◌, arith, inl, inr, ◌⊎◌, unwrap_or}
+use Rattle.std.proofs.Common.{◌≡◌, ℕ, zero, suc, ◌+◌, ◌-◌, ◌<◌, ◌≤◌, Bool, true, false, not, cond, eqb, List, [], ◌∷◌, ◌++◌, length, take, get_or, Option, Some, None, is_some, refl, sym, ap, subst, ◌∙◌, ◌^◌, arith, inl, inr, ◌⊎◌, unwrap_or}
 use Rattle.std.proofs.lemmas.Bool.{cond-false, eqb-true, false_from_ne_true}
 use Rattle.std.proofs.lemmas.List.{take_more, take-append-drop, length-take, append_assoc}
-use Rattle.std.specs.Prelude.{reverse, replicate, IfSome}
+use Rattle.std.specs.Prelude.{reverse, replicate}
 use Rattle.std.proofs.lemmas.List.{reverse-reverse, length-reverse}
 use Rattle.std.specs.Option.{option_map, option_or}
-use Rattle.std.specs.FinMap.{get, contains_key}
+use Rattle.std.specs.FinMap.{get}
 use Rattle.warg_crypto.specs.EmptyTrees.{empty_root}
 use Rattle.warg_crypto.specs.Tree.{leaf_digest}
-use Rattle.warg_map.specs.Bits.{bits_from, last_bits, key_bits}
+use Rattle.warg_map.specs.Bits.{bits_from, last_bits}
 use Rattle.warg_map.specs.Last.{last_with}
-use Rattle.warg_map.specs.Sparse.{SparseMap, root_of_levels, sparse_root, map_of}
+use Rattle.warg_map.specs.Sparse.{SparseMap, root_of_levels, map_of}
 use Rattle.warg_map.specs.ProofValue.{proof_value}
 use Rattle.warg_map.specs.Peers.{IsPeer, IsPeers, IsPeerCount, Proves, ProvesAbsent}
 use Rattle.warg_map.proofs.ForCallers.{last_held, length-last_bits}
 use Rattle.warg_pages.specs.Prefixes.{is_below, below, version, last_place}
 use Rattle.warg_pages.specs.OwnPages.{stands, stands_over}
 use Rattle.warg_pages.specs.ProvedKeys.{IsOwnSource}
-use Rattle.warg_pages.specs.Private.Descents.{value_above, held_leaf, IsOwnAt, IsWayDown}
+use Rattle.warg_pages.specs.Private.Descents.{value_above, IsOwnAt, IsWayDown}
 use Rattle.warg_pages.specs.Private.Finals.{IsWholeWay, EndsInSome, AreLeft, filled_from, presence_peers}
 use Rattle.warg_pages.proofs.PageRoots.{root-same, root-nothing}
 use Rattle.warg_pages.proofs.HeldHalves.{short_bits}

@@ -1,12 +1,11 @@
 -- Where the way down ends at a lone key.
-use Rattle.std.proofs.Common.{◌≡◌, ℕ, zero, suc, ◌+◌, ◌-◌, ◌*◌, ◌<◌, ◌≤◌, Bool, true, false, not, cond, List, [], ◌∷◌, ◌++◌, length, Option, Some, None, is_some, refl, sym, ap, ◌∙◌, arith, inl, inr, append_assoc, length-append, unwrap_or}
-use Rattle.std.proofs.lemmas.Bool.{cases_Bool, cond-true, cond-false}
+use Rattle.std.proofs.Common.{◌≡◌, ℕ, zero, suc, ◌+◌, ◌-◌, ◌*◌, ◌<◌, ◌≤◌, Bool, true, false, not, List, [], ◌∷◌, ◌++◌, length, Option, Some, None, is_some, refl, sym, ap, ◌∙◌, arith, inl, inr, length-append, unwrap_or}
 use Rattle.std.proofs.lemmas.List.{append_cancel_left}
 use Rattle.std.specs.Prelude.{replicate}
 use Rattle.warg_crypto.specs.EmptyTrees.{empty_root}
 use Rattle.warg_crypto.specs.Tree.{input_beside}
 use Rattle.warg_map.specs.Sparse.{root_of_levels}
-use Rattle.warg_map.specs.Peers.{IsPeer, IsPeers}
+use Rattle.warg_map.specs.Peers.{IsPeers}
 use Rattle.warg_pages.specs.Private.Descents.{value_above, lone_root, HoldsAlone, StandsAlone, EndsAt, IsNoLoneKey}
 use Rattle.warg_map.specs.Bits.{bit_at, bits_from, last_bits}
 use Rattle.warg_map.proofs.ForCallers.{length-last_bits}
@@ -170,8 +169,7 @@ parted_end H key depth shared slot lone tree h is root =
     own f stands =
         let rest : stands.rest ≡ bits_from key (8 * depth + 8) (shared - (8 * depth + 8)) ++ not (bit_at key shared) ∷ last_bits lone.0 (255 - shared) = other_rest key lone.0 depth shared stands.rest h stands.begins ∙ other_parts key lone.0 depth shared h in
         let alone = rw rest at stands.alone in
-        let peers = parted_peers H f lone.1 tree (bits_from key (8 * depth + 8) (shared - (8 * depth + 8))) (last_bits key (255 - shared)) (last_bits lone.0 (255 - shared)) (bit_at key shared) sizes is alone in
-        (
+        let peers = parted_peers H f lone.1 tree (bits_from key (8 * depth + 8) (shared - (8 * depth + 8))) (last_bits key (255 - shared)) (last_bits lone.0 (255 - shared)) (bit_at key shared) sizes is alone in (
           rw (key_parts key lone.0 depth shared h) (rw size at peers),
           rw (key_parts key lone.0 depth shared h) (alone.others _ (λ e. heads_back (bit_at key shared) (append_cancel_left (bits_from key (8 * depth + 8) (shared - (8 * depth + 8))) _ _ e))),
         )

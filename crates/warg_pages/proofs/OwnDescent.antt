@@ -1,13 +1,12 @@
 -- The way down through the pages of insertions.
-use Rattle.std.proofs.Common.{◌≡◌, ℕ, zero, suc, ◌+◌, ◌-◌, ◌*◌, ◌/◌, ◌%◌, ◌<◌, ◌≤◌, Bool, true, false, not, ◌||◌, cond, eqb, List, [], ◌∷◌, ◌++◌, length, take, get_or, Option, Some, None, find, refl, sym, subst, ap, ◌∙◌, arith, inl, inr, append_assoc, length-append, eq-eqb}
+use Rattle.std.proofs.Common.{◌≡◌, ℕ, zero, suc, ◌+◌, ◌-◌, ◌*◌, ◌/◌, ◌<◌, ◌≤◌, Bool, true, false, not, ◌||◌, cond, eqb, List, [], ◌∷◌, ◌++◌, length, take, get_or, Option, Some, None, refl, sym, subst, ap, ◌∙◌, arith, inl, inr, append_assoc, eq-eqb}
 use Rattle.std.proofs.lemmas.Bool.{cond-true, cond-false, cases_lt, false_from_ne_true, eqb-true}
-use Rattle.std.proofs.lemmas.List.{append-nil, get_or-take, length-take}
+use Rattle.std.proofs.lemmas.List.{get_or-take, length-take}
 use Rattle.std.specs.Bool.{then_some}
 use Rattle.std.specs.List.{filter_map, cons_option}
 use Rattle.std.specs.FinMap.{get}
-use Rattle.warg_crypto.specs.EmptyTrees.{empty_root}
 use Rattle.warg_crypto.specs.Tree.{leaf_digest}
-use Rattle.warg_map.specs.Bits.{bit_at, bits_from, last_bits, key_bits}
+use Rattle.warg_map.specs.Bits.{bit_at, bits_from}
 use Rattle.warg_map.specs.Last.{last_with}
 use Rattle.warg_map.specs.Sparse.{root_of_levels, map_of}
 use Rattle.warg_pages.specs.Prefixes.{bits_of_bytes, byte_bits, is_below, below, version}
@@ -18,7 +17,7 @@ use Rattle.warg_pages.specs.Private.Descents.{peers_below}
 use Rattle.warg_pages.proofs.PageRoots.{HasByte, digest_of, slot_byte}
 use Rattle.warg_pages.proofs.HeldHalves.{half_peer}
 use Rattle.warg_pages.proofs.ValuesAbove.{PeersAbove}
-use Rattle.warg_pages.proofs.KeyPrefixes.{length-bits_from, bits_from-append, bits_from-same, byte_at_depth}
+use Rattle.warg_pages.proofs.KeyPrefixes.{bits_from-append, bits_from-same, byte_at_depth}
 
 -- the peers of a page are those of the map
 pub own_peers_below : (H : List ℕ → List ℕ) (es : List (List ℕ × List ℕ)) (p before after : List Bool) (depth s : ℕ) → depth < 32 → length p ≡ 8 * depth → s < 256 → byte_bits s ≡ before ++ after

@@ -10,10 +10,10 @@ use Rattle.warg_crypto.specs.Digests.{IsDigest}
 use Rattle.warg_crypto.specs.Collisions.{GivesHashes}
 use Rattle.warg_crypto.specs.EmptyTrees.{empty_root}
 use Rattle.warg_crypto.specs.Tree.{leaf_digest}
-use Rattle.warg_map.specs.Last.{last_with, last_under}
+use Rattle.warg_map.specs.Last.{last_under}
 use Rattle.warg_map.specs.Sparse.{root_of_levels, map_of}
 use Rattle.warg_map.proofs.ForCallers.{last_held}
-use Rattle.warg_pages.specs.Prefixes.{below, is_below, last_place, version}
+use Rattle.warg_pages.specs.Prefixes.{below, is_below, last_place}
 use Rattle.warg_pages.specs.Slots.{SlotAt, IsSlot, IsPage, Ascends, is_lone, slot_over, slot_of, numbers, page_of}
 use Rattle.warg_pages.proofs.PageRoots.{HasByte, slot_byte}
 

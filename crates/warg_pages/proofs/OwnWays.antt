@@ -1,11 +1,10 @@
 -- The way down from a prefix, over any pages and over those of insertions.
-use Rattle.std.proofs.Common.{◌≡◌, ℕ, zero, suc, ◌+◌, ◌-◌, ◌*◌, ◌^◌, ◌<◌, ◌≤◌, Bool, true, false, not, ◌||◌, cond, eqb, List, [], ◌∷◌, ◌++◌, length, take, get_or, Option, Some, None, is_some, refl, sym, ap, subst, ◌∙◌, ◌≢◌, arith, inl, inr, append_assoc, length-append, unwrap_or}
+use Rattle.std.proofs.Common.{◌≡◌, ℕ, zero, suc, ◌+◌, ◌-◌, ◌*◌, ◌<◌, Bool, true, false, not, ◌||◌, cond, eqb, List, [], ◌∷◌, ◌++◌, length, take, get_or, Option, Some, None, refl, sym, ap, subst, ◌∙◌, ◌≢◌, arith, inl, inr, append_assoc, length-append, unwrap_or}
 use Rattle.std.proofs.lemmas.Bool.{cases_Bool, and_parts, false_from_ne_true, eqb-true}
 use Rattle.std.proofs.lemmas.List.{append-nil, append_cancel_left, length-take}
 use Rattle.std.specs.Prelude.{IfSome}
 use Rattle.std.specs.Bool.{then_some}
-use Rattle.std.specs.Option.{option_map, option_or}
-use Rattle.std.specs.List.{list_all}
+use Rattle.std.specs.Option.{option_or}
 use Rattle.std.specs.FinMap.{get}
 use Rattle.warg_crypto.specs.Digests.{IsDigest}
 use Rattle.warg_crypto.specs.Collisions.{GivesHashes}
@@ -20,17 +19,17 @@ use Rattle.warg_pages.specs.Prefixes.{byte_bits, begins, is_below, below, bits_o
 use Rattle.warg_pages.specs.Slots.{SlotAt, IsPage, is_lone, slot_over, slot_of, page_of}
 use Rattle.warg_pages.specs.Pages.{digest_at, slot_height, slot_at}
 use Rattle.warg_pages.specs.PageBytes.{page_bytes}
-use Rattle.warg_pages.specs.OwnPages.{AreOwnPages, stands, stands_over}
-use Rattle.warg_pages.specs.Private.Descents.{value_above, peers_below, page_peers, page_value, HoldsAlone, StandsAlone, EndsAt, IsNoLoneKey, IsOwnAt, IsOwnWay, IsWayDown, held_leaf}
+use Rattle.warg_pages.specs.OwnPages.{stands, stands_over}
+use Rattle.warg_pages.specs.Private.Descents.{value_above, peers_below, page_peers, page_value, StandsAlone, EndsAt, IsNoLoneKey, IsOwnAt, IsOwnWay, IsWayDown, held_leaf}
 use Rattle.warg_pages.proofs.KeyPrefixes.{length-bits_from, bits_from-append, byte_at_depth}
 use Rattle.warg_pages.proofs.BitParts.{key_at}
 use Rattle.warg_pages.proofs.PageFormat.{one_page}
 use Rattle.warg_pages.proofs.OwnPages.{own_slots}
-use Rattle.warg_pages.proofs.PageRoots.{digest_of, slot_digest, root-same, begins-append}
+use Rattle.warg_pages.proofs.PageRoots.{digest_of, slot_digest, begins-append}
 use Rattle.warg_pages.proofs.HeldHalves.{no_slot, begins-rest}
 use Rattle.warg_pages.proofs.LoneSlots.{lone_over, lone_of, last_passes, some_same, agree}
 use Rattle.warg_pages.proofs.OneMore.{begins-same}
-use Rattle.warg_pages.proofs.OwnDescent.{OwnSlot, own_slot_is, own_peers_below, own_slot_at, digest_at-slot, bits_of_taken, prefix_more}
+use Rattle.warg_pages.proofs.OwnDescent.{own_slot_is, own_peers_below, own_slot_at, digest_at-slot, bits_of_taken, prefix_more}
 use Rattle.warg_pages.proofs.ValuesAbove.{PeersAbove, value_above-append, value_above-empty, root_above, IsPeers-append}
 use Rattle.warg_pages.proofs.LoneEnds.{nothing_end}
 
@@ -95,16 +94,16 @@ own_bytes H bytes_at k digest depth number es lt is own =
     ap (bytes_at (take depth k)) (own.is_version ∙ ap (version H es) (sym bits)) ∙ own.pages (take depth k) short (ap (stands H es) bits ∙ own.is_there) ∙ ap (λ p. Some (page_bytes (page_of H es p))) bits
 
 pub own_page_is : (H : List ℕ → List ℕ) → GivesHashes H → (bytes_at : List ℕ → ℕ → Option (List ℕ)) (k digest : List ℕ) (depth number : ℕ) (page : List SlotAt) (es : List (List ℕ × List ℕ)) → depth < 32 → IsDigest k → IsPage page
-    → bytes_at (take depth k) number ≡ Some (page_bytes page) → IsOwnAt H bytes_at k depth digest number es → page ≡ page_of H es (bits_from k 0 (8 * depth))
+    → IfSome (bytes_at (take depth k) number) (λ known. known ≡ page_bytes page) → IsOwnAt H bytes_at k depth digest number es → page ≡ page_of H es (bits_from k 0 (8 * depth))
 own_page_is H gives bytes_at k digest depth number page es lt is page_is at own =
-    one_page page (page_of H es (bits_from k 0 (8 * depth))) page_is (own_slots H es (bits_from k 0 (8 * depth)) gives own.fits) (some_same (sym at ∙ own_bytes H bytes_at k digest depth number es lt is own))
+    one_page page (page_of H es (bits_from k 0 (8 * depth))) page_is (own_slots H es (bits_from k 0 (8 * depth)) gives own.fits) (sym (rw (own_bytes H bytes_at k digest depth number es lt is own) at at))
 
 pub own_page_there : (H : List ℕ → List ℕ) → GivesHashes H → (bytes_at : List ℕ → ℕ → Option (List ℕ)) (k digest : List ℕ) (depth number : ℕ) (es : List (List ℕ × List ℕ)) → depth < 32 → IsDigest k
     → ((slots : List SlotAt) → IsPage slots → bytes_at (take depth k) number ≢ Some (page_bytes slots)) → IsOwnAt H bytes_at k depth digest number es → ⊥
 own_page_there H gives bytes_at k digest depth number es lt is none own = none (page_of H es (bits_from k 0 (8 * depth))) (own_slots H es (bits_from k 0 (8 * depth)) gives own.fits) (own_bytes H bytes_at k digest depth number es lt is own)
 
 pub own_page_value : (H : List ℕ → List ℕ) → GivesHashes H → (bytes_at : List ℕ → ℕ → Option (List ℕ)) (k digest : List ℕ) (depth number : ℕ) (page : List SlotAt) (es : List (List ℕ × List ℕ)) → depth < 32 → IsDigest k → IsPage page
-    → bytes_at (take depth k) number ≡ Some (page_bytes page) → page_value H depth page k ≢ digest → IsOwnAt H bytes_at k depth digest number es → ⊥
+    → IfSome (bytes_at (take depth k) number) (λ known. known ≡ page_bytes page) → page_value H depth page k ≢ digest → IsOwnAt H bytes_at k depth digest number es → ⊥
 own_page_value H gives bytes_at k digest depth number page es lt is page_is at other own =
     other (ap (λ xs. page_value H depth xs k) (own_page_is H gives bytes_at k digest depth number page es lt is page_is at own) ∙ own_value H es k depth lt is ∙ sym own.is_digest)
 
@@ -141,7 +140,7 @@ own_whole H es k depth lt =
 
 -- a slot that isn't there
 pub missing_way : (H : List ℕ → List ℕ) → GivesHashes H → (bytes_at : List ℕ → ℕ → Option (List ℕ)) (k digest : List ℕ) (depth number : ℕ) (page : List SlotAt) → depth < 32 → IsDigest k → IsPage page
-    → bytes_at (take depth k) number ≡ Some (page_bytes page) → page_value H depth page k ≡ digest → slot_at page (get_or k depth 0) ≡ None → IsWayDown H bytes_at k depth digest number (page_peers H depth page k) None
+    → IfSome (bytes_at (take depth k) number) (λ known. known ≡ page_bytes page) → page_value H depth page k ≡ digest → slot_at page (get_or k depth 0) ≡ None → IsWayDown H bytes_at k depth digest number (page_peers H depth page k) None
 missing_way H gives bytes_at k digest depth number page lt is page_is at leads none = record {
   few = (let size = eight_peers H depth page (get_or k depth 0) 8 in omega arith);
   leads = ap (λ os. value_above H 0 os (empty_root H 0) (last_bits k (256 - 8 * depth))) (sym (append-nil (page_peers H depth page k))) ∙ below_page H k digest (empty_root H 0) depth page [] lt leads foot;
@@ -258,7 +257,7 @@ own_stands H es k depth slot lone lt own =
 
 -- the way ends at a lone key
 pub lone_way : (H : List ℕ → List ℕ) → GivesHashes H → (bytes_at : List ℕ → ℕ → Option (List ℕ)) (k digest : List ℕ) (depth number : ℕ) (page : List SlotAt) (slot : SlotAt) (lone : List ℕ × List ℕ) (more : List (Option (List ℕ))) (held : Option (ℕ × List ℕ)) → depth < 32 → IsDigest k → IsPage page
-    → bytes_at (take depth k) number ≡ Some (page_bytes page) → page_value H depth page k ≡ digest → slot_at page (get_or k depth 0) ≡ Some slot → slot.lone ≡ Some lone → EndsAt H k depth slot lone more held
+    → IfSome (bytes_at (take depth k) number) (λ known. known ≡ page_bytes page) → page_value H depth page k ≡ digest → slot_at page (get_or k depth 0) ≡ Some slot → slot.lone ≡ Some lone → EndsAt H k depth slot lone more held
     → IsWayDown H bytes_at k depth digest number (page_peers H depth page k ++ more) held
 lone_way H gives bytes_at k digest depth number page slot lone more held lt is page_is at leads there is_lone_key ends = record {
   few = (let size = eight_peers H depth page (get_or k depth 0) 8 in let few = ends.few in let all = length-append (page_peers H depth page k) more in omega arith);
@@ -287,7 +286,7 @@ lone_way H gives bytes_at k digest depth number page slot lone more held lt is p
 
 -- an own page's lone key has an end
 pub own_lone_end : (H : List ℕ → List ℕ) → GivesHashes H → (bytes_at : List ℕ → ℕ → Option (List ℕ)) (k digest : List ℕ) (depth number : ℕ) (page : List SlotAt) (slot : SlotAt) (lone : List ℕ × List ℕ) (es : List (List ℕ × List ℕ)) → depth < 32 → IsDigest k → IsPage page
-    → bytes_at (take depth k) number ≡ Some (page_bytes page) → slot_at page (get_or k depth 0) ≡ Some slot → slot.lone ≡ Some lone → IsNoLoneKey H k depth slot lone → IsOwnAt H bytes_at k depth digest number es → ⊥
+    → IfSome (bytes_at (take depth k) number) (λ known. known ≡ page_bytes page) → slot_at page (get_or k depth 0) ≡ Some slot → slot.lone ≡ Some lone → IsNoLoneKey H k depth slot lone → IsOwnAt H bytes_at k depth digest number es → ⊥
 own_lone_end H gives bytes_at k digest depth number page slot lone es lt is page_is at there is_lone_key fault at_own =
     let size = is.has_32 in
     let same = own_page_is H gives bytes_at k digest depth number page es lt is page_is at at_own in
@@ -299,7 +298,7 @@ own_lone_end H gives bytes_at k digest depth number page slot lone es lt is page
 
 -- the way goes on below a slot
 own_next : (H : List ℕ → List ℕ) → GivesHashes H → (bytes_at : List ℕ → ℕ → Option (List ℕ)) (k digest : List ℕ) (depth number : ℕ) (page : List SlotAt) (slot : SlotAt) (es : List (List ℕ × List ℕ)) → depth < 32 → IsDigest k → IsPage page
-    → bytes_at (take depth k) number ≡ Some (page_bytes page) → slot_at page (get_or k depth 0) ≡ Some slot → slot.lone ≡ None → IsOwnAt H bytes_at k depth digest number es → IsOwnAt H bytes_at k (depth + 1) slot.digest slot.version es
+    → IfSome (bytes_at (take depth k) number) (λ known. known ≡ page_bytes page) → slot_at page (get_or k depth 0) ≡ Some slot → slot.lone ≡ None → IsOwnAt H bytes_at k depth digest number es → IsOwnAt H bytes_at k (depth + 1) slot.digest slot.version es
 own_next H gives bytes_at k digest depth number page slot es lt is page_is at there no_lone at_own =
     let size = is.has_32 in
     let same = own_page_is H gives bytes_at k digest depth number page es lt is page_is at at_own in
@@ -318,7 +317,7 @@ own_next H gives bytes_at k digest depth number page slot es lt is page_is at th
     }
 
 pub next_way : (H : List ℕ → List ℕ) → GivesHashes H → (bytes_at : List ℕ → ℕ → Option (List ℕ)) (k digest : List ℕ) (depth number : ℕ) (page : List SlotAt) (slot : SlotAt) (more : List (Option (List ℕ))) (held : Option (ℕ × List ℕ)) → depth < 32 → IsDigest k → IsPage page
-    → bytes_at (take depth k) number ≡ Some (page_bytes page) → page_value H depth page k ≡ digest → slot_at page (get_or k depth 0) ≡ Some slot → slot.lone ≡ None → IsWayDown H bytes_at k (depth + 1) slot.digest slot.version more held
+    → IfSome (bytes_at (take depth k) number) (λ known. known ≡ page_bytes page) → page_value H depth page k ≡ digest → slot_at page (get_or k depth 0) ≡ Some slot → slot.lone ≡ None → IsWayDown H bytes_at k (depth + 1) slot.digest slot.version more held
     → IsWayDown H bytes_at k depth digest number (page_peers H depth page k ++ more) held
 next_way H gives bytes_at k digest depth number page slot more held lt is page_is at leads there no_lone way = record {
   few = (let size = eight_peers H depth page (get_or k depth 0) 8 in let few = way.few in let all = length-append (page_peers H depth page k) more in omega arith);
@@ -347,7 +346,7 @@ next_way H gives bytes_at k digest depth number page slot more held lt is page_i
             subst P (prefix_more k depth) (subst Q height h)
 
 pub own_next_end : (H : List ℕ → List ℕ) → GivesHashes H → (bytes_at : List ℕ → ℕ → Option (List ℕ)) (k digest : List ℕ) (depth number : ℕ) (page : List SlotAt) (slot : SlotAt) (es : List (List ℕ × List ℕ)) → depth < 32 → IsDigest k → IsPage page
-    → bytes_at (take depth k) number ≡ Some (page_bytes page) → slot_at page (get_or k depth 0) ≡ Some slot → slot.lone ≡ None → ((more : List (List ℕ × List ℕ)) → IsOwnAt H bytes_at k (depth + 1) slot.digest slot.version more → ⊥) → IsOwnAt H bytes_at k depth digest number es → ⊥
+    → IfSome (bytes_at (take depth k) number) (λ known. known ≡ page_bytes page) → slot_at page (get_or k depth 0) ≡ Some slot → slot.lone ≡ None → ((more : List (List ℕ × List ℕ)) → IsOwnAt H bytes_at k (depth + 1) slot.digest slot.version more → ⊥) → IsOwnAt H bytes_at k depth digest number es → ⊥
 own_next_end H gives bytes_at k digest depth number page slot es lt is page_is at there no_lone fault at_own = fault es (own_next H gives bytes_at k digest depth number page slot es lt is page_is at there no_lone at_own)
 
 -- no page stands at a whole digest

@@ -1,8 +1,8 @@
 -- How many peers a proof has.
-use Rattle.std.proofs.Common.{◌≡◌, ℕ, zero, suc, ◌+◌, ◌<◌, ◌≤◌, Bool, true, false, not, List, [], ◌∷◌, ◌++◌, length, Option, Some, None, is_some, refl, sym, ap, ◌∙◌, arith, inl, inr, ◌⊎◌, append_assoc, length-append}
+use Rattle.std.proofs.Common.{◌≡◌, ℕ, zero, suc, ◌+◌, ◌<◌, Bool, true, false, not, List, [], ◌∷◌, ◌++◌, length, Option, Some, None, is_some, refl, sym, ap, ◌∙◌, arith, inl, inr, ◌⊎◌, append_assoc, length-append}
 use Rattle.std.proofs.lemmas.List.{append-nil}
 use Rattle.std.specs.Prelude.{replicate}
-use Rattle.std.specs.FinMap.{get, contains_key}
+use Rattle.std.specs.FinMap.{get}
 use Rattle.warg_map.specs.Sparse.{SparseMap}
 use Rattle.warg_map.specs.Peers.{shared, IsPeer, IsPeers, IsPeerCount}
 use Rattle.std.proofs.lemmas.Bool.{cases_Bool}
@@ -84,10 +84,6 @@ trimmed_peers H held bits os (suc n) short h = without_last H held bits os short
 pub trimmed_value : (H : List ℕ → List ℕ) (x : List ℕ) (bits : List Bool) (os : List (Option (List ℕ))) (n : ℕ) → value_above H 0 (os ++ replicate n None) x bits ≡ value_above H 0 os x bits
 trimmed_value H x bits os zero = ap (λ t. value_above H 0 t x bits) (append-nil os)
 trimmed_value H x bits os (suc n) = ap (λ t. value_above H 0 t x bits) (replicate-last os n) ∙ trimmed_value H x bits (os ++ None ∷ []) n ∙ value_above-None H 0 os x bits
-
-
-
-
 
 pub some_count : (H : List ℕ → List ℕ) (m : SparseMap) (bits : List Bool) (os : List (Option (List ℕ))) (lone : ℕ) → IsPeers H (λ k. None) (get m) bits os → EndsInSome os → IsPeerCount lone m bits (length os)
 some_count H m bits os lone h ends =

@@ -1,12 +1,10 @@
 -- The value of a proof, from the top.
-use Rattle.std.proofs.Common.{◌≡◌, ℕ, zero, suc, ◌+◌, ◌-◌, ◌<◌, ◌≤◌, Bool, true, false, not, cond, ltb, List, [], ◌∷◌, ◌++◌, length, get_or, drop, Option, Some, None, refl, sym, ap, ◌∙◌, arith, inl, inr, unwrap_or}
+use Rattle.std.proofs.Common.{◌≡◌, ℕ, suc, ◌+◌, ◌-◌, ◌<◌, ◌≤◌, Bool, List, [], ◌∷◌, length, get_or, Option, None, refl, sym, ap, ◌∙◌, arith, inl, inr, unwrap_or}
 use Rattle.std.proofs.lemmas.Bool.{cond-true, cond-false, cases_lt, lt-ltb, le-ltb}
 use Rattle.std.specs.Prelude.{reverse}
 use Rattle.std.proofs.lemmas.List.{get_or_past, length-reverse, get_or-reverse}
 use Rattle.warg_crypto.specs.EmptyTrees.{empty_root}
-use Rattle.warg_crypto.specs.Tree.{input_beside}
 use Rattle.warg_map.specs.ProofValue.{peer_of, proof_value}
-use Rattle.warg_map.specs.Peers.{IsPeer, IsPeers}
 use Rattle.warg_pages.specs.Private.Descents.{value_above}
 
 -- peers that are missing

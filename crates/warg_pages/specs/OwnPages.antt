@@ -1,5 +1,5 @@
 -- The pages of a list of insertions.
-use Rattle.std.specs.Prelude.{◌≡◌, ℕ, ◌<◌, Bool, true, false, not, ◌||◌, nat_eq, List, [], ◌∷◌, length, Option, Some, None}
+use Rattle.std.specs.Prelude.{◌≡◌, ℕ, ◌<◌, Bool, true, false, not, ◌||◌, nat_eq, List, length, Option, Some, None}
 use Rattle.warg_map.specs.Last.{last_with}
 use Rattle.warg_pages.specs.Prefixes.{bits_of_bytes, is_below, version}
 use Rattle.warg_pages.specs.Slots.{is_lone, page_of}

@@ -1,5 +1,4 @@
 -- Why a way through pages is refused.
-use Rattle.std.specs.Prelude.{ℕ}
 use Rattle.warg_pages.specs.declared.error.WayError.{WayError}
 use Rattle.warg_pages.specs.declared.error.WayError.TheVariants as way
 use Rattle.warg_pages.specs.declared.error.ProveError.{ProveError}

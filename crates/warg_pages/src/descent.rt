@@ -44,7 +44,15 @@ pub(crate) fn descend<D: SupportedDigest, P: Pages<A>, A: Allocator + Copy>(
     };
     match &slot.lone {
         Some(lone) => Ok(end_at(peers, key, depth, slot, lone)?),
-        None => descend(alloc, pages, key, depth + 1, &slot.digest, slot.version, peers),
+        None => descend(
+            alloc,
+            pages,
+            key,
+            depth + 1,
+            &slot.digest,
+            slot.version,
+            peers,
+        ),
     }
 }
 

@@ -14,6 +14,7 @@ use std::alloc::{Allocator, Global};
 use warg_crypto::{Hash, SupportedDigest, VisitBytes};
 
 /// What pages prove of a key, with the peers of a map's proof, from the bottom of the tree to the top.
+#[derive(Drop)]
 pub enum KeyInPages<D, A: Allocator = Global> {
     /// It is held: the index of an insertion, the last one under the key's digest where the pages are their own, the
     /// leaf digest, and the peers of `Map::prove`.

@@ -1,6 +1,6 @@
 //! Where pages come from.
 
-ghost use Rattle.std.specs.Prelude.{◌≡◌, ◌≢◌, ℕ, List, Option, IfOk, IfErr};
+ghost use Rattle.std.specs.Prelude.{◌≡◌, ◌≢◌, ℕ, List, Option, IfOk, IfErr, IfSome};
 ghost use Rattle.warg_pages.specs.Slots.{SlotAt, IsPage};
 ghost use Rattle.warg_pages.specs.PageBytes.{page_bytes};
 ghost use Rattle.warg_pages.specs.Refusals.{IsOfSourceUnless};
@@ -9,17 +9,18 @@ use crate::error::{PageError, ProveError, WayError};
 use crate::page::MapPage;
 use std::alloc::Allocator;
 
-/// A source of pages, as a folder or a web server: of each prefix and version it has the bytes of one page, or none.
+/// A source of pages, as a folder or a web server.
 pub trait Pages<A: Allocator> {
     /// Why it gives no page.
     type Error: Drop;
 
-    // Which bytes stand at the name of a prefix and a version.
+    // Which bytes stand at the name of a prefix and a version; none where nothing is said of it.
     ghost bytes_at: { Self → List ℕ → ℕ → Option (List ℕ) };
 
     /// The bytes of the page at a prefix, of a version.
     fn page(&self, prefix: &[u8], version: u64) -> Result<Vec<u8, A>, Self::Error>
-        ensures { IfOk result (λ bytes. bytes_at self.now prefix.now version ≡ Some bytes.items) };
+        ensures { IfOk result (λ bytes. IfSome (bytes_at self.now prefix.now version)
+            (λ known. known ≡ bytes.items)) };
 }
 
 /// The page that a source has at a prefix, of a version.
@@ -29,8 +30,8 @@ pub(crate) fn read_page<D, P: Pages<A>, A: Allocator>(
     prefix: &[u8],
     version: u64,
 ) -> Result<MapPage<D, A>, ProveError<P::Error>>
-    ensures ok { IfOk result (λ page. P.bytes_at pages.now prefix.now version
-        ≡ Some (page_bytes page)) }
+    ensures ok { IfOk result (λ page. IfSome (P.bytes_at pages.now prefix.now version)
+        (λ known. known ≡ page_bytes page)) }
     ensures err { IfErr result (IsOfSourceUnless ((slots : List SlotAt) → IsPage slots
         → P.bytes_at pages.now prefix.now version ≢ Some (page_bytes slots))) }
 {

@@ -1,4 +1,4 @@
-use Rattle.std.proofs.Common.{◌≡◌, ◌+◌, refl, sym, ◌∙◌, arith}
+use Rattle.std.proofs.Common.{refl, sym, ◌∙◌}
 use Rattle.warg_map.specs.Bits.{bits_from}
 use Rattle.warg_pages.proofs.SideBits.{same_bit}
 use Rattle.warg_pages.proofs.BitParts.{one_bit_more}

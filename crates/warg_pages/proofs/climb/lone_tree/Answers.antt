@@ -1,4 +1,4 @@
-use Rattle.std.proofs.Common.{◌+◌, arith}
+use Rattle.std.proofs.Common.{arith}
 use Rattle.warg_pages.proofs.BitParts.{lone_root-more}
 use Rattle.warg_pages.proofs.climb.lone_tree.Goals as goal
 

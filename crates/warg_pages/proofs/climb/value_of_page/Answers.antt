@@ -1,4 +1,4 @@
-use Rattle.std.proofs.Common.{◌≡◌, ◌+◌, ◌-◌, ◌*◌, refl, sym, ap, ◌∙◌, Some, None, arith, unwrap_or}
+use Rattle.std.proofs.Common.{refl, ◌∙◌, arith}
 use Rattle.warg_map.specs.Bits.{bits_from}
 use Rattle.warg_pages.specs.Pages.{slot_height}
 use Rattle.warg_pages.specs.Private.Descents.{value_above}

@@ -1,10 +1,9 @@
-use Rattle.std.proofs.Common.{◌≡◌, ◌<◌, ◌++◌, List, ℕ, Option, Some, None, take, get_or, sym, ap, ◌∙◌, arith}
+use Rattle.std.proofs.Common.{◌≡◌, ◌<◌, ◌++◌, Some, None, get_or, sym, ap, ◌∙◌, arith}
 use Rattle.std.proofs.lemmas.List.{append_assoc}
 use Rattle.std.specs.Option.{option_copied}
 use Rattle.warg_crypto.specs.Digests.{IsDigest}
 use Rattle.warg_pages.specs.Slots.{SlotAt}
 use Rattle.warg_pages.specs.Pages.{slot_at}
-use Rattle.warg_pages.specs.PageBytes.{page_bytes}
 use Rattle.warg_pages.specs.Private.Descents.{page_peers}
 use Rattle.warg_pages.proofs.Refused.{source_refused, way_refused, of_source, if_ok, if_err}
 use Rattle.warg_pages.proofs.OwnWays.{own_page_there, own_page_value, own_lone_end, own_next_end, missing_way, lone_way, next_way, no_way}
@@ -35,8 +34,7 @@ returns-in_default-clause-ok g t c =
     let lt : c.args.depth < 32 = let le = c.requires in let ne = c.if-depth-eq32.false in omega arith in
     let is : IsDigest c.args.key.now = rw c.bytes.ensures.value at c.bytes.ensures.digest in
     let at = rw c.bytes.ensures.value at c.in_ok-page.ensures.ok in
-    let none : slot_at c.in_ok-page.page (get_or c.args.key.now c.args.depth 0) ≡ None = sym c.in_ok-slot.ensures.slot ∙ ap option_copied c.in_default.is in
-    (
+    let none : slot_at c.in_ok-page.page (get_or c.args.key.now c.args.depth 0) ≡ None = sym c.in_ok-slot.ensures.slot ∙ ap option_copied c.in_default.is in (
       page_peers H c.args.depth c.in_ok-page.page c.args.key.now,
       c.in_ok-slot.ensures.peers,
       missing_way H g.met.D.SupportedDigest.is_digest _ c.args.key.now c.args.digest.now c.args.depth c.args.version c.in_ok-page.page lt is c.pass_page.ensures.page at c.in_ok-slot.ensures.value none,
@@ -62,8 +60,7 @@ returns-in-Some-lone-clause-ok g t c =
     let there : slot_at c.in_ok-page.page (get_or c.args.key.now c.args.depth 0) ≡ Some c.in-Some.slot.now = sym c.in_ok-slot.ensures.slot ∙ ap option_copied c.in-Some.is in
     let lone : c.in-Some.slot.now.lone ≡ Some c.in-Some-lone.lone = sym (ap (λ (x : SlotAt). x.lone) c.slot.view_is) ∙ c.in-Some-lone.is in
     let end = c.in_ok-end_at-in-Some-lone.ensures.ok in
-    let peers = page_peers H c.args.depth c.in_ok-page.page c.args.key.now in
-    (
+    let peers = page_peers H c.args.depth c.in_ok-page.page c.args.key.now in (
       peers ++ end.0,
       end.1 ∙ ap (λ os. os ++ end.0) c.in_ok-slot.ensures.peers ∙ append_assoc c.args.peers.now.items peers end.0,
       lone_way H g.met.D.SupportedDigest.is_digest _ c.args.key.now c.args.digest.now c.args.depth c.args.version c.in_ok-page.page c.in-Some.slot.now c.in-Some-lone.lone end.0 c.in_ok-end_at-in-Some-lone.field-0 lt is c.pass_page.ensures.page at c.in_ok-slot.ensures.value there lone end.2,

@@ -1,5 +1,4 @@
-use Rattle.std.proofs.Common.{◌≡◌, List, ℕ, sym, ap, ◌∙◌, arith}
-use Rattle.warg_map.specs.Bits.{bit_at}
+use Rattle.std.proofs.Common.{◌≡◌, List, ℕ, ap, arith}
 use Rattle.warg_pages.proofs.LoneEnds.{other_prefix}
 use Rattle.warg_pages.proofs.lone.end_at.Goals as goal
 

@@ -1,5 +1,5 @@
-use Rattle.std.proofs.Common.{◌≡◌, ◌+◌, ◌-◌, ◌*◌, ◌++◌, [], ◌∷◌, List, ℕ, Option, Some, None, suc, refl, sym, ap, ◌∙◌, arith}
-use Rattle.std.proofs.lemmas.List.{append_assoc, append-nil}
+use Rattle.std.proofs.Common.{◌≡◌, ◌+◌, ◌-◌, ◌*◌, ◌++◌, [], ◌∷◌, List, ℕ, Some, None, sym, ap, ◌∙◌, arith}
+use Rattle.std.proofs.lemmas.List.{append_assoc}
 use Rattle.std.specs.Prelude.{replicate}
 use Rattle.warg_pages.specs.Slots.{SlotAt}
 use Rattle.warg_pages.specs.Pages.{slot_height}
@@ -37,8 +37,7 @@ returns-clause-ok g c =
     let root : c.lone_tree.result ≡ lone_root H lone.0 lone.1 (slot_height c.args.depth) = rw key at (c.lone_tree.ensures lone.1 tree) in
     let parting : Parting c.args.key.now lone.0 c.args.depth c.args.shared = record { below = c.requires.below; parts = c.requires.parts; same = c.requires.same; apart = c.requires.apart } in
     let same = same_hashes _ _ _ c.ne.ensures c.if-ne.false in
-    let end : c.loop-bit._bit ≡ c.args.shared = let below = c.requires.below in omega arith in
-    (
+    let end : c.loop-bit._bit ≡ c.args.shared = let below = c.requires.below in omega arith in (
       parting_peers (c.args.shared - (8 * c.args.depth + 8)) c.lone_tree-other.result,
       rw (c.in_ok-push-2.ensures.items, c.loop-bit.invariant, end) (append_assoc c.args.peers.now.items (replicate (c.args.shared - (8 * c.args.depth + 8)) None) (Some c.lone_tree-other.result ∷ [])),
       parted_end H c.args.key.now c.args.depth c.args.shared c.args.slot.now lone c.lone_tree-other.result parting (rw key at tree) (sym root ∙ same ∙ digest),

@@ -2,7 +2,7 @@ use Rattle.std.proofs.Common.{◌≡◌, ◌+◌, ◌*◌, ◌%◌, ◌^◌, len
 use Rattle.std.proofs.lemmas.Bool.{eqb-true}
 use Rattle.std.specs.Bool.{then_some}
 use Rattle.warg_pages.specs.Pages.{digest_at, root_over, slot_height}
-use Rattle.warg_pages.specs.PagePeers.{first_beside, page_peer, stands_among}
+use Rattle.warg_pages.specs.PagePeers.{page_peer, stands_among}
 use Rattle.warg_pages.proofs.ByteNumbers.{beside_bytes}
 use Rattle.warg_pages.proofs.SlotRanges.{root_over-part, shifted, some_slots, Ascends-take, Ascends-drop}
 use Rattle.warg_pages.proofs.SlotsAmong.{none_among, some_among}

@@ -1,4 +1,4 @@
-use Rattle.std.proofs.Common.{◌≡◌, ◌-◌, Some, sym, ap, ◌∙◌, unwrap_or}
+use Rattle.std.proofs.Common.{◌≡◌, ◌-◌, sym, ap, ◌∙◌, unwrap_or}
 use Rattle.warg_crypto.specs.EmptyTrees.{empty_root}
 use Rattle.warg_pages.proofs.FinalPeers.{presence_more}
 use Rattle.warg_pages.proofs.prove.presence.Goals as goal

@@ -1,5 +1,4 @@
-use Rattle.std.proofs.Common.{◌≡◌, [], ◌++◌, take}
-use Rattle.warg_crypto.specs.EmptyTrees.{empty_root}
+use Rattle.std.proofs.Common.{◌≡◌, ◌++◌, take}
 use Rattle.warg_pages.specs.Private.Finals.{filled_from}
 use Rattle.warg_pages.proofs.FinalPeers.{lone_peer}
 use Rattle.warg_pages.proofs.prove.presence.Given as goal

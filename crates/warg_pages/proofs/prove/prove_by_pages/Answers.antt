@@ -1,7 +1,6 @@
-use Rattle.std.proofs.Common.{◌≡◌, List, ℕ, take, sym, ap, ◌∙◌}
-use Rattle.std.specs.Prelude.{reverse}
+use Rattle.std.proofs.Common.{◌≡◌, List, ℕ, ap}
 use Rattle.warg_crypto.specs.EmptyTrees.{empty_root}
-use Rattle.warg_pages.specs.Private.Finals.{AreLeft, presence_peers}
+use Rattle.warg_pages.specs.Private.Finals.{AreLeft}
 use Rattle.warg_pages.proofs.FinalPeers.{held_proof, held_leads, absent_proof, absent_leads}
 use Rattle.warg_pages.proofs.prove.prove_by_pages.Goals as goal
 
@@ -43,8 +42,7 @@ returns-clause-own g c = λ es own.
     let left : AreLeft os c.count_left.result = rw c.as_slice.ensures.value at c.count_left.ensures in
     let leaf : c.held.inside.leaf ≡ c.in-Some.held.1 = ap (λ (h : ℕ × List ℕ). h.1) c.held.view_is in
     let index : c.held.inside.index ≡ c.in-Some.held.0 = ap (λ (h : ℕ × List ℕ). h.0) c.held.view_is in
-    let found = way.own es own in
-    (
+    let found = way.own es own in (
       rw index found.2,
       rw (c.copied.ensures, leaf) found.1,
       rw (c.reverse-2.ensures.items, c.in_ok-filled.ensures.ok, c.as_slice-2.ensures.value, c.truncate.ensures.items) (held_proof H es digest c.in-Some.held.1 os c.count_left.result left found.0 found.1),

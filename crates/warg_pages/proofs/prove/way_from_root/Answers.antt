@@ -1,5 +1,4 @@
 use Rattle.std.proofs.Common.{◌≡◌, ◌++◌, ap, ◌∙◌, arith, sym}
-use Rattle.warg_crypto.specs.EmptyTrees.{empty_root}
 use Rattle.warg_pages.proofs.HashEquality.{same_hashes, other_hashes}
 use Rattle.warg_pages.proofs.Refused.{if_ok, if_err, of_source}
 use Rattle.warg_pages.proofs.FinalPeers.{own_at_root, whole_way, empty_way, no_empty_way}

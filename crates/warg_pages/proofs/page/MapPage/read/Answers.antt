@@ -1,5 +1,4 @@
-use Rattle.std.proofs.Common.{◌≡◌, ◌<◌, true, sym, ap, ◌∙◌, not}
-use Rattle.std.specs.List.{All}
+use Rattle.std.proofs.Common.{◌≡◌, true, sym, ap, ◌∙◌}
 use Rattle.warg_pages.specs.Slots.{SlotAt}
 use Rattle.warg_pages.proofs.PageFormat.{none_left, falls_back, some_left, read_more, IsPage-push}
 use Rattle.warg_pages.proofs.page.MapPage.read.Goals as goal
