@@ -1,0 +1,12 @@
+pub mod Prefixes
+pub mod Slots
+pub mod Pages
+pub mod PageBytes
+pub mod PagePaths
+pub mod PagePeers
+pub mod PageInsertions
+pub mod GivenPages
+pub mod Private
+pub mod OwnPages
+pub mod Refusals
+pub mod ProvedKeys

@@ -1,0 +1,3 @@
+-- What only clauses of private functions name; no public clause or law rests on it.
+pub mod Descents
+pub mod Finals

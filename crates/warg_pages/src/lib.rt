@@ -1,0 +1,31 @@
+//! The pages of a sparse map: the fixed files in which a map's tree is stored and served, one for each eight levels
+//! that have more than one key below them.
+//!
+//! The state is a list of insertions, each a key and a value, and the map is that of these insertions. A page stands at
+//! the empty prefix, where there is an insertion, and at each other prefix of whole bytes that two held key digests
+//! share. Its version is 1 and the index of the last insertion below its prefix, so prefix and version name its bytes.
+//!
+//! The definitions that the contracts cite stand in `specs/`: read Prefixes, Slots and Pages first.
+#![tactic(auto)]
+
+mod bits;
+mod bytes;
+mod climb;
+mod descent;
+mod error;
+pub mod laws;
+mod lone;
+mod page;
+mod path;
+mod peers;
+mod prove;
+mod root;
+mod slot;
+mod source;
+
+pub use error::{PageError, ProveError, WayError};
+pub use page::MapPage;
+pub use path::page_path;
+pub use prove::{KeyInPages, prove_by_pages};
+pub use slot::{LoneKey, Slot};
+pub use source::Pages;
