@@ -21,6 +21,7 @@ TITLES = {
     "warg_tiles": "Tiles",
     "warg_store": "A log in a folder",
     "warg_map": "The map",
+    "warg_pages": "Pages of the map",
     "warg_bundle": "Bundles",
     "warg_witness": "Witnesses",
     "warg_check": "Verdicts",
