@@ -1,5 +1,5 @@
 -- Lemmas for the proofs of the crates above, over public definitions alone.
-use Rattle.std.proofs.Common.{◌≡◌, ℕ, ◌+◌, ◌-◌, ◌<◌, ◌≤◌, Bool, true, false, List, [], ◌∷◌, ◌++◌, ◌∙◌, length, length-append, Option, Some, unwrap_or, refl, ap}
+use Rattle.std.proofs.Common.{◌≡◌, ℕ, ◌+◌, ◌-◌, ◌<◌, ◌≤◌, Bool, true, false, List, [], ◌∷◌, ◌++◌, ◌∙◌, length, length-append, Option, Some, unwrap_or, refl, sym, ap}
 use Rattle.std.specs.Option.{option_map}
 use Rattle.std.specs.Bool.{Decides}
 use Rattle.std.specs.FinMap.{get, insert}
@@ -94,3 +94,7 @@ beside_input H m prefix below b peers p = honest.honest_input H m prefix below b
 -- and from any leaf digest to the root of the map that holds it
 pub beside_replaced : (H : List ℕ → List ℕ) (m : SparseMap) (bits : List Bool) (peers : Peers) (x : List ℕ) → length bits ≡ 256 → IsBeside H peers (get m) bits → proof_value H peers x bits ≡ sparse_root H 256 (insert m bits x)
 beside_replaced = honest.honest_replaced
+
+-- they stand beside the bits in the map that holds another leaf digest there
+pub beside_kept : (H : List ℕ → List ℕ) (m : SparseMap) (bits : List Bool) (peers : Peers) (x : List ℕ) → IsBeside H peers (get m) bits → IsBeside H peers (get (insert m bits x)) bits
+beside_kept H m bits peers x beside = honest.beside_alike H peers (get m) (get (insert m bits x)) bits (λ q other. sym (tree.get-insert_other m bits q x other)) beside

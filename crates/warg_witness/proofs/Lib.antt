@@ -14,4 +14,5 @@ pub mod TreeLawLemmas
 pub mod MapLawLemmas
 pub mod ForCallers
 pub mod PremiseLemmas
+pub mod KeyPremiseLemmas
 pub mod MapPremiseLemmas

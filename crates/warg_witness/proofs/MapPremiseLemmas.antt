@@ -1,10 +1,9 @@
 -- Claims about maps that are untrue, and of which no placed byte strings collide.
-use Rattle.std.proofs.Common.{◌≡◌, ℕ, zero, suc, ◌-◌, ◌⊎◌, inl, inr, Bool, true, false, List, [], ◌∷◌, ◌++◌, length, Option, Some, None, if◌then◌else◌, unwrap_or, slice_index_or, refl, sym, ap, ◌∙◌, subst, arith, length-append}
+use Rattle.std.proofs.Common.{◌≡◌, ℕ, suc, ◌-◌, ◌⊎◌, inl, inr, Bool, true, false, List, [], ◌∷◌, length, Option, Some, None, if◌then◌else◌, refl, sym, ap, ◌∙◌, arith, length-append}
 use Rattle.std.specs.Prelude.{replicate}
 use Rattle.warg_crypto.specs.Bytes.{same_bytes}
 use Rattle.warg_crypto.specs.Collisions.{Collides, SomeCollision}
-use Rattle.warg_crypto.specs.EmptyTrees.{empty_root}
-use Rattle.warg_crypto.specs.Tree.{leaf_digest, leaf_input, input_beside}
+use Rattle.warg_crypto.specs.Tree.{leaf_digest, input_beside}
 use Rattle.warg_map.specs.Bits.{key_bits}
 use Rattle.warg_map.specs.ProofValue.{peer_of, proof_value}
 use Rattle.warg_map.specs.Sparse.{sparse_root, map_of}
@@ -20,7 +19,7 @@ abbrev odd : List ℕ → List ℕ
 odd m = if same_bytes m (0 ∷ 0 ∷ []) then 7 ∷ [] else []
 
 -- Peers with a digest at the bottom, and nothing above.
-abbrev with_bottom : List ℕ → List (Option (List ℕ))
+abbrev pub with_bottom : List ℕ → List (Option (List ℕ))
 with_bottom digest = Some digest ∷ replicate 255 None
 
 -- Above the bottom they are the same.

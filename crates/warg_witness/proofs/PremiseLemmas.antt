@@ -5,7 +5,7 @@ use Rattle.warg_crypto.specs.Collisions.{GivesHashes, AreHashes, SomeCollision}
 use Rattle.warg_crypto.specs.Tree.{leaf_digest, leaf_input}
 use Rattle.warg_log.specs.Claims.{InclusionClaim, leaf_claim}
 use Rattle.warg_log.specs.Cut.{way_within, top_of}
-use Rattle.warg_log.specs.Nodes.{height_of, height_within, place_of, start_of, balanced_within, balanced_roots}
+use Rattle.warg_log.specs.Nodes.{height_of, height_within, place_of, balanced_within, balanced_roots}
 use Rattle.warg_log.specs.Tree.{root_within, front_of, front_within, root_over, leaves_of}
 use Rattle.warg_paths.specs.Paths.{root_down, roots_down}
 use Rattle.warg_paths.specs.Ways.{IsOnWay, IsOnGrowth}

@@ -1,8 +1,8 @@
 //! What the premises of the laws that end in a collision are for: the contract of each function is the law, and it has no
-//! effect. Without any one premise the law is false. That a consistency proof's digests have 32 bytes is the one premise of
-//! which that isn't shown.
+//! effect. Without any one premise the law is false. That isn't shown of three premises: of consistency that the proof's
+//! digests have 32 bytes, and of two maps that the function's have and that the roots are equal.
 
-ghost use Rattle.std.specs.Prelude.{◌≡◌, ◌≢◌, ◌⊎◌, ℕ, List, length, Option};
+ghost use Rattle.std.specs.Prelude.{◌≡◌, ◌≢◌, ◌⊎◌, ℕ, List, [], length, Option};
 ghost use Rattle.warg_crypto.specs.Collisions.{GivesHashes, AreHashes, SomeCollision};
 ghost use Rattle.warg_crypto.specs.Tree.{leaf_digest};
 ghost use Rattle.warg_log.specs.Claims.{InclusionClaim};
@@ -12,11 +12,12 @@ ghost use Rattle.warg_witness.specs.PathPlaced.{IsRecordPlaced, IsRecordAgreemen
 ghost use Rattle.warg_witness.specs.TreePlaced.{IsTreePlaced};
 ghost use Rattle.warg_witness.specs.Placed.{IsValuePlaced, IsHashPlaced, IsAgreementPlaced, IsConsistencyPlaced};
 ghost use Rattle.warg_witness.specs.Laws.{HoldsHashes};
+ghost use Rattle.std.specs.FinMap.{empty};
 ghost use Rattle.warg_map.specs.Sparse.{sparse_root, map_of};
-ghost use Rattle.warg_witness.specs.MapClaims.{IsKeyAgreement};
-ghost use Rattle.warg_witness.specs.MapPlaced.{IsKeyAgreementPlaced};
+ghost use Rattle.warg_witness.specs.MapClaims.{IsKeyMet, IsAbsenceMet, IsKeyAgreement, IsLastValue};
+ghost use Rattle.warg_witness.specs.MapPlaced.{IsPlacedAtPrefix, IsKeyPlaced, IsKeyAgreementPlaced};
 ghost use Rattle.warg_witness.specs.MapsPlaced.{IsPlacedInMaps};
-ghost use Rattle.warg_witness.specs.UpdateClaims.{Step, insertions_of, CollidesAtStep};
+ghost use Rattle.warg_witness.specs.UpdateClaims.{IsUpdated, Step, insertions_of, LeadThrough, CollidesAtStep};
 
 /// A value's claim may be met and untrue, without a collision, where digests have any length.
 pub fn value_hashes_are_needed()
@@ -191,12 +192,91 @@ pub fn key_agreement_hashes_are_needed()
         → SomeCollision H (IsKeyAgreementPlaced H key peers value other_peers other)) }
 {}
 
+/// And two values may differ where they don't lead to one.
+pub fn key_agreement_meeting_is_needed()
+    ensures { ¬ ((H : List ℕ → List ℕ) (key : List ℕ) (peers : List (Option (List ℕ)))
+        (value : List ℕ) (other_peers : List (Option (List ℕ))) (other : List ℕ)
+        → GivesHashes H → (value ≡ other → ⊥)
+        → SomeCollision H (IsKeyAgreementPlaced H key peers value other_peers other)) }
+{}
+
 /// One value leads to one root without a collision.
 pub fn key_agreement_difference_is_needed()
     ensures { (H : List ℕ → List ℕ) → ¬ ((key : List ℕ) (peers : List (Option (List ℕ)))
         (value : List ℕ) (other_peers : List (Option (List ℕ))) (other : List ℕ)
         → IsKeyAgreement H key peers value other_peers other
         → SomeCollision H (IsKeyAgreementPlaced H key peers value other_peers other)) }
+{}
+
+/// A key's claim may be met and untrue, without a collision, where digests have any length.
+pub fn key_hashes_are_needed()
+    ensures { ¬ ((H : List ℕ → List ℕ) (peers : List (Option (List ℕ))) (key value : List ℕ)
+        (insertions : List (List ℕ × List ℕ)) → IsKeyMet H peers key value insertions
+        → (IsLastValue key value insertions → ⊥)
+        → SomeCollision H (IsKeyPlaced H peers value key insertions)) }
+{}
+
+/// A key's claim that is met and true needs no collision.
+pub fn key_untruth_is_needed()
+    ensures { (H : List ℕ → List ℕ) → ¬ ((peers : List (Option (List ℕ))) (key value : List ℕ)
+        (insertions : List (List ℕ × List ℕ)) → IsKeyMet H peers key value insertions
+        → SomeCollision H (IsKeyPlaced H peers value key insertions)) }
+{}
+
+/// A key's claim may be untrue, without a collision, where it isn't met.
+pub fn key_meeting_is_needed()
+    ensures { ¬ ((H : List ℕ → List ℕ) (peers : List (Option (List ℕ))) (key value : List ℕ)
+        (insertions : List (List ℕ × List ℕ)) → GivesHashes H
+        → (IsLastValue key value insertions → ⊥)
+        → SomeCollision H (IsKeyPlaced H peers value key insertions)) }
+{}
+
+/// An absence's claim may be met and untrue, without a collision, where digests have any length.
+pub fn absence_hashes_are_needed()
+    ensures { ¬ ((H : List ℕ → List ℕ) (peers : List (Option (List ℕ))) (key : List ℕ)
+        (insertions : List (List ℕ × List ℕ)) → IsAbsenceMet H peers key insertions
+        → (IsLastValue key [] insertions → ⊥)
+        → SomeCollision H (IsKeyPlaced H peers [] key insertions)) }
+{}
+
+/// An absence's claim may be untrue, without a collision, where it isn't met.
+pub fn absence_meeting_is_needed()
+    ensures { ¬ ((H : List ℕ → List ℕ) (peers : List (Option (List ℕ))) (key : List ℕ)
+        (insertions : List (List ℕ × List ℕ)) → GivesHashes H
+        → (IsLastValue key [] insertions → ⊥)
+        → SomeCollision H (IsKeyPlaced H peers [] key insertions)) }
+{}
+
+/// An absence's claim that is met and true needs no collision.
+pub fn absence_untruth_is_needed()
+    ensures { (H : List ℕ → List ℕ) → ¬ ((peers : List (Option (List ℕ))) (key : List ℕ)
+        (insertions : List (List ℕ × List ℕ)) → IsAbsenceMet H peers key insertions
+        → SomeCollision H (IsKeyPlaced H peers [] key insertions)) }
+{}
+
+/// An update's claim may be met and untrue, without a collision, where digests have any length.
+pub fn update_hashes_are_needed()
+    ensures { ¬ ((H : List ℕ → List ℕ) (peers : List (Option (List ℕ)))
+        (key old_value new_value : List ℕ) (insertions : List (List ℕ × List ℕ))
+        → IsKeyMet H peers key old_value insertions
+        → ¬ (IsUpdated H peers key new_value insertions)
+        → SomeCollision H (IsPlacedAtPrefix H peers old_value key insertions)) }
+{}
+
+/// An update's claim that is met and true needs no collision.
+pub fn update_untruth_is_needed()
+    ensures { (H : List ℕ → List ℕ) → ¬ ((peers : List (Option (List ℕ)))
+        (key old_value new_value : List ℕ) (insertions : List (List ℕ × List ℕ))
+        → IsKeyMet H peers key old_value insertions
+        → SomeCollision H (IsPlacedAtPrefix H peers old_value key insertions)) }
+{}
+
+/// And may be untrue, without a collision, where it isn't met.
+pub fn update_meeting_is_needed()
+    ensures { ¬ ((H : List ℕ → List ℕ) (peers : List (Option (List ℕ)))
+        (key old_value new_value : List ℕ) (insertions : List (List ℕ × List ℕ))
+        → GivesHashes H → ¬ (IsUpdated H peers key new_value insertions)
+        → SomeCollision H (IsPlacedAtPrefix H peers old_value key insertions)) }
 {}
 
 /// Two maps of one root that have the same values need have no collision.
@@ -209,5 +289,12 @@ pub fn equal_maps_difference_is_needed()
 /// Steps that don't lead from the empty map's root may end anywhere, without a collision.
 pub fn steps_leading_is_needed()
     ensures { (H : List ℕ → List ℕ) → ¬ ((steps : List Step) (root : List ℕ)
+        → (root ≡ sparse_root H 256 (map_of H (insertions_of steps))) ⊎ CollidesAtStep H steps) }
+{}
+
+/// Steps that lead from the empty map's root may end elsewhere, without a collision, where digests have any length.
+pub fn steps_hashes_are_needed()
+    ensures { ¬ ((H : List ℕ → List ℕ) (steps : List Step) (root : List ℕ)
+        → LeadThrough H (sparse_root H 256 empty) steps root
         → (root ≡ sparse_root H 256 (map_of H (insertions_of steps))) ⊎ CollidesAtStep H steps) }
 {}
