@@ -1,5 +1,5 @@
--- Claims of keys that are untrue, not met, or both, and of which no placed byte strings collide.
-use Rattle.std.proofs.Common.{◌≡◌, ℕ, zero, suc, ◌-◌, ◌≤◌, ◌<◌, nat_eq, ◌⊎◌, inl, inr, Bool, true, false, cond, List, [], ◌∷◌, ◌++◌, length, slice_index_or, Option, None, is_some, unwrap_or, IsTrue, if◌then◌else◌, refl, sym, ap, subst, ◌∙◌, arith, append-nil, length-append}
+-- Claims of keys and maps that are untrue, not met, or both, and of which no placed byte strings collide.
+use Rattle.std.proofs.Common.{◌≡◌, ℕ, zero, suc, ◌-◌, ◌≤◌, ◌<◌, nat_eq, ◌⊎◌, inl, inr, Bool, true, false, cond, List, [], ◌∷◌, ◌++◌, length, slice_index_or, Option, None, Some, is_some, unwrap_or, IsTrue, if◌then◌else◌, refl, sym, ap, subst, ◌∙◌, arith, append-nil, length-append}
 use Rattle.std.specs.Prelude.{replicate}
 use Rattle.std.proofs.lemmas.List.Elements.{All-replicate}
 use Rattle.std.specs.FinMap.{get, get-empty, empty}
@@ -7,15 +7,17 @@ use Rattle.warg_crypto.specs.Bytes.{same_bytes}
 use Rattle.warg_crypto.specs.Collisions.{Collides, SomeCollision, GivesHashes}
 use Rattle.warg_crypto.specs.Digests.{IsDigest, IsByte}
 use Rattle.warg_crypto.specs.EmptyTrees.{empty_root}
-use Rattle.warg_crypto.specs.Tree.{leaf_digest, input_beside}
+use Rattle.warg_crypto.specs.Tree.{branch, branch_input, leaf_digest, leaf_input, input_beside}
 use Rattle.warg_map.specs.Bits.{key_bits}
 use Rattle.warg_map.specs.Last.{last_under, last_with}
 use Rattle.warg_map.specs.Peers.{IsBeside, ProvesAbsent, ProvesEmpty, IsPeers}
 use Rattle.warg_map.specs.ProofValue.{peer_of, proof_value}
-use Rattle.warg_map.specs.Sparse.{sparse_root, map_of, inserted, bits_cmp}
-use Rattle.warg_map.proofs.ForCallers.{all_bits, key_beside, beside_input, beside_root, beside_replaced, beside_kept, same_bits-itself}
+use Rattle.std.specs.Option.{option_map, option_or}
+use Rattle.warg_map.specs.Sparse.{root_of_levels, sparse_root, map_of, inserted, bits_cmp}
+use Rattle.warg_map.proofs.ForCallers.{all_bits, last_held, key_beside, beside_input, beside_root, beside_replaced, beside_kept, same_bits-itself}
 use Rattle.warg_witness.specs.MapClaims.{IsKeyMet, IsAbsenceMet, IsLastValue, value_in}
 use Rattle.warg_witness.specs.MapInputs.{path_input, fork_input, plain_input_at}
+use Rattle.warg_witness.specs.MapsPlaced.{HaveSameValues, IsPlacedInMaps, IsInserted}
 use Rattle.warg_witness.specs.MapPlaced.{IsPlacedAtPrefix, IsPlacedAtKeys, IsKeyPlaced, IsKeyAgreementPlaced}
 use Rattle.warg_witness.specs.UpdateClaims.{IsUpdated, Step, insertions_of, LeadThrough, CollidesAtStep}
 use Rattle.warg_witness.proofs.MapPremiseLemmas.{with_bottom}
@@ -257,6 +259,67 @@ absence_meeting_is_needed law =
 
 lone_leads : (H : List ℕ → List ℕ) (key value : List ℕ) → proof_value H [] (leaf_digest H value) (key_bits H key) ≡ sparse_root H 256 (map_of H ((key, value) ∷ []))
 lone_leads H key value = rw (inserted_push H empty [] key value) (beside_replaced H (map_of H []) (key_bits H key) [] (leaf_digest H value) (all_bits H key) (empty_beside H key))
+
+-- All of a lone map's tree has ones or zeros.
+held_mark : (b : Bool) → IsMark (unwrap_or (option_map (λ (e : List ℕ × List ℕ). leaf_digest marked e.1) (option_or None (cond b (Some ([], 1 ∷ [])) None))) zeros)
+held_mark true = inr refl
+held_mark false = inl refl
+
+branch_mark : (l r : List ℕ) → IsMark l → IsMark r → IsMark (branch marked l r)
+branch_mark l r (inl is) (inl other) = inl (rw (is, other) refl)
+branch_mark l r (inl is) (inr other) = inr (rw (is, other) refl)
+branch_mark l r (inr is) other = inr (rw is refl)
+
+root_mark : (k : ℕ) (held : List Bool → Option (List ℕ)) → ((q : List Bool) → IsMark (unwrap_or (held q) zeros)) → IsMark (root_of_levels marked k held)
+unfolding root_of_levels empty_root
+root_mark zero held marks = marks []
+root_mark (suc k) held marks = branch_mark _ _ (root_mark k (λ q. held (false ∷ q)) (λ q. marks (false ∷ q))) (root_mark k (λ q. held (true ∷ q)) (λ q. marks (true ∷ q)))
+
+root_zeros : (k : ℕ) (held : List Bool → Option (List ℕ)) → ((q : List Bool) → held q ≡ None) → root_of_levels marked k held ≡ zeros
+unfolding root_of_levels empty_root
+root_zeros zero held none = rw (none []) refl
+root_zeros (suc k) held none = rw (root_zeros k (λ q. held (false ∷ q)) (λ q. none (false ∷ q)), root_zeros k (λ q. held (true ∷ q)) (λ q. none (true ∷ q))) refl
+
+abbrev only : List (List ℕ × List ℕ)
+only = ([], 1 ∷ []) ∷ []
+
+lone_mark : (q : List Bool) → IsMark (unwrap_or (get (map_of marked only) q) zeros)
+unfolding last_with
+lone_mark q = rw (last_held marked q only) (held_mark _)
+
+-- So where it differs from the empty map's, the digests differ.
+two_zeros : (l r : List ℕ) → l ≡ zeros → r ≡ zeros → branch_input l r ≡ branch_input zeros zeros
+two_zeros l r is is_too = ap (λ x. branch_input x r) is ∙ ap (λ x. branch_input zeros x) is_too
+
+branches_apart : (l r first second : List ℕ) → IsMark l → IsMark r → first ≡ branch_input l r → second ≡ branch_input zeros zeros → Collides marked (first, second) → ⊥
+branches_apart l r first second (inl is) (inl is_too) one other c = c.differ (one ∙ two_zeros l r is is_too ∙ sym other)
+branches_apart l r first second (inl is) (inr is_too) one other c =
+    ones_differ (sym (ap marked (one ∙ ap (λ x. branch_input x r) is ∙ ap (λ x. branch_input zeros x) is_too)) ∙ c.same ∙ ap marked other)
+branches_apart l r first second (inr is) _ one other c = ones_differ (sym (ap marked (one ∙ ap (λ x. branch_input x r) is)) ∙ c.same ∙ ap marked other)
+
+leaves_apart : (b : Bool) (first second : List ℕ) → first ≡ leaf_input (value_in (option_or None (cond b (Some ([], 1 ∷ [])) None))) → second ≡ leaf_input [] → Collides marked (first, second) → ⊥
+leaves_apart true first second one other c = ones_differ (sym (ap marked one) ∙ c.same ∙ ap marked other)
+leaves_apart false first second one other c = c.differ (one ∙ sym other)
+
+plain_apart : (prefix : List Bool) (k : ℕ) (first second : List ℕ) → first ≡ plain_input_at marked only prefix k → second ≡ plain_input_at marked [] prefix k → Collides marked (first, second) → ⊥
+unfolding last_with
+plain_apart prefix zero first second one other c = leaves_apart _ first second one other c
+plain_apart prefix (suc k) first second one other c =
+    branches_apart _ _ first second (root_mark k _ (λ q. lone_mark (prefix ++ false ∷ q))) (root_mark k _ (λ q. lone_mark (prefix ++ true ∷ q))) one
+    (other ∙ two_zeros _ _ (root_zeros k _ (λ q. none_held marked (prefix ++ false ∷ q))) (root_zeros k _ (λ q. none_held marked (prefix ++ true ∷ q)))) c
+
+only_inserted : {key : List ℕ} → IsInserted only [] key → [] ≡ key
+only_inserted (inl at) = the_one at.0 at.1 at.2
+only_inserted (inr at) = absurd (omega (arith, at.1))
+
+pub equal_maps_meeting_is_needed : ¬ ((H : List ℕ → List ℕ) (insertions others : List (List ℕ × List ℕ)) → GivesHashes H → ¬ (HaveSameValues insertions others) → SomeCollision H (IsPlacedInMaps H insertions others))
+unfolding last_with
+equal_maps_meeting_is_needed law =
+    let c = law marked only [] marked_hashes (λ same. let is : 1 ∷ [] ≡ [] = same [] in absurd cc) in
+    elim c.placed [
+      | inl at ↦ plain_apart at.prefix at.levels c.first c.second at.first_plain at.second_plain c.collide
+      | inr keys ↦ c.collide.differ (sym (only_inserted keys.0) ∙ only_inserted keys.1)
+    ]
 
 -- An empty leaf has two sevens, and the leaf of the byte 00 one. Two beside one make the bytes of one beside two.
 abbrev sevens : List ℕ → List ℕ

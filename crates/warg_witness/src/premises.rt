@@ -1,6 +1,6 @@
 //! What the premises of the laws that end in a collision are for: the contract of each function is the law, and it has no
-//! effect. Without any one premise the law is false. That isn't shown of three premises: of consistency that the proof's
-//! digests have 32 bytes, and of two maps that the function's have and that the roots are equal.
+//! effect. Without any one premise the law is false. That isn't shown of two premises: of consistency that the proof's
+//! digests have 32 bytes, and of two maps that the function's have.
 
 ghost use Rattle.std.specs.Prelude.{◌≡◌, ◌≢◌, ◌⊎◌, ℕ, List, [], length, Option};
 ghost use Rattle.warg_crypto.specs.Collisions.{GivesHashes, AreHashes, SomeCollision};
@@ -16,7 +16,7 @@ ghost use Rattle.std.specs.FinMap.{empty};
 ghost use Rattle.warg_map.specs.Sparse.{sparse_root, map_of};
 ghost use Rattle.warg_witness.specs.MapClaims.{IsKeyMet, IsAbsenceMet, IsKeyAgreement, IsLastValue};
 ghost use Rattle.warg_witness.specs.MapPlaced.{IsPlacedAtPrefix, IsKeyPlaced, IsKeyAgreementPlaced};
-ghost use Rattle.warg_witness.specs.MapsPlaced.{IsPlacedInMaps};
+ghost use Rattle.warg_witness.specs.MapsPlaced.{HaveSameValues, IsPlacedInMaps};
 ghost use Rattle.warg_witness.specs.UpdateClaims.{IsUpdated, Step, insertions_of, LeadThrough, CollidesAtStep};
 
 /// A value's claim may be met and untrue, without a collision, where digests have any length.
@@ -277,6 +277,13 @@ pub fn update_meeting_is_needed()
         (key old_value new_value : List ℕ) (insertions : List (List ℕ × List ℕ))
         → GivesHashes H → ¬ (IsUpdated H peers key new_value insertions)
         → SomeCollision H (IsPlacedAtPrefix H peers old_value key insertions)) }
+{}
+
+/// Two maps may have different values, without a collision, where their roots aren't equal.
+pub fn equal_maps_meeting_is_needed()
+    ensures { ¬ ((H : List ℕ → List ℕ) (insertions others : List (List ℕ × List ℕ)) → GivesHashes H
+        → ¬ (HaveSameValues insertions others)
+        → SomeCollision H (IsPlacedInMaps H insertions others)) }
 {}
 
 /// Two maps of one root that have the same values need have no collision.
