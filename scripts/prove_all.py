@@ -69,11 +69,12 @@ def sum_of(name, listed):
 class Crate:
     """A crate that is proved, built and run: by itself where it was named, else as a part of them all."""
 
-    def __init__(self, name, is_used, is_named=False, cpu=None):
-        self.name, self.folder, self.is_used, self.is_named = name, kit.ROOT / "crates" / name, is_used, is_named
+    def __init__(self, name, is_named=False, cpu=None):
+        self.name, self.folder, self.is_named = name, kit.ROOT / "crates" / name, is_named
         self.seconds, self.said = {"proof": 0.0, "tests": 0.0}, []
         self.is_program = kit.is_program(name)
         self.has_tests = any("#[test]" in it.read_text() for it in self.folder.glob("src/**/*.rt"))
+        self.is_of_tests = self.has_tests and not (self.folder / "proofs").is_dir()
         # A library that other crates stand on is the same for each processor.
         self.cpu = ["--cpu", cpu] if cpu and (self.is_program or kit.is_static(name)) else []
         self.libraries = "out/proved" if is_named else "out/rlib"
@@ -140,7 +141,7 @@ class Crate:
             self.prove_program()
         elif kit.is_static(self.name):
             self.build(*TOOLCHAIN, *self.kept, *self.cpu, "-o", self.product)
-        elif self.is_used or not self.has_tests:
+        elif not self.is_of_tests:
             self.build(*(self.kept or ["--statements"]), "-o", self.product)
         if self.has_tests and not self.is_named:
             self.run_tests()
@@ -221,7 +222,7 @@ def main():
     asked = asked.parse_args()
     listed = kit.crates()
     wanted = {below for it in asked.names for below in [*kit.below(it, listed), it]} or {*listed}
-    crates = [Crate(it, any(it in needs for needs in listed.values()), bool(asked.names), asked.cpu) for it in listed if it in wanted]
+    crates = [Crate(it, bool(asked.names), asked.cpu) for it in listed if it in wanted]
     memory = os.sysconf("SC_PHYS_PAGES") * os.sysconf("SC_PAGE_SIZE")
     well = prove_all(crates, max(1, min(len(os.sched_getaffinity(0)), memory // ROOM)))
     if asked.json:
