@@ -10,7 +10,7 @@ use Rattle.std.proofs.lemmas.List.Elements.{recursion_from_All}
 use Rattle.warg_crypto.specs.Digests.{IsByte}
 use Rattle.warg_paths.specs.Pieces.{pieces}
 use Rattle.warg_paths.specs.Paths.{root_down}
-use Rattle.warg_crypto.specs.Collisions.{GivesHashes, SomeCollision}
+use Rattle.warg_crypto.specs.Collisions.{GivesHashes, Collides, SomeCollision}
 use Rattle.warg_log.specs.Claims.{RootAndLength}
 use Rattle.warg_log.specs.Tree.{root_within, front_of, front_within}
 use Rattle.warg_witness.specs.Inputs.{plain_input}
@@ -21,7 +21,7 @@ use Rattle.warg_check.specs.Claims.{Claim, Evidence, verdict}
 use Rattle.warg_claims.specs.Worlds.{World, HasRoots, IsTrueOf}
 use Rattle.warg_check.specs.Claims.Claim.{entry_at}
 use Rattle.warg_check.specs.Claims.Evidence.{by_path}
-use Rattle.warg_claims.specs.Placed.{IsPlaced, Anywhere}
+use Rattle.warg_claims.specs.Placed.{IsPlaced}
 
 -- without digests there is one range on the way
 alone : {m a n k b j : ℕ} {digests : List (List ℕ)} → IsOnWay m a n [] k b j digests → (digests ≡ []) × (b ≡ a) × (j ≡ n)
@@ -118,16 +118,13 @@ number_same (x ∷ xs) (y ∷ ys) len all all' same =
     let head : x ≡ y = omega (arith, all.0, all'.0) in
     let tail : xs ≡ ys = number_same xs ys (omega arith) all.1 all'.1 (omega (arith, all.0, all'.0)) in cc
 
-pub anywhere : (H : List ℕ → List ℕ) → GivesHashes H → SomeCollision H Anywhere
-anywhere H gives =
+pub some_collide : (H : List ℕ → List ℕ) → GivesHashes H → (pair : List ℕ × List ℕ) × Collides H pair
+some_collide H gives =
     let bytes : (m : List ℕ) → AllByRecursion IsByte (H m) = λ m. recursion_from_All IsByte (H m) (gives m).are_bytes in
-    let two = two_same (256 ^ 32) (λ i. number (H (replicate i 0))) (λ i le. rw (gives _).has_32 at (number_below _ (bytes (replicate i 0)))) in
-    record {
-      first = replicate two.0 0;
-      second = replicate two.1 0;
-      collide = record {
+    let two = two_same (256 ^ 32) (λ i. number (H (replicate i 0))) (λ i le. rw (gives _).has_32 at (number_below _ (bytes (replicate i 0)))) in (
+      (replicate two.0 0, replicate two.1 0),
+      record {
         differ = λ equal. let len : two.0 ≡ two.1 = sym (length-replicate two.0 0) ∙ ap length equal ∙ length-replicate two.1 0 in omega (arith, two.2);
         same = number_same _ _ ((gives _).has_32 ∙ sym (gives _).has_32) (bytes _) (bytes _) two.3;
-      };
-      placed = tt;
-    }
+      },
+    )

@@ -1,5 +1,5 @@
 -- Where the two byte strings of a collision stand.
-use Rattle.std.specs.Prelude.{ℕ, ◌*◌, ◌⊎◌, ⊤, List, [], ◌∷◌, ◌++◌, Option, Some, None, Result, Ok, Err, slice_get, unwrap_or}
+use Rattle.std.specs.Prelude.{ℕ, ◌*◌, ◌⊎◌, List, [], ◌∷◌, ◌++◌, Option, Some, None, Result, Ok, Err, slice_get, unwrap_or}
 use Rattle.warg_protobuf.specs.MapProofBundle.{MapBundle}
 use Rattle.warg_protobuf.specs.declared.value_error.DecodeError.{DecodeError}
 use Rattle.warg_log.specs.Sparse.{held_digest}
@@ -16,10 +16,6 @@ use Rattle.warg_check.specs.Claims.{Claim, Evidence}
 use Rattle.warg_claims.specs.Worlds.{World}
 use Rattle.warg_check.specs.Claims.Claim.{entry_at, growth, value_under, nothing_under, update, insertion}
 use Rattle.warg_check.specs.Claims.Evidence.{by_bundle, by_path}
-
--- Wherever the two stand. Two byte strings collide so under every function to 32 bytes, so this says nothing.
-abbrev pub Anywhere : List ℕ → List ℕ → Type 0
-Anywhere first second = ⊤
 
 -- The digests of a log's bundle, by their nodes. Bytes that are no bundle have none.
 abbrev pub digests_in : Result Bundle DecodeError → ℕ → Option (List ℕ)

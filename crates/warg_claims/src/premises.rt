@@ -2,10 +2,10 @@
 //! each function is the law, and it has no effect. Without any one premise the law is false, of every digest function.
 
 ghost use Rattle.std.specs.Prelude.{◌≡◌, ℕ, List, Ok, true};
-ghost use Rattle.warg_crypto.specs.Collisions.{GivesHashes, SomeCollision};
+ghost use Rattle.warg_crypto.specs.Collisions.{GivesHashes, Collides, SomeCollision};
 ghost use Rattle.warg_check.specs.Claims.{Claim, Evidence, verdict};
 ghost use Rattle.warg_claims.specs.Worlds.{World, HasRoots, IsTrueOf};
-ghost use Rattle.warg_claims.specs.Placed.{IsPlaced, Anywhere};
+ghost use Rattle.warg_claims.specs.Placed.{IsPlaced};
 
 /// A claim without a true verdict may be untrue where no byte strings of those places collide.
 pub fn verdict_is_needed()
@@ -28,9 +28,9 @@ pub fn untruth_is_needed()
         → SomeCollision H (IsPlaced H claim evidence world)) }
 {}
 
-/// That two byte strings collide anywhere says nothing: under every function to 32 bytes some do.
+/// That two byte strings collide says nothing without a place: under every function to 32 bytes some two do.
 pub fn some_collide_anywhere()
-    ensures { (H : List ℕ → List ℕ) → GivesHashes H → SomeCollision H Anywhere }
+    ensures { (H : List ℕ → List ℕ) → GivesHashes H → (pair : List ℕ × List ℕ) × Collides H pair }
 {}
 
 /// Where digests have any length, a claim may be untrue though no two byte strings have one digest.
