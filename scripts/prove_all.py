@@ -29,8 +29,6 @@ import threading
 
 import kit
 
-# What the prover says of a contract that no call can meet, which any body would prove, or of a search that broke off.
-EMPTY = re.compile(r"^(warning: no call of `(?![^`]*::fn::)|note: the search for empty contracts did not end)", re.M)
 # A proof that rests on nothing but the logic and what this run has proved: no handle, no C function of ours, no bug.
 VERDICT = re.compile(
     r"logic=proved functions=\d+( axioms=\d+ target=\S+ cpu=\S+)? sum=\w+ native=nat,char,string logic-built=trusted libraries-built=trusted statements=trusted( incremental=trusted)?"
@@ -108,10 +106,10 @@ class Crate:
 
     def build(self, *more):
         """Proves the crate and builds it. The verdict has to rest on no more than it may."""
-        # (of a crate with wrong bodies the script that tries them looks for such contracts, over the work that is kept)
+        # Of a crate with wrong bodies, the script that tries these looks for empty contracts, over the work that is kept.
         looks = [] if self.is_named or (self.folder / "wrong-bodies").is_dir() else ["--empty-contracts"]
         said = self.done("proof", [kit.RATTLE, "build", *kit.words(self.name, self.libraries), "--jobs", "1", "--links", f"{self.name}=", *looks, *more])
-        if EMPTY.search(said):
+        if kit.EMPTY.search(said):
             raise Failed("a contract that no call can meet")
         verdict = re.search(r"^logic=.*$", said, re.M)
         if not verdict or not VERDICT.fullmatch(verdict[0]):

@@ -43,7 +43,6 @@ SLOW = 20
 PROGRESS = re.compile(r"checked (\S+), \d+ of \d+$")
 WAITS = re.compile(r"which (is|are) not proved")
 CYCLE = re.compile(r"#\[cycle\((\w+)\)\]\s*(?:#\[[^\n]*\]\s*|//[^\n]*\n\s*)*(?:pub(?:\(\w+\))? )?\Z")
-EMPTY = re.compile(r"^(?:warning: no call of `(?![^`]*::fn::)|note: the search for empty contracts did not end).*", re.M)
 LACKS_A_GOAL = re.compile(r"^(?:\./)?proofs/(\S+)/\w+\.antt:\d+:\d+: error: `[^`]+`: `goal\.([^`]+)`: module", re.M)
 ASKS = re.compile(r"^help: `Goals` has no `([^`]+)`; rattle asks for ([^;]*)", re.M)
 LACKS_A_NAME = re.compile(r"has no field|is not in scope|has no `|was not admitted|is no name")
@@ -332,7 +331,7 @@ class Crate:
         whole = self.check([], flags=["--empty-contracts"])
         if not whole.is_proved:
             self.faults.append("the crate without an edit isn't proved over the same work")
-        self.faults += [f"a contract that no call can meet: {it}" for it in EMPTY.findall(whole.said)]
+        self.faults += [f"a contract that no call can meet: {it}" for it in kit.EMPTY.findall(whole.said)]
         for edit in edits:
             self.faults += fault_of(edit, told[edit], edit in self.refused)
         return edits

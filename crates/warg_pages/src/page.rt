@@ -43,7 +43,7 @@ impl<D, A: Allocator> Drop for MapPage<D, A> {
 
 impl<D, A: Allocator> MapPage<D, A> {
     /// The page with these bytes. `BadPage` exactly if they are no page's: a slot is cut, slots don't ascend, or a kind
-    /// isn't 0 or 1. Else memory is the only error. What was read is written as the same bytes.
+    /// isn't 0 or 1. Else it fails only if allocation fails. What was read is written as the same bytes.
     pub fn read(alloc: A, bytes: &[u8]) -> Result<MapPage<D, A>, PageError>
         ensures ok { IfOk result (λ page. bytes.now ≡ page_bytes page) }
         ensures bad { result ≡ Err PageError.BadPage → (slots : List SlotAt) → IsPage slots
@@ -64,7 +64,7 @@ impl<D, A: Allocator> MapPage<D, A> {
         Ok(MapPage { slots })
     }
 
-    /// The page's bytes. Memory is the only error.
+    /// The page's bytes. It fails only if allocation fails.
     pub fn write<B: Allocator>(&self, alloc: B) -> Result<Vec<u8, B>, AllocError>
         ensures { IfOk result (λ bytes. bytes.items ≡ page_bytes self.now) }
     {

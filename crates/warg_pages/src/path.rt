@@ -6,7 +6,7 @@ ghost use Rattle.warg_pages.specs.PagePaths.{page_path};
 use std::alloc::{AllocError, Allocator};
 
 /// The path under which the page at a prefix is served, of a version: `map/`, for each byte of the prefix `x`, its two
-/// hexadecimal digits and a slash, and the version in decimal, as `map/xa0/x3f/69120`. Memory is the only error.
+/// hexadecimal digits and a slash, and the version in decimal, as `map/xa0/x3f/69120`. It fails only if allocation fails.
 pub fn page_path<A: Allocator>(
     alloc: A,
     prefix: &[u8],

@@ -46,7 +46,7 @@ impl<T: Drop> From<AllocFailed<T>> for FolderError {
 /// by `/`.
 ///
 /// What stands in it is a function from names to bytes. What a reader finds is among what a crash may leave, so what is
-/// said of each crash is said of each reader, too. After an error of a call that writes, the folder is to be opened again.
+/// said of each crash is said of each reader, too. After an error of a call that writes, open the folder again.
 pub trait Folder {
     /// What a reader finds at each name.
     ghost seen: { Self → Files };

@@ -17,7 +17,7 @@ pub const MARK: &str = ".log/staged/state";
 /// Where the files of a commit stand before it does.
 pub const STAGED: &str = ".log/staged/";
 
-/// The name under which a file is staged. Memory is the only error.
+/// The name under which a file is staged. It fails only if allocation fails.
 pub fn staged_name(alloc: Global, name: &str) -> Result<String, AllocError>
     ensures { IfOk result (λ text. string_bytes text ≡ staged name.now) }
 {
