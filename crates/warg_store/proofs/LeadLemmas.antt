@@ -1,10 +1,11 @@
 -- A log that grows, as files.
-use Rattle.std.proofs.Common.{◌≡◌, ◌⊎◌, inl, inr, ⊎_elim, ℕ, zero, suc, ◌+◌, ◌-◌, ◌*◌, ◌/◌, ◌^◌, ◌<◌, ◌≤◌, true, List, ◌++◌, length, take, drop, map, min, Option, Some, None, IsSome, refl, sym, ap, ◌∙◌, subst, arith}
+use Rattle.std.proofs.Common.{◌≡◌, ◌⊎◌, inl, inr, ⊎_elim, ℕ, zero, suc, ◌+◌, ◌-◌, ◌*◌, ◌/◌, ◌^◌, ◌<◌, ◌≤◌, true, false, List, [], ◌++◌, length, take, drop, map, min, Option, Some, None, IsSome, append_assoc, refl, sym, ap, ◌∙◌, subst, arith}
 use Rattle.std.specs.Option.{option_or}
 use Rattle.std.specs.List.{flat_map, range_with_len}
-use Rattle.std.proofs.lemmas.Bool.{cases_eq}
-use Rattle.std.proofs.lemmas.List.{take-append-le, drop-append-le, length-drop, length-map, map-append}
+use Rattle.std.proofs.lemmas.Bool.{cases_Bool, cases_eq}
+use Rattle.std.proofs.lemmas.List.{take-append-le, drop-append-le, length-drop, length-map, length-append, map-append, append-nil}
 use Rattle.std.proofs.Math.Nat.{div-mul-le_self, mul-le-mul_right}
+use Rattle.std.proofs.lemmas.Nat.{pow_pos, le-div}
 use Rattle.warg_crypto.specs.Digests.{sha256}
 use Rattle.warg_crypto.specs.Tree.{leaf_digest}
 use Rattle.warg_log.specs.Nodes.{height_of, place_of, start_of}
@@ -16,12 +17,13 @@ use Rattle.warg_tiles.specs.Between.{IsTileOf}
 use Rattle.warg_tiles.specs.TileLog.{tile_digests}
 use Rattle.warg_tiles.specs.EntryBundles.{bundle_of}
 use Rattle.warg_store.specs.Files.{Files}
-use Rattle.warg_store.specs.Names.{staged, is_served}
-use Rattle.warg_store.specs.Opening.{committed}
-use Rattle.warg_store.specs.Serving.{LeadsTo}
-use Rattle.warg_store.specs.Log.{LogOf, checkpoint_of, tile_bytes, bundle_bytes, IsTileIn, IsBundleIn, Serves, Needs, IsNewName, AreStagedFor, Extends}
+use Rattle.warg_store.specs.Names.{checkpoint, state, mark, staged, is_own, is_served}
+use Rattle.warg_store.specs.Opening.{is_signed, checkpoint_after, opened, committed, IsBetween}
+use Rattle.warg_store.specs.Serving.{KeepsNames, IsServable, IsHistoryOf}
+use Rattle.warg_store.specs.Log.{LogOf, said_of, checkpoint_of, tile_bytes, bundle_bytes, IsTileIn, IsBundleIn, HasFiles, Serves, IsFileOf, Extends, Keeps, IsServed, IsOneOf, IsNewName, AreStagedFor}
+use Rattle.warg_store.proofs.NameLemmas.{apart, not_staged, served_not_own}
 use Rattle.warg_store.proofs.PathLemmas.{tile_path_once, entries_path_once, no_tile_a_bundle}
-use Rattle.warg_store.proofs.ServeLemmas.{committed_served}
+use Rattle.warg_store.proofs.ServeLemmas.{idle_same, committed_served, opened_idle}
 
 -- a part of a list is that of a longer one
 part_kept : {X : Type 0} (xs more : List X) (a k : ℕ) → a + k ≤ length xs → take k (drop a (xs ++ more)) ≡ take k (drop a xs)
@@ -30,6 +32,14 @@ part_kept xs more a k inside = ap (take k) (drop-append-le a xs more (omega arit
 map_range : {X : Type 0} (f g : ℕ → X) (a n : ℕ) → ((i : ℕ) → a ≤ i → i < a + n → f i ≡ g i) → map f (range_with_len a n) ≡ map g (range_with_len a n)
 map_range f g a zero same = refl
 map_range f g a (suc n) same = let first : f a ≡ g a = same a (omega arith) (omega arith) in let rest = map_range f g (a + 1) n (λ i low high. same i (omega arith) (omega arith)) in cc
+
+-- a tile of a length, and of a longer one, is one of each length between
+pub tile_between : (a b c : ℕ) (t : TileAt) → a ≤ b → b ≤ c → IsTileOf a t → IsTileOf c t → IsTileOf b t
+tile_between a b c t ab bc in_a in_c =
+    let p = 2 ^ (8 * t.level) in
+    let low : a / p ≤ b / p = le-div (a / p) b p (pow_pos (8 * t.level)) (omega (arith, div-mul-le_self a p)) in
+    let high : b / p ≤ c / p = le-div (b / p) c p (pow_pos (8 * t.level)) (omega (arith, div-mul-le_self b p)) in
+    record { some = in_a.some; width = omega (arith, in_a.width, in_c.width) }
 
 -- a tile's width
 pub width_at_most : (n : ℕ) (t : TileAt) → IsTileOf n t → t.width ≤ 256
@@ -83,44 +93,156 @@ module _ (old next : LogOf) (extends : Extends old next) where
     | inr other ↦ inr (λ was. other was.exists.width)
   ]
 
-  module _ (files : Files) (are_staged : AreStagedFor old next files) where
-    -- nothing is staged at the name of a tile that the old log has
-    none_by : (n : List ℕ) → is_served n ≡ true → (IsNewName old next n → ⊥) → (o : Option (List ℕ)) → files (staged n) ≡ o → o ≡ None
-    none_by n served old_name None e = refl
-    none_by n served old_name (Some bytes) e = absurd (old_name (are_staged.nothing_else n served (subst IsSome (sym e) refl)))
+-- each file of a log is a served one, and none of the log's own
+pub file_served : (log : LogOf) (n : List ℕ) → IsFileOf log n → is_served n ≡ true
+file_served log n (inl tile) = ap is_served (sym tile.2)
+file_served log n (inr bundle) = ap is_served (sym bundle.2)
 
-    tile_not_staged : (t : TileAt) → IsTileIn old t → files (staged (tile_path t)) ≡ None
-    tile_not_staged t is = none_by (tile_path t) refl (λ new. ⊎_elim
-        (λ tile. tile.2 (subst (IsTileIn old) (sym (tile_path_once tile.0 t tile.1.level is.level (width_at_most _ tile.0 tile.1.exists) (width_at_most _ t is.exists) tile.3)) is))
-        (λ bundle. no_tile_a_bundle t bundle.0 is.level (sym bundle.3)) new) (files (staged (tile_path t))) refl
+file_outside : (log : LogOf) (n : List ℕ) → IsFileOf log n → is_own n ≡ false
+file_outside log n is = served_not_own n (file_served log n is)
 
-    bundle_not_staged : (t : TileAt) → IsBundleIn old t → files (staged (entries_path t)) ≡ None
-    bundle_not_staged t is = none_by (entries_path t) refl (λ new. ⊎_elim
-        (λ tile. no_tile_a_bundle tile.0 t tile.1.level tile.3)
-        (λ bundle. bundle.2 (subst (IsBundleIn old) (sym (entries_path_once bundle.0 t bundle.1.level is.level (width_at_most _ bundle.0 bundle.1.exists) (width_at_most _ t is.exists) bundle.3)) is)) new) (files (staged (entries_path t))) refl
+-- files that are the same at a log's names are the log's
+pub same_files : (log : LogOf) (s c : Files) → ((n : List ℕ) → IsFileOf log n → c n ≡ s n) → HasFiles log s → HasFiles log c
+same_files log s c same has = record {
+  tile = λ t is. same (tile_path t) (inl (t, is, refl)) ∙ has.tile t is;
+  bundle = λ t is. same (entries_path t) (inr (t, is, refl)) ∙ has.bundle t is;
+}
 
-    module _ (text : List ℕ) (says : text ≡ checkpoint_of next) (serves : Serves old files) where
-      -- where nothing is staged, the next files are the old ones
-      same_at : (n : List ℕ) → is_served n ≡ true → files (staged n) ≡ None → committed text files n ≡ files n
-      same_at n served none = committed_served files text n served ∙ ap (λ (o : Option (List ℕ)). option_or o (files n)) none
+pub same_served : (log : LogOf) (s c : Files) → ((n : List ℕ) → IsFileOf log n → c n ≡ s n) → c checkpoint ≡ s checkpoint → Serves log s → Serves log c
+same_served log s c same text serves = record { checkpoint = (serves.checkpoint.0, text ∙ serves.checkpoint.1); holds = same_files log s c same serves.holds }
 
-      new_at : (n bytes : List ℕ) → is_served n ≡ true → files (staged n) ≡ Some bytes → committed text files n ≡ Some bytes
-      new_at n bytes served there = committed_served files text n served ∙ ap (λ (o : Option (List ℕ)). option_or o (files n)) there
+pub same_kept : (served log : LogOf) (s c : Files) → ((n : List ℕ) → IsFileOf log n ⊎ IsFileOf served n → c n ≡ s n) → c checkpoint ≡ s checkpoint → c state ≡ s state → Keeps served log s → Keeps served log c
+same_kept served log s c same text says keeps = record {
+  state = says ∙ keeps.state;
+  holds = same_files log s c (λ n is. same n (inl is)) keeps.holds;
+  serves = same_served served s c (λ n is. same n (inr is)) text keeps.serves;
+  begins = keeps.begins;
+  newest = λ unsigned. keeps.newest (ap is_signed (sym text) ∙ unsigned);
+}
 
-      -- what is staged leads from the old log to the next one
-      pub leads : LeadsTo Serves Needs files (committed text files) old next
-      leads = record {
-        old_served = serves;
-        kept = λ n need. ⊎_elim (λ here. inr here) (λ other. inl (⊎_elim
-            (λ tile. subst (λ (m : List ℕ). committed text files m ≡ files m) tile.2 (same_at (tile_path tile.0) refl (tile_not_staged tile.0 tile.1)))
-            (λ bundle. subst (λ (m : List ℕ). committed text files m ≡ files m) bundle.2 (same_at (entries_path bundle.0) refl (bundle_not_staged bundle.0 bundle.1))) other)) need;
-        next_served = record {
-          checkpoint = ap (λ (b : List ℕ). Some b) says;
-          tile = λ t is. ⊎_elim
-              (λ was. same_at (tile_path t) refl (tile_not_staged t was) ∙ serves.tile t was ∙ ap (λ (b : List ℕ). Some b) (sym (tile_kept t was)))
-              (λ new. new_at (tile_path t) (tile_bytes next t) refl (are_staged.tile t is new)) (tile_was t is);
-          bundle = λ t is. ⊎_elim
-              (λ was. same_at (entries_path t) refl (bundle_not_staged t was) ∙ serves.bundle t was ∙ ap (λ (b : List ℕ). Some b) (sym (bundle_kept t was)))
-              (λ new. new_at (entries_path t) (bundle_bytes next t) refl (are_staged.bundle t is new)) (bundle_was t is);
-        };
-      }
+pub extends_self : (log : LogOf) → Extends log log
+extends_self log = record { origin = refl; entries = ([], sym (append-nil log.entries)) }
+
+pub extends_then : (a b c : LogOf) → Extends a b → Extends b c → Extends a c
+extends_then a b c one two = record {
+  origin = two.origin ∙ one.origin;
+  entries = (one.entries.0 ++ two.entries.0, two.entries.1 ∙ ap (λ (l : List (List ℕ)). l ++ two.entries.0) one.entries.1 ∙ append_assoc a.entries one.entries.0 two.entries.0);
+}
+
+pub extends_length : (a b : LogOf) → Extends a b → length a.entries ≤ length b.entries
+extends_length a b one = omega (arith, ap length one.entries.1, length-append a.entries one.entries.0)
+
+module _ (served old next : LogOf) (begins : Extends served old) (extends : Extends old next) (files : Files) (are_staged : AreStagedFor old next files) where
+  -- nothing is staged at the name of a file that the old log has, or one that it continues
+  none_by : (n : List ℕ) → is_served n ≡ true → (IsNewName old next n → ⊥) → (o : Option (List ℕ)) → files (staged n) ≡ o → o ≡ None
+  none_by n is old_name None e = refl
+  none_by n is old_name (Some bytes) e = absurd (old_name (are_staged.nothing_else n is (subst IsSome (sym e) refl)))
+
+  tile_old : (t : TileAt) → IsTileIn served t → IsTileIn next t → IsTileIn old t
+  tile_old t is new = record { level = is.level; exists = tile_between _ _ _ t (extends_length served old begins) (extends_length old next extends) is.exists new.exists }
+
+  bundle_old : (t : TileAt) → IsBundleIn served t → IsBundleIn next t → IsBundleIn old t
+  bundle_old t is new = record { level = is.level; exists = tile_between _ _ _ t (extends_length served old begins) (extends_length old next extends) is.exists new.exists }
+
+  pub not_new : (n : List ℕ) → IsFileOf served n → IsNewName old next n → ⊥
+  not_new n (inl is) (inl new) =
+      let same : new.0 ≡ is.0 = tile_path_once new.0 is.0 new.1.level is.1.level (width_at_most _ new.0 new.1.exists) (width_at_most _ is.0 is.1.exists) (new.3 ∙ sym is.2) in
+      new.2 (subst (IsTileIn old) (sym same) (tile_old is.0 is.1 (subst (IsTileIn next) same new.1)))
+  not_new n (inl is) (inr new) = no_tile_a_bundle is.0 new.0 is.1.level (is.2 ∙ sym new.3)
+  not_new n (inr is) (inl new) = no_tile_a_bundle new.0 is.0 new.1.level (new.3 ∙ sym is.2)
+  not_new n (inr is) (inr new) =
+      let same : new.0 ≡ is.0 = entries_path_once new.0 is.0 new.1.level is.1.level (width_at_most _ new.0 new.1.exists) (width_at_most _ is.0 is.1.exists) (new.3 ∙ sym is.2) in
+      new.2 (subst (IsBundleIn old) (sym same) (bundle_old is.0 is.1 (subst (IsBundleIn next) same new.1)))
+
+  pub stays : (text n : List ℕ) → IsFileOf served n → committed text files n ≡ files n
+  stays text n is =
+      let served_name = file_served served n is in
+      let none : files (staged n) ≡ None = none_by n served_name (not_new n is) (files (staged n)) refl in
+      committed_served files text n served_name ∙ ap (λ (o : Option (List ℕ)). option_or o (files n)) none
+
+module _ (old next : LogOf) (extends : Extends old next) (files : Files) (are_staged : AreStagedFor old next files) where
+  new_at : (text n bytes : List ℕ) → is_served n ≡ true → files (staged n) ≡ Some bytes → committed text files n ≡ Some bytes
+  new_at text n bytes is there = committed_served files text n is ∙ ap (λ (o : Option (List ℕ)). option_or o (files n)) there
+
+  -- once committed, the next log's files are there
+  pub next_files : (text : List ℕ) → HasFiles old files → HasFiles next (committed text files)
+  next_files text has = record {
+    tile = λ t is. ⊎_elim
+        (λ was. stays old old next (extends_self old) extends files are_staged text (tile_path t) (inl (t, was, refl)) ∙ has.tile t was ∙ ap (λ (b : List ℕ). Some b) (sym (tile_kept old next extends t was)))
+        (λ new. new_at text (tile_path t) (tile_bytes next t) refl (are_staged.tile t is new)) (tile_was old next extends t is);
+    bundle = λ t is. ⊎_elim
+        (λ was. stays old old next (extends_self old) extends files are_staged text (entries_path t) (inr (t, was, refl)) ∙ has.bundle t was ∙ ap (λ (b : List ℕ). Some b) (sym (bundle_kept old next extends t was)))
+        (λ new. new_at text (entries_path t) (bundle_bytes next t) refl (are_staged.bundle t is new)) (bundle_was old next extends t is);
+  }
+
+module _ (served old next : LogOf) (files : Files) (keeps : Keeps served old files) (extends : Extends old next) (are_staged : AreStagedFor old next files) (text : List ℕ) (says : text ≡ checkpoint_of next) where
+  committed_checkpoint : committed text files checkpoint ≡ checkpoint_after text (files checkpoint)
+  committed_checkpoint = refl
+
+  served_stays : (n : List ℕ) → IsFileOf served n → committed text files n ≡ files n
+  served_stays n is = stays served old next keeps.begins extends files are_staged text n is
+
+  -- where the checkpoint is signed, the served log stays; else the next one is served
+  signed_keeps : is_signed (files checkpoint) ≡ true → Keeps served next (committed text files)
+  signed_keeps is = record {
+    state = ap (λ (b : List ℕ). Some b) says;
+    holds = next_files old next extends files are_staged text keeps.holds;
+    serves = same_served served files (committed text files) served_stays (rw is refl) keeps.serves;
+    begins = extends_then served old next keeps.begins extends;
+    newest = λ unsigned. absurd (apart (sym is ∙ ap is_signed (sym (rw is refl)) ∙ unsigned));
+  }
+
+  unsigned_keeps : is_signed (files checkpoint) ≡ false → Keeps next next (committed text files)
+  unsigned_keeps isnt = record {
+    state = ap (λ (b : List ℕ). Some b) says;
+    holds = next_files old next extends files are_staged text keeps.holds;
+    serves = record { checkpoint = (None, rw isnt (ap (λ (b : List ℕ). Some b) says)); holds = next_files old next extends files are_staged text keeps.holds };
+    begins = extends_self next;
+    newest = λ unsigned. refl;
+  }
+
+  pub next_keeps : (log : LogOf) × Keeps log next (committed text files)
+  next_keeps = elim (cases_Bool (is_signed (files checkpoint))) [ inl is ↦ (served, signed_keeps is) | inr isnt ↦ (next, unsigned_keeps isnt) ]
+
+  module _ (idle : files mark ≡ None) (c : Files) (was : IsBetween files (committed text files) c) where
+    -- a file of the served log is the same, opened and not
+    same_now : (n : List ℕ) → IsFileOf served n → c n ≡ files n
+    same_now n is = ⊎_elim (λ e. e) (λ e. e ∙ served_stays n is) (was.each n (file_outside served n is))
+
+    same_opened : (n : List ℕ) → IsFileOf served n → opened c n ≡ files n
+    same_opened n is = ⊎_elim
+        (λ (e, same). ap (λ (f : Files). f n) e ∙ idle_same files n idle (file_outside served n is))
+        (λ e. ap (λ (f : Files). f n) e ∙ served_stays n is)
+        was.stands_for
+
+    as_before : c checkpoint ≡ files checkpoint → IsServed served c
+    as_before text_same = record {
+      serves = same_served served files c same_now text_same keeps.serves;
+      stay = λ n is. same_opened n is ∙ sym (same_now n is);
+    }
+
+    as_next : is_signed (files checkpoint) ≡ false → ((n : List ℕ) → is_own n ≡ false → c n ≡ committed text files n) → IsServed next c
+    as_next isnt all = record {
+      serves = same_served next (committed text files) c (λ n is. all n (file_outside next n is)) (all checkpoint refl) (unsigned_keeps isnt).serves;
+      stay = λ n is. ⊎_elim
+          (λ (e, same). ap (λ (f : Files). f n) e ∙ idle_same files n idle (file_outside next n is) ∙ sym (same n (file_outside next n is)))
+          (λ e. ap (λ (f : Files). f n) e ∙ sym (all n (file_outside next n is)))
+          was.stands_for;
+    }
+
+    pub between_one_of : IsOneOf served old next c
+    between_one_of = record {
+      read = elim (cases_Bool (is_signed (files checkpoint))) [
+        | inl is ↦ inl (as_before (⊎_elim (λ e. e) (λ all. all checkpoint refl ∙ rw is refl) was.whole))
+        | inr isnt ↦ ⊎_elim (λ e. inl (as_before e)) (λ all. inr (as_next isnt all)) was.whole
+      ];
+      opened = ⊎_elim
+          (λ (e, same). inl (subst (Keeps served old) (sym e) (opened_idle_keeps)))
+          (λ e. inr (next_keeps.0, subst (Keeps next_keeps.0 next) (sym e) next_keeps.1))
+          was.stands_for;
+    }
+      where
+        opened_idle_keeps : Keeps served old (opened files)
+        opened_idle_keeps = same_kept served old files (opened files)
+            (λ n is. idle_same files n idle (⊎_elim (λ one. file_outside old n one) (λ other. file_outside served n other) is))
+            (idle_same files checkpoint idle refl) (opened_idle files state idle refl) keeps

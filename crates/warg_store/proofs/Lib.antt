@@ -10,4 +10,5 @@ mod ListedLemmas
 mod ReadyLemmas
 mod PathLemmas
 mod LeadLemmas
-mod GrowthLemmas
+mod StagedLemmas
+mod AuditLemmas

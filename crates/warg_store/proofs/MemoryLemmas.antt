@@ -11,7 +11,7 @@ use Rattle.warg_store.specs.Files.{Files, put, without, moved, SameBut, Either}
 use Rattle.warg_store.specs.Moments.{Only, Follows, Elapses}
 use Rattle.warg_store.specs.Memory.{after, may_after, seen_from, may_from, empty, seen_after, MayLeave, LeftSince, name_put}
 use Rattle.std.specs.Option.{option_or}
-use Rattle.warg_store.proofs.NameLemmas.{told, apart}
+use Rattle.warg_store.proofs.NameLemmas.{one_name, apart}
 use Rattle.warg_store.proofs.FileLemmas.{put_here, put_apart, without_here, without_apart, moved_to, moved_from, moved_apart}
 
 seen_from-push : (s : Files) (xs : List Call) (x : Call) → seen_from s (xs ++ x ∷ []) ≡ after x (seen_from s xs)
@@ -61,14 +61,14 @@ same_moment old new is = record {
 
 -- what a call puts at a name
 put_or_was : (x : Call) (s : Files) (n : List ℕ) → IsSome (after x s n) → IsSome (s n) ⊎ (name_put x ≡ Some n)
-put_or_was (Written name bytes) s n some = elim (told (string_bytes name) n) [ inl t ↦ inr (ap (λ (l : List ℕ). Some l) t.1) | inr f ↦ inl (rw (f.0) at some) ]
-put_or_was (Renamed from to) s n some = elim (told (string_bytes to) n) [
+put_or_was (Written name bytes) s n some = elim (one_name (string_bytes name) n) [ inl t ↦ inr (ap (λ (l : List ℕ). Some l) t.1) | inr f ↦ inl (rw (f.0) at some) ]
+put_or_was (Renamed from to) s n some = elim (one_name (string_bytes to) n) [
   | inl t ↦ inr (ap (λ (l : List ℕ). Some l) t.1)
-  | inr f ↦ elim (told (string_bytes from) n) [ inl t ↦ absurd (apart (sym (rw (f.0, t.0) at some))) | inr g ↦ inl (rw (f.0, g.0) at some) ]
+  | inr f ↦ elim (one_name (string_bytes from) n) [ inl t ↦ absurd (apart (sym (rw (f.0, t.0) at some))) | inr g ↦ inl (rw (f.0, g.0) at some) ]
 ]
-put_or_was (Removed name) s n some = elim (told (string_bytes name) n) [ inl t ↦ absurd (apart (sym (rw (t.0) at some))) | inr f ↦ inl (rw (f.0) at some) ]
+put_or_was (Removed name) s n some = elim (one_name (string_bytes name) n) [ inl t ↦ absurd (apart (sym (rw (t.0) at some))) | inr f ↦ inl (rw (f.0) at some) ]
 put_or_was Synced s n some = inl some
-put_or_was (Replaced name bytes) s n some = elim (told (string_bytes name) n) [ inl t ↦ inr (ap (λ (l : List ℕ). Some l) t.1) | inr f ↦ inl (rw (f.0) at some) ]
+put_or_was (Replaced name bytes) s n some = elim (one_name (string_bytes name) n) [ inl t ↦ inr (ap (λ (l : List ℕ). Some l) t.1) | inr f ↦ inl (rw (f.0) at some) ]
 
 -- a file that is seen was put by a call
 put_by : (xs : List Call) (s : Files) (n : List ℕ) (d : Call) → IsSome (seen_from s xs n) → IsSome (s n) ⊎ ((k : ℕ) × (k < length xs) × (name_put (get_or xs k d) ≡ Some n))

@@ -9,8 +9,8 @@ use Rattle.std.proofs.lemmas.List.{append_cancel_left}
 use Rattle.warg_store.specs.Names.{checkpoint, state, mark, staged, is_staged, is_own, is_served}
 
 -- two names are one, or not
-pub told : (a b : List ℕ) → ((pointwise nat_eq a b ≡ true) × (a ≡ b)) ⊎ ((pointwise nat_eq a b ≡ false) × (a ≢ b))
-told a b = elim (cases_Bool (pointwise nat_eq a b)) [ inl t ↦ inl (t, (bytes_decides a b).0 t) | inr f ↦ inr (f, not_from_Decides _ (bytes_decides a b) f) ]
+pub one_name : (a b : List ℕ) → ((pointwise nat_eq a b ≡ true) × (a ≡ b)) ⊎ ((pointwise nat_eq a b ≡ false) × (a ≢ b))
+one_name a b = elim (cases_Bool (pointwise nat_eq a b)) [ inl t ↦ inl (t, (bytes_decides a b).0 t) | inr f ↦ inr (f, not_from_Decides _ (bytes_decides a b) f) ]
 
 pub apart : true ≡ false → ⊥
 apart e = cc

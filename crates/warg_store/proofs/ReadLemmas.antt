@@ -1,8 +1,9 @@
 -- A text that was read up to a length.
-use Rattle.std.proofs.Common.{◌≡◌, inl, inr, ℕ, ◌+◌, ◌<◌, ◌≤◌, List, length, take, Option, Some, None, refl, sym, ap, ◌∙◌, arith}
+use Rattle.std.proofs.Common.{◌≡◌, inl, inr, ℕ, ◌+◌, ◌^◌, ◌<◌, ◌≤◌, List, length, take, true, false, Option, Some, None, refl, sym, ap, ◌∙◌, arith}
 use Rattle.std.specs.Prelude.{option_map}
-use Rattle.std.proofs.lemmas.Bool.{cases_lt}
+use Rattle.std.proofs.lemmas.Bool.{cases_lt, lt-ltb}
 use Rattle.std.proofs.lemmas.List.{take_all, length-take-le}
+use Rattle.warg_store.specs.Opening.{is_signed}
 
 -- one that is longer than that
 pub read_long : (o : Option (List ℕ)) (text : List ℕ) (most : ℕ) → Some text ≡ option_map (take (most + 1)) o → most < length text → (t : List ℕ) × (o ≡ Some t) × (most < length t)
@@ -24,3 +25,20 @@ read_whole (Some t) text most read short = let is : text ≡ take (most + 1) t =
 pub read_none : (o : Option (List ℕ)) (most : ℕ) → None ≡ option_map (take (most + 1)) o → o ≡ None
 read_none None most read = refl
 read_none (Some t) most read = cc
+
+long_signed : (bytes : List ℕ) → 2 ^ 20 < length bytes → is_signed (Some bytes) ≡ true
+unfolding is_signed
+long_signed bytes long = rw (lt-ltb (2 ^ 20) (length bytes) long) refl
+
+-- whether a checkpoint is signed is told by its bytes up to a length
+pub signed_read : (o : Option (List ℕ)) (bytes : List ℕ) (most : ℕ) → most ≡ 2 ^ 20 → Some bytes ≡ option_map (take (most + 1)) o → is_signed (Some bytes) ≡ is_signed o
+signed_read o bytes most is read = elim (cases_lt most (length bytes)) [
+  | inl long ↦
+      let whole = read_long o bytes most read long in
+      long_signed bytes (omega (arith, is)) ∙ sym (long_signed whole.0 (omega (arith, is, whole.2))) ∙ ap is_signed (sym whole.1)
+  | inr short ↦ ap is_signed (sym (read_whole o bytes most read (omega arith)))
+]
+
+pub unsigned_is : (o : Option (List ℕ)) → o ≡ None → false ≡ is_signed o
+unfolding is_signed
+unsigned_is o none = ap is_signed (sym none)

@@ -1,10 +1,10 @@
 -- A folder that is ready for the next commit.
-use Rattle.std.proofs.Common.{◌≡◌, ℕ, true, List, Option, Some, None, Result, refl, ap, ◌∙◌}
+use Rattle.std.proofs.Common.{◌≡◌, ℕ, true, List, Option, Some, None, Result, refl, sym, ap, subst, ◌∙◌}
 use Rattle.std.specs.Prelude.{OnOk, Ok, Err}
 use Rattle.warg_store.specs.Files.{Files}
-use Rattle.warg_store.specs.Moments.{Only}
+use Rattle.warg_store.specs.Moments.{Only, Within}
 use Rattle.warg_store.specs.Names.{mark, is_staged}
-use Rattle.warg_store.specs.Opening.{without_staged, opened_by, opened, IsStaging, NothingStaged}
+use Rattle.warg_store.specs.Opening.{without_staged, opened_by, opened, IsBeside, IsStaging, NothingStaged}
 
 pub without_mark : (s : Files) → without_staged s mark ≡ None
 without_mark s = refl
@@ -37,3 +37,7 @@ without_empty s n is = rw is refl
 pub empty_by : {T E : Type 0} (r : Result T E) (s t : Files) → NothingStaged s → OnOk r (t ≡ s) → OnOk r (NothingStaged t)
 empty_by (Ok v) s t none is = λ n staged. ap (λ (f : Files). f n) is ∙ none n staged
 empty_by (Err e) s t none is = is
+
+-- a call that changes nothing keeps a folder ready
+pub staging_kept : (s t : Files) (may may_now : Files → Type 0) → t ≡ s → Within may may_now → IsStaging s may → IsStaging t may_now
+staging_kept s t may may_now same within was c left = subst (λ (f : Files). IsBeside f c) (sym same) (was c (within c left))

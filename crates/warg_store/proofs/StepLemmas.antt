@@ -1,5 +1,5 @@
 -- What a crash leaves within a commit.
-use Rattle.std.proofs.Common.{◌≡◌, ◌≢◌, ◌⊎◌, inl, inr, ⊎_elim, ℕ, List, true, false, Option, Some, None, IsSome, map, refl, sym, ap, ◌∙◌, subst, string_bytes}
+use Rattle.std.proofs.Common.{◌≡◌, ◌≢◌, ◌⊎◌, inl, inr, ⊎_elim, ℕ, List, true, false, Option, Some, None, IsSome, Bool, if◌then◌else◌, map, refl, sym, ap, ◌∙◌, subst, string_bytes}
 use mathlib.Core.Path.{fun_ext}
 use Rattle.std.specs.Option.{option_or}
 use Rattle.std.specs.List.{All, Contains}
@@ -9,9 +9,9 @@ use Rattle.std.specs.declared.string.String.{String}
 use Rattle.std.specs.declared.alloc.Global.{Global}
 use Rattle.warg_store.specs.Files.{Files, put, without, moved, SameBut, Either}
 use Rattle.warg_store.specs.Names.{checkpoint, state, mark, staged, is_staged, is_own, is_served}
-use Rattle.warg_store.specs.Opening.{without_staged, published, finished, opened_by, opened, committed, IsBeside, IsBetween}
+use Rattle.warg_store.specs.Opening.{without_staged, is_signed, checkpoint_after, told, published, finished, opened_by, opened, committed, IsBeside, IsBetween}
 use Rattle.warg_store.specs.Private.Steps.{IsRemoving, IsMoving, IsPut}
-use Rattle.warg_store.proofs.NameLemmas.{told, apart, not_staged, served_not_staged, served_not_checkpoint, served_not_state, mark_not_staged_file, served_apart_staged, staged_once}
+use Rattle.warg_store.proofs.NameLemmas.{one_name, apart, not_staged, served_not_staged, served_not_checkpoint, served_not_state, mark_not_staged_file, served_apart_staged, staged_once}
 use Rattle.warg_store.proofs.FileLemmas.{put_apart, without_here, without_apart, without_either, moved_to, moved_from, moved_apart}
 
 -- a step that was done or wasn't
@@ -92,7 +92,7 @@ pub moved_one : (s d : Files) (to : List ℕ) → is_served to ≡ true → IsMo
 moved_one s d to is was = record {
   outside = λ n isnt other. moved_apart (staged to) to d n (other_than_served to n is other) (other_than (staged to) n refl isnt) ∙ was.outside n isnt other;
   mark = moved_apart (staged to) to d mark (other_than_served to mark is refl) (mark_not_staged_file to is) ∙ was.mark;
-  each = λ n served. elim (told to n) [
+  each = λ n served. elim (one_name to n) [
     | inl here ↦ at_name n here.1
     | inr another ↦ elsewhere n served another.1
   ];
@@ -113,23 +113,30 @@ moved_one s d to is was = record {
 
 -- Opening.
 
--- folders with the same commit that stands are opened alike, where its files are published alike
-pub opened_alike : (c s : Files) (text : List ℕ) → c mark ≡ Some text → s mark ≡ Some text
+-- what a text puts at each name
+pub told_checkpoint : (text : List ℕ) (s : Files) → told text s checkpoint ≡ checkpoint_after text (s checkpoint)
+told_checkpoint text s = refl
+
+pub told_apart : (text : List ℕ) (s : Files) (n : List ℕ) → checkpoint ≢ n → state ≢ n → told text s n ≡ s n
+told_apart text s n a b = elim (one_name checkpoint n) [ inl t ↦ absurd (a t.1) | inr f ↦ rw (f.0) (put_apart (state, text) s n b) ]
+
+-- folders with the same commit that stands are opened alike, where its files are published alike and the checkpoint comes to the same
+pub opened_alike : (c s : Files) (text : List ℕ) → c mark ≡ Some text → s mark ≡ Some text → checkpoint_after text (c checkpoint) ≡ checkpoint_after text (s checkpoint)
     → ((n : List ℕ) → is_staged n ≡ false → checkpoint ≢ n → state ≢ n → published c n ≡ published s n) → opened c ≡ opened s
-opened_alike c s text stands_c stands_s same =
+opened_alike c s text stands_c stands_s signed same =
     ap (λ (o : Option (List ℕ)). opened_by o c) stands_c ∙ without_same (finished text c) (finished text s) at ∙ sym (ap (λ (o : Option (List ℕ)). opened_by o s) stands_s)
   where
     at : (n : List ℕ) → is_staged n ≡ false → finished text c n ≡ finished text s n
-    at n isnt = elim (told checkpoint n) [
-      | inl t ↦ rw (t.0) refl
-      | inr f ↦ rw (f.0) (elim (told state n) [ inl t ↦ rw (t.0) refl | inr g ↦ rw (g.0) (same n isnt f.1 g.1) ])
+    at n isnt = elim (one_name checkpoint n) [
+      | inl t ↦ rw (t.0) signed
+      | inr f ↦ rw (f.0) (elim (one_name state n) [ inl t ↦ rw (t.0) refl | inr g ↦ rw (g.0) (same n isnt f.1 g.1) ])
     ]
 
 -- what stands at a commit's name once it is opened
 pub opened_served : (s : Files) (text n : List ℕ) → s mark ≡ Some text → is_served n ≡ true → opened s n ≡ option_or (s (staged n)) (s n)
 opened_served s text n stands is =
     ap (λ (o : Option (List ℕ)). opened_by o s n) stands ∙ without_at (finished text s) n (served_not_staged n is)
-    ∙ put_apart (checkpoint, text) (put (state, text) (published s)) n (served_not_checkpoint n is) ∙ put_apart (state, text) (published s) n (served_not_state n is) ∙ rw is refl
+    ∙ told_apart text (published s) n (served_not_checkpoint n is) (served_not_state n is) ∙ rw is refl
 
 published_moving : (s c : Files) (n : List ℕ) → IsMoving s c → is_staged n ≡ false → published c n ≡ published s n
 published_moving s c n was isnt = elim (cases_Bool (is_served n)) [
@@ -142,11 +149,11 @@ published_moving s c n was isnt = elim (cases_Bool (is_served n)) [
     present (Some bytes) p some = refl
 
 pub moving_opened : (s c : Files) (text : List ℕ) → s mark ≡ Some text → IsMoving s c → opened c ≡ opened s
-moving_opened s c text stands was = opened_alike c s text (was.mark ∙ stands) stands (λ n isnt a b. published_moving s c n was isnt)
+moving_opened s c text stands was = opened_alike c s text (was.mark ∙ stands) stands (ap (checkpoint_after text) (was.outside checkpoint refl refl)) (λ n isnt a b. published_moving s c n was isnt)
 
 pub moving_between : (s c : Files) (text : List ℕ) → s mark ≡ Some text → IsMoving s c → IsBetween s (opened s) c
 moving_between s c text stands was = record {
-  stands_for = inl (moving_opened s c text stands was);
+  stands_for = inr (moving_opened s c text stands was);
   each = λ n out. elim (cases_Bool (is_served n)) [
     | inl is ↦ ⊎_elim (λ (same, there). inl same) (λ (same, none, some). inr (same ∙ chosen (s (staged n)) (s n) some ∙ sym (opened_served s text n stands is))) (was.each n is)
     | inr other ↦ inl (was.outside n (not_staged n out) other)
@@ -161,7 +168,7 @@ moving_between s c text stands was = record {
 -- with the state's text in its place already
 pub state_put : (s t c : Files) (text : List ℕ) → c mark ≡ Some text → IsBetween s t c → IsBetween s t (put (state, text) c)
 state_put s t c text stands was = record {
-  stands_for = ⊎_elim (λ e. inl (alike ∙ e)) (λ e. inr (alike ∙ e)) was.stands_for;
+  stands_for = ⊎_elim (λ (e, same). inl (alike ∙ e, λ n out. here n out ∙ same n out)) (λ e. inr (alike ∙ e)) was.stands_for;
   each = λ n out. ⊎_elim (λ e. inl (here n out ∙ e)) (λ e. inr (here n out ∙ e)) (was.each n out);
   whole = ⊎_elim (λ e. inl e) (λ all. inr (λ n out. here n out ∙ all n out)) was.whole;
 }
@@ -170,25 +177,26 @@ state_put s t c text stands was = record {
     here n out = put_apart (state, text) c n (λ e. apart (ap is_own e ∙ out))
 
     alike : opened (put (state, text) c) ≡ opened c
-    alike = opened_alike (put (state, text) c) c text stands stands (λ n isnt a b. elim (cases_Bool (is_served n)) [
+    alike = opened_alike (put (state, text) c) c text stands stands refl (λ n isnt a b. elim (cases_Bool (is_served n)) [
       | inl is ↦ rw is (ap (λ (o : Option (List ℕ)). option_or (c (staged n)) o) (put_apart (state, text) c n b))
       | inr other ↦ rw other (put_apart (state, text) c n b)
     ])
 
--- A commit that is done but for what is staged: its text is the state's and the checkpoint's, and its files are at their names.
+-- A commit that is done but for what is staged: its text is the state's and the checkpoint's, or another is signed, and its
+-- files are at their names.
 pub record IsDone (text : List ℕ) (s : Files) : Type 0 where
   pub stands : s mark ≡ Some text
   pub state : s state ≡ Some text
-  pub checkpoint : s checkpoint ≡ Some text
+  pub checkpoint : checkpoint_after text (s checkpoint) ≡ s checkpoint
   pub gone : (n : List ℕ) → is_served n ≡ true → s (staged n) ≡ None
 
 pub done_opened : (s : Files) (text : List ℕ) → IsDone text s → opened s ≡ without_staged s
 done_opened s text done = ap (λ (o : Option (List ℕ)). opened_by o s) done.stands ∙ without_same (finished text s) s at
   where
     at : (n : List ℕ) → is_staged n ≡ false → finished text s n ≡ s n
-    at n isnt = elim (told checkpoint n) [
-      | inl t ↦ rw (t.0) (sym done.checkpoint ∙ ap s t.1)
-      | inr f ↦ rw (f.0) (elim (told state n) [
+    at n isnt = elim (one_name checkpoint n) [
+      | inl t ↦ rw (t.0) (done.checkpoint ∙ ap s t.1)
+      | inr f ↦ rw (f.0) (elim (one_name state n) [
         | inl t ↦ rw (t.0) (sym done.state ∙ ap s t.1)
         | inr g ↦ rw (g.0) (elim (cases_Bool (is_served n)) [ inl is ↦ rw (is, done.gone n is) refl | inr other ↦ rw other refl ])
       ])
@@ -200,7 +208,7 @@ done_removing s text done = record { outside = λ n isnt. refl; mark = inr (refl
 pub removing_opened : (s c : Files) (text : List ℕ) → IsDone text s → IsRemoving s c → opened c ≡ opened s
 removing_opened s c text done was = ⊎_elim
     (λ none. ap (λ (o : Option (List ℕ)). opened_by o c) none ∙ without_same c s was.outside ∙ sym (done_opened s text done))
-    (λ (same, gone). opened_alike c s text (same ∙ done.stands) done.stands (λ n isnt a b. elim (cases_Bool (is_served n)) [
+    (λ (same, gone). opened_alike c s text (same ∙ done.stands) done.stands (ap (checkpoint_after text) (was.outside checkpoint refl)) (λ n isnt a b. elim (cases_Bool (is_served n)) [
       | inl is ↦ rw (is, gone n is, done.gone n is) (was.outside n isnt)
       | inr other ↦ rw other (was.outside n isnt)
     ]))
@@ -208,7 +216,7 @@ removing_opened s c text done was = ⊎_elim
 
 pub removing_between : (s d c : Files) (text : List ℕ) → IsDone text d → opened d ≡ opened s → IsRemoving d c → IsBetween s (opened s) c
 removing_between s d c text done same was = record {
-  stands_for = inl (removing_opened d c text done was ∙ same);
+  stands_for = inr (removing_opened d c text done was ∙ same);
   each = λ n out. inr (now n out);
   whole = inr now;
 }
@@ -220,7 +228,7 @@ removing_between s d c text done same was = record {
 
 pub beside_between : (s t c : Files) → s mark ≡ None → IsBeside s c → IsBetween s t c
 beside_between s t c none was = record {
-  stands_for = inl (beside_opened s c none was);
+  stands_for = inl (beside_opened s c none was, λ n out. was.outside n (not_staged n out));
   each = λ n out. inl (was.outside n (not_staged n out));
   whole = inl (was.outside checkpoint refl);
 }
@@ -233,7 +241,7 @@ marked_between s text = record { stands_for = inr refl; each = λ n out. inl (un
 
 pub from_unmarked : (s c : Files) (text : List ℕ) → IsBetween (put (mark, text) s) (committed text s) c → IsBetween s (committed text s) c
 from_unmarked s c text was = record {
-  stands_for = inr (⊎_elim (λ e. e) (λ e. e) was.stands_for);
+  stands_for = inr (⊎_elim (λ (e, same). e) (λ e. e) was.stands_for);
   each = λ n out. ⊎_elim (λ e. inl (e ∙ unmarked s text n out)) (λ e. inr e) (was.each n out);
   whole = ⊎_elim (λ e. inl e) (λ all. inr all) was.whole;
 }
@@ -255,23 +263,65 @@ pub first_put : (text : List ℕ) (s d c : Files) → d ≡ s → Either (put (s
 first_put text s d c was (inl same) = inl (same ∙ was)
 first_put text s d c was (inr put_) = inr (inl (put_ ∙ ap (put (state, text)) was))
 
-pub second_put : (text : List ℕ) (s d c : Files) → d ≡ put (state, text) s → Either (put (checkpoint, text)) d c → IsPut text s c
-second_put text s d c was (inl same) = inr (inl (same ∙ was))
-second_put text s d c was (inr put_) = inr (inr (put_ ∙ ap (put (checkpoint, text)) was))
+-- the checkpoint after a text, twice
+after_twice : (text : List ℕ) (o : Option (List ℕ)) → checkpoint_after text (checkpoint_after text o) ≡ checkpoint_after text o
+after_twice text o = by_test (is_signed o) refl
+  where
+    chosen : (b : Bool) → (if b then Some text else Some text) ≡ Some text
+    chosen true = refl
+    chosen false = refl
 
-put_opened : (s : Files) (text : List ℕ) → s mark ≡ Some text → opened (put (checkpoint, text) (put (state, text) s)) ≡ opened s
-put_opened s text stands = opened_alike (put (checkpoint, text) (put (state, text) s)) s text stands stands (λ n isnt a b.
-    let same : put (checkpoint, text) (put (state, text) s) n ≡ s n = put_apart (checkpoint, text) (put (state, text) s) n a ∙ put_apart (state, text) s n b in
+    by_test : (b : Bool) → is_signed o ≡ b → checkpoint_after text (checkpoint_after text o) ≡ checkpoint_after text o
+    by_test true is = rw is (rw is refl)
+    by_test false isnt = rw isnt (chosen (is_signed (Some text)))
+
+-- the text put as the state, where a signed checkpoint stays
+signed_told : (text : List ℕ) (s : Files) → is_signed (s checkpoint) ≡ true → put (state, text) s ≡ told text s
+signed_told text s is = fun_ext (λ n. elim (one_name checkpoint n) [
+  | inl t ↦ rw (t.0) (put_apart (state, text) s n (λ e. state_apart (e ∙ sym t.1)) ∙ sym (ap s t.1) ∙ sym (stays (is_signed (s checkpoint)) is))
+  | inr f ↦ rw (f.0) refl
+])
+  where
+    state_apart : state ≡ checkpoint → ⊥
+    state_apart e = apart (ap is_own e)
+
+    stays : (b : Bool) → b ≡ true → (if b then s checkpoint else Some text) ≡ s checkpoint
+    stays true e = refl
+    stays false e = absurd (apart (sym e))
+
+-- and as the checkpoint, where none is signed
+unsigned_told : (text : List ℕ) (s : Files) → is_signed (s checkpoint) ≡ false → put (checkpoint, text) (put (state, text) s) ≡ told text s
+unsigned_told text s isnt = fun_ext (λ n. elim (one_name checkpoint n) [
+  | inl t ↦ rw (t.0) (sym (changes (is_signed (s checkpoint)) isnt))
+  | inr f ↦ rw (f.0) refl
+])
+  where
+    changes : (b : Bool) → b ≡ false → (if b then s checkpoint else Some text) ≡ Some text
+    changes true e = absurd (apart e)
+    changes false e = refl
+
+pub second_put : (text : List ℕ) (s d c : Files) → is_signed (s checkpoint) ≡ false → d ≡ put (state, text) s → Either (put (checkpoint, text)) d c → IsPut text s c
+second_put text s d c isnt was (inl same) = inr (inl (same ∙ was))
+second_put text s d c isnt was (inr put_) = inr (inr (put_ ∙ ap (put (checkpoint, text)) was ∙ unsigned_told text s isnt))
+
+pub told_second : (text : List ℕ) (s d c : Files) → is_signed (s checkpoint) ≡ false → d ≡ put (state, text) s → c ≡ put (checkpoint, text) d → c ≡ told text s
+told_second text s d c isnt was is = is ∙ ap (put (checkpoint, text)) was ∙ unsigned_told text s isnt
+
+pub told_first : (text : List ℕ) (s c : Files) → is_signed (s checkpoint) ≡ true → c ≡ put (state, text) s → c ≡ told text s
+told_first text s c is was = was ∙ signed_told text s is
+
+put_opened : (s : Files) (text : List ℕ) → s mark ≡ Some text → opened (told text s) ≡ opened s
+put_opened s text stands = opened_alike (told text s) s text stands stands (after_twice text (s checkpoint)) (λ n isnt a b.
     elim (cases_Bool (is_served n)) [
-      | inl is ↦ rw is (ap (λ (o : Option (List ℕ)). option_or (s (staged n)) o) same)
-      | inr other ↦ rw other same
+      | inl is ↦ rw is (ap (λ (o : Option (List ℕ)). option_or (s (staged n)) o) (told_apart text s n a b))
+      | inr other ↦ rw other (told_apart text s n a b)
     ])
 
 -- with its text put, the commit is done
 pub put_done : (s d : Files) (text : List ℕ) → s mark ≡ Some text → IsMoving s d → ((n : List ℕ) → is_served n ≡ true → d (staged n) ≡ None)
-    → IsDone text (put (checkpoint, text) (put (state, text) d)) × (opened (put (checkpoint, text) (put (state, text) d)) ≡ opened s)
+    → IsDone text (told text d) × (opened (told text d) ≡ opened s)
 put_done s d text stands was gone =
-    (record { stands = was.mark ∙ stands; state = refl; checkpoint = refl; gone = gone }, put_opened d text (was.mark ∙ stands) ∙ moving_opened s d text stands was)
+    (record { stands = was.mark ∙ stands; state = refl; checkpoint = after_twice text (d checkpoint); gone = gone }, put_opened d text (was.mark ∙ stands) ∙ moving_opened s d text stands was)
 
 pub put_between : (s d c : Files) (text : List ℕ) → s mark ≡ Some text → IsMoving s d → ((n : List ℕ) → is_served n ≡ true → d (staged n) ≡ None) → IsPut text d c → IsBetween s (opened s) c
 put_between s d c text stands was gone (inl same) = subst (IsBetween s (opened s)) (sym same) (moving_between s d text stands was)
@@ -279,7 +329,7 @@ put_between s d c text stands was gone (inr (inl same)) =
     subst (IsBetween s (opened s)) (sym same) (state_put s (opened s) d text (was.mark ∙ stands) (moving_between s d text stands was))
 put_between s d c text stands was gone (inr (inr same)) =
     let done = put_done s d text stands was gone in
-    let last = put (checkpoint, text) (put (state, text) d) in
+    let last = told text d in
     subst (IsBetween s (opened s)) (sym same) (removing_between s last last text done.0 done.1 (done_removing last text done.0))
 
 -- each staged file of a commit is moved
@@ -305,10 +355,10 @@ pub removed_here : (d t : Files) (name : List ℕ) → t ≡ without name d → 
 removed_here d t name is = ap (λ (f : Files). f name) is ∙ without_here name d
 
 pub between_self : (s t : Files) → IsBetween s t s
-between_self s t = record { stands_for = inl refl; each = λ n out. inl refl; whole = inl refl }
+between_self s t = record { stands_for = inl (refl, λ n out. refl); each = λ n out. inl refl; whole = inl refl }
 
 pub put_done_by : (s d b : Files) (text : List ℕ) → s mark ≡ Some text → IsMoving s d → ((n : List ℕ) → is_served n ≡ true → d (staged n) ≡ None)
-    → b ≡ put (checkpoint, text) (put (state, text) d) → IsDone text b × (opened b ≡ opened s)
+    → b ≡ told text d → IsDone text b × (opened b ≡ opened s)
 put_done_by s d b text stands was gone is = subst (λ (f : Files). IsDone text f × (opened f ≡ opened s)) (sym is) (put_done s d text stands was gone)
 
 pub idle_removing : (s : Files) → s mark ≡ None → IsRemoving s s

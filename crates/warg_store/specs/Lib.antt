@@ -2,8 +2,11 @@ pub mod Files
 pub mod Moments
 pub mod Names
 pub mod Opening
-pub mod Serving
 pub mod Log
-pub mod NewFiles
+pub mod Serving
+pub mod Staged
+pub mod Growing
 pub mod Private
 pub mod Memory
+pub mod System
+pub mod Audited

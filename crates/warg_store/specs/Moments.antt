@@ -1,7 +1,7 @@
 -- What a crash may leave, from moment to moment.
 use Rattle.std.specs.Prelude.{◌≡◌, ◌⊎◌, ◌≤◌, ◌<◌, ℕ, Result, IsErrOf}
 use Rattle.warg_store.specs.declared.device.FolderError.{FolderError}
-use Rattle.warg_store.specs.declared.device.FolderError.TheVariants.{Failed, TooLong}
+use Rattle.warg_store.specs.declared.device.FolderError.TheVariants.{Failed}
 use Rattle.warg_store.specs.Files.{Files}
 
 -- A crash leaves this and nothing else.
@@ -29,8 +29,7 @@ pub record LeavesOnly {D : Type 0} (moment : D → ℕ) (left_since : D → ℕ 
   -- for a run that began earlier
   pub before : (t : ℕ) (c : Files) → t ≤ moment old → left_since new t c → left_since old t c ⊎ P c
 
--- `Failed` is told only where the device has failed since, and `TooLong` isn't told.
-pub record HasCause {T : Type 0} (before now : ℕ) (result : Result T FolderError) : Type 0 where
+-- A faithful device's `Failed` is told only where it has failed since.
+pub record HasCause {T : Type 0} (IsFaithful : Type 0) (before now : ℕ) (result : Result T FolderError) : Type 0 where
   pub later : before ≤ now
-  pub failed : IsErrOf result Failed → before < now
-  pub not_long : IsErrOf result TooLong → ⊥
+  pub failed : IsFaithful → IsErrOf result Failed → before < now

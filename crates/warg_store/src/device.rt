@@ -17,9 +17,6 @@ pub enum FolderError {
     /// The device failed. What the folder has is then found by opening it again.
     #[error("device failed")]
     Failed,
-    /// A text is longer than any of a checkpoint.
-    #[error("text is too long")]
-    TooLong,
 }
 
 impl From<AllocError> for FolderError {
@@ -47,7 +44,13 @@ impl<T: Drop> From<AllocFailed<T>> for FolderError {
 ///
 /// What stands in it is a function from names to bytes. What a reader finds is among what a crash may leave, so what is
 /// said of each crash is said of each reader, too. After an error of a call that writes, open the folder again.
+///
+/// No code can know what a disk does. So what the clauses say of a call's result they say under a premise, `IsFaithful`, and
+/// all that is promised of a folder's files is promised under it.
 pub trait Folder {
+    /// That the device does what the clauses below say.
+    ghost IsFaithful: { Type 0 };
+
     /// What a reader finds at each name.
     ghost seen: { Self → Files };
 
@@ -64,63 +67,71 @@ pub trait Folder {
     ghost faults: { Self → ℕ };
 
     /// The bytes of a file, but no more than one above `most`; none where no file has the name.
-    fn read(&self, alloc: Global, name: &str, most: usize) -> Result<Option<Vec<u8>>, FolderError>
-        ensures found { IfOk result (λ found. option_map (λ v. v.items) found
-            ≡ option_map (take (most + 1)) (seen self.now name.now)) }
-        ensures not_long { result ≡ Err FolderError.TooLong → ⊥ };
+    fn read(
+        &mut self,
+        alloc: Global,
+        name: &str,
+        most: usize,
+    ) -> Result<Option<Vec<u8>>, FolderError>
+        ensures found { IsFaithful → IfOk result (λ found. option_map (λ v. v.items) found
+            ≡ option_map (take (most + 1)) (seen self.old name.now)) }
+        ensures seen { IsFaithful → seen self.new ≡ seen self.old }
+        ensures crash { IsFaithful → Within (may_leave self.old) (may_leave self.new) }
+        ensures time { IsFaithful → Elapses moment left_since may_leave self.old self.new }
+        ensures cause { HasCause IsFaithful (faults self.old) (faults self.new) result };
 
     /// The names that begin with a prefix and have a file, in any order, each at least once.
     fn list(&mut self, alloc: Global, prefix: &str) -> Result<Vec<String>, FolderError>
-        ensures there { IfOk result (λ names. All (λ name. IsSome (seen self.old (string_bytes name))
+        ensures there { IsFaithful → IfOk result (λ names. All (λ name. IsSome (seen self.old (string_bytes name))
             × (starts_with nat_eq (string_bytes name) prefix.now ≡ true)) names.items) }
-        ensures all { IfOk result (λ names. (n : List ℕ) → IsSome (seen self.old n)
+        ensures all { IsFaithful → IfOk result (λ names. (n : List ℕ) → IsSome (seen self.old n)
             → starts_with nat_eq n prefix.now ≡ true
             → Contains (map (λ name. string_bytes name) names.items) n) }
-        ensures seen { seen self.new ≡ seen self.old }
-        ensures crash { Within (may_leave self.old) (may_leave self.new) }
-        ensures time { Elapses moment left_since may_leave self.old self.new }
-        ensures cause { HasCause (faults self.old) (faults self.new) result };
+        ensures seen { IsFaithful → seen self.new ≡ seen self.old }
+        ensures crash { IsFaithful → Within (may_leave self.old) (may_leave self.new) }
+        ensures time { IsFaithful → Elapses moment left_since may_leave self.old self.new }
+        ensures cause { HasCause IsFaithful (faults self.old) (faults self.new) result };
 
     /// Writes a file. Until a sync, a crash may leave anything at its name; after an error, too, it may have anything.
     fn write(&mut self, name: &str, bytes: &[u8]) -> Result<(), FolderError>
-        ensures written { OnOk result (seen self.new ≡ put (name.now, bytes.now) (seen self.old)) }
-        ensures crash { Follows (SameBut name.now) (may_leave self.old) (may_leave self.new) }
-        ensures time { Elapses moment left_since may_leave self.old self.new }
-        ensures cause { HasCause (faults self.old) (faults self.new) result };
+        ensures written { IsFaithful → OnOk result (seen self.new ≡ put (name.now, bytes.now) (seen self.old)) }
+        ensures crash { IsFaithful → Follows (SameBut name.now) (may_leave self.old) (may_leave self.new) }
+        ensures time { IsFaithful → Elapses moment left_since may_leave self.old self.new }
+        ensures cause { HasCause IsFaithful (faults self.old) (faults self.new) result };
 
     /// Gives a file another name, in the place of the file that has it. Where there is no such file, nothing changes. Until
     /// a sync, a crash may leave all as before.
     fn rename(&mut self, from: &str, to: &str) -> Result<(), FolderError>
-        ensures renamed { OnOk result (seen self.new ≡ moved from.now to.now (seen self.old)) }
-        ensures crash { Follows (Either (moved from.now to.now)) (may_leave self.old) (may_leave self.new) }
-        ensures time { Elapses moment left_since may_leave self.old self.new }
-        ensures cause { HasCause (faults self.old) (faults self.new) result };
+        ensures renamed { IsFaithful → OnOk result (seen self.new ≡ moved from.now to.now (seen self.old)) }
+        ensures crash { IsFaithful → Follows (Either (moved from.now to.now)) (may_leave self.old) (may_leave self.new) }
+        ensures time { IsFaithful → Elapses moment left_since may_leave self.old self.new }
+        ensures cause { HasCause IsFaithful (faults self.old) (faults self.new) result };
 
     /// Removes a file. Where there is no such file, nothing changes. Until a sync, a crash may leave all as before.
     fn remove(&mut self, name: &str) -> Result<(), FolderError>
-        ensures removed { OnOk result (seen self.new ≡ without name.now (seen self.old)) }
-        ensures crash { Follows (Either (without name.now)) (may_leave self.old) (may_leave self.new) }
-        ensures time { Elapses moment left_since may_leave self.old self.new }
-        ensures cause { HasCause (faults self.old) (faults self.new) result };
+        ensures removed { IsFaithful → OnOk result (seen self.new ≡ without name.now (seen self.old)) }
+        ensures crash { IsFaithful → Follows (Either (without name.now)) (may_leave self.old) (may_leave self.new) }
+        ensures time { IsFaithful → Elapses moment left_since may_leave self.old self.new }
+        ensures cause { HasCause IsFaithful (faults self.old) (faults self.new) result };
 
     /// After it, a crash leaves what a reader finds. Where one has failed, each later one has to fail until the folder is
     /// opened again, since a system may have dropped what was written.
     fn sync(&mut self) -> Result<(), FolderError>
-        ensures durable { OnOk result (Only (seen self.old) (may_leave self.new)) }
-        ensures seen { seen self.new ≡ seen self.old }
-        ensures crash { Within (may_leave self.old) (may_leave self.new) }
-        ensures time { Elapses moment left_since may_leave self.old self.new }
-        ensures cause { HasCause (faults self.old) (faults self.new) result };
+        ensures durable { IsFaithful → OnOk result (Only (seen self.old) (may_leave self.new)) }
+        ensures seen { IsFaithful → seen self.new ≡ seen self.old }
+        ensures crash { IsFaithful → Within (may_leave self.old) (may_leave self.new) }
+        ensures time { IsFaithful → Elapses moment left_since may_leave self.old self.new }
+        ensures cause { HasCause IsFaithful (faults self.old) (faults self.new) result };
 
     /// Puts a file at once, in the place of the one that has its name: a crash leaves the old one or the new one, and after
     /// `Ok` the new one.
     fn replace(&mut self, name: &str, bytes: &[u8]) -> Result<(), FolderError>
-        ensures replaced { OnOk result (seen self.new ≡ put (name.now, bytes.now) (seen self.old)) }
-        ensures durable { OnOk result (Follows (λ old new. new ≡ put (name.now, bytes.now) old)
+        ensures replaced { IsFaithful → OnOk result (seen self.new ≡ put (name.now, bytes.now) (seen self.old)) }
+        ensures durable { IsFaithful → OnOk result (Follows (λ old new. new ≡ put (name.now, bytes.now) old)
             (may_leave self.old) (may_leave self.new)) }
-        ensures crash { Follows (Either (put (name.now, bytes.now))) (may_leave self.old) (may_leave self.new) }
-        ensures time { Elapses moment left_since may_leave self.old self.new }
-        ensures cause { HasCause (faults self.old) (faults self.new) result };
+        ensures crash { IsFaithful → Follows (Either (put (name.now, bytes.now))) (may_leave self.old) (may_leave self.new) }
+        ensures time { IsFaithful → Elapses moment left_since may_leave self.old self.new }
+        ensures cause { HasCause IsFaithful (faults self.old) (faults self.new) result };
 
     /// What a reader finds is among what a crash may leave.
     ghost seen_may_stay: { (folder : Self) → may_leave folder (seen folder) };

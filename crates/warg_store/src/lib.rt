@@ -3,26 +3,35 @@
 //! The definitions that the contracts cite stand in `specs/`: read Files, Moments and Opening first.
 #![tactic(auto)]
 
-mod append_files;
+mod auditing;
 mod committing;
-mod creating;
 mod device;
+mod edge;
+mod error;
 mod log;
+mod log_folder;
 mod memory;
 mod names;
+mod opening;
+mod pruning;
+mod reading;
 mod recovery;
-mod serving;
+mod signing;
 mod staging;
+mod system;
 
-pub use append_files::{NewFile, append};
+pub use auditing::{Progress, rebuild};
 pub use committing::{MOST_TEXT, commit};
-pub use creating::{CreateError, create};
 pub use device::{Folder, FolderError};
-pub use log::{ServedLog, commit_log, stage_bundle, stage_tile};
+pub use error::{Damage, LogError};
+pub use log_folder::{CommitError, LogFolder, PushError};
 pub use memory::{Call, MemoryFolder};
-pub use recovery::recover;
-pub use serving::{Serve, publish, resume};
+pub use opening::CreateError;
+pub use reading::{LogReader, Path};
+pub use recovery::{RecoverError, recover};
+pub use signing::SignError;
 pub use staging::{discard, stage};
+pub use system::{Fault, SystemFolder};
 
 #[cfg(test)]
 mod tests;

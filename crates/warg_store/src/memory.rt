@@ -166,6 +166,8 @@ fn front(bytes: &[u8], most: usize) -> &[u8]
 }
 
 impl Folder for MemoryFolder {
+    ghost IsFaithful = { Unit {0} };
+
     ghost seen = { λ m. seen_after m.calls.items };
 
     ghost may_leave = { λ m. MayLeave m.calls.items };
@@ -182,7 +184,12 @@ impl Folder for MemoryFolder {
 
     ghost only_now = { λ m c left. is_only m.calls.items c left };
 
-    fn read(&self, alloc: Global, name: &str, most: usize) -> Result<Option<Vec<u8>>, FolderError> {
+    fn read(
+        &mut self,
+        alloc: Global,
+        name: &str,
+        most: usize,
+    ) -> Result<Option<Vec<u8>>, FolderError> {
         match found(self.calls.as_slice(), name) {
             None => Ok(None),
             Some(bytes) => Ok(Some(bytes_of(alloc, front(bytes, most))?)),

@@ -20,13 +20,13 @@ pub fn stage<F: Folder>(
     bytes: &[u8],
 ) -> Result<(), FolderError>
     requires served { is_served name.now ≡ true }
-    requires staging { IsStaging (F.seen folder.old) (F.may_leave folder.old) }
-    ensures staged { OnOk result
+    requires staging { F.IsFaithful → IsStaging (F.seen folder.old) (F.may_leave folder.old) }
+    ensures staged { F.IsFaithful → OnOk result
         (F.seen folder.new ≡ put (staged name.now, bytes.now) (F.seen folder.old)) }
-    ensures staging { IsStaging (F.seen folder.new) (F.may_leave folder.new) }
-    ensures any_moment { LeavesOnly F.moment F.left_since folder.old folder.new
+    ensures staging { F.IsFaithful → IsStaging (F.seen folder.new) (F.may_leave folder.new) }
+    ensures any_moment { F.IsFaithful → LeavesOnly F.moment F.left_since folder.old folder.new
         (IsBeside (F.seen folder.old)) }
-    ensures cause { HasCause (F.faults folder.old) (F.faults folder.new) result }
+    ensures cause { HasCause F.IsFaithful (F.faults folder.old) (F.faults folder.new) result }
 {
     let staged = staged_name(alloc, name)?;
     folder.write(staged.as_str(), bytes)
@@ -34,26 +34,26 @@ pub fn stage<F: Folder>(
 
 /// Drops what is staged. Nothing that is served is touched.
 pub fn discard<F: Folder>(alloc: Global, folder: &mut F) -> Result<(), FolderError>
-    requires { IsStaging (F.seen folder.old) (F.may_leave folder.old) }
-    ensures dropped { OnOk result (F.seen folder.new ≡ without_staged (F.seen folder.old)) }
-    ensures durable { OnOk result (Only (F.seen folder.new) (F.may_leave folder.new)) }
-    ensures ready { OnOk result (IsStaging (F.seen folder.new) (F.may_leave folder.new)) }
-    ensures empty { OnOk result (NothingStaged (F.seen folder.new)) }
-    ensures any_moment { LeavesOnly F.moment F.left_since folder.old folder.new
+    requires { F.IsFaithful → IsStaging (F.seen folder.old) (F.may_leave folder.old) }
+    ensures dropped { F.IsFaithful → OnOk result (F.seen folder.new ≡ without_staged (F.seen folder.old)) }
+    ensures durable { F.IsFaithful → OnOk result (Only (F.seen folder.new) (F.may_leave folder.new)) }
+    ensures ready { F.IsFaithful → OnOk result (IsStaging (F.seen folder.new) (F.may_leave folder.new)) }
+    ensures empty { F.IsFaithful → OnOk result (NothingStaged (F.seen folder.new)) }
+    ensures any_moment { F.IsFaithful → LeavesOnly F.moment F.left_since folder.old folder.new
         (IsBeside (F.seen folder.old)) }
-    ensures cause { HasCause (F.faults folder.old) (F.faults folder.new) result }
+    ensures cause { HasCause F.IsFaithful (F.faults folder.old) (F.faults folder.new) result }
 {
     remove_staged(alloc, folder)
 }
 
 // Removes each staged file, where no commit stands or one is done.
 pub(crate) fn remove_staged<F: Folder>(alloc: Global, folder: &mut F) -> Result<(), FolderError>
-    requires { (c : Files) → F.may_leave folder.old c → IsRemoving (F.seen folder.old) c }
-    ensures removed { OnOk result (F.seen folder.new ≡ without_staged (F.seen folder.old)) }
-    ensures durable { OnOk result (Only (F.seen folder.new) (F.may_leave folder.new)) }
-    ensures any_moment { LeavesOnly F.moment F.left_since folder.old folder.new
+    requires { F.IsFaithful → (c : Files) → F.may_leave folder.old c → IsRemoving (F.seen folder.old) c }
+    ensures removed { F.IsFaithful → OnOk result (F.seen folder.new ≡ without_staged (F.seen folder.old)) }
+    ensures durable { F.IsFaithful → OnOk result (Only (F.seen folder.new) (F.may_leave folder.new)) }
+    ensures any_moment { F.IsFaithful → LeavesOnly F.moment F.left_since folder.old folder.new
         (IsRemoving (F.seen folder.old)) }
-    ensures cause { HasCause (F.faults folder.old) (F.faults folder.new) result }
+    ensures cause { HasCause F.IsFaithful (F.faults folder.old) (F.faults folder.new) result }
 {
     let names = folder.list(alloc, STAGED)?;
     remove_all(folder, names.as_slice())?;
@@ -62,16 +62,16 @@ pub(crate) fn remove_staged<F: Folder>(alloc: Global, folder: &mut F) -> Result<
 
 // Removes staged files.
 fn remove_all<F: Folder>(folder: &mut F, names: &[String]) -> Result<(), FolderError>
-    requires staged { All (λ name. is_staged (string_bytes name) ≡ true) names.now }
-    requires removing { (c : Files) → F.may_leave folder.old c → IsRemoving (F.seen folder.old) c }
-    ensures removed { OnOk result
+    requires staged { F.IsFaithful → All (λ name. is_staged (string_bytes name) ≡ true) names.now }
+    requires removing { F.IsFaithful → (c : Files) → F.may_leave folder.old c → IsRemoving (F.seen folder.old) c }
+    ensures removed { F.IsFaithful → OnOk result
         (All (λ name. F.seen folder.new (string_bytes name) ≡ None) names.now) }
-    ensures fewer { OnOk result ((n : List ℕ)
+    ensures fewer { F.IsFaithful → OnOk result ((n : List ℕ)
         → (F.seen folder.new n ≡ F.seen folder.old n) ⊎ (F.seen folder.new n ≡ None)) }
-    ensures crash { (c : Files) → F.may_leave folder.new c → IsRemoving (F.seen folder.old) c }
-    ensures any_moment { LeavesOnly F.moment F.left_since folder.old folder.new
+    ensures crash { F.IsFaithful → (c : Files) → F.may_leave folder.new c → IsRemoving (F.seen folder.old) c }
+    ensures any_moment { F.IsFaithful → LeavesOnly F.moment F.left_since folder.old folder.new
         (IsRemoving (F.seen folder.old)) }
-    ensures cause { HasCause (F.faults folder.old) (F.faults folder.new) result }
+    ensures cause { HasCause F.IsFaithful (F.faults folder.old) (F.faults folder.new) result }
 {
     'names: for name in names {
         folder.remove(name.as_str())?;

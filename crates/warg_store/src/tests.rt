@@ -1,28 +1,54 @@
-//! Every moment of a small run, and everything that a crash may leave there.
+//! Every moment of small runs, and everything that a crash may leave there; and calls on folders that are damaged.
 
 use crate::{
-    Call, CreateError, Folder, FolderError, MemoryFolder, NewFile, append, commit, commit_log,
-    create, discard, recover, stage, stage_bundle, stage_tile,
+    Call, CreateError, Folder, FolderError, LogError, LogFolder, LogReader, MemoryFolder, Progress,
+    PushError, SignError, rebuild, recover,
 };
 use std::alloc::Global;
 use std::process::Abort;
 use std::test::Fail;
-use warg_crypto::{Sha256, hash_leaf};
-use warg_log::LogBuilder;
-use warg_tiles::{Tile, TileLog};
+use warg_crypto::Sha256;
+use warg_log::{Checkpoint, LogBuilder, VecLog};
 
-// A folder whose log had one commit, and the number of calls up to its end; and then another one.
-fn two_commits(alloc: Global) -> Result<(MemoryFolder, usize), FolderError> {
-    let mut folder = MemoryFolder::new(alloc);
-    recover(alloc, &mut folder)?;
-    stage(alloc, &mut folder, "tile/0/000.p/1", b"one")?;
-    stage(alloc, &mut folder, "tile/entries/000.p/1", b"first")?;
-    commit(alloc, &mut folder, b"1")?;
-    let first = folder.calls().len();
-    stage(alloc, &mut folder, "tile/0/000.p/2", b"one two")?;
-    stage(alloc, &mut folder, "map/0", b"page")?;
-    commit(alloc, &mut folder, b"2")?;
-    Ok((folder, first))
+impl Progress for usize {
+    fn step(&mut self) {
+        *self = self.saturating_add(1);
+    }
+}
+
+// A log of no entries.
+fn new_log(alloc: Global) -> Result<LogFolder<MemoryFolder>, Fail> {
+    Ok(LogFolder::create(alloc, MemoryFolder::new(alloc), b"example.com/log")?)
+}
+
+// Pushes entries of two bytes, those from one number up to another.
+fn push_some(log: &mut LogFolder<MemoryFolder>, from: usize, to: usize) -> Result<(), PushError> {
+    for number in from..to {
+        log.push(&[(number / 256 % 256) as u8, (number % 256) as u8])?;
+    }
+    Ok(())
+}
+
+// The checkpoint of the first entries.
+fn checkpoint_of(alloc: Global, count: usize) -> Result<Checkpoint<Sha256>, Fail> {
+    let mut log: VecLog<Sha256, [u8; 2]> = VecLog::default(alloc);
+    for number in 0..count {
+        log.append(&[(number / 256 % 256) as u8, (number % 256) as u8])?;
+    }
+    Ok(log.checkpoint())
+}
+
+// A folder whose log had a commit of some entries, the number of calls up to its end, and then another one.
+fn two_commits(alloc: Global, first: usize, next: usize) -> Result<(MemoryFolder, usize), Fail> {
+    let mut log = new_log(alloc)?;
+    push_some(&mut log, 0, first)?;
+    log.commit()?;
+    let folder = log.into_folder();
+    let calls = folder.calls().len();
+    let mut log = LogFolder::open(alloc, folder)?;
+    push_some(&mut log, first, next)?;
+    log.commit()?;
+    Ok((log.into_folder(), calls))
 }
 
 // How many of the calls are behind none of whose changes was forced.
@@ -34,10 +60,10 @@ fn unforced(calls: &[Call]) -> usize {
         .count()
 }
 
-// How many choices a crash after these calls has, of those for the first six changes that weren't forced.
+// How many choices a crash after these calls has, of those for the first four changes that weren't forced.
 fn choices(calls: &[Call]) -> usize {
     let mut choices = 1usize;
-    for _ in 0..unforced(calls).min(6) {
+    for _ in 0..unforced(calls).min(4) {
         choices = choices.saturating_mul(3);
     }
     choices
@@ -76,104 +102,204 @@ fn leave(folder: &mut MemoryFolder, call: &Call, outcome: usize) -> Result<(), F
     }
 }
 
-// Whether a file has these bytes.
-fn has(
-    alloc: Global,
-    folder: &MemoryFolder,
-    name: &str,
-    bytes: &[u8],
-) -> Result<bool, FolderError> {
-    match folder.read(alloc, name, 64)? {
-        Some(found) => Ok(found.as_slice() == bytes),
-        None => Ok(false),
-    }
-}
-
-// Asserts that a reader finds the first commit or the second one.
-fn assert_serves(rt: &impl Abort, alloc: Global, folder: &MemoryFolder) -> Result<(), FolderError> {
-    assert!(rt; has(alloc, folder, "tile/0/000.p/1", b"one")?);
-    assert!(rt; has(alloc, folder, "tile/entries/000.p/1", b"first")?);
-    if has(alloc, folder, "checkpoint", b"2")? {
-        assert!(rt; has(alloc, folder, "tile/0/000.p/2", b"one two")?);
-        assert!(rt; has(alloc, folder, "map/0", b"page")?);
-    } else {
-        assert!(rt; has(alloc, folder, "checkpoint", b"1")?);
-    }
-    Ok(())
-}
-
-// How many names the folder has, each counted once.
-fn count(alloc: Global, folder: &mut MemoryFolder) -> Result<usize, FolderError> {
-    let names = folder.list(alloc, "")?;
-    let mut count = 0usize;
-    for (index, name) in names.as_slice().iter().enumerate() {
-        let mut before = names.as_slice().iter().take(index);
-        if before.all(|other| other.as_str() != name.as_str()) {
-            count = count.saturating_add(1);
-        }
-    }
-    Ok(count)
-}
-
-// Asserts that a folder, once opened, has nothing but the one commit or both.
-fn assert_opened(
+// Asserts that a reader finds one of two logs whole, and so does who opens the folder, which then has no staged file.
+fn assert_one_of(
     rt: &impl Abort,
     alloc: Global,
-    folder: &mut MemoryFolder,
-) -> Result<(), FolderError> {
-    recover(alloc, folder)?;
-    assert_serves(rt, alloc, folder)?;
-    assert_eq!(rt; folder.list(alloc, ".log/staged/")?.is_empty(), true);
-    let both = has(alloc, folder, ".log/state", b"2")?;
-    assert_eq!(rt; has(alloc, folder, "checkpoint", b"2")?, both);
-    assert_eq!(rt; count(alloc, folder)?, if both { 6 } else { 4 });
-    Ok(())
+    left: MemoryFolder,
+    logs: &[Checkpoint<Sha256>; 2],
+) -> Result<MemoryFolder, Fail> {
+    let mut reader = LogReader::open(alloc, left)?;
+    let found = reader.audit(&mut 0)?;
+    assert!(rt; found == logs[0] || found == logs[1]);
+    let mut log = LogFolder::open(alloc, reader.into_folder())?;
+    let found = log.audit(&mut 0)?;
+    assert!(rt; found == logs[0] || found == logs[1]);
+    let mut folder = log.into_folder();
+    assert!(rt; folder.list(alloc, ".log/staged/")?.is_empty());
+    Ok(folder)
 }
 
 #[test]
-fn each_crash_leaves_one_commit_or_both(rt: HostRuntime) -> Result<(), Fail> {
+fn each_crash_leaves_one_log_or_the_next(rt: HostRuntime) -> Result<(), Fail> {
     let alloc = rt.alloc();
-    let (folder, first) = two_commits(alloc)?;
+    let (folder, first) = two_commits(alloc, 2, 4)?;
+    let logs = [checkpoint_of(alloc, 2)?, checkpoint_of(alloc, 4)?];
     for moment in first..folder.calls().len() + 1 {
         let calls = &folder.calls()[..moment];
         for choice in 0..choices(calls) {
-            let mut left = crashed(alloc, calls, choice)?;
-            assert_serves(&rt, alloc, &left)?;
-            assert_opened(&rt, alloc, &mut left)?;
+            let left = crashed(alloc, calls, choice)?;
+            let _ = assert_one_of(&rt, alloc, left, &logs)?;
         }
     }
     Ok(())
 }
 
 #[test]
-fn each_crash_of_an_opening_leaves_one_commit_or_both(rt: HostRuntime) -> Result<(), Fail> {
+fn each_crash_of_an_opening_leaves_one_log_or_the_next(rt: HostRuntime) -> Result<(), Fail> {
     let alloc = rt.alloc();
-    let (folder, first) = two_commits(alloc)?;
+    let (folder, first) = two_commits(alloc, 1, 2)?;
+    let logs = [checkpoint_of(alloc, 1)?, checkpoint_of(alloc, 2)?];
     for moment in first..folder.calls().len() + 1 {
         let mut left = crashed(alloc, &folder.calls()[..moment], 0)?;
         let before = left.calls().len();
         recover(alloc, &mut left)?;
         for later in before..left.calls().len() + 1 {
-            let calls = &left.calls()[..later];
-            for choice in 0..choices(calls) {
-                let mut again = crashed(alloc, calls, choice)?;
-                assert_serves(&rt, alloc, &again)?;
-                assert_opened(&rt, alloc, &mut again)?;
-            }
+            let again = crashed(alloc, &left.calls()[..later], 1)?;
+            let _ = assert_one_of(&rt, alloc, again, &logs)?;
         }
     }
     Ok(())
 }
 
 #[test]
-fn what_is_discarded_is_gone(rt: HostRuntime) -> Result<(), Fail> {
+fn a_commit_fills_tiles_and_keeps_those_before(rt: HostRuntime) -> Result<(), Fail> {
     let alloc = rt.alloc();
-    let mut folder = MemoryFolder::new(alloc);
-    recover(alloc, &mut folder)?;
-    stage(alloc, &mut folder, "tile/0/000", b"full")?;
-    assert!(rt; has(alloc, &folder, ".log/staged/tile/0/000", b"full")?);
-    discard(alloc, &mut folder)?;
-    assert_eq!(rt; count(alloc, &mut folder)?, 0);
+    let (folder, _) = two_commits(alloc, 3, 259)?;
+    let mut log = LogFolder::open(alloc, folder)?;
+    assert!(rt; log.checkpoint() == checkpoint_of(alloc, 259)?);
+    assert!(rt; log.audit(&mut 0)? == log.checkpoint());
+    assert_eq!(rt; log.length(), 259);
+    assert_eq!(rt; log.origin(), b"example.com/log".as_slice());
+    assert_eq!(rt; log.entry(258)?.as_slice(), [1, 2].as_slice());
+    assert_eq!(rt; log.inclusion_path(258, 259)?.len(), 2);
+    assert_eq!(rt; log.consistency_path(3, 259)?.len(), 10);
+    assert!(rt; log.entry(259) == Err(LogError::OutOfRange { bound: 259 }));
+    assert_eq!(rt; log.prune()?, 2);
+    assert!(rt; log.audit(&mut 0)? == log.checkpoint());
+    let before = log.into_folder().calls().len();
+    assert!(rt; before > 0);
+    Ok(())
+}
+
+#[test]
+fn what_is_not_committed_is_dropped(rt: HostRuntime) -> Result<(), Fail> {
+    let alloc = rt.alloc();
+    let mut log = new_log(alloc)?;
+    push_some(&mut log, 0, 257)?;
+    assert!(rt; log.push(&[7; 65536]) == Err(PushError::TooLong));
+    let mut folder = log.into_folder();
+    assert_eq!(rt; folder.list(alloc, ".log/staged/")?.len(), 2);
+    let mut log = LogFolder::open(alloc, folder)?;
+    assert_eq!(rt; log.length(), 0);
+    assert!(rt; log.commit() == Ok(()));
+    assert!(rt; log.into_folder().list(alloc, "")?.len() < 6);
+    Ok(())
+}
+
+#[test]
+fn a_signed_checkpoint_stays_until_another_is_signed(rt: HostRuntime) -> Result<(), Fail> {
+    let alloc = rt.alloc();
+    let mut log = new_log(alloc)?;
+    push_some(&mut log, 0, 1)?;
+    log.commit()?;
+    let mut reader = LogReader::open(alloc, log.into_folder())?;
+    let mut note = reader.checkpoint_text()?;
+    let mut log = LogFolder::open(alloc, reader.into_folder())?;
+    assert!(rt; log.sign(note.as_slice()) == Err(SignError::Text));
+    note.extend_from_slice(b"\nsigned\n")?;
+    log.sign(note.as_slice())?;
+    push_some(&mut log, 1, 3)?;
+    log.commit()?;
+    let reader = LogReader::open(alloc, log.into_folder())?;
+    assert!(rt; reader.checkpoint() == checkpoint_of(alloc, 1)?);
+    let mut log = LogFolder::open(alloc, reader.into_folder())?;
+    assert!(rt; log.checkpoint() == checkpoint_of(alloc, 3)?);
+    assert!(rt; log.sign(note.as_slice()) == Err(SignError::Text));
+    assert_eq!(rt; log.prune()?, 0);
+    Ok(())
+}
+
+#[test]
+fn a_folder_that_has_a_log_takes_no_other(rt: HostRuntime) -> Result<(), Fail> {
+    let alloc = rt.alloc();
+    let folder = new_log(alloc)?.into_folder();
+    let other = LogFolder::create(alloc, folder, b"other");
+    assert!(rt; matches!(other, Err(CreateError::Exists)));
+    let none = LogFolder::create(alloc, MemoryFolder::new(alloc), b"");
+    assert!(rt; matches!(none, Err(CreateError::Origin)));
+    let none = LogFolder::open(alloc, MemoryFolder::new(alloc));
+    assert!(rt; matches!(none, Err(LogError::NoLog)));
+    Ok(())
+}
+
+// Whether an error names this file.
+fn names(error: &LogError, name: &str) -> bool {
+    match error {
+        LogError::Damaged(damage) => damage.name.as_str() == name,
+        _ => false,
+    }
+}
+
+#[test]
+fn a_damaged_file_is_named(rt: HostRuntime) -> Result<(), Fail> {
+    let alloc = rt.alloc();
+    for name in [
+        "tile/0/001.p/3",
+        "tile/entries/001.p/3",
+        "tile/1/000.p/1",
+        ".log/state",
+        "checkpoint",
+    ] {
+        let (mut folder, _) = two_commits(alloc, 3, 259)?;
+        folder.replace(name, b"not it")?;
+        match LogFolder::open(alloc, folder) {
+            Ok(_) => assert!(rt; false),
+            Err(error) => assert!(rt; names(&error, name)),
+        }
+    }
+    Ok(())
+}
+
+#[test]
+fn tiles_are_made_again_from_bundles(rt: HostRuntime) -> Result<(), Fail> {
+    let alloc = rt.alloc();
+    let (mut folder, _) = two_commits(alloc, 3, 259)?;
+    folder.remove("tile/0/000")?;
+    folder.replace("tile/1/000.p/1", b"not it")?;
+    let mut read = 0;
+    assert!(rt; rebuild(alloc, &mut folder, &mut read)? == checkpoint_of(alloc, 259)?);
+    assert_eq!(rt; read, 259);
+    let mut log = LogFolder::open(alloc, folder)?;
+    assert!(rt; log.audit(&mut 0)? == log.checkpoint());
+    Ok(())
+}
+
+#[test]
+fn a_folder_without_a_state_is_taken_over(rt: HostRuntime) -> Result<(), Fail> {
+    let alloc = rt.alloc();
+    let (mut folder, _) = two_commits(alloc, 3, 5)?;
+    folder.remove(".log/state")?;
+    let mut log = LogFolder::open(alloc, folder)?;
+    push_some(&mut log, 5, 6)?;
+    log.commit()?;
+    assert!(rt; log.checkpoint() == checkpoint_of(alloc, 6)?);
+    Ok(())
+}
+
+#[test]
+fn an_older_checkpoint_is_known(rt: HostRuntime) -> Result<(), Fail> {
+    let alloc = rt.alloc();
+    let mut log = new_log(alloc)?;
+    push_some(&mut log, 0, 2)?;
+    log.commit()?;
+    let mut folder = log.into_folder();
+    let older = folder.read(alloc, "checkpoint", 999)?.ok_or("none")?;
+    let mut log = LogFolder::open(alloc, folder)?;
+    push_some(&mut log, 2, 4)?;
+    log.commit()?;
+    let mut folder = log.into_folder();
+    folder.replace("checkpoint", older.as_slice())?;
+    let found = LogFolder::open(alloc, folder);
+    assert!(rt;
+        matches!(
+            found,
+            Err(LogError::RolledBack {
+                found: 2,
+                newest: 4
+            })
+        )
+    );
     Ok(())
 }
 
@@ -187,28 +313,5 @@ fn a_read_gives_no_more_than_it_is_told(rt: HostRuntime) -> Result<(), Fail> {
     assert!(rt; folder.read(alloc, "a", 9)?.is_none());
     let front = folder.read(alloc, "b", 1)?.ok_or("no file")?;
     assert_eq!(rt; front.as_slice(), b"ab".as_slice());
-    Ok(())
-}
-
-#[test]
-fn a_log_of_one_entry_is_served(rt: HostRuntime) -> Result<(), Fail> {
-    let alloc = rt.alloc();
-    let mut folder = MemoryFolder::new(alloc);
-    create(alloc, &mut folder, b"none")?;
-    let mut log: TileLog<Sha256, &'static str> = TileLog::new(alloc);
-    log.push(&"first")?;
-    let tiles = log.partial(alloc)?;
-    let tile = tiles.as_slice().first().ok_or("no tile")?;
-    stage_tile(alloc, &mut folder, tile)?;
-    stage_bundle(alloc, &mut folder, &Tile::new(0, 0, 1), b"\x00\x05first")?;
-    commit_log(alloc, &mut folder, b"one")?;
-    let leaf = hash_leaf::<Sha256, &'static str>(&"first");
-    assert!(rt; has(alloc, &folder, "tile/0/000.p/1", leaf.bytes())?);
-    assert!(rt; has(alloc, &folder, "tile/entries/000.p/1", b"\x00\x05first")?);
-    assert!(rt; has(alloc, &folder, "checkpoint", b"one")?);
-    let files: [NewFile; 0] = [];
-    append(alloc, &mut folder, &files, b"again")?;
-    assert!(rt; has(alloc, &folder, "checkpoint", b"again")?);
-    assert!(rt; create(alloc, &mut folder, b"none") == Err(CreateError::LogThere));
     Ok(())
 }

@@ -123,6 +123,16 @@ impl<D: SupportedDigest, V: VisitBytes, A: Allocator + Copy> TileLog<D, V, A> {
         self.count == 0
     }
 
+    /// The tiles that were filled since the last call of `take_full`, as that call hands them out.
+    pub fn full(&self) -> &[StoredTile<D, A>]
+        ensures value { map (λ t. (t.tile, t.digests.items)) result.now ≡ self.now.full }
+        ensures tiles { (ds : List (List ℕ)) → StandsFor D.digest self.now ds
+            → AreTilesOf D.digest ds (full_between self.now.taken self.now.len)
+            (map (λ t. (t.tile, t.digests.items)) result.now) }
+    {
+        self.full.as_slice()
+    }
+
     /// Takes the tiles that were filled since the last call, each once, in the order in which entries filled them. The
     /// log goes on with none of them.
     pub fn take_full(&mut self) -> Vec<StoredTile<D, A>, A>

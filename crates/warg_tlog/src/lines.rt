@@ -114,13 +114,59 @@ impl Lines {
         true
     }
 
+    /// The next entry as a bundle has it: two bytes of length, the greater one first, and then its bytes; none at the end of the
+    /// input.
+    pub fn next_binary(&mut self, alloc: Global) -> Result<Option<&Vec<u8>>, Refusal> {
+        self.input.consume(self.held);
+        self.held = 0;
+        self.number = self.number.saturating_add(1);
+        let Some(greater) = self.next_byte(alloc)? else {
+            return Ok(None);
+        };
+        let Some(less) = self.next_byte(alloc)? else {
+            return Err(self.refused("ends within an entry's length"));
+        };
+        let length = 256 * usize::from(greater) + usize::from(less);
+        self.entry.clear();
+        for _ in 0..length {
+            match self.next_byte(alloc)? {
+                Some(byte) => self.entry.push(byte)?,
+                None => return Err(self.refused("ends within an entry")),
+            }
+        }
+        Ok(Some(&self.entry))
+    }
+
+    // The next byte of the input, if there is one.
+    fn next_byte(&mut self, alloc: Global) -> Result<Option<u8>, Refusal> {
+        for _ in 0..u64::MAX {
+            match self.input.fill_buf() {
+                Ok([]) => return Ok(None),
+                Ok([byte, ..]) => {
+                    let byte = *byte;
+                    self.input.consume(1);
+                    return Ok(Some(byte));
+                }
+                Err(error) if error.kind() == ErrorKind::Interrupted => {}
+                Err(error) => {
+                    let path = String::from_str(alloc, "standard input")?;
+                    return Err(Refusal::of_read(path, error));
+                }
+            }
+        }
+        Ok(None)
+    }
+
     // The entry of the next line, of whatever length. Apart from `next_entry`, as its large results would slow that down.
     #[cold]
     fn entry_after(&mut self, alloc: Global) -> Result<Option<&Vec<u8>>, Refusal> {
-        if self.go_on(alloc)? {
-            return Ok(Some(self.entry()?));
+        if !self.go_on(alloc)? {
+            return Ok(None);
         }
-        Ok(None)
+        if self.held == 0 && !self.line.ends_with(b"\n") && self.line.len() < LONGEST {
+            return Err(self.refused("has no end: whoever wrote it may have died"));
+        }
+        Ok(Some(self.entry()?))
     }
 
     /// The line's bytes, without its end.
@@ -141,7 +187,7 @@ impl Lines {
             return Err(self.refused("is too long: an entry has at most 65,535 bytes"));
         }
         if !decode(digits, &mut self.entry)? {
-            return Err(self.refused("isn't an entry: write two hexadecimal digits for each byte"));
+            return Err(self.refused("isn't an entry: write two hexadecimal digits for each byte, and nothing else"));
         }
         Ok(&self.entry)
     }

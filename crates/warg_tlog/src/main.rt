@@ -4,34 +4,24 @@
 //! is one line on standard error.
 #![tactic(auto)]
 
-mod append;
-mod audit;
-mod bundle;
-mod checkpoints;
-mod fetched;
-mod folder;
-mod given;
-mod growing;
 mod lines;
-mod lock;
-mod progress;
-mod prove;
+mod read;
 mod refusal;
-mod tile_files;
+mod session;
 mod usage;
 mod verify;
+mod write;
 
-use append::{append, init};
-use audit::audit;
 use clap::ArgMatches;
-use folder::Folder;
-use given::{commandline, number, optional_number, text};
-use prove::{Path, checkpoint, consistency, prove};
+use read::{print_audit, print_checkpoint, print_consistency, print_inclusion, written};
 use refusal::Refusal;
-use std::io;
+use session::Session;
+use std::env;
+use std::io::ErrorKind;
 use std::process::ExitCode;
-use usage::command;
+use usage::{command, text};
 use verify::verify;
+use write::{Appending, append, init, prune, rebuild_tiles, sign};
 
 fn main(rt: HostRuntime) -> ExitCode {
     match answer(&rt) {
@@ -56,6 +46,20 @@ fn answer(rt: &HostRuntime) -> Result<ExitCode, Refusal> {
     }
 }
 
+// The words of the command line, the program's name first.
+fn commandline(rt: &HostRuntime) -> Result<Vec<String>, Refusal> {
+    match env::args(rt) {
+        Ok(words) => Ok(words.collect::<Vec<String>>(rt.alloc())?),
+        Err(error) if error.kind() == ErrorKind::InvalidData => {
+            Err(Refusal::of_words(rt.alloc(), "an argument isn't UTF-8"))
+        }
+        Err(error) => Err(Refusal::of_read(
+            String::from_str(rt.alloc(), "the command line")?,
+            error,
+        )),
+    }
+}
+
 // Does what a command asks for.
 fn run_command(rt: &HostRuntime, matches: &ArgMatches<'_>) -> Result<ExitCode, Refusal> {
     match matches.subcommand() {
@@ -67,77 +71,51 @@ fn run_command(rt: &HostRuntime, matches: &ArgMatches<'_>) -> Result<ExitCode, R
 
 // Does what a command on a folder asks for.
 fn over_folder(rt: &HostRuntime, name: &str, asked: &ArgMatches<'_>) -> Result<ExitCode, Refusal> {
-    let folder = Folder::new(rt.alloc(), text(asked, "folder"))?;
-    run(rt, name, &folder, asked)?;
+    let folder = text(asked, "folder");
+    if folder.is_empty() {
+        return Err(Refusal::of_words(rt.alloc(), "the folder has no name"));
+    }
+    let session = Session::new(rt, folder);
+    run(&session, name, asked)?;
     Ok(ExitCode::SUCCESS)
 }
 
-fn run(
-    rt: &HostRuntime,
-    name: &str,
-    folder: &Folder,
-    asked: &ArgMatches<'_>,
-) -> Result<(), Refusal> {
+fn run(session: &Session<'_>, name: &str, asked: &ArgMatches<'_>) -> Result<(), Refusal> {
     match name {
-        "init" => init(rt, folder, text(asked, "origin")),
-        "append" => append(rt, folder),
-        "checkpoint" => print_checkpoint(rt, folder),
-        "prove" => print_inclusion(rt, folder, asked),
-        "consistency" => print_consistency(rt, folder, asked),
-        _ => print_audit(rt, folder),
+        "init" => init(session, text(asked, "origin")),
+        "append" => print_append(session, asked),
+        "sign" => sign(session),
+        "prune" => print_prune(session),
+        "rebuild" => print_rebuild(session),
+        "checkpoint" => print_checkpoint(session),
+        "prove" => print_inclusion(session, asked),
+        "consistency" => print_consistency(session, asked),
+        _ => print_audit(session),
     }
 }
 
-fn print_inclusion(
-    rt: &HostRuntime,
-    folder: &Folder,
-    asked: &ArgMatches<'_>,
-) -> Result<(), Refusal> {
-    let length = optional_number(asked, "length");
-    print_path(rt, &prove(rt, folder, number(asked, "index"), length)?)
+fn print_append(session: &Session<'_>, asked: &ArgMatches<'_>) -> Result<(), Refusal> {
+    let asked = Appending {
+        from: asked.get_str("from"),
+        every: asked.get_one::<usize>("every"),
+        is_binary: asked.get_flag("binary"),
+    };
+    let (first, length) = append(session, &asked)?;
+    written(session.rt, println!(session.rt; "first {first}, length {length}"))
 }
 
-fn print_consistency(
-    rt: &HostRuntime,
-    folder: &Folder,
-    asked: &ArgMatches<'_>,
-) -> Result<(), Refusal> {
-    let new = optional_number(asked, "new");
-    print_path(rt, &consistency(rt, folder, number(asked, "old"), new)?)
+fn print_prune(session: &Session<'_>) -> Result<(), Refusal> {
+    let removed = prune(session)?;
+    written(session.rt, println!(session.rt; "{removed} files removed"))
+}
+
+fn print_rebuild(session: &Session<'_>) -> Result<(), Refusal> {
+    let checkpoint = rebuild_tiles(session)?;
+    let length = checkpoint.length();
+    written(session.rt, println!(session.rt; "tiles of {length} entries made again"))
 }
 
 fn print_verdict(rt: &HostRuntime, verdict: bool) -> Result<ExitCode, Refusal> {
     written(rt, println!(rt; "{verdict}"))?;
     Ok(ExitCode::from(if verdict { 0 } else { 1 }))
-}
-
-fn print_checkpoint(rt: &HostRuntime, folder: &Folder) -> Result<(), Refusal> {
-    let text = checkpoint(rt, folder)?.write(rt.alloc())?;
-    let mut output = rt.stdout();
-    written(rt, io::Write::write_all(&mut output, text.as_slice()))
-}
-
-fn print_path(rt: &HostRuntime, path: &Path) -> Result<(), Refusal> {
-    'digests: for digest in path.as_slice() {
-        written(rt, println!(rt; "{digest}"))?;
-    }
-    Ok(())
-}
-
-fn print_audit(rt: &HostRuntime, folder: &Folder) -> Result<(), Refusal> {
-    let checkpoint = audit(rt, folder)?;
-    let length = checkpoint.length();
-    let root = checkpoint.root();
-    written(
-        rt,
-        println!(rt; "{length} entries, root {root}: each file is as the entries have it"),
-    )
-}
-
-// What became of a write on standard output.
-fn written(rt: &HostRuntime, done: io::Result<()>) -> Result<(), Refusal> {
-    match done {
-        Ok(()) => Ok(()),
-        Err(error) => Err(Refusal::of_output(rt.alloc(), error)),
-    }
 }

@@ -4,7 +4,6 @@ use std::alloc::{AllocError, AllocFailed, Global};
 use std::io::ErrorKind;
 use std::{fmt, io};
 use thiserror::Error;
-use warg_log::AppendError;
 
 /// Why a command is refused: a line on standard error, and a status of its own.
 #[derive(Drop)]
@@ -17,39 +16,54 @@ pub struct Refusal {
 /// What a refusal says behind the name of what it is about.
 #[derive(Clone, Copy, Debug, Error)]
 pub enum Cause {
-    /// The arguments are none of the program's.
+    /// The arguments aren't understood.
     #[error("; see warg_tlog --help")]
     Arguments,
+    /// A checkpoint isn't written as it is to be.
+    #[error("--from has to be LENGTH:ROOT, the root in base64 or hexadecimal digits")]
+    From,
     /// A line of standard input isn't what the command reads.
     #[error("line {number} of standard input {fault}")]
     Line { number: usize, fault: &'static str },
+    /// An entry is too long.
+    #[error("an entry on standard input has more than 65,535 bytes")]
+    LongEntry,
+    /// Standard input isn't a signed note over the checkpoint.
+    #[error("standard input isn't a signed note over the log's newest checkpoint: sign what warg_tlog checkpoint FOLDER prints")]
+    Note,
     /// The folder has no log.
     #[error(" has no log: make one there by warg_tlog init FOLDER ORIGIN")]
     NoLog,
     /// The folder has a log already.
     #[error(" has a log already: add to it by warg_tlog append FOLDER, or name another folder")]
-    LogThere,
-    /// Another run writes to the log.
-    #[error(" has another append at work: wait for its end, and append again")]
-    AtWork,
+    Exists,
+    /// Another run holds the lock.
+    #[error(" is locked by another run: wait for its end, and try again")]
+    Locked,
     /// The log has no such entry or length.
-    #[error("{rule} {bound}: see warg_tlog checkpoint FOLDER")]
-    OutOfRange { rule: &'static str, bound: usize },
+    #[error("no such entry or length, the bound is {bound}: see warg_tlog checkpoint FOLDER")]
+    OutOfRange { bound: usize },
     /// A file of the log is missing or corrupt.
-    #[error(" {fault}: put it back from a copy of the log")]
+    #[error(" {fault}: put it back from a copy of the log; warg_tlog audit FOLDER says which file differs, and warg_tlog rebuild FOLDER makes tiles again from bundles")]
     Damaged { fault: &'static str },
-    /// The checkpoint is an older one than the log has had.
-    #[error(" has {found} entries where the log has had {newest}: put the newer checkpoint back")]
-    Older { found: usize, newest: usize },
+    /// The checkpoint is an older one than the log's state.
+    #[error(" has {found} entries where the log has {newest}: put back what .log/state has")]
+    RolledBack { found: usize, newest: usize },
+    /// The log isn't at the checkpoint that was named.
+    #[error("the log is at another checkpoint, of {length} entries")]
+    Elsewhere { length: usize },
     /// The disk is full.
     #[error(" can't be written, as there is no room: make room and run the command again, the log is as it was")]
     Full,
     /// A file can't be written.
-    #[error(" can't be written: {error}; mend that and run the command again, the log is as it was")]
+    #[error(" can't be written: {error}; the log is as it was, or has all that was to be added: see warg_tlog checkpoint FOLDER")]
     Unwritable { error: io::Error },
     /// A file can't be read.
-    #[error(" can't be read: {error}; mend that and run the command again")]
+    #[error(" can't be read: {error}")]
     Unreadable { error: io::Error },
+    /// An earlier call of the run has failed.
+    #[error(" can't be written any more by this run: run the command again")]
+    Lost,
     /// Memory was refused.
     #[error("out of memory: run the command again with more, the log is as it was")]
     Memory,
@@ -90,23 +104,31 @@ impl Refusal {
     /// The exit status.
     pub fn status(&self) -> u8 {
         match self.cause {
-            Cause::Arguments => 2,
-            Cause::Line { .. } => 3,
+            Cause::Arguments | Cause::From => 2,
+            Cause::Line { .. } | Cause::LongEntry | Cause::Note => 3,
             Cause::NoLog => 4,
-            Cause::LogThere => 5,
-            Cause::AtWork => 6,
+            Cause::Exists => 5,
+            Cause::Locked => 6,
             Cause::OutOfRange { .. } => 7,
             Cause::Damaged { .. } => 8,
-            Cause::Older { .. } => 9,
+            Cause::RolledBack { .. } | Cause::Elsewhere { .. } => 9,
             Cause::Full => 10,
-            Cause::Unwritable { .. } => 11,
+            Cause::Unwritable { .. } | Cause::Lost => 11,
             Cause::Unreadable { .. } => 12,
             Cause::Memory => 13,
             Cause::NoMoreEntries => 14,
         }
     }
 
-    /// That the command line is none of the program's. What it says goes up to the first empty line.
+    /// That an argument isn't understood, in these words.
+    pub fn of_words(alloc: Global, words: &str) -> Refusal {
+        match String::from_str(alloc, words) {
+            Ok(text) => Refusal::about(text, Cause::Arguments),
+            Err(_) => Refusal::memory(),
+        }
+    }
+
+    /// That the command line isn't understood. What it says goes up to the first empty line.
     pub fn of_arguments(alloc: Global, error: &clap::Error) -> Refusal {
         match one_line(alloc, error) {
             Ok(line) => Refusal::about(line, Cause::Arguments),
@@ -151,15 +173,6 @@ impl From<AllocError> for Refusal {
 impl<T: Drop> From<AllocFailed<T>> for Refusal {
     fn from(_error: AllocFailed<T>) -> Refusal {
         Refusal::memory()
-    }
-}
-
-impl From<AppendError> for Refusal {
-    fn from(error: AppendError) -> Refusal {
-        match error {
-            AppendError::Full => Refusal::because(Cause::NoMoreEntries),
-            AppendError::Memory => Refusal::memory(),
-        }
     }
 }
 

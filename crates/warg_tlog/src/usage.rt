@@ -1,6 +1,6 @@
 //! The program's command line.
 
-use clap::{Arg, Command, value_parser};
+use clap::{Arg, ArgAction, ArgMatches, Command, value_parser};
 use std::alloc::{AllocError, Global};
 
 const ABOUT: &str = "Keeps a transparency log in a folder, as files that any web server serves.";
@@ -9,14 +9,18 @@ const AFTER: &str = "\
 Example: warg_tlog init log example.com/log && printf '6f6e65\\n74776f\\n' | warg_tlog append log && warg_tlog prove log 1
 
 The exit status is 0 where all went well and 1 for a claim that verify finds false. What refuses a command is one line on
-standard error, with a status of its own: 2 wrong arguments, 3 a bad line on standard input, 4 no log there, 5 a log there
-already, 6 another append at work, 7 no such entry or length, 8 a file that lacks or differs, 9 an older checkpoint put
-back, 10 a full disk, 11 a file that can't be written, 12 one that can't be read, 13 memory ran out, 14 the log is full.";
+standard error, with a status of its own: 2 wrong arguments, 3 bad standard input, 4 no log there, 5 a log there already, 6
+another run holds the lock, 7 no such entry or length, 8 a file that is missing or corrupt, 9 another checkpoint than the
+log's, 10 a full disk, 11 a file that can't be written, 12 one that can't be read, 13 memory ran out, 14 the log is full.";
 
 const APPEND_AFTER: &str = "\
 Reads entries on standard input, a line of hexadecimal digits each; an empty line is the entry of no bytes, and 65,535 bytes
-are the most. Tiles and bundles are written before the checkpoint, so a refused or killed append leaves the log as it was:
-append the same entries again.";
+are the most. Prints the index of the first entry and the new length. All entries are added or none, whatever happens to the
+machine; with --every, all of each commit.";
+
+const SIGN_AFTER: &str = "\
+Reads a signed note on standard input: what warg_tlog checkpoint FOLDER prints, an empty line, and signatures. From then on the
+folder serves this checkpoint until another is signed, while appends go on.";
 
 const VERIFY_AFTER: &str = "\
 The first line of standard input is the claim:
@@ -41,11 +45,14 @@ enum Kind {
     Text,
     Number,
     OptionalNumber,
+    TextOption,
+    NumberOption,
+    Flag,
 }
 
 const FOLDER: Word = (Kind::Text, "folder", "FOLDER", "The log's folder");
 
-const COMMANDS: [Usage; 7] = [
+const COMMANDS: [Usage; 10] = [
     Usage {
         name: "init",
         about: "Makes a log of no entries",
@@ -64,6 +71,44 @@ const COMMANDS: [Usage; 7] = [
         name: "append",
         about: "Adds entries",
         after: Some(APPEND_AFTER),
+        words: &[
+            FOLDER,
+            (
+                Kind::TextOption,
+                "from",
+                "LENGTH:ROOT",
+                "The checkpoint that the log has to be at",
+            ),
+            (
+                Kind::NumberOption,
+                "every",
+                "N",
+                "Commits each N entries, and at the end",
+            ),
+            (
+                Kind::Flag,
+                "binary",
+                "",
+                "Reads entries as bundles have them: two bytes of length, the greater one first, and the bytes",
+            ),
+        ],
+    },
+    Usage {
+        name: "sign",
+        about: "Serves a signed checkpoint",
+        after: Some(SIGN_AFTER),
+        words: &[FOLDER],
+    },
+    Usage {
+        name: "prune",
+        about: "Removes partial tiles and bundles whose full one is there",
+        after: None,
+        words: &[FOLDER],
+    },
+    Usage {
+        name: "rebuild",
+        about: "Makes each tile again from the entry bundles, where these lead to the checkpoint's root",
+        after: None,
         words: &[FOLDER],
     },
     Usage {
@@ -116,6 +161,16 @@ const COMMANDS: [Usage; 7] = [
     },
 ];
 
+/// The text of an argument that the command line requires.
+pub fn text<'a>(asked: &ArgMatches<'a>, name: &str) -> &'a str {
+    asked.get_str(name).unwrap_or("")
+}
+
+/// The number of an argument that the command line requires.
+pub fn number(asked: &ArgMatches<'_>, name: &str) -> usize {
+    asked.get_one::<usize>(name).unwrap_or(0)
+}
+
 /// The command line.
 pub fn command<'a>(alloc: Global) -> Result<Command<'a>, AllocError> {
     let mut command = program(alloc);
@@ -160,13 +215,16 @@ fn about<'a>(alloc: Global, usage: &Usage) -> Command<'a> {
 
 fn argument<'a>(alloc: Global, word: &Word) -> Arg<'a> {
     let (kind, name, value, help) = *word;
-    of_kind(Arg::new(alloc, name).value_name(value).help(help), kind)
+    of_kind(Arg::new(alloc, name).value_name(value).help(help), kind, name)
 }
 
-fn of_kind<'a>(argument: Arg<'a>, kind: Kind) -> Arg<'a> {
+fn of_kind<'a>(argument: Arg<'a>, kind: Kind, name: &'static str) -> Arg<'a> {
     match kind {
         Kind::Text => argument.required(true),
         Kind::Number => argument.required(true).value_parser(value_parser!(usize)),
         Kind::OptionalNumber => argument.value_parser(value_parser!(usize)),
+        Kind::TextOption => argument.long(name),
+        Kind::NumberOption => argument.long(name).value_parser(value_parser!(usize)),
+        Kind::Flag => argument.long(name).action(ArgAction::SetTrue),
     }
 }

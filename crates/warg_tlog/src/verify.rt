@@ -8,6 +8,9 @@ use warg_crypto::{Hash, Sha256};
 use warg_log::Checkpoint;
 use warg_paths::{check_record, check_tree};
 
+// A path to at most 2^63 entries has no more digests.
+const LONGEST_PATH: usize = 64;
+
 // What the first line of standard input claims.
 #[derive(Drop)]
 enum Claim {
@@ -74,9 +77,9 @@ fn next(alloc: Global, lines: &mut Lines) -> Result<(), Refusal> {
 // The path of the lines that are left.
 fn path_in(alloc: Global, lines: &mut Lines) -> Result<Vec<Hash<Sha256>>, Refusal> {
     let mut path = Vec::new(alloc);
-    for _ in 0..u64::MAX {
+    for _ in 0..LONGEST_PATH + 1 {
         if !lines.go_on(alloc)? {
-            break;
+            return Ok(path);
         }
         match text_in(lines.line()).and_then(|text| text.parse::<Hash<Sha256>>().ok()) {
             Some(digest) => path.push(digest)?,
@@ -85,7 +88,7 @@ fn path_in(alloc: Global, lines: &mut Lines) -> Result<Vec<Hash<Sha256>>, Refusa
             )),
         }
     }
-    Ok(path)
+    Err(lines.refused("is too much: no path has more than 64 digests"))
 }
 
 fn claim_in(line: &[u8]) -> Option<Claim> {
@@ -117,8 +120,8 @@ fn checkpoint_in(words: &str) -> Option<Checkpoint<Sha256>> {
     Some(Checkpoint::new(root_in(root)?, length.parse().ok()?))
 }
 
-// The root that a word spells: in base64, as in a checkpoint, or in hexadecimal digits.
-fn root_in(word: &str) -> Option<Hash<Sha256>> {
+/// The root that a word spells: in base64, as in a checkpoint, or in hexadecimal digits.
+pub fn root_in(word: &str) -> Option<Hash<Sha256>> {
     if let Ok(root) = word.parse::<Hash<Sha256>>() {
         return Some(root);
     }

@@ -1,7 +1,8 @@
 -- What a crash leaves within a commit.
 use Rattle.std.specs.Prelude.{◌≡◌, ◌⊎◌, ℕ, List, true, false, None, IsSome}
 use Rattle.warg_store.specs.Files.{Files, put}
-use Rattle.warg_store.specs.Names.{checkpoint, state, mark, staged, is_staged, is_served}
+use Rattle.warg_store.specs.Names.{state, mark, staged, is_staged, is_served}
+use Rattle.warg_store.specs.Opening.{told}
 
 -- Some staged files are gone. While a commit's text is there, none of its files is staged any more.
 pub record IsRemoving (s c : Files) : Type 0 where
@@ -17,4 +18,4 @@ pub record IsMoving (s c : Files) : Type 0 where
 
 -- The text is put as the state, or as the state and the checkpoint, or not at all.
 abbrev pub IsPut : List ℕ → Files → Files → Type 0
-IsPut text s c = (c ≡ s) ⊎ (c ≡ put (state, text) s) ⊎ (c ≡ put (checkpoint, text) (put (state, text) s))
+IsPut text s c = (c ≡ s) ⊎ (c ≡ put (state, text) s) ⊎ (c ≡ told text s)

@@ -1,12 +1,21 @@
+use Rattle.std.proofs.Common.{subst, sym}
 use Rattle.std.proofs.lemmas.Result.{on_ok_weaker}
-use Rattle.warg_store.proofs.LeadLemmas.{leads}
+use Rattle.warg_store.specs.Files.{Files}
+use Rattle.warg_store.specs.Log.{LogOf, Keeps}
+use Rattle.warg_store.proofs.MomentLemmas.{weaker}
+use Rattle.warg_store.proofs.LeadLemmas.{next_keeps, between_one_of}
 use Rattle.warg_store.proofs.log.commit_log.Goals as goal
 
 pub returns-clause-any_moment : goal.returns-clause-any_moment
-returns-clause-any_moment g c = λ old next serves extends are_staged says.
-    c.publish.ensures.any_moment old next (leads old next extends (g.F.Folder.seen c.args.folder.now) are_staged c.args.text.now says serves)
+returns-clause-any_moment g c = λ faithful served old next keeps extends are_staged says.
+    let first = g.F.Folder.seen c.args.folder.now in
+    let idle = (c.requires.staging faithful first (g.met.F.Folder.seen_may_stay c.args.folder.now)).no_mark in
+    weaker _ _ _ _ _ _ (c.commit.ensures.any_moment faithful) (λ e was. between_one_of served old next first keeps extends are_staged c.args.text.now says idle e was)
 
 pub returns-clause-next : goal.returns-clause-next
-returns-clause-next g c = on_ok_weaker c.publish.result
-    (λ is old next serves extends are_staged says. is old next (leads old next extends (g.F.Folder.seen c.args.folder.now) are_staged c.args.text.now says serves))
-    c.publish.ensures.next
+returns-clause-next g c = λ faithful. on_ok_weaker c.commit.result
+    (λ is served old next keeps extends are_staged says.
+    let first = g.F.Folder.seen c.args.folder.now in
+    let found = next_keeps served old next first keeps extends are_staged c.args.text.now says in
+    (found.0, subst (Keeps found.0 next) (sym is) found.1))
+    (c.commit.ensures.committed faithful)

@@ -35,7 +35,7 @@ each-preserved c =
     ]
 
 pub returns-clause-all : goal.returns-clause-all
-returns-clause-all c = λ n some begins.
+returns-clause-all c = λ faithful. λ n some begins.
     let calls = c.as_slice-calls.result.now in
     all_put calls c.args.prefix.now c.each.names.items Synced (λ k d m lt by is front. c.each.invariant.all k d m (omega arith) by is front) n
     (subst (λ (l : List Call). IsSome (seen_after l n)) (sym c.as_slice-calls.ensures.value) some) begins

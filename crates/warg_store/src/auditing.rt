@@ -1,0 +1,202 @@
+//! Every tile made again from the entries.
+
+ghost use Rattle.std.specs.Prelude.{◌≡◌, IfOk, OnOk};
+ghost use Rattle.warg_store.specs.Audited.{HasEntries, IsOfEntries};
+ghost use Rattle.warg_store.specs.Opening.{IsStaging};
+
+use crate::committing::{MOST_TEXT, commit};
+use crate::device::{Folder, FolderError};
+use crate::edge::{entries_of, read_bundle, read_tile};
+use crate::error::LogError;
+use crate::log::stage_tiles;
+use crate::names::STATE;
+use crate::opening::read_state;
+use crate::recovery::recover;
+use std::alloc::Global;
+use warg_crypto::Sha256;
+use warg_log::{Checkpoint, GREATEST_LENGTH, LogBuilder};
+use warg_tiles::{StoredTile, Tile, TileLog};
+
+/// Told how far a long run has come.
+pub trait Progress {
+    /// One entry more was read.
+    fn step(&mut self);
+}
+
+// What becomes of a tile that was made again.
+#[derive(Clone, Copy)]
+pub(crate) enum Use {
+    Compare,
+    Stage,
+}
+
+// The checkpoint, if every tile is the one over the entries, and their root is its root.
+pub(crate) fn audited<F: Folder, P: Progress>(
+    alloc: Global,
+    folder: &mut F,
+    checkpoint: &Checkpoint<Sha256>,
+    progress: &mut P,
+) -> Result<Checkpoint<Sha256>, LogError>
+    ensures { IfOk result IsOfEntries }
+{
+    let log = replayed(alloc, folder, checkpoint.length(), Use::Compare, progress)?;
+    same_root(alloc, &log, checkpoint)
+}
+
+/// Makes each tile of a folder's log again, from its bundles, once they lead to the root of the log's state: where tiles are
+/// missing or corrupt and the entries are not. `NoLog` where there is no log; `Damaged` names the first bundle that is missing
+/// or corrupt.
+pub fn rebuild<F: Folder, P: Progress>(
+    alloc: Global,
+    folder: &mut F,
+    progress: &mut P,
+) -> Result<Checkpoint<Sha256>, LogError>
+    ensures { IfOk result IsOfEntries }
+{
+    if let Err(error) = recover(alloc, folder) {
+        return Err(LogError::of_recovery(alloc, &error));
+    }
+    let state = read_state(alloc, folder)?;
+    let checkpoint = state.checkpoint();
+    let log = replayed(alloc, folder, checkpoint.length(), Use::Stage, progress)?;
+    let found = same_root(alloc, &log, &checkpoint)?;
+    let text = state.write(alloc)?;
+    if text.len() <= MOST_TEXT {
+        commit(alloc, folder, text.as_slice())?;
+    }
+    Ok(found)
+}
+
+// The log's checkpoint, if it is the one that its state says.
+fn same_root(
+    alloc: Global,
+    log: &TileLog<Sha256, Vec<u8>>,
+    checkpoint: &Checkpoint<Sha256>,
+) -> Result<Checkpoint<Sha256>, LogError>
+    requires { HasEntries log.now }
+    ensures { IfOk result IsOfEntries }
+{
+    let found = log.checkpoint();
+    if found == *checkpoint {
+        return Ok(found);
+    }
+    let fault = "has another root than the log's entries";
+    Err(LogError::damaged(alloc, STATE, fault))
+}
+
+// The log of so many entries, as the bundles have them. Each tile is used as soon as it is made.
+fn replayed<F: Folder, P: Progress>(
+    alloc: Global,
+    folder: &mut F,
+    length: usize,
+    use_as: Use,
+    progress: &mut P,
+) -> Result<TileLog<Sha256, Vec<u8>>, LogError>
+    requires { use_as ≡ Use.Stage → F.IsFaithful → IsStaging (F.seen folder.old) (F.may_leave folder.old) }
+    ensures has { IfOk result HasEntries }
+    ensures staging { use_as ≡ Use.Stage → F.IsFaithful
+        → OnOk result (IsStaging (F.seen folder.new) (F.may_leave folder.new)) }
+{
+    let mut log = TileLog::new(alloc);
+    'bundles: for number in 0..length.div_ceil(256) {
+        let width = (length - 256 * number).min(256);
+        let tile = Tile::new(0, number, width);
+        push_bundle(alloc, folder, &mut log, &tile, progress)?;
+        use_tiles(alloc, folder, use_as, log.take_full().as_slice())?;
+    }
+    use_tiles(alloc, folder, use_as, log.partial(alloc)?.as_slice())?;
+    Ok(log)
+}
+
+// Adds the entries of a bundle.
+fn push_bundle<F: Folder, P: Progress>(
+    alloc: Global,
+    folder: &mut F,
+    log: &mut TileLog<Sha256, Vec<u8>>,
+    tile: &Tile,
+    progress: &mut P,
+) -> Result<(), LogError>
+    requires level { tile.now.level ≡ 0 }
+    requires has { HasEntries log.old }
+    ensures has { OnOk result (HasEntries log.new) }
+    ensures staging { F.IsFaithful → IsStaging (F.seen folder.old) (F.may_leave folder.old)
+        → OnOk result (IsStaging (F.seen folder.new) (F.may_leave folder.new)) }
+{
+    let bytes = read_bundle(alloc, folder, tile)?;
+    let entries = entries_of(alloc, tile, bytes.as_slice())?;
+    push_all(alloc, log, entries.as_slice(), progress)
+}
+
+fn push_all<P: Progress>(
+    alloc: Global,
+    log: &mut TileLog<Sha256, Vec<u8>>,
+    entries: &[&[u8]],
+    progress: &mut P,
+) -> Result<(), LogError>
+    requires { HasEntries log.old }
+    ensures { OnOk result (HasEntries log.new) }
+{
+    let mut bytes = Vec::new(alloc);
+    'entries: for entry in entries {
+        bytes.clear();
+        bytes.extend_from_slice(entry)?;
+        push_one(log, &bytes)?;
+        progress.step();
+    }
+    Ok(())
+}
+
+// Adds an entry to a log.
+fn push_one(log: &mut TileLog<Sha256, Vec<u8>>, entry: &Vec<u8>) -> Result<(), FolderError>
+    requires { HasEntries log.old }
+    ensures { OnOk result (HasEntries log.new) }
+{
+    if log.length() >= GREATEST_LENGTH {
+        return Err(FolderError::Memory);
+    }
+    log.push(entry)?;
+    Ok(())
+}
+
+// Compares tiles with their files, or stages them.
+fn use_tiles<F: Folder>(
+    alloc: Global,
+    folder: &mut F,
+    use_as: Use,
+    tiles: &[StoredTile<Sha256>],
+) -> Result<(), LogError>
+    requires { use_as ≡ Use.Stage → F.IsFaithful → IsStaging (F.seen folder.old) (F.may_leave folder.old) }
+    ensures { use_as ≡ Use.Stage → F.IsFaithful
+        → OnOk result (IsStaging (F.seen folder.new) (F.may_leave folder.new)) }
+{
+    match use_as {
+        Use::Stage => Ok(stage_tiles(alloc, folder, 0, tiles)?),
+        Use::Compare => compare_tiles(alloc, folder, tiles),
+    }
+}
+
+fn compare_tiles<F: Folder>(
+    alloc: Global,
+    folder: &mut F,
+    tiles: &[StoredTile<Sha256>],
+) -> Result<(), LogError> {
+    'tiles: for tile in tiles {
+        compare_tile(alloc, folder, tile)?;
+    }
+    Ok(())
+}
+
+// Refuses a tile's file that hasn't its digests.
+fn compare_tile<F: Folder>(
+    alloc: Global,
+    folder: &mut F,
+    stored: &StoredTile<Sha256>,
+) -> Result<(), LogError> {
+    let found = read_tile(alloc, folder, stored.tile)?;
+    if found.digests.as_slice() == stored.digests.as_slice() {
+        return Ok(());
+    }
+    let path = stored.tile.path(alloc)?;
+    let fault = "isn't the tile over the entries of their bundles, so one of these files differs";
+    Err(LogError::damaged(alloc, path.as_str(), fault))
+}

@@ -1,0 +1,84 @@
+//! Why a call on a log's folder is refused.
+
+ghost use Rattle.std.specs.Prelude.{◌≡◌};
+
+use crate::device::FolderError;
+use crate::recovery::RecoverError;
+use std::alloc::{AllocError, AllocFailed, Global};
+use thiserror::Error;
+
+/// A file that isn't what it is to be.
+#[derive(Debug, PartialEq, Eq, Drop)]
+pub struct Damage {
+    /// The file's name below the folder.
+    pub name: String,
+    /// What is wrong with it.
+    pub fault: &'static str,
+}
+
+/// Why a log isn't opened or read.
+#[derive(Debug, PartialEq, Eq, Drop, Error)]
+pub enum LogError {
+    /// The folder has no log.
+    #[error("no log")]
+    NoLog,
+    /// A file isn't what it is to be.
+    #[error("a file is damaged")]
+    Damaged(Damage),
+    /// The checkpoint is an older one than that of the log's state: how many entries each has.
+    #[error("the checkpoint has {found} entries, and the log {newest}")]
+    RolledBack { found: usize, newest: usize },
+    /// The log keeps no such entry or length: the bound.
+    #[error("out of range: the bound is {bound}")]
+    OutOfRange { bound: usize },
+    /// A call on the folder was refused.
+    #[error("{0}")]
+    Folder(FolderError),
+}
+
+impl From<FolderError> for LogError {
+    ghost use Rattle.warg_store.specs.declared.error.LogError.TheVariants.{Folder};
+
+    ghost from_gives = { λ cause error. error ≡ Folder cause };
+
+    fn from(cause: FolderError) -> Self {
+        LogError::Folder(cause)
+    }
+}
+
+impl From<AllocError> for LogError {
+    fn from(_error: AllocError) -> Self {
+        LogError::Folder(FolderError::Memory)
+    }
+}
+
+impl<T: Drop> From<AllocFailed<T>> for LogError {
+    fn from(_error: AllocFailed<T>) -> Self {
+        LogError::Folder(FolderError::Memory)
+    }
+}
+
+impl LogError {
+    /// That a file isn't what it is to be.
+    pub(crate) fn damaged(alloc: Global, name: &str, fault: &'static str) -> LogError {
+        match String::from_str(alloc, name) {
+            Ok(name) => LogError::Damaged(Damage { name, fault }),
+            Err(_) => LogError::Folder(FolderError::Memory),
+        }
+    }
+
+    /// Why a folder wasn't recovered.
+    pub(crate) fn of_recovery(alloc: Global, error: &RecoverError) -> LogError {
+        match error {
+            RecoverError::Folder(FolderError::Memory) => LogError::Folder(FolderError::Memory),
+            RecoverError::Folder(FolderError::Failed) => LogError::Folder(FolderError::Failed),
+            RecoverError::TooLong => {
+                LogError::damaged(
+                    alloc,
+                    crate::names::MARK,
+                    "is longer than a checkpoint's text",
+                )
+            }
+        }
+    }
+}

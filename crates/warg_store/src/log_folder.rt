@@ -1,0 +1,316 @@
+//! A log in a folder, as whoever adds to it holds it.
+
+ghost use Rattle.std.specs.Prelude.{◌≡◌, ◌+◌, ◌<◌, ◌↔◌, length, true, Err, OnOk, OnErr};
+ghost use Rattle.warg_store.specs.Moments.{LeavesOnly};
+ghost use Rattle.warg_store.specs.Opening.{IsBeside, IsStaging};
+ghost use Rattle.warg_store.specs.Growing.{IsReady, IsSameBut};
+
+use crate::committing::MOST_TEXT;
+use crate::device::{Folder, FolderError};
+use crate::log::{commit_log, stage_bundle, stage_tiles};
+use std::alloc::{AllocError, Global};
+use std::marker::Model;
+use thiserror::Error;
+use warg_crypto::Sha256;
+use warg_log::{Checkpoint, GREATEST_LENGTH, LogBuilder};
+use warg_tiles::{CheckpointText, StoredTile, Tile, TileLog, push_entry};
+
+/// Why an entry isn't added.
+#[derive(Debug, PartialEq, Eq, Drop, Error)]
+pub enum PushError {
+    /// The entry has more than 65,535 bytes.
+    #[error("entry has more than 65,535 bytes")]
+    TooLong,
+    /// The log has 2^63 entries.
+    #[error("log has 2^63 entries")]
+    Full,
+    /// A commit has failed: open the folder again.
+    #[error("a commit has failed")]
+    Closed,
+    /// A call on the folder was refused.
+    #[error("{0}")]
+    Folder(FolderError),
+}
+
+impl From<FolderError> for PushError {
+    ghost use Rattle.warg_store.specs.declared.log_folder.PushError.TheVariants.{Folder};
+
+    ghost from_gives = { λ cause error. error ≡ Folder cause };
+
+    fn from(cause: FolderError) -> Self {
+        PushError::Folder(cause)
+    }
+}
+
+/// Why a commit is refused.
+#[derive(Debug, PartialEq, Eq, Drop, Error)]
+pub enum CommitError {
+    /// Memory was refused before anything was written.
+    #[error("out of memory")]
+    Memory,
+    /// The checkpoint's text would have more than 2^20 bytes.
+    #[error("checkpoint's text has more than 2^20 bytes")]
+    TooLong,
+    /// An earlier commit has failed: open the folder again.
+    #[error("a commit has failed")]
+    Closed,
+    /// A call on the folder was refused: open it again.
+    #[error("{0}")]
+    Folder(FolderError),
+}
+
+impl From<AllocError> for CommitError {
+    ghost use Rattle.warg_store.specs.declared.log_folder.CommitError.TheVariants.{Memory};
+
+    ghost from_gives = { λ _ error. error ≡ Memory };
+
+    fn from(_error: AllocError) -> Self {
+        CommitError::Memory
+    }
+}
+
+impl From<FolderError> for CommitError {
+    ghost use Rattle.warg_store.specs.declared.log_folder.CommitError.TheVariants.{Folder};
+
+    ghost from_gives = { λ cause error. error ≡ Folder cause };
+
+    fn from(cause: FolderError) -> Self {
+        CommitError::Folder(cause)
+    }
+}
+
+/// A log in a folder, with the right edge of all that was pushed: at most 255 digests of each level, and the entries that fill
+/// no bundle yet. So its memory doesn't grow with the log.
+#[derive(Drop)]
+pub struct LogFolder<F: Folder + Drop> {
+    alloc: Global,
+    folder: F,
+    text: CheckpointText<Sha256>,
+    is_open: bool,
+    edge: TileLog<Sha256, Vec<u8>>,
+    entry: Vec<u8>,
+    bundle: Vec<u8>,
+    held: usize,
+}
+
+impl<F: Folder + Drop> Model for LogFolder<F> {
+    ghost use Rattle.warg_store.specs.Growing.{LogIn};
+
+    ghost Value = { LogIn F };
+
+    ghost view = { λ l. record {
+      folder = l.folder;
+      kept = l.text.length;
+      is_open = l.is_open;
+      origin = l.text.origin;
+      edge = l.edge;
+      bundle = l.bundle.items;
+      held = l.held;
+    } };
+}
+
+impl<F: Folder + Drop> LogFolder<F> {
+    // The log of a folder that keeps this checkpoint, with its right edge and the entries of its last bundle.
+    pub(crate) fn with(
+        alloc: Global,
+        folder: F,
+        text: CheckpointText<Sha256>,
+        edge: TileLog<Sha256, Vec<u8>>,
+        bundle: Vec<u8>,
+        held: usize,
+    ) -> Self
+        ensures { result ≡ record {
+          folder = folder;
+          kept = text.length;
+          is_open = true;
+          origin = text.origin;
+          edge = edge;
+          bundle = bundle.items;
+          held = held;
+        } }
+    {
+        LogFolder {
+            alloc,
+            folder,
+            text,
+            is_open: true,
+            edge,
+            entry: Vec::new(alloc),
+            bundle,
+            held,
+        }
+    }
+
+    /// The number of entries, those included that aren't committed.
+    pub fn length(&self) -> usize
+        ensures { result ≡ self.now.edge.len }
+    {
+        self.edge.length()
+    }
+
+    /// The checkpoint of the log's state: what the last commit has kept.
+    pub fn checkpoint(&self) -> Checkpoint<Sha256>
+        ensures { result.length ≡ self.now.kept }
+    {
+        self.text.checkpoint()
+    }
+
+    // The text of the log's state.
+    pub(crate) fn state_text(&self) -> Result<Vec<u8>, AllocError> {
+        self.text.write(self.alloc)
+    }
+
+    // The allocator, and the folder.
+    pub(crate) fn device(&mut self) -> (Global, &mut F) {
+        (self.alloc, &mut self.folder)
+    }
+
+    /// The log's origin.
+    pub fn origin(&self) -> &[u8]
+        ensures { result.now ≡ self.now.origin }
+    {
+        self.text.origin()
+    }
+
+    /// The folder, as it is: what was pushed and not committed is dropped once it is opened again.
+    pub fn into_folder(self) -> F
+        ensures { result ≡ self.folder }
+    {
+        self.folder
+    }
+
+    /// Adds an entry behind the others. Nothing that is served changes before a commit. A refused call leaves the log as it
+    /// was: `TooLong` exactly if the entry has more than 65,535 bytes, else `Full` exactly if the log has 2^63, else `Closed`
+    /// exactly if a commit has failed.
+    pub fn push(&mut self, entry: &[u8]) -> Result<(), PushError>
+        requires { F.IsFaithful → IsReady F.seen F.may_leave self.old }
+        ensures ready { F.IsFaithful → IsReady F.seen F.may_leave self.new }
+        ensures origin { self.new.origin ≡ self.old.origin }
+        ensures kept { self.new.kept ≡ self.old.kept }
+        ensures length { OnOk result (self.new.edge.len ≡ self.old.edge.len + 1) }
+        ensures refused { OnErr result (self.new.edge.len ≡ self.old.edge.len) }
+        ensures too_long { (result ≡ Err PushError.TooLong) ↔ (65535 < length entry.now) }
+        ensures any_moment { F.IsFaithful → self.old.is_open ≡ true
+            → LeavesOnly F.moment F.left_since self.old.folder self.new.folder
+            (IsBeside (F.seen self.old.folder)) }
+    {
+        if entry.len() > 65_535 {
+            return Err(PushError::TooLong);
+        }
+        if self.edge.length() >= GREATEST_LENGTH {
+            return Err(PushError::Full);
+        }
+        if !self.is_open {
+            return Err(PushError::Closed);
+        }
+        if self.held >= 256 {
+            self.stage_full()?;
+        }
+        match self.add(entry) {
+            Ok(()) => Ok(()),
+            Err(_) => Err(PushError::Folder(FolderError::Memory)),
+        }
+    }
+
+    /// Keeps what was pushed, and serves it, unless the checkpoint is signed: that one is served until another is signed. All
+    /// of it or nothing, whatever happens at whatever moment; after `Ok` a crash leaves all of it. A commit of nothing changes
+    /// nothing. `Memory` only before anything is written, and the log is as it was; after another error it takes no more,
+    /// and the folder is opened again.
+    pub fn commit(&mut self) -> Result<(), CommitError>
+        requires { F.IsFaithful → IsReady F.seen F.may_leave self.old }
+        ensures ready { F.IsFaithful → IsReady F.seen F.may_leave self.new }
+    {
+        if !self.is_open {
+            return Err(CommitError::Closed);
+        }
+        if self.edge.length() == self.text.checkpoint().length() {
+            return Ok(());
+        }
+        let text = self.next_text()?;
+        let bytes = text.write(self.alloc)?;
+        if bytes.len() > MOST_TEXT {
+            return Err(CommitError::TooLong);
+        }
+        let tiles = self.edge.partial(self.alloc)?;
+        self.is_open = false;
+        self.stage_edge(tiles.as_slice())?;
+        commit_log(self.alloc, &mut self.folder, bytes.as_slice())?;
+        self.text = text;
+        self.is_open = true;
+        Ok(())
+    }
+
+    // The text of the checkpoint over all that was pushed.
+    fn next_text(&self) -> Result<CheckpointText<Sha256>, CommitError> {
+        match CheckpointText::new(self.alloc, self.text.origin(), self.edge.checkpoint()) {
+            Ok(text) => Ok(text),
+            Err(_) => Err(CommitError::Memory),
+        }
+    }
+
+    // Stages what the log's end has of tiles and of a bundle.
+    fn stage_edge(&mut self, tiles: &[StoredTile<Sha256>]) -> Result<(), FolderError>
+        requires { F.IsFaithful → IsStaging (F.seen self.old.folder) (F.may_leave self.old.folder) }
+        ensures ready { F.IsFaithful → IsStaging (F.seen self.new.folder) (F.may_leave self.new.folder) }
+        ensures same { IsSameBut self.old self.new }
+    {
+        if self.held >= 256 {
+            self.stage_full()?;
+        }
+        let older = self.text.checkpoint().length();
+        stage_tiles(self.alloc, &mut self.folder, older, tiles)?;
+        if self.held == 0 || self.held > 256 {
+            return Ok(());
+        }
+        let tile = Tile::new(0, self.edge.length() / 256, self.held);
+        stage_bundle(self.alloc, &mut self.folder, &tile, self.bundle.as_slice())
+    }
+
+    // Stages the bundle of 256 entries, and the tiles that they filled.
+    fn stage_full(&mut self) -> Result<(), FolderError>
+        requires { F.IsFaithful → IsStaging (F.seen self.old.folder) (F.may_leave self.old.folder) }
+        ensures ready { F.IsFaithful → IsStaging (F.seen self.new.folder) (F.may_leave self.new.folder) }
+        ensures any_moment { F.IsFaithful → LeavesOnly F.moment F.left_since self.old.folder self.new.folder
+            (IsBeside (F.seen self.old.folder)) }
+        ensures same { IsSameBut self.old self.new }
+        ensures held { OnOk result (self.new.held ≡ 0) }
+    {
+        stage_tiles(
+            self.alloc,
+            &mut self.folder,
+            self.text.checkpoint().length(),
+            self.edge.full(),
+        )?;
+        let tile = Tile::new(0, self.edge.length().saturating_sub(1) / 256, 256);
+        stage_bundle(self.alloc, &mut self.folder, &tile, self.bundle.as_slice())?;
+        let _ = self.edge.take_full();
+        self.bundle.clear();
+        self.held = 0;
+        Ok(())
+    }
+
+    // Adds an entry to the right edge and to the bundle, or leaves both as they were.
+    fn add(&mut self, entry: &[u8]) -> Result<(), AllocError>
+        requires short { length entry.now < 65536 }
+        requires room { self.old.held < 256 }
+        requires fits { self.old.edge.len < GREATEST_LENGTH }
+        ensures folder { self.new.folder ≡ self.old.folder }
+        ensures length { OnOk result (self.new.edge.len ≡ self.old.edge.len + 1) }
+        ensures refused { OnErr result (self.new ≡ self.old) }
+        ensures same { (self.new.origin ≡ self.old.origin) × (self.new.kept ≡ self.old.kept)
+            × (self.new.is_open ≡ self.old.is_open) }
+    {
+        self.entry.clear();
+        self.entry.extend_from_slice(entry)?;
+        let before = self.bundle.len();
+        if push_entry(&mut self.bundle, entry).is_err() {
+            return Err(AllocError);
+        }
+        if self.edge.push(&self.entry).is_err() {
+            self.bundle.truncate(before);
+            return Err(AllocError);
+        }
+        self.held += 1;
+        Ok(())
+    }
+}

@@ -1,0 +1,269 @@
+//! A log's folder, made and opened.
+
+ghost use Rattle.std.specs.Prelude.{◌≡◌, IfOk, OnOk};
+ghost use Rattle.warg_store.specs.Growing.{IsReady};
+ghost use Rattle.warg_store.specs.Opening.{IsStaging};
+
+use crate::committing::{MOST_TEXT, commit, is_signed};
+use crate::device::{Folder, FolderError};
+use crate::edge::{open_edge, read_edge, read_last_bundle};
+use crate::error::LogError;
+use crate::log_folder::LogFolder;
+use crate::names::{CHECKPOINT, MARK, STATE, is_log_file};
+use crate::recovery::{RecoverError, recover};
+use std::alloc::{AllocError, Global};
+use thiserror::Error;
+use warg_crypto::{Sha256, hash_empty};
+use warg_log::Checkpoint;
+use warg_tiles::{CheckpointText, CheckpointTextError, TileLog};
+
+/// Why a log isn't made.
+#[derive(Debug, PartialEq, Eq, Drop, Error)]
+pub enum CreateError {
+    /// The folder has files of a log.
+    #[error("folder has files of a log")]
+    Exists,
+    /// The origin isn't one line of text, or is too long.
+    #[error("origin isn't one line of text, or is too long")]
+    Origin,
+    /// A call on the folder was refused.
+    #[error("{0}")]
+    Folder(FolderError),
+}
+
+impl From<FolderError> for CreateError {
+    fn from(cause: FolderError) -> Self {
+        CreateError::Folder(cause)
+    }
+}
+
+impl From<AllocError> for CreateError {
+    fn from(_error: AllocError) -> Self {
+        CreateError::Folder(FolderError::Memory)
+    }
+}
+
+impl<F: Folder + Drop> LogFolder<F> {
+    /// Makes a log of no entries in a folder. `Origin` where the origin is empty, has a newline or more than 65,535 bytes;
+    /// `Exists` where a file of a log is there; other files don't matter.
+    pub fn create(alloc: Global, mut folder: F, origin: &[u8]) -> Result<LogFolder<F>, CreateError>
+        ensures ready { F.IsFaithful → IfOk result (IsReady F.seen F.may_leave) }
+        ensures empty { IfOk result (λ log. (log.edge.len ≡ 0) × (log.origin ≡ origin.now)) }
+    {
+        if origin.len() > 65_535 {
+            return Err(CreateError::Origin);
+        }
+        let text = match CheckpointText::new(alloc, origin, Checkpoint::new(hash_empty(), 0)) {
+            Ok(text) => text,
+            Err(CheckpointTextError::Memory) => return Err(CreateError::Folder(
+                FolderError::Memory,
+            )),
+            Err(_) => return Err(CreateError::Origin),
+        };
+        let bytes = text.write(alloc)?;
+        if bytes.len() > MOST_TEXT {
+            return Err(CreateError::Origin);
+        }
+        check_fresh(alloc, &mut folder)?;
+        prepare(alloc, &mut folder)?;
+        commit(alloc, &mut folder, bytes.as_slice())?;
+        Ok(LogFolder::with(alloc, folder, text, TileLog::new(alloc), Vec::new(alloc), 0))
+    }
+
+    /// Opens a folder's log. A commit that stands is finished, and what else is staged is dropped. `NoLog` where there is no
+    /// log; `RolledBack` where an older checkpoint was put back; `Damaged` names a file of the right edge, the state or the
+    /// checkpoint that is missing or corrupt.
+    pub fn open(alloc: Global, mut folder: F) -> Result<LogFolder<F>, LogError>
+        ensures ready { F.IsFaithful → IfOk result (IsReady F.seen F.may_leave) }
+        ensures all { IfOk result (λ log. log.edge.len ≡ log.kept) }
+    {
+        if let Err(error) = recover(alloc, &mut folder) {
+            return Err(LogError::of_recovery(alloc, &error));
+        }
+        let text = kept_text(alloc, &mut folder)?;
+        let checkpoint = text.checkpoint();
+        let edge = read_edge(alloc, &mut folder, checkpoint.length())?;
+        let log = open_edge(alloc, &checkpoint, edge.as_slice())?;
+        let bundle = read_last_bundle(alloc, &mut folder, edge.as_slice())?;
+        let held = checkpoint.length() % 256;
+        Ok(LogFolder::with(alloc, folder, text, log, bundle, held))
+    }
+}
+
+// What the log's state says, once the served checkpoint agrees. A folder without a state that serves a checkpoint is taken over:
+// its checkpoint becomes the state, once the last tiles lead to its root.
+fn kept_text<F: Folder>(alloc: Global, folder: &mut F) -> Result<CheckpointText<Sha256>, LogError>
+    ensures { F.IsFaithful → IsStaging (F.seen folder.old) (F.may_leave folder.old)
+        → OnOk result (IsStaging (F.seen folder.new) (F.may_leave folder.new)) }
+{
+    let Some(state) = read_text(alloc, folder, STATE)? else {
+        return take_over(alloc, folder);
+    };
+    let served = read_served(alloc, folder)?;
+    compare(alloc, folder, &state, &served)?;
+    Ok(state)
+}
+
+fn take_over<F: Folder>(alloc: Global, folder: &mut F) -> Result<CheckpointText<Sha256>, LogError>
+    ensures { F.IsFaithful → IsStaging (F.seen folder.old) (F.may_leave folder.old)
+        → OnOk result (IsStaging (F.seen folder.new) (F.may_leave folder.new)) }
+{
+    let Some(served) = read_text(alloc, folder, CHECKPOINT)? else {
+        return Err(LogError::NoLog);
+    };
+    let checkpoint = served.checkpoint();
+    let edge = read_edge(alloc, folder, checkpoint.length())?;
+    open_edge(alloc, &checkpoint, edge.as_slice())?;
+    let bytes = served.write(alloc)?;
+    folder.replace(STATE, bytes.as_slice())?;
+    Ok(served)
+}
+
+// Refuses a folder that has a file of a log.
+fn check_fresh<F: Folder>(alloc: Global, folder: &mut F) -> Result<(), CreateError> {
+    let names = folder.list(alloc, "")?;
+    'names: for name in names.as_slice() {
+        if is_log_file(name.as_str()) && name.as_str() != ".log/lock" {
+            return Err(CreateError::Exists);
+        }
+    }
+    Ok(())
+}
+
+// Nothing is staged, and a crash leaves what is seen.
+fn prepare<F: Folder>(alloc: Global, folder: &mut F) -> Result<(), CreateError>
+    ensures { F.IsFaithful → OnOk result (IsStaging (F.seen folder.new) (F.may_leave folder.new)) }
+{
+    match recover(alloc, folder) {
+        Ok(()) => Ok(()),
+        Err(RecoverError::Folder(cause)) => Err(CreateError::Folder(cause)),
+        Err(RecoverError::TooLong) => Err(CreateError::Exists),
+    }
+}
+
+/// What the log's state says. `NoLog` where there is none.
+pub(crate) fn read_state<F: Folder>(
+    alloc: Global,
+    folder: &mut F,
+) -> Result<CheckpointText<Sha256>, LogError>
+    ensures { F.IsFaithful → IsStaging (F.seen folder.old) (F.may_leave folder.old)
+        → OnOk result (IsStaging (F.seen folder.new) (F.may_leave folder.new)) }
+{
+    read_text(alloc, folder, STATE)?.ok_or(LogError::NoLog)
+}
+
+// What a checkpoint's file says, if it is there.
+#[tactic(auto, using(crate::proofs::ReadyLemmas::staging_kept))]
+fn read_text<F: Folder>(
+    alloc: Global,
+    folder: &mut F,
+    name: &str,
+) -> Result<Option<CheckpointText<Sha256>>, LogError>
+    ensures { F.IsFaithful → IsStaging (F.seen folder.old) (F.may_leave folder.old)
+        → OnOk result (IsStaging (F.seen folder.new) (F.may_leave folder.new)) }
+{
+    match folder.read(alloc, name, MOST_TEXT)? {
+        Some(bytes) => Ok(Some(text_in(alloc, name, bytes.as_slice())?)),
+        None => Ok(None),
+    }
+}
+
+/// What the served checkpoint says, for those who only read. The state is read first: a commit replaces it before the
+/// checkpoint, so one that is newer means that a commit is under way, or that an older checkpoint was put back.
+pub(crate) fn read_newest<F: Folder>(
+    alloc: Global,
+    folder: &mut F,
+) -> Result<CheckpointText<Sha256>, LogError> {
+    let state = read_text(alloc, folder, STATE)?;
+    let Some(served) = read_text(alloc, folder, CHECKPOINT)? else {
+        return match state {
+            Some(_) => Err(LogError::damaged(alloc, CHECKPOINT, "is missing")),
+            None => Err(LogError::NoLog),
+        };
+    };
+    match state {
+        Some(state) => newest_of(alloc, folder, &state, served),
+        None => Ok(served),
+    }
+}
+
+// The served text, unless it is one that was put back.
+fn newest_of<F: Folder>(
+    alloc: Global,
+    folder: &mut F,
+    state: &CheckpointText<Sha256>,
+    served: CheckpointText<Sha256>,
+) -> Result<CheckpointText<Sha256>, LogError> {
+    let newest = state.checkpoint().length();
+    if served.checkpoint().length() >= newest || folder.read(alloc, MARK, 0)?.is_some() {
+        return Ok(served);
+    }
+    let served = read_served(alloc, folder)?;
+    if served.checkpoint().length() < newest {
+        compare(alloc, folder, state, &served)?;
+    }
+    Ok(served)
+}
+
+// The text that a file's bytes begin with.
+fn text_in(alloc: Global, name: &str, bytes: &[u8]) -> Result<CheckpointText<Sha256>, LogError> {
+    match CheckpointText::read(alloc, bytes) {
+        Ok((text, _)) => Ok(text),
+        Err(CheckpointTextError::Memory) => Err(LogError::Folder(FolderError::Memory)),
+        Err(error) => Err(LogError::damaged(alloc, name, fault_of(&error))),
+    }
+}
+
+fn fault_of(error: &CheckpointTextError) -> &'static str {
+    match error {
+        CheckpointTextError::Origin => "has no origin in its first line",
+        CheckpointTextError::Length => "has no length in its second line",
+        CheckpointTextError::Root => "has no root in its third line",
+        CheckpointTextError::Extension | CheckpointTextError::Memory => "ends within a line",
+    }
+}
+
+/// What the served checkpoint says.
+pub(crate) fn read_served<F: Folder>(
+    alloc: Global,
+    folder: &mut F,
+) -> Result<CheckpointText<Sha256>, LogError>
+    ensures { F.IsFaithful → IsStaging (F.seen folder.old) (F.may_leave folder.old)
+        → OnOk result (IsStaging (F.seen folder.new) (F.may_leave folder.new)) }
+{
+    match read_text(alloc, folder, CHECKPOINT)? {
+        Some(text) => Ok(text),
+        None => Err(LogError::damaged(alloc, CHECKPOINT, "is missing")),
+    }
+}
+
+// Compares the checkpoint that is served with the log's state: its origin, its length and its root.
+#[tactic(auto, using(crate::proofs::ReadyLemmas::staging_kept))]
+fn compare<F: Folder>(
+    alloc: Global,
+    folder: &mut F,
+    state: &CheckpointText<Sha256>,
+    served: &CheckpointText<Sha256>,
+) -> Result<(), LogError>
+    ensures { F.IsFaithful → IsStaging (F.seen folder.old) (F.may_leave folder.old)
+        → OnOk result (IsStaging (F.seen folder.new) (F.may_leave folder.new)) }
+{
+    if served.origin() != state.origin() {
+        let fault = "has another origin than the log's state";
+        return Err(LogError::damaged(alloc, CHECKPOINT, fault));
+    }
+    let (found, newest) = (served.checkpoint(), state.checkpoint());
+    if found.length() < newest.length() && !is_signed(alloc, folder)? {
+        return Err(LogError::RolledBack {
+            found: found.length(),
+            newest: newest.length(),
+        });
+    }
+    if found.length() > newest.length()
+        || found.length() == newest.length() && found.root() != newest.root()
+    {
+        let fault = "isn't a checkpoint of the log's state";
+        return Err(LogError::damaged(alloc, CHECKPOINT, fault));
+    }
+    Ok(())
+}

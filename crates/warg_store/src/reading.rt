@@ -1,0 +1,400 @@
+//! Entries and paths out of a log's folder, each once it leads to the root of the log's state.
+
+ghost use Rattle.std.specs.Prelude.{◌≡◌, ◌<◌, ◌≤◌, Some, IfOk, IfSome};
+ghost use Rattle.warg_store.specs.Audited.{IsOfEntries};
+ghost use Rattle.warg_crypto.specs.Digests.{sha256};
+ghost use Rattle.warg_paths.specs.Paths.{consistency_roots};
+
+use crate::auditing::{Progress, audited};
+use crate::device::{Folder, FolderError};
+use crate::edge::{damaged_bundle, entries_of, open_edge, read_bundle, read_edge, read_tile};
+use crate::error::LogError;
+use crate::log_folder::LogFolder;
+use crate::opening::read_newest;
+use std::alloc::Global;
+use warg_crypto::{Hash, Sha256, hash_leaf};
+use warg_log::{Checkpoint, GREATEST_LENGTH, LeafRange, LogData, Node, stored_root};
+use warg_paths::{
+    PathError, check_tree, consistency_path, inclusion_path, root_of_inclusion,
+    roots_of_consistency,
+};
+use warg_tiles::{CheckpointText, Tile, TileData, tiles_for_consistency, tiles_for_inclusion};
+
+/// The digests of a path, from the bottom up.
+pub type Path = Vec<Hash<Sha256>>;
+
+// The tiles that were read for a path, each once.
+#[derive(Drop)]
+struct Fetched {
+    tiles: Vec<Tile>,
+    data: TileData<Sha256, Vec<u8>>,
+}
+
+/// A log as a folder serves it, for those who read: no call changes the folder, and none needs a lock. Whatever commits go on
+/// meanwhile, the files of the checkpoint that was read stay.
+#[derive(Drop)]
+pub struct LogReader<F: Folder + Drop> {
+    alloc: Global,
+    folder: F,
+    text: CheckpointText<Sha256>,
+}
+
+impl<F: Folder + Drop> LogReader<F> {
+    /// Reads a folder's checkpoint. `NoLog` where there is none; `RolledBack` where the log's state, if that is there, is
+    /// newer, and no commit is under way; `Damaged` where the checkpoint is corrupt.
+    pub fn open(alloc: Global, mut folder: F) -> Result<LogReader<F>, LogError> {
+        let text = read_newest(alloc, &mut folder)?;
+        Ok(LogReader {
+            alloc,
+            folder,
+            text,
+        })
+    }
+
+    /// The folder.
+    pub fn into_folder(self) -> F {
+        let LogReader { folder, .. } = self;
+        folder
+    }
+
+    /// The checkpoint.
+    pub fn checkpoint(&self) -> Checkpoint<Sha256> {
+        self.text.checkpoint()
+    }
+
+    /// The log's origin.
+    pub fn origin(&self) -> &[u8]
+        ensures { result.now ≡ self.now.text.origin }
+    {
+        self.text.origin()
+    }
+
+    /// The checkpoint's text, without its signatures, once the log's last tiles lead to its root. `Damaged` where one of them is
+    /// missing or corrupt.
+    pub fn checkpoint_text(&mut self) -> Result<Vec<u8>, LogError> {
+        let checkpoint = self.text.checkpoint();
+        let edge = read_edge(self.alloc, &mut self.folder, checkpoint.length())?;
+        open_edge(self.alloc, &checkpoint, edge.as_slice())?;
+        Ok(self.text.write(self.alloc)?)
+    }
+
+    /// As [`LogFolder::entry`], of the checkpoint.
+    pub fn entry(&mut self, index: usize) -> Result<Vec<u8>, LogError> {
+        let checkpoint = self.text.checkpoint();
+        entry(self.alloc, &mut self.folder, index, &checkpoint)
+    }
+
+    /// As [`LogFolder::inclusion_path`], of the checkpoint.
+    pub fn inclusion_path(&mut self, index: usize, length: usize) -> Result<Path, LogError> {
+        let checkpoint = self.text.checkpoint();
+        inclusion(self.alloc, &mut self.folder, index, length, &checkpoint)
+    }
+
+    /// As [`LogFolder::consistency_path`], of the checkpoint.
+    pub fn consistency_path(&mut self, old: usize, new: usize) -> Result<Path, LogError> {
+        let checkpoint = self.text.checkpoint();
+        growth(self.alloc, &mut self.folder, old, new, &checkpoint)
+    }
+
+    /// As [`LogFolder::audit`], of the checkpoint.
+    pub fn audit<P: Progress>(&mut self, progress: &mut P) -> Result<Checkpoint<Sha256>, LogError>
+        ensures { IfOk result IsOfEntries }
+    {
+        let checkpoint = self.text.checkpoint();
+        audited(self.alloc, &mut self.folder, &checkpoint, progress)
+    }
+}
+
+impl<F: Folder + Drop> LogFolder<F> {
+    /// The bytes of the entry at `index`, from 0, once its inclusion path leads to the root of the log's state. `OutOfRange`
+    /// where the log keeps no such entry; `Damaged` where a file that it needs is missing or corrupt.
+    pub fn entry(&mut self, index: usize) -> Result<Vec<u8>, LogError> {
+        let checkpoint = self.checkpoint();
+        let (alloc, folder) = self.device();
+        entry(alloc, folder, index, &checkpoint)
+    }
+
+    /// The inclusion path of the entry at `index`, from 0, in the log of the first `length` entries, once it leads to the root
+    /// of the log's state (RFC 6962, section 2.1.1). `OutOfRange` where the log keeps no such entry or length; `Damaged` where
+    /// a file that it needs is missing or corrupt.
+    pub fn inclusion_path(&mut self, index: usize, length: usize) -> Result<Path, LogError> {
+        let checkpoint = self.checkpoint();
+        let (alloc, folder) = self.device();
+        inclusion(alloc, folder, index, length, &checkpoint)
+    }
+
+    /// The consistency path from the first `old` entries to the first `new`, once it leads to the root of the log's state (RFC
+    /// 6962, section 2.1.2). `OutOfRange` where `old` is 0 or greater than `new`, or the log keeps fewer entries than `new`;
+    /// `Damaged` where a file that it needs is missing or corrupt.
+    pub fn consistency_path(&mut self, old: usize, new: usize) -> Result<Path, LogError> {
+        let checkpoint = self.checkpoint();
+        let (alloc, folder) = self.device();
+        growth(alloc, folder, old, new, &checkpoint)
+    }
+
+    /// Reads every entry that the log keeps, makes each tile again, and compares. `Damaged` names the first file that differs. A
+    /// checkpoint that passes is that of entries: those that were read.
+    pub fn audit<P: Progress>(&mut self, progress: &mut P) -> Result<Checkpoint<Sha256>, LogError>
+        ensures { IfOk result IsOfEntries }
+    {
+        let checkpoint = self.checkpoint();
+        let (alloc, folder) = self.device();
+        audited(alloc, folder, &checkpoint, progress)
+    }
+}
+
+// An entry, once its inclusion path leads to the checkpoint's root.
+fn entry<F: Folder>(
+    alloc: Global,
+    folder: &mut F,
+    index: usize,
+    checkpoint: &Checkpoint<Sha256>,
+) -> Result<Vec<u8>, LogError> {
+    let length = checkpoint.length();
+    let path = inclusion(alloc, folder, index, length, checkpoint)?;
+    if index >= length {
+        return Err(LogError::OutOfRange { bound: length });
+    }
+    let entry = read_entry(alloc, folder, index, length)?;
+    let leaf = hash_leaf::<Sha256, Vec<u8>>(&entry);
+    match root_of_inclusion(index, length, &leaf, path.as_slice()) {
+        Some(root) if root == checkpoint.root() => Ok(entry),
+        _ => Err(damaged_entry(alloc, index)),
+    }
+}
+
+// An entry as its bundle has it.
+fn read_entry<F: Folder>(
+    alloc: Global,
+    folder: &mut F,
+    index: usize,
+    length: usize,
+) -> Result<Vec<u8>, LogError>
+    requires { index < length }
+{
+    let number = index / 256;
+    let tile = Tile::new(0, number, (length - 256 * number).min(256));
+    let bytes = read_bundle(alloc, folder, &tile)?;
+    let entries = entries_of(alloc, &tile, bytes.as_slice())?;
+    match entries.as_slice().get(index % 256) {
+        Some(entry) => Ok(entry.to_vec(alloc)?),
+        None => Err(damaged_entry(alloc, index)),
+    }
+}
+
+fn damaged_entry(alloc: Global, index: usize) -> LogError {
+    damaged_bundle(
+        alloc,
+        &Tile::new(0, index / 256, index % 256 + 1),
+        "has other entries than its tile",
+    )
+}
+
+// The inclusion path of an entry at a length, once it leads to the checkpoint's root.
+fn inclusion<F: Folder>(
+    alloc: Global,
+    folder: &mut F,
+    index: usize,
+    length: usize,
+    checkpoint: &Checkpoint<Sha256>,
+) -> Result<Path, LogError> {
+    if length > checkpoint.length() || length > GREATEST_LENGTH {
+        return Err(LogError::OutOfRange {
+            bound: checkpoint.length(),
+        });
+    }
+    if index >= length {
+        return Err(LogError::OutOfRange { bound: length });
+    }
+    let mut tiles = Fetched::new(alloc);
+    let named = tiles_for_inclusion(alloc, index, length)?;
+    tiles.fetch(alloc, folder, named.as_slice(), checkpoint.length())?;
+    let leaf = tiles.leaf(alloc, folder, index, checkpoint.length())?;
+    let path = made(alloc, inclusion_path(alloc, &tiles.data, index, length))?;
+    let root = root_of_inclusion(index, length, &leaf, path.as_slice());
+    check_root(alloc, folder, &mut tiles, length, root, checkpoint)?;
+    Ok(path)
+}
+
+// The consistency path from an old length to a new one, once it leads to the checkpoint's root.
+fn growth<F: Folder>(
+    alloc: Global,
+    folder: &mut F,
+    old: usize,
+    new: usize,
+    checkpoint: &Checkpoint<Sha256>,
+) -> Result<Path, LogError> {
+    if new > checkpoint.length() || new > GREATEST_LENGTH {
+        return Err(LogError::OutOfRange {
+            bound: checkpoint.length(),
+        });
+    }
+    if old == 0 || old > new {
+        return Err(LogError::OutOfRange { bound: new });
+    }
+    let mut tiles = Fetched::new(alloc);
+    let path = fetched_growth(alloc, folder, &mut tiles, old, new, checkpoint.length())?;
+    let root = match stored_root(&tiles.data, &LeafRange::new(0, old)) {
+        Some(root) => new_root(old, new, &root, path.as_slice()),
+        None => None,
+    };
+    check_root(alloc, folder, &mut tiles, new, root, checkpoint)?;
+    Ok(path)
+}
+
+// The consistency path by the tiles of a log of some length, which are read.
+fn fetched_growth<F: Folder>(
+    alloc: Global,
+    folder: &mut F,
+    tiles: &mut Fetched,
+    old: usize,
+    new: usize,
+    length: usize,
+) -> Result<Path, LogError>
+    requires order { old ≤ new }
+    requires fits { new ≤ GREATEST_LENGTH }
+{
+    let named = tiles_for_consistency(alloc, old, new)?;
+    tiles.fetch(alloc, folder, named.as_slice(), length)?;
+    made(alloc, consistency_path(alloc, &tiles.data, old, new))
+}
+
+// The path that was made, or the refusal for tiles that give none.
+fn made(alloc: Global, path: Result<Path, PathError>) -> Result<Path, LogError> {
+    match path {
+        Ok(path) => Ok(path),
+        Err(PathError::Memory) => Err(LogError::Folder(FolderError::Memory)),
+        Err(_) => Err(no_root(alloc)),
+    }
+}
+
+// The new root by a consistency path that leads from the old one.
+fn new_root(
+    old: usize,
+    new: usize,
+    root: &Hash<Sha256>,
+    path: &[Hash<Sha256>],
+) -> Option<Hash<Sha256>>
+    ensures { IfSome result (λ to. consistency_roots sha256 old new root.now path.now
+        ≡ Some (root.now, to)) }
+{
+    match roots_of_consistency(old, new, root, path) {
+        Some((old_root, new_root)) if old_root == *root => Some(new_root),
+        _ => None,
+    }
+}
+
+// Refuses a root of so many entries that isn't the checkpoint's, and at an older length one that isn't of its beginning.
+fn check_root<F: Folder>(
+    alloc: Global,
+    folder: &mut F,
+    tiles: &mut Fetched,
+    length: usize,
+    root: Option<Hash<Sha256>>,
+    checkpoint: &Checkpoint<Sha256>,
+) -> Result<(), LogError> {
+    let Some(root) = root else {
+        return Err(no_root(alloc));
+    };
+    let old = Checkpoint::new(root, length);
+    if old == *checkpoint || is_beginning(alloc, folder, tiles, &old, checkpoint)? {
+        Ok(())
+    } else {
+        Err(no_root(alloc))
+    }
+}
+
+// Whether the log of an older checkpoint is a beginning of the log of the checkpoint, by its tiles.
+fn is_beginning<F: Folder>(
+    alloc: Global,
+    folder: &mut F,
+    tiles: &mut Fetched,
+    old: &Checkpoint<Sha256>,
+    checkpoint: &Checkpoint<Sha256>,
+) -> Result<bool, LogError> {
+    let (old_length, length) = (old.length(), checkpoint.length());
+    if old_length >= length || length > GREATEST_LENGTH {
+        return Ok(false);
+    }
+    let path = fetched_growth(alloc, folder, tiles, old_length, length, length)?;
+    Ok(check_tree(old, checkpoint, path.as_slice()))
+}
+
+fn no_root(alloc: Global) -> LogError {
+    LogError::damaged(alloc, "tile", "doesn't lead to the root of the log's state")
+}
+
+impl Fetched {
+    // No tile.
+    fn new(alloc: Global) -> Fetched {
+        Fetched {
+            tiles: Vec::new(alloc),
+            data: TileData::new(alloc),
+        }
+    }
+
+    // Reads the tiles that weren't read yet, each as wide as the log of this length has it.
+    fn fetch<F: Folder>(
+        &mut self,
+        alloc: Global,
+        folder: &mut F,
+        tiles: &[Tile],
+        length: usize,
+    ) -> Result<(), LogError> {
+        'tiles: for tile in tiles {
+            self.fetch_one(alloc, folder, tile_at(tile, length))?;
+        }
+        Ok(())
+    }
+
+    // Reads a tile, unless it was read.
+    fn fetch_one<F: Folder>(
+        &mut self,
+        alloc: Global,
+        folder: &mut F,
+        tile: Tile,
+    ) -> Result<(), LogError> {
+        if !self.tiles.contains(&tile) {
+            let stored = read_tile(alloc, folder, tile)?;
+            self.tiles.push(tile)?;
+            self.data.insert(stored.tile, stored.digests)?;
+        }
+        Ok(())
+    }
+
+    // The leaf digest of an entry. Where no tile has it yet, its own is read.
+    fn leaf<F: Folder>(
+        &mut self,
+        alloc: Global,
+        folder: &mut F,
+        index: usize,
+        length: usize,
+    ) -> Result<Hash<Sha256>, LogError>
+        requires { index < GREATEST_LENGTH }
+    {
+        let leaf = Node::leaf(index);
+        if !self.data.has_hash(leaf) {
+            let tile = Tile::new(0, index / 256, index % 256 + 1);
+            self.fetch_one(alloc, folder, tile_at(&tile, length))?;
+        }
+        match self.data.hash_for(leaf) {
+            Some(digest) => Ok(digest),
+            None => Err(no_root(alloc)),
+        }
+    }
+}
+
+/// The tile as wide as it is in a log of this length.
+pub(crate) fn tile_at(tile: &Tile, length: usize) -> Tile
+    ensures level { result.level ≡ tile.now.level }
+    ensures number { result.number ≡ tile.now.number }
+    ensures width { tile.now.width ≤ result.width }
+{
+    if tile.level() >= 8 {
+        return *tile;
+    }
+    let count = length >> (8 * tile.level());
+    let before = tile.number().saturating_mul(256);
+    let width = count.saturating_sub(before).min(256);
+    Tile::new(tile.level(), tile.number(), width.max(tile.width()))
+}

@@ -1,0 +1,356 @@
+//! A folder of the system's files. What a disk does no clause says: this file is to be read, and is tested.
+
+ghost use Rattle.std.specs.Prelude.{◌≡◌, None};
+ghost use Rattle.warg_store.specs.Files.{Files};
+ghost use Rattle.warg_store.specs.System.{nothing, OnlyNothing, NothingSince, nothing_stays, nothing_counts, nothing_now};
+
+use crate::device::{Folder, FolderError};
+use std::alloc::{AllocError, Global};
+use std::cell::Cell;
+use std::fs::{DirEntry, File};
+use std::io::{ErrorKind, Read, Write};
+use std::{fs, io};
+
+/// A call on a file that the system refused: the file's path, and why.
+#[derive(Drop)]
+pub struct Fault {
+    pub path: String,
+    pub error: io::Error,
+    /// Whether it was a read.
+    pub is_read: bool,
+}
+
+/// A folder of the system's files. Each file is forced to the disk as it is written, and `sync` forces each folder in which a
+/// name is new or gone. No name is followed through a link, and a name that is no regular file is refused.
+#[derive(Drop)]
+pub struct SystemFolder<'a> {
+    rt: &'a HostRuntime,
+    fault: &'a Cell<Option<Fault>>,
+    root: String,
+    // Folders, below the root, in which a name is new or gone since the last sync.
+    changed: Vec<String>,
+    // A sync has failed: the system may have dropped what was written.
+    is_lost: bool,
+}
+
+// The name under which a file is written before it takes another one's place.
+const REPLACING: &str = ".log/replacing";
+
+impl<'a> SystemFolder<'a> {
+    /// The folder of this path. The last call that is refused leaves its fault in the cell.
+    pub fn new(
+        rt: &'a HostRuntime,
+        path: &str,
+        fault: &'a Cell<Option<Fault>>,
+    ) -> Result<SystemFolder<'a>, AllocError> {
+        let alloc = rt.alloc();
+        Ok(SystemFolder {
+            rt,
+            fault,
+            root: String::from_str(alloc, path)?,
+            changed: Vec::new(alloc),
+            is_lost: false,
+        })
+    }
+
+    // The path of a file of the folder.
+    fn path(&self, name: &str) -> Result<String, AllocError> {
+        let mut path = String::from_str(self.rt.alloc(), self.root.as_str())?;
+        path.push('/')?;
+        path.push_str(name)?;
+        Ok(path)
+    }
+
+    // The refusal for a call that failed.
+    fn failed(&mut self, name: &str, error: io::Error, is_read: bool) -> FolderError {
+        if error.kind() == ErrorKind::OutOfMemory {
+            return FolderError::Memory;
+        }
+        match self.path(name) {
+            Ok(path) => {
+                self.fault.set(Some(Fault {
+                    path,
+                    error,
+                    is_read,
+                }));
+                FolderError::Failed
+            }
+            Err(_) => FolderError::Memory,
+        }
+    }
+
+    // Notes that a name of a folder is new or gone.
+    fn note(&mut self, name: &str) -> Result<(), AllocError> {
+        let above = match name.rsplit_once('/') {
+            Some((above, _)) => above,
+            None => "",
+        };
+        if self
+            .changed
+            .as_slice()
+            .iter()
+            .all(|noted| noted.as_str() != above)
+        {
+            let above = String::from_str(self.rt.alloc(), above)?;
+            self.changed.push(above)?;
+        }
+        Ok(())
+    }
+
+    // Makes the folders above a name, and notes each that is new.
+    fn make_above(&mut self, name: &str) -> io::Result<()> {
+        let mut end = 0usize;
+        for part in name.split('/') {
+            end = end.saturating_add(part.len());
+            if end >= name.len() {
+                break;
+            }
+            let Some(above) = name.get(..end) else {
+                break;
+            };
+            self.make_folder(above)?;
+            end = end.saturating_add(1);
+        }
+        Ok(())
+    }
+
+    fn make_folder(&mut self, name: &str) -> io::Result<()> {
+        let path = self.path(name)?;
+        match fs::create_dir(self.rt, path.as_str()) {
+            Ok(()) => Ok(self.note(name)?),
+            Err(error) if error.kind() == ErrorKind::AlreadyExists => {
+                if fs::symlink_metadata(self.rt, path.as_str())?.is_dir() {
+                    Ok(())
+                } else {
+                    Err(error)
+                }
+            }
+            Err(error) => Err(error),
+        }
+    }
+
+    // Refuses a name that has anything but a regular file. Returns whether it has one.
+    fn has_file(&self, name: &str) -> io::Result<bool> {
+        let path = self.path(name)?;
+        match fs::symlink_metadata(self.rt, path.as_str()) {
+            Ok(found) if found.is_file() => Ok(true),
+            Ok(_) => Err(ErrorKind::Unsupported.into()),
+            Err(error) if error.kind() == ErrorKind::NotFound => Ok(false),
+            Err(error) => Err(error),
+        }
+    }
+
+    fn read_up_to(&self, name: &str, most: usize) -> io::Result<Option<Vec<u8>>> {
+        if !self.has_file(name)? {
+            return Ok(None);
+        }
+        let path = self.path(name)?;
+        let mut bytes = Vec::new(self.rt.alloc());
+        let file = File::open(self.rt, path.as_str())?;
+        if !file.metadata()?.is_file() {
+            return Err(ErrorKind::Unsupported.into());
+        }
+        file.take((most as u64).saturating_add(1))
+            .read_to_end(&mut bytes)?;
+        Ok(Some(bytes))
+    }
+
+    // Makes a file anew, with these bytes, and forces it to the disk.
+    fn make_file(&mut self, name: &str, bytes: &[u8]) -> io::Result<()> {
+        self.make_above(name)?;
+        let path = self.path(name)?;
+        if self.has_file(name)? {
+            fs::remove_file(self.rt, path.as_str())?;
+        }
+        self.note(name)?;
+        let mut file = File::options()
+            .write(true)
+            .create_new(true)
+            .open(self.rt, path.as_str())?;
+        file.write_all(bytes)?;
+        file.sync_all()
+    }
+
+    fn move_file(&mut self, from: &str, to: &str) -> io::Result<()> {
+        if !self.has_file(from)? {
+            return Ok(());
+        }
+        self.has_file(to)?;
+        self.make_above(to)?;
+        self.note(from)?;
+        self.note(to)?;
+        let (from, to) = (self.path(from)?, self.path(to)?);
+        fs::rename(self.rt, from.as_str(), to.as_str())
+    }
+
+    fn remove_file(&mut self, name: &str) -> io::Result<()> {
+        if !self.has_file(name)? {
+            return Ok(());
+        }
+        self.note(name)?;
+        let path = self.path(name)?;
+        fs::remove_file(self.rt, path.as_str())
+    }
+
+    // Forces a folder to the disk.
+    fn force(&self, name: &str) -> io::Result<()> {
+        let path = self.path(name)?;
+        File::open(self.rt, path.as_str())?.sync_all()
+    }
+
+    fn force_all(&mut self) -> io::Result<()> {
+        for name in self.changed.as_slice() {
+            self.force(name.as_str())?;
+        }
+        self.changed.clear();
+        Ok(())
+    }
+
+    fn replace_file(&mut self, name: &str, bytes: &[u8]) -> io::Result<()> {
+        self.has_file(name)?;
+        self.make_file(REPLACING, bytes)?;
+        self.move_file(REPLACING, name)?;
+        self.force_all()
+    }
+
+    // Adds the names of the files below a folder that begin with a prefix.
+    fn add_names(&self, names: &mut Vec<String>, folder: &str, prefix: &str) -> io::Result<()> {
+        let alloc = self.rt.alloc();
+        let mut folders = Vec::new(alloc);
+        folders.push(String::from_str(alloc, folder)?)?;
+        for _ in 0..u64::MAX {
+            let Some(folder) = folders.pop() else {
+                break;
+            };
+            self.add_entries(names, &mut folders, folder.as_str(), prefix)?;
+        }
+        Ok(())
+    }
+
+    fn add_entries(
+        &self,
+        names: &mut Vec<String>,
+        folders: &mut Vec<String>,
+        folder: &str,
+        prefix: &str,
+    ) -> io::Result<()> {
+        let path = self.path(folder)?;
+        let entries = match fs::read_dir(self.rt, path.as_str()) {
+            Ok(entries) => entries,
+            Err(error) if error.kind() == ErrorKind::NotFound => return Ok(()),
+            Err(error) => return Err(error),
+        };
+        for entry in entries {
+            self.add_entry(names, folders, folder, prefix, &entry?)?;
+        }
+        Ok(())
+    }
+
+    fn add_entry(
+        &self,
+        names: &mut Vec<String>,
+        folders: &mut Vec<String>,
+        folder: &str,
+        prefix: &str,
+        entry: &DirEntry,
+    ) -> io::Result<()> {
+        let mut name = String::from_str(self.rt.alloc(), folder)?;
+        if !name.is_empty() {
+            name.push('/')?;
+        }
+        name.push_str(entry.file_name())?;
+        let kind = entry.file_type()?;
+        if kind.is_dir() {
+            folders.push(name)?;
+        } else if kind.is_file() && name.as_str().starts_with(prefix) {
+            names.push(name)?;
+        }
+        Ok(())
+    }
+}
+
+impl Folder for SystemFolder<'_> {
+    // Nothing is known of a disk.
+    ghost IsFaithful = { ⊥ };
+
+    ghost seen = { λ _. nothing };
+
+    ghost may_leave = { λ _. OnlyNothing };
+
+    ghost moment = { λ _. 0 };
+
+    ghost left_since = { λ _. NothingSince };
+
+    ghost faults = { λ _. 0 };
+
+    ghost seen_may_stay = { λ _. nothing_stays };
+
+    ghost counts_now = { λ _. nothing_counts };
+
+    ghost only_now = { λ _. nothing_now };
+
+    fn read(
+        &mut self,
+        _alloc: Global,
+        name: &str,
+        most: usize,
+    ) -> Result<Option<Vec<u8>>, FolderError> {
+        match self.read_up_to(name, most) {
+            Ok(found) => Ok(found),
+            Err(error) => Err(self.failed(name, error, true)),
+        }
+    }
+
+    fn list(&mut self, alloc: Global, prefix: &str) -> Result<Vec<String>, FolderError> {
+        let mut names = Vec::new(alloc);
+        let folder = match prefix.rsplit_once('/') {
+            Some((folder, _)) => folder,
+            None => "",
+        };
+        match self.add_names(&mut names, folder, prefix) {
+            Ok(()) => Ok(names),
+            Err(error) => Err(self.failed(folder, error, true)),
+        }
+    }
+
+    fn write(&mut self, name: &str, bytes: &[u8]) -> Result<(), FolderError> {
+        match self.make_file(name, bytes) {
+            Ok(()) => Ok(()),
+            Err(error) => Err(self.failed(name, error, false)),
+        }
+    }
+
+    fn rename(&mut self, from: &str, to: &str) -> Result<(), FolderError> {
+        match self.move_file(from, to) {
+            Ok(()) => Ok(()),
+            Err(error) => Err(self.failed(to, error, false)),
+        }
+    }
+
+    fn remove(&mut self, name: &str) -> Result<(), FolderError> {
+        match self.remove_file(name) {
+            Ok(()) => Ok(()),
+            Err(error) => Err(self.failed(name, error, false)),
+        }
+    }
+
+    fn sync(&mut self) -> Result<(), FolderError> {
+        if self.is_lost {
+            return Err(FolderError::Failed);
+        }
+        match self.force_all() {
+            Ok(()) => Ok(()),
+            Err(error) => {
+                self.is_lost = true;
+                Err(self.failed("", error, false))
+            }
+        }
+    }
+
+    fn replace(&mut self, name: &str, bytes: &[u8]) -> Result<(), FolderError> {
+        match self.replace_file(name, bytes) {
+            Ok(()) => Ok(()),
+            Err(error) => Err(self.failed(name, error, false)),
+        }
+    }
+}
