@@ -5,7 +5,7 @@ import os
 import shutil
 import subprocess
 
-SETTINGS = ["--headless", "--remote-debugging-pipe", "--no-first-run", "--disable-gpu", "--disable-dev-shm-usage", "--hide-scrollbars",
+SETTINGS = ["--headless", "--remote-debugging-pipe", "--no-sandbox", "--no-first-run", "--disable-gpu", "--disable-dev-shm-usage", "--hide-scrollbars",
             "--disable-background-networking", "--disable-component-update", "--host-resolver-rules=MAP log.test 127.0.0.1"]
 PROGRAM = shutil.which("chromium") or shutil.which("chromium-browser")
 
@@ -16,7 +16,7 @@ class Browser:
     def __init__(self, profile):
         (out, self.into), (self.out, into) = os.pipe(), os.pipe()
         # It reads messages from 3 and writes them to 4.
-        words = ["sh", "-c", f'exec 3<&{out} 4>&{into}; exec "$@"', "sh", PROGRAM, *SETTINGS, f"--user-data-dir={profile}", *["--no-sandbox"] * (os.geteuid() == 0)]
+        words = ["sh", "-c", f'exec 3<&{out} 4>&{into}; exec "$@"', "sh", PROGRAM, *SETTINGS, f"--user-data-dir={profile}"]
         self.process = subprocess.Popen(words, pass_fds=(out, into), stdout=subprocess.DEVNULL, stderr=subprocess.DEVNULL)
         for end in (out, into):
             os.close(end)
