@@ -24,7 +24,6 @@ PAGE = pathlib.Path(__file__).resolve().parent.parent / "explorer/index.html"
 SCRIPT = pathlib.Path(__file__).with_suffix(".js").read_text()
 SECONDS, BYTES, SIZES = 420, 60000, (0, 1, 256, 257, 70000)
 PAIRS = [(b"package-%d" % (at % 1000), b"value %d" % at) for at in range(1200)]
-# What happens to a file, and how the page says so; and to which, at which view.
 HARMS = [("is missing", None), ("is (cut short|malformed)", lambda it: it[:-7]), ("is (too long|cut short|malformed)", lambda it: it + bytes(300)),
          ("(was changed|is cut short|doesn’t fit)", lambda it: it[:40] + bytes([it[40] ^ 4]) + it[41:])]
 HARMED = [("600", "tile/0/001", "#entry/300"), ("600", "tile/0/002.p/88", ""), ("600", "tile/1/000.p/2", "#entry/5"), ("600", "tile/entries/001", "#entries/10"),
@@ -129,7 +128,8 @@ class Reader:
         shutil.copytree(self.room / "600", folder, dirs_exist_ok=True)
         for place in ("tile/0/002.p/88", "tile/entries/002.p/88"):
             (folder / place).unlink()
-        yield self.says("removed/", "tile/0/002, tile/1/000.p/2", "entry 599\n", "tile/entries/002\n")
+        (folder / "checkpoint").write_bytes((folder / "checkpoint").read_bytes() + "\n— example.com/log AAAA\n".encode())
+        yield self.says("removed/", "tile/0/002, tile/1/000.p/2", "entry 599\n", "tile/entries/002\n", "— example.com/log AAAA\n")
         self.page.value("document.querySelector('main input').focus()")
         self.page.call("Input.insertText", text="598")
         self.page.call("Input.dispatchKeyEvent", type="keyDown", key="Enter", windowsVirtualKeyCode=13, text="\r")
