@@ -23,12 +23,11 @@ import trees
 PAGE = pathlib.Path(__file__).resolve().parent.parent / "explorer/index.html"
 SCRIPT = pathlib.Path(__file__).with_suffix(".js").read_text()
 SECONDS, BYTES, SIZES = 420, 60000, (0, 1, 256, 257, 70000)
-PAIRS = [(b"package-%d" % (at % 1000), b"value %d" % at) for at in range(1200)]
+PAIRS, KEY = [(b"package-%d" % (at % 1000), b"value %d" % at) for at in range(1200)], trees.sha256(b"package-17")
 HARMS = [("is missing", None), ("is (cut short|malformed)", lambda it: it[:-7]), ("is (too long|cut short|malformed)", lambda it: it + bytes(300)),
          ("(was changed|is cut short|doesn’t fit)", lambda it: it[:40] + bytes([it[40] ^ 4]) + it[41:])]
 HARMED = [("600", "tile/0/001", "#entry/300"), ("600", "tile/0/002.p/88", ""), ("600", "tile/1/000.p/2", "#entry/5"), ("600", "tile/entries/001", "#entries/10"),
-          ("600", "tile/entries/002.p/88", ""), ("600", "checkpoint", ""), ("registry", "map/1200", "#key/package-17"),
-          ("registry", f"map/x{trees.sha256(b'package-17').hex()[:2]}/1018", "#key/package-17")]
+          ("600", "tile/entries/002.p/88", ""), ("600", "checkpoint", ""), ("registry", "map/1200", "#key/package-17"), ("registry", f"map/x{KEY.hex()[:2]}/1018", "#key/package-17")]
 VIEWS = ["70000/", "70000/#entries", "70000/#entry/69998", "70000/#growth", "70000/#about", "registry/", "registry/#entries/3", "registry/#entry/5",
          "registry/#key/package-17", "registry/#key/left-pad", "growth-0/#growth", "growth-1/", "harm-0-tile-0-001/#entry/300"]
 
@@ -122,6 +121,8 @@ class Reader:
                 file = shutil.copytree(self.room / whole, self.room / name) / place
                 file.write_bytes(harm(file.read_bytes())) if harm else file.unlink()
                 yield self.refuses(f"{name}/{address}", f"{place} {words}")
+        file.write_bytes((self.room / whole / place).read_bytes().replace(KEY, b"\0" + KEY[1:]))
+        yield self.refuses(f"{name}/{address}", f"{place} was changed")
 
     def of_removed(self):
         folder = shutil.copytree(self.room / "70000", self.room / "removed")
@@ -174,8 +175,7 @@ def main():
     with tempfile.TemporaryDirectory() as room, tempfile.TemporaryDirectory() as profile, tempfile.TemporaryDirectory() as pictures:
         came = [*tried(room, profile, [*sys.argv[2:], pictures][0])]
     failed = [name for name, well in came if not well]
-    print("".join(f"not as it should be: {name}\n" for name in failed), end="")
-    print(f"explorer: {len(came) - len(failed)} of {len(came)} states of the page are as they should be")
+    print(*(f"not as it should be: {name}" for name in failed), f"explorer: {len(came) - len(failed)} of {len(came)} states of the page are as they should be", sep="\n")
     sys.exit(1 if failed else 0)
 
 

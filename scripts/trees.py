@@ -59,5 +59,5 @@ def add_map(folder, insertions):
     for name, slots in pages(leaves, versions):
         (folder / name).parent.mkdir(parents=True, exist_ok=True)
         (folder / name).write_bytes(slots)
-    with (folder / "checkpoint").open("a") as text:
-        text.write(f"map {base64.b64encode(sparse(leaves, 0)).decode()}\n")
+    text = (folder / "checkpoint").read_text()
+    (folder / "checkpoint").write_text(f"{text}map {base64.b64encode(sparse(leaves, 0)).decode()}\n")
