@@ -2,7 +2,7 @@
 """The merge gate, on a copy of the tree without what earlier checks left: the layout; prove_all.py, which proves the crates
 from nothing and runs the programs, the vectors and the tests; the wrong bodies over the work that these proofs have kept;
 the examples for C, Python, Rust and Go; the programs with right and wrong arguments; and the comparisons with Google's
-protobuf and Go's checksum database where these are there.
+protobuf and Go's checksum database, and the page of explorer/ in Chromium, where these are there.
 
 The kit's own gate, rt ci, keeps nothing of a proof, and so proves a crate once more for its wrong bodies: make kit-gate.
 
@@ -32,6 +32,16 @@ BEHIND = (
     ["tlog_kills.py", "crates/warg_tlog/out/warg_tlog", "20"],
     ["check_protobuf.py"],
 )
+# What is compared with others, or read by them: what it is called and runs.
+PEERS = {
+    "interop": ["interop/run.sh", "crates/warg_interop/out/warg_interop", "crates/warg_tlog/out/warg_tlog"],
+    "explorer": [sys.executable, "scripts/check_explorer.py", "crates/warg_tlog/out/warg_tlog"],
+}
+# Their commands, and the packages that have them.
+PACKAGES = {
+    ("go", "protoc"): ("golang-go", "golang-golang-x-mod-dev", "protobuf-compiler", "python3-protobuf"),
+    ("chromium",): ("chromium",),
+}
 CLOSING = re.compile(r"(\d+) passed, (\d+) failed\n?")
 # Where the prover reads a file.
 READ = {".rt": ("src",), ".antt": ("specs", "proofs")}
@@ -75,25 +85,25 @@ def ran(words, folder, **more):
 
 def install_peers():
     """Tries to install what the results are compared with, where one lacks. What stays missing is left out."""
-    if shutil.which("go") and shutil.which("protoc") or os.geteuid() or not shutil.which("apt-get"):
+    lacking = [packages for commands, packages in PACKAGES.items() if not all(map(shutil.which, commands))]
+    if not lacking or os.geteuid() or not shutil.which("apt-get"):
         return
-    packages = ["golang-go", "golang-golang-x-mod-dev", "protobuf-compiler", "python3-protobuf"]
     how = {"env": {**os.environ, "DEBIAN_FRONTEND": "noninteractive"}, "timeout": 300}
     quiet = {"stdin": subprocess.DEVNULL, "stdout": subprocess.DEVNULL, "stderr": subprocess.DEVNULL}
     try:
-        for words in (["apt-get", "update"], ["apt-get", "install", "-y", *packages]):
+        for words in (["apt-get", "update"], *(["apt-get", "install", "-y", *packages] for packages in lacking)):
             subprocess.run(words, **how, **quiet)
     except (OSError, subprocess.TimeoutExpired):
         pass
 
 
-def compare_with_go(tree):
-    """Runs the comparison over the programs that have just been proved and built.
+def compare(tree, name):
+    """Runs a comparison over the programs that have just been proved and built.
 
     Returns how many steps passed and failed, and its processor seconds.
     """
-    lines, well, seconds = ran(["interop/run.sh", "crates/warg_interop/out/warg_interop", "crates/warg_tlog/out/warg_tlog"], tree)
-    if well and any(line.startswith("interop: not run") for line in lines):
+    lines, well, seconds = ran(PEERS[name], tree)
+    if well and any(line.startswith(f"{name}: not run") for line in lines):
         return 0, 0, seconds
     return int(well), int(not well), seconds
 
@@ -108,8 +118,9 @@ def table(taken, rounds, rest):
         yield f"| {crate} | " + " | ".join(f"{it / 60:.1f}" for it in row) + " |"
     yield f"| examples for C, Python, Rust and Go | {rest['examples'] / 60:.1f} | | |"
     yield f"| comparison with Go's checksum database | {rest['interop'] / 60:.1f} | | |"
+    yield f"| the page in a browser | {rest['explorer'] / 60:.1f} | | |"
     everything = used()
-    other = everything - sum(total) - rest["examples"] - rest["interop"]
+    other = everything - sum(total) - rest["examples"] - rest["interop"] - rest["explorer"]
     yield f"| runs of programs, and all else | {other / 60:.1f} | | |"
     yield f"| in all {everything / 60:.0f}, by the clock {rest['clock'] / 60:.0f}, on {len(os.sched_getaffinity(0))} processors | | | |"
 
@@ -120,7 +131,7 @@ class Gate:
     def __init__(self, room):
         self.room, self.tree = room, room / "tree"
         self.passed = self.failed = 0
-        self.rest = {"examples": 0.0, "interop": 0.0}
+        self.rest = {"examples": 0.0, **dict.fromkeys(PEERS, 0.0)}
 
     def count(self, passed, failed):
         self.passed, self.failed = self.passed + passed, self.failed + failed
@@ -147,8 +158,9 @@ class Gate:
         self.examples()
         for script in BEHIND:
             self.script(*script)
-        well, badly, self.rest["interop"] = compare_with_go(self.tree)
-        self.count(well, badly)
+        for name in PEERS:
+            well, badly, self.rest[name] = compare(self.tree, name)
+            self.count(well, badly)
 
 
 def main():
