@@ -1,6 +1,6 @@
 //! The right edge of a log that a folder keeps: its partial tiles and its last bundle.
 
-ghost use Rattle.std.specs.Prelude.{◌≡◌, ◌≤◌, OnOk};
+ghost use Rattle.std.specs.Prelude.{◌≡◌, ◌≤◌, IfOk, OnOk};
 ghost use Rattle.warg_store.specs.Opening.{IsStaging};
 
 use crate::device::{Folder, FolderError};
@@ -8,7 +8,7 @@ use crate::error::LogError;
 use crate::names::STATE;
 use std::alloc::Global;
 use warg_crypto::{Sha256, hash_leaf};
-use warg_log::{Checkpoint, LogBuilder};
+use warg_log::{Checkpoint, GREATEST_LENGTH, LogBuilder};
 use warg_paths::{HashesError, hashes_in};
 use warg_tiles::{EntriesError, OpenError, StoredTile, Tile, TileLog, read_entries};
 
@@ -65,7 +65,8 @@ pub(crate) fn open_edge(
     checkpoint: &Checkpoint<Sha256>,
     edge: &[StoredTile<Sha256>],
 ) -> Result<TileLog<Sha256, Vec<u8>>, LogError>
-    requires { checkpoint.now.length ≤ 9223372036854775808 }
+    requires { checkpoint.now.length ≤ GREATEST_LENGTH }
+    ensures { IfOk result (λ log. log.len ≡ checkpoint.now.length) }
 {
     match TileLog::open(alloc, checkpoint.length(), edge) {
         Ok(log) if log.checkpoint() == *checkpoint => Ok(log),

@@ -81,7 +81,7 @@ open_width tile_of digests_of xs n count none =
     joined_width tile_of digests_of count xs ∙ ap widths (no_fault (partial_tiles n) (map tile_of xs) none) ∙ from_width n 8 0 ∙ ap (edge_width 8) all
 
 -- the digests of a log's tile
-tile_same : (H : List ℕ → List ℕ) (ds digests : List (List ℕ)) (t : TileAt) → IsTileBy (own_digest H ds) t digests → digests ≡ tile_digests H ds t
+pub tile_same : (H : List ℕ → List ℕ) (ds digests : List (List ℕ)) (t : TileAt) → IsTileBy (own_digest H ds) t digests → digests ≡ tile_digests H ds t
 tile_same H ds digests t tile =
     fill_by_all (λ i. root_of H (leaves_below (node_in t i) ds)) digests t.width [] tile.count
     (λ i low. (own_is H ds (node_in t i) (slice_index_or digests i []) (tile.digest i low)).1)

@@ -1,0 +1,26 @@
+-- Lemmas for the proofs of the crates above, over public definitions alone.
+use Rattle.std.proofs.Common.{◌≡◌, ℕ, ◌^◌, ◌≤◌, List, [], ◌∷◌, ◌++◌, length}
+use Rattle.warg_log.specs.Tree.{own_digest}
+use Rattle.warg_tiles.specs.Tiles.{TileAt}
+use Rattle.warg_tiles.specs.TileData.{IsTileBy}
+use Rattle.warg_tiles.specs.TileLog.{tile_digests, partial_tiles, full_between, AreFullBetween, ArePartialOf}
+use Rattle.warg_tiles.specs.EntryBundles.{two_bytes, bundle_of}
+use Rattle.warg_tiles.proofs.EntryLemmas as entries
+use Rattle.warg_tiles.proofs.FullLemmas as full
+use Rattle.warg_tiles.proofs.OpenLemmas as opening
+
+-- the full tiles that a length has and an older one hasn't
+pub full_tiles : (old new : ℕ) → old ≤ new → new ≤ 2 ^ 63 → AreFullBetween old new (full_between old new)
+full_tiles = full.all_full
+
+-- the partial tiles of a length
+pub partial_of : (n : ℕ) → n ≤ 2 ^ 63 → ArePartialOf n (partial_tiles n)
+partial_of = full.all_partial
+
+-- digests that a log has for a tile's nodes are the tile's
+pub own_tile : (H : List ℕ → List ℕ) (ds digests : List (List ℕ)) (t : TileAt) → IsTileBy (own_digest H ds) t digests → digests ≡ tile_digests H ds t
+own_tile = opening.tile_same
+
+-- a bundle with one entry more
+pub bundle_more : (es : List (List ℕ)) (entry : List ℕ) → bundle_of (es ++ entry ∷ []) ≡ bundle_of es ++ (two_bytes (length entry) ++ entry)
+bundle_more = entries.bundle_of-push
