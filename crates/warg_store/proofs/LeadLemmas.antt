@@ -45,7 +45,7 @@ tile_between a b c t ab bc in_a in_c =
 pub width_at_most : (n : ℕ) (t : TileAt) → IsTileOf n t → t.width ≤ 256
 width_at_most n t is = omega (arith, is.width)
 
-end_inside : (n : ℕ) (t : TileAt) → IsTileOf n t → tile_end t ≤ n
+pub end_inside : (n : ℕ) (t : TileAt) → IsTileOf n t → tile_end t ≤ n
 end_inside n t is =
     let nodes : 256 * t.number + t.width ≤ n / 2 ^ (8 * t.level) = omega (arith, is.some, is.width) in
     omega (arith, mul-le-mul_right (2 ^ (8 * t.level)) nodes, div-mul-le_self n (2 ^ (8 * t.level)))
@@ -66,14 +66,14 @@ digests_kept ds more t inside =
 
 module _ (old next : LogOf) (extends : Extends old next) where
   -- a tile of the old log has the same bytes in the next one
-  tile_kept : (t : TileAt) → IsTileIn old t → tile_bytes next t ≡ tile_bytes old t
+  pub tile_kept : (t : TileAt) → IsTileIn old t → tile_bytes next t ≡ tile_bytes old t
   tile_kept t is =
       ap (λ (es : List (List ℕ)). flat_map (λ digest. digest) (tile_digests sha256 (leaves_of sha256 es) t)) extends.entries.1
       ∙ ap (λ (ds : List (List ℕ)). flat_map (λ digest. digest) (tile_digests sha256 ds t)) (map-append (leaf_digest sha256) old.entries extends.entries.0)
       ∙ ap (λ (ds : List (List ℕ)). flat_map (λ digest. digest) ds) (digests_kept (leaves_of sha256 old.entries) (leaves_of sha256 extends.entries.0) t
       (omega (arith, end_inside (length old.entries) t is.exists, length-map old.entries (leaf_digest sha256))))
 
-  bundle_kept : (t : TileAt) → IsBundleIn old t → bundle_bytes next t ≡ bundle_bytes old t
+  pub bundle_kept : (t : TileAt) → IsBundleIn old t → bundle_bytes next t ≡ bundle_bytes old t
   bundle_kept t is =
       let one : 2 ^ (8 * t.level) ≡ 1 = ap (λ l. 2 ^ (8 * l)) is.level in
       let end : (256 * t.number + t.width) * 2 ^ (8 * t.level) ≤ length old.entries = end_inside (length old.entries) t is.exists in
@@ -81,13 +81,13 @@ module _ (old next : LogOf) (extends : Extends old next) where
       ap (λ (es : List (List ℕ)). bundle_of (take t.width (drop (256 * t.number) es))) extends.entries.1
       ∙ ap bundle_of (part_kept old.entries extends.entries.0 (256 * t.number) t.width inside)
 
-  tile_was : (t : TileAt) → IsTileIn next t → IsTileIn old t ⊎ (IsTileIn old t → ⊥)
+  pub tile_was : (t : TileAt) → IsTileIn next t → IsTileIn old t ⊎ (IsTileIn old t → ⊥)
   tile_was t is = elim (cases_eq t.width (min (length old.entries / 2 ^ (8 * t.level) - 256 * t.number) 256)) [
     | inl e ↦ inl (record { level = is.level; exists = record { some = is.exists.some; width = e } })
     | inr other ↦ inr (λ was. other was.exists.width)
   ]
 
-  bundle_was : (t : TileAt) → IsBundleIn next t → IsBundleIn old t ⊎ (IsBundleIn old t → ⊥)
+  pub bundle_was : (t : TileAt) → IsBundleIn next t → IsBundleIn old t ⊎ (IsBundleIn old t → ⊥)
   bundle_was t is = elim (cases_eq t.width (min (length old.entries / 2 ^ (8 * t.level) - 256 * t.number) 256)) [
     | inl e ↦ inl (record { level = is.level; exists = record { some = is.exists.some; width = e } })
     | inr other ↦ inr (λ was. other was.exists.width)

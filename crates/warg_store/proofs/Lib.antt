@@ -12,3 +12,4 @@ mod PathLemmas
 mod LeadLemmas
 mod StagedLemmas
 mod AuditLemmas
+mod GrowingLemmas

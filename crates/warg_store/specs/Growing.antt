@@ -1,8 +1,23 @@
 -- A log that grows in a folder.
-use Rattle.std.specs.Prelude.{◌≡◌, ℕ, Bool, true, List}
-use Rattle.warg_tiles.specs.TileLog.{RightEdge}
+use Rattle.std.specs.Prelude.{◌≡◌, ◌⊎◌, ℕ, ◌+◌, ◌*◌, ◌/◌, ◌<◌, ◌≤◌, Bool, true, List, [], ◌∷◌, ◌++◌, length, map, drop, Some, IsSome}
+use Rattle.warg_crypto.specs.Digests.{sha256}
+use Rattle.warg_log.specs.Tree.{leaves_of}
+use Rattle.warg_tiles.specs.Tiles.{TileAt}
+use Rattle.warg_tiles.specs.TilePaths.{tile_path, entries_path}
+use Rattle.warg_tiles.specs.Between.{IsTileOf}
+use Rattle.warg_crypto.specs.declared.hash.Sha256.{Sha256}
+use Rattle.std.specs.declared.alloc.Global.{Global}
+use Rattle.warg_tiles.specs.declared.stored.StoredTile.{StoredTile}
+use Rattle.warg_tiles.specs.TileLog.{RightEdge, StandsFor, AreTilesOf, partial_tiles}
+use Rattle.warg_tiles.specs.EntryBundles.{bundle_of}
 use Rattle.warg_store.specs.Files.{Files}
+use Rattle.warg_store.specs.Names.{staged, is_served}
 use Rattle.warg_store.specs.Opening.{IsStaging}
+use Rattle.warg_store.specs.Log.{LogOf, tile_bytes, bundle_bytes, Extends, Keeps, AreStagedFor}
+
+-- A log with one entry more.
+abbrev pub with_entry : LogOf → List ℕ → LogOf
+with_entry log entry = record log { entries = log.entries ++ entry ∷ [] }
 
 -- A folder's log in memory: the folder, the length that it keeps, whether the log takes pushes and commits, its origin, the
 -- right edge of all that was pushed, and the last entries, which are in no bundle yet, with their number.
@@ -25,3 +40,57 @@ pub record IsSameBut {F : Type 0} (old new : LogIn F) : Type 0 where
   pub is_open : new.is_open ≡ old.is_open
   pub origin : new.origin ≡ old.origin
   pub length : new.edge.len ≡ old.edge.len
+
+-- A full tile of a length that an older length hasn't.
+pub record IsNewFull (older length : ℕ) (t : TileAt) : Type 0 where
+  pub full : t.width ≡ 256
+  pub exists : IsTileOf length t
+  pub new : IsTileOf older t → ⊥
+
+-- The name is that of such a tile, or of the bundle below one of level 0.
+abbrev pub IsNewFullName : ℕ → ℕ → List ℕ → Type 0
+IsNewFullName older length n = ((t : TileAt) × (t.level < 8) × IsNewFull older length t × (tile_path t ≡ n)) ⊎ ((t : TileAt) × (t.level ≡ 0) × IsNewFull older length t × (entries_path t ≡ n))
+
+-- The new full tiles of a length are staged, and the bundles below them, with the bytes of the log's entries; and nothing but
+-- new full tiles and bundles of the log is.
+pub record AreFullStaged (older taken : ℕ) (log : LogOf) (files : Files) : Type 0 where
+  pub tile : (t : TileAt) → t.level < 8 → IsNewFull older taken t → files (staged (tile_path t)) ≡ Some (tile_bytes log t)
+  pub bundle : (t : TileAt) → t.level ≡ 0 → IsNewFull older taken t → files (staged (entries_path t)) ≡ Some (bundle_bytes log t)
+  pub nothing_else : (n : List ℕ) → is_served n ≡ true → IsSome (files (staged n)) → IsNewFullName older (length log.entries) n
+
+-- The log has the entries of `next`. Its folder keeps those of `old` and serves those of `served`, and beside that has staged
+-- what the entries filled.
+pub record Has {F : Type 0} (seen : F → Files) (may_leave : F → Files → Type 0) (served old next : LogOf) (l : LogIn F) : Type 0 where
+  pub is_open : l.is_open ≡ true
+  pub keeps : Keeps served old (seen l.folder)
+  pub extends : Extends old next
+  pub kept : l.kept ≡ length old.entries
+  pub origin : l.origin ≡ next.origin
+  pub edge : StandsFor sha256 l.edge (leaves_of sha256 next.entries)
+  pub since : l.kept ≤ l.edge.taken
+  pub order : l.edge.taken ≤ l.edge.len
+  pub held : 256 * (l.edge.taken / 256) + l.held ≡ l.edge.len
+  pub most : l.held ≤ 256
+  pub bundle : l.bundle ≡ bundle_of (drop (256 * (l.edge.taken / 256)) next.entries)
+  pub staged : AreFullStaged l.kept l.edge.taken next (seen l.folder)
+  pub staging : IsStaging (seen l.folder) (may_leave l.folder)
+
+-- The tiles are the partial ones of the log's length, with its digests.
+abbrev pub ArePartsOf : LogOf → List (StoredTile Sha256 Global) → Type 0
+ArePartsOf log tiles = AreTilesOf sha256 (leaves_of sha256 log.entries) (partial_tiles (length log.entries)) (map (λ t. (t.tile, t.digests.items)) tiles)
+
+-- The log has the entries of `next`, and all its files that the old log hasn't are staged.
+pub record HasAll {F : Type 0} (seen : F → Files) (may_leave : F → Files → Type 0) (served old next : LogOf) (l : LogIn F) : Type 0 where
+  pub is_open : l.is_open ≡ true
+  pub keeps : Keeps served old (seen l.folder)
+  pub extends : Extends old next
+  pub origin : l.origin ≡ next.origin
+  pub edge : StandsFor sha256 l.edge (leaves_of sha256 next.entries)
+  pub held : 256 * (l.edge.len / 256) + l.held ≡ l.edge.len
+  pub bundle : l.bundle ≡ bundle_of (drop (256 * (l.edge.len / 256)) next.entries)
+  pub staged : AreStagedFor old next (seen l.folder)
+  pub staging : IsStaging (seen l.folder) (may_leave l.folder)
+
+-- The log's folder keeps the entries of `next`, whose checkpoint's text is still to be noted.
+abbrev pub IsPut : {F : Type 0} → (F → Files) → (F → Files → Type 0) → LogOf → LogIn F → Type 0
+IsPut seen may_leave next l = (log : LogOf) × Has seen may_leave log next next (record l { kept = length next.entries })

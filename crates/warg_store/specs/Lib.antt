@@ -10,3 +10,4 @@ pub mod Private
 pub mod Memory
 pub mod System
 pub mod Audited
+pub mod Errors

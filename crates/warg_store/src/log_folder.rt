@@ -1,9 +1,13 @@
 //! A log in a folder, as whoever adds to it holds it.
 
-ghost use Rattle.std.specs.Prelude.{◌≡◌, ◌+◌, ◌<◌, ◌↔◌, length, true, Err, OnOk, OnErr};
+ghost use Rattle.std.specs.Prelude.{◌≡◌, ◌+◌, ◌<◌, ◌≤◌, ◌↔◌, length, true, Err, IfOk, OnOk, OnErr};
+ghost use Rattle.warg_crypto.specs.Digests.{sha256};
+ghost use Rattle.warg_log.specs.Tree.{leaves_of};
+ghost use Rattle.warg_tiles.specs.TileLog.{StandsFor};
 ghost use Rattle.warg_store.specs.Moments.{LeavesOnly};
 ghost use Rattle.warg_store.specs.Opening.{IsBeside, IsStaging};
-ghost use Rattle.warg_store.specs.Growing.{IsReady, IsSameBut};
+ghost use Rattle.warg_store.specs.Growing.{IsReady, IsSameBut, Has, HasAll, IsPut, ArePartsOf, with_entry};
+ghost use Rattle.warg_store.specs.Log.{LogOf, IsOneOf, said_of, checkpoint_of};
 
 use crate::committing::MOST_TEXT;
 use crate::device::{Folder, FolderError};
@@ -13,7 +17,7 @@ use std::marker::Model;
 use thiserror::Error;
 use warg_crypto::Sha256;
 use warg_log::{Checkpoint, GREATEST_LENGTH, LogBuilder};
-use warg_tiles::{CheckpointText, StoredTile, Tile, TileLog, push_entry};
+use warg_tiles::{CheckpointText, EntryError, StoredTile, Tile, TileLog, push_entry};
 
 /// Why an entry isn't added.
 #[derive(Debug, PartialEq, Eq, Drop, Error)]
@@ -39,6 +43,30 @@ impl From<FolderError> for PushError {
 
     fn from(cause: FolderError) -> Self {
         PushError::Folder(cause)
+    }
+}
+
+impl From<AllocError> for PushError {
+    ghost use Rattle.warg_store.specs.declared.device.FolderError.TheVariants.{Memory};
+    ghost use Rattle.warg_store.specs.declared.log_folder.PushError.TheVariants.{Folder};
+
+    ghost from_gives = { λ _ error. error ≡ Folder Memory };
+
+    fn from(_error: AllocError) -> Self {
+        PushError::Folder(FolderError::Memory)
+    }
+}
+
+impl From<EntryError> for PushError {
+    ghost use Rattle.warg_store.specs.Errors.{push_error};
+
+    ghost from_gives = { λ cause error. error ≡ push_error cause };
+
+    fn from(cause: EntryError) -> Self {
+        match cause {
+            EntryError::TooLong => PushError::TooLong,
+            EntryError::Memory => PushError::Folder(FolderError::Memory),
+        }
     }
 }
 
@@ -184,6 +212,9 @@ impl<F: Folder + Drop> LogFolder<F> {
     /// exactly if a commit has failed.
     pub fn push(&mut self, entry: &[u8]) -> Result<(), PushError>
         requires { F.IsFaithful → IsReady F.seen F.may_leave self.old }
+        ensures pushed { F.IsFaithful → OnOk result ((served old next : LogOf)
+            → Has F.seen F.may_leave served old next self.old
+            → Has F.seen F.may_leave served old (with_entry next entry.now) self.new) }
         ensures ready { F.IsFaithful → IsReady F.seen F.may_leave self.new }
         ensures origin { self.new.origin ≡ self.old.origin }
         ensures kept { self.new.kept ≡ self.old.kept }
@@ -203,13 +234,8 @@ impl<F: Folder + Drop> LogFolder<F> {
         if !self.is_open {
             return Err(PushError::Closed);
         }
-        if self.held >= 256 {
-            self.stage_full()?;
-        }
-        match self.add(entry) {
-            Ok(()) => Ok(()),
-            Err(_) => Err(PushError::Folder(FolderError::Memory)),
-        }
+        self.make_room()?;
+        self.add(entry)
     }
 
     /// Keeps what was pushed, and serves it, unless the checkpoint is signed: that one is served until another is signed. All
@@ -219,6 +245,12 @@ impl<F: Folder + Drop> LogFolder<F> {
     pub fn commit(&mut self) -> Result<(), CommitError>
         requires { F.IsFaithful → IsReady F.seen F.may_leave self.old }
         ensures ready { F.IsFaithful → IsReady F.seen F.may_leave self.new }
+        ensures any_moment { F.IsFaithful → (served old next : LogOf)
+            → Has F.seen F.may_leave served old next self.old
+            → LeavesOnly F.moment F.left_since self.old.folder self.new.folder (IsOneOf served old next) }
+        ensures committed { F.IsFaithful → OnOk result ((served old next : LogOf)
+            → Has F.seen F.may_leave served old next self.old
+            → (log : LogOf) × Has F.seen F.may_leave log next next self.new) }
     {
         if !self.is_open {
             return Err(CommitError::Closed);
@@ -232,16 +264,45 @@ impl<F: Folder + Drop> LogFolder<F> {
             return Err(CommitError::TooLong);
         }
         let tiles = self.edge.partial(self.alloc)?;
-        self.is_open = false;
-        self.stage_edge(tiles.as_slice())?;
-        commit_log(self.alloc, &mut self.folder, bytes.as_slice())?;
-        self.text = text;
-        self.is_open = true;
+        match self.put(tiles.as_slice(), bytes.as_slice()) {
+            Ok(()) => {
+                self.text = text;
+                Ok(())
+            }
+            Err(error) => {
+                self.is_open = false;
+                Err(CommitError::Folder(error))
+            }
+        }
+    }
+
+    // Stages what the log's end has, and commits all that is staged.
+    fn put(&mut self, tiles: &[StoredTile<Sha256>], text: &[u8]) -> Result<(), FolderError>
+        requires staging { F.IsFaithful → IsStaging (F.seen self.old.folder) (F.may_leave self.old.folder) }
+        requires short { length text.now ≤ MOST_TEXT }
+        ensures ready { F.IsFaithful
+            → OnOk result (IsStaging (F.seen self.new.folder) (F.may_leave self.new.folder)) }
+        ensures same { IsSameBut self.old self.new }
+        ensures any_moment { F.IsFaithful → (served old next : LogOf)
+            → Has F.seen F.may_leave served old next self.old → self.old.kept < self.old.edge.len
+            → ArePartsOf next tiles.now → text.now ≡ checkpoint_of next
+            → LeavesOnly F.moment F.left_since self.old.folder self.new.folder (IsOneOf served old next) }
+        ensures put { F.IsFaithful → OnOk result ((served old next : LogOf)
+            → Has F.seen F.may_leave served old next self.old → self.old.kept < self.old.edge.len
+            → ArePartsOf next tiles.now → text.now ≡ checkpoint_of next
+            → IsPut F.seen F.may_leave next self.new) }
+    {
+        self.stage_edge(tiles)?;
+        commit_log(self.alloc, &mut self.folder, text)?;
+        let _ = self.edge.take_full();
         Ok(())
     }
 
     // The text of the checkpoint over all that was pushed.
-    fn next_text(&self) -> Result<CheckpointText<Sha256>, CommitError> {
+    fn next_text(&self) -> Result<CheckpointText<Sha256>, CommitError>
+        ensures { IfOk result (λ text. (log : LogOf) → self.now.origin ≡ log.origin
+            → StandsFor sha256 self.now.edge (leaves_of sha256 log.entries) → text ≡ said_of log) }
+    {
         match CheckpointText::new(self.alloc, self.text.origin(), self.edge.checkpoint()) {
             Ok(text) => Ok(text),
             Err(_) => Err(CommitError::Memory),
@@ -253,17 +314,40 @@ impl<F: Folder + Drop> LogFolder<F> {
         requires { F.IsFaithful → IsStaging (F.seen self.old.folder) (F.may_leave self.old.folder) }
         ensures ready { F.IsFaithful → IsStaging (F.seen self.new.folder) (F.may_leave self.new.folder) }
         ensures same { IsSameBut self.old self.new }
+        ensures any_moment { F.IsFaithful → LeavesOnly F.moment F.left_since self.old.folder self.new.folder
+            (IsBeside (F.seen self.old.folder)) }
+        ensures staged { F.IsFaithful → OnOk result ((served old next : LogOf)
+            → Has F.seen F.may_leave served old next self.old → self.old.kept < self.old.edge.len
+            → ArePartsOf next tiles.now
+            → HasAll F.seen F.may_leave served old next self.new) }
     {
-        if self.held >= 256 {
-            self.stage_full()?;
-        }
+        self.make_room()?;
         let older = self.text.checkpoint().length();
         stage_tiles(self.alloc, &mut self.folder, older, tiles)?;
-        if self.held == 0 || self.held > 256 {
+        let number = self.edge.length() / 256;
+        if self.held == 0 {
             return Ok(());
         }
-        let tile = Tile::new(0, self.edge.length() / 256, self.held);
+        let tile = Tile::new(0, number, self.held);
         stage_bundle(self.alloc, &mut self.folder, &tile, self.bundle.as_slice())
+    }
+
+    // Stages a full bundle and the tiles that it filled, if there is one.
+    fn make_room(&mut self) -> Result<(), FolderError>
+        requires { F.IsFaithful → IsStaging (F.seen self.old.folder) (F.may_leave self.old.folder) }
+        ensures ready { F.IsFaithful → IsStaging (F.seen self.new.folder) (F.may_leave self.new.folder) }
+        ensures any_moment { F.IsFaithful → LeavesOnly F.moment F.left_since self.old.folder self.new.folder
+            (IsBeside (F.seen self.old.folder)) }
+        ensures same { IsSameBut self.old self.new }
+        ensures room { OnOk result (self.new.held < 256) }
+        ensures has { F.IsFaithful → OnOk result ((served old next : LogOf)
+            → Has F.seen F.may_leave served old next self.old
+            → Has F.seen F.may_leave served old next self.new) }
+    {
+        if self.held < 256 {
+            return Ok(());
+        }
+        self.stage_full()
     }
 
     // Stages the bundle of 256 entries, and the tiles that they filled.
@@ -274,6 +358,9 @@ impl<F: Folder + Drop> LogFolder<F> {
             (IsBeside (F.seen self.old.folder)) }
         ensures same { IsSameBut self.old self.new }
         ensures held { OnOk result (self.new.held ≡ 0) }
+        ensures has { F.IsFaithful → OnOk result ((served old next : LogOf) → self.old.held ≡ 256
+            → Has F.seen F.may_leave served old next self.old
+            → Has F.seen F.may_leave served old next self.new) }
     {
         stage_tiles(
             self.alloc,
@@ -290,27 +377,33 @@ impl<F: Folder + Drop> LogFolder<F> {
     }
 
     // Adds an entry to the right edge and to the bundle, or leaves both as they were.
-    fn add(&mut self, entry: &[u8]) -> Result<(), AllocError>
+    fn add(&mut self, entry: &[u8]) -> Result<(), PushError>
         requires short { length entry.now < 65536 }
         requires room { self.old.held < 256 }
         requires fits { self.old.edge.len < GREATEST_LENGTH }
         ensures folder { self.new.folder ≡ self.old.folder }
         ensures length { OnOk result (self.new.edge.len ≡ self.old.edge.len + 1) }
         ensures refused { OnErr result (self.new ≡ self.old) }
+        ensures not_long { result ≡ Err PushError.TooLong → ⊥ }
+        ensures has { OnOk result ((served old next : LogOf)
+            → Has F.seen F.may_leave served old next self.old
+            → Has F.seen F.may_leave served old (with_entry next entry.now) self.new) }
         ensures same { (self.new.origin ≡ self.old.origin) × (self.new.kept ≡ self.old.kept)
             × (self.new.is_open ≡ self.old.is_open) }
     {
         self.entry.clear();
         self.entry.extend_from_slice(entry)?;
         let before = self.bundle.len();
-        if push_entry(&mut self.bundle, entry).is_err() {
-            return Err(AllocError);
+        push_entry(&mut self.bundle, entry)?;
+        match self.edge.push(&self.entry) {
+            Ok(_) => {
+                self.held += 1;
+                Ok(())
+            }
+            Err(_) => {
+                self.bundle.truncate(before);
+                Err(PushError::Folder(FolderError::Memory))
+            }
         }
-        if self.edge.push(&self.entry).is_err() {
-            self.bundle.truncate(before);
-            return Err(AllocError);
-        }
-        self.held += 1;
-        Ok(())
     }
 }
