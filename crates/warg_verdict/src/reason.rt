@@ -1,0 +1,130 @@
+//! Why a verdict is false: what the proof is of, or where it leads, in place of what is claimed.
+
+use crate::claim::Claim;
+use std::alloc::Global;
+use warg_bundle::{LogProofBundle, MapProofBundle};
+use warg_check::CheckError;
+use warg_crypto::{Hash, Sha256};
+use warg_log::Checkpoint;
+
+const ANOTHER_ROOT: &str = "another root";
+
+const ANOTHER_OLD_ROOT: &str = "another old root";
+
+const ANOTHER_NEW_ROOT: &str = "another new root";
+
+const NO_DIGEST: &str = "a digest is missing";
+
+/// The first thing by which the proof at a place of a bundle isn't that of a claim whose verdict is false.
+pub fn reason(
+    alloc: Global,
+    claim: &Claim,
+    bundle: &[u8],
+    at: usize,
+) -> Result<&'static str, CheckError> {
+    match claim {
+        Claim::Entry {
+            index,
+            value,
+            checkpoint,
+        } => of_entry(alloc, bundle, at, *index, value, checkpoint),
+        Claim::Growth { old, new } => of_growth(alloc, bundle, at, old, new),
+        Claim::Key { .. } | Claim::Absent { .. } => Ok(ANOTHER_ROOT),
+        Claim::Update {
+            key,
+            old_value,
+            old_root,
+            ..
+        } => of_update(alloc, bundle, at, key, old_value, old_root),
+        Claim::Insertion { key, old_root, .. } => of_insertion(alloc, bundle, at, key, old_root),
+    }
+}
+
+fn of_entry(
+    alloc: Global,
+    bundle: &[u8],
+    at: usize,
+    index: usize,
+    value: &Vec<u8>,
+    checkpoint: &Checkpoint<Sha256>,
+) -> Result<&'static str, CheckError> {
+    let bundle = LogProofBundle::<Sha256, Vec<u8>, Global>::decode(alloc, bundle)?;
+    let Some(proof) = bundle.inclusion_proof(at) else {
+        return Err(CheckError::NoSuchProof);
+    };
+    if proof.log_length() != checkpoint.length() {
+        Ok("another length")
+    } else if proof.leaf().leaf_index() != Some(index) {
+        Ok("another index")
+    } else if proof.evaluate_value(bundle.hashes(), value).is_err() {
+        Ok(NO_DIGEST)
+    } else {
+        Ok(ANOTHER_ROOT)
+    }
+}
+
+fn of_growth(
+    alloc: Global,
+    bundle: &[u8],
+    at: usize,
+    old: &Checkpoint<Sha256>,
+    new: &Checkpoint<Sha256>,
+) -> Result<&'static str, CheckError> {
+    let bundle = LogProofBundle::<Sha256, (), Global>::decode(alloc, bundle)?;
+    let Some(proof) = bundle.consistency_proof(at) else {
+        return Err(CheckError::NoSuchProof);
+    };
+    if proof.old_length() != old.length() {
+        return Ok("another old length");
+    }
+    if proof.new_length() != new.length() {
+        return Ok("another new length");
+    }
+    match proof.evaluate(bundle.hashes()) {
+        Ok((root, _)) if root != old.root() => Ok(ANOTHER_OLD_ROOT),
+        Ok(_) => Ok(ANOTHER_NEW_ROOT),
+        Err(_) if old.length() == 0 => Ok("the old log is empty"),
+        Err(_) => Ok(NO_DIGEST),
+    }
+}
+
+fn of_update(
+    alloc: Global,
+    bundle: &[u8],
+    at: usize,
+    key: &Vec<u8>,
+    old_value: &Vec<u8>,
+    old_root: &Hash<Sha256>,
+) -> Result<&'static str, CheckError> {
+    let proofs = MapProofBundle::<Sha256, Vec<u8>, Vec<u8>, Global>::decode(
+        alloc, bundle,
+    )?.unbundle();
+    match proofs.as_slice().get(at) {
+        Some(proof) => Ok(of_two(proof.evaluate(key, old_value) == *old_root)),
+        None => Err(CheckError::NoSuchProof),
+    }
+}
+
+fn of_insertion(
+    alloc: Global,
+    bundle: &[u8],
+    at: usize,
+    key: &Vec<u8>,
+    old_root: &Hash<Sha256>,
+) -> Result<&'static str, CheckError> {
+    let bundle = MapProofBundle::<Sha256, Vec<u8>, Vec<u8>, Global>::decode(alloc, bundle)?;
+    let (_proofs, absences) = bundle.unbundle_all();
+    match absences.as_slice().get(at) {
+        Some(absence) => Ok(of_two(absence.evaluate_absent(key) == *old_root)),
+        None => Err(CheckError::NoSuchProof),
+    }
+}
+
+// Which of two roots the proof doesn't lead to, where it leads to the old one or not.
+fn of_two(leads_to_the_old_one: bool) -> &'static str {
+    if leads_to_the_old_one {
+        ANOTHER_NEW_ROOT
+    } else {
+        ANOTHER_OLD_ROOT
+    }
+}
