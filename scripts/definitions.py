@@ -31,7 +31,7 @@ TITLES = {
 }
 HEAD = """# The definitions, in reading order
 
-Whoever believes these definitions believes what the contracts say. They are read off the comments of `specs/` by `scripts/definitions.py`: each definition that the clause of a public call or law reaches. `H` is any function from byte lists to lists of 32 bytes; only the definitions of `Sha256`, of the program's text and of the verdicts for C fix it.
+Whoever believes these definitions believes what the contracts say. They are read off the comments of `specs/` by `scripts/definitions.py`: each definition that the clause of a public call or law reaches, or the view or invariant of a type. `H` is any function from byte lists to lists of 32 bytes; only the definitions of `Sha256`, of the program's text and of the verdicts for C fix it.
 """
 ITEM = re.compile(r"^(?:unfoldable |abbrev )*pub (?:unfoldable |abbrev |record |inductive |data )*([^\s:({]+)")
 
@@ -112,8 +112,8 @@ def page():
             rows = [it for key, it in known.items() if key in shown and it.crate == crate and it.module == module]
             if not rows:
                 continue
-            about = re.match(r"-- (.*)", path.read_text())
-            parts.append(f"\n**`{module}`** {about[1] if about else ''}\n\n")
+            about = re.match(r"(?:--.*\n)*", path.read_text())[0]
+            parts.append(f"\n**`{module}`** {' '.join(about.replace('--', '').split())}\n\n")
             lacking += [it for it in rows if not it.comment]
             parts += [f"- `{it.name}`: {it.comment}\n" for it in rows]
     return "".join(parts), lacking

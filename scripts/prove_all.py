@@ -10,9 +10,9 @@ What a check keeps stays in crates/NAME/out, where the wrong bodies begin: from 
 
 With names, proves these crates and what they stand on, keeps nothing of a proof, and builds programs by LLVM alone: a
 library is built with its statements, which the crates above it read faster than its proofs. What is unchanged since such
-a run, with all below it, isn't proved again.
+a run, with all below it, isn't proved again. What the prover notes of a crate that came out is shown with --notes alone.
 
-Usage: prove_all.py [--json FILE] [--cpu CPU] [NAME..]
+Usage: prove_all.py [--json FILE] [--cpu CPU] [--notes] [NAME..]
 """
 
 import argparse
@@ -187,9 +187,14 @@ class Crate:
             raise Failed(f"as {backend} makes it, the program prints something else, or ends with another status: {status}")
 
 
-def prove_all(crates, jobs):
+def spent(seconds):
+    """Returns how much processor time something took, as a text."""
+    return f"{seconds / 60:.0f} min" if seconds >= 60 else f"{seconds:.0f} s" if seconds else "unchanged"
+
+
+def prove_all(crates, jobs, notes=False):
     """Proves the crates, each after those that it stands on. Returns those that came out."""
-    room, printing, runs = threading.Semaphore(jobs), threading.Lock(), {}
+    room, printing, runs, ended = threading.Semaphore(jobs), threading.Lock(), {}, []
 
     def prove(crate):
         lacks = [it for it in kit.below(crate.name, kit.crates()) if not runs[it].result()]
@@ -201,9 +206,9 @@ def prove_all(crates, jobs):
             except Failed as failed:
                 why = str(failed)
         with printing:
-            spent = ", ".join(f"{part} {seconds:.0f}" for part, seconds in crate.seconds.items() if seconds)
-            print(f"{crate.name}: {why or 'ok'} ({spent or 0} processor seconds)", flush=True)
-            print("".join(crate.said[-1:]) if why else "", end="", flush=True)
+            ended.append(crate)
+            print(f"{len(ended)} of {len(crates)}, {crate.name}, {why or spent(sum(crate.seconds.values()))}", flush=True)
+            print("".join(crate.said[-1:]) if why or notes else "", end="", flush=True)
         return not why
 
     with concurrent.futures.ThreadPoolExecutor(len(crates)) as pool:
@@ -216,16 +221,21 @@ def main():
     asked = argparse.ArgumentParser()
     asked.add_argument("--json", type=pathlib.Path, help="where to write the processor seconds of each crate")
     asked.add_argument("--cpu", help="the processor that programs are built for")
+    asked.add_argument("--notes", action="store_true", help="show what the prover notes")
     asked.add_argument("names", nargs="*", metavar="NAME", help="a crate")
     asked = asked.parse_args()
     listed = kit.crates()
     wanted = {below for it in asked.names for below in [*kit.below(it, listed), it]} or {*listed}
     crates = [Crate(it, bool(asked.names), asked.cpu) for it in listed if it in wanted]
     memory = os.sysconf("SC_PHYS_PAGES") * os.sysconf("SC_PAGE_SIZE")
-    well = prove_all(crates, max(1, min(len(os.sched_getaffinity(0)), memory // ROOM)))
+    jobs = max(1, min(len(os.sched_getaffinity(0)), memory // ROOM))
+    if asked.names:
+        print(f"proves and builds {', '.join(asked.names)} and what lies below, {jobs} at a time: {len(crates)} crates, of which only those that changed take minutes", flush=True)
+    well = prove_all(crates, jobs, asked.notes)
     if asked.json:
         asked.json.write_text(json.dumps({it.name: it.seconds for it in crates}))
-    print(f"crates: {len(well)} ok, {len(crates) - len(well)} failed")
+    if not asked.names or len(well) < len(crates):
+        print(f"crates: {len(well)} ok, {len(crates) - len(well)} failed")
     raise SystemExit(len(well) < len(crates))
 
 

@@ -5,7 +5,7 @@ use std::alloc::Global;
 use warg_bundle::{LogProofBundle, MapProofBundle};
 use warg_check::CheckError;
 use warg_crypto::{Hash, Sha256};
-use warg_log::Checkpoint;
+use warg_log::{Checkpoint, ConsistencyProof, ConsistencyProofError};
 
 const ANOTHER_ROOT: &str = "another root";
 
@@ -71,20 +71,36 @@ fn of_growth(
     new: &Checkpoint<Sha256>,
 ) -> Result<&'static str, CheckError> {
     let bundle = LogProofBundle::<Sha256, (), Global>::decode(alloc, bundle)?;
-    let Some(proof) = bundle.consistency_proof(at) else {
-        return Err(CheckError::NoSuchProof);
-    };
+    match bundle.consistency_proof(at) {
+        Some(proof) => Ok(of_lengths(&bundle, &proof, old, new)),
+        None => Err(CheckError::NoSuchProof),
+    }
+}
+
+fn of_lengths(
+    bundle: &LogProofBundle<Sha256, (), Global>,
+    proof: &ConsistencyProof<Sha256, ()>,
+    old: &Checkpoint<Sha256>,
+    new: &Checkpoint<Sha256>,
+) -> &'static str {
     if proof.old_length() != old.length() {
-        return Ok("another old length");
+        "another old length"
+    } else if proof.new_length() != new.length() {
+        "another new length"
+    } else {
+        of_roots(&proof.evaluate(bundle.hashes()), &old.root())
     }
-    if proof.new_length() != new.length() {
-        return Ok("another new length");
-    }
-    match proof.evaluate(bundle.hashes()) {
-        Ok((root, _)) if root != old.root() => Ok(ANOTHER_OLD_ROOT),
-        Ok(_) => Ok(ANOTHER_NEW_ROOT),
-        Err(_) if old.length() == 0 => Ok("the old log is empty"),
-        Err(_) => Ok(NO_DIGEST),
+}
+
+// Why two roots aren't those of the checkpoints, where one of them isn't.
+fn of_roots(
+    found: &Result<(Hash<Sha256>, Hash<Sha256>), ConsistencyProofError>,
+    old_root: &Hash<Sha256>,
+) -> &'static str {
+    match found {
+        Ok((root, _)) => of_two(*root == *old_root),
+        Err(ConsistencyProofError::OldLengthZero) => "the old log is empty",
+        Err(_) => NO_DIGEST,
     }
 }
 
