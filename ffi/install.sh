@@ -7,13 +7,17 @@ to="${DESTDIR:-}$prefix"
 cd "$(dirname "$0")"
 version="$(sed -n '/^## /{s/^## \([^,]*\).*/\1/p;q}' ../CHANGELOG.md)"
 
-# Where python3 of the prefix finds modules: by that interpreter if there is one, else by the first on the path.
+# Where python3 of the prefix finds modules: that of its bin, or else another whose modules lie below the prefix. Where none
+# looks there, the folder that one of the prefix would look at.
 modules_of() {
-    local python="$prefix/bin/python3"
-    [ -x "$python" ] || python="$(command -v python3)" || return 0
-    "$python" -c 'import sys, sysconfig
-own = sysconfig.get_path("purelib")
-print(own if own.startswith(sys.argv[1] + "/") else "%s/lib/python%d.%d/site-packages" % (sys.argv[1], *sys.version_info[:2]))' "$prefix"
+    local python modules version=
+    for python in "$prefix/bin/python3" /usr/bin/python3 "$(command -v python3)"; do
+        [ -x "$python" ] || continue
+        modules="$("$python" -c 'import sysconfig; print(sysconfig.get_path("purelib"))')"
+        version="${version:-$("$python" -c 'import sysconfig; print(sysconfig.get_python_version())')}"
+        case "$modules" in "$prefix"/*) echo "$modules"; return ;; esac
+    done
+    [ -z "$version" ] || echo "$prefix/lib/python$version/site-packages"
 }
 
 install -d "$to/include" "$to/lib/pkgconfig" "$to/share/warg/go"
@@ -38,6 +42,6 @@ modules="${MODULES:-$(modules_of)}"
 if [ -n "$modules" ]; then
     install -d "${DESTDIR:-}$modules"
     install -m 644 python/warg.py libwarg.so "${DESTDIR:-}$modules"
-    echo "for Python: ${DESTDIR:-}$modules/warg.py"
+    echo "for Python: ${DESTDIR:-}$modules/warg.py; PYTHONPATH names this folder where no python3 looks at it"
 fi
-echo "for Go, in your go.mod: replace warg => $prefix/share/warg/go"
+echo "for Go, in your go.mod: replace warg => \"$prefix/share/warg/go\""

@@ -189,7 +189,7 @@ class Crate:
 
 def spent(seconds):
     """Returns how much processor time something took, as a text."""
-    return f"{seconds / 60:.0f} min" if seconds >= 60 else f"{seconds:.0f} s" if seconds else "unchanged"
+    return f"{seconds / 60:.0f} min" if seconds >= 60 else f"{seconds:.0f} s"
 
 
 def prove_all(crates, jobs, notes=False):
@@ -207,7 +207,9 @@ def prove_all(crates, jobs, notes=False):
                 why = str(failed)
         with printing:
             ended.append(crate)
-            print(f"{len(ended)} of {len(crates)}, {crate.name}, {why or spent(sum(crate.seconds.values()))}", flush=True)
+            used = sum(crate.seconds.values())
+            if why or used:
+                print(f"{len(ended)} of {len(crates)}, {crate.name}, {why or spent(used)}", flush=True)
             print("".join(crate.said[-1:]) if why or notes else "", end="", flush=True)
         return not why
 
@@ -230,7 +232,7 @@ def main():
     memory = os.sysconf("SC_PHYS_PAGES") * os.sysconf("SC_PAGE_SIZE")
     jobs = max(1, min(len(os.sched_getaffinity(0)), memory // ROOM))
     if asked.names:
-        print(f"proves and builds {', '.join(asked.names)} and what lies below, {jobs} at a time: {len(crates)} crates, of which only those that changed take minutes", flush=True)
+        print(f"proves and builds {', '.join(asked.names)} and what lies below, {jobs} at a time: of {len(crates)} crates those that changed", flush=True)
     well = prove_all(crates, jobs, asked.notes)
     if asked.json:
         asked.json.write_text(json.dumps({it.name: it.seconds for it in crates}))

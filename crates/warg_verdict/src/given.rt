@@ -18,7 +18,8 @@ pub fn bundle(rt: &HostRuntime, asked: &ArgMatches<'_>) -> Result<Vec<u8>> {
     };
     if asked.get_flag("hex") {
         let line = bytes.as_slice().trim_ascii();
-        return digits(rt, path, line.strip_prefix(b"bundle ").unwrap_or(line));
+        let word = line.strip_prefix(b"bundle ").unwrap_or(line);
+        return digits(rt, word).context(format_args!("{path}"));
     }
     Ok(bytes)
 }
@@ -58,15 +59,15 @@ pub fn bytes(rt: &HostRuntime, asked: &ArgMatches<'_>, name: &str) -> Result<Vec
     let word = text(asked, name)?;
     match word.split_once(':') {
         Some(("text", text)) => Ok(text.as_bytes().to_vec(rt.alloc())?),
-        Some(("hex", word)) => digits(rt, name, word.as_bytes()),
+        Some(("hex", word)) => digits(rt, word.as_bytes()).context(format_args!("--{name}")),
         Some(("file", path)) => file(rt, path),
         _ => Err(anyhow!("--{name} is none of text:TEXT, hex:DIGITS and file:PATH")),
     }
 }
 
-// The bytes that hexadecimal digits spell; what is said of wrong ones names where they stand.
-fn digits(rt: &HostRuntime, place: &str, digits: &[u8]) -> Result<Vec<u8>> {
-    hex::decode(rt.alloc(), digits).context(format_args!("{place}, {} digits", digits.len()))
+// The bytes that hexadecimal digits spell.
+fn digits(rt: &HostRuntime, digits: &[u8]) -> Result<Vec<u8>> {
+    hex::decode(rt.alloc(), digits).context(format_args!("{} digits", digits.len()))
 }
 
 // The bytes of a file.
