@@ -13,7 +13,7 @@ try:
 	if [ -t 0 ]; then printf 'push 6f6e65\npush 74776f\nlog\ninclude 2 2 74776f\n'; else cat; fi | rt try 2> "$$notes"; status=$$?; \
 	if [ $$status != 0 ] || [ -n "$(V)" ]; then cat "$$notes" >&2; fi; rm "$$notes"; exit $$status
 
-# Proves and builds the program, as bin/warg_check; so with CPU=x86-64-v3 for newer processors, with V=1 shows the prover's notes.
+# Proves and builds the program, as bin/warg_check. CPU=x86-64-v3 is for newer processors, V=1 shows the prover's notes.
 run:
 	@$(PROVE) warg_check_cli && \
 	mkdir -p bin && cp crates/warg_check_cli/out/proved/warg_check_cli bin/warg_check && \
@@ -61,7 +61,7 @@ install: ffi
 
 # Packs programs, libraries and modules for users without the toolchain, as dist/warg-VERSION-x86_64-linux.tar.gz.
 dist:
-	@scripts/dist.sh && scripts/try_dist.sh dist/*.tar.gz
+	@scripts/dist.sh
 
 # Compares paths, tiles and checkpoints with those of Go's checksum database; BENCH=1 prints times, too.
 interop:

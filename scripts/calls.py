@@ -73,7 +73,7 @@ def errors(signature, known):
 def needs(clauses):
     """Returns what the `requires` of a call ask, each without its name."""
     asked = re.findall(r"requires\*?(?: \w+)? \{ (.*?) \}\s*(?=$|requires|ensures)", " ".join(re.sub(r"//[^\n]*", "", clauses).split()))
-    return "; ".join(f"`{it}`" for it in asked).replace("|", "\\|")
+    return "; ".join(f"`{it}`" for it in asked)
 
 
 def declared(text, bare):

@@ -1,7 +1,7 @@
 #!/usr/bin/env bash
 # Packs what users take home without the toolchain: dist/warg-VERSION.tar.gz, and its sum beside it. The version is that of
-# CHANGELOG.md's first heading. The same files give the same bytes, whenever and by whomever they are packed. With --as-proved
-# it takes the programs and the library that the gate has just proved.
+# CHANGELOG.md's first heading. The same files give the same bytes, whenever and by whomever they are packed. It tries what is
+# in it last. With --as-proved it takes the programs and the library that the gate has just proved.
 set -eu
 cd "$(dirname "$0")/.."
 version="$(sed -n '/^## /{s/^## \([^,]*\).*/\1/p;q}' CHANGELOG.md)"
@@ -41,3 +41,4 @@ mkdir -p dist
 tar --format=ustar --sort=name --owner=0 --group=0 --numeric-owner --mtime="@${SOURCE_DATE_EPOCH:-0}" -C "$work" -c "$name" |
     gzip -9n > "dist/$name.tar.gz"
 (cd dist && sha256sum "$name.tar.gz" > "$name.tar.gz.sha256" && cat "$name.tar.gz.sha256")
+scripts/try_dist.sh "dist/$name.tar.gz"
