@@ -3,7 +3,8 @@
 # the Python module, if it isn't the one where python3 of the prefix looks.
 set -eu
 prefix="$(realpath -m -- "$1")"
-to="${DESTDIR:-}$prefix"
+DESTDIR="${DESTDIR:+$(realpath -m -- "$DESTDIR")}"
+to="$DESTDIR$prefix"
 cd "$(dirname "$0")"
 version="$(sed -n '/^## /{s/^## \([^,]*\).*/\1/p;q}' ../CHANGELOG.md)"
 
@@ -40,8 +41,8 @@ END
 echo "for C: $to/include/warg.h, $to/lib/libwarg.a, libwarg.so and pkgconfig/warg.pc"
 modules="${MODULES:-$(modules_of)}"
 if [ -n "$modules" ]; then
-    install -d "${DESTDIR:-}$modules"
-    install -m 644 python/warg.py libwarg.so "${DESTDIR:-}$modules"
-    echo "for Python: ${DESTDIR:-}$modules/warg.py; PYTHONPATH names this folder where no python3 looks at it"
+    install -d "$DESTDIR$modules"
+    install -m 644 python/warg.py libwarg.so "$DESTDIR$modules"
+    echo "for Python: $DESTDIR$modules/warg.py; PYTHONPATH names this folder where no python3 looks at it"
 fi
 echo "for Go, in your go.mod: replace warg => \"$prefix/share/warg/go\""

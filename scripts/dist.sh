@@ -32,7 +32,7 @@ done
 install -m 644 ffi/examples/check.* "$tree/examples"
 install -m 644 ffi/examples/go/* "$tree/examples/go"
 ffi/lines.sh "$tree/examples"
-install -m 644 LICENSE CHANGELOG.md docs/warg.proto "$tree"
+install -m 644 LICENSE docs/warg.proto "$tree"
 install -m 644 docs/ARCHIVE.md "$tree/README.md"
 echo "$version" > "$tree/VERSION"
 (cd "$tree" && find . -type f ! -name SHA256SUMS -printf '%P\0' | sort -z | xargs -0 sha256sum > "$work/sums" && mv "$work/sums" SHA256SUMS)
