@@ -17,7 +17,7 @@ try:
 run:
 	@$(PROVE) warg_check_cli && \
 	mkdir -p bin && cp crates/warg_check_cli/out/proved/warg_check_cli bin/warg_check && \
-	echo "bin/warg_check reads commands on standard input, as: printf 'push -\\nlog\\n' | bin/warg_check"
+	echo "bin/warg_check reads commands on standard input; see bin/warg_check --help"
 
 # Proves and builds the program for scripts, as bin/warg_verdict.
 verdict:

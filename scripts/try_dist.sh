@@ -20,11 +20,15 @@ try() {
 commands='push 6f6e65\npush 74776f\nlog\nbundle 2 2\n'
 said="$(printf "$commands" | "${bare[@]}" bin/warg_check)"
 root="$(sed -n 's/^log 2 //p' <<< "$said")"
-tail -n 1 <<< "$said" | "${bare[@]}" bin/warg_verdict entry - --hex --length 2 --root "$root" --index 1 --value text:two
+said="$(tail -n 1 <<< "$said" | "${bare[@]}" bin/warg_verdict entry - --hex --length 2 --root "$root" --index 1 --value text:two)"
+[ "$said" = true ]
 "${bare[@]}" bin/warg_tlog init log example.com/log
 printf '6f6e65\n74776f\n' | "${bare[@]}" bin/warg_tlog append log
-(echo "inclusion 1 2 $(sed -n 3p log/checkpoint)"; echo 74776f; "${bare[@]}" bin/warg_tlog prove log 1) | "${bare[@]}" bin/warg_tlog verify
+path="$("${bare[@]}" bin/warg_tlog prove log 1)"
+said="$(printf 'inclusion 1 2 %s\n74776f\n%s\n' "$(sed -n 3p log/checkpoint)" "$path" | "${bare[@]}" bin/warg_tlog verify)"
+[ "$said" = true ]
 rm -r log
+echo "the archive's programs agree: a proof and a path of entry 1 are true"
 
 if "${bare[@]}" sh -c 'command -v cc' > /dev/null; then
     "${bare[@]}" cc -I include examples/check.c lib/libwarg.a -o check_c
