@@ -57,6 +57,10 @@ OPTIONS = {
 }
 
 
+# The last words of the reasons for which a verdict is false.
+ENDS = (b"root", b"length", b"index", b"entry", b"empty", b"longer", b"missing")
+
+
 def answered(program, line):
     """Returns what warg_verdict answers to a check line of the vectors, and with -v where that is false."""
     call, bundle, at, *words = line.split()
@@ -79,7 +83,7 @@ def of_vectors(program):
             if line.startswith(f"check_{call} "):
                 status, out, reason = answered(program, line)
                 well = status == wanted and out == ("" if wanted == "bad call" else wanted)
-                well = well and (wanted != "false" or reason.startswith(b"false: ") and reason.endswith((b"root\n", b"length\n", b"index\n", b"missing\n", b"empty\n")))
+                well = well and (wanted != "false" or reason.startswith(b"false: ") and reason.split()[-1] in ENDS)
                 wrong += [] if well else [line]
         yield f"vectors of {call}: {wrong[:1]}", not wrong
 

@@ -5,7 +5,7 @@ use std::alloc::Global;
 use warg_bundle::{LogProofBundle, MapProofBundle};
 use warg_check::CheckError;
 use warg_crypto::{Hash, Sha256};
-use warg_log::{Checkpoint, ConsistencyProof, ConsistencyProofError};
+use warg_log::{Checkpoint, ConsistencyProof, ConsistencyProofError, InclusionProofError};
 
 const ANOTHER_ROOT: &str = "another root";
 
@@ -53,13 +53,15 @@ fn of_entry(
         return Err(CheckError::NoSuchProof);
     };
     if proof.log_length() != checkpoint.length() {
-        Ok("another length")
-    } else if proof.leaf().leaf_index() != Some(index) {
-        Ok("another index")
-    } else if proof.evaluate_value(bundle.hashes(), value).is_err() {
-        Ok(NO_DIGEST)
-    } else {
-        Ok(ANOTHER_ROOT)
+        return Ok("another length");
+    }
+    if proof.leaf().leaf_index() != Some(index) {
+        return Ok("another index");
+    }
+    match proof.evaluate_value(bundle.hashes(), value) {
+        Ok(_) => Ok(ANOTHER_ROOT),
+        Err(InclusionProofError::LeafTooNew) => Ok("no such entry"),
+        Err(_) => Ok(NO_DIGEST),
     }
 }
 
@@ -100,6 +102,7 @@ fn of_roots(
     match found {
         Ok((root, _)) => of_two(*root == *old_root),
         Err(ConsistencyProofError::OldLengthZero) => "the old log is empty",
+        Err(ConsistencyProofError::PointsOutOfOrder) => "the old log is longer",
         Err(_) => NO_DIGEST,
     }
 }
