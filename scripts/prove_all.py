@@ -212,7 +212,7 @@ def prove_all(crates, jobs, notes=False):
         with printing:
             ended.append(crate)
             print(f"{len(ended)} of {len(crates)}, {crate.name}, {why or spent(sum(crate.seconds.values()))}", flush=True)
-            print("".join(crate.said[-1:]) if why or notes else "", end="", flush=True)
+            print("".join(crate.said if notes else crate.said[-1:] if why else []), end="", flush=True)
         return not why
 
     with concurrent.futures.ThreadPoolExecutor(max(1, len(crates))) as pool:
