@@ -11,7 +11,7 @@ help:
 try:
 	@echo "make try: nothing is proved here; make run proves the program" >&2; cd crates/warg_check_cli && notes="$$(mktemp)" && \
 	if [ -t 0 ]; then printf 'push 6f6e65\npush 74776f\nlog\ninclude 2 2 74776f\n'; else cat; fi | rt try 2> "$$notes"; status=$$?; \
-	if [ $$status != 0 ] || [ -n "$(V)" ]; then cat "$$notes" >&2; fi; rm "$$notes"; exit $$status
+	grep -v "$(if $(V),^$$,^checked: \|^interpreter: \|^run=)" "$$notes" >&2; rm "$$notes"; exit $$status
 
 # Proves and builds the program, as bin/warg_check. CPU=x86-64-v3 is for newer processors, V=1 shows the prover's notes.
 run:
