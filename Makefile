@@ -1,5 +1,7 @@
 # Entry points; 'make' alone lists them. The first line of a target's comment is its help.
-.PHONY: help run verdict tlog try test kit-gate wrong-bodies bench ffi ffi-test install interop
+.PHONY: help run verdict tlog try test kit-gate wrong-bodies bench ffi ffi-test install dist interop
+
+PROVE = python3 scripts/prove_all.py $(if $(V),--notes) $(if $(CPU),--cpu $(CPU))
 
 # Lists the targets.
 help:
@@ -7,25 +9,25 @@ help:
 
 # Runs the program without a proof: on standard input, or on two entries if that is a terminal.
 try:
-	@echo "make try: nothing is proved here; make run proves the program" >&2; cd crates/warg_check_cli && \
-	if [ -t 0 ]; then printf 'push 6f6e65\npush 74776f\nlog\ninclude 2 2 74776f\n' | rt try; else rt try; fi
+	@echo "make try: nothing is proved here; make run proves the program" >&2; cd crates/warg_check_cli && notes="$$(mktemp)" && \
+	if [ -t 0 ]; then printf 'push 6f6e65\npush 74776f\nlog\ninclude 2 2 74776f\n'; else cat; fi | rt try 2> "$$notes"; status=$$?; \
+	grep -v "$(if $(V),^$$,^checked: \|^interpreter: \|^run=)" "$$notes" >&2; rm "$$notes"; exit $$status
 
-# Proves and builds the program, as bin/warg_check.
-# CPU=x86-64-v3 builds it for newer processors.
+# Proves and builds the program, as bin/warg_check. CPU=x86-64-v3 is for newer processors, V=1 shows the prover's notes.
 run:
-	@python3 scripts/prove_all.py $(if $(CPU),--cpu $(CPU)) warg_check_cli && \
+	@$(PROVE) warg_check_cli && \
 	mkdir -p bin && cp crates/warg_check_cli/out/proved/warg_check_cli bin/warg_check && \
-	echo "bin/warg_check reads commands on standard input, as: printf 'push -\\nlog\\n' | bin/warg_check"
+	echo "bin/warg_check reads commands on standard input; see bin/warg_check --help"
 
 # Proves and builds the program for scripts, as bin/warg_verdict.
 verdict:
-	@python3 scripts/prove_all.py warg_verdict && \
+	@$(PROVE) warg_verdict && \
 	mkdir -p bin && cp crates/warg_verdict/out/proved/warg_verdict bin/warg_verdict && \
-	echo "bin/warg_verdict judges a bundle's file; see bin/warg_verdict --help"
+	echo "bin/warg_verdict judges a proof in a bundle; see bin/warg_verdict --help"
 
 # Proves and builds the program that keeps a log in a folder, as bin/warg_tlog.
 tlog:
-	@python3 scripts/prove_all.py warg_tlog && \
+	@$(PROVE) warg_tlog && \
 	mkdir -p bin && cp crates/warg_tlog/out/proved/warg_tlog bin/warg_tlog && \
 	echo "bin/warg_tlog keeps a log in a folder; see bin/warg_tlog --help"
 
@@ -43,7 +45,7 @@ wrong-bodies:
 
 # Proves and builds the measuring program, and prints its figures.
 bench:
-	@python3 scripts/prove_all.py warg_bench && crates/warg_bench/out/proved/warg_bench measure
+	@$(PROVE) warg_bench && crates/warg_bench/out/proved/warg_bench measure
 
 # Proves and builds the library for C, as ffi/libwarg.a and ffi/libwarg.so.
 ffi:
@@ -53,9 +55,13 @@ ffi:
 ffi-test: ffi
 	@ffi/test.sh
 
-# Installs the library for C below PREFIX, /usr/local unless given: header, both libraries, pkg-config file.
+# Installs the library for C, Python and Go below PREFIX, /usr/local unless given.
 install: ffi
-	@ffi/install.sh "$(or $(PREFIX),/usr/local)"
+	@ffi/install.sh "$${PREFIX:-/usr/local}"
+
+# Packs programs, libraries and modules for users without the toolchain, as dist/warg-VERSION-x86_64-linux.tar.gz.
+dist:
+	@scripts/dist.sh
 
 # Compares paths, tiles and checkpoints with those of Go's checksum database; BENCH=1 prints times, too.
 interop:

@@ -1,7 +1,7 @@
 #!/usr/bin/env bash
-# Proves the static library, and leaves it for C at ffi/libwarg.a and ffi/libwarg.so. Nothing but the calls of
-# ffi/warg.h can be seen in either. With --as-proved it takes the one that the gate
-# has just proved. CPU=x86-64-v3 builds for newer processors.
+# Proves the static library, and leaves it for C at ffi/libwarg.a and ffi/libwarg.so, and beside the modules for Python and
+# Go. Nothing but the calls of ffi/warg.h can be seen in either. With --as-proved it takes the one that the gate has just
+# proved. CPU=x86-64-v3 builds for newer processors.
 set -eu
 cd "$(dirname "$0")/.."
 kit="$(dirname "$(rt doc)")"
@@ -21,7 +21,9 @@ sed -n 's/^u\{0,1\}int32_t \(warg_[a-z_]*\)(.*/\1/p' ffi/warg.h > "$work/calls"
 ld -r --whole-archive "${parts[@]}" -o "$work/warg.o"
 objcopy --keep-global-symbols="$work/calls" "$work/warg.o"
 rm -f ffi/libwarg.a
-ar rcs ffi/libwarg.a "$work/warg.o"
+ar rcsD ffi/libwarg.a "$work/warg.o"
 cc -shared -o ffi/libwarg.so -Wl,-soname,libwarg.so.0 -Wl,--whole-archive "${parts[@]}" -Wl,--no-whole-archive \
     -Wl,-z,defs -Wl,--version-script="$work/version"
+cp ffi/libwarg.so ffi/python/
+cp ffi/libwarg.a ffi/warg.h ffi/go/
 echo "ffi/libwarg.a and ffi/libwarg.so have $(wc -l < "$work/calls") calls"

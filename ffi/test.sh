@@ -5,18 +5,14 @@ set -eu
 cd "$(dirname "$0")/.."
 work="$(mktemp -d)"
 trap 'rm -rf "$work"' EXIT
-vectors=crates/warg_vectors
-
-paste "$vectors/stdin" "$vectors/stdout" | sed -n 's/^\(each \)\?\(check_[^\t]*\t\)/\2/p' > "$work/lines"
-cut -f1 "$work/lines" > "$work/calls"
-cut -f2 "$work/lines" > "$work/answers"
+ffi/lines.sh "$work"
 
 # Runs an example under a name, and compares.
 try() {
     local name="$1"; shift
-    "$@" < "$work/calls" > "$work/$name.answers"
+    "$@" < "$work/lines" > "$work/$name.answers"
     cmp "$work/$name.answers" "$work/answers"
-    echo "the example in $name: $(wc -l < "$work/calls") check lines answered right"
+    echo "the example in $name: $(wc -l < "$work/lines") check lines answered right"
 }
 
 ran=0
@@ -36,7 +32,7 @@ if command -v rustc > /dev/null; then
     ran=$((ran + 1))
 fi
 if command -v go > /dev/null; then
-    (cd ffi/go && GOFLAGS=-mod=mod GOPROXY=off GOCACHE="$work/cache" go build -o "$work/check_go" ./check)
+    (cd ffi/examples/go && GOFLAGS=-mod=mod GOPROXY=off GOCACHE="$work/cache" go build -o "$work/check_go" .)
     try go "$work/check_go"
     ran=$((ran + 1))
 fi
@@ -46,9 +42,9 @@ echo "$ran of 4 examples ran"
 if command -v cc > /dev/null; then
     wrap=-Wl,--wrap=malloc,--wrap=realloc,--wrap=free
     cc -O2 -Wall -Wextra -Werror -I ffi ffi/hostile.c ffi/libwarg.a "$wrap" -o "$work/hostile"
-    "$work/hostile" 100000 < "$work/calls"
+    "$work/hostile" 100000 < "$work/lines"
     if command -v valgrind > /dev/null; then
-        valgrind -q --error-exitcode=9 --leak-check=full "$work/hostile" 300 < "$work/calls"
+        valgrind -q --error-exitcode=9 --leak-check=full "$work/hostile" 300 < "$work/lines"
         echo "valgrind reports nothing"
     fi
 fi

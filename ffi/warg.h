@@ -59,8 +59,8 @@ enum {
 };
 
 /* The version of this header, as warg_version returns that of the library: a byte each, the three numbers of the Rust
- * crate whose calls these are, and what came since. */
-#define WARG_VERSION 0x00090203
+ * crate whose calls these are, and that of this project's release: 0.9.2-rattle.1 is 0x00090201. */
+#define WARG_VERSION 0x00090201
 
 /* The version of the library. */
 uint32_t warg_version(void);

@@ -1,5 +1,6 @@
 #!/usr/bin/env python3
-"""Calls ffi/python/warg.py as nobody should: each call must raise, and none may return a verdict."""
+"""Calls ffi/python/warg.py as nobody should: each call must raise, in few words, and none may return a verdict. And with each
+type of bytes that it takes."""
 
 import pathlib
 import sys
@@ -25,6 +26,8 @@ WRONG = {
     "a path's index of 2^64": (ValueError, lambda warg: warg.check_record(ROOT, 2**64, b"", 2, ROOT)),
     "a number for a path": (TypeError, lambda warg: warg.check_tree(7, 1, ROOT, 2, ROOT)),
     "a root of 31 bytes": (RootLength, lambda warg: warg.check_inclusion(BUNDLE, 0, b"", ROOT[1:])),
+    "a text of a million letters": (TypeError, lambda warg: warg.check_key("a" * 1000000, 0, b"", b"", ROOT)),
+    "a number of a million digits": (ValueError, lambda warg: warg.check_key(BUNDLE, 1 << 3000000, b"", b"", ROOT)),
 }
 
 
@@ -34,8 +37,12 @@ def main():
         try:
             call(warg)
             taken.append(name)
-        except error:
-            pass
+        except error as refusal:
+            if len(str(refusal)) > 100:
+                taken.append(f"{name}, in {len(str(refusal))} letters")
+    for kind in (bytes, bytearray, memoryview):
+        if warg.check_entry(kind(BUNDLE), 0, 1, kind(b"two"), 2, kind(ROOT)):
+            taken.append(f"a wrong root as {kind.__name__}")
     if taken:
         sys.exit(f"taken: {', '.join(taken)}")
     print(f"{len(WRONG)} wrong uses of the Python module are refused")

@@ -1,6 +1,7 @@
 #!/usr/bin/env python3
-"""Writes the table of each library's public calls, from the sources, into its CALLING.md: what a call returns (its
-first sentence), why it may refuse, and what it needs. With --check says instead which page isn't as it would write it.
+"""Writes the tables of each library's public calls and laws, from the sources, into its CALLING.md: a call's signature, what
+it returns (its first sentence), its errors, and what it needs. Of a library that only hands on others' names, where each is
+from. With --check says instead which page isn't as it would write it.
 """
 
 import pathlib
@@ -11,6 +12,10 @@ import functions
 import kit
 
 HEADING = "## All calls"
+NOTE = """What a signature takes by `&` is borrowed for the call, by `&mut` borrowed and changed; what it takes without either is consumed, unless it is `Copy`, as numbers and allocators are. `D` is the digest function, `V` the type of values, `K` that of keys, and `A` and `B` are allocators. The errors are all cases of the result's type; the call's comment says when each comes.
+"""
+LAWS = """Each law is the contract of a call that changes nothing and can always be made.
+"""
 
 
 def exported(root):
@@ -39,16 +44,36 @@ def sentence(text, at):
     return re.sub(r"\[(`[^`]*`)\](\([^)]*\))?", r"\1", short)
 
 
-def refusal(signature):
-    """Returns how a call refuses, by its result's type."""
-    result = re.search(r"->\s*Result<(.*)>\s*$", signature, re.S)
-    return f"`{functions.parted(result[1], ',')[-1]}`" if result else ""
+def signature_of(owner, text):
+    """Returns a call's signature on one line."""
+    line = re.sub(r",? *([)>])", r"\1", re.sub(r"([(<]) ", r"\1", " ".join(text.split()))).rstrip("; ")
+    return f"{owner}::{line.removeprefix('fn ')}".removeprefix("::")
+
+
+def variants(crates):
+    """Returns the cases of each error type, as its enum lists them."""
+    found = {}
+    for path in sorted(it for name in crates for it in (kit.ROOT / "crates" / name / "src").rglob("*.rt")):
+        bare = functions.blanked(path.read_text())
+        for it in re.finditer(r"^pub enum (\w+)[^{]*\{", bare, re.M):
+            inside = re.sub(r"#\[[^\n]*\]", "", bare[it.end() : functions.closing(bare, it.end() - 1) - 1])
+            found[it[1]] = functions.parted(inside, ",")
+    return found
+
+
+def errors(signature, known):
+    """Returns a call's errors, by its result's type: the cases of an enum, or the type."""
+    result = re.search(r"-> Result<(.*)>$", signature)
+    if not result:
+        return ""
+    name = functions.parted(result[1], ",")[-1]
+    return ", ".join(f"`{it}`" for it in known.get(name, [name]))
 
 
 def needs(clauses):
     """Returns what the `requires` of a call ask, each without its name."""
     asked = re.findall(r"requires\*?(?: \w+)? \{ (.*?) \}\s*(?=$|requires|ensures)", " ".join(re.sub(r"//[^\n]*", "", clauses).split()))
-    return "; ".join(f"`{it}`" for it in asked).replace("|", "\\|")
+    return "; ".join(f"`{it}`" for it in asked)
 
 
 def declared(text, bare):
@@ -64,15 +89,14 @@ def declared(text, bare):
 
 
 def calls(folder):
-    """Yields the row of each public call of a library, file by file, the laws last."""
+    """Yields the owner, signature, first sentence and conditions of each public call of a library, file by file, the laws last."""
     names = exported(folder / "src/lib.rt")
     for path in sorted((folder / "src").rglob("*.rt"), key=lambda it: (it.stem == "laws", it)):
         text, bare = path.read_text(), functions.blanked(path.read_text())
         traits = [(it.end() - 1, functions.closing(bare, it.end() - 1)) for it in re.finditer(r"^pub trait [^{]*\{", bare, re.M)]
         for owner, name, start, clauses, end in declared(text, bare):
             if owner in names:
-                signature = text[start:clauses].strip().rstrip(";")
-                yield f"{owner}::{name}", sentence(text, start), refusal(signature), needs(text[clauses:end])
+                yield owner, signature_of(owner, text[start:clauses]), sentence(text, start), needs(text[clauses:end])
         for call in functions.functions(text, path.stem):
             line = text.rfind("\n", 0, call.start) + 1
             is_public = bool(re.match(r"\s*pub (?!\()", text[line:]))
@@ -81,15 +105,33 @@ def calls(folder):
             owner = call.owner if call.owner != path.stem or call.owner in names else ""
             shown = is_law or (owner in names if owner else call.name in names or path.name == "lib.rt")
             if shown and (is_public or in_trait and owner in names):
-                name = f"{owner or ('laws' if is_law else '')}::{call.name}".removeprefix("::")
-                signature = text[call.start : call.clauses].strip()
-                yield name, sentence(text, line), refusal(signature), needs(text[call.clauses : call.body])
+                signature = signature_of(owner, text[call.start : min(call.clauses, call.body)])
+                yield "laws" if is_law else owner, signature, sentence(text, line), needs(text[call.clauses : call.body])
 
 
-def table(folder):
-    lines = ["| call | what it returns or says | refuses | needs |", "|---|---|---|---|"]
-    lines += [f"| `{name}` | {says.replace('|', chr(92) + '|')} | {refuses} | {asks} |" for name, says, refuses, asks in calls(folder)]
-    return "\n".join(lines) + "\n"
+def table(heads, rows):
+    """Returns a table with these heads, or nothing where it has no rows."""
+    lines = ["| " + " | ".join(it.replace("|", "\\|") for it in row) + " |" for row in rows]
+    return "\n".join([f"| {' | '.join(heads)} |", "|" + "---|" * len(heads), *lines, ""]) if lines else ""
+
+
+def handed_on(folder):
+    """Yields the path of each name that a library hands on, and the library that it is of."""
+    for path in sorted((folder / "src").glob("*.rt")):
+        for library, listed in re.findall(r"^pub use (warg_\w+)(?:::\w+)*::\{?([\w,\s]+)\}?;", path.read_text(), re.M):
+            yield from ((f"`{path.stem}::{name}`", f"[`{library}`](../{library}/src/lib.rt)") for name in re.findall(r"\w+", listed))
+
+
+def tables(folder):
+    """Returns the part of a library's page that is made from its sources."""
+    known = variants([*kit.below(folder.name, kit.crates()), folder.name])
+    made = [*calls(folder)]
+    of_calls = [(f"`{it}`", says, errors(it, known), asks) for owner, it, says, asks in made if owner != "laws"]
+    of_laws = [(f"`laws::{it.removesuffix('()')}`", says) for owner, it, says, _ in made if owner == "laws"]
+    parts = [NOTE * bool(of_calls), table(["call", "what it returns or says", "errors", "needs"], of_calls)]
+    parts += [LAWS * bool(of_laws), table(["law", "what it says"], of_laws)]
+    parts += [table(["path", "is of"], handed_on(folder)) if not made else ""]
+    return "\n".join(it for it in parts if it)
 
 
 def main():
@@ -98,7 +140,7 @@ def main():
         page = kit.ROOT / "crates" / name / "CALLING.md"
         if page.exists():
             before = page.read_text().partition(f"\n{HEADING}\n")[0].rstrip("\n")
-            after = f"{before}\n\n{HEADING}\n\nMade from the sources by `scripts/calls.py`.\n\n{table(page.parent)}"
+            after = f"{before}\n\n{HEADING}\n\nMade from the sources by `scripts/calls.py`.\n\n{tables(page.parent)}"
             if "--check" not in sys.argv:
                 page.write_text(after)
             elif page.read_text() != after:

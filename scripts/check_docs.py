@@ -5,6 +5,9 @@
 - docs/PROVED.md and docs/HEADLINE.md name nothing that isn't there, and no clause that the call beside it hasn't.
 - The laws in docs/HEADLINE.md stand in crates/warg_claims as they are shown there, and the page has at most 40 lines.
 - The code in each CALLING.md stands in crates/warg_uses as it is shown.
+- Each link within the repository leads to a file, and a page that is named is a link.
+- The version, the first heading of CHANGELOG.md, is that of the programs and of the library for C.
+- README.md has at most 90 lines.
 """
 
 import pathlib
@@ -16,7 +19,12 @@ import definitions
 ROOT = pathlib.Path(__file__).parents[1]
 # Names of the standard library and of the kit.
 OF_OTHERS = {"Debug", "D", "H", "L", "Ok", "Err", "usize", "digest", "MAX", "n", "sha2"}
-LIBRARIES = ["warg_crypto", "warg_protobuf", "warg_log", "warg_paths", "warg_tiles", "warg_map", "warg_bundle", "warg_witness", "warg_check", "warg_claims", "warg_program", "warg_ffi"]
+# Where the programs say their version.
+PROGRAMS = ("warg_check_cli/src/texts.rt", "warg_verdict/src/usage.rt", "warg_tlog/src/usage.rt")
+# A library of which warg_uses has no caller yet.
+WITHOUT_CALLER = ("warg_store",)
+# A page that goes into an archive, where this repository isn't.
+TAKEN_HOME = "docs/ARCHIVE.md"
 
 
 def code_blocks(text):
@@ -25,9 +33,34 @@ def code_blocks(text):
 
 
 def readme_faults():
-    program = (ROOT / "crates/example_first/src/main.rt").read_text()
-    if program not in code_blocks((ROOT / "README.md").read_text()):
+    program, page = (ROOT / "crates/example_first/src/main.rt").read_text(), (ROOT / "README.md").read_text()
+    if program not in code_blocks(page):
         yield "README.md: no code block is crates/example_first/src/main.rt"
+    if len(page.splitlines()) > 90:
+        yield "README.md has more than 90 lines"
+
+
+def link_faults():
+    """Yields the links that lead nowhere, and the pages that are named without a link."""
+    for page in sorted(it for it in ROOT.rglob("*.md") if "out" not in it.parts):
+        name, text = str(page.relative_to(ROOT)), re.sub(r"```.*?```", "", page.read_text(), flags=re.S)
+        for target in re.findall(r"\]\(([^)#\s]+)", text):
+            if ":" not in target and not (page.parent / target).exists():
+                yield f"{name}: the link {target} leads nowhere"
+        for named in re.findall(r"(?<!\[)`((?:[\w.-]+/)*[\w.-]+\.md)`", text):
+            if name != TAKEN_HOME and (ROOT / named).exists() and ROOT / named != page:
+                yield f"{name}: {named} is no link"
+
+
+def version_faults():
+    """Yields the places that have another version than CHANGELOG.md."""
+    version = re.search(r"^## ([\w.-]+)", (ROOT / "CHANGELOG.md").read_text(), re.M)[1]
+    number = "".join(f"{int(it):02x}" for it in re.findall(r"\d+", version))
+    places = {f"crates/{it}": version for it in PROGRAMS}
+    places |= {"ffi/warg.h": f"0x{number}", "crates/warg_ffi/src/lib.rt": f"0x{number[:4]}_{number[4:]}"}
+    for place, wanted in places.items():
+        if not re.search(rf"\b{re.escape(wanted)}\b", (ROOT / place).read_text()):
+            yield f"{place}: the version isn't that of CHANGELOG.md, {wanted}"
 
 
 def headline_faults():
@@ -41,12 +74,9 @@ def headline_faults():
 
 def calling_faults():
     shown = "\n".join(path.read_text() for path in sorted((ROOT / "crates/warg_uses/src").glob("*.rt")))
-    for library in LIBRARIES:
-        page = ROOT / "crates" / library / "CALLING.md"
-        if not page.exists():
-            continue
+    for page in sorted(ROOT.glob("crates/*/CALLING.md")):
         for block in code_blocks(page.read_text()):
-            if block not in shown:
+            if block not in shown and page.parent.name not in WITHOUT_CALLER:
                 yield f"{page.relative_to(ROOT)}: a code block doesn't stand in crates/warg_uses"
 
 
@@ -89,7 +119,7 @@ def proved_faults():
 
 
 def main():
-    faults = [*readme_faults(), *headline_faults(), *calling_faults(), *proved_faults()]
+    faults = [*readme_faults(), *link_faults(), *version_faults(), *headline_faults(), *calling_faults(), *proved_faults()]
     for fault in faults:
         print(fault)
     sys.exit(1 if faults else 0)

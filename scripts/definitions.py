@@ -9,8 +9,6 @@ import pathlib
 import re
 import sys
 
-import clauses
-
 ROOT = pathlib.Path(__file__).resolve().parent.parent
 PAGE = ROOT / "docs/DEFINITIONS.md"
 TITLES = {
@@ -31,7 +29,7 @@ TITLES = {
 }
 HEAD = """# The definitions, in reading order
 
-Whoever believes these definitions believes what the contracts say. They are read off the comments of `specs/` by `scripts/definitions.py`: each definition that the clause of a public call or law reaches. `H` is any function from byte lists to lists of 32 bytes; only the definitions of `Sha256`, of the program's text and of the verdicts for C fix it.
+Whoever believes these definitions believes what the contracts say. They are read off the comments of `specs/` by `scripts/definitions.py`: each definition that the clause of a public call or law reaches, or the view or invariant of a type. `H` is any function from byte lists to lists of 32 bytes; only the definitions of `Sha256`, of the program's text and of the verdicts for C fix it.
 """
 ITEM = re.compile(r"^(?:unfoldable |abbrev )*pub (?:unfoldable |abbrev |record |inductive |data )*([^\s:({]+)")
 
@@ -48,13 +46,65 @@ class Definition:
 
 
 def imports(text):
-    """Returns what a file of specs/ takes from the repository's specs/, by the name that it gives it."""
-    found = {}
-    for path, listed in re.findall(r"^use Rattle\.(warg_\w+\.specs\.[\w.]+)\.\{([^}]*)\}", text, re.M):
+    """Returns what a file of specs/, or a source's ghost use, takes from the repository's specs/, by the name that it gives it."""
+    names = {}
+    for path, listed in re.findall(r"(?:^|ghost )use Rattle\.(warg_\w+\.specs\.[\w.]+)\.\{([^}]*)\}", text, re.M):
+        crate, module = path.split(".specs.")
         for name in listed.split(","):
-            parts = name.split()
-            if parts:
-                found[parts[-1]] = (path.split(".specs.")[0], path.split(".specs.")[1], parts[0])
+            words = name.split()
+            if words and not module.startswith("declared"):
+                names[words[-1]] = (crate, module, words[0])
+    return names
+
+
+def hidden_items(folder):
+    """Returns the traits, types and functions of a library that its users don't see."""
+    sources = {path: path.read_text() for path in folder.rglob("*.rt")}
+    shown = set(re.findall(r"\w+", " ".join(re.findall(r"pub use [^;]*;", sources[folder / "lib.rt"]))))
+    items = re.compile(r"^(?:pub(?:\(\w+\))? )?(?:const )?(?:trait|struct|enum|fn) (\w+)", re.M)
+    opened = {folder / f"{name}.rt" for name in re.findall(r"pub mod (\w+);", sources[folder / "lib.rt"])}
+    return {name for path, source in sources.items() for name in items.findall(source) if name not in shown and path not in opened}
+
+
+def whole(lines, at):
+    """Returns the clause that begins in a line, to the brace that ends it."""
+    text = lines[at].strip()
+    while text.count("{") > text.count("}"):
+        at += 1
+        text += " " + lines[at].strip()
+    return text
+
+
+def public_clauses(source, hidden):
+    """Yields the clauses of public functions, traits and impls, and their ghost members."""
+    block = function = True
+    of_trait = False
+    lines = source.split("\n")
+    for at, line in enumerate(lines):
+        stripped = line.strip()
+        header = re.match(r"(?:(pub(?:\(\w+\))?) )?(trait|impl|struct|enum)\b(.*)", line)
+        if header:
+            block = hidden.isdisjoint(re.findall(r"\w+", header[3]))
+            of_trait = header[2] == "trait" or " for " in header[3]
+        declared = re.match(r"( *)(pub(?:\(\w+\))? )?(const |extern \"C\" )?fn ", line)
+        if declared:
+            function = declared[2] == "pub " or bool(declared[1]) and not declared[2] and of_trait
+            if not declared[1]:
+                block = hidden.isdisjoint(re.findall(r"fn (\w+)", line))
+        if re.match(r"(requires|ensures)\b", stripped) and block and function:
+            yield whole(lines, at)
+        elif re.match(r"ghost \w+\s*[:=]", stripped) and block:
+            yield whole(lines, at)
+
+
+def named_by_public_clauses(library):
+    """Returns the definitions of specs/ that the library's public clauses name: crate, module and name of each."""
+    folder = ROOT / "crates" / library / "src"
+    hidden, found = hidden_items(folder), []
+    for path in sorted(folder.rglob("*.rt")):
+        source = path.read_text()
+        words = set(re.findall(r"[^\s(){};,.\[\]]+", " ".join(public_clauses(source, hidden))))
+        found += [key for name, key in sorted(imports(source).items()) if name in words]
     return found
 
 
@@ -91,7 +141,7 @@ def definitions():
 
 def reached(known):
     """Returns the keys of the definitions that public clauses reach."""
-    left = [key for crate in TITLES for key in clauses.named_by_public_clauses(crate) if key in known]
+    left = [key for crate in TITLES for key in named_by_public_clauses(crate) if key in known]
     seen = set(left)
     while left:
         for key in known[left.pop()].words:
@@ -112,8 +162,8 @@ def page():
             rows = [it for key, it in known.items() if key in shown and it.crate == crate and it.module == module]
             if not rows:
                 continue
-            about = re.match(r"-- (.*)", path.read_text())
-            parts.append(f"\n**`{module}`** {about[1] if about else ''}\n\n")
+            about = re.match(r"(?:--.*\n)*", path.read_text())[0]
+            parts.append(f"\n**`{module}`** {' '.join(about.replace('--', '').split())}\n\n")
             lacking += [it for it in rows if not it.comment]
             parts += [f"- `{it.name}`: {it.comment}\n" for it in rows]
     return "".join(parts), lacking

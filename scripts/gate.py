@@ -1,8 +1,9 @@
 #!/usr/bin/env python3
 """The merge gate, on a copy of the tree without what earlier checks left: the layout; prove_all.py, which proves the crates
 from nothing and runs the programs, the vectors and the tests; the wrong bodies over the work that these proofs have kept;
-the examples for C, Python, Rust and Go; the programs with right and wrong arguments; and the comparisons with Google's
-protobuf and Go's checksum database, and the page of explorer/ in Chromium, where these are there.
+the examples for C, Python, Rust and Go; the archive of make dist, packed twice; the programs with right and wrong arguments;
+and the comparisons with Google's protobuf and Go's checksum database, and the page of explorer/ in Chromium, where these are
+there.
 
 The kit's own gate, rt ci, keeps nothing of a proof, and so proves a crate once more for its wrong bodies: make kit-gate.
 
@@ -150,7 +151,8 @@ class Gate:
         return json.loads(file.read_text()) if counted else {}
 
     def examples(self):
-        _, well, self.rest["examples"] = ran(["bash", "-ec", "ffi/build.sh --as-proved; ffi/test.sh"], self.tree)
+        twice = "scripts/dist.sh --as-proved; mv dist first; scripts/dist.sh --as-proved; diff -r first dist"
+        _, well, self.rest["examples"] = ran(["bash", "-ec", f"ffi/build.sh --as-proved; ffi/test.sh; {twice}"], self.tree)
         self.count(well, not well)
 
     def behind(self):

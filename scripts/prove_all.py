@@ -10,9 +10,9 @@ What a check keeps stays in crates/NAME/out, where the wrong bodies begin: from 
 
 With names, proves these crates and what they stand on, keeps nothing of a proof, and builds programs by LLVM alone: a
 library is built with its statements, which the crates above it read faster than its proofs. What is unchanged since such
-a run, with all below it, isn't proved again.
+a run, with all below it, isn't proved again. What the prover notes of a crate that came out is shown with --notes alone.
 
-Usage: prove_all.py [--json FILE] [--cpu CPU] [NAME..]
+Usage: prove_all.py [--json FILE] [--cpu CPU] [--notes] [NAME..]
 """
 
 import argparse
@@ -119,18 +119,20 @@ class Crate:
         words = ["--target", "x86_64-unknown-linux-gnu", *TOOLCHAIN, "-o", program, f"{program}.o"]
         self.done("proof", [kit.KIT / "bin/rattle-link", *words, kit.KIT / "c/libos_c.a", kit.KIT / "c/liblibc_c.a"])
 
-    def prove_if_changed(self):
-        """Proves the crate, unless such a run has proved it as it is and left what it built."""
-        stamp = self.folder / self.libraries / "sum"
+    @property
+    def stamp(self):
+        """Where a run by name writes what it has proved."""
+        return self.folder / self.libraries / "sum"
+
+    def is_proved(self):
+        """Whether a run by name has proved the crate as it is, and left what it built."""
         told = " ".join([sum_of(self.name, kit.crates()), *self.cpu])
-        if not (stamp.is_file() and stamp.read_text() == told and (self.folder / self.product).exists()):
-            stamp.unlink(missing_ok=True)
-            self.prove()
-            stamp.write_text(told)
+        return self.stamp.is_file() and self.stamp.read_text() == told and (self.folder / self.product).exists()
 
     def prove(self):
         """Proves the crate, and builds and runs what it has."""
         (self.folder / self.libraries).mkdir(parents=True, exist_ok=True)
+        self.stamp.unlink(missing_ok=True)
         if self.name in UNPROVED and not self.is_named:
             self.compile()
         elif self.name in TRIED and not self.is_named:
@@ -143,6 +145,8 @@ class Crate:
             self.build(*(self.kept or ["--statements"]), "-o", self.product)
         if self.has_tests and not self.is_named:
             self.run_tests()
+        if self.is_named:
+            self.stamp.write_text(" ".join([sum_of(self.name, kit.crates()), *self.cpu]))
 
     def compile(self):
         """Looks whether the crate compiles: the prover looks for the function that it is to prove only then."""
@@ -187,26 +191,31 @@ class Crate:
             raise Failed(f"as {backend} makes it, the program prints something else, or ends with another status: {status}")
 
 
-def prove_all(crates, jobs):
+def spent(seconds):
+    """Returns how much processor time something took, as a text."""
+    return f"{seconds / 60:.0f} min" if seconds >= 60 else f"{seconds:.0f} s"
+
+
+def prove_all(crates, jobs, notes=False):
     """Proves the crates, each after those that it stands on. Returns those that came out."""
-    room, printing, runs = threading.Semaphore(jobs), threading.Lock(), {}
+    room, printing, runs, ended = threading.Semaphore(jobs), threading.Lock(), {}, []
 
     def prove(crate):
-        lacks = [it for it in kit.below(crate.name, kit.crates()) if not runs[it].result()]
+        lacks = [it for it in kit.below(crate.name, kit.crates()) if it in runs and not runs[it].result()]
         why = f"not tried, as {lacks[0]} did not come out" if lacks else ""
         with room:
             try:
                 if not lacks:
-                    crate.prove_if_changed() if crate.is_named else crate.prove()
+                    crate.prove()
             except Failed as failed:
                 why = str(failed)
         with printing:
-            spent = ", ".join(f"{part} {seconds:.0f}" for part, seconds in crate.seconds.items() if seconds)
-            print(f"{crate.name}: {why or 'ok'} ({spent or 0} processor seconds)", flush=True)
-            print("".join(crate.said[-1:]) if why else "", end="", flush=True)
+            ended.append(crate)
+            print(f"{len(ended)} of {len(crates)}, {crate.name}, {why or spent(sum(crate.seconds.values()))}", flush=True)
+            print("".join(crate.said if notes else crate.said[-1:] if why else []), end="", flush=True)
         return not why
 
-    with concurrent.futures.ThreadPoolExecutor(len(crates)) as pool:
+    with concurrent.futures.ThreadPoolExecutor(max(1, len(crates))) as pool:
         for crate in crates:
             runs[crate.name] = pool.submit(prove, crate)
     return [it for it in crates if runs[it.name].result()]
@@ -216,16 +225,23 @@ def main():
     asked = argparse.ArgumentParser()
     asked.add_argument("--json", type=pathlib.Path, help="where to write the processor seconds of each crate")
     asked.add_argument("--cpu", help="the processor that programs are built for")
+    asked.add_argument("--notes", action="store_true", help="show what the prover notes")
     asked.add_argument("names", nargs="*", metavar="NAME", help="a crate")
     asked = asked.parse_args()
     listed = kit.crates()
     wanted = {below for it in asked.names for below in [*kit.below(it, listed), it]} or {*listed}
     crates = [Crate(it, bool(asked.names), asked.cpu) for it in listed if it in wanted]
     memory = os.sysconf("SC_PHYS_PAGES") * os.sysconf("SC_PAGE_SIZE")
-    well = prove_all(crates, max(1, min(len(os.sched_getaffinity(0)), memory // ROOM)))
+    jobs = max(1, min(len(os.sched_getaffinity(0)), memory // ROOM))
+    if asked.names:
+        count, crates = len(crates), [it for it in crates if not it.is_proved()]
+        what = f"{len(crates)} of {count} crates are to be proved, {jobs} at a time" if crates else f"all {count} crates are proved"
+        print(f"{', '.join(asked.names)}: {what}", flush=True)
+    well = prove_all(crates, jobs, asked.notes)
     if asked.json:
         asked.json.write_text(json.dumps({it.name: it.seconds for it in crates}))
-    print(f"crates: {len(well)} ok, {len(crates) - len(well)} failed")
+    if not asked.names or len(well) < len(crates):
+        print(f"crates: {len(well)} ok, {len(crates) - len(well)} failed")
     raise SystemExit(len(well) < len(crates))
 
 

@@ -39,7 +39,7 @@ def edge(x, y, to_x, to_y, color=INK):
 
 
 def tree_picture(digests):
-    """The tree of four entries: in colour the path of "two", and pale the digests of its proof."""
+    """The tree of four entries: in colour the path of "two", and in grey the digests of its proof."""
     x = {0: 70, 2: 190, 4: 310, 6: 430, 1: 130, 5: 370, 3: 250}
     y = {0: 190, 2: 190, 4: 190, 6: 190, 1: 110, 5: 110, 3: 30}
     up = {0: 1, 2: 1, 4: 5, 6: 5, 1: 3, 5: 3}

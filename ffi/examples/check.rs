@@ -1,6 +1,6 @@
 //! Answers the check lines of the vectors (docs/VECTORS.md) through the library: a line in, a line out.
 //!
-//!     rustc -O ffi/examples/check.rs -L native=ffi -l static=warg -o check && ./check < lines
+//!     rustc --edition 2021 -O ffi/examples/check.rs -L native=ffi -l static=warg -o check && ./check < lines
 
 use std::io::{self, BufRead, Write};
 

@@ -1,12 +1,15 @@
 // Package warg judges the proofs of transparency logs and maps, from their bytes, under SHA-256.
 //
-// Each call returns a verdict, or a Refusal that says why there is none. ffi/warg.h says what each call shows. The
-// package links ffi/libwarg.a, which make ffi builds.
+// Each call returns a verdict, or a Refusal that says why there is none. The package needs cgo, and links libwarg.a, which
+// lies beside it with its header warg.h. A program that uses it says in its go.mod where it is:
+//
+//	require warg v0.0.0
+//	replace warg => /usr/local/share/warg/go
 package warg
 
 /*
-#cgo CFLAGS: -I${SRCDIR}/..
-#cgo LDFLAGS: ${SRCDIR}/../libwarg.a
+#cgo CFLAGS: -I${SRCDIR}
+#cgo LDFLAGS: ${SRCDIR}/libwarg.a
 #include "warg.h"
 */
 import "C"

@@ -1,16 +1,19 @@
 //! `warg_check`: reads commands on standard input and writes their answers on standard output.
 //!
 //! The exit status is 0 if every line was good, 1 if one was bad, 2 if an argument is none of the program's or a read or
-//! a write failed, and 3 if memory ran out or a log or map is full. Statuses 2 and 3 come with a line on standard error.
+//! a write failed, and 3 if memory ran out or a log or map is full. Statuses 2 and 3 come with a line on standard error, and
+//! so do a bad line that ends in a carriage return or a blank, and bytes that are no bundle.
 #![tactic(auto)]
 
 mod texts;
+mod watched;
 
 use std::env;
 use std::io::{self, IsTerminal};
 use std::process::ExitCode;
-use texts::{HINT, text_of};
+use texts::{HINT, NOT_DECODED, text_of};
 use warg_program::{exit_code, run};
+use watched::{WatchedInput, WatchedOutput};
 
 fn main(rt: HostRuntime) -> ExitCode {
     match answer(&rt) {
@@ -19,8 +22,7 @@ fn main(rt: HostRuntime) -> ExitCode {
     }
 }
 
-// Runs the commands of standard input, or does what an argument asks for. At most one is taken. What ends a run is said on
-// standard error.
+// Runs the commands of standard input, or does what an argument asks for. At most one is taken.
 fn answer(rt: &HostRuntime) -> io::Result<ExitCode> {
     let words = env::args(rt)?.skip(1).collect::<Vec<String>>(rt.alloc())?;
     let unknown = match words.as_slice() {
@@ -28,11 +30,7 @@ fn answer(rt: &HostRuntime) -> io::Result<ExitCode> {
             if rt.stdin().is_terminal() {
                 let _ = rt.eprintln(HINT);
             }
-            let ended = run(rt.alloc(), &mut rt.stdin(), &mut rt.stdout());
-            if let Err(error) = &ended {
-                let _ = eprintln!(rt; "warg_check: {error}");
-            }
-            return Ok(exit_code(ended));
+            return Ok(answer_commands(rt));
         }
         [word] => match text_of(word.as_str()) {
             Some(text) => return rt.print(text).map(|()| ExitCode::SUCCESS),
@@ -43,6 +41,26 @@ fn answer(rt: &HostRuntime) -> io::Result<ExitCode> {
     };
     eprintln!(rt; "warg_check: no argument is called {unknown:?}; see warg_check --help")?;
     Ok(ExitCode::from(2))
+}
+
+// Runs the commands, and says on standard error what ended the run, and what its answers leave open.
+fn answer_commands(rt: &HostRuntime) -> ExitCode {
+    let mut input = WatchedInput::new(rt.stdin());
+    let mut output = WatchedOutput::new(rt.stdout());
+    let ended = run(rt.alloc(), &mut input, &mut output);
+    if output.is_not_decoded {
+        let _ = rt.eprintln(NOT_DECODED);
+    }
+    match (&ended, input.found()) {
+        (Err(error), _) => {
+            let _ = eprintln!(rt; "warg_check: {error}");
+        }
+        (Ok(false), Some((line, what))) => {
+            let _ = eprintln!(rt; "warg_check: line {line} ends in {what}, and no command does");
+        }
+        _ => {}
+    }
+    exit_code(ended)
 }
 
 fn refuse(rt: &HostRuntime, error: &io::Error) -> ExitCode {

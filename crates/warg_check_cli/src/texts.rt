@@ -13,6 +13,10 @@ pub fn text_of(word: &str) -> Option<&'static str> {
 pub const HINT: &str =
     "warg_check: reads commands from standard input until its end; see warg_check --help";
 
+/// What is said beside the answer that bytes are no bundle.
+pub const NOT_DECODED: &str =
+    "warg_check: not decoded: the last word of `verify` is to be a bundle, a message with proofs and their digests, as `bundle` prints it";
+
 const VERSION: &str = "warg_check 0.9.2-rattle.1\n";
 
 const HELP: &str = "\

@@ -29,12 +29,12 @@ use warg_crypto::{Hash, Sha256};
 use warg_log::Checkpoint;
 
 /// The version of the library, a byte for each number: 0.9.2, the version of the Rust crate whose calls these
-/// are, and 3 for what came here since.
+/// are, and 1, the number of this project's release.
 #[unsafe(no_mangle)]
 pub extern "C" fn warg_version() -> u32
-    ensures { result ≡ 9 * 2 ^ 16 + 2 * 2 ^ 8 + 3 }
+    ensures { result ≡ 9 * 2 ^ 16 + 2 * 2 ^ 8 + 1 }
 {
-    0x0009_0203
+    0x0009_0201
 }
 
 /// Whether the inclusion proof at a place of a log bundle, counted from 0, shows that entry `index`, from

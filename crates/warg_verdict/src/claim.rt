@@ -1,69 +1,122 @@
 //! The claims that the program judges.
 
-use crate::given::{bytes, checkpoint, file, number, root, text};
+use crate::given::{bytes, checkpoint, number, root};
 use anyhow::{Result, anyhow};
 use clap::ArgMatches;
-use warg_check::{CheckError, check_absent, check_entry, check_growth, check_key};
+use std::alloc::Global;
+use warg_check::{
+    CheckError, check_absent, check_entry, check_growth, check_insertion, check_key, check_update,
+};
+use warg_crypto::{Hash, Sha256};
+use warg_log::Checkpoint;
 
-/// The verdict that a subcommand asks for, or why its bundle is refused.
-pub fn verdict_on(
-    rt: &HostRuntime,
-    name: &str,
-    asked: &ArgMatches<'_>,
-) -> Result<Result<bool, CheckError>> {
-    let bundle = file(rt, text(asked, "bundle")?)?;
-    let at = number(asked, "at")?;
-    match name {
-        "entry" => entry(rt, bundle.as_slice(), at, asked),
-        "growth" => growth(rt, bundle.as_slice(), at, asked),
-        "key" => key(rt, bundle.as_slice(), at, asked),
-        "absent" => absent(rt, bundle.as_slice(), at, asked),
-        _ => Err(anyhow!("no verdict is called {name}")),
+/// What is said of a log or a map by its root.
+#[derive(Drop)]
+pub enum Claim {
+    /// The log has the value at the index.
+    Entry {
+        index: usize,
+        value: Vec<u8>,
+        checkpoint: Checkpoint<Sha256>,
+    },
+    /// The old log is a beginning of the new one.
+    Growth {
+        old: Checkpoint<Sha256>,
+        new: Checkpoint<Sha256>,
+    },
+    /// The map holds the value under the key.
+    Key {
+        key: Vec<u8>,
+        value: Vec<u8>,
+        root: Hash<Sha256>,
+    },
+    /// The map holds nothing under the key, or no bytes.
+    Absent {
+        key: Vec<u8>,
+        root: Hash<Sha256>,
+    },
+    /// The new map is the old one, with the new value under the key in place of the old one.
+    Update {
+        key: Vec<u8>,
+        old_value: Vec<u8>,
+        new_value: Vec<u8>,
+        old_root: Hash<Sha256>,
+        new_root: Hash<Sha256>,
+    },
+    /// The new map is the old one, and the value under a key that had none, or no bytes.
+    Insertion {
+        key: Vec<u8>,
+        value: Vec<u8>,
+        old_root: Hash<Sha256>,
+        new_root: Hash<Sha256>,
+    },
+}
+
+impl Claim {
+    /// The claim that a subcommand makes of its options.
+    pub fn of(rt: &HostRuntime, name: &str, asked: &ArgMatches<'_>) -> Result<Claim> {
+        match name {
+            "entry" => Ok(Claim::Entry {
+                index: number(asked, "index")?,
+                value: bytes(rt, asked, "value")?,
+                checkpoint: checkpoint(asked, "length", "root")?,
+            }),
+            "growth" => Ok(Claim::Growth {
+                old: checkpoint(asked, "old-length", "old-root")?,
+                new: checkpoint(asked, "new-length", "new-root")?,
+            }),
+            "key" => Ok(Claim::Key {
+                key: bytes(rt, asked, "key")?,
+                value: bytes(rt, asked, "value")?,
+                root: root(asked, "root")?,
+            }),
+            "absent" => Ok(Claim::Absent {
+                key: bytes(rt, asked, "key")?,
+                root: root(asked, "root")?,
+            }),
+            "update" => Ok(Claim::Update {
+                key: bytes(rt, asked, "key")?,
+                old_value: bytes(rt, asked, "old-value")?,
+                new_value: bytes(rt, asked, "new-value")?,
+                old_root: root(asked, "old-root")?,
+                new_root: root(asked, "new-root")?,
+            }),
+            "insertion" => Ok(Claim::Insertion {
+                key: bytes(rt, asked, "key")?,
+                value: bytes(rt, asked, "value")?,
+                old_root: root(asked, "old-root")?,
+                new_root: root(asked, "new-root")?,
+            }),
+            _ => Err(anyhow!("no verdict is called {name}")),
+        }
     }
-}
 
-fn entry(
-    rt: &HostRuntime,
-    bundle: &[u8],
-    at: usize,
-    asked: &ArgMatches<'_>,
-) -> Result<Result<bool, CheckError>> {
-    let index = number(asked, "index")?;
-    let value = bytes(rt, asked, "value")?;
-    let checkpoint = checkpoint(asked, "length", "root")?;
-    Ok(check_entry(rt.alloc(), bundle, at, index, &value, &checkpoint))
-}
-
-fn growth(
-    rt: &HostRuntime,
-    bundle: &[u8],
-    at: usize,
-    asked: &ArgMatches<'_>,
-) -> Result<Result<bool, CheckError>> {
-    let old = checkpoint(asked, "old-length", "old-root")?;
-    let new = checkpoint(asked, "new-length", "new-root")?;
-    Ok(check_growth(rt.alloc(), bundle, at, &old, &new))
-}
-
-fn key(
-    rt: &HostRuntime,
-    bundle: &[u8],
-    at: usize,
-    asked: &ArgMatches<'_>,
-) -> Result<Result<bool, CheckError>> {
-    let root = root(asked, "root")?;
-    let key = bytes(rt, asked, "key")?;
-    let value = bytes(rt, asked, "value")?;
-    Ok(check_key(rt.alloc(), bundle, at, &key, &value, &root))
-}
-
-fn absent(
-    rt: &HostRuntime,
-    bundle: &[u8],
-    at: usize,
-    asked: &ArgMatches<'_>,
-) -> Result<Result<bool, CheckError>> {
-    let root = root(asked, "root")?;
-    let key = bytes(rt, asked, "key")?;
-    Ok(check_absent(rt.alloc(), bundle, at, &key, &root))
+    /// The verdict by the proof at a place of a bundle, or why the bundle is refused.
+    pub fn verdict(&self, alloc: Global, bundle: &[u8], at: usize) -> Result<bool, CheckError> {
+        match self {
+            Claim::Entry {
+                index,
+                value,
+                checkpoint,
+            } => check_entry(alloc, bundle, at, *index, value, checkpoint),
+            Claim::Growth { old, new } => check_growth(alloc, bundle, at, old, new),
+            Claim::Key { key, value, root } => check_key(alloc, bundle, at, key, value, root),
+            Claim::Absent { key, root } => check_absent(alloc, bundle, at, key, root),
+            Claim::Update {
+                key,
+                old_value,
+                new_value,
+                old_root,
+                new_root,
+            } => check_update(
+                alloc, bundle, at, key, old_value, new_value, old_root, new_root,
+            ),
+            Claim::Insertion {
+                key,
+                value,
+                old_root,
+                new_root,
+            } => check_insertion(alloc, bundle, at, key, value, old_root, new_root),
+        }
+    }
 }

@@ -1,13 +1,31 @@
-//! What an argument gives: bytes as text, as hexadecimal digits or out of a file, a number, a root.
+//! What an argument gives: a bundle, bytes as text, as hexadecimal digits or out of a file, a number, a root.
 
 use anyhow::{Context, Result, anyhow};
 use clap::ArgMatches;
 use std::fs;
+use std::io::Read;
 use warg_crypto::{Hash, Sha256};
 use warg_log::Checkpoint;
 
-/// The text of an argument that the command line requires.
-pub fn text<'a>(asked: &ArgMatches<'a>, name: &str) -> Result<&'a str> {
+/// The bundle's bytes, out of its file or standard input, where `-` stands for the file. With `--hex` these are digits,
+/// behind the word `bundle` or alone.
+pub fn bundle(rt: &HostRuntime, asked: &ArgMatches<'_>) -> Result<Vec<u8>> {
+    let path = text(asked, "bundle")?;
+    let bytes = if path == "-" {
+        standard_input(rt)?
+    } else {
+        file(rt, path)?
+    };
+    if asked.get_flag("hex") {
+        let line = bytes.as_slice().trim_ascii();
+        let word = line.strip_prefix(b"bundle ").unwrap_or(line);
+        return digits(rt, word).context(format_args!("{path}"));
+    }
+    Ok(bytes)
+}
+
+// The text of an argument that the command line requires.
+fn text<'a>(asked: &ArgMatches<'a>, name: &str) -> Result<&'a str> {
     match asked.get_str(name) {
         Some(text) => Ok(text),
         None => Err(anyhow!("no argument --{name}")),
@@ -16,10 +34,12 @@ pub fn text<'a>(asked: &ArgMatches<'a>, name: &str) -> Result<&'a str> {
 
 /// The number of an argument.
 pub fn number(asked: &ArgMatches<'_>, name: &str) -> Result<usize> {
-    match asked.get_one::<usize>(name) {
-        Some(number) => Ok(number),
-        None => Err(anyhow!("no number in --{name}")),
+    let word = text(asked, name)?;
+    if word.starts_with('-') {
+        return Err(anyhow!("--{name} {word}: a number must not be negative"));
     }
+    word.parse::<usize>()
+        .context(format_args!("--{name} {word}"))
 }
 
 /// The root of an argument.
@@ -39,13 +59,26 @@ pub fn bytes(rt: &HostRuntime, asked: &ArgMatches<'_>, name: &str) -> Result<Vec
     let word = text(asked, name)?;
     match word.split_once(':') {
         Some(("text", text)) => Ok(text.as_bytes().to_vec(rt.alloc())?),
-        Some(("hex", digits)) => Ok(hex::decode(rt.alloc(), digits)?),
+        Some(("hex", word)) => digits(rt, word.as_bytes()).context(format_args!("--{name}")),
         Some(("file", path)) => file(rt, path),
         _ => Err(anyhow!("--{name} is none of text:TEXT, hex:DIGITS and file:PATH")),
     }
 }
 
-/// The bytes of a file.
-pub fn file(rt: &HostRuntime, path: &str) -> Result<Vec<u8>> {
+// The bytes that hexadecimal digits spell.
+fn digits(rt: &HostRuntime, digits: &[u8]) -> Result<Vec<u8>> {
+    hex::decode(rt.alloc(), digits).context(format_args!("{} digits", digits.len()))
+}
+
+// The bytes of a file.
+fn file(rt: &HostRuntime, path: &str) -> Result<Vec<u8>> {
     fs::read(rt, path).context(format_args!("{path}"))
+}
+
+fn standard_input(rt: &HostRuntime) -> Result<Vec<u8>> {
+    let mut bytes = Vec::new(rt.alloc());
+    rt.stdin()
+        .read_to_end(&mut bytes)
+        .context("standard input")?;
+    Ok(bytes)
 }

@@ -1,18 +1,22 @@
-//! `warg_verdict`: a verdict on one proof in a bundle's file, for scripts.
+//! `warg_verdict`: a verdict on one proof in a bundle, for scripts.
 //!
-//! It prints `true`, `false` or why the bundle is refused. The exit status is 0 for true, 1 for false, 2 for a refused
+//! It prints `true`, `false`, with `-v` also why, or why the bundle is refused. The exit status is 0 for true, 1 for false, 2 for a refused
 //! bundle, and 3 for anything else: wrong arguments, a file that can't be read, memory that ran out.
 #![tactic(auto)]
 
 mod claim;
 mod given;
+mod reason;
 mod usage;
 
 ghost use Rattle.std.specs.Prelude.{◌≡◌, ◌↔◌, IsTrue};
 ghost use Rattle.std.specs.Process.{exit_status};
 
 use anyhow::Result;
-use claim::verdict_on;
+use claim::Claim;
+use clap::ArgMatches;
+use given::{bundle, number};
+use reason::reason;
 use std::env;
 use std::process::ExitCode;
 use usage::command;
@@ -42,12 +46,19 @@ fn judge(rt: &HostRuntime) -> Result<ExitCode> {
     let Some((name, asked)) = matches.subcommand() else {
         return Ok(ExitCode::from(3));
     };
-    print(rt, verdict_on(rt, name, asked)?)
+    answer(rt, &Claim::of(rt, name, asked)?, asked)
 }
 
-// Prints a verdict, or why the bundle is refused.
-fn print(rt: &HostRuntime, verdict: Result<bool, CheckError>) -> Result<ExitCode> {
-    match verdict {
+// Prints the verdict on a claim, or why the bundle is refused.
+fn answer(rt: &HostRuntime, claim: &Claim, asked: &ArgMatches<'_>) -> Result<ExitCode> {
+    let at = number(asked, "at")?;
+    let bundle = bundle(rt, asked)?;
+    match claim.verdict(rt.alloc(), bundle.as_slice(), at) {
+        Ok(false) if asked.get_flag("verbose") => {
+            let reason = reason(rt.alloc(), claim, bundle.as_slice(), at)?;
+            println!(rt; "false: {reason}")?;
+            Ok(status_of(false))
+        }
         Ok(verdict) => {
             println!(rt; "{verdict}")?;
             Ok(status_of(verdict))

@@ -1,4 +1,6 @@
 // Check answers the check lines of the vectors (docs/VECTORS.md) through the package: a line in, a line out.
+//
+//	go build -o check . && ./check < lines
 package main
 
 import (

@@ -1,0 +1,7 @@
+module check
+
+go 1.19
+
+require warg v0.0.0
+
+replace warg => ../../go
