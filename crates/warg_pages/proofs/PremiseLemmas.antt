@@ -1,0 +1,250 @@
+-- Pages of other digests than the empty map's, of which no placed byte strings collide.
+use Rattle.std.proofs.Common.{◌≡◌, ℕ, zero, suc, ◌+◌, ◌-◌, ◌*◌, ◌^◌, ◌<◌, ◌≤◌, ◌==◌, ◌⊎◌, inl, inr, Bool, true, false, cond, nat_eq, List, [], ◌∷◌, ◌++◌, length, take, drop, Option, Some, None, if◌then◌else◌, refl, sym, ap, subst, ◌∙◌, arith}
+use Rattle.std.specs.Prelude.{replicate}
+use Rattle.std.specs.List.{All, filter_map}
+use Rattle.std.proofs.lemmas.Bool.{cases_lt, cond-false, ne_eqb}
+use Rattle.std.proofs.lemmas.List.{take-append-drop, length-append, length-drop, length-take-le}
+use Rattle.std.proofs.lemmas.List.Elements.{All-replicate, All-cons, All-nil}
+use Rattle.std.proofs.Math.Nat.{pow-suc}
+use Rattle.warg_crypto.specs.Collisions.{GivesHashes, Collides, SomeCollision}
+use Rattle.warg_crypto.specs.Digests.{IsDigest, IsByte}
+use Rattle.warg_crypto.specs.EmptyTrees.{empty_root}
+use Rattle.warg_crypto.specs.Tree.{branch_input}
+use Rattle.warg_map.specs.Last.{last_with}
+use Rattle.warg_map.specs.Sparse.{root_of_levels, map_of}
+use Rattle.warg_pages.specs.Prefixes.{below}
+use Rattle.warg_pages.specs.Slots.{SlotAt, IsSlot, IsPage, slot_of, numbers, page_of}
+use Rattle.warg_pages.specs.Pages.{digest_at, root_over, slot_height, page_digest}
+use Rattle.warg_pages.specs.GivenPages.{HaveSameDigests, AreInputsAt, input_over}
+use Rattle.warg_pages.proofs.PageRoots.{page_root}
+
+-- The page of the empty map has no slots.
+no_slots : (H : List ℕ → List ℕ) (prefix : List Bool) (bytes : List ℕ) → filter_map (slot_of H [] prefix) bytes ≡ []
+unfolding last_with
+no_slots H prefix [] = refl
+no_slots H prefix (s ∷ bytes) = no_slots H prefix bytes
+
+pub empty_page : (H : List ℕ → List ℕ) → page_of H [] [] ≡ []
+unfolding page_of
+empty_page H = no_slots H [] (numbers 0 256)
+
+pub empty_digest : (H : List ℕ → List ℕ) → page_digest H 0 [] ≡ root_of_levels H 256 (below (map_of H []) [])
+empty_digest H = ap (page_digest H 0) (sym (empty_page H)) ∙ page_root H [] [] 0 (omega arith) refl
+
+module _ (H : List ℕ → List ℕ) (slots : List SlotAt) where
+  -- A page with these slots and one without any have the same input at each branch of a level.
+  abbrev pub Same : ℕ → Type 0
+  Same k = (place first : ℕ) → first ≡ place * (2 ^ k + 2 ^ k) → input_over H 0 slots first k ≡ input_over H 0 [] first k
+
+  -- So they have on the next level.
+  above : (k : ℕ) → Same k → Same (suc k)
+  unfolding root_over
+  above k same place first from =
+      let double = ap (λ p. place * p) (pow-suc 2 k) in
+      let left = same (2 * place) first (omega arith) in
+      let right = same (2 * place + 1) (first + 2 ^ suc k) (omega (arith, pow-suc 2 k)) in
+      ap (λ l. branch_input (H l) (root_over H (digest_at H (slot_height 0) slots) (first + 2 ^ suc k) (suc k))) left
+      ∙ ap (λ r. branch_input (root_over H (digest_at H (slot_height 0) []) first (suc k)) (H r)) right
+
+  pub from_level : (j d : ℕ) → Same j → Same (d + j)
+  from_level j zero same = let none : 0 + j ≡ j = omega arith in subst Same (sym none) same
+  from_level j (suc d) same = let next : suc d + j ≡ suc (d + j) = omega arith in subst Same (sym next) (above (d + j) (from_level j d same))
+
+  pub same_digest : Same 7 → page_digest H 0 slots ≡ page_digest H 0 []
+  unfolding root_over
+  same_digest same = ap H (same 0 0 (omega arith))
+
+-- The digest of a slot, and of another byte.
+pub digest_other : (H : List ℕ → List ℕ) (height : ℕ) (x : SlotAt) (xs : List SlotAt) (s : ℕ) → ¬ (x.byte ≡ s) → digest_at H height (x ∷ xs) s ≡ digest_at H height xs s
+unfolding digest_at
+digest_other H height x xs s other = cond-false _ _ _ (ne_eqb x.byte s other)
+
+abbrev pub slot : ℕ → List ℕ → SlotAt
+slot byte digest = record { byte = byte; version = 0; digest = digest; lone = None }
+
+-- Halves of two empty digests that end elsewhere.
+module _ (H : List ℕ → List ℕ) (gives : GivesHashes H) where
+  abbrev pair : List ℕ
+  pair = empty_root H 248 ++ empty_root H 248
+
+  abbrev pub cut_elsewhere : List SlotAt
+  cut_elsewhere = slot 0 (take 31 pair) ∷ slot 1 (drop 31 pair) ∷ []
+
+  size_empty : (k : ℕ) → length (empty_root H k) ≡ 32
+  unfolding empty_root
+  size_empty zero = (gives _).has_32
+  size_empty (suc k) = (gives _).has_32
+
+  two_cut : (place : ℕ) (first : ℕ) → first ≡ place * 2 → input_over H 0 cut_elsewhere first 0 ≡ input_over H 0 [] first 0
+  unfolding root_over digest_at
+  two_cut zero first from = let at : first ≡ 0 = omega arith in rw at (ap (λ bytes. 1 ∷ bytes) (take-append-drop 31 pair))
+  two_cut (suc place) first from =
+      let here : digest_at H 248 cut_elsewhere first ≡ empty_root H 248 = digest_other H 248 (slot 0 (take 31 pair)) (slot 1 (drop 31 pair) ∷ []) first (omega arith) ∙ digest_other H 248 (slot 1 (drop 31 pair)) [] first (omega arith) in
+      let next : digest_at H 248 cut_elsewhere (first + 1) ≡ empty_root H 248 = digest_other H 248 (slot 0 (take 31 pair)) (slot 1 (drop 31 pair) ∷ []) (first + 1) (omega arith) ∙ digest_other H 248 (slot 1 (drop 31 pair)) [] (first + 1) (omega arith) in
+      rw (here, next) refl
+
+  cut_same : Same H cut_elsewhere 0
+  cut_same place first from = two_cut place first (omega arith)
+
+  pub cut_digest : page_digest H 0 cut_elsewhere ≡ page_digest H 0 []
+  cut_digest = same_digest H cut_elsewhere (from_level H cut_elsewhere 0 7 cut_same)
+
+  pub cut_apart : (one other : List ℕ) → AreInputsAt H 0 cut_elsewhere [] one other → Collides H (one, other) → ⊥
+  cut_apart one other at c =
+      let level : at.levels + 0 ≡ at.levels = omega arith in
+      let same : Same H cut_elsewhere at.levels = subst (Same H cut_elsewhere) level (from_level H cut_elsewhere 0 at.levels cut_same) in
+      c.differ (at.one_is ∙ same at.place at.first at.aligned ∙ sym at.other_is)
+
+  pub cut_differs : HaveSameDigests H 0 cut_elsewhere [] → ⊥
+  unfolding digest_at
+  cut_differs same = omega (arith, ap length (same 0 (omega arith)), size_empty 248, length-take-le 31 pair (omega (arith, length-append (empty_root H 248) (empty_root H 248), size_empty 248)))
+
+-- Ones where a one stands behind the first byte of what is hashed, and else zeros.
+abbrev pub zeros : List ℕ
+zeros = replicate 32 0
+
+abbrev pub ones : List ℕ
+ones = replicate 32 1
+
+abbrev has_one : List ℕ → Bool
+has_one [] = false
+has_one (x ∷ xs) = cond (nat_eq x 1) true (has_one xs)
+
+abbrev mark : Bool → List ℕ
+mark true = ones
+mark false = zeros
+
+abbrev pub marked : List ℕ → List ℕ
+marked [] = zeros
+marked (tag ∷ rest) = mark (has_one rest)
+
+pub ones-digest : IsDigest ones
+ones-digest = record { has_32 = refl; are_bytes = All-replicate IsByte 32 1 (omega arith) }
+
+mark-digest : (b : Bool) → IsDigest (mark b)
+mark-digest true = ones-digest
+mark-digest false = record { has_32 = refl; are_bytes = All-replicate IsByte 32 0 (omega arith) }
+
+pub marked_hashes : GivesHashes marked
+marked_hashes [] = mark-digest false
+marked_hashes (tag ∷ rest) = mark-digest (has_one rest)
+
+empty_zeros : (k : ℕ) → empty_root marked k ≡ zeros
+unfolding empty_root
+empty_zeros zero = refl
+empty_zeros (suc k) = rw (empty_zeros k) refl
+
+-- A page with ones at the first byte.
+abbrev pub with_ones : List SlotAt
+with_ones = slot 0 ones ∷ []
+
+first_ones : (k : ℕ) → root_over marked (digest_at marked 248 with_ones) 0 k ≡ ones
+unfolding root_over digest_at
+first_ones zero = refl
+first_ones (suc k) = rw (first_ones k) refl
+
+first_zeros : (first k : ℕ) → root_over marked (digest_at marked 248 []) first k ≡ zeros
+unfolding root_over digest_at
+first_zeros first zero = empty_zeros 248
+first_zeros first (suc k) = rw (first_zeros first k, first_zeros (first + 2 ^ k) k) refl
+
+-- Beside the first byte nothing stands.
+other_same : (first k : ℕ) → 0 < first → root_over marked (digest_at marked 248 with_ones) first k ≡ root_over marked (digest_at marked 248 []) first k
+unfolding root_over
+other_same first zero some = digest_other marked 248 _ [] first (omega arith)
+other_same first (suc k) some = rw (other_same first k some, other_same (first + 2 ^ k) k (omega arith)) refl
+
+pub ones_apart : (one other : List ℕ) → AreInputsAt marked 0 with_ones [] one other → Collides marked (one, other) → ⊥
+ones_apart one other at c = elim (cases_lt 0 at.first) [
+  | inl some ↦
+      let left = other_same at.first at.levels some in
+      let right = other_same (at.first + 2 ^ at.levels) at.levels (omega arith) in
+      c.differ (at.one_is ∙ rw (left, right) refl ∙ sym at.other_is)
+  | inr none ↦
+      let zero_first : at.first ≡ 0 = omega arith in
+      let is : marked one ≡ ones = ap marked at.one_is ∙ rw (zero_first, first_ones at.levels) refl in
+      let isnt : marked other ≡ zeros = ap marked at.other_is ∙ rw (first_zeros at.first at.levels, first_zeros (at.first + 2 ^ at.levels) at.levels) refl in
+      let same : ones ≡ zeros = sym is ∙ c.same ∙ isnt in absurd cc
+]
+
+pub ones_differ : HaveSameDigests marked 0 with_ones [] → ⊥
+unfolding digest_at
+ones_differ same = let wrong : ones ≡ zeros = same 0 (omega arith) ∙ empty_zeros 248 in absurd cc
+
+-- One five, two or three of them, by the second byte of what is hashed.
+abbrev pub fives : List ℕ → List ℕ
+fives [] = 5 ∷ 5 ∷ []
+fives (tag ∷ []) = 5 ∷ 5 ∷ []
+fives (tag ∷ b ∷ rest) = if b == 1 then 5 ∷ [] else (if b == 2 then 5 ∷ 5 ∷ 5 ∷ [] else 5 ∷ 5 ∷ [])
+
+abbrev twos : List ℕ
+twos = replicate 32 2
+
+pub twos-digest : IsDigest twos
+twos-digest = record { has_32 = refl; are_bytes = All-replicate IsByte 32 2 (omega arith) }
+
+abbrev pub with_both : List SlotAt
+with_both = slot 0 ones ∷ slot 2 twos ∷ []
+
+empty_fives : (k : ℕ) → empty_root fives k ≡ 5 ∷ 5 ∷ []
+unfolding empty_root
+empty_fives zero = refl
+empty_fives (suc k) = rw (empty_fives k) refl
+
+beside_both : (first : ℕ) → 3 < first + 1 → digest_at fives 248 with_both first ≡ digest_at fives 248 [] first
+beside_both first far = digest_other fives 248 _ _ first (omega arith) ∙ digest_other fives 248 _ [] first (omega arith)
+
+four_same : (place first : ℕ) → first ≡ place * 4 → input_over fives 0 with_both first 1 ≡ input_over fives 0 [] first 1
+unfolding root_over digest_at
+four_same zero first from = let at : first ≡ 0 = omega arith in rw (at, empty_fives 248) refl
+four_same (suc place) first from = rw (beside_both first (omega arith), beside_both (first + 1) (omega arith), beside_both (first + 2) (omega arith), beside_both (first + 2 + 1) (omega arith)) refl
+
+both_same : Same fives with_both 1
+both_same place first from = four_same place first (omega arith)
+
+pub both_digest : page_digest fives 0 with_both ≡ page_digest fives 0 []
+both_digest = same_digest fives with_both (from_level fives with_both 1 6 both_same)
+
+-- At two bytes from the first or the third on the inputs' digests differ, and elsewhere the inputs are the same.
+two_apart : (place first : ℕ) → first ≡ place * 2 → (input_over fives 0 with_both first 0 ≡ input_over fives 0 [] first 0) ⊎ (fives (input_over fives 0 with_both first 0) ≡ fives (input_over fives 0 [] first 0) → ⊥)
+unfolding root_over digest_at
+two_apart zero first from = let at : first ≡ 0 = omega arith in rw (at, empty_fives 248) (inr (λ is. absurd cc))
+two_apart (suc zero) first from = let at : first ≡ 2 = omega arith in rw (at, empty_fives 248) (inr (λ is. absurd cc))
+two_apart (suc (suc place)) first from = inl (rw (beside_both first (omega arith), beside_both (first + 1) (omega arith)) refl)
+
+pub both_apart : (one other : List ℕ) → AreInputsAt fives 0 with_both [] one other → Collides fives (one, other) → ⊥
+both_apart one other at c = elim (cases_lt 0 at.levels) [
+  | inr low ↦
+      let level : at.levels ≡ 0 = omega arith in
+      let from : at.first ≡ at.place * 2 = rw level at at.aligned ∙ omega arith in
+      let one_is = rw level at at.one_is in
+      let other_is = rw level at at.other_is in
+      elim (two_apart at.place at.first from) [
+        | inl same ↦ c.differ (one_is ∙ same ∙ sym other_is)
+        | inr differ ↦ differ (ap fives (sym one_is) ∙ c.same ∙ ap fives other_is)
+      ]
+  | inl high ↦
+      let level : at.levels - 1 + 1 ≡ at.levels = omega arith in
+      let same : Same fives with_both at.levels = subst (Same fives with_both) level (from_level fives with_both 1 (at.levels - 1) both_same) in
+      c.differ (at.one_is ∙ same at.place at.first at.aligned ∙ sym at.other_is)
+]
+
+pub both_differ : HaveSameDigests fives 0 with_both [] → ⊥
+unfolding digest_at
+both_differ same = let wrong : ones ≡ 5 ∷ 5 ∷ [] = same 0 (omega arith) ∙ empty_fives 248 in absurd cc
+
+-- They are pages.
+is_slot : (byte : ℕ) (digest : List ℕ) → byte < 256 → IsDigest digest → IsSlot (slot byte digest)
+is_slot byte digest low is = record { is_byte = low; fits = omega arith; digest = is; lone = λ l is. absurd cc }
+
+pub ones_page : IsPage with_ones
+ones_page = record {
+  ascend = λ i j d order inside. absurd (omega arith);
+  are_slots = All-cons IsSlot (slot 0 ones) [] (is_slot 0 ones (omega arith) ones-digest) (All-nil IsSlot);
+}
+
+pub both_page : IsPage with_both
+both_page = record {
+  ascend = λ i j d order inside. let first : i ≡ 0 = omega arith in let second : j ≡ 1 = omega arith in rw (first, second) (omega arith);
+  are_slots = All-cons IsSlot (slot 0 ones) (slot 2 twos ∷ []) (is_slot 0 ones (omega arith) ones-digest) (All-cons IsSlot (slot 2 twos) [] (is_slot 2 twos (omega arith) twos-digest) (All-nil IsSlot));
+}
