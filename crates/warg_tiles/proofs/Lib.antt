@@ -19,3 +19,4 @@ mod StoredLemmas
 mod SplitLemmas
 mod FullLemmas
 mod ReadLemmas
+mod PremiseLemmas
