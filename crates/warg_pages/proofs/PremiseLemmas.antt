@@ -34,7 +34,8 @@ empty_digest H = ap (page_digest H 0) (sym (empty_page H)) ∙ page_root H [] []
 module _ (H : List ℕ → List ℕ) (slots : List SlotAt) where
   -- A page with these slots and one without any have the same input at each branch of a level.
   abbrev pub Same : ℕ → Type 0
-  Same k = (place first : ℕ) → first ≡ place * (2 ^ k + 2 ^ k) → input_over H 0 slots first k ≡ input_over H 0 [] first k
+  Same k = (place first : ℕ) → first ≡ place * (2 ^ k + 2 ^ k)
+      → input_over H 0 slots first k ≡ input_over H 0 [] first k
 
   -- So they have on the next level.
   above : (k : ℕ) → Same k → Same (suc k)
@@ -48,14 +49,16 @@ module _ (H : List ℕ → List ℕ) (slots : List SlotAt) where
 
   pub from_level : (j d : ℕ) → Same j → Same (d + j)
   from_level j zero same = let none : 0 + j ≡ j = omega arith in subst Same (sym none) same
-  from_level j (suc d) same = let next : suc d + j ≡ suc (d + j) = omega arith in subst Same (sym next) (above (d + j) (from_level j d same))
+  from_level j (suc d) same = let next : suc d + j ≡ suc (d + j) = omega arith in
+      subst Same (sym next) (above (d + j) (from_level j d same))
 
   pub same_digest : Same 7 → page_digest H 0 slots ≡ page_digest H 0 []
   unfolding root_over
   same_digest same = ap H (same 0 0 (omega arith))
 
 -- The digest of a slot, and of another byte.
-pub digest_other : (H : List ℕ → List ℕ) (height : ℕ) (x : SlotAt) (xs : List SlotAt) (s : ℕ) → ¬ (x.byte ≡ s) → digest_at H height (x ∷ xs) s ≡ digest_at H height xs s
+pub digest_other : (H : List ℕ → List ℕ) (height : ℕ) (x : SlotAt) (xs : List SlotAt) (s : ℕ) → ¬ (x.byte ≡ s)
+    → digest_at H height (x ∷ xs) s ≡ digest_at H height xs s
 unfolding digest_at
 digest_other H height x xs s other = cond-false _ _ _ (ne_eqb x.byte s other)
 
@@ -75,12 +78,18 @@ module _ (H : List ℕ → List ℕ) (gives : GivesHashes H) where
   size_empty zero = (gives _).has_32
   size_empty (suc k) = (gives _).has_32
 
-  two_cut : (place : ℕ) (first : ℕ) → first ≡ place * 2 → input_over H 0 cut_elsewhere first 0 ≡ input_over H 0 [] first 0
+  two_cut : (place : ℕ) (first : ℕ) → first ≡ place * 2
+      → input_over H 0 cut_elsewhere first 0 ≡ input_over H 0 [] first 0
   unfolding root_over digest_at
-  two_cut zero first from = let at : first ≡ 0 = omega arith in rw at (ap (λ bytes. 1 ∷ bytes) (take-append-drop 31 pair))
+  two_cut zero first from = let at : first ≡ 0 = omega arith in
+      rw at (ap (λ bytes. 1 ∷ bytes) (take-append-drop 31 pair))
   two_cut (suc place) first from =
-      let here : digest_at H 248 cut_elsewhere first ≡ empty_root H 248 = digest_other H 248 (slot 0 (take 31 pair)) (slot 1 (drop 31 pair) ∷ []) first (omega arith) ∙ digest_other H 248 (slot 1 (drop 31 pair)) [] first (omega arith) in
-      let next : digest_at H 248 cut_elsewhere (first + 1) ≡ empty_root H 248 = digest_other H 248 (slot 0 (take 31 pair)) (slot 1 (drop 31 pair) ∷ []) (first + 1) (omega arith) ∙ digest_other H 248 (slot 1 (drop 31 pair)) [] (first + 1) (omega arith) in
+      let here : digest_at H 248 cut_elsewhere first ≡ empty_root H 248 =
+      digest_other H 248 (slot 0 (take 31 pair)) (slot 1 (drop 31 pair) ∷ []) first (omega arith)
+      ∙ digest_other H 248 (slot 1 (drop 31 pair)) [] first (omega arith) in
+      let next : digest_at H 248 cut_elsewhere (first + 1) ≡ empty_root H 248 =
+      digest_other H 248 (slot 0 (take 31 pair)) (slot 1 (drop 31 pair) ∷ []) (first + 1) (omega arith)
+      ∙ digest_other H 248 (slot 1 (drop 31 pair)) [] (first + 1) (omega arith) in
       rw (here, next) refl
 
   cut_same : Same H cut_elsewhere 0
@@ -92,12 +101,19 @@ module _ (H : List ℕ → List ℕ) (gives : GivesHashes H) where
   pub cut_apart : (one other : List ℕ) → AreInputsAt H 0 cut_elsewhere [] one other → Collides H (one, other) → ⊥
   cut_apart one other at c =
       let level : at.levels + 0 ≡ at.levels = omega arith in
-      let same : Same H cut_elsewhere at.levels = subst (Same H cut_elsewhere) level (from_level H cut_elsewhere 0 at.levels cut_same) in
+      let same : Same H cut_elsewhere at.levels =
+      subst (Same H cut_elsewhere) level (from_level H cut_elsewhere 0 at.levels cut_same) in
       c.differ (at.one_is ∙ same at.place at.first at.aligned ∙ sym at.other_is)
 
   pub cut_differs : HaveSameDigests H 0 cut_elsewhere [] → ⊥
   unfolding digest_at
-  cut_differs same = omega (arith, ap length (same 0 (omega arith)), size_empty 248, length-take-le 31 pair (omega (arith, length-append (empty_root H 248) (empty_root H 248), size_empty 248)))
+  cut_differs same =
+      omega (
+        arith,
+        ap length (same 0 (omega arith)),
+        size_empty 248,
+        length-take-le 31 pair (omega (arith, length-append (empty_root H 248) (empty_root H 248), size_empty 248)),
+      )
 
 -- Ones where a one stands behind the first byte of what is hashed, and else zeros.
 abbrev pub zeros : List ℕ
@@ -149,7 +165,8 @@ first_zeros first zero = empty_zeros 248
 first_zeros first (suc k) = rw (first_zeros first k, first_zeros (first + 2 ^ k) k) refl
 
 -- Beside the first byte nothing stands.
-other_same : (first k : ℕ) → 0 < first → root_over marked (digest_at marked 248 with_ones) first k ≡ root_over marked (digest_at marked 248 []) first k
+other_same : (first k : ℕ) → 0 < first
+    → root_over marked (digest_at marked 248 with_ones) first k ≡ root_over marked (digest_at marked 248 []) first k
 unfolding root_over
 other_same first zero some = digest_other marked 248 _ [] first (omega arith)
 other_same first (suc k) some = rw (other_same first k some, other_same (first + 2 ^ k) k (omega arith)) refl
@@ -163,7 +180,8 @@ ones_apart one other at c = elim (cases_lt 0 at.first) [
   | inr none ↦
       let zero_first : at.first ≡ 0 = omega arith in
       let is : marked one ≡ ones = ap marked at.one_is ∙ rw (zero_first, first_ones at.levels) refl in
-      let isnt : marked other ≡ zeros = ap marked at.other_is ∙ rw (first_zeros at.first at.levels, first_zeros (at.first + 2 ^ at.levels) at.levels) refl in
+      let isnt : marked other ≡ zeros = ap marked at.other_is
+      ∙ rw (first_zeros at.first at.levels, first_zeros (at.first + 2 ^ at.levels) at.levels) refl in
       let same : ones ≡ zeros = sym is ∙ c.same ∙ isnt in absurd cc
 ]
 
@@ -197,7 +215,13 @@ beside_both first far = digest_other fives 248 _ _ first (omega arith) ∙ diges
 four_same : (place first : ℕ) → first ≡ place * 4 → input_over fives 0 with_both first 1 ≡ input_over fives 0 [] first 1
 unfolding root_over digest_at
 four_same zero first from = let at : first ≡ 0 = omega arith in rw (at, empty_fives 248) refl
-four_same (suc place) first from = rw (beside_both first (omega arith), beside_both (first + 1) (omega arith), beside_both (first + 2) (omega arith), beside_both (first + 2 + 1) (omega arith)) refl
+four_same (suc place) first from =
+    rw (
+      beside_both first (omega arith),
+      beside_both (first + 1) (omega arith),
+      beside_both (first + 2) (omega arith),
+      beside_both (first + 2 + 1) (omega arith),
+    ) refl
 
 both_same : Same fives with_both 1
 both_same place first from = four_same place first (omega arith)
@@ -206,11 +230,14 @@ pub both_digest : page_digest fives 0 with_both ≡ page_digest fives 0 []
 both_digest = same_digest fives with_both (from_level fives with_both 1 6 both_same)
 
 -- At two bytes from the first or the third on the inputs' digests differ, and elsewhere the inputs are the same.
-two_apart : (place first : ℕ) → first ≡ place * 2 → (input_over fives 0 with_both first 0 ≡ input_over fives 0 [] first 0) ⊎ (fives (input_over fives 0 with_both first 0) ≡ fives (input_over fives 0 [] first 0) → ⊥)
+two_apart : (place first : ℕ) → first ≡ place * 2
+    → (input_over fives 0 with_both first 0 ≡ input_over fives 0 [] first 0)
+    ⊎ (fives (input_over fives 0 with_both first 0) ≡ fives (input_over fives 0 [] first 0) → ⊥)
 unfolding root_over digest_at
 two_apart zero first from = let at : first ≡ 0 = omega arith in rw (at, empty_fives 248) (inr (λ is. absurd cc))
 two_apart (suc zero) first from = let at : first ≡ 2 = omega arith in rw (at, empty_fives 248) (inr (λ is. absurd cc))
-two_apart (suc (suc place)) first from = inl (rw (beside_both first (omega arith), beside_both (first + 1) (omega arith)) refl)
+two_apart (suc (suc place)) first from =
+    inl (rw (beside_both first (omega arith), beside_both (first + 1) (omega arith)) refl)
 
 pub both_apart : (one other : List ℕ) → AreInputsAt fives 0 with_both [] one other → Collides fives (one, other) → ⊥
 both_apart one other at c = elim (cases_lt 0 at.levels) [
@@ -225,7 +252,8 @@ both_apart one other at c = elim (cases_lt 0 at.levels) [
       ]
   | inl high ↦
       let level : at.levels - 1 + 1 ≡ at.levels = omega arith in
-      let same : Same fives with_both at.levels = subst (Same fives with_both) level (from_level fives with_both 1 (at.levels - 1) both_same) in
+      let same : Same fives with_both at.levels =
+      subst (Same fives with_both) level (from_level fives with_both 1 (at.levels - 1) both_same) in
       c.differ (at.one_is ∙ same at.place at.first at.aligned ∙ sym at.other_is)
 ]
 
@@ -245,6 +273,9 @@ ones_page = record {
 
 pub both_page : IsPage with_both
 both_page = record {
-  ascend = λ i j d order inside. let first : i ≡ 0 = omega arith in let second : j ≡ 1 = omega arith in rw (first, second) (omega arith);
-  are_slots = All-cons IsSlot (slot 0 ones) (slot 2 twos ∷ []) (is_slot 0 ones (omega arith) ones-digest) (All-cons IsSlot (slot 2 twos) [] (is_slot 2 twos (omega arith) twos-digest) (All-nil IsSlot));
+  ascend = λ i j d order inside. let first : i ≡ 0 = omega arith in let second : j ≡ 1 = omega arith in
+      rw (first, second) (omega arith);
+  are_slots =
+      All-cons IsSlot (slot 0 ones) (slot 2 twos ∷ []) (is_slot 0 ones (omega arith) ones-digest)
+      (All-cons IsSlot (slot 2 twos) [] (is_slot 2 twos (omega arith) twos-digest) (All-nil IsSlot));
 }

@@ -172,13 +172,18 @@ full_before : (old new : ℕ) → new < old → AreFullBetween old new (full_bet
 full_before old new order =
     let none : full_between old new ≡ [] = let zero_new : new - old ≡ 0 = omega arith in rw zero_new refl in
     rw none (record {
-      exactly = λ t. (λ has. absurd (omega (arith, has.1)), λ is. absurd (is.2 (there_from old t is.0 (let ends = end_there new t is.0 is.1 in omega arith))));
+      exactly =
+          λ t. (
+            λ has. absurd (omega (arith, has.1)),
+            λ is. absurd (is.2 (there_from old t is.0 (let ends = end_there new t is.0 is.1 in omega arith))),
+          );
       once = none_alone (λ (s t : TileAt). s ≢ t);
       order = none_alone IsFilledBefore;
     })
 
 pub all_full : (old new : ℕ) → new ≤ 2 ^ 63 → AreFullBetween old new (full_between old new)
-all_full old new fits = elim (cases_lt new old) [ inl before ↦ full_before old new before | inr later ↦ full_later old new later fits ]
+all_full old new fits =
+    elim (cases_lt new old) [ inl before ↦ full_before old new before | inr later ↦ full_later old new later fits ]
 
 -- the partial tiles from a level on
 partial_only : (k level n : ℕ) (t : TileAt) → level + k ≡ 8 → Contains (partial_from n level) t → (level ≤ t.level) × (IsTileOf n t × (t.width < 256))

@@ -79,29 +79,43 @@ in_four (rest a n part more) = elim (in_four part) [
 ]
 
 -- Four leaf digests, and four others of the same root, which no placed byte strings tell apart.
-pub tile_apart : (first second : List ℕ) → IsRowPlaced tell (ones ∷ zeros ∷ zeros ∷ zeros ∷ []) 1 (zeros ∷ zeros ∷ ones ∷ zeros ∷ []) first second → Collides tell (first, second) → ⊥
+pub tile_apart : (first second : List ℕ)
+    → IsRowPlaced tell (ones ∷ zeros ∷ zeros ∷ zeros ∷ []) 1 (zeros ∷ zeros ∷ ones ∷ zeros ∷ []) first second
+    → Collides tell (first, second) → ⊥
 unfolding root_within front_of front_within
 tile_apart first second at c = elim (in_four at.part) [
   | inl one ↦ let more = at.more in omega arith
-  | inr (inl all) ↦ let is = rw (all.0, all.1) at at.by_row in let other = rw (all.0, all.1) at at.by_leaves in c.differ (is ∙ sym other)
-  | inr (inr (inl left)) ↦ let is = rw (left.0, left.1) at at.by_row in let other = rw (left.0, left.1) at at.by_leaves in let same : 5 ∷ 5 ∷ [] ≡ 5 ∷ [] = sym (ap tell is) ∙ c.same ∙ ap tell other in absurd cc
-  | inr (inr (inr right)) ↦ let is = rw (right.0, right.1) at at.by_row in let other = rw (right.0, right.1) at at.by_leaves in let same : 5 ∷ [] ≡ 5 ∷ 5 ∷ [] = sym (ap tell is) ∙ c.same ∙ ap tell other in absurd cc
+  | inr (inl all) ↦ let is = rw (all.0, all.1) at at.by_row in let other = rw (all.0, all.1) at at.by_leaves in
+      c.differ (is ∙ sym other)
+  | inr (inr (inl left)) ↦ let is = rw (left.0, left.1) at at.by_row in let other =
+      rw (left.0, left.1) at at.by_leaves in let same : 5 ∷ 5 ∷ [] ≡ 5 ∷ [] = sym (ap tell is) ∙ c.same
+      ∙ ap tell other in absurd cc
+  | inr (inr (inr right)) ↦ let is = rw (right.0, right.1) at at.by_row in let other =
+      rw (right.0, right.1) at at.by_leaves in let same : 5 ∷ [] ≡ 5 ∷ 5 ∷ [] = sym (ap tell is) ∙ c.same
+      ∙ ap tell other in absurd cc
 ]
 
 -- A row of one digest has no place for two byte strings.
-pub no_row : {H : List ℕ → List ℕ} {d : List ℕ} {size : ℕ} {leaves : List (List ℕ)} {first second : List ℕ} → IsRowPlaced H (d ∷ []) size leaves first second → ⊥
+pub no_row : {H : List ℕ → List ℕ} {d : List ℕ} {size : ℕ} {leaves : List (List ℕ)} {first second : List ℕ}
+    → IsRowPlaced H (d ∷ []) size leaves first second → ⊥
 no_row at = let one = part_of_one at.part in let more = at.more in omega arith
 
 -- Of one partial tile, the row is that tile's.
 abbrev RowOf : (List ℕ → List ℕ) → TileAt × List (List ℕ) → Tiles → List (List ℕ) → List ℕ → List ℕ → Type 0
-RowOf H t lower ds first second = IsRowPlaced H (t.1 ++ option_to_list (root_on H None lower)) (2 ^ (8 * t.0.level)) (drop (256 * t.0.number * 2 ^ (8 * t.0.level)) ds) first second
+RowOf H t lower ds first second =
+    IsRowPlaced H (t.1 ++ option_to_list (root_on H None lower)) (2 ^ (8 * t.0.level))
+    (drop (256 * t.0.number * 2 ^ (8 * t.0.level)) ds) first second
 
-row_of_one : (H : List ℕ → List ℕ) (t : TileAt × List (List ℕ)) (ds : List (List ℕ)) (first second : List ℕ) (lower : Tiles) (tile : TileAt × List (List ℕ)) (upper : Tiles)
+row_of_one : (H : List ℕ → List ℕ) (t : TileAt × List (List ℕ)) (ds : List (List ℕ)) (first second : List ℕ)
+    (lower : Tiles) (tile : TileAt × List (List ℕ)) (upper : Tiles)
     → t ∷ [] ≡ lower ++ tile ∷ upper → RowOf H tile lower ds first second → RowOf H t [] ds first second
-row_of_one H t ds first second [] tile upper split row = let is : tile ≡ t = cc in subst (λ s. RowOf H s [] ds first second) is row
-row_of_one H t ds first second (other ∷ lower) tile upper split row = absurd (omega (arith, ap length split, length-append lower (tile ∷ upper)))
+row_of_one H t ds first second [] tile upper split row = let is : tile ≡ t = cc in
+    subst (λ s. RowOf H s [] ds first second) is row
+row_of_one H t ds first second (other ∷ lower) tile upper split row =
+    absurd (omega (arith, ap length split, length-append lower (tile ∷ upper)))
 
-pub edge_of_one : (H : List ℕ → List ℕ) (t : TileAt × List (List ℕ)) (ds : List (List ℕ)) (first second : List ℕ) → IsEdgePlaced H (t ∷ []) ds first second → RowOf H t [] ds first second
+pub edge_of_one : (H : List ℕ → List ℕ) (t : TileAt × List (List ℕ)) (ds : List (List ℕ)) (first second : List ℕ)
+    → IsEdgePlaced H (t ∷ []) ds first second → RowOf H t [] ds first second
 edge_of_one H t ds first second at = row_of_one H t ds first second at.lower at.tile at.upper at.split at.row
 
 -- The first of four leaves, and one tile that gives others of the same root, which no placed byte strings tell apart.
@@ -111,13 +125,20 @@ other_four = (leaf_tile 4, ones ∷ zeros ∷ zeros ∷ zeros ∷ []) ∷ []
 abbrev pub four : List (List ℕ)
 four = zeros ∷ zeros ∷ ones ∷ zeros ∷ []
 
-pub evaluation_apart : (first second : List ℕ) → IsEvaluationPlaced tell (with_target (digest_by tell other_four) (range_of 0) ones) four first second → Collides tell (first, second) → ⊥
+pub evaluation_apart : (first second : List ℕ)
+    → IsEvaluationPlaced tell (with_target (digest_by tell other_four) (range_of 0) ones) four first second
+    → Collides tell (first, second) → ⊥
 unfolding root_within front_of front_within height_of height_within place_of way_within top_of
 evaluation_apart first second at c = elim (in_four at.part) [
   | inl one ↦ let more = at.more in omega arith
-  | inr (inl all) ↦ let is = rw (all.0, all.1) at at.by_data in let other = rw (all.0, all.1) at at.by_leaves in c.differ cc
-  | inr (inr (inl left)) ↦ let by : Some (1 ∷ ones ++ zeros) ≡ Some first = rw (left.0, left.1) at at.by_data in let is : 1 ∷ ones ++ zeros ≡ first = cc in let other = rw (left.0, left.1) at at.by_leaves in let same : 5 ∷ 5 ∷ [] ≡ 5 ∷ [] = ap tell is ∙ c.same ∙ ap tell other in absurd cc
-  | inr (inr (inr right)) ↦ let by : Some (1 ∷ zeros ++ zeros) ≡ Some first = rw (right.0, right.1) at at.by_data in let is : 1 ∷ zeros ++ zeros ≡ first = cc in let other = rw (right.0, right.1) at at.by_leaves in let same : 5 ∷ [] ≡ 5 ∷ 5 ∷ [] = ap tell is ∙ c.same ∙ ap tell other in absurd cc
+  | inr (inl all) ↦ let is = rw (all.0, all.1) at at.by_data in let other = rw (all.0, all.1) at at.by_leaves in
+      c.differ cc
+  | inr (inr (inl left)) ↦ let by : Some (1 ∷ ones ++ zeros) ≡ Some first = rw (left.0, left.1) at at.by_data in
+      let is : 1 ∷ ones ++ zeros ≡ first = cc in let other = rw (left.0, left.1) at at.by_leaves in
+      let same : 5 ∷ 5 ∷ [] ≡ 5 ∷ [] = ap tell is ∙ c.same ∙ ap tell other in absurd cc
+  | inr (inr (inr right)) ↦ let by : Some (1 ∷ zeros ++ zeros) ≡ Some first = rw (right.0, right.1) at at.by_data in
+      let is : 1 ∷ zeros ++ zeros ≡ first = cc in let other = rw (right.0, right.1) at at.by_leaves in
+      let same : 5 ∷ [] ≡ 5 ∷ 5 ∷ [] = ap tell is ∙ c.same ∙ ap tell other in absurd cc
 ]
 
 -- Of no entries there is no part, and of two there is one of more than one.
@@ -133,7 +154,8 @@ in_two (front a n part more) = elim (in_two part) [ inl one ↦ absurd (omega ar
 in_two (rest a n part more) = elim (in_two part) [ inl one ↦ absurd (omega arith) | inr all ↦ inl (rw all.1 refl) ]
 
 -- Without tiles, an evaluation of the first of two leaves takes nothing at the root.
-pub nothing_taken : (H : List ℕ → List ℕ) (first second : List ℕ) → IsEvaluationPlaced H (with_target (digest_by H []) (range_of 0) zeros) (zeros ∷ zeros ∷ []) first second → ⊥
+pub nothing_taken : (H : List ℕ → List ℕ) (first second : List ℕ)
+    → IsEvaluationPlaced H (with_target (digest_by H []) (range_of 0) zeros) (zeros ∷ zeros ∷ []) first second → ⊥
 unfolding front_of front_within height_of height_within place_of way_within top_of
 nothing_taken H first second at = elim (in_two at.part) [
   | inl one ↦ let more = at.more in omega arith
@@ -144,24 +166,29 @@ nothing_taken H first second at = elim (in_two at.part) [
 pub completed_low : (k level count : ℕ) (t : TileAt) → Contains (completed_from k level count) t → t.level < level + k
 unfolding completed_from
 completed_low zero level count t has = absurd (omega (arith, has.1))
-completed_low (suc k) level count t has = (elim (cases_lt 0 (count % 256)) as (λ _. Contains (completed_from (suc k) level count) t → t.level < level + suc k) [
-  | inl other ↦ rw (ne_eqb (count % 256) 0 (λ none. omega arith)) (λ has. absurd (omega (arith, has.1)))
-  | inr none ↦
-      let full : count % 256 ≡ 0 = omega arith in
-      rw (eq-eqb (count % 256) 0 full) (λ has. elim (in_front _ t _ has) [
-        | inl is ↦ omega (arith, ap (λ (s : TileAt). s.level) is)
-        | inr there ↦ let low = completed_low k (level + 1) (count / 256) t there in omega arith
-      ])
-]) has
+completed_low (suc k) level count t has =
+    (elim (cases_lt 0 (count % 256)) as (λ _. Contains (completed_from (suc k) level count) t
+    → t.level < level + suc k) [
+      | inl other ↦ rw (ne_eqb (count % 256) 0 (λ none. omega arith)) (λ has. absurd (omega (arith, has.1)))
+      | inr none ↦
+          let full : count % 256 ≡ 0 = omega arith in
+          rw (eq-eqb (count % 256) 0 full) (λ has. elim (in_front _ t _ has) [
+            | inl is ↦ omega (arith, ap (λ (s : TileAt). s.level) is)
+            | inr there ↦ let low = completed_low k (level + 1) (count / 256) t there in omega arith
+          ])
+    ]) has
 
 -- So are the tiles between two lengths.
-pub levels_low : (k level old new : ℕ) (t : TileAt) → old ≤ new → Contains (levels_from k level old new) t → t.level < level + k
+pub levels_low : (k level old new : ℕ) (t : TileAt) → old ≤ new → Contains (levels_from k level old new) t
+    → t.level < level + k
 unfolding levels_from
 levels_low zero level old new t order has = absurd (omega (arith, has.1))
-levels_low (suc k) level old new t order has = elim (Contains-append_cases (level_tiles level (old / 2 ^ (8 * level)) (new / 2 ^ (8 * level))) (levels_from k (level + 1) old new) t has) [
-  | inl here ↦ let at = level_only level old new t order here in omega (arith, at.0)
-  | inr there ↦ let low = levels_low k (level + 1) old new t order there in omega arith
-]
+levels_low (suc k) level old new t order has =
+    elim (Contains-append_cases (level_tiles level (old / 2 ^ (8 * level)) (new / 2 ^ (8 * level)))
+    (levels_from k (level + 1) old new) t has) [
+      | inl here ↦ let at = level_only level old new t order here in omega (arith, at.0)
+      | inr there ↦ let low = levels_low k (level + 1) old new t order there in omega arith
+    ]
 
 -- A log of more leaves than tiles of eight levels take, the last of another digest than all have: so many, and one behind.
 module _ (before : List (List ℕ)) (count : length before ≡ 2 ^ 64) (sizes : AreHashes before) where
@@ -176,18 +203,28 @@ module _ (before : List (List ℕ)) (count : length before ≡ 2 ^ 64) (sizes : 
 
   -- Where each digest is zeros, so is the root, and the last leaf's digest is ones.
   pub many_root : root_of (λ m. zeros) many ≡ zeros
-  many_root = sym (roots.whole (λ m. zeros) many) ∙ ap (λ n. root_over (λ m. zeros) many 0 n) many_count ∙ root_over_parts (λ m. zeros) many 0 (2 ^ 64 + 1) (omega arith) (omega (arith, many_count))
+  many_root = sym (roots.whole (λ m. zeros) many) ∙ ap (λ n. root_over (λ m. zeros) many 0 n) many_count
+      ∙ root_over_parts (λ m. zeros) many 0 (2 ^ 64 + 1) (omega arith) (omega (arith, many_count))
 
-  pub many_last : own_digest (λ m. zeros) many (node_in (record { level = 0; number = 2 ^ 56; width = 1 }) 0) ≡ Some ones
+  pub many_last : own_digest (λ m. zeros) many (node_in (record { level = 0; number = 2 ^ 56; width = 1 }) 0)
+      ≡ Some ones
   unfolding root_within
-  many_last = own_at (λ m. zeros) many (record { level = 0; number = 2 ^ 56; width = 1 }) 0 ones (omega (arith, many_count)) (sym (ap (λ ds. root_of (λ m. zeros) (take 1 ds)) (ap (λ n. drop n many) (sym count) ∙ drop-append_seam before (ones ∷ []))))
+  many_last =
+      own_at (λ m. zeros) many (record { level = 0; number = 2 ^ 56; width = 1 }) 0 ones (omega (arith, many_count))
+      (sym (ap (λ ds. root_of (λ m. zeros) (take 1 ds))
+      (ap (λ n. drop n many) (sym count) ∙ drop-append_seam before (ones ∷ []))))
 
 -- So many digests.
 pub some_leaves : (n : ℕ) → (leaves : List (List ℕ)) × (length leaves ≡ n) × AreHashes leaves
-some_leaves n = (replicate n zeros, length-replicate n zeros, recursion_from_All (λ d. length d ≡ 32) (replicate n zeros) (All-replicate (λ d. length d ≡ 32) n zeros refl))
+some_leaves n = (
+  replicate n zeros,
+  length-replicate n zeros,
+  recursion_from_All (λ d. length d ≡ 32) (replicate n zeros) (All-replicate (λ d. length d ≡ 32) n zeros refl),
+)
 
 -- What is filled between two lengths that differ by one is what the greater one completes.
-pub only_last : (t : TileAt) → Contains (full_between 4722366482869645213695 4722366482869645213696) t → Contains (completed_at 4722366482869645213696) t
+pub only_last : (t : TileAt) → Contains (full_between 4722366482869645213695 4722366482869645213696) t
+    → Contains (completed_at 4722366482869645213696) t
 only_last t has = subst (λ (l : List TileAt). Contains l t) (append-nil (completed_at 4722366482869645213696)) has
 
 -- A checkpoint's text with two further lines, and one with both as one line.
@@ -205,5 +242,8 @@ lines_can_be_said = record {
   origin = record { some = omega arith; no_newline = (λ is. omega (arith, is), tt) };
   length = omega arith;
   root = record { has_32 = refl; are_bytes = All-replicate IsByte 32 0 (omega arith) };
-  extensions = (record { some = omega arith; no_newline = (λ is. omega (arith, is), tt) }, (record { some = omega arith; no_newline = (λ is. omega (arith, is), tt) }, tt));
+  extensions = (
+    record { some = omega arith; no_newline = (λ is. omega (arith, is), tt) },
+    (record { some = omega arith; no_newline = (λ is. omega (arith, is), tt) }, tt),
+  );
 }

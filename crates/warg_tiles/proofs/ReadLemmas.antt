@@ -32,7 +32,8 @@ both_there H (Some l) None root is = absurd (cc)
 both_there H None q root is = absurd (cc)
 
 -- two parts of one branch are as long as two others of 32 bytes, where one of them has 32
-lengths : (l r p q : List ℕ) → (length l ≡ 32) ⊎ (length r ≡ 32) → length p ≡ 32 → length q ≡ 32 → branch_input l r ≡ branch_input p q → length l ≡ length p
+lengths : (l r p q : List ℕ) → (length l ≡ 32) ⊎ (length r ≡ 32) → length p ≡ 32 → length q ≡ 32
+    → branch_input l r ≡ branch_input p q → length l ≡ length p
 lengths l r p q (inl first) left right equal = first ∙ sym left
 lengths l r p q (inr second) left right equal = omega (arith, ap length equal, length-append l r, length-append p q)
 
@@ -61,7 +62,8 @@ way_is target r h fits =
     let low = below_pow r.count in
     sym (at_room target r (r.count + h) r.count (omega arith) (omega arith)) ∙ at_room target r (r.count + h) h (omega arith) fits
 
-module _ (H : List ℕ → List ℕ) (digests : GivesHashes H) (F : ℕ → Option (List ℕ)) (holds : (t : ℕ) (d : List ℕ) → F t ≡ Some d → length d ≡ 32) (target : Range) (x : List ℕ)
+module _ (H : List ℕ → List ℕ) (digests : GivesHashes H) (F : ℕ → Option (List ℕ))
+    (holds : (t : ℕ) (d : List ℕ) → F t ≡ Some d → length d ≡ 32) (target : Range) (x : List ℕ)
     (ds : List (List ℕ)) (leaves : AreHashes ds) where
   -- What a way reads is the log's own, or two byte lists collide.
   abbrev Reads : Way → Type 0
@@ -147,8 +149,10 @@ module _ (H : List ℕ → List ℕ) (digests : GivesHashes H) (F : ℕ → Opti
                 let own_left = root_over H ds a (2 ^ h) in
                 let own_right = root_over H ds (a + 2 ^ h) (n - 2 ^ h) in
                 let both = made ∙ root_over_parts H ds a n many fits ∙ ap (λ k. branch H (root_over H ds a k) (root_over H ds (a + k) (n - k))) split in
-                let sized_left : length own_left ≡ 32 = root_size H (sizes digests) ds leaves a (2 ^ h) unit (omega arith) in
-                let sized_right : length own_right ≡ 32 = root_size H (sizes digests) ds leaves (a + 2 ^ h) (n - 2 ^ h) (omega arith) (omega arith) in
+                let sized_left : length own_left ≡ 32 =
+                root_size H (sizes digests) ds leaves a (2 ^ h) unit (omega arith) in
+                let sized_right : length own_right ≡ 32 =
+                root_size H (sizes digests) ds leaves (a + 2 ^ h) (n - 2 ^ h) (omega arith) (omega arith) in
                 elim (same_or_not (branch_input l r) (branch_input own_left own_right)) [
                   | inr differ ↦ inr (record {
                     first = branch_input l r;
@@ -164,12 +168,19 @@ module _ (H : List ℕ → List ℕ) (digests : GivesHashes H) (F : ℕ → Opti
                     };
                   })
                   | inl equal ↦ elim (apart left right) [
-                    | inl both_targets ↦ subst Reads (sym (ap (λ w. at_parts misses w right) both_targets.0 ∙ ap (at_parts misses at_target) both_targets.1)) (at_both misses at_target at_target at_own at_own)
+                    | inl both_targets ↦
+                        subst Reads (sym (ap (λ w. at_parts misses w right) both_targets.0
+                        ∙ ap (at_parts misses at_target) both_targets.1))
+                        (at_both misses at_target at_target at_own at_own)
                     | inr sized ↦
-                        let one : (length l ≡ 32) ⊎ (length r ≡ 32) = elim sized [ inl first ↦ inl (first l l_is) | inr second ↦ inr (second r r_is) ] in
-                        let parts = branch_parts l r own_left own_right (lengths l r own_left own_right one sized_left sized_right equal) equal in
-                        at_both misses left right (reads h (2 * j) a (2 ^ h) here unit (omega arith) (omega arith) part_left (l_is ∙ ap Some parts.0))
-                        (reads h (2 * j + 1) (a + 2 ^ h) (n - 2 ^ h) next (omega arith) (omega arith) (omega arith) part_right (r_is ∙ ap Some parts.1))
+                        let one : (length l ≡ 32) ⊎ (length r ≡ 32) =
+                        elim sized [ inl first ↦ inl (first l l_is) | inr second ↦ inr (second r r_is) ] in
+                        let parts =
+                        branch_parts l r own_left own_right (lengths l r own_left own_right one sized_left sized_right equal) equal in
+                        at_both misses left right (reads h (2 * j) a (2 ^ h) here unit (omega arith)
+                        (omega arith) part_left (l_is ∙ ap Some parts.0))
+                        (reads h (2 * j + 1) (a + 2 ^ h) (n - 2 ^ h) next (omega arith) (omega arith)
+                        (omega arith) part_right (r_is ∙ ap Some parts.1))
                   ]
                 ])
           ]
@@ -192,10 +203,13 @@ digest_size : (H : List ℕ → List ℕ) → HasSize H → (tiles : Tiles) → 
 digest_size H gives [] all node d is = cc
 digest_size H gives (t ∷ tiles) all node d is = first_size H gives t all.0 node d (digest_by H tiles node) (digest_size H gives tiles all.1 node d) (has_below t.0 node) refl is
 
-pub tiles_collide : (H : List ℕ → List ℕ) (ds : List (List ℕ)) (tiles : Tiles) (node : ℕ) (x : List ℕ) → GivesHashes H → AreHashes ds → AllByRecursion (λ (t : TileAt × List (List ℕ)). AreHashes t.1) tiles → 0 < length ds
+pub tiles_collide : (H : List ℕ → List ℕ) (ds : List (List ℕ)) (tiles : Tiles) (node : ℕ) (x : List ℕ) → GivesHashes H
+    → AreHashes ds → AllByRecursion (λ (t : TileAt × List (List ℕ)). AreHashes t.1) tiles → 0 < length ds
     → cut_root H (digest_by H tiles) node x (length ds) ≡ Some (root_of H ds)
     → AllByRecursion (λ y. digest_by H tiles y ≡ own_digest H ds y) (needed node (length ds)) ⊎ SomeCollision H (IsEvaluationPlaced H (with_target (digest_by H tiles) (range_of node) x) ds)
 tiles_collide H ds tiles node x gives leaves hashes some e =
     let n = length ds in
     let low = below_pow n in
-    reads H gives (digest_by H tiles) (digest_size H (sizes gives) tiles hashes) (range_of node) x ds leaves n 0 0 n (omega arith) some (omega arith) (omega arith) whole (e ∙ ap Some (sym (roots.whole H ds)))
+    reads H gives (digest_by H tiles) (digest_size H (sizes gives) tiles hashes)
+    (range_of node) x ds leaves n 0 0 n (omega arith) some (omega arith)
+    (omega arith) whole (e ∙ ap Some (sym (roots.whole H ds)))

@@ -7,6 +7,9 @@ use Rattle.warg_pages.proofs.premises.page_hashes_are_needed.Goals as goal
 
 pub returns : goal.returns
 returns c = λ law. elim (law fives [] [] 0 with_both (omega arith) refl both_page (both_digest ∙ empty_digest fives)) [
-  | inl same ↦ both_differ (subst (λ (page : List SlotAt). HaveSameDigests fives 0 with_both page) (empty_page fives) same)
-  | inr c ↦ let at = subst (λ (page : List SlotAt). SomeCollision fives (AreInputsAt fives 0 with_both page)) (empty_page fives) c in both_apart at.first at.second at.placed at.collide
+  | inl same ↦
+      both_differ (subst (λ (page : List SlotAt). HaveSameDigests fives 0 with_both page) (empty_page fives) same)
+  | inr c ↦ let at =
+      subst (λ (page : List SlotAt). SomeCollision fives (AreInputsAt fives 0 with_both page)) (empty_page fives) c in
+      both_apart at.first at.second at.placed at.collide
 ]

@@ -6,7 +6,12 @@ use Rattle.warg_pages.proofs.PremiseLemmas.{cut_elsewhere, cut_digest, cut_apart
 use Rattle.warg_pages.proofs.premises.page_slots_are_needed.Goals as goal
 
 pub returns : goal.returns
-returns c = λ H gives law. elim (law [] [] 0 (cut_elsewhere H gives) (omega arith) refl (cut_digest H gives ∙ empty_digest H)) [
-  | inl same ↦ cut_differs H gives (subst (λ (page : List SlotAt). HaveSameDigests H 0 (cut_elsewhere H gives) page) (empty_page H) same)
-  | inr c ↦ let at = subst (λ (page : List SlotAt). SomeCollision H (AreInputsAt H 0 (cut_elsewhere H gives) page)) (empty_page H) c in cut_apart H gives at.first at.second at.placed at.collide
-]
+returns c =
+    λ H gives law. elim (law [] [] 0 (cut_elsewhere H gives) (omega arith) refl (cut_digest H gives ∙ empty_digest H)) [
+      | inl same ↦
+          cut_differs H gives (subst (λ (page : List SlotAt). HaveSameDigests H 0 (cut_elsewhere H gives) page)
+          (empty_page H) same)
+      | inr c ↦ let at =
+          subst (λ (page : List SlotAt). SomeCollision H (AreInputsAt H 0 (cut_elsewhere H gives) page)) (empty_page H) c in
+          cut_apart H gives at.first at.second at.placed at.collide
+    ]

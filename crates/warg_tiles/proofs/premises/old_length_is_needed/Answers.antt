@@ -5,4 +5,8 @@ use Rattle.warg_tiles.proofs.premises.old_length_is_needed.Goals as goal
 
 pub returns : goal.returns
 unfolding levels_from
-returns c = λ law. let there = ((law 257 1 (omega arith)).exactly (leaf_tile 1)).1 (record { some = omega arith; width = refl }, λ is. omega (arith, is.width)) in omega (arith, there.1)
+returns c = λ law. let there =
+    ((law 257 1 (omega arith)).exactly (leaf_tile 1)).1 (
+      record { some = omega arith; width = refl },
+      λ is. omega (arith, is.width),
+    ) in omega (arith, there.1)

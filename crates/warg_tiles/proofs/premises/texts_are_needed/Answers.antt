@@ -5,4 +5,5 @@ use Rattle.warg_tiles.proofs.premises.texts_are_needed.Goals as goal
 
 pub returns : goal.returns
 unfolding lines
-returns c = λ law. let same = (law two_lines_at_once two_lines None None lines_can_be_said refl).0 in omega (arith, ap (λ (s : Said). length s.extensions) same)
+returns c = λ law. let same = (law two_lines_at_once two_lines None None lines_can_be_said refl).0 in
+    omega (arith, ap (λ (s : Said). length s.extensions) same)

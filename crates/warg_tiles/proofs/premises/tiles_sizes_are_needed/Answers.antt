@@ -8,7 +8,9 @@ use Rattle.warg_tiles.proofs.premises.tiles_sizes_are_needed.Goals as goal
 
 pub returns : goal.returns
 unfolding root_within front_of front_within height_of height_within place_of way_within top_of read_on
-returns c = λ law. elim (law own (zeros ∷ zeros ∷ zeros ∷ []) ((leaf_tile 3, zeros ∷ bytes 33 ∷ bytes 31 ∷ []) ∷ []) 0 zeros (refl, (refl, (refl, tt))) (omega arith) refl) [
-  | inl same ↦ let second = same.0 in omega (arith, some_length _ _ second)
-  | inr c ↦ none_collide _ c
-]
+returns c =
+    λ law. elim (law own (zeros ∷ zeros ∷ zeros ∷ [])
+    ((leaf_tile 3, zeros ∷ bytes 33 ∷ bytes 31 ∷ []) ∷ []) 0 zeros (refl, (refl, (refl, tt))) (omega arith) refl) [
+      | inl same ↦ let second = same.0 in omega (arith, some_length _ _ second)
+      | inr c ↦ none_collide _ c
+    ]
