@@ -1,5 +1,5 @@
 -- What the laws state: a claim that is met and isn't true gives a collision.
-use Rattle.std.proofs.Common.{◌≡◌, ℕ, zero, suc, ◌+◌, ◌-◌, ◌<◌, ◌≤◌, ◌⊎◌, inl, inr, List, [], ◌∷◌, length, get_or, refl, sym, ap, ◌∙◌, arith, ◌^◌, Some, Bool, true, false, not, ◌++◌, Option, unwrap_or, append_assoc, length-append}
+use Rattle.std.proofs.Common.{◌≡◌, ℕ, zero, suc, ◌+◌, ◌-◌, ◌<◌, ◌≤◌, ◌⊎◌, inl, inr, List, [], ◌∷◌, length, get_or, refl, sym, ap, ◌∙◌, arith, ◌^◌, Some, Bool, true, false, not, ◌++◌, Option, unwrap_or, append_assoc, length-append, reverse}
 use Rattle.std.proofs.lemmas.Bool.{cases_lt}
 use Rattle.warg_crypto.proofs.ForCallers.{same_or_not, HasSize, sizes, branch_parts}
 use Rattle.warg_log.specs.Tree.{front_of, leaves_of, root_of, root_over, own_digest}
@@ -29,17 +29,17 @@ use Rattle.warg_crypto.specs.EmptyTrees.{empty_root}
 use Rattle.warg_map.specs.Bits.{key_bits}
 use Rattle.warg_crypto.specs.Tree.{leaf_digest, branch_input, input_beside}
 use Rattle.warg_map.specs.Sparse.{root_of_levels, map_of, sparse_root, inserted}
-use Rattle.warg_map.specs.Peers.{Proves, IsBeside}
+use Rattle.warg_map.specs.Peers.{Proves, ProvesAbsent, IsPeers, IsBeside}
 use Rattle.warg_map.specs.Last.{last_under}
-use Rattle.warg_witness.specs.MapClaims.{IsKeyAgreement, IsLastValue, IsKeyMet}
+use Rattle.warg_witness.specs.MapClaims.{IsKeyAgreement, IsLastValue, IsKeyMet, IsAbsenceMet}
 use Rattle.warg_witness.specs.MapPlaced.{IsKeyPlaced, IsKeyAgreementPlaced, IsPlacedAtPrefix}
 use Rattle.warg_witness.specs.Private.MapPaths.{IsPathDivergence, IsClimb}
 use Rattle.warg_witness.specs.Private.MapMeeting.{IsAlike}
 use Rattle.warg_map.specs.ProofValue.{proof_value}
 use Rattle.warg_witness.specs.MapInputs.{fork_input}
-use Rattle.warg_witness.proofs.KeyLemmas.{no_bits, climb_up, key_agreement_shown, plain_leaf_is, own_grown_root, key_shown}
-use Rattle.warg_map.proofs.ForCallers.{all_bits, last_held, same_bits-itself, same_bits-true, root_at_prefix, absent_root, absent_replaced_root}
-use Rattle.std.proofs.lemmas.List.{append-nil, map-append}
+use Rattle.warg_witness.proofs.KeyLemmas.{no_bits, climb_up, key_agreement_shown, plain_leaf_is, own_grown_root, key_shown, inserted_push}
+use Rattle.warg_map.proofs.ForCallers.{all_bits, last_held, same_bits-itself, same_bits-true, root_at_prefix, replaced_root, absent_root, absent_replaced_root}
+use Rattle.std.proofs.lemmas.List.{append-nil, map-append, length-reverse}
 use Rattle.warg_witness.specs.UpdateClaims.{IsUpdated, Step, insertions_of, LeadThrough, CollidesAtStep}
 
 -- a range is the target or not
@@ -267,14 +267,54 @@ module _ (H : List ℕ → List ℕ) (peers : List (Option (List ℕ))) (key val
   pub update_collides : (new : List ℕ) → ¬ (IsUpdated H peers key new insertions) → SomeCollision H (IsPlacedAtPrefix H peers value key insertions)
   update_collides new untrue = elim alike_or_collides [ inl alike ↦ absurd (untrue (alike.updates new)) | inr collision ↦ collision ]
 
+-- a map's own proof has no more peers than there are bits
+few_down : (H : List ℕ → List ℕ) (empty_half : ℕ → Option (List ℕ)) (held : List Bool → Option (List ℕ))
+    (bits : List Bool)
+    (peers : List (Option (List ℕ))) → IsPeers H empty_half held bits peers → length peers ≤ length bits
+unfolding IsPeers
+few_down H empty_half held bits [] all = omega arith
+few_down H empty_half held [] (peer ∷ peers) all = absurd all
+few_down H empty_half held (b ∷ bits) (peer ∷ peers) all =
+    let below = few_down H empty_half (λ q. held (b ∷ q)) bits peers all.1 in omega arith
+
+few_peers : (H : List ℕ → List ℕ) (empty_half : ℕ → Option (List ℕ)) (held : List Bool → Option (List ℕ)) (key : List ℕ)
+    (peers : List (Option (List ℕ))) → IsPeers H empty_half held (key_bits H key) (reverse peers) → length peers ≤ 256
+few_peers H empty_half held key peers all =
+    let few = few_down H empty_half held (key_bits H key) (reverse peers) all in
+    omega (arith, all_bits H key, length-reverse peers)
+
 -- a map's own proof of a key meets the key's claim
 pub own_met : (H : List ℕ → List ℕ) (insertions : List (List ℕ × List ℕ)) (key value : List ℕ) (peers : List (Option (List ℕ)))
-    → last_under H (key_bits H key) insertions ≡ Some (key, value) → length peers ≤ 256 → Proves H 256 (map_of H insertions) (key_bits H key) peers → IsKeyMet H peers key value insertions
-own_met H insertions key value peers last few proves =
+    → last_under H (key_bits H key) insertions ≡ Some (key, value)
+    → Proves H 256 (map_of H insertions) (key_bits H key) peers → IsKeyMet H peers key value insertions
+own_met H insertions key value peers last proves =
     let n = all_bits H key in
-    rw n at (root_at_prefix H (map_of H insertions) [] (key_bits H key) peers (leaf_digest H value) (omega arith) few proves (rw (last_held, last) refl))
+    let few = few_peers H _ _ key peers proves.peers_from_top in
+    rw n at (root_at_prefix H (map_of H insertions) [] (key_bits H key) peers (leaf_digest H value)
+    (omega arith) few proves
+    (rw (last_held, last) refl))
 
-pub ruleset proves_absent = (all_bits, absent_root, absent_replaced_root)
+-- and that of each update
+pub own_updated : (H : List ℕ → List ℕ) (insertions : List (List ℕ × List ℕ)) (key value : List ℕ)
+    (peers : List (Option (List ℕ))) → Proves H 256 (map_of H insertions) (key_bits H key) peers
+    → IsUpdated H peers key value insertions
+own_updated H insertions key value peers proves =
+    let few = few_peers H _ _ key peers proves.peers_from_top in
+    rw (inserted_push H empty insertions key value)
+    (replaced_root H (map_of H insertions) (key_bits H key) peers (leaf_digest H value) (all_bits H key) few proves)
+
+-- its own proof that a key isn't held meets the absence's claim, and that of each insertion
+pub own_absent : (H : List ℕ → List ℕ) (insertions : List (List ℕ × List ℕ)) (key value : List ℕ)
+    (peers : List (Option (List ℕ))) → ProvesAbsent H (map_of H insertions) (key_bits H key) peers
+    → IsAbsenceMet H peers key insertions × IsUpdated H peers key value insertions
+own_absent H insertions key value peers proves =
+    let m = map_of H insertions in
+    let bits = key_bits H key in
+    let few = few_peers H _ _ key peers proves.peers_from_top in (
+      absent_root H m bits peers (all_bits H key) few proves,
+      rw (inserted_push H empty insertions key value)
+          (absent_replaced_root H m bits peers (leaf_digest H value) (all_bits H key) few proves),
+    )
 
 -- a list of steps, behind others that led to the plain root
 steps_lead : (H : List ℕ → List ℕ) → GivesHashes H → (before steps : List Step) (root end : List ℕ) → root ≡ sparse_root H 256 (map_of H (insertions_of before)) → LeadThrough H root steps end

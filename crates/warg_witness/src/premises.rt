@@ -1,6 +1,6 @@
 //! What the premises of the laws that end in a collision are for: the contract of each function is the law, and it has no
-//! effect. Without any one premise the law is false. That isn't shown of two premises: of consistency that the proof's
-//! digests have 32 bytes, and of two maps that the function's have.
+//! effect. Without any one premise the law is false. That isn't shown of one: of consistency that the proof's digests have
+//! 32 bytes.
 
 ghost use Rattle.std.specs.Prelude.{◌≡◌, ◌≢◌, ◌⊎◌, ℕ, List, [], length, Option};
 ghost use Rattle.warg_crypto.specs.Collisions.{GivesHashes, AreHashes, SomeCollision};
@@ -282,6 +282,14 @@ pub fn update_meeting_is_needed()
 /// Two maps may have different values, without a collision, where their roots aren't equal.
 pub fn equal_maps_meeting_is_needed()
     ensures { ¬ ((H : List ℕ → List ℕ) (insertions others : List (List ℕ × List ℕ)) → GivesHashes H
+        → ¬ (HaveSameValues insertions others)
+        → SomeCollision H (IsPlacedInMaps H insertions others)) }
+{}
+
+/// Two maps may have one root and different values, without a collision, where digests have any length.
+pub fn equal_maps_hashes_are_needed()
+    ensures { ¬ ((H : List ℕ → List ℕ) (insertions others : List (List ℕ × List ℕ))
+        → sparse_root H 256 (map_of H insertions) ≡ sparse_root H 256 (map_of H others)
         → ¬ (HaveSameValues insertions others)
         → SomeCollision H (IsPlacedInMaps H insertions others)) }
 {}
