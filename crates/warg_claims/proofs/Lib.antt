@@ -3,3 +3,4 @@ pub mod PremiseLemmas
 pub mod OwnLemmas
 pub mod HasLemmas
 pub mod AuditLemmas
+pub mod ConvictLemmas
