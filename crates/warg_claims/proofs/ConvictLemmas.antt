@@ -1,4 +1,5 @@
 -- From what a witness finds to what a conviction finds.
+use Rattle.warg_witness.specs.TreePlaced.{IsTreePlaced}
 use Rattle.std.proofs.Common.{◌≡◌, ℕ, ◌*◌, ◌<◌, ◌==◌, ◌&&◌, Bool, true, nat_eq, List, [], length, Option, Some, None, Result, Ok, Err, refl, sym, ap, subst, ◌∙◌, arith, mul-one, get_or, ◌≤◌}
 use Rattle.std.specs.Prelude.{slice_get, IfOk, ◌↔◌}
 use Rattle.std.specs.Cmp.Lexicographic.{pointwise, same_text}
@@ -22,7 +23,7 @@ use Rattle.warg_crypto.specs.EmptyTrees.{empty_root}
 use Rattle.warg_map.specs.Bits.{key_bits}
 use Rattle.warg_map.specs.Messages.{Peers}
 use Rattle.warg_map.specs.ProofValue.{proof_value}
-use Rattle.warg_paths.specs.Paths.{inclusion_root}
+use Rattle.warg_paths.specs.Paths.{inclusion_root, consistency_roots}
 use Rattle.warg_paths.specs.Pieces.{hashes_of}
 use Rattle.warg_witness.specs.declared.collision.Finding.{Finding}
 use Rattle.warg_witness.specs.declared.collision.Finding.TheVariants.{Holds, NotMet, Collision}
@@ -31,7 +32,7 @@ use Rattle.warg_witness.specs.Claims.{IsMet, IsEntry, IsConsistencyMet, Begins}
 use Rattle.warg_witness.specs.MapClaims.{IsKeyMet, IsAbsenceMet, IsLastValue}
 use Rattle.warg_witness.specs.MapPlaced.{IsKeyPlaced}
 use Rattle.warg_witness.specs.MapsPlaced.{Insertions}
-use Rattle.warg_witness.specs.PathClaims.{IsRecord, IsRecordMet}
+use Rattle.warg_witness.specs.PathClaims.{IsRecord, IsRecordMet, IsTreeMet}
 use Rattle.warg_witness.specs.PathPlaced.{IsRecordPlaced}
 use Rattle.warg_witness.specs.Placed.{IsValuePlaced, IsConsistencyPlaced}
 use Rattle.warg_check.specs.Verdicts.{judged, verdict_at, includes, is_root, extends, are_roots, leads, inclusion_verdict, consistency_verdict}
@@ -42,7 +43,7 @@ use Rattle.warg_check.specs.Claims.Evidence.{by_bundle, by_path}
 use Rattle.warg_claims.specs.Convictions.{Convicts}
 use Rattle.warg_claims.specs.Worlds.{IsLogOf}
 use Rattle.warg_claims.specs.Placed.{digests_in, path_in}
-use Rattle.warg_claims.proofs.SoundLemmas.{is_held, is_recorded, found_peers, judged_true, found_is}
+use Rattle.warg_claims.proofs.SoundLemmas.{is_held, is_recorded, found_peers, judged_true, found_is, both_are}
 
 -- What is found of one claim is found of another, where they are met and true together.
 pub transfer : {D A : _} (met met' claim claim' : Type 0) (placed placed' : List ℕ → List ℕ → Type 0)
@@ -245,6 +246,37 @@ growth_convicts H bytes place old new before after b m n held finding reads ther
     (λ met is. is)
     (λ first second at. subst (λ F. IsConsistencyPlaced H F before after first second) (sym (ap digests_in reads)) at)
     by_length
+
+pub growth_path_convicts : {D A : _} (H : List ℕ → List ℕ) (bytes : List ℕ) (old new : RootAndLength)
+    (before after digests : List (List ℕ)) (finding : Finding D A) → hashes_of bytes ≡ Some digests
+    → length before ≡ old.length → length after ≡ new.length → old.root ≡ root_of H (leaves_of H before)
+    → verdict H (growth old new) (by_path bytes) ≡ Ok true
+    → Finds (IsTreeMet H digests before after) (Begins before after) (IsTreePlaced H digests before after) finding
+    → Convicts H (growth old new) (by_path bytes) (before, after) finding
+growth_path_convicts H bytes old new before after digests finding reads old_count new_count old_is shown found =
+    let old_root = root_of H (leaves_of H before) in
+    let new_root = root_of H (leaves_of H after) in
+    let is_path : path_in (hashes_of bytes) ≡ digests = ap path_in reads in
+    let judged = (judged_true (shows H (growth old new)) (hashes_of bytes) shown).1 in
+    let leads : consistency_roots H old.length new.length old.root digests ≡ Some (old.root, new.root) =
+    subst (λ path. consistency_roots H old.length new.length old.root path ≡ Some (old.root, new.root)) is_path
+    (both_are old.root new.root _ judged) in
+    let same : consistency_roots H (length before) (length after) old_root digests
+    ≡ consistency_roots H old.length new.length old.root digests = rw (old_count, new_count, old_is) refl in
+    transfer _ _ _ _ _ _ finding
+    (λ met.
+    let is : Some (old.root, new.root) ≡ Some (old_root, new_root) = sym leads ∙ sym same ∙ met in
+    let both : (old.root, new.root) ≡ (old_root, new_root) = cc in
+    let new_is = ap (λ (roots : List ℕ × List ℕ). roots.1) both in
+    record {
+      shown = shown;
+      roots = (record { root = old_is; length = sym old_count }, record { root = new_is; length = sym new_count });
+    })
+    (λ is. same ∙ leads ∙ rw (is.roots.0.root, is.roots.1.root) refl)
+    (λ met is. is)
+    (λ met is. is)
+    (λ first second at. subst (λ path. IsTreePlaced H path before after first second) (sym is_path) at)
+    found
 
 pub key_convicts : {D A : _} (H : List ℕ → List ℕ) (bytes : List ℕ) (place : ℕ) (key value root : List ℕ)
     (insertions : Insertions) (b : MapBundle) (peers : Peers) (finding : Finding D A) → map_bundle_of bytes ≡ Ok b

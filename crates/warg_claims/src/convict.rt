@@ -3,6 +3,7 @@
 
 ghost use Rattle.std.specs.Prelude.{◌≡◌, ◌↔◌, Bool, true, Ok, Result, IsTrue, IfOk, map};
 ghost use Rattle.warg_protobuf.specs.Reading.{Answers};
+ghost use Rattle.warg_log.specs.Tree.{leaves_of, root_of};
 ghost use Rattle.warg_map.specs.Sparse.{pair_bytes};
 ghost use Rattle.warg_check.specs.declared.verdict.CheckError.{CheckError};
 ghost use Rattle.warg_check.specs.Claims.Claim.{entry_at, growth, value_under, nothing_under};
@@ -12,13 +13,15 @@ ghost use Rattle.warg_claims.specs.Convictions.{Convicts};
 use std::alloc::{AllocError, Allocator};
 use warg_bundle::{LogProofBundle, MapProofBundle};
 use warg_check::{
-    CheckError, check_absent, check_entry, check_entry_path, check_growth, check_key,
+    CheckError, check_absent, check_entry, check_entry_path, check_growth, check_growth_path,
+    check_key,
 };
 use warg_crypto::{Hash, SupportedDigest, VisitBytes};
-use warg_log::Checkpoint;
+use warg_log::{Checkpoint, GREATEST_LENGTH, LogBuilder, VecLog};
 use warg_paths::hashes_in;
 use warg_witness::{
-    Finding, witness_absent, witness_consistency, witness_key, witness_record, witness_value,
+    Finding, witness_absent, witness_consistency, witness_key, witness_record, witness_tree,
+    witness_value,
 };
 
 // Whether a verdict is true. It fails only where memory was refused.
@@ -138,6 +141,62 @@ pub fn convict_growth<D: SupportedDigest, V: VisitBytes, A: Allocator + Copy>(
         ),
         None => Ok(Finding::NotMet),
     }
+}
+
+// Whether the log of the entries has the root. More than 2^63 entries count as memory that was refused.
+fn have_root<D: SupportedDigest, V: VisitBytes, A: Allocator>(
+    alloc: A,
+    root: &Hash<D>,
+    entries: &[V],
+) -> Result<bool, AllocError>
+    ensures { IfOk result (λ is. IsTrue is ↔ (root.now
+        ≡ root_of D.digest (leaves_of D.digest (map V.bytes entries.now)))) }
+{
+    if entries.len() > GREATEST_LENGTH {
+        return Err(AllocError);
+    }
+    let mut log: VecLog<D, V, A> = VecLog::default(alloc);
+    'entries: for entry in entries {
+        log.push(entry)?;
+    }
+    Ok(*root == log.root())
+}
+
+/// The same of the consistency path in these bytes ([`check_growth_path`]).
+///
+/// `NotMet` exactly if the verdict isn't true, or the entries haven't the checkpoints' roots and lengths. `Holds` exactly
+/// if it is, they have, and the new entries begin with the old ones. Else a collision, at one of the places of
+/// [`witness_tree`].
+///
+/// It reads the path twice, makes the tree over the old entries once more, as a path need not lead to the old root, and then
+/// does what [`witness_tree`] does. It fails only if allocation fails. More than 2^63 entries count as that.
+pub fn convict_growth_path<D: SupportedDigest, V: VisitBytes, A: Allocator + Copy>(
+    alloc: A,
+    bytes: &[u8],
+    old: &Checkpoint<D>,
+    new: &Checkpoint<D>,
+    old_entries: &[V],
+    new_entries: &[V],
+) -> Result<Finding<D, A>, AllocError>
+    ensures { IfOk result (Convicts D.digest (growth old.now new.now) (by_path bytes.now)
+        (map V.bytes old_entries.now, map V.bytes new_entries.now)) }
+{
+    if !is_true(check_growth_path(alloc, bytes, old, new))? {
+        return Ok(Finding::NotMet);
+    }
+    if old_entries.len() != old.length() {
+        return Ok(Finding::NotMet);
+    }
+    if new_entries.len() != new.length() {
+        return Ok(Finding::NotMet);
+    }
+    if !have_root(alloc, &old.root(), old_entries)? {
+        return Ok(Finding::NotMet);
+    }
+    let Ok(path) = hashes_in::<D, A>(alloc, bytes) else {
+        return Err(AllocError);
+    };
+    witness_tree(alloc, path.as_slice(), old_entries, new_entries)
 }
 
 /// Whether the claim that the map with this root holds the value under the key, which the proof at a place of a bundle shows

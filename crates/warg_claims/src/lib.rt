@@ -6,4 +6,7 @@ mod convict;
 pub mod laws;
 pub mod premises;
 
-pub use convict::{convict_absent, convict_entry, convict_entry_path, convict_growth, convict_key};
+pub use convict::{
+    convict_absent, convict_entry, convict_entry_path, convict_growth, convict_growth_path,
+    convict_key,
+};

@@ -1,11 +1,16 @@
-//! What the premises and the placement of [`true_or_collision`](crate::laws::true_or_collision) are for: the contract of
-//! each function is the law, and it has no effect. Without any one premise the law is false, of every digest function.
+//! What the premises and the placement of [`true_or_collision`](crate::laws::true_or_collision) and of
+//! [`checked_steps_or_collision`](crate::laws::checked_steps_or_collision) are for: the contract of each function is the law,
+//! and it has no effect. Without any one premise the first is false, of every digest function, and so is the second where the
+//! steps aren't checked.
 
-ghost use Rattle.std.specs.Prelude.{◌≡◌, ℕ, List, Ok, true};
+ghost use Rattle.std.specs.Prelude.{◌≡◌, ◌⊎◌, ℕ, List, Ok, true};
 ghost use Rattle.warg_crypto.specs.Collisions.{GivesHashes, Collides, SomeCollision};
 ghost use Rattle.warg_check.specs.Claims.{Claim, Evidence, verdict};
 ghost use Rattle.warg_claims.specs.Worlds.{World, HasRoots, IsTrueOf};
 ghost use Rattle.warg_claims.specs.Placed.{IsPlaced};
+ghost use Rattle.warg_claims.specs.Audits.{steps_of};
+ghost use Rattle.warg_map.specs.Sparse.{sparse_root, map_of};
+ghost use Rattle.warg_witness.specs.UpdateClaims.{insertions_of, CollidesAtStep};
 
 /// A claim without a true verdict may be untrue where no byte strings of those places collide.
 pub fn verdict_is_needed()
@@ -38,4 +43,11 @@ pub fn hashes_are_needed()
     ensures { ¬ ((H : List ℕ → List ℕ) (claim : Claim) (evidence : Evidence) (world : World claim)
         → verdict H claim evidence ≡ Ok true → HasRoots H claim world → ¬ IsTrueOf claim world
         → SomeCollision H (IsPlaced H claim evidence world)) }
+{}
+
+/// Steps that aren't checked may end anywhere, without a collision.
+pub fn checked_steps_are_needed()
+    ensures { (H : List ℕ → List ℕ) → ¬ ((steps : List (Claim × Evidence)) (end : List ℕ)
+        → (end ≡ sparse_root H 256 (map_of H (insertions_of (steps_of steps))))
+        ⊎ CollidesAtStep H (steps_of steps)) }
 {}
