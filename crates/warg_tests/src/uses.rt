@@ -51,9 +51,23 @@ fn a_lie_of_a_log(rt: HostRuntime) -> Result<(), Fail> {
     let bytes = inclusion_bytes(rt.alloc(), &log, 0, 2)?;
     let checkpoint = log.checkpoint();
     let entries = ["one", "two"];
-    let none = claims::lie_of(rt.alloc(), bytes.as_slice(), 0, &"one", &checkpoint, &entries)?;
+    let none = claims::lie_of(
+        rt.alloc(),
+        bytes.as_slice(),
+        0,
+        &"one",
+        &checkpoint,
+        &entries,
+    )?;
     assert!(rt; none.is_none());
-    let found = claims::lie_of(rt.alloc(), bytes.as_slice(), 0, &"lie", &checkpoint, &entries)?;
+    let found = claims::lie_of(
+        rt.alloc(),
+        bytes.as_slice(),
+        0,
+        &"lie",
+        &checkpoint,
+        &entries,
+    )?;
     let pair = found.ok_or("no collision")?;
     assert!(rt; pair.first() == b"\0lie".as_slice() && pair.second() == b"\0one".as_slice());
     Ok(())
