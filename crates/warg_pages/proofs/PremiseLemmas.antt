@@ -1,7 +1,11 @@
 -- Pages of other digests than the empty map's, of which no placed byte strings collide.
-use Rattle.std.proofs.Common.{◌≡◌, ℕ, zero, suc, ◌+◌, ◌-◌, ◌*◌, ◌^◌, ◌<◌, ◌≤◌, ◌==◌, ◌⊎◌, inl, inr, Bool, true, false, cond, nat_eq, List, [], ◌∷◌, ◌++◌, length, take, drop, Option, Some, None, if◌then◌else◌, refl, sym, ap, subst, ◌∙◌, arith}
+use Rattle.warg_pages.proofs.KeyPrefixes.{length-bits_from}
+use Rattle.warg_map.specs.Bits.{key_bits}
+use Rattle.warg_map.proofs.ForCallers.{all_bits, last_held, same_bits-itself}
+use Rattle.std.specs.FinMap.{get}
+use Rattle.std.proofs.Common.{◌≡◌, ℕ, zero, suc, ◌+◌, ◌-◌, ◌*◌, ◌^◌, ◌<◌, ◌≤◌, ◌==◌, ◌⊎◌, inl, inr, Bool, true, false, cond, nat_eq, List, [], ◌∷◌, ◌++◌, length, take, drop, Option, Some, None, if◌then◌else◌, refl, sym, ap, subst, ◌∙◌, arith, append-nil, unwrap_or}
 use Rattle.std.specs.Prelude.{replicate}
-use Rattle.std.specs.List.{All, filter_map}
+use Rattle.std.specs.List.{All, filter_map, cons_option}
 use Rattle.std.proofs.lemmas.Bool.{cases_lt, cond-false, ne_eqb}
 use Rattle.std.proofs.lemmas.List.{take-append-drop, length-append, length-drop, length-take-le}
 use Rattle.std.proofs.lemmas.List.Elements.{All-replicate, All-cons, All-nil}
@@ -12,7 +16,7 @@ use Rattle.warg_crypto.specs.EmptyTrees.{empty_root}
 use Rattle.warg_crypto.specs.Tree.{branch_input}
 use Rattle.warg_map.specs.Last.{last_with}
 use Rattle.warg_map.specs.Sparse.{root_of_levels, map_of}
-use Rattle.warg_pages.specs.Prefixes.{below}
+use Rattle.warg_pages.specs.Prefixes.{below, begins, byte_bits}
 use Rattle.warg_pages.specs.Slots.{SlotAt, IsSlot, IsPage, slot_of, numbers, page_of}
 use Rattle.warg_pages.specs.Pages.{digest_at, root_over, slot_height, page_digest}
 use Rattle.warg_pages.specs.GivenPages.{HaveSameDigests, AreInputsAt, input_over}
@@ -154,40 +158,85 @@ empty_zeros (suc k) = rw (empty_zeros k) refl
 abbrev pub with_ones : List SlotAt
 with_ones = slot 0 ones ∷ []
 
-first_ones : (k : ℕ) → root_over marked (digest_at marked 248 with_ones) 0 k ≡ ones
+first_ones : (height k : ℕ) → root_over marked (digest_at marked height with_ones) 0 k ≡ ones
 unfolding root_over digest_at
-first_ones zero = refl
-first_ones (suc k) = rw (first_ones k) refl
+first_ones height zero = refl
+first_ones height (suc k) = rw (first_ones height k) refl
 
-first_zeros : (first k : ℕ) → root_over marked (digest_at marked 248 []) first k ≡ zeros
+first_zeros : (height first k : ℕ) → root_over marked (digest_at marked height []) first k ≡ zeros
 unfolding root_over digest_at
-first_zeros first zero = empty_zeros 248
-first_zeros first (suc k) = rw (first_zeros first k, first_zeros (first + 2 ^ k) k) refl
+first_zeros height first zero = empty_zeros height
+first_zeros height first (suc k) = rw (first_zeros height first k, first_zeros height (first + 2 ^ k) k) refl
 
 -- Beside the first byte nothing stands.
-other_same : (first k : ℕ) → 0 < first
-    → root_over marked (digest_at marked 248 with_ones) first k ≡ root_over marked (digest_at marked 248 []) first k
+other_same : (height first k : ℕ) → 0 < first → root_over marked (digest_at marked height with_ones) first k
+    ≡ root_over marked (digest_at marked height []) first k
 unfolding root_over
-other_same first zero some = digest_other marked 248 _ [] first (omega arith)
-other_same first (suc k) some = rw (other_same first k some, other_same (first + 2 ^ k) k (omega arith)) refl
+other_same height first zero some = digest_other marked height _ [] first (omega arith)
+other_same height first (suc k) some =
+    rw (other_same height first k some, other_same height (first + 2 ^ k) k (omega arith)) refl
 
-pub ones_apart : (one other : List ℕ) → AreInputsAt marked 0 with_ones [] one other → Collides marked (one, other) → ⊥
-ones_apart one other at c = elim (cases_lt 0 at.first) [
-  | inl some ↦
-      let left = other_same at.first at.levels some in
-      let right = other_same (at.first + 2 ^ at.levels) at.levels (omega arith) in
-      c.differ (at.one_is ∙ rw (left, right) refl ∙ sym at.other_is)
-  | inr none ↦
-      let zero_first : at.first ≡ 0 = omega arith in
-      let is : marked one ≡ ones = ap marked at.one_is ∙ rw (zero_first, first_ones at.levels) refl in
-      let isnt : marked other ≡ zeros = ap marked at.other_is
-      ∙ rw (first_zeros at.first at.levels, first_zeros (at.first + 2 ^ at.levels) at.levels) refl in
-      let same : ones ≡ zeros = sym is ∙ c.same ∙ isnt in absurd cc
-]
+pub ones_apart : (depth : ℕ) (one other : List ℕ) → AreInputsAt marked depth with_ones [] one other
+    → Collides marked (one, other) → ⊥
+ones_apart depth one other at c =
+    let height = slot_height depth in
+    elim (cases_lt 0 at.first) [
+      | inl some ↦
+          let left = other_same height at.first at.levels some in
+          let right = other_same height (at.first + 2 ^ at.levels) at.levels (omega arith) in
+          c.differ (at.one_is ∙ rw (left, right) refl ∙ sym at.other_is)
+      | inr none ↦
+          let zero_first : at.first ≡ 0 = omega arith in
+          let is : marked one ≡ ones = ap marked at.one_is ∙ rw (zero_first, first_ones height at.levels) refl in
+          let left = first_zeros height at.first at.levels in
+          let right = first_zeros height (at.first + 2 ^ at.levels) at.levels in
+          let isnt : marked other ≡ zeros = ap marked at.other_is ∙ rw (left, right) refl in
+          let same : ones ≡ zeros = sym is ∙ c.same ∙ isnt in absurd cc
+    ]
 
-pub ones_differ : HaveSameDigests marked 0 with_ones [] → ⊥
+pub ones_differ : (depth : ℕ) → HaveSameDigests marked depth with_ones [] → ⊥
 unfolding digest_at
-ones_differ same = let wrong : ones ≡ zeros = same 0 (omega arith) ∙ empty_zeros 248 in absurd cc
+ones_differ depth same = let wrong : ones ≡ zeros = same 0 (omega arith) ∙ empty_zeros (slot_height depth) in absurd cc
+
+-- A map with one key, whose leaf has ones: at the key's own bits as a prefix no page has a slot, and the root is the leaf.
+abbrev pub lone_key : List (List ℕ × List ℕ)
+lone_key = ([], 1 ∷ []) ∷ []
+
+abbrev pub lone_bits : List Bool
+lone_bits = key_bits marked []
+
+begins_longer : (p q : List Bool) → 0 < length q → begins (p ++ q) p ≡ false
+begins_longer [] [] some = absurd (omega arith)
+begins_longer [] (b ∷ q) some = refl
+begins_longer (true ∷ p) q some = begins_longer p q some
+begins_longer (false ∷ p) q some = begins_longer p q some
+
+none_at_byte : (s : ℕ) → slot_of marked lone_key lone_bits s ≡ None
+unfolding last_with
+none_at_byte s =
+    let longer = begins_longer lone_bits (byte_bits s) (omega (arith, length-bits_from (s ∷ []) 0 8)) in
+    rw longer refl
+
+none_at_bytes : (bytes : List ℕ) → filter_map (slot_of marked lone_key lone_bits) bytes ≡ []
+none_at_bytes [] = refl
+none_at_bytes (s ∷ bytes) =
+    ap (λ o. cons_option o (filter_map (slot_of marked lone_key lone_bits) bytes)) (none_at_byte s)
+    ∙ none_at_bytes bytes
+
+pub lone_page : page_of marked lone_key lone_bits ≡ []
+unfolding page_of
+lone_page = none_at_bytes (numbers 0 256)
+
+lone_held : get (map_of marked lone_key) (lone_bits ++ []) ≡ Some ones
+unfolding last_with
+lone_held = last_held marked (lone_bits ++ []) lone_key ∙ rw (append-nil, same_bits-itself lone_bits) refl
+
+pub lone_root : page_digest marked 32 with_ones ≡ root_of_levels marked 0 (below (map_of marked lone_key) lone_bits)
+unfolding root_of_levels
+lone_root = first_ones 0 8 ∙ sym (ap (λ o. unwrap_or o (empty_root marked 0)) lone_held)
+
+pub lone_length : length lone_bits ≡ 8 * 32
+lone_length = all_bits marked []
 
 -- One five, two or three of them, by the second byte of what is hashed.
 abbrev pub fives : List ℕ → List ℕ

@@ -8,8 +8,8 @@ use Rattle.warg_pages.proofs.premises.page_digest_is_needed.Goals as goal
 pub returns : goal.returns
 returns c = λ law. elim (law marked [] [] 0 with_ones marked_hashes (omega arith) refl ones_page) [
   | inl same ↦
-      ones_differ (subst (λ (page : List SlotAt). HaveSameDigests marked 0 with_ones page) (empty_page marked) same)
+      ones_differ 0 (subst (λ (page : List SlotAt). HaveSameDigests marked 0 with_ones page) (empty_page marked) same)
   | inr c ↦ let at =
       subst (λ (page : List SlotAt). SomeCollision marked (AreInputsAt marked 0 with_ones page))
-      (empty_page marked) c in ones_apart at.first at.second at.placed at.collide
+      (empty_page marked) c in ones_apart 0 at.first at.second at.placed at.collide
 ]

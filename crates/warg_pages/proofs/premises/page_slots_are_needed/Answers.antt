@@ -12,6 +12,7 @@ returns c =
           cut_differs H gives (subst (λ (page : List SlotAt). HaveSameDigests H 0 (cut_elsewhere H gives) page)
           (empty_page H) same)
       | inr c ↦ let at =
-          subst (λ (page : List SlotAt). SomeCollision H (AreInputsAt H 0 (cut_elsewhere H gives) page)) (empty_page H) c in
+          subst (λ (page : List SlotAt). SomeCollision H (AreInputsAt H 0 (cut_elsewhere H gives) page))
+          (empty_page H) c in
           cut_apart H gives at.first at.second at.placed at.collide
     ]
