@@ -1,12 +1,12 @@
 -- Pages of other digests than the empty map's, of which no placed byte strings collide.
 use Rattle.warg_pages.proofs.KeyPrefixes.{length-bits_from}
-use Rattle.warg_map.specs.Bits.{key_bits}
-use Rattle.warg_map.proofs.ForCallers.{all_bits, last_held, same_bits-itself}
+use Rattle.warg_map.specs.Bits.{key_bits, bits_from}
+use Rattle.warg_map.proofs.ForCallers.{all_bits, last_held, same_bits-itself, same_bits-true}
 use Rattle.std.specs.FinMap.{get}
 use Rattle.std.proofs.Common.{◌≡◌, ℕ, zero, suc, ◌+◌, ◌-◌, ◌*◌, ◌^◌, ◌<◌, ◌≤◌, ◌==◌, ◌⊎◌, inl, inr, Bool, true, false, cond, nat_eq, List, [], ◌∷◌, ◌++◌, length, take, drop, Option, Some, None, if◌then◌else◌, refl, sym, ap, subst, ◌∙◌, arith, append-nil, unwrap_or}
 use Rattle.std.specs.Prelude.{replicate}
 use Rattle.std.specs.List.{All, filter_map, cons_option}
-use Rattle.std.proofs.lemmas.Bool.{cases_lt, cond-false, ne_eqb}
+use Rattle.std.proofs.lemmas.Bool.{cases_lt, cond-false, ne_eqb, false_from_ne_true}
 use Rattle.std.proofs.lemmas.List.{take-append-drop, length-append, length-drop, length-take-le}
 use Rattle.std.proofs.lemmas.List.Elements.{All-replicate, All-cons, All-nil}
 use Rattle.std.proofs.Math.Nat.{pow-suc}
@@ -14,9 +14,9 @@ use Rattle.warg_crypto.specs.Collisions.{GivesHashes, Collides, SomeCollision}
 use Rattle.warg_crypto.specs.Digests.{IsDigest, IsByte}
 use Rattle.warg_crypto.specs.EmptyTrees.{empty_root}
 use Rattle.warg_crypto.specs.Tree.{branch_input}
-use Rattle.warg_map.specs.Last.{last_with}
+use Rattle.warg_map.specs.Last.{last_with, same_bits}
 use Rattle.warg_map.specs.Sparse.{root_of_levels, map_of}
-use Rattle.warg_pages.specs.Prefixes.{below, begins, byte_bits}
+use Rattle.warg_pages.specs.Prefixes.{below, begins, byte_bits, last_place}
 use Rattle.warg_pages.specs.Slots.{SlotAt, IsSlot, IsPage, slot_of, numbers, page_of}
 use Rattle.warg_pages.specs.Pages.{digest_at, root_over, slot_height, page_digest}
 use Rattle.warg_pages.specs.GivenPages.{HaveSameDigests, AreInputsAt, input_over}
@@ -328,3 +328,87 @@ both_page = record {
       All-cons IsSlot (slot 0 ones) (slot 2 twos ∷ []) (is_slot 0 ones (omega arith) ones-digest)
       (All-cons IsSlot (slot 2 twos) [] (is_slot 2 twos (omega arith) twos-digest) (All-nil IsSlot));
 }
+
+-- The lone key's page at the empty prefix, with the digest of its slot.
+abbrev lone_slot : List ℕ → SlotAt
+lone_slot digest = record { byte = 0; version = 1; digest = digest; lone = Some (zeros, ones) }
+
+abbrev slot_root : List ℕ
+slot_root = root_of_levels marked 248 (below (map_of marked lone_key) (byte_bits 0))
+
+top_page : page_of marked lone_key [] ≡ lone_slot slot_root ∷ []
+unfolding page_of numbers last_with last_place bits_from
+top_page = refl
+
+-- It has ones, as its key's bits are all false.
+left_root : (k : ℕ) (held : List Bool → Option (List ℕ)) → held (replicate k false) ≡ Some ones
+    → root_of_levels marked k held ≡ ones
+unfolding root_of_levels
+left_root zero held is = ap (λ o. unwrap_or o (empty_root marked 0)) is
+left_root (suc k) held is = rw (left_root k (λ q. held (false ∷ q)) is) refl
+
+bits_are : byte_bits 0 ++ replicate 248 false ≡ lone_bits
+unfolding bits_from
+bits_are = refl
+
+lone_here : get (map_of marked lone_key) lone_bits ≡ Some ones
+unfolding last_with
+lone_here = last_held marked lone_bits lone_key ∙ rw (same_bits-itself lone_bits) refl
+
+slot_ones : slot_root ≡ ones
+slot_ones =
+    left_root 248 (below (map_of marked lone_key) (byte_bits 0))
+    (ap (get (map_of marked lone_key)) bits_are ∙ lone_here)
+
+-- At eight bits nothing is held, so there the root is that of an empty tree.
+none_root : (k : ℕ) (held : List Bool → Option (List ℕ)) → ((q : List Bool) → length q ≡ k → held q ≡ None)
+    → root_of_levels marked k held ≡ zeros
+unfolding root_of_levels
+none_root zero held none = ap (λ o. unwrap_or o (empty_root marked 0)) (none [] refl) ∙ empty_zeros 0
+none_root (suc k) held none =
+    let left = none_root k (λ q. held (false ∷ q)) (λ q len. none (false ∷ q) (omega arith)) in
+    let right = none_root k (λ q. held (true ∷ q)) (λ q len. none (true ∷ q) (omega arith)) in
+    rw (left, right) refl
+
+short_none : (q : List Bool) → length q ≡ 8 → get (map_of marked lone_key) q ≡ None
+unfolding last_with
+short_none q len =
+    let other : same_bits q lone_bits ≡ false =
+    false_from_ne_true _ (λ e. omega (arith, ap length (same_bits-true q lone_bits e), all_bits marked [], len)) in
+    last_held marked q lone_key ∙ rw other refl
+
+pub short_root : page_digest marked 31 [] ≡ root_of_levels marked 8 (below (map_of marked lone_key) [])
+short_root = first_zeros 0 0 8 ∙ sym (none_root 8 (below (map_of marked lone_key) []) short_none)
+
+as_ones : (first k : ℕ) → input_over marked 31 (lone_slot ones ∷ []) first k ≡ input_over marked 31 with_ones first k
+unfolding digest_at
+as_ones first k = refl
+
+slot_input : (first k : ℕ)
+    → input_over marked 31 (lone_slot slot_root ∷ []) first k ≡ input_over marked 31 with_ones first k
+slot_input first k = ap (λ d. input_over marked 31 (lone_slot d ∷ []) first k) slot_ones ∙ as_ones first k
+
+pub top_differs : HaveSameDigests marked 31 [] (page_of marked lone_key []) → ⊥
+unfolding digest_at
+top_differs all =
+    let same = subst (λ (page : List SlotAt). HaveSameDigests marked 31 [] page) top_page all in
+    let wrong : ones ≡ zeros = sym slot_ones ∙ sym (same 0 (omega arith)) ∙ empty_zeros 0 in absurd cc
+
+pub top_apart : SomeCollision marked (AreInputsAt marked 31 [] (page_of marked lone_key [])) → ⊥
+top_apart c =
+    let found = subst (λ (page : List SlotAt). SomeCollision marked (AreInputsAt marked 31 [] page)) top_page c in
+    let at = found.placed in
+    ones_apart 31 found.second found.first
+    (record {
+      first = at.first;
+      levels = at.levels;
+      place = at.place;
+      aligned = at.aligned;
+      in_page = at.in_page;
+      one_is = at.other_is ∙ slot_input at.first at.levels;
+      other_is = at.one_is;
+    })
+    (record { differ = λ is. found.collide.differ (sym is); same = sym found.collide.same })
+
+pub no_page : IsPage []
+no_page = record { ascend = λ i j d order inside. absurd (omega arith); are_slots = All-nil IsSlot }

@@ -1,6 +1,5 @@
 //! What the premises of [`given_page`](crate::laws::given_page) are for: the contract of each function is the law, and it has
-//! no effect. Without any one of these premises the law is false. That isn't shown of one: that the prefix has eight bits for
-//! each byte of the depth.
+//! no effect. Without any one of these premises the law is false.
 
 ghost use Rattle.std.specs.Prelude.{◌≡◌, ◌*◌, ◌-◌, ◌<◌, ℕ, List, Bool, ◌⊎◌, length};
 ghost use Rattle.warg_crypto.specs.Collisions.{GivesHashes, SomeCollision};
@@ -33,6 +32,15 @@ pub fn page_slots_are_needed()
 pub fn page_depth_is_needed()
     ensures { ¬ ((H : List ℕ → List ℕ) (insertions : List (List ℕ × List ℕ)) (prefix : List Bool)
         (depth : ℕ) (slots : List SlotAt) → GivesHashes H → length prefix ≡ 8 * depth → IsPage slots
+        → page_digest H depth slots ≡ root_of_levels H (256 - 8 * depth) (below (map_of H insertions) prefix)
+        → HaveSameDigests H depth slots (page_of H insertions prefix)
+        ⊎ SomeCollision H (AreInputsAt H depth slots (page_of H insertions prefix))) }
+{}
+
+/// And where its prefix hasn't eight bits for each byte of the depth.
+pub fn page_prefix_is_needed()
+    ensures { ¬ ((H : List ℕ → List ℕ) (insertions : List (List ℕ × List ℕ)) (prefix : List Bool)
+        (depth : ℕ) (slots : List SlotAt) → GivesHashes H → depth < 32 → IsPage slots
         → page_digest H depth slots ≡ root_of_levels H (256 - 8 * depth) (below (map_of H insertions) prefix)
         → HaveSameDigests H depth slots (page_of H insertions prefix)
         ⊎ SomeCollision H (AreInputsAt H depth slots (page_of H insertions prefix))) }
