@@ -4,3 +4,4 @@ pub mod OwnLemmas
 pub mod HasLemmas
 pub mod AuditLemmas
 pub mod ConvictLemmas
+pub mod StepPremiseLemmas

@@ -1,14 +1,15 @@
 //! What the premises and the placement of [`true_or_collision`](crate::laws::true_or_collision) and of
 //! [`checked_steps_or_collision`](crate::laws::checked_steps_or_collision) are for: the contract of each function is the law,
-//! and it has no effect. Without any one premise the first is false, of every digest function, and so is the second where the
-//! steps aren't checked.
+//! and it has no effect. Without any one premise they are false, of every digest function but where that asks for its own
+//! digests.
 
 ghost use Rattle.std.specs.Prelude.{◌≡◌, ◌⊎◌, ℕ, List, Ok, true};
 ghost use Rattle.warg_crypto.specs.Collisions.{GivesHashes, Collides, SomeCollision};
 ghost use Rattle.warg_check.specs.Claims.{Claim, Evidence, verdict};
 ghost use Rattle.warg_claims.specs.Worlds.{World, HasRoots, IsTrueOf};
 ghost use Rattle.warg_claims.specs.Placed.{IsPlaced};
-ghost use Rattle.warg_claims.specs.Audits.{steps_of};
+ghost use Rattle.std.specs.FinMap.{empty};
+ghost use Rattle.warg_claims.specs.Audits.{AreChecked, steps_of};
 ghost use Rattle.warg_map.specs.Sparse.{sparse_root, map_of};
 ghost use Rattle.warg_witness.specs.UpdateClaims.{insertions_of, CollidesAtStep};
 
@@ -43,6 +44,14 @@ pub fn hashes_are_needed()
     ensures { ¬ ((H : List ℕ → List ℕ) (claim : Claim) (evidence : Evidence) (world : World claim)
         → verdict H claim evidence ≡ Ok true → HasRoots H claim world → ¬ IsTrueOf claim world
         → SomeCollision H (IsPlaced H claim evidence world)) }
+{}
+
+/// Where digests have any length, checked steps may end elsewhere, without a collision.
+pub fn checked_hashes_are_needed()
+    ensures { ¬ ((H : List ℕ → List ℕ) (steps : List (Claim × Evidence)) (end : List ℕ)
+        → AreChecked H (sparse_root H 256 empty) steps end
+        → (end ≡ sparse_root H 256 (map_of H (insertions_of (steps_of steps))))
+        ⊎ CollidesAtStep H (steps_of steps)) }
 {}
 
 /// Steps that aren't checked may end anywhere, without a collision.
