@@ -1,5 +1,6 @@
 -- What the laws state: a claim that is met and isn't true gives a collision.
-use Rattle.std.proofs.Common.{◌≡◌, ℕ, zero, suc, ◌+◌, ◌-◌, ◌<◌, ◌≤◌, ◌⊎◌, inl, inr, List, [], ◌∷◌, length, get_or, refl, sym, ap, ◌∙◌, arith, ◌^◌, Some, Bool, true, false, not, ◌++◌, Option, unwrap_or, append_assoc, length-append, reverse}
+use Rattle.std.proofs.Common.{◌≡◌, ℕ, zero, suc, ◌+◌, ◌-◌, ◌<◌, ◌≤◌, ◌⊎◌, inl, inr, List, [], ◌∷◌, length, get_or, refl, sym, ap, ◌∙◌, arith, ◌^◌, Some, Bool, true, false, not, ◌++◌, Option, unwrap_or, append_assoc, length-append, reverse, subst}
+use Rattle.std.specs.Prelude.{Contains}
 use Rattle.std.proofs.lemmas.Bool.{cases_lt}
 use Rattle.warg_crypto.proofs.ForCallers.{same_or_not, HasSize, sizes, branch_parts}
 use Rattle.warg_log.specs.Tree.{front_of, leaves_of, root_of, root_over, own_digest}
@@ -7,17 +8,17 @@ use Rattle.warg_log.specs.Cut.{Evaluation, with_target, cut_over}
 use Rattle.warg_witness.specs.Ranges.{IsAround}
 use Rattle.warg_witness.specs.Claims.{Begins, IsMet, IsEntry, IsRootBelow, IsAgreement, IsConsistencyMet}
 use Rattle.warg_crypto.specs.Collisions.{GivesHashes, SomeCollision}
-use Rattle.warg_witness.specs.Laws.{HoldsHashes}
+use Rattle.warg_witness.specs.Laws.{HoldsRoots}
 use Rattle.warg_log.specs.Ranges.{leaves_from, range_of, IsAligned}
 use Rattle.warg_witness.specs.Private.Ranges.{IsNodeRange, IsRootOf}
 use Rattle.warg_witness.specs.Private.Divergence.{HaveOneDigest, IsDivergence, Parts, Shows, inputs}
 use Rattle.warg_witness.specs.Private.RangeClimbs.{IsRangeClimb}
 use Rattle.warg_witness.specs.declared.divergence.Divergence.{Divergence}
-use Rattle.warg_witness.proofs.RangeLemmas.{Digest, node_range, Data, more_than_one, node_some, wider, sides_aligned, side_around, leaf_node, node_aligned, whole_aligned, full_or_not}
+use Rattle.warg_witness.proofs.RangeLemmas.{Digest, node_range, Data, more_than_one, node_some, wider, sides_aligned, side_around, leaf_node, node_aligned, whole_aligned, full_or_not, root_contained}
 use Rattle.warg_witness.specs.Private.Ranges.IsRootOf.{all_leaves, at_front, in_rest}
 use Rattle.warg_witness.proofs.ClimbLemmas.{shown, up_somewhere}
 use Rattle.warg_witness.proofs.CutLemmas.{ranges_start, sides_there, ranges_up, leaves_count, have_root, have_range, plain_digest_is}
-use Rattle.warg_log.specs.Nodes.{height_of, start_of}
+use Rattle.warg_log.specs.Nodes.{height_of, start_of, balanced_roots, node_over}
 use Rattle.warg_witness.specs.Placed.{IsValuePlaced, IsHashPlaced, IsAgreementPlaced, IsConsistencyPlaced}
 use Rattle.warg_witness.specs.declared.divergence.Divergence.TheVariants.{Target, Branch}
 use Rattle.warg_witness.proofs.ShownLemmas.{entry_from, value_placed, value_meets, hash_placed, agreement_shown, root_leads, old_placed, new_placed, below_shown}
@@ -155,7 +156,7 @@ module _ (H : Digest) where
       shown_collides _ (agreement_shown H F value G other p.leaf.0 n at untrue diverges)
 
   -- the balanced root around a difference shows a collision
-  pub consistency_collides : (F : Data) (m n : ℕ) (old new : List (List ℕ)) → GivesHashes H → HoldsHashes F → IsConsistencyMet H F m n old new → (Begins old new → ⊥)
+  pub consistency_collides : (F : Data) (m n : ℕ) (old new : List (List ℕ)) → GivesHashes H → HoldsRoots F m → IsConsistencyMet H F m n old new → (Begins old new → ⊥)
       → SomeCollision H (IsConsistencyPlaced H F old new)
   consistency_collides F m n old new digests holds met untrue =
       let gives = sizes digests in
@@ -166,7 +167,9 @@ module _ (H : Digest) where
       let leads = root_leads (rw (leaves_count H old, leaves_count H new, met.old_count, met.new_count) met.roots) root.2 in
       let at = leads.1 in
       let place = found.0 in
-      let size = holds _ _ at.held in
+      let count = leaves_count H old ∙ met.old_count in
+      let is_root = subst (λ k. Contains (balanced_roots k) (node_over root.0 root.1)) count (root_contained root.2) in
+      let size = holds _ _ is_root at.held in
       let from_old = from_tree old gives size at.node at.in_old at.to_old in
       let from_new = from_tree new gives size at.node at.in_new at.to_new in
       some_collision from_old.0 (old_placed refl refl at)
