@@ -5,3 +5,4 @@ pub mod HasLemmas
 pub mod AuditLemmas
 pub mod ConvictLemmas
 pub mod StepPremiseLemmas
+pub mod BundlePremiseLemmas

@@ -3,10 +3,16 @@
 //! and it has no effect. Without any one premise they are false, of every digest function but where that asks for its own
 //! digests.
 
-ghost use Rattle.std.specs.Prelude.{◌≡◌, ◌⊎◌, ℕ, List, Ok, true};
+ghost use Rattle.std.specs.Prelude.{◌≡◌, ◌⊎◌, ℕ, List, Some, Ok, true, slice_get};
 ghost use Rattle.warg_crypto.specs.Collisions.{GivesHashes, Collides, SomeCollision};
 ghost use Rattle.warg_check.specs.Claims.{Claim, Evidence, verdict};
-ghost use Rattle.warg_claims.specs.Worlds.{World, HasRoots, IsTrueOf};
+ghost use Rattle.warg_claims.specs.Worlds.{World, HasRoots, IsTrueOf, IsLogOf};
+ghost use Rattle.warg_check.specs.Verdicts.{inclusion_verdict};
+ghost use Rattle.warg_log.specs.Sparse.{held_digest};
+ghost use Rattle.warg_log.specs.declared.node.Node.{Node};
+ghost use Rattle.warg_bundle.specs.LogBundles.{Bundle, bundle_of};
+ghost use Rattle.warg_witness.specs.Claims.{IsEntry};
+ghost use Rattle.warg_witness.specs.Placed.{IsValuePlaced};
 ghost use Rattle.warg_claims.specs.Placed.{IsPlaced};
 ghost use Rattle.std.specs.FinMap.{empty};
 ghost use Rattle.warg_claims.specs.Audits.{AreChecked, steps_of};
@@ -59,4 +65,33 @@ pub fn checked_steps_are_needed()
     ensures { (H : List ℕ → List ℕ) → ¬ ((steps : List (Claim × Evidence)) (end : List ℕ)
         → (end ≡ sparse_root H 256 (map_of H (insertions_of (steps_of steps))))
         ⊎ CollidesAtStep H (steps_of steps)) }
+{}
+
+/// A proof without a true verdict may be of a value that isn't the entry, without a collision.
+pub fn inclusion_verdict_is_needed()
+    ensures { ¬ ((H : List ℕ → List ℕ) (bytes : List ℕ) (place : ℕ) (value root : List ℕ) (b : Bundle)
+        (node : Node) (entries : List (List ℕ)) → GivesHashes H → bundle_of bytes ≡ Ok b
+        → slice_get b.included_nodes place ≡ Some node
+        → IsLogOf H (record { root = root; length = b.log_length }) entries
+        → ¬ IsEntry value node.0 entries
+        → SomeCollision H (IsValuePlaced H (held_digest b.hashes) value node.0 entries)) }
+{}
+
+/// And so may one with a true verdict, of entries with another root.
+pub fn inclusion_root_is_needed()
+    ensures { ¬ ((H : List ℕ → List ℕ) (bytes : List ℕ) (place : ℕ) (value root : List ℕ) (b : Bundle)
+        (node : Node) (entries : List (List ℕ)) → GivesHashes H
+        → inclusion_verdict H bytes place value root ≡ Ok true → bundle_of bytes ≡ Ok b
+        → slice_get b.included_nodes place ≡ Some node → ¬ IsEntry value node.0 entries
+        → SomeCollision H (IsValuePlaced H (held_digest b.hashes) value node.0 entries)) }
+{}
+
+/// Where the value is the entry, there need be no collision.
+pub fn inclusion_untruth_is_needed()
+    ensures { (H : List ℕ → List ℕ) → ¬ ((bytes : List ℕ) (place : ℕ) (value root : List ℕ) (b : Bundle)
+        (node : Node) (entries : List (List ℕ))
+        → inclusion_verdict H bytes place value root ≡ Ok true → bundle_of bytes ≡ Ok b
+        → slice_get b.included_nodes place ≡ Some node
+        → IsLogOf H (record { root = root; length = b.log_length }) entries
+        → SomeCollision H (IsValuePlaced H (held_digest b.hashes) value node.0 entries)) }
 {}
