@@ -1,9 +1,9 @@
 -- A bundle with the inclusion proof of the only entry of a log, and the verdicts on it.
-use Rattle.std.proofs.Common.{◌≡◌, ℕ, ◌<◌, ◌==◌, ◌&&◌, Bool, true, false, cond, nat_eq, List, [], ◌∷◌, length, Option, Some, None, Ok, refl, sym, ap, ◌∙◌, arith}
-use Rattle.std.specs.Prelude.{replicate}
+use Rattle.std.proofs.Common.{◌≡◌, ℕ, Bool, true, false, cond, nat_eq, List, [], ◌∷◌, Option, Ok, refl, sym, ap, ◌∙◌, arith, inl, inr}
+use Rattle.std.specs.Prelude.{replicate, Contains}
 use Rattle.std.specs.Cmp.Lexicographic.{bytes_decides}
 use Rattle.std.proofs.lemmas.List.Elements.{All-replicate}
-use Rattle.warg_crypto.specs.Collisions.{GivesHashes, Collides, SomeCollision}
+use Rattle.warg_crypto.specs.Collisions.{GivesHashes, SomeCollision}
 use Rattle.warg_crypto.specs.Digests.{IsDigest, IsByte}
 use Rattle.warg_crypto.specs.Tree.{leaf_digest, leaf_input}
 use Rattle.warg_protobuf.specs.Field.{payload_at, field_at}
@@ -13,16 +13,15 @@ use Rattle.warg_protobuf.specs.Reading.{all_in, all_of}
 use Rattle.warg_protobuf.specs.Schema.{uint32_in, bytes_in, packed_uint32s, uint32s_in, message_of, message_in, values, last_of}
 use Rattle.warg_protobuf.specs.Varint.{varint_in, varint_at}
 use Rattle.warg_log.specs.Cut.{way_within, top_of}
-use Rattle.warg_log.specs.Nodes.{height_of, height_within, place_of}
+use Rattle.warg_log.specs.Nodes.{height_of, height_within, place_of, balanced_within, balanced_roots}
 use Rattle.warg_log.specs.Sparse.{held_digest}
-use Rattle.warg_log.specs.Tree.{root_within}
 use Rattle.warg_log.specs.declared.node.Node.{Node}
 use Rattle.warg_bundle.specs.LogBundles.{Bundle, bundle_of}
 use Rattle.warg_witness.specs.Claims.{IsEntry}
-use Rattle.warg_witness.specs.Placed.{IsValuePlaced}
+use Rattle.warg_witness.specs.Placed.{IsValuePlaced, IsConsistencyPlaced}
 use Rattle.warg_witness.specs.Ranges.{IsPart}
 use Rattle.warg_witness.specs.Ranges.IsPart.{whole, front, rest}
-use Rattle.warg_check.specs.Verdicts.{verdict_at, includes, inclusion_verdict}
+use Rattle.warg_check.specs.Verdicts.{verdict_at, includes, inclusion_verdict, extends, consistency_verdict}
 
 -- The node of the first entry, and the bundle of its proof at length 1, which needs no digest.
 abbrev pub first_node : Node
@@ -61,10 +60,10 @@ at_entry H value first second at =
     (is, rw (one.0, one.1) at at.plain)
 
 -- Ones where a one stands behind the first byte of what is hashed, and else zeros.
-abbrev zeros : List ℕ
+abbrev pub zeros : List ℕ
 zeros = replicate 32 0
 
-abbrev ones : List ℕ
+abbrev pub ones : List ℕ
 ones = replicate 32 1
 
 abbrev has_one : List ℕ → Bool
@@ -95,3 +94,48 @@ marks_apart c =
 pub not_entry : IsEntry (1 ∷ []) 0 ([] ∷ []) → ⊥
 unfolding height_of height_within place_of
 not_entry is = let same : [] ≡ 1 ∷ [] = is.same in absurd cc
+
+-- The bundle of a proof from length 1 to length 1, with zeros for the first node.
+abbrev pub one_growth : Bundle
+one_growth =
+    record { log_length = 1; consistent_lengths = 1 ∷ []; included_nodes = []; hashes = (first_node, zeros) ∷ [] }
+
+abbrev pub growth_bytes : List ℕ
+growth_bytes = 8 ∷ 1 ∷ 18 ∷ 1 ∷ 1 ∷ 34 ∷ 34 ∷ 18 ∷ 32 ∷ zeros
+
+pub growth_read : bundle_of growth_bytes ≡ Ok one_growth
+unfolding payload_at field_at log_schema entry_schema all_in all_of uint32_in bytes_in packed_uint32s uint32s_in message_of message_in values last_of varint_in varint_at
+growth_read = refl
+
+pub growth_shown : consistency_verdict marked growth_bytes 0 zeros zeros ≡ Ok true
+unfolding way_within top_of height_of height_within place_of balanced_within
+growth_shown =
+    ap (verdict_at (λ (b : Bundle). b.consistent_lengths) (extends marked zeros zeros) 0) growth_read
+
+only_root : {root : ℕ} → Contains (balanced_roots 1) root → root ≡ 0
+unfolding balanced_within
+only_root (i, within, is) = let first : i ≡ 0 = omega (arith, within) in sym (rw first at is)
+
+-- Of two logs of one entry each, only both entries' leaves are compared.
+pub at_entries : (F : ℕ → Option (List ℕ)) (old new first second : List ℕ)
+    → IsConsistencyPlaced marked F (old ∷ []) (new ∷ []) first second
+    → (first ≡ leaf_input old) × (second ≡ leaf_input new)
+unfolding height_of height_within place_of
+at_entries F old new first second (inl in_old) = absurd (in_old.split (0, (part_of_one in_old.part).1))
+at_entries F old new first second (inr (inl in_new)) =
+    let one = part_of_one in_new.part in
+    let root : in_new.root ≡ 0 = only_root in_new.is_root in
+    absurd (in_new.other (one.0 ∙ sym (rw root refl)) (one.1 ∙ sym (rw root refl)))
+at_entries F old new first second (inr (inr both)) =
+    let one = part_of_one both.old_part in
+    (rw (one.0, one.1) at both.old_plain, rw (one.0, one.1) at both.new_plain)
+
+pub entries_apart : (F : ℕ → Option (List ℕ))
+    → SomeCollision marked (IsConsistencyPlaced marked F ([] ∷ []) ((1 ∷ []) ∷ [])) → ⊥
+entries_apart F c =
+    let at = at_entries F [] (1 ∷ []) c.first c.second c.placed in
+    let same : zeros ≡ ones = sym (ap marked at.0) ∙ c.collide.same ∙ ap marked at.1 in absurd cc
+
+pub entries_same : (F : ℕ → Option (List ℕ)) → SomeCollision marked (IsConsistencyPlaced marked F ([] ∷ []) ([] ∷ []))
+    → ⊥
+entries_same F c = let at = at_entries F [] [] c.first c.second c.placed in c.collide.differ (at.0 ∙ sym at.1)

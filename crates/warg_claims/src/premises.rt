@@ -1,18 +1,17 @@
-//! What the premises and the placement of [`true_or_collision`](crate::laws::true_or_collision) and of
-//! [`checked_steps_or_collision`](crate::laws::checked_steps_or_collision) are for: the contract of each function is the law,
-//! and it has no effect. Without any one premise they are false, of every digest function but where that asks for its own
-//! digests.
+//! What the premises and the placements of the laws in [`laws`](crate::laws) that end in a collision are for: the contract of
+//! each function is the law, and it has no effect. Without any one premise such a law is false, of every digest function or of
+//! one. Of the laws of the two checks those that they add to the witness's are shown: the verdict, the roots and the untruth.
 
 ghost use Rattle.std.specs.Prelude.{◌≡◌, ◌⊎◌, ℕ, List, Some, Ok, true, slice_get};
 ghost use Rattle.warg_crypto.specs.Collisions.{GivesHashes, Collides, SomeCollision};
 ghost use Rattle.warg_check.specs.Claims.{Claim, Evidence, verdict};
 ghost use Rattle.warg_claims.specs.Worlds.{World, HasRoots, IsTrueOf, IsLogOf};
-ghost use Rattle.warg_check.specs.Verdicts.{inclusion_verdict};
+ghost use Rattle.warg_check.specs.Verdicts.{inclusion_verdict, consistency_verdict};
 ghost use Rattle.warg_log.specs.Sparse.{held_digest};
 ghost use Rattle.warg_log.specs.declared.node.Node.{Node};
 ghost use Rattle.warg_bundle.specs.LogBundles.{Bundle, bundle_of};
-ghost use Rattle.warg_witness.specs.Claims.{IsEntry};
-ghost use Rattle.warg_witness.specs.Placed.{IsValuePlaced};
+ghost use Rattle.warg_witness.specs.Claims.{IsEntry, Begins};
+ghost use Rattle.warg_witness.specs.Placed.{IsValuePlaced, IsConsistencyPlaced};
 ghost use Rattle.warg_claims.specs.Placed.{IsPlaced};
 ghost use Rattle.std.specs.FinMap.{empty};
 ghost use Rattle.warg_claims.specs.Audits.{AreChecked, steps_of};
@@ -94,4 +93,34 @@ pub fn inclusion_untruth_is_needed()
         → slice_get b.included_nodes place ≡ Some node
         → IsLogOf H (record { root = root; length = b.log_length }) entries
         → SomeCollision H (IsValuePlaced H (held_digest b.hashes) value node.0 entries)) }
+{}
+
+/// Entries may not begin with others, without a collision, where no proof with a true verdict says so.
+pub fn extension_verdict_is_needed()
+    ensures { ¬ ((H : List ℕ → List ℕ) (bytes : List ℕ) (place : ℕ) (old new : List ℕ) (b : Bundle)
+        (m : ℕ) (before after : List (List ℕ)) → GivesHashes H → bundle_of bytes ≡ Ok b
+        → slice_get b.consistent_lengths place ≡ Some m
+        → IsLogOf H (record { root = old; length = m }) before
+        → IsLogOf H (record { root = new; length = b.log_length }) after → ¬ Begins before after
+        → SomeCollision H (IsConsistencyPlaced H (held_digest b.hashes) before after)) }
+{}
+
+/// And where they have other roots than those that it leads to.
+pub fn extension_roots_are_needed()
+    ensures { ¬ ((H : List ℕ → List ℕ) (bytes : List ℕ) (place : ℕ) (old new : List ℕ) (b : Bundle)
+        (m : ℕ) (before after : List (List ℕ)) → GivesHashes H
+        → consistency_verdict H bytes place old new ≡ Ok true → bundle_of bytes ≡ Ok b
+        → slice_get b.consistent_lengths place ≡ Some m → ¬ Begins before after
+        → SomeCollision H (IsConsistencyPlaced H (held_digest b.hashes) before after)) }
+{}
+
+/// Where the new entries begin with the old ones, there need be no collision.
+pub fn extension_untruth_is_needed()
+    ensures { ¬ ((H : List ℕ → List ℕ) (bytes : List ℕ) (place : ℕ) (old new : List ℕ) (b : Bundle)
+        (m : ℕ) (before after : List (List ℕ)) → GivesHashes H
+        → consistency_verdict H bytes place old new ≡ Ok true → bundle_of bytes ≡ Ok b
+        → slice_get b.consistent_lengths place ≡ Some m
+        → IsLogOf H (record { root = old; length = m }) before
+        → IsLogOf H (record { root = new; length = b.log_length }) after
+        → SomeCollision H (IsConsistencyPlaced H (held_digest b.hashes) before after)) }
 {}
