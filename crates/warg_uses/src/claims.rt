@@ -1,11 +1,12 @@
 //! What a client's verdict is worth to an auditor who has the log's entries.
 
-ghost use Rattle.std.specs.Prelude.{◌≡◌, ℕ, List, map, true, Ok, IfOk, Some, IfSome, OnSome, slice_get};
+ghost use Rattle.std.specs.Prelude.{◌≡◌, ℕ, List, map, true, Ok, IfOk, Some, IfSome, IfNone, OnSome, slice_get};
 ghost use Rattle.warg_crypto.specs.Collisions.{SomeCollision};
 ghost use Rattle.warg_check.specs.Claims.Claim.{entry_at};
 ghost use Rattle.warg_check.specs.Claims.Evidence.{by_bundle};
 ghost use Rattle.warg_claims.specs.Worlds.{IsLogOf};
 ghost use Rattle.warg_claims.specs.Placed.{IsPlaced};
+ghost use Rattle.warg_claims.specs.Convictions.{IsShownOf};
 
 use std::alloc::{AllocError, Global};
 use warg_check::{CheckError, check_entry};
@@ -44,8 +45,15 @@ pub fn lie_of<D: SupportedDigest, V: VisitBytes>(
     log: &Checkpoint<D>,
     entries: &[V],
 ) -> Result<Option<Collision<D>>, AllocError>
+    ensures shown { IfOk result (λ found. OnSome found (IsShownOf D.digest
+        (entry_at index (V.bytes release.now) log.now) (by_bundle bundle.now 0)
+        (map V.bytes entries.now))) }
     ensures untrue { IfOk result (λ found. OnSome found
         (¬ (slice_get (map V.bytes entries.now) index ≡ Some (V.bytes release.now)))) }
+    ensures none { IfOk result (λ found. IfNone found (IsShownOf D.digest
+        (entry_at index (V.bytes release.now) log.now) (by_bundle bundle.now 0)
+        (map V.bytes entries.now)
+        → slice_get (map V.bytes entries.now) index ≡ Some (V.bytes release.now))) }
     ensures placed { IfOk result (λ found. IfSome found (λ pair. IsPlaced D.digest
         (entry_at index (V.bytes release.now) log.now) (by_bundle bundle.now 0)
         (map V.bytes entries.now) pair.0 pair.1)) }
