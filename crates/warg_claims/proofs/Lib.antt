@@ -3,3 +3,6 @@ pub mod PremiseLemmas
 pub mod OwnLemmas
 pub mod HasLemmas
 pub mod AuditLemmas
+pub mod ConvictLemmas
+pub mod StepPremiseLemmas
+pub mod BundlePremiseLemmas

@@ -1,9 +1,15 @@
 //! The theorem: what a true verdict is worth. The contract of each function is the law, and it has no effect.
 
-ghost use Rattle.std.specs.Prelude.{◌≡◌, ◌⊎◌, ℕ, List, Ok, true};
+ghost use Rattle.std.specs.Prelude.{◌≡◌, ◌⊎◌, ℕ, List, Some, Ok, true, slice_get};
 ghost use Rattle.warg_crypto.specs.Collisions.{GivesHashes, SomeCollision};
 ghost use Rattle.warg_check.specs.Claims.{Claim, Evidence, verdict};
-ghost use Rattle.warg_claims.specs.Worlds.{World, HasRoots, IsTrueOf};
+ghost use Rattle.warg_claims.specs.Worlds.{World, HasRoots, IsTrueOf, IsLogOf};
+ghost use Rattle.warg_check.specs.Verdicts.{inclusion_verdict, consistency_verdict};
+ghost use Rattle.warg_log.specs.Sparse.{held_digest};
+ghost use Rattle.warg_log.specs.declared.node.Node.{Node};
+ghost use Rattle.warg_bundle.specs.LogBundles.{Bundle, bundle_of};
+ghost use Rattle.warg_witness.specs.Claims.{IsEntry, Begins};
+ghost use Rattle.warg_witness.specs.Placed.{IsValuePlaced, IsConsistencyPlaced};
 ghost use Rattle.warg_claims.specs.Placed.{IsPlaced};
 ghost use Rattle.warg_claims.specs.Own.{Has, IsOwn};
 ghost use Rattle.warg_claims.specs.Audits.{AreChecked, steps_of};
@@ -47,6 +53,37 @@ pub fn true_or_collision()
     equal_maps_or_collision();
     record_or_collision();
     tree_or_collision();
+}
+
+/// What `check_inclusion` is worth, which binds neither length nor index: where its verdict is true, and entries have the root
+/// and are as many as the bundle says, the proof's node is a leaf, and its entry has the value's bytes, or two different byte
+/// strings of one digest stand where [`value_or_collision`] says. Of entries in any other number it says nothing.
+pub fn inclusion_or_collision()
+    ensures { (H : List ℕ → List ℕ) (bytes : List ℕ) (place : ℕ) (value root : List ℕ) (b : Bundle)
+        (node : Node) (entries : List (List ℕ)) → GivesHashes H
+        → inclusion_verdict H bytes place value root ≡ Ok true → bundle_of bytes ≡ Ok b
+        → slice_get b.included_nodes place ≡ Some node
+        → IsLogOf H (record { root = root; length = b.log_length }) entries
+        → ¬ IsEntry value node.0 entries
+        → SomeCollision H (IsValuePlaced H (held_digest b.hashes) value node.0 entries) }
+{
+    value_or_collision();
+}
+
+/// What `check_consistency` is worth, which binds no lengths: where its verdict is true, and old and new entries have the two
+/// roots and are as many as the proof and the bundle say, the new entries begin with the old ones, or two different byte
+/// strings of one digest stand where [`consistency_or_collision`] says. Of entries in any other number it says nothing.
+pub fn extension_or_collision()
+    ensures { (H : List ℕ → List ℕ) (bytes : List ℕ) (place : ℕ) (old new : List ℕ) (b : Bundle)
+        (m : ℕ) (before after : List (List ℕ)) → GivesHashes H
+        → consistency_verdict H bytes place old new ≡ Ok true → bundle_of bytes ≡ Ok b
+        → slice_get b.consistent_lengths place ≡ Some m
+        → IsLogOf H (record { root = old; length = m }) before
+        → IsLogOf H (record { root = new; length = b.log_length }) after → ¬ Begins before after
+        → SomeCollision H (IsConsistencyPlaced H (held_digest b.hashes) before after) }
+{
+    growth_is_shown();
+    consistency_or_collision();
 }
 
 /// What is true has a true verdict: the evidence that a log or a map gives of what it has, a bundle or a path, shows the

@@ -100,9 +100,8 @@ pub fn cut_target()
 
 /// The cut root of a range that misses the target and has a power of two of leaves is the digest that
 /// is held for it.
-#[tactic(auto, using(crate::proofs::CutLemmas::cut_over_read, crate::proofs::WayLemmas::beside_decides))]
 pub fn cut_beside()
-    ensures { (H : List ℕ → List ℕ) (e : Evaluation) (r : Range) → 0 < e.target.count
+    ensures { (H : List ℕ → List ℕ) (e : Evaluation) (r : Range)
         → IsFull r.count → IsTrue (is_beside e.target r)
         → cut_over H e r ≡ e.held (node_over r.start r.count) }
 {}
@@ -122,9 +121,8 @@ pub fn needed_target()
 {}
 
 /// A range that misses the target and has a power of two of leaves needs the node over it.
-#[tactic(auto, using(crate::proofs::OrderLemmas::way_beside, crate::proofs::WayLemmas::beside_decides), unfolding(crate::specs::Walks::read_on))]
 pub fn needed_beside()
-    ensures { (t r : Range) → 0 < t.count → IsFull r.count → IsTrue (is_beside t r)
+    ensures { (t r : Range) → IsFull r.count → IsTrue (is_beside t r)
         → needed_over t r ≡ node_over r.start r.count ∷ [] }
 {}
 
@@ -156,10 +154,9 @@ pub fn needed_known()
 /// The cut root by the digests of a walk, in its order: the target's digest is joined with those of the
 /// siblings on the way up to its balanced root, the lower number's on the left; then the digests of all
 /// balanced roots, with what it has become in that root's place, are joined from right to left.
-#[tactic(auto, using(crate::proofs::ClimbLemmas::cut_root_walk))]
 pub fn cut_by_walk()
     ensures { (H : List ℕ → List ℕ) (F : ℕ → Option (List ℕ)) (t : ℕ) (x : List ℕ) (n steps : ℕ)
-        (left right : List ℕ) → 0 < n
+        (left right : List ℕ)
         → balanced_roots n ≡ left ++ number_of (height_of t + steps)
         (place_of t / 2 ^ steps) ∷ right
         → cut_root H F t x n ≡ joined_all H (map F left ++ climbed H F (Some x) (height_of t)
@@ -227,9 +224,8 @@ pub fn old_parts()
 
 /// Over a log's own digests, the old root at each length up to the log's is the root of that many
 /// leaves.
-#[tactic(auto, using(crate::proofs::CutLemmas::old_root_own))]
 pub fn old_own()
-    ensures { (H : List ℕ → List ℕ) (ds : List (List ℕ)) (m : ℕ) → 0 < m → m ≤ length ds
+    ensures { (H : List ℕ → List ℕ) (ds : List (List ℕ)) (m : ℕ) → m ≤ length ds
         → old_root H (own_digest H ds) m ≡ Some (root_of H (take m ds)) }
 {}
 

@@ -1,6 +1,6 @@
 //! Laws of the map, over its definitions alone.
 
-ghost use Rattle.std.specs.Prelude.{◌≡◌, ℕ, List, Bool, Option, Some, length, ◌+◌, ◌≤◌, ◌++◌};
+ghost use Rattle.std.specs.Prelude.{◌≡◌, ℕ, List, Bool, Option, Some, length, ◌+◌, ◌++◌};
 ghost use Rattle.std.specs.Option.{option_map};
 ghost use Rattle.std.specs.FinMap.{get, insert};
 ghost use Rattle.std.specs.List.Sorted.{IsPermutation};
@@ -99,7 +99,6 @@ pub fn last_held()
 pub fn root_at_prefix()
     ensures { (H : List ℕ → List ℕ) (m : SparseMap) (prefix rest : List Bool)
         (peers : List (Option (List ℕ))) (x : List ℕ) → length prefix + length rest ≡ 256
-        → length peers ≤ 256
         → Proves H 256 m (prefix ++ rest) peers → get m (prefix ++ rest) ≡ Some x
         → proof_value H peers x rest ≡ root_of_levels H (length rest)
         (λ bits. get m (prefix ++ bits)) }
@@ -108,7 +107,7 @@ pub fn root_at_prefix()
 /// The proof that bits aren't held leads from an empty leaf to the plain root at each prefix of the bits.
 pub fn absent_root_at_prefix()
     ensures { (H : List ℕ → List ℕ) (m : SparseMap) (prefix rest : List Bool)
-        (peers : List (Option (List ℕ))) → length prefix + length rest ≡ 256 → length peers ≤ 256
+        (peers : List (Option (List ℕ))) → length prefix + length rest ≡ 256
         → ProvesAbsent H m (prefix ++ rest) peers
         → proof_value H peers (empty_root H 0) rest
         ≡ root_of_levels H (length rest) (λ bits. get m (prefix ++ bits)) }

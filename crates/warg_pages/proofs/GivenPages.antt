@@ -54,25 +54,39 @@ halves f g first k l r = λ s ge lt. let double = pow-suc 2 k in elim (cases_lt 
 abbrev Sized : (ℕ → List ℕ) → Type 0
 Sized f = (s : ℕ) → s < 256 → length (f s) ≡ 32
 
-same_over : (H : List ℕ → List ℕ) → HasSize H → (depth : ℕ) (xs ys : List SlotAt) (first k : ℕ) → first + 2 ^ k ≤ 256 → Sized (digest_at H (slot_height depth) xs) → Sized (digest_at H (slot_height depth) ys)
+same_over : (H : List ℕ → List ℕ) → HasSize H → (depth : ℕ) (xs ys : List SlotAt) (first k place : ℕ)
+    → first ≡ place * 2 ^ k → first + 2 ^ k ≤ 256 → Sized (digest_at H (slot_height depth) xs)
+    → Sized (digest_at H (slot_height depth) ys)
     → root_over H (digest_at H (slot_height depth) xs) first k ≡ root_over H (digest_at H (slot_height depth) ys) first k
     → SameOver (digest_at H (slot_height depth) xs) (digest_at H (slot_height depth) ys) first k ⊎ SomeCollision H (AreInputsAt H depth xs ys)
 unfolding root_over
-same_over H size depth xs ys first zero le lf lg e = inl (λ s ge lt. let at : s ≡ first = omega arith in rw at e)
-same_over H size depth xs ys first (suc k) le lf lg e =
+same_over H size depth xs ys first zero place from le lf lg e =
+    inl (λ s ge lt. let at : s ≡ first = omega arith in rw at e)
+same_over H size depth xs ys first (suc k) place from le lf lg e =
     let double = pow-suc 2 k in
+    let scaled = ap (λ p. place * p) double in
     let some = pow_pos k in
     let f = digest_at H (slot_height depth) xs in
     let g = digest_at H (slot_height depth) ys in
     elim (same_or_not (input_over H depth xs first k) (input_over H depth ys first k)) [
       | inl same ↦ (
           let parts = branch_parts (root_over H f first k) (root_over H f (first + 2 ^ k) k) (root_over H g first k) (root_over H g (first + 2 ^ k) k) (size_over H size f first k (lf first (omega arith)) ∙ sym (size_over H size g first k (lg first (omega arith)))) same in
-          both (halves f g first k) (same_over H size depth xs ys first k (omega arith) lf lg parts.0) (same_over H size depth xs ys (first + 2 ^ k) k (omega arith) lf lg parts.1))
+          both (halves f g first k)
+          (same_over H size depth xs ys first k (2 * place) (omega arith) (omega arith) lf lg parts.0)
+          (same_over H size depth xs ys (first + 2 ^ k) k (2 * place + 1) (omega arith) (omega arith) lf lg parts.1))
       | inr differ ↦ inr record {
         first = _;
         second = _;
         collide = record { differ = differ; same = e };
-        placed = record { first = first; levels = k; in_page = omega arith; one_is = refl; other_is = refl };
+        placed = record {
+          first = first;
+          levels = k;
+          place = place;
+          aligned = omega arith;
+          in_page = omega arith;
+          one_is = refl;
+          other_is = refl;
+        };
       }
     ]
 
@@ -82,7 +96,9 @@ pub given_page : (H : List ℕ → List ℕ) (es : List (List ℕ × List ℕ)) 
 given_page H es p depth slots gives lt n page e =
     let size = sizes gives in
     both (λ same (u : Unit {0}) s low. same s (omega arith) low)
-    (same_over H size depth slots (page_of H es p) 0 8 (omega arith) (λ s low. size_at H size (slot_height depth) slots s page.are_slots) own (e ∙ sym (page_root H es p depth lt n)))
+    (same_over H size depth slots (page_of H es p) 0 8 0 (omega arith) (omega arith)
+    (λ s low. size_at H size (slot_height depth) slots s page.are_slots) own (e
+    ∙ sym (page_root H es p depth lt n)))
     (inl tt)
   where
     own : Sized (digest_at H (slot_height depth) (page_of H es p))

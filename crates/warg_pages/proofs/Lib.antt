@@ -23,3 +23,4 @@ mod HashEquality
 mod OwnWays
 mod Refused
 mod FinalPeers
+mod PremiseLemmas

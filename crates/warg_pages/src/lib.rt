@@ -18,6 +18,7 @@ mod lone;
 mod page;
 mod path;
 mod peers;
+pub mod premises;
 mod prove;
 mod root;
 mod slot;

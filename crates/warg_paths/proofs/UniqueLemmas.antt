@@ -12,7 +12,7 @@ use Rattle.warg_log.specs.Tree.{front_of}
 use Rattle.warg_crypto.proofs.ForCallers.{same_or_not, branch_parts}
 use Rattle.warg_log.specs.Cut.{joined}
 use Rattle.warg_log.proofs.ForCallers.{front_is_greatest, pow_below_pow}
-use Rattle.warg_paths.specs.Paths.{beside, inclusion_over, inclusion_of, inclusion_root, root_down, path_at_end, consistency_over, consistency_of}
+use Rattle.warg_paths.specs.Paths.{beside, inclusion_over, inclusion_of, inclusion_root, root_down, path_at_end, consistency_over, consistency_of, path_within}
 use Rattle.warg_paths.specs.Ways.{IsOnWay, ArePathInputs, turn_input}
 use Rattle.warg_paths.specs.Ways.IsOnWay.{whole as way_whole, front as way_front, rest as way_rest}
 use Rattle.warg_paths.proofs.MakeLemmas.{inclusion_one, inclusion_front, inclusion_rest, consistency_end, consistency_front, consistency_rest}
@@ -62,24 +62,43 @@ short_one R h m r path only is =
     let none : [] ≡ path = cc in
     omega (arith, ap length none)
 
+-- nor has that of none
+short_few : (R : Range → Option (List ℕ)) (h m : ℕ) (r : Range) (path : List (List ℕ)) → r.count ≤ 1
+    → inclusion_over R m r ≡ Some path → length path ≤ h
+unfolding path_within
+short_few R h m r path few is = elim (cases_lt 0 r.count) [
+  | inl some ↦ short_one R h m r path (omega arith) is
+  | inr none ↦
+      let count : 0 ≡ r.count = omega arith in
+      let whole : Some [] ≡ Some path = ap (λ k. path_within R k m r) count ∙ is in
+      let empty : [] ≡ path = cc in
+      omega (arith, ap length empty)
+]
+
 -- a path has at most as many digests as the exponent of a power of two that isn't below the count
-short_over : (R : Range → Option (List ℕ)) (h m : ℕ) (r : Range) (path : List (List ℕ)) → m < r.count → r.count ≤ 2 ^ h → inclusion_over R m r ≡ Some path → length path ≤ h
-short_over R zero m r path inside most is = short_one R zero m r path (omega arith) is
-short_over R (suc h) m r path inside most is = elim (cases_lt 1 r.count) [
-  | inr few ↦ short_one R (suc h) m r path (omega arith) is
+short_over : (R : Range → Option (List ℕ)) (h m : ℕ) (r : Range) (path : List (List ℕ)) → r.count ≤ 2 ^ h
+    → inclusion_over R m r ≡ Some path → length path ≤ h
+short_over R zero m r path most is = short_few R zero m r path (omega arith) is
+short_over R (suc h) m r path most is = elim (cases_lt 1 r.count) [
+  | inr few ↦ short_few R (suc h) m r path (omega arith) is
   | inl more ↦
       let low = parts_low h r.count more most in
       elim (cases_lt m (front_of r.count)) [
         | inl front ↦
             let b = beside_parts _ _ path (sym (inclusion_front R m r more front) ∙ is) in
-            omega (arith, one_longer b.below b.last path b.is, short_over R h m (front_part r) b.below front low.0 b.path_is)
+            omega (arith, one_longer b.below b.last path b.is, short_over R h m (front_part r) b.below low.0 b.path_is)
         | inr rest ↦
             let b = beside_parts _ _ path (sym (inclusion_rest R m r more rest) ∙ is) in
-            omega (arith, one_longer b.below b.last path b.is, short_over R h (m - front_of r.count) (rest_part r) b.below (omega (arith, rest)) low.1 b.path_is)
+            omega (
+              arith,
+              one_longer b.below b.last path b.is,
+              short_over R h (m - front_of r.count) (rest_part r) b.below low.1 b.path_is,
+            )
       ]
 ]
 
-pub short : (R : Range → Option (List ℕ)) (m n h : ℕ) (path : List (List ℕ)) → m < n → n ≤ 2 ^ h → inclusion_of R m n ≡ Some path → length path ≤ h
+pub short : (R : Range → Option (List ℕ)) (m n h : ℕ) (path : List (List ℕ)) → n ≤ 2 ^ h
+    → inclusion_of R m n ≡ Some path → length path ≤ h
 short R m n h path = short_over R h m (leaves_from 0 n) path
 
 -- the path over leaves that are all old has at most one digest

@@ -91,7 +91,7 @@ pub fn consistency_path_is_unique()
 
 /// An inclusion path of a log of at most 2^h entries has at most h digests, so one of at most 2^63 has 63.
 pub fn path_is_short()
-    ensures { (R : Range → Option (List ℕ)) (m n h : ℕ) (path : List (List ℕ)) → m < n → n ≤ 2 ^ h
+    ensures { (R : Range → Option (List ℕ)) (m n h : ℕ) (path : List (List ℕ)) → n ≤ 2 ^ h
         → inclusion_of R m n ≡ Some path → length path ≤ h }
 {}
 

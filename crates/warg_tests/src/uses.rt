@@ -1,10 +1,11 @@
 //! The callers of `warg_uses`, at concrete types.
 
 use std::test::Fail;
+use warg_bundle::inclusion_bytes;
 use warg_crypto::weak::Flat;
 use warg_log::{LogBuilder, LogData, Node, VecLog};
 use warg_map::Map;
-use warg_uses::{crypto, map, witness};
+use warg_uses::{claims, crypto, map, witness};
 
 #[test]
 fn a_release_s_digest(rt: HostRuntime) -> Result<(), Fail> {
@@ -37,6 +38,36 @@ fn an_auditor_finds_a_collision(rt: HostRuntime) -> Result<(), Fail> {
     log.push(&"two")?;
     let proof = log.prove_inclusion(Node(0), 2);
     let found = witness::audit(rt.alloc(), &proof, &log, &"lie", &["one", "two"])?;
+    let pair = found.ok_or("no collision")?;
+    assert!(rt; pair.first() == b"\0lie".as_slice() && pair.second() == b"\0one".as_slice());
+    Ok(())
+}
+
+#[test]
+fn a_lie_of_a_log(rt: HostRuntime) -> Result<(), Fail> {
+    let mut log: VecLog<Flat, &str> = VecLog::default(rt.alloc());
+    log.push(&"one")?;
+    log.push(&"two")?;
+    let bytes = inclusion_bytes(rt.alloc(), &log, 0, 2)?;
+    let checkpoint = log.checkpoint();
+    let entries = ["one", "two"];
+    let none = claims::lie_of(
+        rt.alloc(),
+        bytes.as_slice(),
+        0,
+        &"one",
+        &checkpoint,
+        &entries,
+    )?;
+    assert!(rt; none.is_none());
+    let found = claims::lie_of(
+        rt.alloc(),
+        bytes.as_slice(),
+        0,
+        &"lie",
+        &checkpoint,
+        &entries,
+    )?;
     let pair = found.ok_or("no collision")?;
     assert!(rt; pair.first() == b"\0lie".as_slice() && pair.second() == b"\0one".as_slice());
     Ok(())

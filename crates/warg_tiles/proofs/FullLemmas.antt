@@ -16,7 +16,7 @@ use Rattle.warg_tiles.proofs.OpenLemmas.{from_none, from_some}
 use Rattle.warg_tiles.proofs.PushLemmas.{full_more}
 
 -- what stands in a list with one more in front
-in_front : (x y : TileAt) (xs : List TileAt) → Contains (x ∷ xs) y → (x ≡ y) ⊎ Contains xs y
+pub in_front : (x y : TileAt) (xs : List TileAt) → Contains (x ∷ xs) y → (x ≡ y) ⊎ Contains xs y
 in_front x y xs (zero, low, is) = inl is
 in_front x y xs (suc k, low, is) = inr (k, omega arith, is)
 
@@ -149,8 +149,8 @@ differ_by_order : (s t : TileAt) → IsFilledBefore s t → s ≢ t
 differ_by_order s t (inl earlier) same = omega (arith, ap tile_end same)
 differ_by_order s t (inr lower) same = omega (arith, lower.1, ap (λ (x : TileAt). x.level) same)
 
-pub all_full : (old new : ℕ) → old ≤ new → new ≤ 2 ^ 63 → AreFullBetween old new (full_between old new)
-all_full old new order fits =
+full_later : (old new : ℕ) → old ≤ new → new ≤ 2 ^ 63 → AreFullBetween old new (full_between old new)
+full_later old new order fits =
     let whole : old + (new - old) ≡ new = omega arith in
     let pairs = subst (λ n. AllPairs IsFilledBefore (full_between old n)) whole (full_order (new - old) old) in
     record {
@@ -166,6 +166,24 @@ all_full old new order fits =
       once = once_by IsFilledBefore differ_by_order (full_between old new) pairs;
       order = pairs;
     }
+
+-- where the length is no greater, no tile is new
+full_before : (old new : ℕ) → new < old → AreFullBetween old new (full_between old new)
+full_before old new order =
+    let none : full_between old new ≡ [] = let zero_new : new - old ≡ 0 = omega arith in rw zero_new refl in
+    rw none (record {
+      exactly =
+          λ t. (
+            λ has. absurd (omega (arith, has.1)),
+            λ is. absurd (is.2 (there_from old t is.0 (let ends = end_there new t is.0 is.1 in omega arith))),
+          );
+      once = none_alone (λ (s t : TileAt). s ≢ t);
+      order = none_alone IsFilledBefore;
+    })
+
+pub all_full : (old new : ℕ) → new ≤ 2 ^ 63 → AreFullBetween old new (full_between old new)
+all_full old new fits =
+    elim (cases_lt new old) [ inl before ↦ full_before old new before | inr later ↦ full_later old new later fits ]
 
 -- the partial tiles from a level on
 partial_only : (k level n : ℕ) (t : TileAt) → level + k ≡ 8 → Contains (partial_from n level) t → (level ≤ t.level) × (IsTileOf n t × (t.width < 256))

@@ -24,7 +24,8 @@ higher : (old new level : ℕ) → old ≤ new → old / 2 ^ (8 * level) ≤ new
 higher old new level order = le-div (old / 2 ^ (8 * level)) new (2 ^ (8 * level)) (pow_pos (8 * level)) (omega (arith, div-mul-le_self old (2 ^ (8 * level))))
 
 -- a tile of a level's list is new
-level_only : (level old new : ℕ) (t : TileAt) → old ≤ new → Contains (level_tiles level (old / 2 ^ (8 * level)) (new / 2 ^ (8 * level))) t
+pub level_only : (level old new : ℕ) (t : TileAt) → old ≤ new
+    → Contains (level_tiles level (old / 2 ^ (8 * level)) (new / 2 ^ (8 * level))) t
     → (t.level ≡ level) × (IsTileOf new t × (IsTileOf old t → ⊥))
 level_only level old new t order =
     let a = old / 2 ^ (8 * level) in

@@ -20,3 +20,4 @@ mod SplitLemmas
 mod FullLemmas
 mod ReadLemmas
 pub mod ForCallers
+mod PremiseLemmas

@@ -4,6 +4,7 @@ use Rattle.std.specs.List.{AllByRecursion}
 use Rattle.std.specs.Option.{option_or}
 use Rattle.std.proofs.Math.Nat.{pow-suc}
 use Rattle.std.proofs.lemmas.Nat.{pow_pos}
+use Rattle.std.proofs.lemmas.List.{length-append}
 use Rattle.std.proofs.lemmas.Bool.{cases_lt, cases_Bool, le-leb, lt-leb, eqb-true, and_parts}
 use Rattle.std.proofs.Math.Pow.{pow_mono}
 use Rattle.warg_crypto.specs.Collisions.{GivesHashes, AreHashes, SomeCollision}
@@ -14,7 +15,7 @@ use Rattle.warg_log.specs.Ranges.{Range, leaves_from, range_of}
 use Rattle.warg_log.specs.Tree.{front_of, root_of, root_over, own_digest}
 use Rattle.warg_log.specs.Cut.{with_target, is_target, is_beside, joined, Way, at_target, at_node, at_parts, way_within, way_over, top_of, cut_over, cut_root}
 use Rattle.warg_log.specs.Walks.{read_on, needed}
-use Rattle.warg_log.proofs.ForCallers.{below_pow, over_at, front_of_is, root_over_parts, cut_size}
+use Rattle.warg_log.proofs.ForCallers.{below_pow, over_at, front_of_is, root_over_parts}
 use Rattle.warg_protobuf.proofs.ForCallers.{all_append}
 use Rattle.warg_tiles.specs.Tiles.{TileAt}
 use Rattle.warg_tiles.specs.TileData.{Tiles, digest_of, digest_by, has_below, root_below}
@@ -29,6 +30,12 @@ both_there : (H : List ℕ → List ℕ) (p q : Option (List ℕ)) (root : List 
 both_there H (Some l) (Some r) root is = (l, r, refl, refl, cc)
 both_there H (Some l) None root is = absurd (cc)
 both_there H None q root is = absurd (cc)
+
+-- two parts of one branch are as long as two others of 32 bytes, where one of them has 32
+lengths : (l r p q : List ℕ) → (length l ≡ 32) ⊎ (length r ≡ 32) → length p ≡ 32 → length q ≡ 32
+    → branch_input l r ≡ branch_input p q → length l ≡ length p
+lengths l r p q (inl first) left right equal = first ∙ sym left
+lengths l r p q (inr second) left right equal = omega (arith, ap length equal, length-append l r, length-append p q)
 
 -- a log's own digest of a node that is there
 own_of : (H : List ℕ → List ℕ) (ds : List (List ℕ)) (k j : ℕ) → (j + 1) * 2 ^ k ≤ length ds → own_digest H ds (node_over (j * 2 ^ k) (2 ^ k)) ≡ Some (root_over H ds (j * 2 ^ k) (2 ^ k))
@@ -55,7 +62,8 @@ way_is target r h fits =
     let low = below_pow r.count in
     sym (at_room target r (r.count + h) r.count (omega arith) (omega arith)) ∙ at_room target r (r.count + h) h (omega arith) fits
 
-module _ (H : List ℕ → List ℕ) (digests : GivesHashes H) (F : ℕ → Option (List ℕ)) (holds : (t : ℕ) (d : List ℕ) → F t ≡ Some d → length d ≡ 32) (target : Range) (x : List ℕ) (size : length x ≡ 32)
+module _ (H : List ℕ → List ℕ) (digests : GivesHashes H) (F : ℕ → Option (List ℕ))
+    (holds : (t : ℕ) (d : List ℕ) → F t ≡ Some d → length d ≡ 32) (target : Range) (x : List ℕ)
     (ds : List (List ℕ)) (leaves : AreHashes ds) where
   -- What a way reads is the log's own, or two byte lists collide.
   abbrev Reads : Way → Type 0
@@ -79,6 +87,25 @@ module _ (H : List ℕ → List ℕ) (digests : GivesHashes H) (F : ℕ → Opti
   at_own : Reads at_target
   unfolding read_on
   at_own = inl tt
+
+  -- What a way comes to has 32 bytes, unless it is the target.
+  abbrev Sized : Way → Type 0
+  Sized way = (d : List ℕ) → top_of H F x way ≡ Some d → length d ≡ 32
+
+  sized : (way : Way) → (way ≡ at_target) ⊎ Sized way
+  unfolding top_of
+  sized at_target = inl refl
+  sized (at_node t) = inr (λ d is. holds t d is)
+  sized (at_parts misses left right) = inr (λ d is.
+      let (l, r, l_is, r_is, made) = both_there H (top_of H F x left) (top_of H F x right) d is in
+      ap length (sym made) ∙ sizes digests (branch_input l r))
+
+  -- Two ways: both are the target, or one comes to 32 bytes.
+  apart : (left right : Way) → ((left ≡ at_target) × (right ≡ at_target)) ⊎ (Sized left ⊎ Sized right)
+  apart left right = elim (sized left) [
+    | inr first ↦ inr (inl first)
+    | inl target ↦ elim (sized right) [ inr second ↦ inr (inr second) | inl other ↦ inl (target, other) ]
+  ]
 
   -- What a way reads that leads to a root.
   abbrev Leads : ℕ → ℕ → Way → Type 0
@@ -122,7 +149,10 @@ module _ (H : List ℕ → List ℕ) (digests : GivesHashes H) (F : ℕ → Opti
                 let own_left = root_over H ds a (2 ^ h) in
                 let own_right = root_over H ds (a + 2 ^ h) (n - 2 ^ h) in
                 let both = made ∙ root_over_parts H ds a n many fits ∙ ap (λ k. branch H (root_over H ds a k) (root_over H ds (a + k) (n - k))) split in
-                let lengths : length l ≡ length own_left = cut_size H by (leaves_from a (2 ^ h)) l (sizes digests) holds size cut_left ∙ sym (root_size H (sizes digests) ds leaves a (2 ^ h) unit (omega arith)) in
+                let sized_left : length own_left ≡ 32 =
+                root_size H (sizes digests) ds leaves a (2 ^ h) unit (omega arith) in
+                let sized_right : length own_right ≡ 32 =
+                root_size H (sizes digests) ds leaves (a + 2 ^ h) (n - 2 ^ h) (omega arith) (omega arith) in
                 elim (same_or_not (branch_input l r) (branch_input own_left own_right)) [
                   | inr differ ↦ inr (record {
                     first = branch_input l r;
@@ -137,10 +167,21 @@ module _ (H : List ℕ → List ℕ) (digests : GivesHashes H) (F : ℕ → Opti
                       by_leaves = sym (ap (λ k. branch_input (root_over H ds a k) (root_over H ds (a + k) (n - k))) split);
                     };
                   })
-                  | inl equal ↦
-                      let parts = branch_parts l r own_left own_right lengths equal in
-                      at_both misses left right (reads h (2 * j) a (2 ^ h) here unit (omega arith) (omega arith) part_left (l_is ∙ ap Some parts.0))
-                      (reads h (2 * j + 1) (a + 2 ^ h) (n - 2 ^ h) next (omega arith) (omega arith) (omega arith) part_right (r_is ∙ ap Some parts.1))
+                  | inl equal ↦ elim (apart left right) [
+                    | inl both_targets ↦
+                        subst Reads (sym (ap (λ w. at_parts misses w right) both_targets.0
+                        ∙ ap (at_parts misses at_target) both_targets.1))
+                        (at_both misses at_target at_target at_own at_own)
+                    | inr sized ↦
+                        let one : (length l ≡ 32) ⊎ (length r ≡ 32) =
+                        elim sized [ inl first ↦ inl (first l l_is) | inr second ↦ inr (second r r_is) ] in
+                        let parts =
+                        branch_parts l r own_left own_right (lengths l r own_left own_right one sized_left sized_right equal) equal in
+                        at_both misses left right (reads h (2 * j) a (2 ^ h) here unit (omega arith)
+                        (omega arith) part_left (l_is ∙ ap Some parts.0))
+                        (reads h (2 * j + 1) (a + 2 ^ h) (n - 2 ^ h) next (omega arith) (omega arith)
+                        (omega arith) part_right (r_is ∙ ap Some parts.1))
+                  ]
                 ])
           ]
         ]
@@ -162,10 +203,13 @@ digest_size : (H : List ℕ → List ℕ) → HasSize H → (tiles : Tiles) → 
 digest_size H gives [] all node d is = cc
 digest_size H gives (t ∷ tiles) all node d is = first_size H gives t all.0 node d (digest_by H tiles node) (digest_size H gives tiles all.1 node d) (has_below t.0 node) refl is
 
-pub tiles_collide : (H : List ℕ → List ℕ) (ds : List (List ℕ)) (tiles : Tiles) (node : ℕ) (x : List ℕ) → GivesHashes H → AreHashes ds → AllByRecursion (λ (t : TileAt × List (List ℕ)). AreHashes t.1) tiles → length x ≡ 32 → 0 < length ds
+pub tiles_collide : (H : List ℕ → List ℕ) (ds : List (List ℕ)) (tiles : Tiles) (node : ℕ) (x : List ℕ) → GivesHashes H
+    → AreHashes ds → AllByRecursion (λ (t : TileAt × List (List ℕ)). AreHashes t.1) tiles → 0 < length ds
     → cut_root H (digest_by H tiles) node x (length ds) ≡ Some (root_of H ds)
     → AllByRecursion (λ y. digest_by H tiles y ≡ own_digest H ds y) (needed node (length ds)) ⊎ SomeCollision H (IsEvaluationPlaced H (with_target (digest_by H tiles) (range_of node) x) ds)
-tiles_collide H ds tiles node x gives leaves hashes size some e =
+tiles_collide H ds tiles node x gives leaves hashes some e =
     let n = length ds in
     let low = below_pow n in
-    reads H gives (digest_by H tiles) (digest_size H (sizes gives) tiles hashes) (range_of node) x size ds leaves n 0 0 n (omega arith) some (omega arith) (omega arith) whole (e ∙ ap Some (sym (roots.whole H ds)))
+    reads H gives (digest_by H tiles) (digest_size H (sizes gives) tiles hashes)
+    (range_of node) x ds leaves n 0 0 n (omega arith) some (omega arith)
+    (omega arith) whole (e ∙ ap Some (sym (roots.whole H ds)))

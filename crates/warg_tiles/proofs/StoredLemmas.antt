@@ -37,7 +37,8 @@ some_hashes a n ds all =
     (all_parts Size (take n (drop a ds)) (drop n (drop a ds)) (subst AreHashes (sym (take-append-drop n (drop a ds))) behind)).0
 
 -- a log's own digest of a tile's node that is there
-own_at : (H : List ℕ → List ℕ) (ds : List (List ℕ)) (t : TileAt) (i : ℕ) (d : List ℕ) → (256 * t.number + i + 1) * 2 ^ (8 * t.level) ≤ length ds
+pub own_at : (H : List ℕ → List ℕ) (ds : List (List ℕ)) (t : TileAt) (i : ℕ) (d : List ℕ)
+    → (256 * t.number + i + 1) * 2 ^ (8 * t.level) ≤ length ds
     → d ≡ root_over H ds ((256 * t.number + i) * 2 ^ (8 * t.level)) (2 ^ (8 * t.level)) → own_digest H ds (node_in t i) ≡ Some d
 own_at H ds t i d fits is =
     let at = over_at (8 * t.level) (256 * t.number + i) in

@@ -42,11 +42,9 @@ pub fn tile_or_collision()
 /// Tiles of anyone, as data of a proof: where they lead from a node and its digest to a log's root at its length, each digest
 /// that they give for a needed node is the log's own, or two byte strings collide, which the evaluation and the tree over
 /// the log's leaves hash at one range.
-#[tactic(auto, using(crate::proofs::ReadLemmas::tiles_collide))]
 pub fn tiles_or_collision()
     ensures { (H : List ℕ → List ℕ) (ds : List (List ℕ)) (tiles : Tiles) (node : ℕ) (x : List ℕ)
-        → GivesHashes H → AreHashes ds → AllByRecursion (λ t. AreHashes t.1) tiles → length x ≡ 32
-        → 0 < length ds
+        → GivesHashes H → AreHashes ds → AllByRecursion (λ t. AreHashes t.1) tiles → 0 < length ds
         → cut_root H (digest_by H tiles) node x (length ds) ≡ Some (root_of H ds)
         → AllByRecursion (λ y. digest_by H tiles y ≡ own_digest H ds y) (needed node (length ds))
         ⊎ SomeCollision H
@@ -82,8 +80,7 @@ pub fn each_new_tile_once()
 /// The full tiles that `take_full` hands out are exactly those that the log has now and hadn't at the last call, each once,
 /// in the order in which entries fill them.
 pub fn each_full_tile_once()
-    ensures { (old new : ℕ) → old ≤ new → new ≤ GREATEST_LENGTH
-        → AreFullBetween old new (full_between old new) }
+    ensures { (old new : ℕ) → new ≤ GREATEST_LENGTH → AreFullBetween old new (full_between old new) }
 {}
 
 /// The partial tiles of a length, which `partial` gives and `open` takes, are exactly its tiles that aren't full, each once,

@@ -12,6 +12,7 @@ mod error;
 mod fetch;
 pub mod laws;
 mod path;
+pub mod premises;
 mod root;
 mod stored;
 mod tile;

@@ -1,5 +1,5 @@
 -- Claims of keys and maps that are untrue, not met, or both, and of which no placed byte strings collide.
-use Rattle.std.proofs.Common.{◌≡◌, ℕ, zero, suc, ◌-◌, ◌≤◌, ◌<◌, nat_eq, ◌⊎◌, inl, inr, Bool, true, false, cond, List, [], ◌∷◌, ◌++◌, length, slice_index_or, Option, None, Some, is_some, unwrap_or, IsTrue, if◌then◌else◌, refl, sym, ap, subst, ◌∙◌, arith, append-nil, length-append}
+use Rattle.std.proofs.Common.{◌≡◌, ℕ, zero, suc, ◌+◌, ◌-◌, ◌≤◌, ◌<◌, nat_eq, ◌⊎◌, inl, inr, Bool, true, false, cond, List, [], ◌∷◌, ◌++◌, length, slice_index_or, Option, None, Some, is_some, unwrap_or, IsTrue, if◌then◌else◌, refl, sym, ap, subst, ◌∙◌, arith, append-nil, append_assoc, length-append}
 use Rattle.std.specs.Prelude.{replicate}
 use Rattle.std.proofs.lemmas.List.Elements.{All-replicate}
 use Rattle.std.specs.FinMap.{get, get-empty, empty}
@@ -8,8 +8,8 @@ use Rattle.warg_crypto.specs.Collisions.{Collides, SomeCollision, GivesHashes}
 use Rattle.warg_crypto.specs.Digests.{IsDigest, IsByte}
 use Rattle.warg_crypto.specs.EmptyTrees.{empty_root}
 use Rattle.warg_crypto.specs.Tree.{branch, branch_input, leaf_digest, leaf_input, input_beside}
-use Rattle.warg_map.specs.Bits.{key_bits}
-use Rattle.warg_map.specs.Last.{last_under, last_with}
+use Rattle.warg_map.specs.Bits.{bits_from, key_bits}
+use Rattle.warg_map.specs.Last.{last_under, last_with, same_bits}
 use Rattle.warg_map.specs.Peers.{IsBeside, ProvesAbsent, ProvesEmpty, IsPeers}
 use Rattle.warg_map.specs.ProofValue.{peer_of, proof_value}
 use Rattle.std.specs.Option.{option_map, option_or}
@@ -457,4 +457,185 @@ steps_hashes_are_needed law =
     elim (law nines (lie ∷ []) end (end, eights_root bits (all_bits nines []) ∙ own_met nines [], refl, refl)) [
       | inl same ↦ nine_differs bits (all_bits nines []) (same ∙ sym (lone_leads nines [] []))
       | inr c ↦ at_step c.before c.step c.after c.split c.collision
+    ]
+
+-- Two keys whose bits differ at the last one, an empty leaf of two sevens, and the leaf of the byte 00 of one: a map with
+-- this value under the one key has at their branch the bytes that a map with it under the other has.
+abbrev beside : List ℕ → List ℕ
+beside m =
+    if same_bytes m (0 ∷ []) then 7 ∷ 7 ∷ [] else if same_bytes m (0 ∷ 0 ∷ []) then 7 ∷ [] else if same_bytes m (5 ∷ []) then replicate 31 0 ++ 1 ∷ [] else []
+
+abbrev left_only : List (List ℕ × List ℕ)
+left_only = ([], 0 ∷ []) ∷ []
+
+abbrev right_only : List (List ℕ × List ℕ)
+right_only = (5 ∷ [], 0 ∷ []) ∷ []
+
+abbrev front : List Bool
+front = replicate 255 false
+
+left_bits : key_bits beside [] ≡ front ++ false ∷ []
+unfolding bits_from
+left_bits = refl
+
+right_bits : key_bits beside (5 ∷ []) ≡ front ++ true ∷ []
+unfolding bits_from
+right_bits = refl
+
+-- Bits are those of the one key, those of the other, or neither's.
+at_last : (p f : List Bool) (b c : Bool) → length p ≡ length f
+    → same_bits (p ++ b ∷ []) (f ++ c ∷ []) ≡ cond (same_bits p f) (same_bits (b ∷ []) (c ∷ [])) false
+at_last [] [] b c len = refl
+at_last [] (x ∷ f) b c len = absurd (omega arith)
+at_last (x ∷ p) [] b c len = absurd (omega arith)
+at_last (true ∷ p) (true ∷ f) b c len = at_last p f b c (omega arith)
+at_last (true ∷ p) (false ∷ f) b c len = refl
+at_last (false ∷ p) (true ∷ f) b c len = refl
+at_last (false ∷ p) (false ∷ f) b c len = at_last p f b c (omega arith)
+
+found : (key : List ℕ) (b : Bool)
+    → option_map (λ (e : List ℕ × List ℕ). leaf_digest beside e.1) (option_or None (cond b (Some (key, 0 ∷ [])) None))
+    ≡ cond b (Some (7 ∷ [])) None
+found key true = refl
+found key false = refl
+
+abbrev left_held : List Bool → Option (List ℕ)
+left_held q = get (map_of beside left_only) q
+
+abbrev right_held : List Bool → Option (List ℕ)
+right_held q = get (map_of beside right_only) q
+
+held_left : (q : List Bool) → left_held q ≡ cond (same_bits q (front ++ false ∷ [])) (Some (7 ∷ [])) None
+unfolding last_with
+held_left q = last_held beside q left_only ∙ found [] (same_bits q (key_bits beside []))
+    ∙ ap (λ bits. cond (same_bits q bits) (Some (7 ∷ [])) None) left_bits
+
+held_right : (q : List Bool) → right_held q ≡ cond (same_bits q (front ++ true ∷ [])) (Some (7 ∷ [])) None
+unfolding last_with
+held_right q = last_held beside q right_only ∙ found (5 ∷ []) (same_bits q (key_bits beside (5 ∷ [])))
+    ∙ ap (λ bits. cond (same_bits q bits) (Some (7 ∷ [])) None) right_bits
+
+-- The leaf digest where a map holds its value, or doesn't.
+abbrev leaf_of : Bool → List ℕ
+leaf_of b = unwrap_or (cond b (Some (7 ∷ [])) None) (empty_root beside 0)
+
+left_leaf : (p : List Bool) (b : Bool) → length p ≡ 255
+    → unwrap_or (left_held (p ++ b ∷ [])) (empty_root beside 0)
+    ≡ leaf_of (cond (same_bits p front) (same_bits (b ∷ []) (false ∷ [])) false)
+left_leaf p b len =
+    ap (λ o. unwrap_or o (empty_root beside 0))
+    (held_left (p ++ b ∷ []) ∙ ap (λ is. cond is (Some (7 ∷ [])) None) (at_last p front b false len))
+
+right_leaf : (p : List Bool) (b : Bool) → length p ≡ 255
+    → unwrap_or (right_held (p ++ b ∷ [])) (empty_root beside 0)
+    ≡ leaf_of (cond (same_bits p front) (same_bits (b ∷ []) (true ∷ [])) false)
+right_leaf p b len =
+    ap (λ o. unwrap_or o (empty_root beside 0))
+    (held_right (p ++ b ∷ []) ∙ ap (λ is. cond is (Some (7 ∷ [])) None) (at_last p front b true len))
+
+joined_leaves : (b : Bool)
+    → branch_input (leaf_of (cond b (same_bits (false ∷ []) (false ∷ [])) false))
+    (leaf_of (cond b (same_bits (true ∷ []) (false ∷ [])) false))
+    ≡ branch_input (leaf_of (cond b (same_bits (false ∷ []) (true ∷ [])) false))
+    (leaf_of (cond b (same_bits (true ∷ []) (true ∷ [])) false))
+unfolding empty_root
+joined_leaves true = refl
+joined_leaves false = refl
+
+-- So both maps have the same bytes at each branch.
+module _ where
+  abbrev bytes_of : ℕ → (List Bool → Option (List ℕ)) → List ℕ
+  bytes_of k held =
+      branch_input (root_of_levels beside k (λ q. held (false ∷ q))) (root_of_levels beside k (λ q. held (true ∷ q)))
+
+  abbrev pair_of : List Bool → Bool → List ℕ
+  pair_of p last = branch_input (leaf_of (cond (same_bits p front) (same_bits (false ∷ []) (last ∷ [])) false))
+      (leaf_of (cond (same_bits p front) (same_bits (true ∷ []) (last ∷ [])) false))
+
+  two_leaves : (p : List Bool) (last : Bool) (held : List Bool → Option (List ℕ))
+      → ((b : Bool) → unwrap_or (held (b ∷ [])) (empty_root beside 0)
+      ≡ leaf_of (cond (same_bits p front) (same_bits (b ∷ []) (last ∷ [])) false))
+      → bytes_of 0 held ≡ pair_of p last
+  unfolding root_of_levels
+  two_leaves p last held is =
+      let left = is false in
+      let right = is true in
+      ap (λ x. branch_input x (unwrap_or (held (true ∷ [])) (empty_root beside 0))) left
+      ∙ ap (λ y. branch_input (leaf_of (cond (same_bits p front) (same_bits (false ∷ []) (last ∷ [])) false)) y) right
+
+  branches_same : (k : ℕ) (p : List Bool) (l r : List Bool → Option (List ℕ))
+      → ((q : List Bool) → l q ≡ left_held (p ++ q))
+      → ((q : List Bool) → r q ≡ right_held (p ++ q)) → length p + suc k ≡ 256 → bytes_of k l ≡ bytes_of k r
+  unfolding root_of_levels
+  branches_same zero p l r is_left is_right len =
+      let all : length p ≡ 255 = omega arith in
+      let e = empty_root beside 0 in
+      let first : bytes_of 0 l ≡ pair_of p false =
+      two_leaves p false l (λ b. ap (λ o. unwrap_or o e) (is_left (b ∷ [])) ∙ left_leaf p b all) in
+      let second : bytes_of 0 r ≡ pair_of p true =
+      two_leaves p true r (λ b. ap (λ o. unwrap_or o e) (is_right (b ∷ [])) ∙ right_leaf p b all) in
+      first ∙ joined_leaves (same_bits p front) ∙ sym second
+  branches_same (suc k) p l r is_left is_right len =
+      let below : (b : Bool) → bytes_of k (λ q. l (b ∷ q)) ≡ bytes_of k (λ q. r (b ∷ q)) =
+      λ b. branches_same k (p ++ b ∷ []) (λ q. l (b ∷ q)) (λ q. r (b ∷ q))
+      (λ q. is_left (b ∷ q) ∙ ap left_held (sym (append_assoc p (b ∷ []) q)))
+      (λ q. is_right (b ∷ q) ∙ ap right_held (sym (append_assoc p (b ∷ []) q)))
+      (omega (arith, length-append p (b ∷ []))) in
+      ap (λ bytes. branch_input (beside bytes) (beside (bytes_of k (λ q. l (true ∷ q))))) (below false)
+      ∙ ap (λ bytes. branch_input (beside (bytes_of k (λ q. r (false ∷ q)))) (beside bytes)) (below true)
+
+  whole_same : (n k : ℕ) → n ≡ suc k → suc k ≡ 256
+      → root_of_levels beside n left_held ≡ root_of_levels beside n right_held
+  unfolding root_of_levels
+  whole_same n k is all =
+      rw is (ap beside (branches_same k [] left_held right_held (λ q. refl) (λ q. refl) (omega arith)))
+
+  roots_same : sparse_root beside 256 (map_of beside left_only) ≡ sparse_root beside 256 (map_of beside right_only)
+  roots_same = whole_same 256 255 (omega arith) (omega arith)
+
+-- At a leaf their digests differ, or both have the same bytes.
+two_values : (b c : Bool) (first second : List ℕ)
+    → first ≡ leaf_input (value_in (option_or None (cond b (Some ([], 0 ∷ [])) None)))
+    → second ≡ leaf_input (value_in (option_or None (cond c (Some (5 ∷ [], 0 ∷ [])) None)))
+    → Collides beside (first, second) → ⊥
+two_values true true first second one other c = c.differ (one ∙ sym other)
+two_values false false first second one other c = c.differ (one ∙ sym other)
+two_values true false first second one other c = let same : 7 ∷ [] ≡ 7 ∷ 7 ∷ [] = sym (ap beside one) ∙ c.same
+    ∙ ap beside other in absurd cc
+two_values false true first second one other c = let same : 7 ∷ 7 ∷ [] ≡ 7 ∷ [] = sym (ap beside one) ∙ c.same
+    ∙ ap beside other in absurd cc
+
+prefixes_apart : (k : ℕ) (prefix : List Bool) (first second : List ℕ) → length prefix + k ≡ 256
+    → first ≡ plain_input_at beside left_only prefix k → second ≡ plain_input_at beside right_only prefix k
+    → Collides beside (first, second) → ⊥
+unfolding last_with
+prefixes_apart zero prefix first second all one other c = two_values _ _ first second one other c
+prefixes_apart (suc k) prefix first second all one other c =
+    c.differ (one
+    ∙ branches_same k prefix (λ q. left_held (prefix ++ q)) (λ q. right_held (prefix ++ q)) (λ q. refl) (λ q. refl) all
+    ∙ sym other)
+
+one_of_two : {key : List ℕ} → IsInserted left_only right_only key → ([] ≡ key) ⊎ (5 ∷ [] ≡ key)
+one_of_two (inl at) = inl (the_one at.0 at.1 at.2)
+one_of_two (inr at) = inr (the_one at.0 at.1 at.2)
+
+keys_apart : (first second : List ℕ) → ([] ≡ first) ⊎ (5 ∷ [] ≡ first) → ([] ≡ second) ⊎ (5 ∷ [] ≡ second)
+    → Collides beside (first, second) → ⊥
+keys_apart first second (inl one) (inl other) c = c.differ (sym one ∙ other)
+keys_apart first second (inr one) (inr other) c = c.differ (sym one ∙ other)
+keys_apart first second (inl one) (inr other) c = let same : [] ≡ replicate 31 0 ++ 1 ∷ [] = ap beside one ∙ c.same
+    ∙ sym (ap beside other) in absurd cc
+keys_apart first second (inr one) (inl other) c = let same : replicate 31 0 ++ 1 ∷ [] ≡ [] = ap beside one ∙ c.same
+    ∙ sym (ap beside other) in absurd cc
+
+pub equal_maps_hashes_are_needed : ¬ ((H : List ℕ → List ℕ) (insertions others : List (List ℕ × List ℕ))
+    → sparse_root H 256 (map_of H insertions) ≡ sparse_root H 256 (map_of H others)
+    → ¬ (HaveSameValues insertions others)
+    → SomeCollision H (IsPlacedInMaps H insertions others))
+unfolding last_with
+equal_maps_hashes_are_needed law =
+    let c = law beside left_only right_only roots_same (λ same. let is : 0 ∷ [] ≡ [] = same [] in absurd cc) in
+    elim c.placed [
+      | inl at ↦ prefixes_apart at.levels at.prefix c.first c.second at.whole at.first_plain at.second_plain c.collide
+      | inr keys ↦ keys_apart c.first c.second (one_of_two keys.0) (one_of_two keys.1) c.collide
     ]

@@ -1,5 +1,6 @@
 -- What the laws state: a claim that is met and isn't true gives a collision.
-use Rattle.std.proofs.Common.{◌≡◌, ℕ, zero, suc, ◌+◌, ◌-◌, ◌<◌, ◌≤◌, ◌⊎◌, inl, inr, List, [], ◌∷◌, length, get_or, refl, sym, ap, ◌∙◌, arith, ◌^◌, Some, Bool, true, false, not, ◌++◌, Option, unwrap_or, append_assoc, length-append}
+use Rattle.std.proofs.Common.{◌≡◌, ℕ, zero, suc, ◌+◌, ◌-◌, ◌<◌, ◌≤◌, ◌⊎◌, inl, inr, List, [], ◌∷◌, length, get_or, refl, sym, ap, ◌∙◌, arith, ◌^◌, Some, Bool, true, false, not, ◌++◌, Option, unwrap_or, append_assoc, length-append, reverse, subst}
+use Rattle.std.specs.Prelude.{Contains}
 use Rattle.std.proofs.lemmas.Bool.{cases_lt}
 use Rattle.warg_crypto.proofs.ForCallers.{same_or_not, HasSize, sizes, branch_parts}
 use Rattle.warg_log.specs.Tree.{front_of, leaves_of, root_of, root_over, own_digest}
@@ -7,17 +8,17 @@ use Rattle.warg_log.specs.Cut.{Evaluation, with_target, cut_over}
 use Rattle.warg_witness.specs.Ranges.{IsAround}
 use Rattle.warg_witness.specs.Claims.{Begins, IsMet, IsEntry, IsRootBelow, IsAgreement, IsConsistencyMet}
 use Rattle.warg_crypto.specs.Collisions.{GivesHashes, SomeCollision}
-use Rattle.warg_witness.specs.Laws.{HoldsHashes}
+use Rattle.warg_witness.specs.Laws.{HoldsRoots}
 use Rattle.warg_log.specs.Ranges.{leaves_from, range_of, IsAligned}
 use Rattle.warg_witness.specs.Private.Ranges.{IsNodeRange, IsRootOf}
 use Rattle.warg_witness.specs.Private.Divergence.{HaveOneDigest, IsDivergence, Parts, Shows, inputs}
 use Rattle.warg_witness.specs.Private.RangeClimbs.{IsRangeClimb}
 use Rattle.warg_witness.specs.declared.divergence.Divergence.{Divergence}
-use Rattle.warg_witness.proofs.RangeLemmas.{Digest, node_range, Data, more_than_one, node_some, wider, sides_aligned, side_around, leaf_node, node_aligned, whole_aligned, full_or_not}
+use Rattle.warg_witness.proofs.RangeLemmas.{Digest, node_range, Data, more_than_one, node_some, wider, sides_aligned, side_around, leaf_node, node_aligned, whole_aligned, full_or_not, root_contained}
 use Rattle.warg_witness.specs.Private.Ranges.IsRootOf.{all_leaves, at_front, in_rest}
 use Rattle.warg_witness.proofs.ClimbLemmas.{shown, up_somewhere}
 use Rattle.warg_witness.proofs.CutLemmas.{ranges_start, sides_there, ranges_up, leaves_count, have_root, have_range, plain_digest_is}
-use Rattle.warg_log.specs.Nodes.{height_of, start_of}
+use Rattle.warg_log.specs.Nodes.{height_of, start_of, balanced_roots, node_over}
 use Rattle.warg_witness.specs.Placed.{IsValuePlaced, IsHashPlaced, IsAgreementPlaced, IsConsistencyPlaced}
 use Rattle.warg_witness.specs.declared.divergence.Divergence.TheVariants.{Target, Branch}
 use Rattle.warg_witness.proofs.ShownLemmas.{entry_from, value_placed, value_meets, hash_placed, agreement_shown, root_leads, old_placed, new_placed, below_shown}
@@ -29,17 +30,17 @@ use Rattle.warg_crypto.specs.EmptyTrees.{empty_root}
 use Rattle.warg_map.specs.Bits.{key_bits}
 use Rattle.warg_crypto.specs.Tree.{leaf_digest, branch_input, input_beside}
 use Rattle.warg_map.specs.Sparse.{root_of_levels, map_of, sparse_root, inserted}
-use Rattle.warg_map.specs.Peers.{Proves, IsBeside}
+use Rattle.warg_map.specs.Peers.{Proves, ProvesAbsent, IsPeers, IsBeside}
 use Rattle.warg_map.specs.Last.{last_under}
-use Rattle.warg_witness.specs.MapClaims.{IsKeyAgreement, IsLastValue, IsKeyMet}
+use Rattle.warg_witness.specs.MapClaims.{IsKeyAgreement, IsLastValue, IsKeyMet, IsAbsenceMet}
 use Rattle.warg_witness.specs.MapPlaced.{IsKeyPlaced, IsKeyAgreementPlaced, IsPlacedAtPrefix}
 use Rattle.warg_witness.specs.Private.MapPaths.{IsPathDivergence, IsClimb}
 use Rattle.warg_witness.specs.Private.MapMeeting.{IsAlike}
 use Rattle.warg_map.specs.ProofValue.{proof_value}
 use Rattle.warg_witness.specs.MapInputs.{fork_input}
-use Rattle.warg_witness.proofs.KeyLemmas.{no_bits, climb_up, key_agreement_shown, plain_leaf_is, own_grown_root, key_shown}
-use Rattle.warg_map.proofs.ForCallers.{all_bits, last_held, same_bits-itself, same_bits-true, root_at_prefix, absent_root, absent_replaced_root}
-use Rattle.std.proofs.lemmas.List.{append-nil, map-append}
+use Rattle.warg_witness.proofs.KeyLemmas.{no_bits, climb_up, key_agreement_shown, plain_leaf_is, own_grown_root, key_shown, inserted_push}
+use Rattle.warg_map.proofs.ForCallers.{all_bits, last_held, same_bits-itself, same_bits-true, root_at_prefix, replaced_root, absent_root, absent_replaced_root}
+use Rattle.std.proofs.lemmas.List.{append-nil, map-append, length-reverse}
 use Rattle.warg_witness.specs.UpdateClaims.{IsUpdated, Step, insertions_of, LeadThrough, CollidesAtStep}
 
 -- a range is the target or not
@@ -155,7 +156,7 @@ module _ (H : Digest) where
       shown_collides _ (agreement_shown H F value G other p.leaf.0 n at untrue diverges)
 
   -- the balanced root around a difference shows a collision
-  pub consistency_collides : (F : Data) (m n : ℕ) (old new : List (List ℕ)) → GivesHashes H → HoldsHashes F → IsConsistencyMet H F m n old new → (Begins old new → ⊥)
+  pub consistency_collides : (F : Data) (m n : ℕ) (old new : List (List ℕ)) → GivesHashes H → HoldsRoots F m → IsConsistencyMet H F m n old new → (Begins old new → ⊥)
       → SomeCollision H (IsConsistencyPlaced H F old new)
   consistency_collides F m n old new digests holds met untrue =
       let gives = sizes digests in
@@ -166,7 +167,9 @@ module _ (H : Digest) where
       let leads = root_leads (rw (leaves_count H old, leaves_count H new, met.old_count, met.new_count) met.roots) root.2 in
       let at = leads.1 in
       let place = found.0 in
-      let size = holds _ _ at.held in
+      let count = leaves_count H old ∙ met.old_count in
+      let is_root = subst (λ k. Contains (balanced_roots k) (node_over root.0 root.1)) count (root_contained root.2) in
+      let size = holds _ _ is_root at.held in
       let from_old = from_tree old gives size at.node at.in_old at.to_old in
       let from_new = from_tree new gives size at.node at.in_new at.to_new in
       some_collision from_old.0 (old_placed refl refl at)
@@ -267,14 +270,54 @@ module _ (H : List ℕ → List ℕ) (peers : List (Option (List ℕ))) (key val
   pub update_collides : (new : List ℕ) → ¬ (IsUpdated H peers key new insertions) → SomeCollision H (IsPlacedAtPrefix H peers value key insertions)
   update_collides new untrue = elim alike_or_collides [ inl alike ↦ absurd (untrue (alike.updates new)) | inr collision ↦ collision ]
 
+-- a map's own proof has no more peers than there are bits
+few_down : (H : List ℕ → List ℕ) (empty_half : ℕ → Option (List ℕ)) (held : List Bool → Option (List ℕ))
+    (bits : List Bool)
+    (peers : List (Option (List ℕ))) → IsPeers H empty_half held bits peers → length peers ≤ length bits
+unfolding IsPeers
+few_down H empty_half held bits [] all = omega arith
+few_down H empty_half held [] (peer ∷ peers) all = absurd all
+few_down H empty_half held (b ∷ bits) (peer ∷ peers) all =
+    let below = few_down H empty_half (λ q. held (b ∷ q)) bits peers all.1 in omega arith
+
+few_peers : (H : List ℕ → List ℕ) (empty_half : ℕ → Option (List ℕ)) (held : List Bool → Option (List ℕ)) (key : List ℕ)
+    (peers : List (Option (List ℕ))) → IsPeers H empty_half held (key_bits H key) (reverse peers) → length peers ≤ 256
+few_peers H empty_half held key peers all =
+    let few = few_down H empty_half held (key_bits H key) (reverse peers) all in
+    omega (arith, all_bits H key, length-reverse peers)
+
 -- a map's own proof of a key meets the key's claim
 pub own_met : (H : List ℕ → List ℕ) (insertions : List (List ℕ × List ℕ)) (key value : List ℕ) (peers : List (Option (List ℕ)))
-    → last_under H (key_bits H key) insertions ≡ Some (key, value) → length peers ≤ 256 → Proves H 256 (map_of H insertions) (key_bits H key) peers → IsKeyMet H peers key value insertions
-own_met H insertions key value peers last few proves =
+    → last_under H (key_bits H key) insertions ≡ Some (key, value)
+    → Proves H 256 (map_of H insertions) (key_bits H key) peers → IsKeyMet H peers key value insertions
+own_met H insertions key value peers last proves =
     let n = all_bits H key in
-    rw n at (root_at_prefix H (map_of H insertions) [] (key_bits H key) peers (leaf_digest H value) (omega arith) few proves (rw (last_held, last) refl))
+    let few = few_peers H _ _ key peers proves.peers_from_top in
+    rw n at (root_at_prefix H (map_of H insertions) [] (key_bits H key) peers (leaf_digest H value)
+    (omega arith) few proves
+    (rw (last_held, last) refl))
 
-pub ruleset proves_absent = (all_bits, absent_root, absent_replaced_root)
+-- and that of each update
+pub own_updated : (H : List ℕ → List ℕ) (insertions : List (List ℕ × List ℕ)) (key value : List ℕ)
+    (peers : List (Option (List ℕ))) → Proves H 256 (map_of H insertions) (key_bits H key) peers
+    → IsUpdated H peers key value insertions
+own_updated H insertions key value peers proves =
+    let few = few_peers H _ _ key peers proves.peers_from_top in
+    rw (inserted_push H empty insertions key value)
+    (replaced_root H (map_of H insertions) (key_bits H key) peers (leaf_digest H value) (all_bits H key) few proves)
+
+-- its own proof that a key isn't held meets the absence's claim, and that of each insertion
+pub own_absent : (H : List ℕ → List ℕ) (insertions : List (List ℕ × List ℕ)) (key value : List ℕ)
+    (peers : List (Option (List ℕ))) → ProvesAbsent H (map_of H insertions) (key_bits H key) peers
+    → IsAbsenceMet H peers key insertions × IsUpdated H peers key value insertions
+own_absent H insertions key value peers proves =
+    let m = map_of H insertions in
+    let bits = key_bits H key in
+    let few = few_peers H _ _ key peers proves.peers_from_top in (
+      absent_root H m bits peers (all_bits H key) few proves,
+      rw (inserted_push H empty insertions key value)
+          (absent_replaced_root H m bits peers (leaf_digest H value) (all_bits H key) few proves),
+    )
 
 -- a list of steps, behind others that led to the plain root
 steps_lead : (H : List ℕ → List ℕ) → GivesHashes H → (before steps : List Step) (root end : List ℕ) → root ≡ sparse_root H 256 (map_of H (insertions_of before)) → LeadThrough H root steps end

@@ -3,9 +3,9 @@
 //! They are what the witnesses rest on, with no program in it: whenever the claim of a proof is met and isn't
 //! true, two byte strings that differ and have one digest stand in the evaluation and the trees over the
 //! entries or the insertions. They hold for every function from byte lists to 32 bytes, whatever digests a proof has; only
-//! of consistency are those asked to have 32 bytes, too.
+//! of consistency are those of the old length's balanced roots asked to have 32 bytes, too.
 
-ghost use Rattle.std.specs.Prelude.{◌≡◌, ◌≢◌, ℕ, ◌≤◌, ◌↔◌, ◌⊎◌, IsTrue, List, [], length, Option, Some};
+ghost use Rattle.std.specs.Prelude.{◌≡◌, ◌≢◌, ℕ, ◌↔◌, ◌⊎◌, IsTrue, List, [], length, Option, Some};
 ghost use Rattle.std.specs.FinMap.{empty};
 ghost use Rattle.warg_witness.specs.Claims.{IsMet, IsEntry, IsRootBelow, IsAgreement, IsConsistencyMet, Begins};
 ghost use Rattle.warg_witness.specs.Placed.{IsValuePlaced, IsHashPlaced, IsAgreementPlaced, IsConsistencyPlaced};
@@ -23,7 +23,7 @@ ghost use Rattle.warg_witness.specs.MapPlaced.{IsPlacedAtPrefix, IsKeyPlaced, Is
 ghost use Rattle.warg_witness.specs.UpdateClaims.{IsUpdated, Step, insertions_of, LeadThrough, CollidesAtStep};
 ghost use Rattle.warg_crypto.specs.Collisions.{GivesHashes, AreHashes, SomeCollision};
 ghost use Rattle.warg_crypto.specs.Tree.{leaf_digest};
-ghost use Rattle.warg_witness.specs.Laws.{HoldsHashes};
+ghost use Rattle.warg_witness.specs.Laws.{HoldsRoots};
 
 use crate::collision::Finding;
 use std::alloc::Allocator;
@@ -63,7 +63,7 @@ pub fn agreement_or_collision()
 /// A claim of consistency that is met and isn't true gives a collision.
 pub fn consistency_or_collision()
     ensures { (H : List ℕ → List ℕ) (F : ℕ → Option (List ℕ)) (m n : ℕ) (old new : List (List ℕ))
-        → GivesHashes H → HoldsHashes F
+        → GivesHashes H → HoldsRoots F m
         → IsConsistencyMet H F m n old new → (Begins old new → ⊥)
         → SomeCollision H (IsConsistencyPlaced H F old new) }
 {}
@@ -144,34 +144,31 @@ pub fn steps_or_collision()
 
 /// A map's own proof of a key whose value was inserted last of its digest meets the claim of any update of it, and the
 /// claim is true.
-#[tactic(auto, using(crate::proofs::LawLemmas::own_met, crate::proofs::KeyLemmas::inserted_push, warg_map::proofs::ForCallers::all_bits, warg_map::proofs::ForCallers::replaced_root))]
 pub fn own_update()
     ensures { (H : List ℕ → List ℕ) (insertions : List (List ℕ × List ℕ))
         (key old_value new_value : List ℕ)
         → (peers : List (Option (List ℕ))) → last_under H (key_bits H key) insertions
         ≡ Some (key, old_value)
-        → length peers ≤ 256 → Proves H 256 (map_of H insertions) (key_bits H key) peers
+        → Proves H 256 (map_of H insertions) (key_bits H key) peers
         → IsKeyMet H peers key old_value insertions × IsUpdated H peers key new_value insertions }
 {}
 
 /// A map's own proof that a key's digest isn't held meets the claim of any insertion under it, and the claim is true.
-#[tactic(auto, using(crate::proofs::KeyLemmas::inserted_push, crate::proofs::LawLemmas::proves_absent))]
 pub fn own_insertion()
     ensures { (H : List ℕ → List ℕ) (insertions : List (List ℕ × List ℕ)) (key value : List ℕ)
         (peers : List (Option (List ℕ)))
-        → length peers ≤ 256 → ProvesAbsent H (map_of H insertions) (key_bits H key) peers
+        → ProvesAbsent H (map_of H insertions) (key_bits H key) peers
         → IsAbsenceMet H peers key insertions × IsUpdated H peers key value insertions }
 {}
 
 /// Where two maps of insertions have equal roots, each value of the one that its map holds, under the key that was
 /// inserted last of its digest, meets the claim over the other's insertions, by its own proof. So
 /// [`witness_key`](crate::witness_key) returns `Holds` or a collision there.
-#[tactic(auto, using(crate::proofs::LawLemmas::own_met))]
 pub fn equal_roots()
     ensures { (H : List ℕ → List ℕ) (insertions others : List (List ℕ × List ℕ))
         (key value : List ℕ) (peers : List (Option (List ℕ)))
         → sparse_root H 256 (map_of H insertions) ≡ sparse_root H 256 (map_of H others)
-        → last_under H (key_bits H key) insertions ≡ Some (key, value) → length peers ≤ 256
+        → last_under H (key_bits H key) insertions ≡ Some (key, value)
         → Proves H 256 (map_of H insertions) (key_bits H key) peers
         → IsKeyMet H peers key value others }
 {}

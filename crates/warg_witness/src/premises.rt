@@ -1,6 +1,6 @@
 //! What the premises of the laws that end in a collision are for: the contract of each function is the law, and it has no
-//! effect. Without any one premise the law is false. That isn't shown of two premises: of consistency that the proof's
-//! digests have 32 bytes, and of two maps that the function's have.
+//! effect. Without any one premise the law is false. That isn't shown of one: of consistency that the digests of the old
+//! length's balanced roots have 32 bytes.
 
 ghost use Rattle.std.specs.Prelude.{◌≡◌, ◌≢◌, ◌⊎◌, ℕ, List, [], length, Option};
 ghost use Rattle.warg_crypto.specs.Collisions.{GivesHashes, AreHashes, SomeCollision};
@@ -11,7 +11,7 @@ ghost use Rattle.warg_witness.specs.PathClaims.{IsRecord, IsRecordMet, IsRecordA
 ghost use Rattle.warg_witness.specs.PathPlaced.{IsRecordPlaced, IsRecordAgreementPlaced};
 ghost use Rattle.warg_witness.specs.TreePlaced.{IsTreePlaced};
 ghost use Rattle.warg_witness.specs.Placed.{IsValuePlaced, IsHashPlaced, IsAgreementPlaced, IsConsistencyPlaced};
-ghost use Rattle.warg_witness.specs.Laws.{HoldsHashes};
+ghost use Rattle.warg_witness.specs.Laws.{HoldsRoots};
 ghost use Rattle.std.specs.FinMap.{empty};
 ghost use Rattle.warg_map.specs.Sparse.{sparse_root, map_of};
 ghost use Rattle.warg_witness.specs.MapClaims.{IsKeyMet, IsAbsenceMet, IsKeyAgreement, IsLastValue};
@@ -165,7 +165,7 @@ pub fn tree_untruth_is_needed()
 /// A claim of consistency may be met and untrue, without a collision, where the function's digests have any length.
 pub fn consistency_hashes_are_needed()
     ensures { ¬ ((H : List ℕ → List ℕ) (F : ℕ → Option (List ℕ)) (m n : ℕ)
-        (old new : List (List ℕ)) → HoldsHashes F
+        (old new : List (List ℕ)) → HoldsRoots F m
         → IsConsistencyMet H F m n old new → ¬ (Begins old new)
         → SomeCollision H (IsConsistencyPlaced H F old new)) }
 {}
@@ -173,14 +173,14 @@ pub fn consistency_hashes_are_needed()
 /// And untrue where it isn't met.
 pub fn consistency_meeting_is_needed()
     ensures { (H : List ℕ → List ℕ) → ¬ ((F : ℕ → Option (List ℕ)) (m n : ℕ)
-        (old new : List (List ℕ)) → HoldsHashes F → ¬ (Begins old new)
+        (old new : List (List ℕ)) → HoldsRoots F m → ¬ (Begins old new)
         → SomeCollision H (IsConsistencyPlaced H F old new)) }
 {}
 
 /// Where it is met and true, nothing need collide.
 pub fn consistency_untruth_is_needed()
     ensures { (H : List ℕ → List ℕ) → GivesHashes H → ¬ ((F : ℕ → Option (List ℕ)) (m n : ℕ)
-        (old new : List (List ℕ)) → HoldsHashes F → IsConsistencyMet H F m n old new
+        (old new : List (List ℕ)) → HoldsRoots F m → IsConsistencyMet H F m n old new
         → SomeCollision H (IsConsistencyPlaced H F old new)) }
 {}
 
@@ -282,6 +282,14 @@ pub fn update_meeting_is_needed()
 /// Two maps may have different values, without a collision, where their roots aren't equal.
 pub fn equal_maps_meeting_is_needed()
     ensures { ¬ ((H : List ℕ → List ℕ) (insertions others : List (List ℕ × List ℕ)) → GivesHashes H
+        → ¬ (HaveSameValues insertions others)
+        → SomeCollision H (IsPlacedInMaps H insertions others)) }
+{}
+
+/// Two maps may have one root and different values, without a collision, where digests have any length.
+pub fn equal_maps_hashes_are_needed()
+    ensures { ¬ ((H : List ℕ → List ℕ) (insertions others : List (List ℕ × List ℕ))
+        → sparse_root H 256 (map_of H insertions) ≡ sparse_root H 256 (map_of H others)
         → ¬ (HaveSameValues insertions others)
         → SomeCollision H (IsPlacedInMaps H insertions others)) }
 {}

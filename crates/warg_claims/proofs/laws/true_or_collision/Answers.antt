@@ -41,7 +41,7 @@ returns c = λ H claim evidence. elim claim as (λ claim. Sound H claim evidence
     | by_bundle bytes place ↦ λ entries gives passed roots untrue.
         let shown = c.growth_is_shown.ensures H bytes place old.length old.root new.length new.root passed in
         subst (λ F. SomeCollision H (IsConsistencyPlaced H F entries.0 entries.1)) (sym (ap digests_in shown.spelled))
-        (c.consistency_or_collision.ensures H _ old.length new.length entries.0 entries.1 gives shown.hashes
+        (c.consistency_or_collision.ensures H _ old.length new.length entries.0 entries.1 gives (λ root digest balanced. shown.hashes root digest)
         (record { old_count = sym roots.0.length; new_count = sym roots.1.length; roots = rw (← roots.0.root, ← roots.1.root) shown.roots }) untrue)
     | by_path bytes ↦ λ entries gives passed roots untrue.
         let judged = judged_true (shows H (growth old new)) (hashes_of bytes) passed in

@@ -1,0 +1,10 @@
+use Rattle.std.proofs.Common.{[], ◌∷◌, refl}
+use Rattle.warg_log.specs.Tree.{root_within}
+use Rattle.warg_claims.proofs.BundlePremiseLemmas.{marked, marked_hashes, zeros, growth_bytes, one_growth, growth_read, growth_shown, entries_same}
+use Rattle.warg_claims.proofs.premises.extension_untruth_is_needed.Goals as goal
+
+pub returns : goal.returns
+unfolding root_within
+returns c = λ law.
+    entries_same _ (law marked growth_bytes 0 zeros zeros one_growth 1 ([] ∷ []) ([] ∷ []) marked_hashes growth_shown
+    growth_read refl (record { root = refl; length = refl }) (record { root = refl; length = refl }))
