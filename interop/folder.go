@@ -99,9 +99,13 @@ func (f *folder) append(length int64) {
 	f.newTiles(first)
 }
 
-// Compares the tiles that the log has beyond an older length with those that tlog makes.
+// Compares the tiles that the log has beyond an older length with those that tlog makes. Some versions of tlog name a partial
+// tile of each width in between, too.
 func (f *folder) newTiles(first int64) {
 	for _, tile := range tlog.NewTiles(8, first, f.length) {
+		if end := f.length >> uint(8*tile.L); tile.W < 256 && 256*tile.N+int64(tile.W) < end {
+			continue
+		}
 		theirs, err := tlog.ReadTileData(tile, stored)
 		stop(err)
 		ours, err := f.get(pathOf(tile))
