@@ -30,6 +30,7 @@ BEHIND = (
     ["kit_looks.py", *(f"{name}=crates/{name}/out/{name}" for name in PROGRAMS)],
     ["check_programs.py", *(f"crates/{name}/out/{name}" for name in PROGRAMS)],
     ["tlog_kills.py", "crates/warg_tlog/out/warg_tlog", "20"],
+    ["tlog_forced.py", "crates/warg_tlog/out/warg_tlog"],
     ["tlog_faults.py", "crates/warg_tlog/out/warg_tlog"],
     ["tlog_power.py", "crates/warg_tlog/out/warg_tlog"],
     ["check_protobuf.py"],
