@@ -20,7 +20,7 @@ import subprocess
 import sys
 import tempfile
 
-from tlog_logs import Batches, copied
+from tlog_logs import Batches, copied, run
 
 START, END = 300, 620
 CALLS = ("openat", "mkdir", "write", "fsync", "rename", "unlink", "close")
@@ -122,6 +122,26 @@ def fill_disks(batches):
     batches.log = own
 
 
+def read_only(batches):
+    """Appends and reads on a disk that takes nothing, where one can be mounted."""
+    own, folder = batches.log, batches.room / "disk"
+    batches.log = folder / "log"
+    try:
+        with disk(folder, "16m"):
+            copied(batches.start, batches.log)
+            subprocess.run(["mount", "-o", "remount,ro", folder], check=True)
+            status, said = disturbed(batches, [])
+            for words in (["audit"], ["checkpoint"], ["prove", "299"], ["consistency", "5"]):
+                run(batches.program, words[0], batches.log, *words[1:])
+            subprocess.run(["mount", "-o", "remount,rw", folder], check=True)
+            if batches.go_on("a disk that takes nothing") or status != 11:
+                sys.exit(f"a disk that takes nothing: status {status}")
+        print("a disk that takes nothing: it is read, and an append is refused")
+    except (OSError, subprocess.CalledProcessError):
+        print("no disk is read alone: none can be mounted here")
+    batches.log = own
+
+
 def limited(size):
     """Lets no file of this process grow beyond a size."""
     signal.signal(signal.SIGXFSZ, signal.SIG_IGN)
@@ -143,6 +163,7 @@ def main():
         batches = Batches(program, pathlib.Path(room), START, END)
         limit_files(batches)
         fill_disks(batches)
+        read_only(batches)
         fail_calls(batches, "all" in sys.argv[2:])
 
 

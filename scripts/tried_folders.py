@@ -1,6 +1,7 @@
 """What is tried of warg_tlog's folders: files that are missing, differ or are no files, readers, and devices that fail."""
 
 import contextlib
+import fcntl
 import os
 import shutil
 import subprocess
@@ -38,7 +39,7 @@ def flipped(path, at):
 
 
 def begun(program, log):
-    """Makes a log."""
+    """Makes a log of 600 entries."""
     ran([program, "init", log, "example.com/log"])
     ran([program, "append", log], input=LINES)
 
@@ -206,14 +207,10 @@ def of_readers(program, room):
     anew(room / "whole", log)
     before = files(log)
     with open(log / ".log/lock") as lock:
-        held = subprocess.Popen(["flock", "-x", log / ".log/lock", "cat"], stdin=subprocess.PIPE, stdout=subprocess.PIPE)
-        held.stdin.write(b"\n")
-        held.stdin.flush()
-        held.stdout.readline()
+        fcntl.flock(lock, fcntl.LOCK_EX)
         yield "locked", refused(program, log, ["append"], "locked") == 6
         for words in READERS:
             yield f"a reader beside a lock: {words}", ran([program, words[0], log, *words[1:]])[0] == 0
-        held.communicate()
     if os.geteuid() == 0:
         yield from of_other_users(program, log)
     shutil.rmtree(log / ".log")

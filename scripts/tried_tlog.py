@@ -9,9 +9,8 @@ import tempfile
 import tried_folders
 from running import ran
 from tlog_logs import files
+from tried_folders import LINES, MORE, begun
 
-LINES = b"".join(b"%04x\n" % i for i in range(600))
-MORE = b"6f6e65\n"
 EMPTY = "47DEQpj8HBSa+/TImW+5JCeuQeRkm5NMpJWZG3hSuFU="
 SIGNATURE = "\n— example.com/log AAAAAAAA\n".encode()
 OPTIONS = (["--from"], ["--from", "2"], ["--from", "2:x"], ["--from", "x:" + EMPTY], ["--every"], ["--every", "x"], ["--binaryy"])
@@ -27,12 +26,6 @@ def added(program, log, entries, *options):
     """Returns what an append that comes out prints."""
     status, out, err = ran([program, "append", *options, log], input=entries)
     return out.decode() if (status, err) == (0, b"") else f"status {status}: {err.decode(errors='replace')}"
-
-
-def begun(program, log, entries=LINES):
-    """Makes a log."""
-    ran([program, "init", log, "example.com/log"])
-    ran([program, "append", log], input=entries)
 
 
 def checkpoint_of(log):
