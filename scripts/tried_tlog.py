@@ -76,7 +76,8 @@ def of_wrong_ones(program, room):
     log = room / "wrong"
     begun(program, log)
     before = files(log)
-    for words in ([], ["appendd", log], ["append"], ["prove", log], ["prove", log, "-1"], ["prove", log, "x"], ["init", log], ["append", ""], ["audit", ""], ["append", b"\xff"]):
+    numbers = (["prove", log], ["prove", log, "-1"], ["prove", log, "x"])
+    for words in ([], ["appendd", log], ["append"], ["init", log], ["append", ""], ["audit", ""], ["append", b"\xff"], *numbers):
         yield f"wrong: {words[:2]}", status_of(program, *words) == 2
     for options in OPTIONS:
         yield f"wrong: {options}", status_of(program, "append", log, *options, input=MORE) == 2
