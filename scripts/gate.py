@@ -78,9 +78,9 @@ def ran(words, folder, **more):
 
 def install_peers():
     """Tries to install what the results are compared with, where one lacks. What stays missing is left out."""
-    if shutil.which("go") and shutil.which("protoc") or os.geteuid() or not shutil.which("apt-get"):
+    if all(map(shutil.which, ("go", "protoc", "strace"))) or os.geteuid() or not shutil.which("apt-get"):
         return
-    packages = ["golang-go", "golang-golang-x-mod-dev", "protobuf-compiler", "python3-protobuf"]
+    packages = ["golang-go", "golang-golang-x-mod-dev", "protobuf-compiler", "python3-protobuf", "strace"]
     how = {"env": {**os.environ, "DEBIAN_FRONTEND": "noninteractive"}, "timeout": 300}
     quiet = {"stdin": subprocess.DEVNULL, "stdout": subprocess.DEVNULL, "stderr": subprocess.DEVNULL}
     try:
