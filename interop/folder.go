@@ -18,11 +18,14 @@ const (
 	folderInFull = 600 // Every index and every old length of every length up to this.
 	folderLogs   = 20  // Random lengths up to most, in one folder.
 	perFolderLog = 50  // So many random indices and old lengths of each.
+	folderOrigin = "example.com/log"
 )
 
 var (
-	folderProgram              string
-	folderRecords, folderTrees int
+	folderProgram string
+	folderRecords int
+	folderTrees   int
+	folderTiles   int
 )
 
 func compareFolders() {
@@ -47,8 +50,8 @@ func compareFolders() {
 			log.ours(random.Int63n(length), 1+random.Int63n(length))
 		}
 	}
-	fmt.Printf("interop: out of folders of %d lengths, tlog.TileHashReader proves %d records and %d trees\n",
-		folderInFull+folderLogs, folderRecords, folderTrees)
+	fmt.Printf("interop: out of folders of %d lengths, tlog.TileHashReader proves %d records and %d trees, and %d tiles are those that tlog makes\n",
+		folderInFull+folderLogs, folderRecords, folderTrees, folderTiles)
 }
 
 // Random lengths, in ascending order, the greatest one last.
@@ -75,25 +78,50 @@ type folder struct {
 }
 
 func newFolder(name string) *folder {
-	tlogRun(nil, "init", name, goOrigin)
+	tlogRun(nil, "init", name, folderOrigin)
 	return &folder{name: name}
 }
 
 func (f *folder) get(path string) ([]byte, error) { return os.ReadFile(filepath.Join(f.name, path)) }
 
-// Appends entries up to a length, and reads the checkpoint, which has to be tlog's.
+// Appends entries up to a length, and reads the checkpoint, which has to be tlog's, as each new tile has to be.
 func (f *folder) append(length int64) {
+	first := f.length
 	var lines bytes.Buffer
 	for ; f.length < length; f.length++ {
 		lines.WriteString(hex.EncodeToString([]byte(value(f.length))) + "\n")
 	}
-	tlogRun(lines.Bytes(), "append", f.name)
+	said := string(tlogRun(lines.Bytes(), "append", f.name))
+	if wanted := fmt.Sprintf("first %d, length %d\n", first, length); said != wanted {
+		differ("append", said, wanted)
+	}
 	f.reader = readerOf(f, length)
+	f.newTiles(first)
+}
+
+// Compares the tiles that the log has beyond an older length with those that tlog makes. Some versions of tlog name a partial
+// tile of each width in between, too.
+func (f *folder) newTiles(first int64) {
+	for _, tile := range tlog.NewTiles(8, first, f.length) {
+		if end := f.length >> uint(8*tile.L); tile.W < 256 && 256*tile.N+int64(tile.W) < end {
+			continue
+		}
+		theirs, err := tlog.ReadTileData(tile, stored)
+		stop(err)
+		ours, err := f.get(pathOf(tile))
+		stop(err)
+		if !bytes.Equal(ours, theirs) {
+			differ(pathOf(tile), hex.EncodeToString(ours), hex.EncodeToString(theirs))
+		}
+		folderTiles++
+	}
 }
 
 // The reader of a log's tiles, at the checkpoint that the files have.
 func readerOf(from files, length int64) *tileReader {
 	text, err := from.get("checkpoint")
+	stop(err)
+	text, err = underGoOrigin(text)
 	stop(err)
 	tree, err := tlog.ParseTree(text)
 	stop(err)
@@ -104,6 +132,14 @@ func readerOf(from files, length int64) *tileReader {
 		stop(fmt.Errorf("tlog.FormatTree writes another text than %q", text))
 	}
 	return &tileReader{from: from, tree: tree, kept: map[tlog.Tile][]byte{}}
+}
+
+// The checkpoint's text under the one origin that tlog.ParseTree takes, which has spaces, so that no log of ours has it.
+func underGoOrigin(text []byte) ([]byte, error) {
+	if !bytes.HasPrefix(text, []byte(folderOrigin+"\n")) {
+		return nil, fmt.Errorf("the checkpoint has another origin: %q", text)
+	}
+	return append([]byte(goOrigin), text[len(folderOrigin):]...), nil
 }
 
 // Proves an entry by the tiles alone, and reads it out of its bundle.

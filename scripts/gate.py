@@ -31,6 +31,9 @@ BEHIND = (
     ["kit_looks.py", *(f"{name}=crates/{name}/out/{name}" for name in PROGRAMS)],
     ["check_programs.py", *(f"crates/{name}/out/{name}" for name in PROGRAMS)],
     ["tlog_kills.py", "crates/warg_tlog/out/warg_tlog", "20"],
+    ["tlog_forced.py", "crates/warg_tlog/out/warg_tlog"],
+    ["tlog_faults.py", "crates/warg_tlog/out/warg_tlog"],
+    ["tlog_power.py", "crates/warg_tlog/out/warg_tlog"],
     ["check_protobuf.py"],
 )
 # What is compared with others, or read by them: what it is called and runs.
@@ -41,6 +44,7 @@ PEERS = {
 # Their commands, and the packages that have them.
 PACKAGES = {
     ("go", "protoc"): ("golang-go", "golang-golang-x-mod-dev", "protobuf-compiler", "python3-protobuf"),
+    ("strace",): ("strace",),
     ("chromium",): ("chromium",),
 }
 CLOSING = re.compile(r"(\d+) passed, (\d+) failed\n?")
