@@ -137,8 +137,6 @@ def of_signing(program, room):
     yield "the old note", status_of(program, "sign", log, input=text + SIGNATURE) == 3
     removed = ran([program, "prune", log])
     yield "prune keeps what the old one needs", removed == (0, b"0 files removed\n", b"") and ran([program, "audit", log])[0] == 0
-    newest = ran([program, "checkpoint", log])[1]
-    yield "the text to sign is printed", newest == (log / ".log/state").read_bytes()
     newest = (log / ".log/state").read_bytes()
     yield "the next one", ran([program, "sign", log], input=newest + SIGNATURE) == (0, b"", b"")
     yield "it is served, too", (log / "checkpoint").read_bytes() == newest + SIGNATURE

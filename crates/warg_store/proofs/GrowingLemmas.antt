@@ -166,10 +166,10 @@ module _ (log : LogOf) (older taken number : ℕ) (tiles : Tiles) (bytes : List 
   IsFilled t = (t.width ≡ 256) × IsTileOf (length log.entries) t × (IsTileOf taken t → ⊥)
 
   filled : (t : TileAt) → Contains (map (λ (x : TileAt × List (List ℕ)). x.0) tiles) t → IsFilled t
-  filled t has = ((full_tiles taken (length log.entries) order most).exactly t).0 (subst (λ (l : List TileAt). Contains l t) own.places has)
+  filled t has = ((full_tiles taken (length log.entries) most).exactly t).0 (subst (λ (l : List TileAt). Contains l t) own.places has)
 
   is_filled : (t : TileAt) → IsFilled t → Contains (map (λ (x : TileAt × List (List ℕ)). x.0) tiles) t
-  is_filled t is = subst (λ (l : List TileAt). Contains l t) (sym own.places) (((full_tiles taken (length log.entries) order most).exactly t).1 is)
+  is_filled t is = subst (λ (l : List TileAt). Contains l t) (sym own.places) (((full_tiles taken (length log.entries) most).exactly t).1 is)
 
   files : AllByRecursion (λ (x : TileAt × List (List ℕ)). IsFilled x.0 × (flat_map (λ digest. digest) x.1 ≡ tile_bytes log x.0)) tiles
   files = own_files log IsFilled tiles filled own.digests

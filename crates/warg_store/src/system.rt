@@ -21,7 +21,8 @@ pub struct Fault {
 }
 
 /// A folder of the system's files. Each file is forced to the disk as it is written, and `sync` forces each folder in which a
-/// name is new or gone. No name is followed through a link, and a name that is no regular file is refused.
+/// name is new or gone; the first one forces what an earlier run may have left. No name is followed through a link, and a name
+/// that is no regular file is refused.
 #[derive(Drop)]
 pub struct SystemFolder<'a> {
     rt: &'a HostRuntime,
@@ -29,12 +30,18 @@ pub struct SystemFolder<'a> {
     root: String,
     // Folders, below the root, in which a name is new or gone since the last sync.
     changed: Vec<String>,
+    // What an earlier run left is forced.
+    is_settled: bool,
     // A sync has failed: the system may have dropped what was written.
     is_lost: bool,
 }
 
 // The name under which a file is written before it takes another one's place.
 const REPLACING: &str = ".log/replacing";
+
+// Where a commit's files stand before it does, and where it puts them.
+const STAGED: &str = ".log/staged";
+const SERVED: [&str; 2] = ["tile", "map"];
 
 impl<'a> SystemFolder<'a> {
     /// The folder of this path. The last call that is refused leaves its fault in the cell.
@@ -49,6 +56,7 @@ impl<'a> SystemFolder<'a> {
             fault,
             root: String::from_str(alloc, path)?,
             changed: Vec::new(alloc),
+            is_settled: false,
             is_lost: false,
         })
     }
@@ -129,8 +137,32 @@ impl<'a> SystemFolder<'a> {
         }
     }
 
-    // Refuses a name that has anything but a regular file. Returns whether it has one.
+    // Whether each folder on a path is there. Refuses a path on which anything but a folder stands.
+    fn has_folders(&self, folder: &str) -> io::Result<bool> {
+        let mut end = 0usize;
+        for part in folder.split('/') {
+            end = end.saturating_add(part.len());
+            let Some(above) = folder.get(..end) else {
+                break;
+            };
+            match fs::symlink_metadata(self.rt, self.path(above)?.as_str()) {
+                Ok(found) if found.is_dir() => {}
+                Ok(_) => return Err(ErrorKind::NotADirectory.into()),
+                Err(error) if error.kind() == ErrorKind::NotFound => return Ok(false),
+                Err(error) => return Err(error),
+            }
+            end = end.saturating_add(1);
+        }
+        Ok(true)
+    }
+
+    // Refuses a name that has anything but a regular file, and one behind a link. Returns whether it has a file.
     fn has_file(&self, name: &str) -> io::Result<bool> {
+        if let Some((above, _)) = name.rsplit_once('/') {
+            if !self.has_folders(above)? {
+                return Ok(false);
+            }
+        }
         let path = self.path(name)?;
         match fs::symlink_metadata(self.rt, path.as_str()) {
             Ok(found) if found.is_file() => Ok(true),
@@ -206,15 +238,55 @@ impl<'a> SystemFolder<'a> {
         Ok(())
     }
 
-    fn replace_file(&mut self, name: &str, bytes: &[u8]) -> io::Result<()> {
-        self.has_file(name)?;
-        self.make_file(REPLACING, bytes)?;
+    // Forces what an earlier run may have left: names in the folders above all, and of a commit wherever it puts its files.
+    fn settle(&mut self) -> io::Result<()> {
+        if self.is_settled {
+            return Ok(());
+        }
+        self.force("")?;
+        if self.has_folders(".log")? {
+            self.force(".log")?;
+        }
+        if self.force_below(STAGED)? {
+            for folder in SERVED {
+                self.force_below(folder)?;
+            }
+        }
+        self.is_settled = true;
+        Ok(())
+    }
+
+    // Forces a folder and those below it. Returns whether there is a file in one of them.
+    fn force_below(&self, folder: &str) -> io::Result<bool> {
+        let alloc = self.rt.alloc();
+        let mut has_files = false;
+        let mut folders = Vec::new(alloc);
+        if self.has_folders(folder)? {
+            folders.push(String::from_str(alloc, folder)?)?;
+        }
+        for _ in 0..u64::MAX {
+            let Some(folder) = folders.pop() else {
+                break;
+            };
+            let mut names = Vec::new(alloc);
+            self.add_entries(&mut names, &mut folders, folder.as_str(), "")?;
+            self.force(folder.as_str())?;
+            has_files = has_files || !names.is_empty();
+        }
+        Ok(has_files)
+    }
+
+    // Puts the file in which the next bytes stand at a name.
+    fn put_next(&mut self, name: &str) -> io::Result<()> {
         self.move_file(REPLACING, name)?;
         self.force_all()
     }
 
     // Adds the names of the files below a folder that begin with a prefix.
     fn add_names(&self, names: &mut Vec<String>, folder: &str, prefix: &str) -> io::Result<()> {
+        if !self.has_folders(folder)? {
+            return Ok(());
+        }
         let alloc = self.rt.alloc();
         let mut folders = Vec::new(alloc);
         folders.push(String::from_str(alloc, folder)?)?;
@@ -338,7 +410,11 @@ impl Folder for SystemFolder<'_> {
         if self.is_lost {
             return Err(FolderError::Failed);
         }
-        match self.force_all() {
+        let forced = match self.settle() {
+            Ok(()) => self.force_all(),
+            Err(error) => Err(error),
+        };
+        match forced {
             Ok(()) => Ok(()),
             Err(error) => {
                 self.is_lost = true;
@@ -348,7 +424,10 @@ impl Folder for SystemFolder<'_> {
     }
 
     fn replace(&mut self, name: &str, bytes: &[u8]) -> Result<(), FolderError> {
-        match self.replace_file(name, bytes) {
+        if let Err(error) = self.make_file(REPLACING, bytes) {
+            return Err(self.failed(REPLACING, error, false));
+        }
+        match self.put_next(name) {
             Ok(()) => Ok(()),
             Err(error) => Err(self.failed(name, error, false)),
         }

@@ -10,7 +10,7 @@ use Rattle.warg_tiles.proofs.FullLemmas as full
 use Rattle.warg_tiles.proofs.OpenLemmas as opening
 
 -- the full tiles that a length has and an older one hasn't
-pub full_tiles : (old new : ℕ) → old ≤ new → new ≤ 2 ^ 63 → AreFullBetween old new (full_between old new)
+pub full_tiles : (old new : ℕ) → new ≤ 2 ^ 63 → AreFullBetween old new (full_between old new)
 full_tiles = full.all_full
 
 -- the partial tiles of a length

@@ -100,6 +100,9 @@ fn print_append(session: &Session<'_>, asked: &ArgMatches<'_>) -> Result<(), Ref
         every: asked.get_one::<usize>("every"),
         is_binary: asked.get_flag("binary"),
     };
+    if asked.every == Some(0) {
+        return Err(Refusal::of_words(session.rt.alloc(), "--every has to be at least 1"));
+    }
     let (first, length) = append(session, &asked)?;
     written(session.rt, println!(session.rt; "first {first}, length {length}"))
 }

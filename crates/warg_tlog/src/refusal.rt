@@ -29,7 +29,7 @@ pub enum Cause {
     #[error("an entry on standard input has more than 65,535 bytes")]
     LongEntry,
     /// Standard input isn't a signed note over the checkpoint.
-    #[error("standard input isn't a signed note over the log's newest checkpoint: sign what warg_tlog checkpoint FOLDER prints")]
+    #[error(" is the text to sign: standard input isn't it with signatures behind an empty line")]
     Note,
     /// The folder has no log.
     #[error(" has no log: make one there by warg_tlog init FOLDER ORIGIN")]
@@ -46,6 +46,9 @@ pub enum Cause {
     /// A file of the log is missing or corrupt.
     #[error(" {fault}: put it back from a copy of the log; warg_tlog audit FOLDER says which file differs, and warg_tlog rebuild FOLDER makes tiles again from bundles")]
     Damaged { fault: &'static str },
+    /// The checkpoint or the log's state is missing or corrupt.
+    #[error(" {fault}: in a log without signatures put it back from {other}, else from a copy of the log")]
+    DamagedText { fault: &'static str, other: &'static str },
     /// The checkpoint is an older one than the log's state.
     #[error(" has {found} entries where the log has {newest}: put back what .log/state has")]
     RolledBack { found: usize, newest: usize },
@@ -110,7 +113,7 @@ impl Refusal {
             Cause::Exists => 5,
             Cause::Locked => 6,
             Cause::OutOfRange { .. } => 7,
-            Cause::Damaged { .. } => 8,
+            Cause::Damaged { .. } | Cause::DamagedText { .. } => 8,
             Cause::RolledBack { .. } | Cause::Elsewhere { .. } => 9,
             Cause::Full => 10,
             Cause::Unwritable { .. } | Cause::Lost => 11,

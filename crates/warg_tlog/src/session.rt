@@ -79,13 +79,49 @@ impl<'a> Session<'a> {
     /// Makes the folder, and those above it, where they aren't there.
     pub fn make(&self) -> Result<(), Refusal> {
         match fs::create_dir_all(self.rt, self.path(".log")?.as_str()) {
-            Ok(()) => Ok(()),
+            Ok(()) => self.force_above(),
             Err(error) => Err(Refusal::of_write(self.path("")?, error)),
         }
     }
 
-    /// Takes the folder's lock. `NoLog` where it has no log; `Locked` where another run holds it.
+    // Forces the names of the folder and of those above it to the disk, as far as they can be read.
+    fn force_above(&self) -> Result<(), Refusal> {
+        let mut name = self.name;
+        for _ in 0..self.name.len() {
+            let above = match name.rsplit_once('/') {
+                Some(("", _)) => "/",
+                Some((above, _)) => above,
+                None => ".",
+            };
+            match File::open(self.rt, above) {
+                Ok(folder) => match folder.sync_all() {
+                    Ok(()) => {}
+                    Err(error) => return Err(Refusal::of_write(self.path("")?, error)),
+                },
+                Err(_) => break,
+            }
+            if above.len() >= name.len() || above == "." {
+                break;
+            }
+            name = above;
+        }
+        Ok(())
+    }
+
+    /// Takes the lock of a folder that has a log, also of one without its own files yet. `NoLog` where there is none;
+    /// `Locked` where another run holds it.
     pub fn lock(&self) -> Result<Lock, Refusal> {
+        let checkpoint = self.path("checkpoint")?;
+        match fs::symlink_metadata(self.rt, checkpoint.as_str()) {
+            Ok(_) => self.make()?,
+            Err(error) if error.kind() == ErrorKind::NotFound => {}
+            Err(error) => return Err(Refusal::of_read(checkpoint, error)),
+        }
+        self.take_lock()
+    }
+
+    /// Takes the folder's lock. `NoLog` where it has no log; `Locked` where another run holds it.
+    pub fn take_lock(&self) -> Result<Lock, Refusal> {
         let path = self.path(".log/lock")?;
         let file = match self.open_lock(path.as_str()) {
             Ok(file) => file,
@@ -101,8 +137,12 @@ impl<'a> Session<'a> {
         }
     }
 
-    // Opens the lock's file, which is made where it isn't there. A name that has anything but a regular file is refused.
+    // Opens the lock's file, which is made where it isn't there. A name that has anything but a regular file is refused, and
+    // one behind a link.
     fn open_lock(&self, path: &str) -> io::Result<File> {
+        if !fs::symlink_metadata(self.rt, self.path(".log")?.as_str())?.is_dir() {
+            return Err(ErrorKind::NotADirectory.into());
+        }
         let mut options = File::options();
         options.write(true).mode(0o600);
         match fs::symlink_metadata(self.rt, path) {
@@ -157,7 +197,12 @@ impl<'a> Session<'a> {
             LogError::NoLog => self.because(Cause::NoLog),
             LogError::Damaged(damage) => {
                 let fault = damage.fault;
-                self.about(damage.name.as_str(), Cause::Damaged { fault })
+                let cause = match damage.name.as_str() {
+                    "checkpoint" => Cause::DamagedText { fault, other: ".log/state" },
+                    ".log/state" => Cause::DamagedText { fault, other: "checkpoint" },
+                    _ => Cause::Damaged { fault },
+                };
+                self.about(damage.name.as_str(), cause)
             }
             LogError::RolledBack { found, newest } => {
                 self.about("checkpoint", Cause::RolledBack { found, newest })
@@ -199,7 +244,7 @@ impl<'a> Session<'a> {
     /// The refusal for a signed note.
     pub fn of_sign(&self, error: SignError) -> Refusal {
         match error {
-            SignError::Text | SignError::TooLong => Refusal::because(Cause::Note),
+            SignError::Text | SignError::TooLong => self.about(".log/state", Cause::Note),
             SignError::Folder(error) => self.of_folder(error),
         }
     }

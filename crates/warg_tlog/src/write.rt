@@ -27,7 +27,7 @@ pub struct Appending<'a> {
 pub fn init(session: &Session<'_>, origin: &str) -> Result<(), Refusal> {
     check_origin(session, origin)?;
     session.make()?;
-    let _lock = session.lock()?;
+    let _lock = session.take_lock()?;
     let folder = session.folder()?;
     match LogFolder::create(session.rt.alloc(), folder, origin.as_bytes()) {
         Ok(_) => Ok(()),
@@ -35,8 +35,11 @@ pub fn init(session: &Session<'_>, origin: &str) -> Result<(), Refusal> {
     }
 }
 
-// An origin has no space, plus sign or control character (C2SP tlog-checkpoint).
+// An origin has at least one byte and at most 65,535, and no space, plus sign or control character (C2SP tlog-checkpoint).
 fn check_origin(session: &Session<'_>, origin: &str) -> Result<(), Refusal> {
+    if origin.is_empty() || origin.len() > 65_535 {
+        return Err(Refusal::of_words(session.rt.alloc(), "an origin has 1 to 65,535 bytes"));
+    }
     for byte in origin.as_bytes() {
         if *byte <= b' ' || *byte == b'+' || *byte == 127 {
             let fault = "an origin has no space, plus sign or control character";
