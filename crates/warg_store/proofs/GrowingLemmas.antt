@@ -17,11 +17,11 @@ use Rattle.warg_tiles.specs.TileLog.{RightEdge, StandsFor, full_between, partial
 use Rattle.warg_tiles.proofs.ForCallers.{full_tiles, partial_of, own_tile, bundle_more}
 use Rattle.warg_store.specs.Files.{File, Files, put, IsNameOf}
 use Rattle.warg_store.specs.Names.{checkpoint, state, staged, is_staged, is_served}
-use Rattle.warg_store.specs.Opening.{IsBeside, IsStaging, NothingStaged, opened, opened_by, without_staged}
+use Rattle.warg_store.specs.Opening.{IsBeside, IsStaging, NothingStaged, opened, opened_by}
 use Rattle.warg_store.specs.Log.{LogOf, Keeps, Extends, IsOneOf, tile_bytes, bundle_bytes, IsTileIn, IsBundleIn, IsNewName, AreStagedFor}
 use Rattle.warg_store.specs.Staged.{staged_all, new_files}
 use Rattle.warg_store.specs.Moments.{LeavesOnly}
-use Rattle.warg_store.specs.Growing.{LogIn, Has, HasAll, with_entry, IsNewFull, IsNewFullName, AreFullStaged}
+use Rattle.warg_store.specs.Growing.{LogIn, Has, HasAll, with_entry, IsNewFull, AreFullStaged}
 use Rattle.warg_store.proofs.NameLemmas.{one_name, apart, staged_once, served_not_staged}
 use Rattle.warg_store.proofs.FileLemmas.{put_here, put_apart}
 use Rattle.warg_store.proofs.MomentLemmas.{stays}
@@ -89,9 +89,10 @@ pub own_files : (log : LogOf) (R : TileAt → Type 0) (tiles : Tiles) → ((t : 
     → AllByRecursion (λ (x : TileAt × List (List ℕ)). IsTileBy (own_digest sha256 (leaves_of sha256 log.entries)) x.0 x.1) tiles
     → AllByRecursion (λ (x : TileAt × List (List ℕ)). R x.0 × (flat_map (λ digest. digest) x.1 ≡ tile_bytes log x.0)) tiles
 own_files log R [] each own = tt
-own_files log R (x ∷ xs) each own =
-    ((each x.0 (zero, omega arith, refl), ap (flat_map (λ digest. digest)) (own_tile sha256 (leaves_of sha256 log.entries) x.1 x.0 own.0)),
-    own_files log R xs (λ t has. each t (behind x.0 t (map (λ (y : TileAt × List (List ℕ)). y.0) xs) has)) own.1)
+own_files log R (x ∷ xs) each own = (
+  (each x.0 (zero, omega arith, refl), ap (flat_map (λ digest. digest)) (own_tile sha256 (leaves_of sha256 log.entries) x.1 x.0 own.0)),
+  own_files log R xs (λ t has. each t (behind x.0 t (map (λ (y : TileAt × List (List ℕ)). y.0) xs) has)) own.1,
+)
 
 all_tiles : (P Q : TileAt × List (List ℕ) → Type 0) → ((x : TileAt × List (List ℕ)) → P x → Q x) → (xs : Tiles) → AllByRecursion P xs → AllByRecursion Q xs
 all_tiles P Q weak [] each = tt
@@ -234,7 +235,7 @@ keeps_beside served old s t same keeps = same_kept served old s t
 pub beside_one_of : (served old next : LogOf) (s c : Files) → Keeps served old s → IsBeside s c → IsOneOf served old next c
 beside_one_of served old next s c keeps beside =
     let same : (n : List ℕ) → is_staged n ≡ false → opened c n ≡ c n =
-        λ n isnt. ap (λ (o : Option (List ℕ)). opened_by o c n) beside.no_mark ∙ ap (λ b. if b then None else c n) isnt in
+    λ n isnt. ap (λ (o : Option (List ℕ)). opened_by o c n) beside.no_mark ∙ ap (λ b. if b then None else c n) isnt in
     record {
       read = inl (record {
         serves = (keeps_beside served old s c beside.outside keeps).serves;
@@ -537,7 +538,7 @@ module _ {F : Type 0} (seen : F → Files) (may_leave : F → Files → Type 0) 
     staging = staging;
   }
 
-none_some : (o : Option (List ℕ)) → o ≡ None → IsSome o → ⊥
+pub none_some : (o : Option (List ℕ)) → o ≡ None → IsSome o → ⊥
 none_some None e some = apart (sym some)
 none_some (Some bytes) e some = cc
 
@@ -590,8 +591,11 @@ module _ {F : Type 0} (seen : F → Files) (may_leave : F → Files → Type 0) 
 
   -- a log whose folder keeps as many entries keeps them all
   pub all_there : l.edge.len ≡ l.kept → Has seen may_leave served old next l → (log : LogOf) × Has seen may_leave log next next l
-  all_there same has = (served, subst (λ log. Has seen may_leave served log next l) (same_length old next has.extends
-      (sym has.kept ∙ sym same ∙ sym has.edge.count ∙ length-map next.entries (λ (e : List ℕ). sha256 (0 ∷ e)))) has)
+  all_there same has = (
+    served,
+    subst (λ log. Has seen may_leave served log next l) (same_length old next has.extends
+        (sym has.kept ∙ sym same ∙ sym has.edge.count ∙ length-map next.entries (λ (e : List ℕ). sha256 (0 ∷ e)))) has,
+  )
 
 -- the checkpoint's text is noted, which says what the log has
 pub noted : {F : Type 0} (seen : F → Files) (may_leave : F → Files → Type 0) (log next : LogOf) (l : LogIn F) (kept : ℕ) (origin : List ℕ) → kept ≡ length next.entries → origin ≡ next.origin

@@ -19,9 +19,8 @@ use Rattle.warg_tiles.specs.EntryBundles.{bundle_of}
 use Rattle.warg_store.specs.Files.{Files}
 use Rattle.warg_store.specs.Names.{checkpoint, state, mark, staged, is_own, is_served}
 use Rattle.warg_store.specs.Opening.{is_signed, checkpoint_after, opened, committed, IsBetween}
-use Rattle.warg_store.specs.Serving.{KeepsNames, IsServable, IsHistoryOf}
-use Rattle.warg_store.specs.Log.{LogOf, said_of, checkpoint_of, tile_bytes, bundle_bytes, IsTileIn, IsBundleIn, HasFiles, Serves, IsFileOf, Extends, Keeps, IsServed, IsOneOf, IsNewName, AreStagedFor}
-use Rattle.warg_store.proofs.NameLemmas.{apart, not_staged, served_not_own}
+use Rattle.warg_store.specs.Log.{LogOf, checkpoint_of, tile_bytes, bundle_bytes, IsTileIn, IsBundleIn, HasFiles, Serves, IsFileOf, Extends, Keeps, IsServed, IsOneOf, IsNewName, AreStagedFor}
+use Rattle.warg_store.proofs.NameLemmas.{apart, served_not_own}
 use Rattle.warg_store.proofs.PathLemmas.{tile_path_once, entries_path_once, no_tile_a_bundle}
 use Rattle.warg_store.proofs.ServeLemmas.{idle_same, committed_served, opened_idle}
 

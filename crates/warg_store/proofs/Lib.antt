@@ -13,3 +13,4 @@ mod LeadLemmas
 mod StagedLemmas
 mod AuditLemmas
 mod GrowingLemmas
+mod CreateLemmas

@@ -1,9 +1,9 @@
 -- Files between two states.
-use Rattle.std.proofs.Common.{◌≡◌, ◌⊎◌, inl, inr, ⊎_elim, ℕ, List, true, false, Option, Some, None, refl, sym, ap, ◌∙◌, subst}
+use Rattle.std.proofs.Common.{◌≡◌, ◌⊎◌, inl, inr, ℕ, List, true, false, Option, Some, None, refl, sym, ap, ◌∙◌}
 use Rattle.std.specs.Option.{option_or}
 use Rattle.warg_store.specs.Files.{Files, put}
 use Rattle.warg_store.specs.Names.{mark, staged, is_staged, is_own, is_served}
-use Rattle.warg_store.specs.Opening.{opened, committed, opened_by, IsBetween}
+use Rattle.warg_store.specs.Opening.{opened, committed, opened_by}
 use Rattle.warg_store.proofs.NameLemmas.{not_staged, served_not_own, mark_not_staged_file}
 use Rattle.warg_store.proofs.FileLemmas.{put_apart}
 use Rattle.warg_store.proofs.StepLemmas.{without_at, opened_served, unmarked}

@@ -1,7 +1,7 @@
 -- Files that are staged one after the other, and those of a log that grows.
-use Rattle.std.specs.Prelude.{ℕ, ◌*◌, ◌∷◌, List, [], Bool, true, false, nat_le, if◌then◌else◌}
+use Rattle.std.specs.Prelude.{ℕ, ◌∷◌, List, [], nat_le, if◌then◌else◌}
 use Rattle.std.specs.List.{flat_map}
-use Rattle.warg_tiles.specs.Tiles.{TileAt, tile_end}
+use Rattle.warg_tiles.specs.Tiles.{tile_end}
 use Rattle.warg_tiles.specs.TilePaths.{tile_path}
 use Rattle.warg_tiles.specs.TileData.{Tiles}
 use Rattle.warg_store.specs.Files.{File, Files, put}

@@ -1,8 +1,11 @@
 //! A log's folder, made and opened.
 
-ghost use Rattle.std.specs.Prelude.{◌≡◌, IfOk, OnOk};
-ghost use Rattle.warg_store.specs.Growing.{IsReady};
-ghost use Rattle.warg_store.specs.Opening.{IsStaging};
+ghost use Rattle.std.specs.Prelude.{◌≡◌, ◌≢◌, true, false, [], None, IfOk, OnOk, string_bytes};
+ghost use Rattle.std.specs.List.{All};
+ghost use Rattle.warg_store.specs.Growing.{IsReady, Has};
+ghost use Rattle.warg_store.specs.Log.{LogOf};
+ghost use Rattle.warg_store.specs.Names.{checkpoint, mark};
+ghost use Rattle.warg_store.specs.Opening.{IsStaging, opened};
 
 use crate::committing::{MOST_TEXT, commit, is_signed};
 use crate::device::{Folder, FolderError};
@@ -49,6 +52,8 @@ impl<F: Folder + Drop> LogFolder<F> {
     pub fn create(alloc: Global, mut folder: F, origin: &[u8]) -> Result<LogFolder<F>, CreateError>
         ensures ready { F.IsFaithful → IfOk result (IsReady F.seen F.may_leave) }
         ensures empty { IfOk result (λ log. (log.edge.len ≡ 0) × (log.origin ≡ origin.now)) }
+        ensures has { F.IsFaithful → IfOk result (λ log. let none : LogOf = record { origin = origin.now; entries = [] } in
+            Has F.seen F.may_leave none none none log) }
     {
         if origin.len() > 65_535 {
             return Err(CreateError::Origin);
@@ -120,19 +125,41 @@ fn take_over<F: Folder>(alloc: Global, folder: &mut F) -> Result<CheckpointText<
 }
 
 // Refuses a folder that has a file of a log.
-fn check_fresh<F: Folder>(alloc: Global, folder: &mut F) -> Result<(), CreateError> {
+fn check_fresh<F: Folder>(alloc: Global, folder: &mut F) -> Result<(), CreateError>
+    ensures fresh { F.IsFaithful → OnOk result
+        ((F.seen folder.new checkpoint ≡ None) × (F.seen folder.new mark ≡ None)) }
+{
     let names = folder.list(alloc, "")?;
-    'names: for name in names.as_slice() {
-        if is_log_file(name.as_str()) && name.as_str() != ".log/lock" {
-            return Err(CreateError::Exists);
+    if are_others(names.as_slice()) {
+        Ok(())
+    } else {
+        Err(CreateError::Exists)
+    }
+}
+
+// Whether none of the files is a log's, but for its lock.
+fn are_others(names: &[String]) -> bool
+    ensures { result ≡ true → All (λ name. (string_bytes name ≢ checkpoint) × (string_bytes name ≢ mark)) names.now }
+{
+    'names: for name in names {
+        if is_of_log(name.as_str()) {
+            return false;
         }
     }
-    Ok(())
+    true
+}
+
+// Whether a file is a log's, and not its lock.
+fn is_of_log(name: &str) -> bool
+    ensures { result ≡ false → (name.now ≢ checkpoint) × (name.now ≢ mark) }
+{
+    is_log_file(name) && name != ".log/lock"
 }
 
 // Nothing is staged, and a crash leaves what is seen.
 fn prepare<F: Folder>(alloc: Global, folder: &mut F) -> Result<(), CreateError>
-    ensures { F.IsFaithful → OnOk result (IsStaging (F.seen folder.new) (F.may_leave folder.new)) }
+    ensures opened { F.IsFaithful → OnOk result (F.seen folder.new ≡ opened (F.seen folder.old)) }
+    ensures ready { F.IsFaithful → OnOk result (IsStaging (F.seen folder.new) (F.may_leave folder.new)) }
 {
     match recover(alloc, folder) {
         Ok(()) => Ok(()),

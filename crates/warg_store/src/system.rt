@@ -41,6 +41,7 @@ const REPLACING: &str = ".log/replacing";
 
 // Where a commit's files stand before it does, and where it puts them.
 const STAGED: &str = ".log/staged";
+
 const SERVED: [&str; 2] = ["tile", "map"];
 
 impl<'a> SystemFolder<'a> {

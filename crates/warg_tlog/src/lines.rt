@@ -187,7 +187,9 @@ impl Lines {
             return Err(self.refused("is too long: an entry has at most 65,535 bytes"));
         }
         if !decode(digits, &mut self.entry)? {
-            return Err(self.refused("isn't an entry: write two hexadecimal digits for each byte, and nothing else"));
+            return Err(self.refused(
+                "isn't an entry: write two hexadecimal digits for each byte, and nothing else",
+            ));
         }
         Ok(&self.entry)
     }

@@ -104,7 +104,10 @@ fn print_append(session: &Session<'_>, asked: &ArgMatches<'_>) -> Result<(), Ref
         return Err(Refusal::of_words(session.rt.alloc(), "--every has to be at least 1"));
     }
     let (first, length) = append(session, &asked)?;
-    written(session.rt, println!(session.rt; "first {first}, length {length}"))
+    written(
+        session.rt,
+        println!(session.rt; "first {first}, length {length}"),
+    )
 }
 
 fn print_prune(session: &Session<'_>) -> Result<(), Refusal> {
@@ -115,7 +118,10 @@ fn print_prune(session: &Session<'_>) -> Result<(), Refusal> {
 fn print_rebuild(session: &Session<'_>) -> Result<(), Refusal> {
     let checkpoint = rebuild_tiles(session)?;
     let length = checkpoint.length();
-    written(session.rt, println!(session.rt; "tiles of {length} entries made again"))
+    written(
+        session.rt,
+        println!(session.rt; "tiles of {length} entries made again"),
+    )
 }
 
 fn print_verdict(rt: &HostRuntime, verdict: bool) -> Result<ExitCode, Refusal> {

@@ -14,13 +14,18 @@ pub fn print_checkpoint(session: &Session<'_>) -> Result<(), Refusal> {
         Err(error) => return Err(session.of_log(error)),
     };
     let mut output = session.rt.stdout();
-    written(session.rt, io::Write::write_all(&mut output, text.as_slice()))
+    written(
+        session.rt,
+        io::Write::write_all(&mut output, text.as_slice()),
+    )
 }
 
 /// Prints the inclusion path of an entry, at a length or else at the checkpoint's.
 pub fn print_inclusion(session: &Session<'_>, asked: &ArgMatches<'_>) -> Result<(), Refusal> {
     let mut log = session.reader()?;
-    let length = asked.get_one::<usize>("length").unwrap_or(log.checkpoint().length());
+    let length = asked
+        .get_one::<usize>("length")
+        .unwrap_or(log.checkpoint().length());
     let path = log.inclusion_path(number(asked, "index"), length);
     print_path(session, path)
 }
@@ -28,7 +33,9 @@ pub fn print_inclusion(session: &Session<'_>, asked: &ArgMatches<'_>) -> Result<
 /// Prints the consistency path from an old length to a new one, or else to the checkpoint's.
 pub fn print_consistency(session: &Session<'_>, asked: &ArgMatches<'_>) -> Result<(), Refusal> {
     let mut log = session.reader()?;
-    let new = asked.get_one::<usize>("new").unwrap_or(log.checkpoint().length());
+    let new = asked
+        .get_one::<usize>("new")
+        .unwrap_or(log.checkpoint().length());
     let path = log.consistency_path(number(asked, "old"), new);
     print_path(session, path)
 }

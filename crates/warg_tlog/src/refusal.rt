@@ -24,7 +24,10 @@ pub enum Cause {
     From,
     /// A line of standard input isn't what the command reads.
     #[error("line {number} of standard input {fault}")]
-    Line { number: usize, fault: &'static str },
+    Line {
+        number: usize,
+        fault: &'static str,
+    },
     /// An entry is too long.
     #[error("an entry on standard input has more than 65,535 bytes")]
     LongEntry,
@@ -42,28 +45,44 @@ pub enum Cause {
     Locked,
     /// The log has no such entry or length.
     #[error("no such entry or length, the bound is {bound}: see warg_tlog checkpoint FOLDER")]
-    OutOfRange { bound: usize },
+    OutOfRange {
+        bound: usize,
+    },
     /// A file of the log is missing or corrupt.
     #[error(" {fault}: put it back from a copy of the log; warg_tlog audit FOLDER says which file differs, and warg_tlog rebuild FOLDER makes tiles again from bundles")]
-    Damaged { fault: &'static str },
+    Damaged {
+        fault: &'static str,
+    },
     /// The checkpoint or the log's state is missing or corrupt.
     #[error(" {fault}: in a log without signatures put it back from {other}, else from a copy of the log")]
-    DamagedText { fault: &'static str, other: &'static str },
+    DamagedText {
+        fault: &'static str,
+        other: &'static str,
+    },
     /// The checkpoint is an older one than the log's state.
     #[error(" has {found} entries where the log has {newest}: put back what .log/state has")]
-    RolledBack { found: usize, newest: usize },
+    RolledBack {
+        found: usize,
+        newest: usize,
+    },
     /// The log isn't at the checkpoint that was named.
     #[error("the log is at another checkpoint, of {length} entries")]
-    Elsewhere { length: usize },
+    Elsewhere {
+        length: usize,
+    },
     /// The disk is full.
     #[error(" can't be written, as there is no room: make room and run the command again, the log is as it was")]
     Full,
     /// A file can't be written.
     #[error(" can't be written: {error}; the log is as it was, or has all that was to be added: see warg_tlog checkpoint FOLDER")]
-    Unwritable { error: io::Error },
+    Unwritable {
+        error: io::Error,
+    },
     /// A file can't be read.
     #[error(" can't be read: {error}")]
-    Unreadable { error: io::Error },
+    Unreadable {
+        error: io::Error,
+    },
     /// An earlier call of the run has failed.
     #[error(" can't be written any more by this run: run the command again")]
     Lost,

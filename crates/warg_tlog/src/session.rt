@@ -3,11 +3,10 @@
 use crate::refusal::{Cause, Refusal};
 use std::alloc::AllocError;
 use std::cell::Cell;
-use std::fs;
 use std::fs::{File, TryLockError};
-use std::io;
 use std::io::ErrorKind;
 use std::os::unix::fs::OpenOptionsExt;
+use std::{fs, io};
 use warg_store::{
     CommitError, CreateError, Fault, FolderError, LogError, LogFolder, LogReader, Progress,
     PushError, SignError, SystemFolder,
@@ -198,8 +197,14 @@ impl<'a> Session<'a> {
             LogError::Damaged(damage) => {
                 let fault = damage.fault;
                 let cause = match damage.name.as_str() {
-                    "checkpoint" => Cause::DamagedText { fault, other: ".log/state" },
-                    ".log/state" => Cause::DamagedText { fault, other: "checkpoint" },
+                    "checkpoint" => Cause::DamagedText {
+                        fault,
+                        other: ".log/state",
+                    },
+                    ".log/state" => Cause::DamagedText {
+                        fault,
+                        other: "checkpoint",
+                    },
                     _ => Cause::Damaged { fault },
                 };
                 self.about(damage.name.as_str(), cause)
@@ -236,7 +241,10 @@ impl<'a> Session<'a> {
     pub fn of_create(&self, error: CreateError) -> Refusal {
         match error {
             CreateError::Exists => self.because(Cause::Exists),
-            CreateError::Origin => Refusal::of_words(self.rt.alloc(), "the origin isn't one line of text"),
+            CreateError::Origin => Refusal::of_words(
+                self.rt.alloc(),
+                "the origin isn't one line of text",
+            ),
             CreateError::Folder(error) => self.of_folder(error),
         }
     }

@@ -215,7 +215,11 @@ fn about<'a>(alloc: Global, usage: &Usage) -> Command<'a> {
 
 fn argument<'a>(alloc: Global, word: &Word) -> Arg<'a> {
     let (kind, name, value, help) = *word;
-    of_kind(Arg::new(alloc, name).value_name(value).help(help), kind, name)
+    of_kind(
+        Arg::new(alloc, name).value_name(value).help(help),
+        kind,
+        name,
+    )
 }
 
 fn of_kind<'a>(argument: Arg<'a>, kind: Kind, name: &'static str) -> Arg<'a> {

@@ -130,7 +130,12 @@ fn commit(session: &Session<'_>, log: &mut LogFolder<SystemFolder<'_>>) -> Resul
 /// Serves the signed note on standard input as the log's checkpoint.
 pub fn sign(session: &Session<'_>) -> Result<(), Refusal> {
     let mut note = Vec::new(session.rt.alloc());
-    if let Err(error) = session.rt.reader().take(MOST_NOTE + 1).read_to_end(&mut note) {
+    if let Err(error) = session
+        .rt
+        .reader()
+        .take(MOST_NOTE + 1)
+        .read_to_end(&mut note)
+    {
         let path = String::from_str(session.rt.alloc(), "standard input")?;
         return Err(Refusal::of_read(path, error));
     }

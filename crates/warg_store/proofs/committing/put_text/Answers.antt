@@ -1,8 +1,7 @@
-use Rattle.std.proofs.Common.{◌≡◌, inl, sym, ap, ◌∙◌}
+use Rattle.std.proofs.Common.{inl, sym, ap, ◌∙◌}
 use Rattle.std.proofs.lemmas.Result.{on_ok_weaker}
-use Rattle.warg_store.specs.Files.{Files, put}
-use Rattle.warg_store.specs.Names.{checkpoint, state}
-use Rattle.warg_store.specs.Opening.{is_signed}
+use Rattle.warg_store.specs.Files.{put}
+use Rattle.warg_store.specs.Names.{state}
 use Rattle.warg_store.proofs.MomentLemmas.{begins, goes_on}
 use Rattle.warg_store.proofs.StepLemmas.{first_put, second_put, told_first, told_second}
 use Rattle.warg_store.proofs.committing.put_text.Goals as goal

@@ -1,7 +1,6 @@
 use Rattle.std.proofs.Common.{subst, sym}
 use Rattle.std.proofs.lemmas.Result.{on_ok_weaker}
-use Rattle.warg_store.specs.Files.{Files}
-use Rattle.warg_store.specs.Log.{LogOf, Keeps}
+use Rattle.warg_store.specs.Log.{Keeps}
 use Rattle.warg_store.proofs.MomentLemmas.{weaker}
 use Rattle.warg_store.proofs.LeadLemmas.{next_keeps, between_one_of}
 use Rattle.warg_store.proofs.log.commit_log.Goals as goal

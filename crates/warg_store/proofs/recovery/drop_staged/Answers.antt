@@ -1,5 +1,4 @@
-use Rattle.std.proofs.Common.{sym, ap, subst, ◌∙◌}
-use Rattle.warg_store.specs.Files.{Files}
+use Rattle.std.proofs.Common.{sym, subst, ◌∙◌}
 use Rattle.warg_store.specs.Opening.{opened}
 use Rattle.warg_store.specs.Private.Steps.{IsRemoving}
 use Rattle.warg_store.proofs.MomentLemmas.{weaker}

@@ -1,4 +1,4 @@
-use Rattle.std.proofs.Common.{◌≡◌, ◌+◌, take, inl, inr, ℕ, List, Some, Vec, sym, ap, subst, ◌∙◌}
+use Rattle.std.proofs.Common.{◌+◌, take, inl, inr, ℕ, List, Some, Vec, sym, ap, subst, ◌∙◌}
 use Rattle.std.specs.Prelude.{option_map}
 use Rattle.std.proofs.lemmas.Result.{on_ok_weaker}
 use Rattle.std.specs.declared.alloc.Global.{Global}

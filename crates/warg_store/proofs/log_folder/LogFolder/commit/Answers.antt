@@ -62,17 +62,19 @@ returns-in-Ok-clause-committed g c = λ faithful served old next has.
     let kept : c.length-3.result ≡ c.args.self.now.kept = c.length-3.ensures ∙ c.checkpoint.ensures.length ∙ ap (λ (l : LogIn g.row.F.Denot). l.kept) c.self.view_is in
     let len : c.length.result ≡ c.args.self.now.edge.len = c.length.ensures.value ∙ ap (λ (l : LogIn g.row.F.Denot). l.edge.len) c.self.view_is in
     let new : c.args.self.now.kept < c.args.self.now.edge.len = omega (arith, c.if-length.false, kept, len, has.since, has.order) in
-    let put = c.in-Ok.ensures.put faithful served old next has new own text in
-    (put.0, noted g.F.Folder.seen g.F.Folder.may_leave put.0 next
-    (record {
-      folder = c.self-2.inside.folder;
-      kept = c.self-2.inside.text.length;
-      is_open = c.self-2.inside.is_open;
-      origin = c.self-2.inside.text.origin;
-      edge = c.self-2.inside.edge;
-      bundle = c.self-2.inside.bundle.items;
-      held = c.self-2.inside.held;
-    })
-    c.in_ok-text.text.length c.in_ok-text.text.origin
-    (ap (λ (s : Said). s.length) said) (ap (λ (s : Said). s.origin) said)
-    (subst (λ (l : LogIn g.row.F.Denot). Has g.F.Folder.seen g.F.Folder.may_leave put.0 next next (record l { kept = length next.entries })) (sym c.self-2.view_is) put.1))
+    let put = c.in-Ok.ensures.put faithful served old next has new own text in (
+      put.0,
+      noted g.F.Folder.seen g.F.Folder.may_leave put.0 next
+          (record {
+            folder = c.self-2.inside.folder;
+            kept = c.self-2.inside.text.length;
+            is_open = c.self-2.inside.is_open;
+            origin = c.self-2.inside.text.origin;
+            edge = c.self-2.inside.edge;
+            bundle = c.self-2.inside.bundle.items;
+            held = c.self-2.inside.held;
+          })
+          c.in_ok-text.text.length c.in_ok-text.text.origin
+          (ap (λ (s : Said). s.length) said) (ap (λ (s : Said). s.origin) said)
+          (subst (λ (l : LogIn g.row.F.Denot). Has g.F.Folder.seen g.F.Folder.may_leave put.0 next next (record l { kept = length next.entries })) (sym c.self-2.view_is) put.1),
+    )

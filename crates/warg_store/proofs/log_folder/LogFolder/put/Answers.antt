@@ -36,7 +36,9 @@ returns-clause-any_moment g c = λ faithful served old next has new own text.
 pub returns-clause-put : goal.returns-clause-put
 returns-clause-put g c = λ faithful served old next has new own text.
     let all = subst (HasAll g.F.Folder.seen g.F.Folder.may_leave served old next) (sym c.self.view_is) (c.in_ok-stage_edge.ensures.staged faithful served old next has new own) in
-    let kept = c.in_ok-commit_log.ensures.next faithful served old next all.keeps all.extends all.staged text in
-    (kept.0, all_kept g.F.Folder.seen g.F.Folder.may_leave served old next kept.0 _ _ all kept.1
-    (c.in_ok-commit_log.ensures.empty faithful) (c.in_ok-commit_log.ensures.ready faithful) refl refl refl
-    c.take_full.ensures.rest refl refl c.take_full.ensures.stands (omega (arith, all.held)))
+    let kept = c.in_ok-commit_log.ensures.next faithful served old next all.keeps all.extends all.staged text in (
+      kept.0,
+      all_kept g.F.Folder.seen g.F.Folder.may_leave served old next kept.0 _ _ all kept.1
+          (c.in_ok-commit_log.ensures.empty faithful) (c.in_ok-commit_log.ensures.ready faithful) refl refl refl
+          c.take_full.ensures.rest refl refl c.take_full.ensures.stands (omega (arith, all.held)),
+    )

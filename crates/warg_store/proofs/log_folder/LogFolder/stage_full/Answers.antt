@@ -1,4 +1,4 @@
-use Rattle.std.proofs.Common.{◌≡◌, ◌≤◌, ◌^◌, ℕ, List, [], map, sym, ap, subst, ◌∙◌, rules, arith, refl}
+use Rattle.std.proofs.Common.{◌≡◌, ◌≤◌, ◌^◌, ℕ, List, [], map, ap, subst, ◌∙◌, rules, arith, refl}
 use Rattle.std.specs.declared.alloc.Global.{Global}
 use Rattle.warg_crypto.specs.Digests.{sha256}
 use Rattle.warg_crypto.specs.declared.hash.Sha256.{Sha256}

@@ -1,0 +1,107 @@
+-- A log of no entries, made in a folder that has none.
+use Rattle.std.proofs.Common.{◌≡◌, ◌≢◌, ℕ, ◌/◌, ◌^◌, ◌*◌, List, [], drop, map, Option, Some, None, IsSome, true, false, if◌then◌else◌, refl, sym, ap, subst, ◌∙◌, arith, string_bytes}
+use Rattle.std.specs.List.{All, Contains}
+use Rattle.std.proofs.lemmas.List.Elements.{All-contains, All-map}
+use Rattle.std.proofs.Math.Nat.{zero-div}
+use Rattle.std.specs.declared.string.String.{String}
+use Rattle.std.specs.declared.alloc.Global.{Global}
+use Rattle.warg_crypto.specs.Digests.{sha256}
+use Rattle.warg_tiles.specs.Tiles.{TileAt}
+use Rattle.warg_tiles.specs.Between.{IsTileOf}
+use Rattle.warg_tiles.specs.TileLog.{RightEdge, StandsFor}
+use Rattle.warg_tiles.specs.EntryBundles.{bundle_of}
+use Rattle.warg_tiles.specs.CheckpointText.{Said}
+use Rattle.warg_store.specs.Files.{Files, put}
+use Rattle.warg_store.specs.Names.{checkpoint, state, mark, staged, is_staged}
+use Rattle.warg_store.specs.Opening.{is_signed, opened_by, committed, finished, published, told, IsStaging, NothingStaged}
+use Rattle.warg_store.specs.Log.{LogOf, said_of, checkpoint_of, Keeps, HasFiles}
+use Rattle.warg_store.specs.Growing.{Has}
+use Rattle.warg_store.proofs.FileLemmas.{put_here}
+use Rattle.warg_store.proofs.ReadLemmas.{unsigned_is}
+use Rattle.warg_store.proofs.StepLemmas.{without_at, told_checkpoint, unmarked}
+use Rattle.warg_store.proofs.LeadLemmas.{extends_self}
+use Rattle.warg_store.proofs.GrowingLemmas.{none_some}
+
+-- a name that is listed nowhere has no file
+pub absent : (s : Files) (names : List (String Global)) (n : List ℕ) → ((m : List ℕ) → IsSome (s m) → Contains (map (λ name. string_bytes name) names) m)
+    → All (λ name. string_bytes name ≢ n) names → s n ≡ None
+absent s names n listed others = at (s n) refl
+  where
+    at : (o : Option (List ℕ)) → s n ≡ o → s n ≡ None
+    at None e = e
+    at (Some bytes) e =
+        absurd (All-contains (λ m. m ≢ n) (map (λ name. string_bytes name) names) n (All-map (λ m. m ≢ n) (λ name. string_bytes name) names others) (listed n (subst IsSome (sym e) refl)) refl)
+
+-- the log of no entries
+abbrev pub no_entries : List ℕ → LogOf
+no_entries origin = record { origin = origin; entries = [] }
+
+-- it has no tile
+pub no_tile : (t : TileAt) → IsTileOf 0 t → ⊥
+no_tile t is =
+    let none : 0 / 2 ^ (8 * t.level) ≡ 0 = zero-div (2 ^ (8 * t.level)) in
+    omega (arith, is.some, is.width, none)
+
+-- What a commit of its text makes of a folder without a checkpoint.
+module _ (origin : List ℕ) (s : Files) (none : s checkpoint ≡ None) where
+  abbrev text : List ℕ
+  text = checkpoint_of (no_entries origin)
+
+  abbrev marked : Files
+  marked = put (mark, text) s
+
+  at_own : (n : List ℕ) → is_staged n ≡ false → committed text s n ≡ told text (published marked) n
+  at_own n isnt = ap (λ (o : Option (List ℕ)). opened_by o marked n) (put_here (mark, text) s) ∙ without_at (finished text marked) n isnt
+
+  no_files : HasFiles (no_entries origin) (committed text s)
+  no_files = record { tile = λ t is. absurd (no_tile t is.exists); bundle = λ t is. absurd (no_tile t is.exists) }
+
+  pub created : Keeps (no_entries origin) (no_entries origin) (committed (checkpoint_of (no_entries origin)) s)
+  created = record {
+    state = at_own state refl ∙ put_here (state, text) (published marked);
+    holds = no_files;
+    serves = record {
+      checkpoint = (
+        None,
+        at_own checkpoint refl ∙ told_checkpoint text (published marked) ∙ ap (λ o. if is_signed o then o else Some text) (unmarked s text checkpoint refl ∙ none)
+            ∙ ap (λ b. if b then None else Some text) (sym (unsigned_is None refl)),
+      );
+      holds = no_files;
+    };
+    begins = extends_self (no_entries origin);
+    newest = λ _. refl;
+  }
+
+-- what the text of no entries says
+pub says_none : (origin : List ℕ) (said : Said) (n : ℕ) (root : List ℕ) → n ≡ 0 → root ≡ sha256 [] → said ≡ record { origin = origin; length = n; root = root; extensions = [] } → said ≡ said_of (no_entries origin)
+says_none origin said n root len empty is =
+    subst (λ m. said ≡ record { origin = origin; length = m; root = sha256 []; extensions = [] }) len
+    (subst (λ r. said ≡ record { origin = origin; length = n; root = r; extensions = [] }) empty is)
+
+-- a new log has no entries
+pub has_none : {F : Type 0} (seen : F → Files) (may_leave : F → Files → Type 0) (origin : List ℕ) (folder : F) (edge : RightEdge) → edge ≡ record { len = 0; taken = 0; digests = []; full = [] } → StandsFor sha256 edge []
+    → Keeps (no_entries origin) (no_entries origin) (seen folder) → NothingStaged (seen folder) → IsStaging (seen folder) (may_leave folder)
+    → Has seen may_leave (no_entries origin) (no_entries origin) (no_entries origin) (record { folder = folder; kept = 0; is_open = true; origin = origin; edge = edge; bundle = []; held = 0 })
+unfolding bundle_of
+has_none seen may_leave origin folder edge is stands keeps nothing staging =
+    let len : edge.len ≡ 0 = ap (λ (e : RightEdge). e.len) is in
+    let taken : edge.taken ≡ 0 = ap (λ (e : RightEdge). e.taken) is in
+    record {
+      is_open = refl;
+      keeps = keeps;
+      extends = extends_self (no_entries origin);
+      kept = refl;
+      origin = refl;
+      edge = stands;
+      since = omega arith;
+      order = omega (arith, len, taken);
+      held = omega (arith, len, taken);
+      most = omega arith;
+      bundle = subst (λ n. [] ≡ bundle_of (drop (256 * (n / 256)) [])) (sym taken) refl;
+      staged = record {
+        tile = λ t low new. absurd (no_tile t (subst (λ n. IsTileOf n t) taken new.exists));
+        bundle = λ t level new. absurd (no_tile t (subst (λ n. IsTileOf n t) taken new.exists));
+        nothing_else = λ n served some. absurd (none_some (seen folder (staged n)) (nothing (staged n) refl) some);
+      };
+      staging = staging;
+    }
