@@ -3,7 +3,6 @@ pub mod Moments
 pub mod Names
 pub mod Opening
 pub mod Log
-pub mod Serving
 pub mod Staged
 pub mod Growing
 pub mod Private
