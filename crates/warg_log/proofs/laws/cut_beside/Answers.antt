@@ -8,4 +8,4 @@ pub returns : goal.returns
 returns c = λ H e r full beside.
     let misses = (beside_decides e.target r).0 beside in
     cut_over_read H e r (λ same. omega (arith, starts same, counts same, full.1, pow_pos full.0, misses))
-        (inr (full, beside))
+    (inr (full, beside))
