@@ -108,7 +108,7 @@ impl From<FolderError> for CommitError {
 }
 
 /// A log in a folder, with the right edge of all that was pushed: at most 255 digests of each level, and the entries that fill
-/// no bundle yet. So its memory doesn't grow with the log.
+/// no bundle yet. So its memory doesn't grow with the log; a commit lists the names of the files that it stages.
 #[derive(Drop)]
 pub struct LogFolder<F: Folder + Drop> {
     alloc: Global,
