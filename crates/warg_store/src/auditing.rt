@@ -61,9 +61,10 @@ pub fn rebuild<F: Folder, P: Progress>(
     let log = replayed(alloc, folder, checkpoint.length(), Use::Stage, progress)?;
     let found = same_root(alloc, &log, &checkpoint)?;
     let text = state.write(alloc)?;
-    if text.len() <= MOST_TEXT {
-        commit(alloc, folder, text.as_slice())?;
+    if text.len() > MOST_TEXT {
+        return Err(LogError::damaged(alloc, STATE, "is longer than a checkpoint's text"));
     }
+    commit(alloc, folder, text.as_slice())?;
     Ok(found)
 }
 

@@ -110,13 +110,20 @@ impl<'a> Session<'a> {
     /// Takes the lock of a folder that has a log, also of one without its own files yet. `NoLog` where there is none;
     /// `Locked` where another run holds it.
     pub fn lock(&self) -> Result<Lock, Refusal> {
-        let checkpoint = self.path("checkpoint")?;
-        match fs::symlink_metadata(self.rt, checkpoint.as_str()) {
-            Ok(_) => self.make()?,
-            Err(error) if error.kind() == ErrorKind::NotFound => {}
-            Err(error) => return Err(Refusal::of_read(checkpoint, error)),
+        if !self.has(".log")? && self.has("checkpoint")? {
+            self.make()?;
         }
         self.take_lock()
+    }
+
+    // Whether something stands at a name of the folder.
+    fn has(&self, name: &str) -> Result<bool, Refusal> {
+        let path = self.path(name)?;
+        match fs::symlink_metadata(self.rt, path.as_str()) {
+            Ok(_) => Ok(true),
+            Err(error) if error.kind() == ErrorKind::NotFound => Ok(false),
+            Err(error) => Err(Refusal::of_read(path, error)),
+        }
     }
 
     /// Takes the folder's lock. `NoLog` where it has no log; `Locked` where another run holds it.
