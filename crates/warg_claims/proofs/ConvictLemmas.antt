@@ -32,18 +32,20 @@ use Rattle.warg_witness.specs.Claims.{IsMet, IsEntry, IsConsistencyMet, Begins}
 use Rattle.warg_witness.specs.MapClaims.{IsKeyMet, IsAbsenceMet, IsLastValue}
 use Rattle.warg_witness.specs.MapPlaced.{IsKeyPlaced}
 use Rattle.warg_witness.specs.MapsPlaced.{Insertions}
+use Rattle.warg_witness.specs.ChangeClaims.{IsChangeMet, IsUpdate, IsUpdatePlaced}
 use Rattle.warg_witness.specs.PathClaims.{IsRecord, IsRecordMet, IsTreeMet}
 use Rattle.warg_witness.specs.PathPlaced.{IsRecordPlaced}
 use Rattle.warg_witness.specs.Placed.{IsValuePlaced, IsConsistencyPlaced}
 use Rattle.warg_check.specs.Verdicts.{judged, verdict_at, includes, is_root, extends, are_roots, leads, inclusion_verdict, consistency_verdict}
 use Rattle.warg_check.specs.CheckpointVerdicts.{is_leaf_at, shows_entry, shows_growth, growth_verdict}
 use Rattle.warg_check.specs.Claims.{verdict, shows}
-use Rattle.warg_check.specs.Claims.Claim.{entry_at, growth, value_under, nothing_under}
+use Rattle.warg_check.specs.Claims.Claim.{entry_at, growth, value_under, nothing_under, update, insertion}
+use Rattle.warg_check.specs.UpdateVerdicts.{leads_both}
 use Rattle.warg_check.specs.Claims.Evidence.{by_bundle, by_path}
 use Rattle.warg_claims.specs.Convictions.{Convicts}
 use Rattle.warg_claims.specs.Worlds.{IsLogOf}
 use Rattle.warg_claims.specs.Placed.{digests_in, path_in}
-use Rattle.warg_claims.proofs.SoundLemmas.{is_held, is_recorded, found_peers, judged_true, found_is, both_are}
+use Rattle.warg_claims.proofs.SoundLemmas.{is_held, is_recorded, found_peers, judged_true, found_is, both_are, empty_leaf}
 
 -- What is found of one claim is found of another, where they are met and true together.
 pub transfer : {D A : _} (met met' claim claim' : Type 0) (placed placed' : List ℕ → List ℕ → Type 0)
@@ -278,6 +280,14 @@ growth_path_convicts H bytes old new before after digests finding reads old_coun
     (λ first second at. subst (λ path. IsTreePlaced H path before after first second) (sym is_path) at)
     found
 
+-- Peers that lead from two leaf digests to two roots.
+both_led_there : (H : List ℕ → List ℕ) (key old_leaf new_leaf old_root new_root : List ℕ) (peers : Peers)
+    → leads_both H key old_leaf new_leaf old_root new_root peers ≡ true
+    → (proof_value H peers old_leaf (key_bits H key) ≡ old_root) × (proof_value H peers new_leaf (key_bits H key) ≡ new_root)
+both_led_there H key old_leaf new_leaf old_root new_root peers is =
+    let both = and_parts (leads H old_leaf key old_root peers) (leads H new_leaf key new_root peers) is in
+    (same_text _ old_root (sym both.0), same_text _ new_root (sym both.1))
+
 pub key_convicts : {D A : _} (H : List ℕ → List ℕ) (bytes : List ℕ) (place : ℕ) (key value root : List ℕ)
     (insertions : Insertions) (b : MapBundle) (peers : Peers) (finding : Finding D A) → map_bundle_of bytes ≡ Ok b
     → slice_get b.proofs place ≡ Some peers → verdict H (value_under key value root) (by_bundle bytes place) ≡ Ok true
@@ -315,6 +325,49 @@ absence_convicts H bytes place key root insertions b peers finding reads there s
     (λ met last. last)
     (λ met last. last)
     (λ first second at. subst (λ ps. IsKeyPlaced H ps [] key insertions first second)
+    (found_peers (λ (b : MapBundle). b.absences) place _ b peers reads there) at)
+    found
+
+pub update_convicts : {D A : _} (H : List ℕ → List ℕ) (bytes : List ℕ) (place : ℕ)
+    (key old_value new_value old_root new_root : List ℕ) (old new : Insertions) (b : MapBundle) (peers : Peers)
+    (finding : Finding D A) → map_bundle_of bytes ≡ Ok b → slice_get b.proofs place ≡ Some peers
+    → verdict H (update key old_value new_value old_root new_root) (by_bundle bytes place) ≡ Ok true
+    → Finds (IsChangeMet H peers key old_value new_value old new) (IsUpdate key old_value new_value old new)
+    (IsUpdatePlaced H peers old_value new_value key (old, new)) finding
+    → Convicts H (update key old_value new_value old_root new_root) (by_bundle bytes place) (old, new) finding
+update_convicts H bytes place key old_value new_value old_root new_root old new b peers finding reads there shown found =
+    let is = both_led_there H key (leaf_digest H old_value) (leaf_digest H new_value) old_root new_root peers
+    (judged_there (λ (b : MapBundle). b.proofs)
+    (λ b. leads_both H key (leaf_digest H old_value) (leaf_digest H new_value) old_root new_root) place _ b peers reads
+    there shown) in
+    transfer _ _ _ _ _ _ finding
+    (λ met. record { shown = shown; roots = (sym is.0 ∙ met.before, sym is.1 ∙ met.after) })
+    (λ both. record { before = is.0 ∙ both.roots.0; after = is.1 ∙ both.roots.1 })
+    (λ met claim. claim)
+    (λ met claim. claim)
+    (λ first second at. subst (λ ps. IsUpdatePlaced H ps old_value new_value key (old, new) first second)
+    (found_peers (λ (b : MapBundle). b.proofs) place _ b peers reads there) at)
+    found
+
+pub insertion_convicts : {D A : _} (H : List ℕ → List ℕ) (bytes : List ℕ) (place : ℕ)
+    (key value old_root new_root : List ℕ) (old new : Insertions) (b : MapBundle) (peers : Peers)
+    (finding : Finding D A) → map_bundle_of bytes ≡ Ok b → slice_get b.absences place ≡ Some peers
+    → verdict H (insertion key value old_root new_root) (by_bundle bytes place) ≡ Ok true
+    → Finds (IsChangeMet H peers key [] value old new) (IsUpdate key [] value old new)
+    (IsUpdatePlaced H peers [] value key (old, new)) finding
+    → Convicts H (insertion key value old_root new_root) (by_bundle bytes place) (old, new) finding
+insertion_convicts H bytes place key value old_root new_root old new b peers finding reads there shown found =
+    let is = both_led_there H key (empty_root H 0) (leaf_digest H value) old_root new_root peers
+    (judged_there (λ (b : MapBundle). b.absences)
+    (λ b. leads_both H key (empty_root H 0) (leaf_digest H value) old_root new_root) place _ b peers reads there shown) in
+    let old_is : proof_value H peers (leaf_digest H []) (key_bits H key) ≡ old_root =
+    ap (λ x. proof_value H peers x (key_bits H key)) (sym (empty_leaf H)) ∙ is.0 in
+    transfer _ _ _ _ _ _ finding
+    (λ met. record { shown = shown; roots = (sym old_is ∙ met.before, sym is.1 ∙ met.after) })
+    (λ both. record { before = old_is ∙ both.roots.0; after = is.1 ∙ both.roots.1 })
+    (λ met claim. claim)
+    (λ met claim. claim)
+    (λ first second at. subst (λ ps. IsUpdatePlaced H ps [] value key (old, new) first second)
     (found_peers (λ (b : MapBundle). b.absences) place _ b peers reads there) at)
     found
 

@@ -24,8 +24,9 @@ use Rattle.warg_witness.specs.MapPlaced.{IsKeyPlaced, IsPlacedAtPrefix}
 use Rattle.warg_witness.specs.MapsPlaced.{Insertions, HaveSameValues, IsPlacedInMaps}
 use Rattle.warg_witness.specs.UpdateClaims.{IsUpdated}
 use Rattle.warg_check.specs.PathVerdicts.{is_found, are_both, judged_path}
-use Rattle.warg_claims.specs.Worlds.{IsUpdate, IsMapOf}
-use Rattle.warg_claims.specs.Placed.{IsUpdatePlaced, peers_in, path_in}
+use Rattle.warg_witness.specs.ChangeClaims.{IsUpdate, IsUpdatePlaced}
+use Rattle.warg_claims.specs.Worlds.{IsMapOf}
+use Rattle.warg_claims.specs.Placed.{peers_in, path_in}
 
 -- the entry at a leaf of which the proof exists
 pub is_held : (H : List ℕ → List ℕ) (F : ℕ → Option (List ℕ)) (index : ℕ) (value root : List ℕ) (entries : List (List ℕ)) (x : List ℕ) → inclusion H F (leaf_claim index (length entries)) x ≡ Ok root

@@ -1,5 +1,5 @@
 -- Where the two byte strings of a collision stand.
-use Rattle.std.specs.Prelude.{ℕ, ◌*◌, ◌⊎◌, List, [], ◌∷◌, ◌++◌, Option, Some, None, Result, Ok, Err, slice_get, unwrap_or}
+use Rattle.std.specs.Prelude.{ℕ, ◌*◌, List, [], Option, Some, None, Result, Ok, Err, slice_get, unwrap_or}
 use Rattle.warg_protobuf.specs.MapProofBundle.{MapBundle}
 use Rattle.warg_protobuf.specs.declared.value_error.DecodeError.{DecodeError}
 use Rattle.warg_log.specs.Sparse.{held_digest}
@@ -11,7 +11,7 @@ use Rattle.warg_witness.specs.MapPlaced.{IsKeyPlaced}
 use Rattle.warg_witness.specs.PathPlaced.{IsRecordPlaced}
 use Rattle.warg_witness.specs.TreePlaced.{IsTreePlaced}
 use Rattle.warg_paths.specs.Pieces.{hashes_of}
-use Rattle.warg_witness.specs.MapsPlaced.{Insertions, IsPlacedInMaps}
+use Rattle.warg_witness.specs.ChangeClaims.{IsUpdatePlaced}
 use Rattle.warg_check.specs.Claims.{Claim, Evidence}
 use Rattle.warg_claims.specs.Worlds.{World}
 use Rattle.warg_check.specs.Claims.Claim.{entry_at, growth, value_under, nothing_under, update, insertion}
@@ -31,11 +31,6 @@ peers_in proofs place (Err e) = []
 abbrev pub path_in : Option (List (List ℕ)) → List (List ℕ)
 path_in None = []
 path_in (Some digests) = digests
-
--- Of an update: where those of the old value stand, or in the old map with the new value, and the new map.
-abbrev pub IsUpdatePlaced : (List ℕ → List ℕ) → Peers → List ℕ → List ℕ → List ℕ → Insertions × Insertions → List ℕ → List ℕ → Type 0
-IsUpdatePlaced H peers old_value new_value key maps first second =
-    IsKeyPlaced H peers old_value key maps.0 first second ⊎ IsPlacedInMaps H (maps.0 ++ (key, new_value) ∷ []) maps.1 first second
 
 -- With a bundle: the first is what the evaluation of its proof hashes at a range or prefix, the second what the tree over
 -- the world hashes there. Or they are what two trees of the world hash at one place; or two keys.

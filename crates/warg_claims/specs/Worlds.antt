@@ -1,11 +1,12 @@
 -- What claims are about, and when they are true of it.
-use Rattle.std.specs.Prelude.{◌≡◌, ℕ, List, [], ◌∷◌, ◌++◌, length, Some, slice_get}
+use Rattle.std.specs.Prelude.{◌≡◌, ℕ, List, [], length, Some, slice_get}
 use Rattle.warg_log.specs.Claims.{RootAndLength}
 use Rattle.warg_log.specs.Tree.{leaves_of, root_of}
 use Rattle.warg_map.specs.Sparse.{sparse_root, map_of}
 use Rattle.warg_witness.specs.Claims.{Begins}
 use Rattle.warg_witness.specs.MapClaims.{IsLastValue}
-use Rattle.warg_witness.specs.MapsPlaced.{Insertions, HaveSameValues}
+use Rattle.warg_witness.specs.MapsPlaced.{Insertions}
+use Rattle.warg_witness.specs.ChangeClaims.{IsUpdate}
 use Rattle.warg_check.specs.Claims.{Claim}
 use Rattle.warg_check.specs.Claims.Claim.{entry_at, growth, value_under, nothing_under, update, insertion}
 
@@ -36,12 +37,6 @@ HasRoots H (value_under key value root) insertions = IsMapOf H root insertions
 HasRoots H (nothing_under key root) insertions = IsMapOf H root insertions
 HasRoots H (update key old_value new_value old_root new_root) maps = IsMapOf H old_root maps.0 × IsMapOf H new_root maps.1
 HasRoots H (insertion key value old_root new_root) maps = IsMapOf H old_root maps.0 × IsMapOf H new_root maps.1
-
--- The key has the old value, and the new map the values of the old one after one more insertion: of this key, with the
--- new value.
-pub record IsUpdate (key old_value new_value : List ℕ) (old new : Insertions) : Type 0 where
-  pub before : IsLastValue key old_value old
-  pub after : HaveSameValues (old ++ (key, new_value) ∷ []) new
 
 -- The claim is true: that entry has these bytes; the new entries begin with the old ones; the key's last value is this
 -- one, or has no bytes; nothing but this was inserted.

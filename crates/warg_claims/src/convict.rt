@@ -10,7 +10,10 @@ ghost use Rattle.warg_check.specs.Claims.Claim.{entry_at, growth, value_under, n
 ghost use Rattle.warg_check.specs.Claims.Evidence.{by_bundle, by_path};
 ghost use Rattle.warg_claims.specs.Convictions.{Convicts};
 
+mod update;
+
 use std::alloc::{AllocError, Allocator};
+pub use update::{convict_insertion, convict_update};
 use warg_bundle::{LogProofBundle, MapProofBundle};
 use warg_check::{
     CheckError, check_absent, check_entry, check_entry_path, check_growth, check_growth_path,
@@ -24,8 +27,8 @@ use warg_witness::{
     witness_value,
 };
 
-// Whether a verdict is true. It fails only where memory was refused.
-fn is_true(verdict: Result<bool, CheckError>) -> Result<bool, AllocError>
+/// Whether a verdict is true. It fails only where memory was refused.
+pub(crate) fn is_true(verdict: Result<bool, CheckError>) -> Result<bool, AllocError>
     ensures { IfOk result (λ is. (of : Result Bool CheckError) → Answers CheckError.Memory verdict of
         → IsTrue is ↔ (of ≡ Ok true)) }
 {

@@ -8,5 +8,5 @@ pub mod premises;
 
 pub use convict::{
     convict_absent, convict_entry, convict_entry_path, convict_growth, convict_growth_path,
-    convict_key,
+    convict_insertion, convict_key, convict_update,
 };

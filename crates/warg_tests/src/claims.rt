@@ -4,7 +4,8 @@ use std::alloc::Global;
 use std::test::Fail;
 use warg_bundle::{growth_bytes, key_bytes};
 use warg_claims::{
-    convict_absent, convict_entry_path, convict_growth, convict_growth_path, convict_key,
+    convict_absent, convict_entry_path, convict_growth, convict_growth_path, convict_insertion,
+    convict_key, convict_update,
 };
 use warg_crypto::weak::Flat;
 use warg_log::{LogBuilder, VecLog};
@@ -111,5 +112,63 @@ fn a_key_of_a_map(rt: HostRuntime) -> Result<(), Fail> {
         &insertions,
     )?;
     assert!(rt; is_collision(&found));
+    Ok(())
+}
+
+#[test]
+fn an_update_of_a_map(rt: HostRuntime) -> Result<(), Fail> {
+    let empty: Map<Flat, &str, &str> = Map::default(rt.alloc());
+    let packages = empty.insert("left-pad", "1.0.0")?;
+    let something = key_bytes(rt.alloc(), &packages, &"left-pad")?;
+    let root = packages.root();
+    let old = [("left-pad", "1.0.0")];
+    let new = [("left-pad", "1.0.0"), ("left-pad", "1.1.0")];
+    // The old value, the insertions of the new map, and what is to be found.
+    let cases = [
+        ("1.0.0", new.as_slice(), false),
+        ("0.9.0", new.as_slice(), true),
+        ("1.0.0", old.as_slice(), true),
+    ];
+    for (old_value, given, is_lie) in cases {
+        let found = convict_update(
+            rt.alloc(),
+            something.as_slice(),
+            0,
+            &"left-pad",
+            &old_value,
+            &"1.1.0",
+            root,
+            root,
+            &old,
+            given,
+        )?;
+        assert!(rt; is_collision(&found) == is_lie);
+        assert!(rt; (found == Finding::Holds) != is_lie);
+    }
+    Ok(())
+}
+
+#[test]
+fn an_insertion_into_a_map(rt: HostRuntime) -> Result<(), Fail> {
+    let empty: Map<Flat, &str, &str> = Map::default(rt.alloc());
+    let nothing = key_bytes(rt.alloc(), &empty, &"left-pad")?;
+    let root = empty.root();
+    let old: [(&str, &str); 0] = [];
+    let new = [("left-pad", "1.0.0")];
+    for (value, is_lie) in [("1.0.0", false), ("2.0.0", true)] {
+        let found = convict_insertion(
+            rt.alloc(),
+            nothing.as_slice(),
+            0,
+            &"left-pad",
+            &value,
+            root,
+            root,
+            &old,
+            &new,
+        )?;
+        assert!(rt; is_collision(&found) == is_lie);
+        assert!(rt; (found == Finding::Holds) != is_lie);
+    }
     Ok(())
 }

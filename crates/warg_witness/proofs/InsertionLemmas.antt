@@ -47,10 +47,10 @@ last_of_digest H key insertions same =
 
 module _ {K V : Type 0} (kb : K → List ℕ) (vb : V → List ℕ) (es : List (K × V)) where
   -- the bytes of the insertion at a place
-  pair_at : (i : ℕ) (e : K × V) → i < length es → e ≡ get_or es i e → get_or (pair_bytes kb vb es) i ([], []) ≡ (kb e.0, vb e.1)
+  pub pair_at : (i : ℕ) (e : K × V) → i < length es → e ≡ get_or es i e → get_or (pair_bytes kb vb es) i ([], []) ≡ (kb e.0, vb e.1)
   pair_at i e lt is = get_or-map (λ (f : K × V). (kb f.0, vb f.1)) es i e ([], []) lt ∙ ap (λ (f : K × V). (kb f.0, vb f.1)) (sym is)
 
-  length-pair_bytes : length (pair_bytes kb vb es) ≡ length es
+  pub length-pair_bytes : length (pair_bytes kb vb es) ≡ length es
   length-pair_bytes = length-map es (λ (f : K × V). (kb f.0, vb f.1))
 
   -- the last insertion of a key among the first n

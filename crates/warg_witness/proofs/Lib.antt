@@ -16,3 +16,4 @@ pub mod ForCallers
 pub mod PremiseLemmas
 pub mod KeyPremiseLemmas
 pub mod MapPremiseLemmas
+pub mod ChangeLemmas

@@ -18,7 +18,7 @@ use Rattle.warg_map.proofs.ForCallers.{all_bits, last_held, same_digest, same_bi
 use Rattle.warg_witness.specs.MapClaims.{value_in, last_insertion}
 use Rattle.warg_witness.proofs.InsertionLemmas.{last_with-is, last_of_digest}
 use Rattle.warg_witness.proofs.KeyLemmas.{plain_leaf_is}
-use Rattle.warg_witness.specs.MapsPlaced.{Insertions, HaveSameValues, IsInserted, IsPlacedInMaps}
+use Rattle.warg_witness.specs.MapsPlaced.{Insertions, HaveOneValue, HaveSameValues, IsInserted, IsPlacedInMaps}
 
 module _ (H : List ℕ → List ℕ) (gives : GivesHashes H) where
   -- What is held has 32 bytes, or that of an empty leaf has.
@@ -96,19 +96,34 @@ each (x ∷ es) P C test = elim (test x (0, omega arith, refl)) [
 ]
 
 -- the key of an insertion is inserted
-is_key : (es : Insertions) (e : List ℕ × List ℕ) → Contains es e → Contains (map (λ (f : List ℕ × List ℕ). f.0) es) e.0
+pub is_key : (es : Insertions) (e : List ℕ × List ℕ) → Contains es e → Contains (map (λ (f : List ℕ × List ℕ). f.0) es) e.0
 is_key es e at = let count = length-map es (λ (f : List ℕ × List ℕ). f.0) in (at.0, omega (arith, at.1), get_or-map (λ (f : List ℕ × List ℕ). f.0) es at.0 e e.0 at.1 ∙ ap (λ (f : List ℕ × List ℕ). f.0) at.2)
+
+module _ (xs ys : Insertions) where
+  -- The key of an insertion has one value in both.
+  abbrev pub Agrees : List ℕ × List ℕ → Type 0
+  Agrees e = HaveOneValue xs ys e.0
+
+  -- where each inserted key has one, each key has
+  pub agree : AllByRecursion Agrees xs → AllByRecursion Agrees ys → HaveSameValues xs ys
+  agree all_xs all_ys q = go (last_insertion q xs) (last_insertion q ys) refl refl
+    where
+      at : (es : Insertions) (e : List ℕ × List ℕ) → AllByRecursion Agrees es → last_insertion q es ≡ Some e → HaveOneValue xs ys q
+      at es e all is =
+          let found = last_with-is (λ (f : List ℕ × List ℕ). same_bytes q f.0) es e is in
+          subst (HaveOneValue xs ys) (sym (same_text q e.0 (sym found.0))) (All-contains Agrees es e (All-from_recursion Agrees es all) found.1)
+
+      go : (o p : Option (List ℕ × List ℕ)) → last_insertion q xs ≡ o → last_insertion q ys ≡ p → HaveOneValue xs ys q
+      go (Some e) p is is' = at xs e all_xs is
+      go None (Some e) is is' = at ys e all_ys is'
+      go None None is is' = ap value_in is ∙ sym (ap value_in is')
 
 module _ (H : List ℕ → List ℕ) (gives : GivesHashes H) (xs ys : Insertions) where
   abbrev Collide : Type 0
   Collide = SomeCollision H (IsPlacedInMaps H xs ys)
 
   abbrev AgreeOn : List ℕ → Type 0
-  AgreeOn q = value_in (last_insertion q xs) ≡ value_in (last_insertion q ys)
-
-  -- The key of an insertion has one value in both.
-  abbrev Agrees : List ℕ × List ℕ → Type 0
-  Agrees e = AgreeOn e.0
+  AgreeOn q = HaveOneValue xs ys q
 
   keys_collide : (q : List ℕ) (e : List ℕ × List ℕ) → IsInserted xs ys q → IsInserted xs ys e.0 → q ≢ e.0 → H q ≡ H e.0 → Collide
   keys_collide q e first second differ same = record { first = q; second = e.0; collide = record { differ = differ; same = same }; placed = inr (first, second) }
@@ -135,19 +150,6 @@ module _ (H : List ℕ → List ℕ) (gives : GivesHashes H) (xs ys : Insertions
     ]
   ]
 
-  agree : AllByRecursion Agrees xs → AllByRecursion Agrees ys → HaveSameValues xs ys
-  agree all_xs all_ys q = go (last_insertion q xs) (last_insertion q ys) refl refl
-    where
-      at : (es : Insertions) (e : List ℕ × List ℕ) → AllByRecursion Agrees es → last_insertion q es ≡ Some e → AgreeOn q
-      at es e all is =
-          let found = last_with-is (λ (f : List ℕ × List ℕ). same_bytes q f.0) es e is in
-          subst AgreeOn (sym (same_text q e.0 (sym found.0))) (All-contains Agrees es e (All-from_recursion Agrees es all) found.1)
-
-      go : (o p : Option (List ℕ × List ℕ)) → last_insertion q xs ≡ o → last_insertion q ys ≡ p → AgreeOn q
-      go (Some e) p is is' = at xs e all_xs is
-      go None (Some e) is is' = at ys e all_ys is'
-      go None None is is' = ap value_in is ∙ sym (ap value_in is')
-
   at_branches : (prefix : List Bool) (j : ℕ) → length prefix + suc j ≡ 256 → IsPlacedInMaps H xs ys (branch_behind H gives j (get (map_of H xs)) prefix) (branch_behind H gives j (get (map_of H ys)) prefix)
   at_branches prefix j len = inl (record { prefix = prefix; levels = suc j; whole = len; first_plain = refl; second_plain = refl })
 
@@ -158,7 +160,7 @@ module _ (H : List ℕ → List ℕ) (gives : GivesHashes H) (xs ys : Insertions
       | inr collision ↦ collision
       | inl all_xs ↦ elim (each ys AgreeOn Collide (λ e at. on_key leaves e.0 (inr (is_key ys e at)))) [
         | inr collision ↦ collision
-        | inl all_ys ↦ absurd (untrue (agree all_xs all_ys))
+        | inl all_ys ↦ absurd (untrue (agree xs ys all_xs all_ys))
       ]
     ]
   ]

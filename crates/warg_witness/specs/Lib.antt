@@ -14,3 +14,4 @@ pub mod PathPlaced
 pub mod TreePlaced
 pub mod Private
 pub mod MapsPlaced
+pub mod ChangeClaims

@@ -7,9 +7,13 @@ use Rattle.warg_witness.specs.MapInputs.{plain_input_at}
 abbrev pub Insertions : Type 0
 Insertions = List (List ℕ × List ℕ)
 
--- Each key's last value is one in both. A key that is inserted nowhere has no bytes.
+-- A key's last value is one in both. A key that is inserted nowhere has no bytes.
+abbrev pub HaveOneValue : Insertions → Insertions → List ℕ → Type 0
+HaveOneValue xs ys key = value_in (last_insertion key xs) ≡ value_in (last_insertion key ys)
+
+-- Each key's last value is one in both.
 abbrev pub HaveSameValues : Insertions → Insertions → Type 0
-HaveSameValues xs ys = (key : List ℕ) → value_in (last_insertion key xs) ≡ value_in (last_insertion key ys)
+HaveSameValues xs ys = (key : List ℕ) → HaveOneValue xs ys key
 
 -- The key is of an insertion into one of two maps.
 abbrev pub IsInserted : Insertions → Insertions → List ℕ → Type 0

@@ -20,5 +20,5 @@ mod trees;
 
 pub use collision::{Collision, Finding};
 pub use log::{agree_value, witness_consistency, witness_hash, witness_value};
-pub use map::{agree_key, witness_absent, witness_key, witness_update};
+pub use map::{agree_key, witness_absent, witness_change, witness_key, witness_update};
 pub use paths::{agree_record, witness_record, witness_tree};

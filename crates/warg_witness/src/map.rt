@@ -10,13 +10,16 @@ ghost use Rattle.warg_witness.specs.MapClaims.{IsKeyMet, IsAbsenceMet, IsKeyAgre
 ghost use Rattle.warg_witness.specs.MapPlaced.{IsKeyPlaced, IsKeyAgreementPlaced};
 ghost use Rattle.warg_witness.specs.Private.MapMeeting.{IsKeyMeeting, key_inputs, lent_pair};
 
+mod change;
 mod last;
+mod maps;
 mod path;
 mod plain;
 mod update;
 
 use crate::collision::{Collision, Finding};
 use crate::divergence::{Divergence, compare_values};
+pub use change::witness_change;
 use last::is_last_value;
 use path::{Evaluation, meet_on_path};
 use plain::{Lent, last_of_digest, own_proof, plain_leaf};

@@ -1,11 +1,31 @@
 //! The last value of a key, by the key's bytes.
 
-ghost use Rattle.std.specs.Prelude.{◌↔◌, IfOk, IsTrue};
+ghost use Rattle.std.specs.Prelude.{◌≡◌, ◌↔◌, [], IfOk, IsTrue};
+ghost use Rattle.std.specs.Option.{option_map_or};
 ghost use Rattle.warg_map.specs.Sparse.{pair_bytes};
-ghost use Rattle.warg_witness.specs.MapClaims.{IsLastValue};
+ghost use Rattle.warg_witness.specs.MapClaims.{IsLastValue, last_insertion, value_in};
+ghost use Rattle.warg_witness.specs.MapsPlaced.{HaveOneValue};
 
 use std::alloc::AllocError;
 use warg_crypto::{VisitBytes, have_same_bytes};
+
+/// A key's last value, or None where it is inserted nowhere. It does not allocate, and refuses only keys of more bytes than
+/// can be counted.
+fn last_value<'a, K: VisitBytes, V: VisitBytes>(
+    key: &K,
+    insertions: &'a [(K, V)],
+) -> Result<Option<&'a V>, AllocError>
+    ensures { IfOk result (λ last. value_in (last_insertion (K.bytes key.now)
+        (pair_bytes K.bytes V.bytes insertions.now)) ≡ option_map_or (λ v. V.bytes v.now) last []) }
+{
+    for place in (0..insertions.len()).rev() {
+        let (inserted, last) = &insertions[place];
+        if have_same_bytes(key, inserted)? {
+            return Ok(Some(last));
+        }
+    }
+    Ok(None)
+}
 
 /// Whether a key's last value has these bytes. It does not allocate, and refuses only values of more bytes than can be
 /// counted.
@@ -17,11 +37,23 @@ pub(crate) fn is_last_value<K: VisitBytes, V: VisitBytes, W: VisitBytes>(
     ensures { IfOk result (λ is. IsTrue is ↔ IsLastValue (K.bytes key.now) (W.bytes value.now)
         (pair_bytes K.bytes V.bytes insertions.now)) }
 {
-    for place in (0..insertions.len()).rev() {
-        let (inserted, last) = &insertions[place];
-        if have_same_bytes(key, inserted)? {
-            return have_same_bytes(last, value);
-        }
+    match last_value(key, insertions)? {
+        Some(last) => have_same_bytes(last, value),
+        None => have_same_bytes(&(), value),
     }
-    have_same_bytes(&(), value)
+}
+
+/// Whether a key's last value has the same bytes in both. It refuses what [`is_last_value`] does.
+pub(crate) fn have_one_value<K: VisitBytes, V: VisitBytes>(
+    key: &K,
+    first: &[(K, V)],
+    second: &[(K, V)],
+) -> Result<bool, AllocError>
+    ensures { IfOk result (λ is. IsTrue is ↔ HaveOneValue (pair_bytes K.bytes V.bytes first.now)
+        (pair_bytes K.bytes V.bytes second.now) (K.bytes key.now)) }
+{
+    match last_value(key, second)? {
+        Some(last) => is_last_value(key, last, first),
+        None => is_last_value(key, &(), first),
+    }
 }

@@ -25,8 +25,8 @@ impl<V: VisitBytes> VisitBytes for Lent<'_, V> {
     }
 }
 
-// The map of the insertions.
-fn grown<'a, D: SupportedDigest, K: VisitBytes, V: VisitBytes, A: Allocator + Copy>(
+/// The map of the insertions.
+pub(crate) fn grown<'a, D: SupportedDigest, K: VisitBytes, V: VisitBytes, A: Allocator + Copy>(
     alloc: A,
     insertions: &'a [(K, V)],
 ) -> Result<Map<D, Lent<'a, K>, Lent<'a, V>, A>, AllocError>

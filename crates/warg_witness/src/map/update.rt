@@ -55,9 +55,9 @@ pub fn witness_update<
     find_update(alloc, &met, proof, key, new_value)
 }
 
-// What a proof shows that doesn't lead from the new value to the new root, where its evaluation diverges from the plain
-// tree.
-fn find_update<
+/// What a proof shows that doesn't lead from the new value to the new root, where its evaluation diverges from the plain
+/// tree.
+pub(crate) fn find_update<
     'a,
     D: SupportedDigest,
     K: VisitBytes,

@@ -14,7 +14,8 @@ use Rattle.warg_check.specs.Claims.{Claim, Evidence, verdict, shows}
 use Rattle.warg_check.specs.Claims.Claim.{entry_at, growth, value_under, nothing_under, update, insertion}
 use Rattle.warg_check.specs.Claims.Evidence.{by_bundle, by_path}
 use Rattle.warg_claims.specs.Worlds.{World, HasRoots, IsTrueOf}
-use Rattle.warg_claims.specs.Placed.{IsPlaced, IsUpdatePlaced, digests_in, path_in}
+use Rattle.warg_witness.specs.ChangeClaims.{IsUpdatePlaced}
+use Rattle.warg_claims.specs.Placed.{IsPlaced, digests_in, path_in}
 use Rattle.warg_claims.proofs.SoundLemmas.{is_held, is_recorded, found_peers, empty_leaf, changed, judged_true, found_is, both_are}
 use Rattle.warg_claims.proofs.laws.true_or_collision.Goals as goal
 

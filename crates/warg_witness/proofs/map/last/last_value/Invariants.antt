@@ -1,7 +1,7 @@
 use Rattle.std.proofs.Common.{◌≡◌, take}
 use Rattle.warg_map.specs.Sparse.{pair_bytes}
 use Rattle.warg_witness.specs.MapClaims.{last_insertion}
-use Rattle.warg_witness.proofs.map.last.is_last_value.Given as goal
+use Rattle.warg_witness.proofs.map.last.last_value.Given as goal
 
 -- none of the insertions from the place on is of the key
 abbrev pub invariant-loop-place : goal.invariant-loop-place
