@@ -14,3 +14,5 @@ mod StagedLemmas
 mod AuditLemmas
 mod GrowingLemmas
 mod CreateLemmas
+mod OpenLemmas
+mod SignLemmas
