@@ -1,6 +1,6 @@
 //! The right edge of a log that a folder keeps: its partial tiles and its last bundle.
 
-ghost use Rattle.std.specs.Prelude.{◌≡◌, ◌*◌, ◌/◌, ◌≤◌, length, drop, Some, IfOk, OnOk};
+ghost use Rattle.std.specs.Prelude.{◌≡◌, ◌*◌, ◌/◌, ◌≤◌, length, map, drop, Some, IfOk, OnOk};
 ghost use Rattle.warg_crypto.specs.Digests.{sha256};
 ghost use Rattle.warg_log.specs.Tree.{leaves_of};
 ghost use Rattle.warg_tiles.specs.EntryBundles.{bundle_of};
@@ -8,6 +8,7 @@ ghost use Rattle.warg_tiles.specs.TileLog.{StandsFor, tile_digests};
 ghost use Rattle.warg_tiles.specs.TilePaths.{tile_path, entries_path};
 ghost use Rattle.warg_store.specs.Growing.{ArePartsOf};
 ghost use Rattle.warg_store.specs.Log.{LogOf, AreShort, CanBeKept, HasFiles, tile_bytes, bundle_bytes};
+ghost use Rattle.warg_store.specs.Moments.{Within};
 ghost use Rattle.warg_store.specs.Opening.{IsStaging};
 
 use crate::device::{Folder, FolderError};
@@ -37,6 +38,7 @@ pub(crate) fn read_tile<F: Folder>(
         → read.digests.items ≡ tile_digests sha256 (leaves_of sha256 log.entries) tile) }
     ensures tile { IfOk result (λ read. read.tile ≡ tile) }
     ensures seen { F.IsFaithful → F.seen folder.new ≡ F.seen folder.old }
+    ensures crash { F.IsFaithful → Within (F.may_leave folder.old) (F.may_leave folder.new) }
     ensures ready { F.IsFaithful → IsStaging (F.seen folder.old) (F.may_leave folder.old)
         → OnOk result (IsStaging (F.seen folder.new) (F.may_leave folder.new)) }
 {
@@ -108,6 +110,7 @@ pub(crate) fn read_bundle<F: Folder>(
         → F.seen folder.old (entries_path tile.now) ≡ Some (bundle_bytes log tile.now)
         → read.items ≡ bundle_bytes log tile.now) }
     ensures seen { F.IsFaithful → F.seen folder.new ≡ F.seen folder.old }
+    ensures crash { F.IsFaithful → Within (F.may_leave folder.old) (F.may_leave folder.new) }
     ensures ready { F.IsFaithful → IsStaging (F.seen folder.old) (F.may_leave folder.old)
         → OnOk result (IsStaging (F.seen folder.new) (F.may_leave folder.new)) }
 {
@@ -125,6 +128,8 @@ pub(crate) fn entries_of<'a>(
     bytes: &'a [u8],
 ) -> Result<Vec<&'a [u8]>, LogError>
     requires { tile.now.level ≡ 0 }
+    ensures entries { IfOk result (λ entries. bytes.now ≡ bundle_of (map (λ e. e.now) entries.items)) }
+    ensures count { IfOk result (λ entries. length entries.items ≡ tile.now.width) }
 {
     match read_entries(alloc, bytes) {
         Ok(entries) if entries.len() == tile.width() => Ok(entries),

@@ -192,11 +192,6 @@ impl<F: Folder + Drop> LogFolder<F> {
         self.text.write(self.alloc)
     }
 
-    // The allocator, and the folder.
-    pub(crate) fn device(&mut self) -> (Global, &mut F) {
-        (self.alloc, &mut self.folder)
-    }
-
     /// The log's origin.
     pub fn origin(&self) -> &[u8]
         ensures value { result.now ≡ self.now.text.origin }

@@ -221,7 +221,11 @@ fn read_text<F: Folder>(
 pub(crate) fn read_newest<F: Folder>(
     alloc: Global,
     folder: &mut F,
-) -> Result<CheckpointText<Sha256>, LogError> {
+) -> Result<CheckpointText<Sha256>, LogError>
+    ensures text { F.IsFaithful → IfOk result (λ text. (log : LogOf) → Serves log (F.seen folder.old)
+        → text ≡ said_of log) }
+    ensures seen { F.IsFaithful → F.seen folder.new ≡ F.seen folder.old }
+{
     let state = read_text(alloc, folder, STATE)?;
     let Some(served) = read_text(alloc, folder, CHECKPOINT)? else {
         return match state {
@@ -241,7 +245,11 @@ fn newest_of<F: Folder>(
     folder: &mut F,
     state: &CheckpointText<Sha256>,
     served: CheckpointText<Sha256>,
-) -> Result<CheckpointText<Sha256>, LogError> {
+) -> Result<CheckpointText<Sha256>, LogError>
+    ensures text { F.IsFaithful → IfOk result (λ text. (log : LogOf) → Serves log (F.seen folder.old)
+        → served ≡ said_of log → text ≡ said_of log) }
+    ensures seen { F.IsFaithful → F.seen folder.new ≡ F.seen folder.old }
+{
     let newest = state.checkpoint().length();
     if served.checkpoint().length() >= newest || folder.read(alloc, MARK, 0)?.is_some() {
         return Ok(served);
@@ -279,6 +287,8 @@ pub(crate) fn read_served<F: Folder>(
     alloc: Global,
     folder: &mut F,
 ) -> Result<CheckpointText<Sha256>, LogError>
+    ensures text { F.IsFaithful → IfOk result (λ text. (log : LogOf) → Serves log (F.seen folder.old)
+        → text ≡ said_of log) }
     ensures seen { F.IsFaithful → F.seen folder.new ≡ F.seen folder.old }
     ensures ready { F.IsFaithful → IsStaging (F.seen folder.old) (F.may_leave folder.old)
         → OnOk result (IsStaging (F.seen folder.new) (F.may_leave folder.new)) }
