@@ -316,7 +316,11 @@ fn a_read_gives_no_more_than_it_is_told(rt: HostRuntime) -> Result<(), Fail> {
     Ok(())
 }
 
+// So many random runs are tried.
+const RUNS: u32 = 400;
+
 // Numbers that look random, the same ones in each run.
+#[derive(Drop)]
 struct Random {
     state: u64,
 }
@@ -351,15 +355,17 @@ fn mirrored(
     Ok(())
 }
 
-// Adds up to three entries to a folder's log, of which so many are committed, and leaves what a crash at some moment may.
+// Adds up to three entries to a folder's log, and leaves what a crash at some moment may.
 fn crashed_batch(
     rt: &impl Abort,
+    alloc: Global,
     random: &mut Random,
     folder: MemoryFolder,
     mirror: &mut MemoryFolder,
-    length: usize,
 ) -> Result<MemoryFolder, Fail> {
-    let alloc = Global;
+    let reader = LogReader::open(alloc, folder)?;
+    let length = reader.checkpoint().length();
+    let folder = reader.into_folder();
     let next = length.saturating_add(random.below(4));
     let before = folder.calls().len();
     let mut log = LogFolder::open(alloc, folder)?;
@@ -379,13 +385,11 @@ fn crashed_batch(
 fn random_runs_go_on_behind_each_crash(rt: HostRuntime) -> Result<(), Fail> {
     let alloc = rt.alloc();
     let mut random = Random { state: 1 };
-    for _ in 0..10_000 {
+    for _ in 0..RUNS {
         let mut folder = new_log(alloc)?.into_folder();
         let mut mirror = MemoryFolder::new(alloc);
         for _ in 0..3 {
-            let reader = LogReader::open(alloc, folder)?;
-            let length = reader.checkpoint().length();
-            folder = crashed_batch(&rt, &mut random, reader.into_folder(), &mut mirror, length)?;
+            folder = crashed_batch(&rt, alloc, &mut random, folder, &mut mirror)?;
         }
     }
     Ok(())
