@@ -117,9 +117,10 @@ text_read log (Some rest) o bytes most can is there read =
     let text = checkpoint_of log in
     let same : Some bytes ≡ Some (take (most + 1) (text ++ (10 ∷ rest))) = read ∙ ap (option_map (take (most + 1))) there ∙ ap (λ (b : List ℕ). Some (take (most + 1) b)) (text_parts log (Some rest)) in
     let cut : bytes ≡ take (most + 1) (text ++ (10 ∷ rest)) = cc in
-    let left : most + 1 ≡ length text + suc (most - length text) = omega (arith, is, can.text) in
-    (Some (take (most - length text) rest),
-    cut ∙ ap (λ n. take n (text ++ (10 ∷ rest))) left ∙ take-append-add text (10 ∷ rest) (suc (most - length text)) ∙ sym (text_parts log (Some (take (most - length text) rest))))
+    let left : most + 1 ≡ length text + suc (most - length text) = omega (arith, is, can.text) in (
+      Some (take (most - length text) rest),
+      cut ∙ ap (λ n. take n (text ++ (10 ∷ rest))) left ∙ take-append-add text (10 ∷ rest) (suc (most - length text)) ∙ sym (text_parts log (Some (take (most - length text) rest))),
+    )
 
 -- The right edge.
 
