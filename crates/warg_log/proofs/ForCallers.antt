@@ -186,3 +186,7 @@ walks_decide a b =
     let walk = Decides-and _ _ (pointwise_decides nodes_decide a.nodes b.nodes) (Decides-eqb a.initial_walk_len b.initial_walk_len) in
     let d = Decides-and _ _ (Decides-and _ _ walk (Decides-eqb a.lower_broots b.lower_broots)) (Decides-eqb a.upper_broots b.upper_broots) in
     (λ e. let h = d.0 e in (λ i. record { nodes = h.0.0.0 i; initial_walk_len = h.0.0.1 i; lower_broots = h.0.1 i; upper_broots = h.1 i }), λ e. grind (arith, d))
+
+-- data that hold more have the same old roots
+pub old_more : (H : List ℕ → List ℕ) (F G : ℕ → Option (List ℕ)) → ((y : ℕ) (d : List ℕ) → F y ≡ Some d → G y ≡ Some d) → (r : Range) (d : List ℕ) → old_over H F r ≡ Some d → old_over H G r ≡ Some d
+old_more H F G more r = reads.top_more H F G _ more _

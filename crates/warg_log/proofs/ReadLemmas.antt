@@ -73,3 +73,16 @@ module _ (H : List ℕ → List ℕ) (F G : ℕ → Option (List ℕ)) where
       (λ none. rw (eq-eqb m 0 none) refl)
       (λ some. rw (same_new n (balanced_roots m) (all_flat (λ y. F y ≡ G y) (λ t. t ∷ needed t n) (λ t. root_to H F n t ≡ root_to H G n t) (same_to n) (balanced_roots m) all), same_old m (omega arith) (all_flat (λ y. F y ≡ G y) (λ t. t ∷ needed t n) (λ y. F y ≡ G y) (λ t h. h.0) (balanced_roots m) all)) refl)
       (cases_eq m 0)
+
+-- Data that hold more lead to the same digest.
+joined_more : (H : List ℕ → List ℕ) (l m p q : Option (List ℕ)) → ((x : List ℕ) → l ≡ Some x → p ≡ Some x) → ((x : List ℕ) → m ≡ Some x → q ≡ Some x) → (d : List ℕ) → joined H l m ≡ Some d → joined H p q ≡ Some d
+joined_more H (Some l) (Some m) p q left right d is = rw (left l refl, right m refl) is
+joined_more H (Some l) None p q left right d is = absurd (cc)
+joined_more H None m p q left right d is = absurd (cc)
+
+pub top_more : (H : List ℕ → List ℕ) (F G : ℕ → Option (List ℕ)) (x : List ℕ) → ((y : ℕ) (d : List ℕ) → F y ≡ Some d → G y ≡ Some d) → (way : Way) (d : List ℕ) → top_of H F x way ≡ Some d → top_of H G x way ≡ Some d
+unfolding top_of
+top_more H F G x more at_target d is = is
+top_more H F G x more (at_node t) d is = more t d is
+top_more H F G x more (at_parts misses left right) d is =
+    joined_more H (top_of H F x left) (top_of H F x right) (top_of H G x left) (top_of H G x right) (top_more H F G x more left) (top_more H F G x more right) d is

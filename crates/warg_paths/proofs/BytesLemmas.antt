@@ -1,7 +1,10 @@
 -- Bytes in pieces of 32.
-use Rattle.std.proofs.Common.{◌≡◌, ℕ, suc, ◌/◌, List, [], ◌∷◌, ◌++◌, length, refl, ◌∙◌, arith}
+use Rattle.std.proofs.Common.{◌≡◌, ℕ, suc, ◌*◌, ◌/◌, ◌%◌, List, [], ◌∷◌, ◌++◌, length, Some, refl, ap, ◌∙◌, arith}
+use Rattle.std.specs.List.{flat_map}
+use Rattle.std.proofs.lemmas.Bool.{eq-eqb}
 use Rattle.std.proofs.lemmas.List.{append-nil, append_assoc, length-append, take_at, drop_at}
-use Rattle.warg_paths.specs.Pieces.{pieces}
+use Rattle.warg_crypto.specs.Collisions.{AreHashes}
+use Rattle.warg_paths.specs.Pieces.{pieces, hashes_of}
 
 -- one piece more
 pub one_more : (hashes : List (List ℕ)) (piece rest : List ℕ) → length piece ≡ 32
@@ -16,3 +19,25 @@ one_more hashes piece rest size =
 pub none_left : (hashes : List (List ℕ)) (rest : List ℕ) → length rest ≡ 0 → hashes ++ pieces (length rest / 32) rest ≡ hashes
 unfolding pieces
 none_left hashes rest none = rw none (append-nil hashes)
+
+-- hashes, one after the other, are read as these
+pub flat_size : (ds : List (List ℕ)) → AreHashes ds → length (flat_map (λ d. d) ds) ≡ 32 * length ds
+flat_size [] all = refl
+flat_size (d ∷ ds) all = omega (arith, length-append d (flat_map (λ e. e) ds), all.0, flat_size ds all.1)
+
+first_piece : (d rest : List ℕ) (count : ℕ) → length d ≡ 32 → pieces (suc count) (d ++ rest) ≡ d ∷ pieces count rest
+unfolding pieces
+first_piece d rest count size = rw (take_at d rest 32 size, drop_at d rest 32 size) refl
+
+pieces_back : (ds : List (List ℕ)) → AreHashes ds → pieces (length ds) (flat_map (λ d. d) ds) ≡ ds
+unfolding pieces
+pieces_back [] all = refl
+pieces_back (d ∷ ds) all =
+    let one : length (d ∷ ds) ≡ suc (length ds) = omega arith in
+    ap (λ n. pieces n (d ++ flat_map (λ e. e) ds)) one ∙ first_piece d (flat_map (λ e. e) ds) (length ds) all.0 ∙ ap (λ l. d ∷ l) (pieces_back ds all.1)
+
+pub hashes_back : (ds : List (List ℕ)) → AreHashes ds → hashes_of (flat_map (λ d. d) ds) ≡ Some ds
+hashes_back ds all =
+    let size = flat_size ds all in
+    let count : length (flat_map (λ d. d) ds) / 32 ≡ length ds = omega (arith, size) in
+    rw (eq-eqb (length (flat_map (λ d. d) ds) % 32) 0 (omega (arith, size))) (ap Some (ap (λ n. pieces n (flat_map (λ d. d) ds)) count ∙ pieces_back ds all))

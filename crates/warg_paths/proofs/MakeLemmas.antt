@@ -1,10 +1,10 @@
 -- How paths are made, part by part.
-use Rattle.std.proofs.Common.{◌≡◌, inl, inr, ℕ, zero, suc, ◌-◌, ◌<◌, ◌≤◌, Bool, false, List, [], Option, Some, refl, ◌∙◌, arith}
+use Rattle.std.proofs.Common.{◌≡◌, inl, inr, ℕ, zero, suc, ◌-◌, ◌<◌, ◌≤◌, ◌==◌, nat_le, nat_lt, if◌then◌else◌, Bool, true, false, List, [], Option, Some, None, refl, ◌∙◌, arith}
 use Rattle.std.proofs.lemmas.Bool.{le-leb, lt-leb, lt-ltb, le-ltb, eq-eqb, ne_eqb, cases_lt}
-use Rattle.warg_log.specs.Ranges.{Range, front_part, rest_part}
+use Rattle.warg_log.specs.Ranges.{Range, leaves_from, front_part, rest_part}
 use Rattle.warg_log.specs.Tree.{front_of}
 use Rattle.warg_log.proofs.ForCallers.{front_is_greatest}
-use Rattle.warg_paths.specs.Paths.{beside, path_within, inclusion_over, path_at_end, growth_within, consistency_over}
+use Rattle.warg_paths.specs.Paths.{beside, path_within, inclusion_over, inclusion_of, path_at_end, growth_within, consistency_over, consistency_of}
 
 -- the parts of more than one leaf have some, and fewer than all
 pub parts_fewer : (n : ℕ) → 1 < n → (0 < front_of n) × (front_of n < n) × (n - front_of n < n)
@@ -83,3 +83,44 @@ consistency_rest R whole m r less rest =
 pub inclusion_one : (R : Range → Option (List ℕ)) (m : ℕ) (r : Range) → r.count ≡ 1 → inclusion_over R m r ≡ Some []
 unfolding path_within
 inclusion_one R m r one = path_enough R r.count (suc r.count) m r (omega arith) (omega arith) ∙ rw (le-leb r.count 1 (omega arith)) refl
+
+-- what holds of both cases of a test holds of the test
+either : {T : Type 0} (b : Bool) {p q s t : T} {path : T} → (p ≡ path → s ≡ path) → (q ≡ path → t ≡ path) → (if b then p else q) ≡ path → (if b then s else t) ≡ path
+either true then_case else_case is = then_case is
+either false then_case else_case is = else_case is
+
+-- Roots of more ranges make the same path.
+beside_more : (p q : Option (List (List ℕ))) (s t : Option (List ℕ)) → ((path : List (List ℕ)) → p ≡ Some path → q ≡ Some path) → ((d : List ℕ) → s ≡ Some d → t ≡ Some d)
+    → (path : List (List ℕ)) → beside p s ≡ Some path → beside q t ≡ Some path
+beside_more (Some p) q (Some s) t below top path is = rw (below p refl, top s refl) is
+beside_more (Some p) q None t below top path is = absurd (cc)
+beside_more None q s t below top path is = absurd (cc)
+
+module _ (R S : Range → Option (List ℕ)) (more : (r : Range) (d : List ℕ) → R r ≡ Some d → S r ≡ Some d) where
+  path_more : (steps m : ℕ) (r : Range) (path : List (List ℕ)) → path_within R steps m r ≡ Some path → path_within S steps m r ≡ Some path
+  unfolding path_within
+  path_more zero m r path is = is
+  path_more (suc steps) m r path is =
+      let front = beside_more (path_within R steps m (front_part r)) (path_within S steps m (front_part r)) (R (rest_part r)) (S (rest_part r)) (path_more steps m (front_part r)) (more (rest_part r)) path in
+      let k : ℕ = m - front_of r.count in
+      let rest = beside_more (path_within R steps k (rest_part r)) (path_within S steps k (rest_part r)) (R (front_part r)) (S (front_part r)) (path_more steps k (rest_part r)) (more (front_part r)) path in
+      either (nat_le r.count 1) (λ e. e) (either (nat_lt m (front_of r.count)) front rest) is
+
+  pub inclusion_more : (m n : ℕ) (path : List (List ℕ)) → inclusion_of R m n ≡ Some path → inclusion_of S m n ≡ Some path
+  inclusion_more m n = path_more n m (leaves_from 0 n)
+
+  end_more : (whole : Bool) (r : Range) (path : List (List ℕ)) → path_at_end R whole r ≡ Some path → path_at_end S whole r ≡ Some path
+  end_more true r path is = is
+  end_more false r path is = beside_more (Some []) (Some []) (R r) (S r) (λ q e. e) (more r) path is
+
+  growth_more : (steps : ℕ) (whole : Bool) (m : ℕ) (r : Range) (path : List (List ℕ)) → growth_within R steps whole m r ≡ Some path → growth_within S steps whole m r ≡ Some path
+  unfolding growth_within
+  growth_more zero whole m r path is = is
+  growth_more (suc steps) whole m r path is =
+      let front = beside_more (growth_within R steps whole m (front_part r)) (growth_within S steps whole m (front_part r)) (R (rest_part r)) (S (rest_part r)) (growth_more steps whole m (front_part r)) (more (rest_part r)) path in
+      let k : ℕ = m - front_of r.count in
+      let rest = beside_more (growth_within R steps false k (rest_part r)) (growth_within S steps false k (rest_part r)) (R (front_part r)) (S (front_part r)) (growth_more steps false k (rest_part r)) (more (front_part r)) path in
+      either (m == r.count) (end_more whole r path) (either (nat_le m (front_of r.count)) front rest) is
+
+  pub consistency_more : (m n : ℕ) (path : List (List ℕ)) → consistency_of R m n ≡ Some path → consistency_of S m n ≡ Some path
+  consistency_more m n = growth_more n true m (leaves_from 0 n)

@@ -14,7 +14,7 @@ use Rattle.warg_tiles.specs.CheckpointText.{Said}
 use Rattle.warg_store.specs.Files.{Files, put}
 use Rattle.warg_store.specs.Names.{checkpoint, state, mark, staged, is_staged}
 use Rattle.warg_store.specs.Opening.{is_signed, opened_by, committed, finished, published, told, IsStaging, NothingStaged}
-use Rattle.warg_store.specs.Log.{LogOf, said_of, checkpoint_of, Keeps, HasFiles}
+use Rattle.warg_store.specs.Log.{LogOf, CanBeKept, said_of, checkpoint_of, Keeps, HasFiles}
 use Rattle.warg_store.specs.Growing.{Has}
 use Rattle.warg_store.proofs.FileLemmas.{put_here}
 use Rattle.warg_store.proofs.ReadLemmas.{unsigned_is}
@@ -43,7 +43,7 @@ no_tile t is =
     omega (arith, is.some, is.width, none)
 
 -- What a commit of its text makes of a folder without a checkpoint.
-module _ (origin : List ℕ) (s : Files) (none : s checkpoint ≡ None) where
+module _ (origin : List ℕ) (named : CanBeKept (no_entries origin)) (s : Files) (none : s checkpoint ≡ None) where
   abbrev text : List ℕ
   text = checkpoint_of (no_entries origin)
 
@@ -58,9 +58,11 @@ module _ (origin : List ℕ) (s : Files) (none : s checkpoint ≡ None) where
 
   pub created : Keeps (no_entries origin) (no_entries origin) (committed (checkpoint_of (no_entries origin)) s)
   created = record {
+    can = named;
     state = at_own state refl ∙ put_here (state, text) (published marked);
     holds = no_files;
     serves = record {
+      can = named;
       checkpoint = (
         None,
         at_own checkpoint refl ∙ told_checkpoint text (published marked) ∙ ap (λ o. if is_signed o then o else Some text) (unmarked s text checkpoint refl ∙ none)
@@ -81,7 +83,7 @@ says_none origin said n root len empty is =
 -- a new log has no entries
 pub has_none : {F : Type 0} (seen : F → Files) (may_leave : F → Files → Type 0) (origin : List ℕ) (folder : F) (edge : RightEdge) → edge ≡ record { len = 0; taken = 0; digests = []; full = [] } → StandsFor sha256 edge []
     → Keeps (no_entries origin) (no_entries origin) (seen folder) → NothingStaged (seen folder) → IsStaging (seen folder) (may_leave folder)
-    → Has seen may_leave (no_entries origin) (no_entries origin) (no_entries origin) (record { folder = folder; kept = 0; is_open = true; origin = origin; edge = edge; bundle = []; held = 0 })
+    → Has seen may_leave (no_entries origin) (no_entries origin) (no_entries origin) (record { folder = folder; text = said_of (no_entries origin); is_open = true; edge = edge; bundle = []; held = 0 })
 unfolding bundle_of
 has_none seen may_leave origin folder edge is stands keeps nothing staging =
     let len : edge.len ≡ 0 = ap (λ (e : RightEdge). e.len) is in
@@ -90,8 +92,8 @@ has_none seen may_leave origin folder edge is stands keeps nothing staging =
       is_open = refl;
       keeps = keeps;
       extends = extends_self (no_entries origin);
-      kept = refl;
-      origin = refl;
+      short = tt;
+      text = refl;
       edge = stands;
       since = omega arith;
       order = omega (arith, len, taken);

@@ -13,17 +13,19 @@ use Rattle.warg_tiles.specs.TilePaths.{tile_path, entries_path}
 use Rattle.warg_tiles.specs.Between.{IsTileOf}
 use Rattle.warg_tiles.specs.TileData.{Tiles, IsTileBy}
 use Rattle.warg_tiles.specs.EntryBundles.{two_bytes, bundle_of}
+use Rattle.warg_tiles.specs.CheckpointText.{Said}
 use Rattle.warg_tiles.specs.TileLog.{RightEdge, StandsFor, full_between, partial_tiles, AreTilesOf}
 use Rattle.warg_tiles.proofs.ForCallers.{full_tiles, partial_of, own_tile, bundle_more}
 use Rattle.warg_store.specs.Files.{File, Files, put, IsNameOf}
 use Rattle.warg_store.specs.Names.{checkpoint, state, staged, is_staged, is_served}
 use Rattle.warg_store.specs.Opening.{IsBeside, IsStaging, NothingStaged, opened, opened_by}
-use Rattle.warg_store.specs.Log.{LogOf, Keeps, Extends, IsOneOf, tile_bytes, bundle_bytes, IsTileIn, IsBundleIn, IsNewName, AreStagedFor}
+use Rattle.warg_store.specs.Log.{LogOf, said_of, Keeps, Extends, IsOneOf, tile_bytes, bundle_bytes, IsTileIn, IsBundleIn, IsNewName, AreStagedFor}
 use Rattle.warg_store.specs.Staged.{staged_all, new_files}
 use Rattle.warg_store.specs.Moments.{LeavesOnly}
 use Rattle.warg_store.specs.Growing.{LogIn, Has, HasAll, with_entry, IsNewFull, AreFullStaged}
 use Rattle.warg_store.proofs.NameLemmas.{one_name, apart, staged_once, served_not_staged}
 use Rattle.warg_store.proofs.FileLemmas.{put_here, put_apart}
+use Rattle.warg_store.proofs.ListLemmas.{all_append}
 use Rattle.warg_store.proofs.MomentLemmas.{stays}
 use Rattle.warg_store.proofs.PathLemmas.{tile_path_once, entries_path_once, no_tile_a_bundle}
 use Rattle.warg_store.proofs.LeadLemmas.{tile_between, end_inside, same_kept, file_served, tile_kept, bundle_kept, extends_self, extends_then}
@@ -145,7 +147,7 @@ same_tile t u level number width = ap (λ l. make l t.number t.width) level ∙ 
     make level number width = record { level = level; number = number; width = width }
 
 -- what a tile of level 0 has of a length
-ground : (n : ℕ) (t : TileAt) → t.level ≡ 0 → IsTileOf n t → (0 < t.width) × (t.width ≡ min (n - 256 * t.number) 256)
+pub ground : (n : ℕ) (t : TileAt) → t.level ≡ 0 → IsTileOf n t → (0 < t.width) × (t.width ≡ min (n - 256 * t.number) 256)
 ground n t level is =
     let one : 2 ^ (8 * t.level) ≡ 1 = ap (λ l. 2 ^ (8 * l)) level in
     (is.some, is.width ∙ ap (λ p. min (n / p - 256 * t.number) 256) one ∙ ap (λ m. min (m - 256 * t.number) 256) (div-one n))
@@ -246,12 +248,15 @@ beside_one_of served old next s c keeps beside =
 
 -- With what the last entry has filled staged, the log has the same entries.
 module _ {F : Type 0} (seen : F → Files) (may_leave : F → Files → Type 0) (served old next : LogOf) (l m : LogIn F) (tiles : Tiles) (number : ℕ) (held : l.held ≡ 256) (has : Has seen may_leave served old next l)
-    (is_open : m.is_open ≡ l.is_open) (kept : m.kept ≡ l.kept) (origin : m.origin ≡ l.origin) (edge : m.edge ≡ record l.edge { taken = l.edge.len; full = [] }) (bundle : m.bundle ≡ []) (held_now : m.held ≡ 0)
+    (is_open : m.is_open ≡ l.is_open) (text : m.text ≡ l.text) (edge : m.edge ≡ record l.edge { taken = l.edge.len; full = [] }) (bundle : m.bundle ≡ []) (held_now : m.held ≡ 0)
     (own : (ds : List (List ℕ)) → StandsFor sha256 l.edge ds → AreTilesOf sha256 ds (full_between l.edge.taken l.edge.len) tiles) (stands : (ds : List (List ℕ)) → StandsFor sha256 l.edge ds → StandsFor sha256 m.edge ds)
     (most : l.edge.len ≤ 2 ^ 63) (here : number ≡ (l.edge.len - 1) / 256)
-    (puts : seen m.folder ≡ put (staged (entries_path (bundle_tile number)), l.bundle) (staged_all (new_files l.kept tiles) (seen l.folder))) (staging : IsStaging (seen m.folder) (may_leave m.folder)) where
+    (puts : seen m.folder ≡ put (staged (entries_path (bundle_tile number)), l.bundle) (staged_all (new_files l.text.length tiles) (seen l.folder))) (staging : IsStaging (seen m.folder) (may_leave m.folder)) where
   count : length next.entries ≡ l.edge.len
   count = sym (length-map next.entries (λ (e : List ℕ). sha256 (0 ∷ e))) ∙ has.edge.count
+
+  kept_filled : m.text.length ≡ l.text.length
+  kept_filled = ap (λ (s : Said). s.length) text
 
   abbrev block : ℕ
   block = l.edge.taken / 256
@@ -275,8 +280,8 @@ module _ {F : Type 0} (seen : F → Files) (may_leave : F → Files → Type 0) 
   outside : (n : List ℕ) → is_staged n ≡ false → seen m.folder n ≡ seen l.folder n
   outside n isnt =
       ap (λ (f : Files). f n) puts
-      ∙ put_apart (staged (entries_path (bundle_tile number)), l.bundle) (staged_all (new_files l.kept tiles) (seen l.folder)) n (λ e. apart (ap is_staged e ∙ isnt))
-      ∙ staged_outside (new_files l.kept tiles) (seen l.folder) n isnt
+      ∙ put_apart (staged (entries_path (bundle_tile number)), l.bundle) (staged_all (new_files l.text.length tiles) (seen l.folder)) n (λ e. apart (ap is_staged e ∙ isnt))
+      ∙ staged_outside (new_files l.text.length tiles) (seen l.folder) n isnt
 
   taken_now : m.edge.taken ≡ length next.entries
   taken_now = ap (λ (e : RightEdge). e.taken) edge ∙ sym count
@@ -284,11 +289,11 @@ module _ {F : Type 0} (seen : F → Files) (may_leave : F → Files → Type 0) 
   len_now : m.edge.len ≡ l.edge.len
   len_now = ap (λ (e : RightEdge). e.len) edge
 
-  all_staged : AreFullStaged m.kept m.edge.taken next (seen m.folder)
-  all_staged = subst (λ (s : Files). AreFullStaged m.kept m.edge.taken next s) (sym puts)
-      (subst (λ k. AreFullStaged k m.edge.taken next (put (staged (entries_path (bundle_tile number)), l.bundle) (staged_all (new_files l.kept tiles) (seen l.folder)))) (sym kept)
-      (subst (λ n. AreFullStaged l.kept n next (put (staged (entries_path (bundle_tile number)), l.bundle) (staged_all (new_files l.kept tiles) (seen l.folder)))) (sym taken_now)
-      (full_staged next l.kept l.edge.taken number tiles l.bundle (seen l.folder) has.since (omega (arith, has.order, count)) (omega (arith, most, count)) (omega (arith, count, filled_len, at_block)) (sym at_block)
+  all_staged : AreFullStaged m.text.length m.edge.taken next (seen m.folder)
+  all_staged = subst (λ (s : Files). AreFullStaged m.text.length m.edge.taken next s) (sym puts)
+      (subst (λ k. AreFullStaged k m.edge.taken next (put (staged (entries_path (bundle_tile number)), l.bundle) (staged_all (new_files l.text.length tiles) (seen l.folder)))) (sym kept_filled)
+      (subst (λ n. AreFullStaged l.text.length n next (put (staged (entries_path (bundle_tile number)), l.bundle) (staged_all (new_files l.text.length tiles) (seen l.folder)))) (sym taken_now)
+      (full_staged next l.text.length l.edge.taken number tiles l.bundle (seen l.folder) has.since (omega (arith, has.order, count)) (omega (arith, most, count)) (omega (arith, count, filled_len, at_block)) (sym at_block)
       (subst (λ n. AreTilesOf sha256 (leaves_of sha256 next.entries) (full_between l.edge.taken n) tiles) (sym count) (own (leaves_of sha256 next.entries) has.edge)) holds has.staged)))
 
   empty_now : [] ≡ bundle_of (drop (256 * (m.edge.taken / 256)) next.entries)
@@ -300,10 +305,10 @@ module _ {F : Type 0} (seen : F → Files) (may_leave : F → Files → Type 0) 
     is_open = is_open ∙ has.is_open;
     keeps = keeps_beside served old (seen l.folder) (seen m.folder) outside has.keeps;
     extends = has.extends;
-    kept = kept ∙ has.kept;
-    origin = origin ∙ has.origin;
+    short = has.short;
+    text = text ∙ has.text;
     edge = stands (leaves_of sha256 next.entries) has.edge;
-    since = omega (arith, kept, taken_now, count, has.since, has.order);
+    since = omega (arith, kept_filled, taken_now, count, has.since, has.order);
     order = omega (arith, taken_now, count, len_now);
     held = omega (arith, taken_now, count, len_now, filled_len, held_now);
     most = omega (arith, held_now);
@@ -313,11 +318,14 @@ module _ {F : Type 0} (seen : F → Files) (may_leave : F → Files → Type 0) 
   }
 
 -- One entry more.
-module _ {F : Type 0} (seen : F → Files) (may_leave : F → Files → Type 0) (served old next : LogOf) (l m : LogIn F) (entry : List ℕ) (has : Has seen may_leave served old next l) (room : l.held < 256)
-    (folder : m.folder ≡ l.folder) (is_open : m.is_open ≡ l.is_open) (kept : m.kept ≡ l.kept) (origin : m.origin ≡ l.origin) (len : m.edge.len ≡ l.edge.len + 1) (taken : m.edge.taken ≡ l.edge.taken)
+module _ {F : Type 0} (seen : F → Files) (may_leave : F → Files → Type 0) (served old next : LogOf) (l m : LogIn F) (entry : List ℕ) (short : length entry < 65536) (has : Has seen may_leave served old next l) (room : l.held < 256)
+    (folder : m.folder ≡ l.folder) (is_open : m.is_open ≡ l.is_open) (text : m.text ≡ l.text) (len : m.edge.len ≡ l.edge.len + 1) (taken : m.edge.taken ≡ l.edge.taken)
     (stands : (ds : List (List ℕ)) → StandsFor sha256 l.edge ds → StandsFor sha256 m.edge (ds ++ sha256 (0 ∷ entry) ∷ [])) (bundle : m.bundle ≡ l.bundle ++ bundle_of (entry ∷ [])) (held : m.held ≡ l.held + 1) where
   abbrev longer : LogOf
   longer = with_entry next entry
+
+  kept_added : m.text.length ≡ l.text.length
+  kept_added = ap (λ (s : Said). s.length) text
 
   grown : Extends next longer
   grown = record { origin = refl; entries = (entry ∷ [], refl) }
@@ -340,7 +348,7 @@ module _ {F : Type 0} (seen : F → Files) (may_leave : F → Files → Type 0) 
       ∙ ap (λ (b : List ℕ). b ++ (two_bytes (length entry) ++ entry)) (sym has.bundle)
       ∙ ap (λ (e : List ℕ). l.bundle ++ (two_bytes (length entry) ++ e)) (sym (append-nil entry))
 
-  more_staged : AreFullStaged l.kept l.edge.taken longer (seen l.folder)
+  more_staged : AreFullStaged l.text.length l.edge.taken longer (seen l.folder)
   more_staged = record {
     tile = λ t lt is. has.staged.tile t lt is ∙ ap (λ (b : List ℕ). Some b) (sym (tile_kept next longer grown t (record { level = lt; exists = in_next t is.full is.exists })));
     bundle = λ t level is. has.staged.bundle t level is ∙ ap (λ (b : List ℕ). Some b) (sym (bundle_kept next longer grown t (record { level = level; exists = in_next t is.full is.exists })));
@@ -355,15 +363,15 @@ module _ {F : Type 0} (seen : F → Files) (may_leave : F → Files → Type 0) 
     is_open = is_open ∙ has.is_open;
     keeps = subst (λ (f : F). Keeps served old (seen f)) (sym folder) has.keeps;
     extends = extends_then old next longer has.extends grown;
-    kept = kept ∙ has.kept;
-    origin = origin ∙ has.origin;
+    short = all_append (λ (e : List ℕ). length e < 65536) next.entries (entry ∷ []) has.short (short, tt);
+    text = text ∙ has.text;
     edge = subst (StandsFor sha256 m.edge) (sym (map-append (λ (e : List ℕ). sha256 (0 ∷ e)) next.entries (entry ∷ []))) (stands (leaves_of sha256 next.entries) has.edge);
-    since = omega (arith, kept, taken, has.since);
+    since = omega (arith, kept_added, taken, has.since);
     order = omega (arith, taken, len, has.order);
     held = omega (arith, taken, len, held, has.held);
     most = omega (arith, held, room);
     bundle = bundle ∙ sym tail;
-    staged = subst (λ (f : F). AreFullStaged m.kept m.edge.taken longer (seen f)) (sym folder) (subst (λ k. AreFullStaged k m.edge.taken longer (seen l.folder)) (sym kept) (subst (λ n. AreFullStaged l.kept n longer (seen l.folder)) (sym taken) more_staged));
+    staged = subst (λ (f : F). AreFullStaged m.text.length m.edge.taken longer (seen f)) (sym folder) (subst (λ k. AreFullStaged k m.edge.taken longer (seen l.folder)) (sym kept_added) (subst (λ n. AreFullStaged l.text.length n longer (seen l.folder)) (sym taken) more_staged));
     staging = subst (λ (f : F). IsStaging (seen f) (may_leave f)) (sym folder) has.staging;
   }
 
@@ -494,14 +502,17 @@ module _ (old next : LogOf) (taken held : ℕ) (tiles : Tiles) (bytes : List ℕ
   end_staged = ⊎_elim (λ (none, is). subst (AreStagedFor old next) (sym is) (none_left none)) (λ (some, is). subst (AreStagedFor old next) (sym is) (one_left some)) puts
 
 -- The log's end staged beside what its entries filled.
-module _ {F : Type 0} (seen : F → Files) (may_leave : F → Files → Type 0) (served old next : LogOf) (l m : LogIn F) (tiles : Tiles) (has : Has seen may_leave served old next l) (room : l.held < 256) (new : l.kept < l.edge.len)
+module _ {F : Type 0} (seen : F → Files) (may_leave : F → Files → Type 0) (served old next : LogOf) (l m : LogIn F) (tiles : Tiles) (has : Has seen may_leave served old next l) (room : l.held < 256) (new : l.text.length < l.edge.len)
     (most : l.edge.len ≤ 2 ^ 63) (own : AreTilesOf sha256 (leaves_of sha256 next.entries) (partial_tiles (length next.entries)) tiles)
-    (is_open : m.is_open ≡ l.is_open) (origin : m.origin ≡ l.origin) (edge : m.edge ≡ l.edge) (bundle : m.bundle ≡ l.bundle) (held : m.held ≡ l.held)
-    (puts : ((l.held ≡ 0) × (seen m.folder ≡ staged_all (new_files l.kept tiles) (seen l.folder)))
-    ⊎ ((0 < l.held) × (seen m.folder ≡ put (staged (entries_path (last_bundle (l.edge.len / 256) l.held)), l.bundle) (staged_all (new_files l.kept tiles) (seen l.folder)))))
+    (is_open : m.is_open ≡ l.is_open) (edge : m.edge ≡ l.edge) (bundle : m.bundle ≡ l.bundle) (held : m.held ≡ l.held)
+    (puts : ((l.held ≡ 0) × (seen m.folder ≡ staged_all (new_files l.text.length tiles) (seen l.folder)))
+    ⊎ ((0 < l.held) × (seen m.folder ≡ put (staged (entries_path (last_bundle (l.edge.len / 256) l.held)), l.bundle) (staged_all (new_files l.text.length tiles) (seen l.folder)))))
     (staging : IsStaging (seen m.folder) (may_leave m.folder)) where
   size_now : length next.entries ≡ l.edge.len
   size_now = sym (length-map next.entries (λ (e : List ℕ). sha256 (0 ∷ e))) ∙ has.edge.count
+
+  kept_old : l.text.length ≡ length old.entries
+  kept_old = ap (λ (s : Said). s.length) has.text
 
   blocks : l.edge.taken / 256 ≡ length next.entries / 256
   blocks = omega (arith, has.held, room, size_now)
@@ -509,19 +520,19 @@ module _ {F : Type 0} (seen : F → Files) (may_leave : F → Files → Type 0) 
   puts_now : ((l.held ≡ 0) × (seen m.folder ≡ staged_all (new_files (length old.entries) tiles) (seen l.folder)))
       ⊎ ((0 < l.held) × (seen m.folder ≡ put (staged (entries_path (last_bundle (length next.entries / 256) l.held)), l.bundle) (staged_all (new_files (length old.entries) tiles) (seen l.folder))))
   puts_now = subst (λ n. ((l.held ≡ 0) × (seen m.folder ≡ staged_all (new_files n tiles) (seen l.folder)))
-      ⊎ ((0 < l.held) × (seen m.folder ≡ put (staged (entries_path (last_bundle (length next.entries / 256) l.held)), l.bundle) (staged_all (new_files n tiles) (seen l.folder))))) has.kept
-      (subst (λ n. ((l.held ≡ 0) × (seen m.folder ≡ staged_all (new_files l.kept tiles) (seen l.folder)))
-      ⊎ ((0 < l.held) × (seen m.folder ≡ put (staged (entries_path (last_bundle (n / 256) l.held)), l.bundle) (staged_all (new_files l.kept tiles) (seen l.folder))))) (sym size_now) puts)
+      ⊎ ((0 < l.held) × (seen m.folder ≡ put (staged (entries_path (last_bundle (length next.entries / 256) l.held)), l.bundle) (staged_all (new_files n tiles) (seen l.folder))))) kept_old
+      (subst (λ n. ((l.held ≡ 0) × (seen m.folder ≡ staged_all (new_files l.text.length tiles) (seen l.folder)))
+      ⊎ ((0 < l.held) × (seen m.folder ≡ put (staged (entries_path (last_bundle (n / 256) l.held)), l.bundle) (staged_all (new_files l.text.length tiles) (seen l.folder))))) (sym size_now) puts)
 
   bundle_now : l.bundle ≡ bundle_of (drop (256 * (length next.entries / 256)) next.entries)
   bundle_now = has.bundle ∙ ap (λ n. bundle_of (drop (256 * n) next.entries)) blocks
 
   beside_now : (n : List ℕ) → is_staged n ≡ false → seen m.folder n ≡ seen l.folder n
   beside_now n isnt = ⊎_elim
-      (λ (none, is). ap (λ (f : Files). f n) is ∙ staged_outside (new_files l.kept tiles) (seen l.folder) n isnt)
+      (λ (none, is). ap (λ (f : Files). f n) is ∙ staged_outside (new_files l.text.length tiles) (seen l.folder) n isnt)
       (λ (some, is). ap (λ (f : Files). f n) is
-      ∙ put_apart (staged (entries_path (last_bundle (l.edge.len / 256) l.held)), l.bundle) (staged_all (new_files l.kept tiles) (seen l.folder)) n (λ e. apart (ap is_staged e ∙ isnt))
-      ∙ staged_outside (new_files l.kept tiles) (seen l.folder) n isnt)
+      ∙ put_apart (staged (entries_path (last_bundle (l.edge.len / 256) l.held)), l.bundle) (staged_all (new_files l.text.length tiles) (seen l.folder)) n (λ e. apart (ap is_staged e ∙ isnt))
+      ∙ staged_outside (new_files l.text.length tiles) (seen l.folder) n isnt)
       puts
 
   pub has_all : HasAll seen may_leave served old next m
@@ -529,12 +540,12 @@ module _ {F : Type 0} (seen : F → Files) (may_leave : F → Files → Type 0) 
     is_open = is_open ∙ has.is_open;
     keeps = keeps_beside served old (seen l.folder) (seen m.folder) beside_now has.keeps;
     extends = has.extends;
-    origin = origin ∙ has.origin;
+    short = has.short;
     edge = subst (λ (e : RightEdge). StandsFor sha256 e (leaves_of sha256 next.entries)) (sym edge) has.edge;
     held = omega (arith, ap (λ (e : RightEdge). e.len) edge, held, has.held, room);
     bundle = bundle ∙ bundle_now ∙ ap (λ n. bundle_of (drop (256 * (n / 256)) next.entries)) (size_now ∙ sym (ap (λ (e : RightEdge). e.len) edge));
-    staged = end_staged old next l.edge.taken l.held tiles l.bundle (seen l.folder) (seen m.folder) (omega (arith, has.since, has.kept)) (omega (arith, has.order, size_now)) (omega (arith, new, has.kept, size_now))
-        (omega (arith, most, size_now)) blocks (omega (arith, has.held, room, size_now)) own bundle_now (subst (λ n. AreFullStaged n l.edge.taken next (seen l.folder)) has.kept has.staged) puts_now;
+    staged = end_staged old next l.edge.taken l.held tiles l.bundle (seen l.folder) (seen m.folder) (omega (arith, has.since, kept_old)) (omega (arith, has.order, size_now)) (omega (arith, new, kept_old, size_now))
+        (omega (arith, most, size_now)) blocks (omega (arith, has.held, room, size_now)) own bundle_now (subst (λ n. AreFullStaged n l.edge.taken next (seen l.folder)) kept_old has.staged) puts_now;
     staging = staging;
   }
 
@@ -544,18 +555,19 @@ none_some (Some bytes) e some = cc
 
 -- A log whose files a commit has put keeps all of its entries.
 pub all_kept : {F : Type 0} (seen : F → Files) (may_leave : F → Files → Type 0) (served old next log : LogOf) (l m : LogIn F) → HasAll seen may_leave served old next l → Keeps log next (seen m.folder) → NothingStaged (seen m.folder)
-    → IsStaging (seen m.folder) (may_leave m.folder) → m.is_open ≡ l.is_open → m.origin ≡ l.origin → m.kept ≡ length next.entries → m.edge ≡ record l.edge { taken = l.edge.len; full = [] } → m.bundle ≡ l.bundle → m.held ≡ l.held
+    → IsStaging (seen m.folder) (may_leave m.folder) → m.is_open ≡ l.is_open → m.text ≡ said_of next → m.edge ≡ record l.edge { taken = l.edge.len; full = [] } → m.bundle ≡ l.bundle → m.held ≡ l.held
     → ((ds : List (List ℕ)) → StandsFor sha256 l.edge ds → StandsFor sha256 m.edge ds) → l.held ≤ 256 → Has seen may_leave log next next m
-all_kept seen may_leave served old next log l m all keeps nothing staging is_open origin kept edge bundle held stands small =
+all_kept seen may_leave served old next log l m all keeps nothing staging is_open text edge bundle held stands small =
     let size : length next.entries ≡ l.edge.len = sym (length-map next.entries (λ (e : List ℕ). sha256 (0 ∷ e))) ∙ all.edge.count in
+    let kept : m.text.length ≡ length next.entries = ap (λ (s : Said). s.length) text in
     let taken : m.edge.taken ≡ l.edge.len = ap (λ (e : RightEdge). e.taken) edge in
     let len : m.edge.len ≡ l.edge.len = ap (λ (e : RightEdge). e.len) edge in
     record {
       is_open = is_open ∙ all.is_open;
       keeps = keeps;
       extends = extends_self next;
-      kept = kept;
-      origin = origin ∙ all.origin;
+      short = all.short;
+      text = text;
       edge = stands (leaves_of sha256 next.entries) all.edge;
       since = omega (arith, kept, size, taken);
       order = omega (arith, taken, len);
@@ -570,7 +582,7 @@ all_kept seen may_leave served old next log l m all keeps nothing staging is_ope
       staging = staging;
     }
   where
-    none : (t : TileAt) → IsTileOf m.edge.taken t → (IsTileOf m.kept t → ⊥) → m.edge.taken ≡ l.edge.len → length next.entries ≡ l.edge.len → m.kept ≡ length next.entries → ⊥
+    none : (t : TileAt) → IsTileOf m.edge.taken t → (IsTileOf m.text.length t → ⊥) → m.edge.taken ≡ l.edge.len → length next.entries ≡ l.edge.len → m.text.length ≡ length next.entries → ⊥
     none t is new taken size kept = new (subst (λ n. IsTileOf n t) (taken ∙ sym size ∙ sym kept) is)
 
     none_staged : (n : List ℕ) → seen m.folder (staged n) ≡ None → IsSome (seen m.folder (staged n)) → ⊥
@@ -590,19 +602,17 @@ module _ {F : Type 0} (seen : F → Files) (may_leave : F → Files → Type 0) 
   idle now has = stays moment left_since l.folder (IsOneOf served old next) (λ c left. beside_one_of served old next (seen l.folder) c has.keeps (has.staging c (now c left)))
 
   -- a log whose folder keeps as many entries keeps them all
-  pub all_there : l.edge.len ≡ l.kept → Has seen may_leave served old next l → (log : LogOf) × Has seen may_leave log next next l
+  pub all_there : l.edge.len ≡ l.text.length → Has seen may_leave served old next l → (log : LogOf) × Has seen may_leave log next next l
   all_there same has = (
     served,
     subst (λ log. Has seen may_leave served log next l) (same_length old next has.extends
-        (sym has.kept ∙ sym same ∙ sym has.edge.count ∙ length-map next.entries (λ (e : List ℕ). sha256 (0 ∷ e)))) has,
+        (sym (ap (λ (s : Said). s.length) has.text) ∙ sym same ∙ sym has.edge.count ∙ length-map next.entries (λ (e : List ℕ). sha256 (0 ∷ e)))) has,
   )
 
 -- the checkpoint's text is noted, which says what the log has
-pub noted : {F : Type 0} (seen : F → Files) (may_leave : F → Files → Type 0) (log next : LogOf) (l : LogIn F) (kept : ℕ) (origin : List ℕ) → kept ≡ length next.entries → origin ≡ next.origin
-    → Has seen may_leave log next next (record l { kept = length next.entries }) → Has seen may_leave log next next (record l { kept = kept; origin = origin })
-noted seen may_leave log next l kept origin same_length same_origin has =
-    subst (Has seen may_leave log next next)
-    (ap (λ k. record l { kept = k }) (sym same_length) ∙ ap (λ o. record l { kept = kept; origin = o }) (has.origin ∙ sym same_origin)) has
+pub noted : {F : Type 0} (seen : F → Files) (may_leave : F → Files → Type 0) (log next : LogOf) (l : LogIn F) (text : Said) → text ≡ said_of next
+    → Has seen may_leave log next next (record l { text = said_of next }) → Has seen may_leave log next next (record l { text = text })
+noted seen may_leave log next l text same has = subst (λ (s : Said). Has seen may_leave log next next (record l { text = s })) (sym same) has
 
 -- the partial tiles of a right edge are those of the log that it stands for
 pub own_parts : (next : LogOf) (edge : RightEdge) (tiles : Tiles) → StandsFor sha256 edge (leaves_of sha256 next.entries)

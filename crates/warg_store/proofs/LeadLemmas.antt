@@ -19,7 +19,7 @@ use Rattle.warg_tiles.specs.EntryBundles.{bundle_of}
 use Rattle.warg_store.specs.Files.{Files}
 use Rattle.warg_store.specs.Names.{checkpoint, state, mark, staged, is_own, is_served}
 use Rattle.warg_store.specs.Opening.{is_signed, checkpoint_after, opened, committed, IsBetween}
-use Rattle.warg_store.specs.Log.{LogOf, checkpoint_of, tile_bytes, bundle_bytes, IsTileIn, IsBundleIn, HasFiles, Serves, IsFileOf, Extends, Keeps, IsServed, IsOneOf, IsNewName, AreStagedFor}
+use Rattle.warg_store.specs.Log.{LogOf, CanBeKept, checkpoint_of, tile_bytes, bundle_bytes, IsTileIn, IsBundleIn, HasFiles, Serves, IsFileOf, Extends, Keeps, IsServed, IsOneOf, IsNewName, AreStagedFor}
 use Rattle.warg_store.proofs.NameLemmas.{apart, served_not_own}
 use Rattle.warg_store.proofs.PathLemmas.{tile_path_once, entries_path_once, no_tile_a_bundle}
 use Rattle.warg_store.proofs.ServeLemmas.{idle_same, committed_served, opened_idle}
@@ -108,10 +108,11 @@ same_files log s c same has = record {
 }
 
 pub same_served : (log : LogOf) (s c : Files) → ((n : List ℕ) → IsFileOf log n → c n ≡ s n) → c checkpoint ≡ s checkpoint → Serves log s → Serves log c
-same_served log s c same text serves = record { checkpoint = (serves.checkpoint.0, text ∙ serves.checkpoint.1); holds = same_files log s c same serves.holds }
+same_served log s c same text serves = record { can = serves.can; checkpoint = (serves.checkpoint.0, text ∙ serves.checkpoint.1); holds = same_files log s c same serves.holds }
 
 pub same_kept : (served log : LogOf) (s c : Files) → ((n : List ℕ) → IsFileOf log n ⊎ IsFileOf served n → c n ≡ s n) → c checkpoint ≡ s checkpoint → c state ≡ s state → Keeps served log s → Keeps served log c
 same_kept served log s c same text says keeps = record {
+  can = keeps.can;
   state = says ∙ keeps.state;
   holds = same_files log s c (λ n is. same n (inl is)) keeps.holds;
   serves = same_served served s c (λ n is. same n (inr is)) text keeps.serves;
@@ -174,7 +175,7 @@ module _ (old next : LogOf) (extends : Extends old next) (files : Files) (are_st
         (λ new. new_at text (entries_path t) (bundle_bytes next t) refl (are_staged.bundle t is new)) (bundle_was old next extends t is);
   }
 
-module _ (served old next : LogOf) (files : Files) (keeps : Keeps served old files) (extends : Extends old next) (are_staged : AreStagedFor old next files) (text : List ℕ) (says : text ≡ checkpoint_of next) where
+module _ (served old next : LogOf) (files : Files) (keeps : Keeps served old files) (extends : Extends old next) (are_staged : AreStagedFor old next files) (text : List ℕ) (says : text ≡ checkpoint_of next) (named : CanBeKept next) where
   committed_checkpoint : committed text files checkpoint ≡ checkpoint_after text (files checkpoint)
   committed_checkpoint = refl
 
@@ -184,6 +185,7 @@ module _ (served old next : LogOf) (files : Files) (keeps : Keeps served old fil
   -- where the checkpoint is signed, the served log stays; else the next one is served
   signed_keeps : is_signed (files checkpoint) ≡ true → Keeps served next (committed text files)
   signed_keeps is = record {
+    can = named;
     state = ap (λ (b : List ℕ). Some b) says;
     holds = next_files old next extends files are_staged text keeps.holds;
     serves = same_served served files (committed text files) served_stays (rw is refl) keeps.serves;
@@ -193,9 +195,10 @@ module _ (served old next : LogOf) (files : Files) (keeps : Keeps served old fil
 
   unsigned_keeps : is_signed (files checkpoint) ≡ false → Keeps next next (committed text files)
   unsigned_keeps isnt = record {
+    can = named;
     state = ap (λ (b : List ℕ). Some b) says;
     holds = next_files old next extends files are_staged text keeps.holds;
-    serves = record { checkpoint = (None, rw isnt (ap (λ (b : List ℕ). Some b) says)); holds = next_files old next extends files are_staged text keeps.holds };
+    serves = record { can = named; checkpoint = (None, rw isnt (ap (λ (b : List ℕ). Some b) says)); holds = next_files old next extends files are_staged text keeps.holds };
     begins = extends_self next;
     newest = λ unsigned. refl;
   }

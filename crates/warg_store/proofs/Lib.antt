@@ -14,3 +14,6 @@ mod StagedLemmas
 mod AuditLemmas
 mod GrowingLemmas
 mod CreateLemmas
+mod OpenLemmas
+mod SignLemmas
+mod FetchedLemmas

@@ -10,22 +10,22 @@ use Rattle.std.specs.declared.alloc.Global.{Global}
 use Rattle.warg_tiles.specs.declared.stored.StoredTile.{StoredTile}
 use Rattle.warg_tiles.specs.TileLog.{RightEdge, StandsFor, AreTilesOf, partial_tiles}
 use Rattle.warg_tiles.specs.EntryBundles.{bundle_of}
+use Rattle.warg_tiles.specs.CheckpointText.{Said}
 use Rattle.warg_store.specs.Files.{Files}
 use Rattle.warg_store.specs.Names.{staged, is_served}
 use Rattle.warg_store.specs.Opening.{IsStaging}
-use Rattle.warg_store.specs.Log.{LogOf, tile_bytes, bundle_bytes, Extends, Keeps, AreStagedFor}
+use Rattle.warg_store.specs.Log.{LogOf, AreShort, said_of, tile_bytes, bundle_bytes, Extends, Keeps, AreStagedFor}
 
 -- A log with one entry more.
 abbrev pub with_entry : LogOf → List ℕ → LogOf
 with_entry log entry = record log { entries = log.entries ++ entry ∷ [] }
 
--- A folder's log in memory: the folder, the length that it keeps, whether the log takes pushes and commits, its origin, the
+-- A folder's log in memory: the folder, what the text of its state says, whether the log takes pushes and commits, the
 -- right edge of all that was pushed, and the last entries, which are in no bundle yet, with their number.
 pub record LogIn (F : Type 0) : Type 0 where
   pub folder : F
-  pub kept : ℕ
+  pub text : Said
   pub is_open : Bool
-  pub origin : List ℕ
   pub edge : RightEdge
   pub bundle : List ℕ
   pub held : ℕ
@@ -36,9 +36,8 @@ IsReady seen may_leave l = l.is_open ≡ true → IsStaging (seen l.folder) (may
 
 -- The log has the same entries, keeps the same ones, and takes more or not as before.
 pub record IsSameBut {F : Type 0} (old new : LogIn F) : Type 0 where
-  pub kept : new.kept ≡ old.kept
+  pub text : new.text ≡ old.text
   pub is_open : new.is_open ≡ old.is_open
-  pub origin : new.origin ≡ old.origin
   pub length : new.edge.len ≡ old.edge.len
 
 -- A full tile of a length that an older length hasn't.
@@ -64,15 +63,15 @@ pub record Has {F : Type 0} (seen : F → Files) (may_leave : F → Files → Ty
   pub is_open : l.is_open ≡ true
   pub keeps : Keeps served old (seen l.folder)
   pub extends : Extends old next
-  pub kept : l.kept ≡ length old.entries
-  pub origin : l.origin ≡ next.origin
+  pub short : AreShort next.entries
+  pub text : l.text ≡ said_of old
   pub edge : StandsFor sha256 l.edge (leaves_of sha256 next.entries)
-  pub since : l.kept ≤ l.edge.taken
+  pub since : l.text.length ≤ l.edge.taken
   pub order : l.edge.taken ≤ l.edge.len
   pub held : 256 * (l.edge.taken / 256) + l.held ≡ l.edge.len
   pub most : l.held ≤ 256
   pub bundle : l.bundle ≡ bundle_of (drop (256 * (l.edge.taken / 256)) next.entries)
-  pub staged : AreFullStaged l.kept l.edge.taken next (seen l.folder)
+  pub staged : AreFullStaged l.text.length l.edge.taken next (seen l.folder)
   pub staging : IsStaging (seen l.folder) (may_leave l.folder)
 
 -- The tiles are the partial ones of the log's length, with its digests.
@@ -84,7 +83,7 @@ pub record HasAll {F : Type 0} (seen : F → Files) (may_leave : F → Files →
   pub is_open : l.is_open ≡ true
   pub keeps : Keeps served old (seen l.folder)
   pub extends : Extends old next
-  pub origin : l.origin ≡ next.origin
+  pub short : AreShort next.entries
   pub edge : StandsFor sha256 l.edge (leaves_of sha256 next.entries)
   pub held : 256 * (l.edge.len / 256) + l.held ≡ l.edge.len
   pub bundle : l.bundle ≡ bundle_of (drop (256 * (l.edge.len / 256)) next.entries)
@@ -93,4 +92,4 @@ pub record HasAll {F : Type 0} (seen : F → Files) (may_leave : F → Files →
 
 -- The log's folder keeps the entries of `next`, whose checkpoint's text is still to be noted.
 abbrev pub IsPut : {F : Type 0} → (F → Files) → (F → Files → Type 0) → LogOf → LogIn F → Type 0
-IsPut seen may_leave next l = (log : LogOf) × Has seen may_leave log next next (record l { kept = length next.entries })
+IsPut seen may_leave next l = (log : LogOf) × Has seen may_leave log next next (record l { text = said_of next })

@@ -2,6 +2,7 @@ pub mod Files
 pub mod Moments
 pub mod Names
 pub mod Opening
+pub mod Reading
 pub mod Log
 pub mod Staged
 pub mod Growing

@@ -1,6 +1,6 @@
 -- A log's entries as files.
-use Rattle.std.specs.Prelude.{◌≡◌, ◌⊎◌, ℕ, ◌*◌, ◌<◌, true, false, List, [], ◌++◌, length, take, drop, Option, Some, IsSome}
-use Rattle.std.specs.List.{flat_map}
+use Rattle.std.specs.Prelude.{◌≡◌, ◌⊎◌, ℕ, ◌*◌, ◌^◌, ◌<◌, ◌≤◌, true, false, List, [], ◌∷◌, ◌++◌, length, take, drop, Option, Some, None, IsSome}
+use Rattle.std.specs.List.{AllByRecursion, flat_map}
 use Rattle.warg_crypto.specs.Digests.{sha256}
 use Rattle.warg_log.specs.Tree.{root_of, leaves_of}
 use Rattle.warg_tiles.specs.Tiles.{TileAt}
@@ -8,7 +8,7 @@ use Rattle.warg_tiles.specs.TilePaths.{tile_path, entries_path}
 use Rattle.warg_tiles.specs.Between.{IsTileOf}
 use Rattle.warg_tiles.specs.TileLog.{tile_digests}
 use Rattle.warg_tiles.specs.EntryBundles.{bundle_of}
-use Rattle.warg_tiles.specs.CheckpointText.{Said, text_of, text_before}
+use Rattle.warg_tiles.specs.CheckpointText.{Said, IsLine, text_of, text_before}
 use Rattle.warg_store.specs.Files.{Files}
 use Rattle.warg_store.specs.Names.{checkpoint, state, staged, is_served}
 use Rattle.warg_store.specs.Opening.{is_signed, opened}
@@ -30,6 +30,22 @@ said_of log = record {
 -- The checkpoint's text.
 abbrev pub checkpoint_of : LogOf → List ℕ
 checkpoint_of log = text_of (said_of log)
+
+-- Entries that bundles can have: each has at most 65,535 bytes.
+abbrev pub AreShort : List (List ℕ) → Type 0
+AreShort entries = AllByRecursion (λ entry. length entry < 65536) entries
+
+-- A log that a folder can keep: its origin is a line, it has at most 2 ^ 63 short entries, and its checkpoint's text has at
+-- most 2 ^ 20 bytes.
+pub record CanBeKept (log : LogOf) : Type 0 where
+  pub origin : IsLine log.origin
+  pub most : length log.entries ≤ 2 ^ 63
+  pub short : AreShort log.entries
+  pub text : length (checkpoint_of log) ≤ 2 ^ 20
+
+-- The note is the text, an empty line and something behind it.
+abbrev pub IsNoteOf : List ℕ → List ℕ → Type 0
+IsNoteOf text note = (first : ℕ) × (behind : List ℕ) × (note ≡ text ++ (10 ∷ first ∷ behind))
 
 -- The bytes of a tile: its digests, one after the other.
 abbrev pub tile_bytes : LogOf → TileAt → List ℕ
@@ -57,6 +73,7 @@ pub record HasFiles (log : LogOf) (files : Files) : Type 0 where
 -- A folder serves a log where it has the checkpoint's text, with whatever signatures behind an empty line, and the tiles and
 -- bundles of its length.
 pub record Serves (log : LogOf) (files : Files) : Type 0 where
+  pub can : CanBeKept log
   pub checkpoint : (behind : Option (List ℕ)) × (files checkpoint ≡ Some (text_before (said_of log) behind))
   pub holds : HasFiles log files
 
@@ -72,11 +89,16 @@ pub record Extends (old next : LogOf) : Type 0 where
 -- A folder keeps a log, and serves a beginning of it: its state is the log's checkpoint, its tiles and bundles are there, and
 -- unless the checkpoint is signed, it serves the log itself.
 pub record Keeps (served log : LogOf) (files : Files) : Type 0 where
+  pub can : CanBeKept log
   pub state : files state ≡ Some (checkpoint_of log)
   pub holds : HasFiles log files
   pub serves : Serves served files
   pub begins : Extends served log
   pub newest : is_signed (files checkpoint) ≡ false → served ≡ log
+
+-- A folder has a log: it keeps the log, or has no state and serves the log.
+abbrev pub HasLog : LogOf → LogOf → Files → Type 0
+HasLog served log files = Keeps served log files ⊎ ((served ≡ log) × (files state ≡ None) × Serves log files)
 
 -- The files serve a log, and opening them changes none of its tiles and bundles.
 pub record IsServed (log : LogOf) (files : Files) : Type 0 where

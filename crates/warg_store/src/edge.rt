@@ -1,6 +1,14 @@
 //! The right edge of a log that a folder keeps: its partial tiles and its last bundle.
 
-ghost use Rattle.std.specs.Prelude.{◌≡◌, ◌≤◌, IfOk, OnOk};
+ghost use Rattle.std.specs.Prelude.{◌≡◌, ◌*◌, ◌/◌, ◌≤◌, length, map, drop, Some, IfOk, OnOk};
+ghost use Rattle.warg_crypto.specs.Digests.{sha256};
+ghost use Rattle.warg_log.specs.Tree.{leaves_of};
+ghost use Rattle.warg_tiles.specs.EntryBundles.{bundle_of};
+ghost use Rattle.warg_tiles.specs.TileLog.{StandsFor, tile_digests};
+ghost use Rattle.warg_tiles.specs.TilePaths.{tile_path, entries_path};
+ghost use Rattle.warg_store.specs.Growing.{ArePartsOf};
+ghost use Rattle.warg_store.specs.Log.{LogOf, AreShort, CanBeKept, HasFiles, tile_bytes, bundle_bytes};
+ghost use Rattle.warg_store.specs.Moments.{Within};
 ghost use Rattle.warg_store.specs.Opening.{IsStaging};
 
 use crate::device::{Folder, FolderError};
@@ -25,7 +33,13 @@ pub(crate) fn read_tile<F: Folder>(
     folder: &mut F,
     tile: Tile,
 ) -> Result<StoredTile<Sha256>, LogError>
-    ensures { F.IsFaithful → IsStaging (F.seen folder.old) (F.may_leave folder.old)
+    ensures read { F.IsFaithful → IfOk result (λ read. (log : LogOf)
+        → F.seen folder.old (tile_path tile) ≡ Some (tile_bytes log tile)
+        → read.digests.items ≡ tile_digests sha256 (leaves_of sha256 log.entries) tile) }
+    ensures tile { IfOk result (λ read. read.tile ≡ tile) }
+    ensures seen { F.IsFaithful → F.seen folder.new ≡ F.seen folder.old }
+    ensures crash { F.IsFaithful → Within (F.may_leave folder.old) (F.may_leave folder.new) }
+    ensures ready { F.IsFaithful → IsStaging (F.seen folder.old) (F.may_leave folder.old)
         → OnOk result (IsStaging (F.seen folder.new) (F.may_leave folder.new)) }
 {
     let path = tile.path(alloc)?;
@@ -43,14 +57,18 @@ pub(crate) fn read_tile<F: Folder>(
 pub(crate) fn read_edge<F: Folder>(
     alloc: Global,
     folder: &mut F,
-    length: usize,
+    log_length: usize,
 ) -> Result<Vec<StoredTile<Sha256>>, LogError>
-    ensures { F.IsFaithful → IsStaging (F.seen folder.old) (F.may_leave folder.old)
+    ensures edge { F.IsFaithful → IfOk result (λ edge. (log : LogOf)
+        → log_length ≡ length log.entries → HasFiles log (F.seen folder.old)
+        → ArePartsOf log edge.items) }
+    ensures seen { F.IsFaithful → F.seen folder.new ≡ F.seen folder.old }
+    ensures ready { F.IsFaithful → IsStaging (F.seen folder.old) (F.may_leave folder.old)
         → OnOk result (IsStaging (F.seen folder.new) (F.may_leave folder.new)) }
 {
     let mut edge = Vec::new(alloc);
     'levels: for level in 0..8 {
-        let count = length >> (8 * level);
+        let count = log_length >> (8 * level);
         if count % 256 != 0 {
             let tile = Tile::new(level, count / 256, count % 256);
             edge.push(read_tile(alloc, folder, tile)?)?;
@@ -66,7 +84,11 @@ pub(crate) fn open_edge(
     edge: &[StoredTile<Sha256>],
 ) -> Result<TileLog<Sha256, Vec<u8>>, LogError>
     requires { checkpoint.now.length ≤ GREATEST_LENGTH }
-    ensures { IfOk result (λ log. log.len ≡ checkpoint.now.length) }
+    ensures length { IfOk result (λ log. (log.len ≡ checkpoint.now.length)
+        × (log.taken ≡ checkpoint.now.length)) }
+    ensures stands { IfOk result (λ log. (kept : LogOf)
+        → checkpoint.now.length ≡ length kept.entries → ArePartsOf kept edge.now
+        → StandsFor sha256 log (leaves_of sha256 kept.entries)) }
 {
     match TileLog::open(alloc, checkpoint.length(), edge) {
         Ok(log) if log.checkpoint() == *checkpoint => Ok(log),
@@ -83,7 +105,13 @@ pub(crate) fn read_bundle<F: Folder>(
     tile: &Tile,
 ) -> Result<Vec<u8>, LogError>
     requires { tile.now.level ≡ 0 }
-    ensures { F.IsFaithful → IsStaging (F.seen folder.old) (F.may_leave folder.old)
+    ensures read { F.IsFaithful → IfOk result (λ read. (log : LogOf)
+        → AreShort log.entries → tile.now.width ≤ 256
+        → F.seen folder.old (entries_path tile.now) ≡ Some (bundle_bytes log tile.now)
+        → read.items ≡ bundle_bytes log tile.now) }
+    ensures seen { F.IsFaithful → F.seen folder.new ≡ F.seen folder.old }
+    ensures crash { F.IsFaithful → Within (F.may_leave folder.old) (F.may_leave folder.new) }
+    ensures ready { F.IsFaithful → IsStaging (F.seen folder.old) (F.may_leave folder.old)
         → OnOk result (IsStaging (F.seen folder.new) (F.may_leave folder.new)) }
 {
     let path = tile.entries_path(alloc)?;
@@ -100,6 +128,8 @@ pub(crate) fn entries_of<'a>(
     bytes: &'a [u8],
 ) -> Result<Vec<&'a [u8]>, LogError>
     requires { tile.now.level ≡ 0 }
+    ensures entries { IfOk result (λ entries. bytes.now ≡ bundle_of (map (λ e. e.now) entries.items)) }
+    ensures count { IfOk result (λ entries. length entries.items ≡ tile.now.width) }
 {
     match read_entries(alloc, bytes) {
         Ok(entries) if entries.len() == tile.width() => Ok(entries),
@@ -124,7 +154,11 @@ pub(crate) fn read_last_bundle<F: Folder>(
     folder: &mut F,
     edge: &[StoredTile<Sha256>],
 ) -> Result<Vec<u8>, LogError>
-    ensures { F.IsFaithful → IsStaging (F.seen folder.old) (F.may_leave folder.old)
+    ensures bundle { F.IsFaithful → IfOk result (λ bytes. (log : LogOf) → CanBeKept log
+        → HasFiles log (F.seen folder.old) → ArePartsOf log edge.now
+        → bytes.items ≡ bundle_of (drop (256 * (length log.entries / 256)) log.entries)) }
+    ensures seen { F.IsFaithful → F.seen folder.new ≡ F.seen folder.old }
+    ensures ready { F.IsFaithful → IsStaging (F.seen folder.old) (F.may_leave folder.old)
         → OnOk result (IsStaging (F.seen folder.new) (F.may_leave folder.new)) }
 {
     match edge.first() {

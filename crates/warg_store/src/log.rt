@@ -7,7 +7,7 @@ ghost use Rattle.warg_store.specs.Files.{put};
 ghost use Rattle.warg_store.specs.Moments.{Only, LeavesOnly, HasCause};
 ghost use Rattle.warg_store.specs.Names.{staged};
 ghost use Rattle.warg_store.specs.Opening.{IsBeside, IsStaging, NothingStaged};
-ghost use Rattle.warg_store.specs.Log.{LogOf, checkpoint_of, Extends, Keeps, IsOneOf, AreStagedFor};
+ghost use Rattle.warg_store.specs.Log.{LogOf, CanBeKept, checkpoint_of, Extends, Keeps, IsOneOf, AreStagedFor};
 ghost use Rattle.warg_store.specs.Staged.{staged_all, new_files};
 
 use crate::committing::{MOST_TEXT, commit};
@@ -27,10 +27,10 @@ pub(crate) fn commit_log<F: Folder>(
     requires staging { F.IsFaithful → IsStaging (F.seen folder.old) (F.may_leave folder.old) }
     requires short { length text.now ≤ MOST_TEXT }
     ensures any_moment { F.IsFaithful → (served old next : LogOf) → Keeps served old (F.seen folder.old)
-        → Extends old next → AreStagedFor old next (F.seen folder.old) → text.now ≡ checkpoint_of next
+        → Extends old next → AreStagedFor old next (F.seen folder.old) → text.now ≡ checkpoint_of next → CanBeKept next
         → LeavesOnly F.moment F.left_since folder.old folder.new (IsOneOf served old next) }
     ensures next { F.IsFaithful → OnOk result ((served old next : LogOf) → Keeps served old (F.seen folder.old)
-        → Extends old next → AreStagedFor old next (F.seen folder.old) → text.now ≡ checkpoint_of next
+        → Extends old next → AreStagedFor old next (F.seen folder.old) → text.now ≡ checkpoint_of next → CanBeKept next
         → (log : LogOf) × Keeps log next (F.seen folder.new)) }
     ensures durable { F.IsFaithful → OnOk result (Only (F.seen folder.new) (F.may_leave folder.new)) }
     ensures ready { F.IsFaithful → OnOk result (IsStaging (F.seen folder.new) (F.may_leave folder.new)) }

@@ -3,11 +3,12 @@
 ghost use Rattle.std.specs.Prelude.{◌≡◌, ◌+◌, ◌<◌, ◌≤◌, ◌↔◌, length, true, Err, IfOk, OnOk, OnErr};
 ghost use Rattle.warg_crypto.specs.Digests.{sha256};
 ghost use Rattle.warg_log.specs.Tree.{leaves_of};
+ghost use Rattle.warg_tiles.specs.CheckpointText.{IsLine, text_of};
 ghost use Rattle.warg_tiles.specs.TileLog.{StandsFor};
 ghost use Rattle.warg_store.specs.Moments.{LeavesOnly};
 ghost use Rattle.warg_store.specs.Opening.{IsBeside, IsStaging};
 ghost use Rattle.warg_store.specs.Growing.{IsReady, IsSameBut, Has, HasAll, IsPut, ArePartsOf, with_entry};
-ghost use Rattle.warg_store.specs.Log.{LogOf, IsOneOf, said_of, checkpoint_of};
+ghost use Rattle.warg_store.specs.Log.{LogOf, CanBeKept, IsOneOf, said_of, checkpoint_of};
 
 use crate::committing::MOST_TEXT;
 use crate::device::{Folder, FolderError};
@@ -111,8 +112,8 @@ impl From<FolderError> for CommitError {
 /// no bundle yet. So its memory doesn't grow with the log; a commit lists the names of the files that it stages.
 #[derive(Drop)]
 pub struct LogFolder<F: Folder + Drop> {
-    alloc: Global,
-    folder: F,
+    pub(crate) alloc: Global,
+    pub(crate) folder: F,
     text: CheckpointText<Sha256>,
     is_open: bool,
     edge: TileLog<Sha256, Vec<u8>>,
@@ -128,9 +129,8 @@ impl<F: Folder + Drop> Model for LogFolder<F> {
 
     ghost view = { λ l. record {
       folder = l.folder;
-      kept = l.text.length;
+      text = l.text;
       is_open = l.is_open;
-      origin = l.text.origin;
       edge = l.edge;
       bundle = l.bundle.items;
       held = l.held;
@@ -149,9 +149,8 @@ impl<F: Folder + Drop> LogFolder<F> {
     ) -> Self
         ensures { result ≡ record {
           folder = folder;
-          kept = text.length;
+          text = text;
           is_open = true;
-          origin = text.origin;
           edge = edge;
           bundle = bundle.items;
           held = held;
@@ -171,31 +170,32 @@ impl<F: Folder + Drop> LogFolder<F> {
 
     /// The number of entries, those included that aren't committed.
     pub fn length(&self) -> usize
-        ensures { result ≡ self.now.edge.len }
+        ensures value { result ≡ self.now.edge.len }
+        ensures fits { result ≤ GREATEST_LENGTH }
     {
         self.edge.length()
     }
 
     /// The checkpoint of the log's state: what the last commit has kept.
     pub fn checkpoint(&self) -> Checkpoint<Sha256>
-        ensures { result.length ≡ self.now.kept }
+        ensures length { result.length ≡ self.now.text.length }
+        ensures root { result.root ≡ self.now.text.root }
+        ensures fits { result.length ≤ GREATEST_LENGTH }
     {
         self.text.checkpoint()
     }
 
     // The text of the log's state.
-    pub(crate) fn state_text(&self) -> Result<Vec<u8>, AllocError> {
+    pub(crate) fn state_text(&self) -> Result<Vec<u8>, AllocError>
+        ensures { IfOk result (λ bytes. bytes.items ≡ text_of self.now.text) }
+    {
         self.text.write(self.alloc)
-    }
-
-    // The allocator, and the folder.
-    pub(crate) fn device(&mut self) -> (Global, &mut F) {
-        (self.alloc, &mut self.folder)
     }
 
     /// The log's origin.
     pub fn origin(&self) -> &[u8]
-        ensures { result.now ≡ self.now.origin }
+        ensures value { result.now ≡ self.now.text.origin }
+        ensures line { IsLine result.now }
     {
         self.text.origin()
     }
@@ -216,8 +216,7 @@ impl<F: Folder + Drop> LogFolder<F> {
             → Has F.seen F.may_leave served old next self.old
             → Has F.seen F.may_leave served old (with_entry next entry.now) self.new) }
         ensures ready { F.IsFaithful → IsReady F.seen F.may_leave self.new }
-        ensures origin { self.new.origin ≡ self.old.origin }
-        ensures kept { self.new.kept ≡ self.old.kept }
+        ensures text { self.new.text ≡ self.old.text }
         ensures length { OnOk result (self.new.edge.len ≡ self.old.edge.len + 1) }
         ensures refused { OnErr result (self.new.edge.len ≡ self.old.edge.len) }
         ensures too_long { (result ≡ Err PushError.TooLong) ↔ (65535 < length entry.now) }
@@ -284,12 +283,12 @@ impl<F: Folder + Drop> LogFolder<F> {
             → OnOk result (IsStaging (F.seen self.new.folder) (F.may_leave self.new.folder)) }
         ensures same { IsSameBut self.old self.new }
         ensures any_moment { F.IsFaithful → (served old next : LogOf)
-            → Has F.seen F.may_leave served old next self.old → self.old.kept < self.old.edge.len
-            → ArePartsOf next tiles.now → text.now ≡ checkpoint_of next
+            → Has F.seen F.may_leave served old next self.old → self.old.text.length < self.old.edge.len
+            → ArePartsOf next tiles.now → text.now ≡ checkpoint_of next → CanBeKept next
             → LeavesOnly F.moment F.left_since self.old.folder self.new.folder (IsOneOf served old next) }
         ensures put { F.IsFaithful → OnOk result ((served old next : LogOf)
-            → Has F.seen F.may_leave served old next self.old → self.old.kept < self.old.edge.len
-            → ArePartsOf next tiles.now → text.now ≡ checkpoint_of next
+            → Has F.seen F.may_leave served old next self.old → self.old.text.length < self.old.edge.len
+            → ArePartsOf next tiles.now → text.now ≡ checkpoint_of next → CanBeKept next
             → IsPut F.seen F.may_leave next self.new) }
     {
         self.stage_edge(tiles)?;
@@ -300,8 +299,9 @@ impl<F: Folder + Drop> LogFolder<F> {
 
     // The text of the checkpoint over all that was pushed.
     fn next_text(&self) -> Result<CheckpointText<Sha256>, CommitError>
-        ensures { IfOk result (λ text. (log : LogOf) → self.now.origin ≡ log.origin
+        ensures said { IfOk result (λ text. (log : LogOf) → self.now.text.origin ≡ log.origin
             → StandsFor sha256 self.now.edge (leaves_of sha256 log.entries) → text ≡ said_of log) }
+        ensures line { IsLine self.now.text.origin }
     {
         match CheckpointText::new(self.alloc, self.text.origin(), self.edge.checkpoint()) {
             Ok(text) => Ok(text),
@@ -317,7 +317,7 @@ impl<F: Folder + Drop> LogFolder<F> {
         ensures any_moment { F.IsFaithful → LeavesOnly F.moment F.left_since self.old.folder self.new.folder
             (IsBeside (F.seen self.old.folder)) }
         ensures staged { F.IsFaithful → OnOk result ((served old next : LogOf)
-            → Has F.seen F.may_leave served old next self.old → self.old.kept < self.old.edge.len
+            → Has F.seen F.may_leave served old next self.old → self.old.text.length < self.old.edge.len
             → ArePartsOf next tiles.now
             → HasAll F.seen F.may_leave served old next self.new) }
     {
@@ -388,8 +388,7 @@ impl<F: Folder + Drop> LogFolder<F> {
         ensures has { OnOk result ((served old next : LogOf)
             → Has F.seen F.may_leave served old next self.old
             → Has F.seen F.may_leave served old (with_entry next entry.now) self.new) }
-        ensures same { (self.new.origin ≡ self.old.origin) × (self.new.kept ≡ self.old.kept)
-            × (self.new.is_open ≡ self.old.is_open) }
+        ensures same { (self.new.text ≡ self.old.text) × (self.new.is_open ≡ self.old.is_open) }
     {
         self.entry.clear();
         self.entry.extend_from_slice(entry)?;

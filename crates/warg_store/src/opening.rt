@@ -1,10 +1,12 @@
 //! A log's folder, made and opened.
 
-ghost use Rattle.std.specs.Prelude.{◌≡◌, ◌≢◌, true, false, [], None, IfOk, OnOk, string_bytes};
+ghost use Rattle.std.specs.Prelude.{◌≡◌, ◌≢◌, ℕ, true, false, List, [], Option, Some, None, IfOk, OnOk, string_bytes};
 ghost use Rattle.std.specs.List.{All};
+ghost use Rattle.warg_tiles.specs.CheckpointText.{Said, CanBeSaid, text_before};
+ghost use Rattle.warg_store.specs.Files.{SameBut};
 ghost use Rattle.warg_store.specs.Growing.{IsReady, Has};
-ghost use Rattle.warg_store.specs.Log.{LogOf};
-ghost use Rattle.warg_store.specs.Names.{checkpoint, mark};
+ghost use Rattle.warg_store.specs.Log.{LogOf, CanBeKept, Serves, Keeps, HasLog, said_of};
+ghost use Rattle.warg_store.specs.Names.{checkpoint, state, mark};
 ghost use Rattle.warg_store.specs.Opening.{IsStaging, opened};
 
 use crate::committing::{MOST_TEXT, commit, is_signed};
@@ -51,7 +53,7 @@ impl<F: Folder + Drop> LogFolder<F> {
     /// `Exists` where a file of a log is there; other files don't matter.
     pub fn create(alloc: Global, mut folder: F, origin: &[u8]) -> Result<LogFolder<F>, CreateError>
         ensures ready { F.IsFaithful → IfOk result (IsReady F.seen F.may_leave) }
-        ensures empty { IfOk result (λ log. (log.edge.len ≡ 0) × (log.origin ≡ origin.now)) }
+        ensures empty { IfOk result (λ log. (log.edge.len ≡ 0) × (log.text.origin ≡ origin.now)) }
         ensures has { F.IsFaithful → IfOk result (λ log. let none : LogOf = record { origin = origin.now; entries = [] } in
             Has F.seen F.may_leave none none none log) }
     {
@@ -80,7 +82,12 @@ impl<F: Folder + Drop> LogFolder<F> {
     /// checkpoint that is missing or corrupt.
     pub fn open(alloc: Global, mut folder: F) -> Result<LogFolder<F>, LogError>
         ensures ready { F.IsFaithful → IfOk result (IsReady F.seen F.may_leave) }
-        ensures all { IfOk result (λ log. log.edge.len ≡ log.kept) }
+        ensures all { IfOk result (λ log. log.edge.len ≡ log.text.length) }
+
+        // What the folder stands for is the log.
+        ensures has { F.IsFaithful → IfOk result (λ log. (served kept : LogOf)
+            → HasLog served kept (opened (F.seen folder))
+            → Has F.seen F.may_leave served kept kept log) }
     {
         if let Err(error) = recover(alloc, &mut folder) {
             return Err(LogError::of_recovery(alloc, &error));
@@ -98,7 +105,11 @@ impl<F: Folder + Drop> LogFolder<F> {
 // What the log's state says, once the served checkpoint agrees. A folder without a state that serves a checkpoint is taken over:
 // its checkpoint becomes the state, once the last tiles lead to its root.
 fn kept_text<F: Folder>(alloc: Global, folder: &mut F) -> Result<CheckpointText<Sha256>, LogError>
-    ensures { F.IsFaithful → IsStaging (F.seen folder.old) (F.may_leave folder.old)
+    ensures text { F.IsFaithful → IfOk result (λ text. (served log : LogOf)
+        → HasLog served log (F.seen folder.old)
+        → (text ≡ said_of log) × Keeps served log (F.seen folder.new)) }
+    ensures beside { F.IsFaithful → OnOk result (SameBut state (F.seen folder.old) (F.seen folder.new)) }
+    ensures ready { F.IsFaithful → IsStaging (F.seen folder.old) (F.may_leave folder.old)
         → OnOk result (IsStaging (F.seen folder.new) (F.may_leave folder.new)) }
 {
     let Some(state) = read_text(alloc, folder, STATE)? else {
@@ -110,7 +121,11 @@ fn kept_text<F: Folder>(alloc: Global, folder: &mut F) -> Result<CheckpointText<
 }
 
 fn take_over<F: Folder>(alloc: Global, folder: &mut F) -> Result<CheckpointText<Sha256>, LogError>
-    ensures { F.IsFaithful → IsStaging (F.seen folder.old) (F.may_leave folder.old)
+    ensures text { F.IsFaithful → IfOk result (λ text. (log : LogOf)
+        → Serves log (F.seen folder.old)
+        → (text ≡ said_of log) × Keeps log log (F.seen folder.new)) }
+    ensures beside { F.IsFaithful → OnOk result (SameBut state (F.seen folder.old) (F.seen folder.new)) }
+    ensures ready { F.IsFaithful → IsStaging (F.seen folder.old) (F.may_leave folder.old)
         → OnOk result (IsStaging (F.seen folder.new) (F.may_leave folder.new)) }
 {
     let Some(served) = read_text(alloc, folder, CHECKPOINT)? else {
@@ -173,7 +188,8 @@ pub(crate) fn read_state<F: Folder>(
     alloc: Global,
     folder: &mut F,
 ) -> Result<CheckpointText<Sha256>, LogError>
-    ensures { F.IsFaithful → IsStaging (F.seen folder.old) (F.may_leave folder.old)
+    ensures seen { F.IsFaithful → F.seen folder.new ≡ F.seen folder.old }
+    ensures ready { F.IsFaithful → IsStaging (F.seen folder.old) (F.may_leave folder.old)
         → OnOk result (IsStaging (F.seen folder.new) (F.may_leave folder.new)) }
 {
     read_text(alloc, folder, STATE)?.ok_or(LogError::NoLog)
@@ -186,7 +202,12 @@ fn read_text<F: Folder>(
     folder: &mut F,
     name: &str,
 ) -> Result<Option<CheckpointText<Sha256>>, LogError>
-    ensures { F.IsFaithful → IsStaging (F.seen folder.old) (F.may_leave folder.old)
+    ensures text { F.IsFaithful → IfOk result (λ text. (log : LogOf) (behind : Option (List ℕ))
+        → CanBeKept log → F.seen folder.old name.now ≡ Some (text_before (said_of log) behind)
+        → text ≡ Some (said_of log)) }
+    ensures none { F.IsFaithful → IfOk result (λ text. F.seen folder.old name.now ≡ None → text ≡ None) }
+    ensures seen { F.IsFaithful → F.seen folder.new ≡ F.seen folder.old }
+    ensures ready { F.IsFaithful → IsStaging (F.seen folder.old) (F.may_leave folder.old)
         → OnOk result (IsStaging (F.seen folder.new) (F.may_leave folder.new)) }
 {
     match folder.read(alloc, name, MOST_TEXT)? {
@@ -200,7 +221,11 @@ fn read_text<F: Folder>(
 pub(crate) fn read_newest<F: Folder>(
     alloc: Global,
     folder: &mut F,
-) -> Result<CheckpointText<Sha256>, LogError> {
+) -> Result<CheckpointText<Sha256>, LogError>
+    ensures text { F.IsFaithful → IfOk result (λ text. (log : LogOf) → Serves log (F.seen folder.old)
+        → text ≡ said_of log) }
+    ensures seen { F.IsFaithful → F.seen folder.new ≡ F.seen folder.old }
+{
     let state = read_text(alloc, folder, STATE)?;
     let Some(served) = read_text(alloc, folder, CHECKPOINT)? else {
         return match state {
@@ -220,7 +245,11 @@ fn newest_of<F: Folder>(
     folder: &mut F,
     state: &CheckpointText<Sha256>,
     served: CheckpointText<Sha256>,
-) -> Result<CheckpointText<Sha256>, LogError> {
+) -> Result<CheckpointText<Sha256>, LogError>
+    ensures text { F.IsFaithful → IfOk result (λ text. (log : LogOf) → Serves log (F.seen folder.old)
+        → served ≡ said_of log → text ≡ said_of log) }
+    ensures seen { F.IsFaithful → F.seen folder.new ≡ F.seen folder.old }
+{
     let newest = state.checkpoint().length();
     if served.checkpoint().length() >= newest || folder.read(alloc, MARK, 0)?.is_some() {
         return Ok(served);
@@ -233,7 +262,10 @@ fn newest_of<F: Folder>(
 }
 
 // The text that a file's bytes begin with.
-fn text_in(alloc: Global, name: &str, bytes: &[u8]) -> Result<CheckpointText<Sha256>, LogError> {
+fn text_in(alloc: Global, name: &str, bytes: &[u8]) -> Result<CheckpointText<Sha256>, LogError>
+    ensures { IfOk result (λ text. (said : Said) (behind : Option (List ℕ)) → CanBeSaid said
+        → bytes.now ≡ text_before said behind → text ≡ said) }
+{
     match CheckpointText::read(alloc, bytes) {
         Ok((text, _)) => Ok(text),
         Err(CheckpointTextError::Memory) => Err(LogError::Folder(FolderError::Memory)),
@@ -255,7 +287,10 @@ pub(crate) fn read_served<F: Folder>(
     alloc: Global,
     folder: &mut F,
 ) -> Result<CheckpointText<Sha256>, LogError>
-    ensures { F.IsFaithful → IsStaging (F.seen folder.old) (F.may_leave folder.old)
+    ensures text { F.IsFaithful → IfOk result (λ text. (log : LogOf) → Serves log (F.seen folder.old)
+        → text ≡ said_of log) }
+    ensures seen { F.IsFaithful → F.seen folder.new ≡ F.seen folder.old }
+    ensures ready { F.IsFaithful → IsStaging (F.seen folder.old) (F.may_leave folder.old)
         → OnOk result (IsStaging (F.seen folder.new) (F.may_leave folder.new)) }
 {
     match read_text(alloc, folder, CHECKPOINT)? {
@@ -272,7 +307,8 @@ fn compare<F: Folder>(
     state: &CheckpointText<Sha256>,
     served: &CheckpointText<Sha256>,
 ) -> Result<(), LogError>
-    ensures { F.IsFaithful → IsStaging (F.seen folder.old) (F.may_leave folder.old)
+    ensures seen { F.IsFaithful → F.seen folder.new ≡ F.seen folder.old }
+    ensures ready { F.IsFaithful → IsStaging (F.seen folder.old) (F.may_leave folder.old)
         → OnOk result (IsStaging (F.seen folder.new) (F.may_leave folder.new)) }
 {
     if served.origin() != state.origin() {

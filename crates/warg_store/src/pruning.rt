@@ -20,7 +20,7 @@ impl<F: Folder + Drop> LogFolder<F> {
     /// full one. What the served checkpoint needs stays. Returns how many files were removed.
     pub fn prune(&mut self) -> Result<usize, LogError> {
         let kept = self.checkpoint().length();
-        let (alloc, folder) = self.device();
+        let (alloc, folder) = (self.alloc, &mut self.folder);
         let served = read_served(alloc, folder)?.checkpoint().length();
         let names = folder.list(alloc, "tile/")?;
         let mut removed = 0usize;

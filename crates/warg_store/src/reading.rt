@@ -1,9 +1,18 @@
 //! Entries and paths out of a log's folder, each once it leads to the root of the log's state.
 
-ghost use Rattle.std.specs.Prelude.{◌≡◌, ◌<◌, ◌≤◌, Some, IfOk, IfSome};
-ghost use Rattle.warg_store.specs.Audited.{IsOfEntries};
+ghost use Rattle.std.specs.Prelude.{◌≡◌, ℕ, ◌<◌, ◌≤◌, List, length, Option, Some, Ok, IfOk, IfSome, IsSomeAnd, OnOk, IsTrue, slice_get};
+ghost use Rattle.std.specs.List.{AllByRecursion};
 ghost use Rattle.warg_crypto.specs.Digests.{sha256};
 ghost use Rattle.warg_paths.specs.Paths.{consistency_roots};
+ghost use Rattle.warg_tiles.specs.Tiles.{TileAt};
+ghost use Rattle.warg_tiles.specs.Between.{IsTileOf};
+ghost use Rattle.warg_store.specs.Audited.{IsOfEntries};
+ghost use Rattle.warg_tiles.specs.CheckpointText.{text_of};
+ghost use Rattle.warg_store.specs.Growing.{Has};
+ghost use Rattle.warg_store.specs.Log.{LogOf, AreShort, IsTileIn, HasFiles, Serves};
+ghost use Rattle.warg_store.specs.Moments.{Within};
+ghost use Rattle.warg_store.specs.Private.Fetched.{AreOwn};
+ghost use Rattle.warg_store.specs.Reading.{Reads, checkpoint_said, inclusion_in, consistency_in, LeadsTo, IsShown, IncludesBy, GrowsBy};
 
 use crate::auditing::{Progress, audited};
 use crate::device::{Folder, FolderError};
@@ -12,6 +21,7 @@ use crate::error::LogError;
 use crate::log_folder::LogFolder;
 use crate::opening::read_newest;
 use std::alloc::Global;
+use std::marker::Model;
 use warg_crypto::{Hash, Sha256, hash_leaf};
 use warg_log::{Checkpoint, GREATEST_LENGTH, LeafRange, LogData, Node, stored_root};
 use warg_paths::{
@@ -39,10 +49,21 @@ pub struct LogReader<F: Folder + Drop> {
     text: CheckpointText<Sha256>,
 }
 
+impl<F: Folder + Drop> Model for LogReader<F> {
+    ghost use Rattle.warg_store.specs.Reading.{ServedIn};
+
+    ghost Value = { ServedIn F };
+
+    ghost view = { λ r. record { folder = r.folder; text = r.text } };
+}
+
 impl<F: Folder + Drop> LogReader<F> {
     /// Reads a folder's checkpoint. `NoLog` where there is none; `RolledBack` where the log's state, if that is there, is
     /// newer, and no commit is under way; `Damaged` where the checkpoint is corrupt.
-    pub fn open(alloc: Global, mut folder: F) -> Result<LogReader<F>, LogError> {
+    pub fn open(alloc: Global, mut folder: F) -> Result<LogReader<F>, LogError>
+        ensures { F.IsFaithful → IfOk result (λ reader. (log : LogOf) → Serves log (F.seen folder)
+            → Reads F.seen log reader) }
+    {
         let text = read_newest(alloc, &mut folder)?;
         Ok(LogReader {
             alloc,
@@ -52,13 +73,17 @@ impl<F: Folder + Drop> LogReader<F> {
     }
 
     /// The folder.
-    pub fn into_folder(self) -> F {
+    pub fn into_folder(self) -> F
+        ensures { result ≡ self.folder }
+    {
         let LogReader { folder, .. } = self;
         folder
     }
 
     /// The checkpoint.
-    pub fn checkpoint(&self) -> Checkpoint<Sha256> {
+    pub fn checkpoint(&self) -> Checkpoint<Sha256>
+        ensures { result ≡ checkpoint_said self.now.text }
+    {
         self.text.checkpoint()
     }
 
@@ -71,7 +96,10 @@ impl<F: Folder + Drop> LogReader<F> {
 
     /// The checkpoint's text, without its signatures, once the log's last tiles lead to its root. `Damaged` where one of them is
     /// missing or corrupt.
-    pub fn checkpoint_text(&mut self) -> Result<Vec<u8>, LogError> {
+    pub fn checkpoint_text(&mut self) -> Result<Vec<u8>, LogError>
+        ensures text { IfOk result (λ text. text.items ≡ text_of self.old.text) }
+        ensures reads { F.IsFaithful → (log : LogOf) → Reads F.seen log self.old → Reads F.seen log self.new }
+    {
         let checkpoint = self.text.checkpoint();
         let edge = read_edge(self.alloc, &mut self.folder, checkpoint.length())?;
         open_edge(self.alloc, &checkpoint, edge.as_slice())?;
@@ -79,19 +107,34 @@ impl<F: Folder + Drop> LogReader<F> {
     }
 
     /// As [`LogFolder::entry`], of the checkpoint.
-    pub fn entry(&mut self, index: usize) -> Result<Vec<u8>, LogError> {
+    pub fn entry(&mut self, index: usize) -> Result<Vec<u8>, LogError>
+        ensures shown { IfOk result (λ entry. IsShown (checkpoint_said self.old.text) index entry.items) }
+        ensures own { F.IsFaithful → IfOk result (λ entry. (log : LogOf) → Reads F.seen log self.old
+            → slice_get log.entries index ≡ Some entry.items) }
+        ensures reads { F.IsFaithful → (log : LogOf) → Reads F.seen log self.old → Reads F.seen log self.new }
+    {
         let checkpoint = self.text.checkpoint();
         entry(self.alloc, &mut self.folder, index, &checkpoint)
     }
 
     /// As [`LogFolder::inclusion_path`], of the checkpoint.
-    pub fn inclusion_path(&mut self, index: usize, length: usize) -> Result<Path, LogError> {
+    pub fn inclusion_path(&mut self, index: usize, length: usize) -> Result<Path, LogError>
+        ensures leads { IfOk result (λ path. IncludesBy (checkpoint_said self.old.text) index length path.items) }
+        ensures own { F.IsFaithful → IfOk result (λ path. (log : LogOf) → Reads F.seen log self.old
+            → inclusion_in log index length ≡ Some path.items) }
+        ensures reads { F.IsFaithful → (log : LogOf) → Reads F.seen log self.old → Reads F.seen log self.new }
+    {
         let checkpoint = self.text.checkpoint();
         inclusion(self.alloc, &mut self.folder, index, length, &checkpoint)
     }
 
     /// As [`LogFolder::consistency_path`], of the checkpoint.
-    pub fn consistency_path(&mut self, old: usize, new: usize) -> Result<Path, LogError> {
+    pub fn consistency_path(&mut self, old: usize, new: usize) -> Result<Path, LogError>
+        ensures leads { IfOk result (λ path. GrowsBy (checkpoint_said self.old.text) old new path.items) }
+        ensures own { F.IsFaithful → IfOk result (λ path. (log : LogOf) → Reads F.seen log self.old
+            → consistency_in log old new ≡ Some path.items) }
+        ensures reads { F.IsFaithful → (log : LogOf) → Reads F.seen log self.old → Reads F.seen log self.new }
+    {
         let checkpoint = self.text.checkpoint();
         growth(self.alloc, &mut self.folder, old, new, &checkpoint)
     }
@@ -108,28 +151,46 @@ impl<F: Folder + Drop> LogReader<F> {
 impl<F: Folder + Drop> LogFolder<F> {
     /// The bytes of the entry at `index`, from 0, once its inclusion path leads to the root of the log's state. `OutOfRange`
     /// where the log keeps no such entry; `Damaged` where a file that it needs is missing or corrupt.
-    pub fn entry(&mut self, index: usize) -> Result<Vec<u8>, LogError> {
+    pub fn entry(&mut self, index: usize) -> Result<Vec<u8>, LogError>
+        ensures shown { IfOk result (λ entry. IsShown (checkpoint_said self.old.text) index entry.items) }
+        ensures own { F.IsFaithful → IfOk result (λ entry. (served old next : LogOf)
+            → Has F.seen F.may_leave served old next self.old
+            → slice_get old.entries index ≡ Some entry.items) }
+        ensures has { F.IsFaithful → (served old next : LogOf) → Has F.seen F.may_leave served old next self.old
+            → Has F.seen F.may_leave served old next self.new }
+    {
         let checkpoint = self.checkpoint();
-        let (alloc, folder) = self.device();
-        entry(alloc, folder, index, &checkpoint)
+        entry(self.alloc, &mut self.folder, index, &checkpoint)
     }
 
     /// The inclusion path of the entry at `index`, from 0, in the log of the first `length` entries, once it leads to the root
     /// of the log's state (RFC 6962, section 2.1.1). `OutOfRange` where the log keeps no such entry or length; `Damaged` where
     /// a file that it needs is missing or corrupt.
-    pub fn inclusion_path(&mut self, index: usize, length: usize) -> Result<Path, LogError> {
+    pub fn inclusion_path(&mut self, index: usize, length: usize) -> Result<Path, LogError>
+        ensures leads { IfOk result (λ path. IncludesBy (checkpoint_said self.old.text) index length path.items) }
+        ensures own { F.IsFaithful → IfOk result (λ path. (served old next : LogOf)
+            → Has F.seen F.may_leave served old next self.old
+            → inclusion_in old index length ≡ Some path.items) }
+        ensures has { F.IsFaithful → (served old next : LogOf) → Has F.seen F.may_leave served old next self.old
+            → Has F.seen F.may_leave served old next self.new }
+    {
         let checkpoint = self.checkpoint();
-        let (alloc, folder) = self.device();
-        inclusion(alloc, folder, index, length, &checkpoint)
+        inclusion(self.alloc, &mut self.folder, index, length, &checkpoint)
     }
 
     /// The consistency path from the first `old` entries to the first `new`, once it leads to the root of the log's state (RFC
     /// 6962, section 2.1.2). `OutOfRange` where `old` is 0 or greater than `new`, or the log keeps fewer entries than `new`;
     /// `Damaged` where a file that it needs is missing or corrupt.
-    pub fn consistency_path(&mut self, old: usize, new: usize) -> Result<Path, LogError> {
+    pub fn consistency_path(&mut self, old: usize, new: usize) -> Result<Path, LogError>
+        ensures leads { IfOk result (λ path. GrowsBy (checkpoint_said self.old.text) old new path.items) }
+        ensures own { F.IsFaithful → IfOk result (λ path. (served kept next : LogOf)
+            → Has F.seen F.may_leave served kept next self.old
+            → consistency_in kept old new ≡ Some path.items) }
+        ensures has { F.IsFaithful → (served old next : LogOf) → Has F.seen F.may_leave served old next self.old
+            → Has F.seen F.may_leave served old next self.new }
+    {
         let checkpoint = self.checkpoint();
-        let (alloc, folder) = self.device();
-        growth(alloc, folder, old, new, &checkpoint)
+        growth(self.alloc, &mut self.folder, old, new, &checkpoint)
     }
 
     /// Reads every entry that the log keeps, makes each tile again, and compares. `Damaged` names the first file that differs. A
@@ -138,8 +199,7 @@ impl<F: Folder + Drop> LogFolder<F> {
         ensures { IfOk result IsOfEntries }
     {
         let checkpoint = self.checkpoint();
-        let (alloc, folder) = self.device();
-        audited(alloc, folder, &checkpoint, progress)
+        audited(self.alloc, &mut self.folder, &checkpoint, progress)
     }
 }
 
@@ -149,7 +209,14 @@ fn entry<F: Folder>(
     folder: &mut F,
     index: usize,
     checkpoint: &Checkpoint<Sha256>,
-) -> Result<Vec<u8>, LogError> {
+) -> Result<Vec<u8>, LogError>
+    ensures shown { IfOk result (λ entry. IsShown checkpoint.now index entry.items) }
+    ensures own { F.IsFaithful → IfOk result (λ entry. (log : LogOf) → HasFiles log (F.seen folder.old)
+        → AreShort log.entries → length log.entries ≡ checkpoint.now.length
+        → slice_get log.entries index ≡ Some entry.items) }
+    ensures seen { F.IsFaithful → F.seen folder.new ≡ F.seen folder.old }
+    ensures crash { F.IsFaithful → Within (F.may_leave folder.old) (F.may_leave folder.new) }
+{
     let length = checkpoint.length();
     let path = inclusion(alloc, folder, index, length, checkpoint)?;
     if index >= length {
@@ -168,12 +235,17 @@ fn read_entry<F: Folder>(
     alloc: Global,
     folder: &mut F,
     index: usize,
-    length: usize,
+    log_length: usize,
 ) -> Result<Vec<u8>, LogError>
-    requires { index < length }
+    requires { index < log_length }
+    ensures own { F.IsFaithful → IfOk result (λ entry. (log : LogOf) → HasFiles log (F.seen folder.old)
+        → AreShort log.entries → length log.entries ≡ log_length
+        → slice_get log.entries index ≡ Some entry.items) }
+    ensures seen { F.IsFaithful → F.seen folder.new ≡ F.seen folder.old }
+    ensures crash { F.IsFaithful → Within (F.may_leave folder.old) (F.may_leave folder.new) }
 {
     let number = index / 256;
-    let tile = Tile::new(0, number, (length - 256 * number).min(256));
+    let tile = Tile::new(0, number, (log_length - 256 * number).min(256));
     let bytes = read_bundle(alloc, folder, &tile)?;
     let entries = entries_of(alloc, &tile, bytes.as_slice())?;
     match entries.as_slice().get(index % 256) {
@@ -195,24 +267,31 @@ fn inclusion<F: Folder>(
     alloc: Global,
     folder: &mut F,
     index: usize,
-    length: usize,
+    log_length: usize,
     checkpoint: &Checkpoint<Sha256>,
-) -> Result<Path, LogError> {
-    if length > checkpoint.length() || length > GREATEST_LENGTH {
+) -> Result<Path, LogError>
+    ensures leads { IfOk result (λ path. IncludesBy checkpoint.now index log_length path.items) }
+    ensures own { F.IsFaithful → IfOk result (λ path. (log : LogOf) → HasFiles log (F.seen folder.old)
+        → length log.entries ≡ checkpoint.now.length
+        → inclusion_in log index log_length ≡ Some path.items) }
+    ensures seen { F.IsFaithful → F.seen folder.new ≡ F.seen folder.old }
+    ensures crash { F.IsFaithful → Within (F.may_leave folder.old) (F.may_leave folder.new) }
+{
+    if log_length > checkpoint.length() || log_length > GREATEST_LENGTH {
         return Err(LogError::OutOfRange {
             bound: checkpoint.length(),
         });
     }
-    if index >= length {
-        return Err(LogError::OutOfRange { bound: length });
+    if index >= log_length {
+        return Err(LogError::OutOfRange { bound: log_length });
     }
     let mut tiles = Fetched::new(alloc);
-    let named = tiles_for_inclusion(alloc, index, length)?;
+    let named = tiles_for_inclusion(alloc, index, log_length)?;
     tiles.fetch(alloc, folder, named.as_slice(), checkpoint.length())?;
     let leaf = tiles.leaf(alloc, folder, index, checkpoint.length())?;
-    let path = made(alloc, inclusion_path(alloc, &tiles.data, index, length))?;
-    let root = root_of_inclusion(index, length, &leaf, path.as_slice());
-    check_root(alloc, folder, &mut tiles, length, root, checkpoint)?;
+    let path = made(alloc, inclusion_path(alloc, &tiles.data, index, log_length))?;
+    let root = root_of_inclusion(index, log_length, &leaf, path.as_slice());
+    check_root(alloc, folder, &mut tiles, log_length, root, checkpoint)?;
     Ok(path)
 }
 
@@ -223,7 +302,14 @@ fn growth<F: Folder>(
     old: usize,
     new: usize,
     checkpoint: &Checkpoint<Sha256>,
-) -> Result<Path, LogError> {
+) -> Result<Path, LogError>
+    ensures leads { IfOk result (λ path. GrowsBy checkpoint.now old new path.items) }
+    ensures own { F.IsFaithful → IfOk result (λ path. (log : LogOf) → HasFiles log (F.seen folder.old)
+        → length log.entries ≡ checkpoint.now.length
+        → consistency_in log old new ≡ Some path.items) }
+    ensures seen { F.IsFaithful → F.seen folder.new ≡ F.seen folder.old }
+    ensures crash { F.IsFaithful → Within (F.may_leave folder.old) (F.may_leave folder.new) }
+{
     if new > checkpoint.length() || new > GREATEST_LENGTH {
         return Err(LogError::OutOfRange {
             bound: checkpoint.length(),
@@ -249,18 +335,25 @@ fn fetched_growth<F: Folder>(
     tiles: &mut Fetched,
     old: usize,
     new: usize,
-    length: usize,
+    log_length: usize,
 ) -> Result<Path, LogError>
     requires order { old ≤ new }
     requires fits { new ≤ GREATEST_LENGTH }
+    ensures own { F.IsFaithful → IfOk result (λ path. (log : LogOf) → HasFiles log (F.seen folder.old)
+        → length log.entries ≡ log_length → new ≤ log_length → AreOwn log tiles.old.data
+        → consistency_in log old new ≡ Some path.items) }
+    ensures seen { F.IsFaithful → F.seen folder.new ≡ F.seen folder.old }
+    ensures crash { F.IsFaithful → Within (F.may_leave folder.old) (F.may_leave folder.new) }
 {
     let named = tiles_for_consistency(alloc, old, new)?;
-    tiles.fetch(alloc, folder, named.as_slice(), length)?;
+    tiles.fetch(alloc, folder, named.as_slice(), log_length)?;
     made(alloc, consistency_path(alloc, &tiles.data, old, new))
 }
 
 // The path that was made, or the refusal for tiles that give none.
-fn made(alloc: Global, path: Result<Path, PathError>) -> Result<Path, LogError> {
+fn made(alloc: Global, path: Result<Path, PathError>) -> Result<Path, LogError>
+    ensures { IfOk result (λ made. path ≡ Ok made) }
+{
     match path {
         Ok(path) => Ok(path),
         Err(PathError::Memory) => Err(LogError::Folder(FolderError::Memory)),
@@ -289,14 +382,18 @@ fn check_root<F: Folder>(
     alloc: Global,
     folder: &mut F,
     tiles: &mut Fetched,
-    length: usize,
+    log_length: usize,
     root: Option<Hash<Sha256>>,
     checkpoint: &Checkpoint<Sha256>,
-) -> Result<(), LogError> {
+) -> Result<(), LogError>
+    ensures leads { OnOk result (IsSomeAnd root (LeadsTo checkpoint.now log_length)) }
+    ensures seen { F.IsFaithful → F.seen folder.new ≡ F.seen folder.old }
+    ensures crash { F.IsFaithful → Within (F.may_leave folder.old) (F.may_leave folder.new) }
+{
     let Some(root) = root else {
         return Err(no_root(alloc));
     };
-    let old = Checkpoint::new(root, length);
+    let old = Checkpoint::new(root, log_length);
     if old == *checkpoint || is_beginning(alloc, folder, tiles, &old, checkpoint)? {
         Ok(())
     } else {
@@ -311,7 +408,11 @@ fn is_beginning<F: Folder>(
     tiles: &mut Fetched,
     old: &Checkpoint<Sha256>,
     checkpoint: &Checkpoint<Sha256>,
-) -> Result<bool, LogError> {
+) -> Result<bool, LogError>
+    ensures leads { IfOk result (λ is. IsTrue is → LeadsTo checkpoint.now old.now.length old.now.root) }
+    ensures seen { F.IsFaithful → F.seen folder.new ≡ F.seen folder.old }
+    ensures crash { F.IsFaithful → Within (F.may_leave folder.old) (F.may_leave folder.new) }
+{
     let (old_length, length) = (old.length(), checkpoint.length());
     if old_length >= length || length > GREATEST_LENGTH {
         return Ok(false);
@@ -326,7 +427,9 @@ fn no_root(alloc: Global) -> LogError {
 
 impl Fetched {
     // No tile.
-    fn new(alloc: Global) -> Fetched {
+    fn new(alloc: Global) -> Fetched
+        ensures { (log : LogOf) → AreOwn log result.data }
+    {
         Fetched {
             tiles: Vec::new(alloc),
             data: TileData::new(alloc),
@@ -339,10 +442,17 @@ impl Fetched {
         alloc: Global,
         folder: &mut F,
         tiles: &[Tile],
-        length: usize,
-    ) -> Result<(), LogError> {
+        log_length: usize,
+    ) -> Result<(), LogError>
+        ensures own { F.IsFaithful → OnOk result ((log : LogOf) (n : ℕ) → HasFiles log (F.seen folder.old)
+            → length log.entries ≡ log_length → n ≤ log_length → n ≤ GREATEST_LENGTH
+            → AllByRecursion (IsTileOf n) tiles.now → AreOwn log self.old.data
+            → AreOwn log self.new.data) }
+        ensures seen { F.IsFaithful → F.seen folder.new ≡ F.seen folder.old }
+        ensures crash { F.IsFaithful → Within (F.may_leave folder.old) (F.may_leave folder.new) }
+    {
         'tiles: for tile in tiles {
-            self.fetch_one(alloc, folder, tile_at(tile, length))?;
+            self.fetch_one(alloc, folder, tile_at(tile, log_length))?;
         }
         Ok(())
     }
@@ -353,12 +463,18 @@ impl Fetched {
         alloc: Global,
         folder: &mut F,
         tile: Tile,
-    ) -> Result<(), LogError> {
-        if !self.tiles.contains(&tile) {
-            let stored = read_tile(alloc, folder, tile)?;
-            self.tiles.push(tile)?;
-            self.data.insert(stored.tile, stored.digests)?;
+    ) -> Result<(), LogError>
+        ensures own { F.IsFaithful → OnOk result ((log : LogOf) → HasFiles log (F.seen folder.old)
+            → IsTileIn log tile → AreOwn log self.old.data → AreOwn log self.new.data) }
+        ensures seen { F.IsFaithful → F.seen folder.new ≡ F.seen folder.old }
+        ensures crash { F.IsFaithful → Within (F.may_leave folder.old) (F.may_leave folder.new) }
+    {
+        if self.tiles.contains(&tile) {
+            return Ok(());
         }
+        let stored = read_tile(alloc, folder, tile)?;
+        self.tiles.push(tile)?;
+        self.data.insert(stored.tile, stored.digests)?;
         Ok(())
     }
 
@@ -368,15 +484,21 @@ impl Fetched {
         alloc: Global,
         folder: &mut F,
         index: usize,
-        length: usize,
+        log_length: usize,
     ) -> Result<Hash<Sha256>, LogError>
         requires { index < GREATEST_LENGTH }
+        ensures own { F.IsFaithful → OnOk result ((log : LogOf) → HasFiles log (F.seen folder.old)
+            → length log.entries ≡ log_length → index < log_length → AreOwn log self.old.data
+            → AreOwn log self.new.data) }
+        ensures seen { F.IsFaithful → F.seen folder.new ≡ F.seen folder.old }
+        ensures crash { F.IsFaithful → Within (F.may_leave folder.old) (F.may_leave folder.new) }
     {
         let leaf = Node::leaf(index);
-        if !self.data.has_hash(leaf) {
-            let tile = Tile::new(0, index / 256, index % 256 + 1);
-            self.fetch_one(alloc, folder, tile_at(&tile, length))?;
+        if let Some(digest) = self.data.hash_for(leaf) {
+            return Ok(digest);
         }
+        let tile = Tile::new(0, index / 256, index % 256 + 1);
+        self.fetch_one(alloc, folder, tile_at(&tile, log_length))?;
         match self.data.hash_for(leaf) {
             Some(digest) => Ok(digest),
             None => Err(no_root(alloc)),
@@ -385,15 +507,17 @@ impl Fetched {
 }
 
 /// The tile as wide as it is in a log of this length.
-pub(crate) fn tile_at(tile: &Tile, length: usize) -> Tile
+pub(crate) fn tile_at(tile: &Tile, log_length: usize) -> Tile
     ensures level { result.level ≡ tile.now.level }
     ensures number { result.number ≡ tile.now.number }
     ensures width { tile.now.width ≤ result.width }
+    ensures of { (n : ℕ) → n ≤ log_length → n ≤ GREATEST_LENGTH → IsTileOf n tile.now
+        → IsTileOf log_length result }
 {
     if tile.level() >= 8 {
         return *tile;
     }
-    let count = length >> (8 * tile.level());
+    let count = log_length >> (8 * tile.level());
     let before = tile.number().saturating_mul(256);
     let width = count.saturating_sub(before).min(256);
     Tile::new(tile.level(), tile.number(), width.max(tile.width()))

@@ -1,5 +1,13 @@
 //! A signed checkpoint.
 
+ghost use Rattle.std.specs.Prelude.{◌≡◌, ◌⊎◌, ◌↔◌, ◌<◌, length, Err, IsTrue, OnOk};
+ghost use Rattle.warg_tiles.specs.CheckpointText.{text_of};
+ghost use Rattle.warg_store.specs.Files.{put};
+ghost use Rattle.warg_store.specs.Moments.{LeavesOnly};
+ghost use Rattle.warg_store.specs.Names.{checkpoint};
+ghost use Rattle.warg_store.specs.Log.{LogOf, IsOneOf, IsNoteOf};
+ghost use Rattle.warg_store.specs.Growing.{IsReady, Has};
+
 use crate::committing::MOST_TEXT;
 use crate::device::{Folder, FolderError};
 use crate::log_folder::LogFolder;
@@ -22,12 +30,21 @@ pub enum SignError {
 }
 
 impl From<FolderError> for SignError {
+    ghost use Rattle.warg_store.specs.declared.signing.SignError.TheVariants.{Folder};
+
+    ghost from_gives = { λ cause error. error ≡ Folder cause };
+
     fn from(cause: FolderError) -> Self {
         SignError::Folder(cause)
     }
 }
 
 impl From<AllocError> for SignError {
+    ghost use Rattle.warg_store.specs.declared.device.FolderError.TheVariants.{Memory};
+    ghost use Rattle.warg_store.specs.declared.signing.SignError.TheVariants.{Folder};
+
+    ghost from_gives = { λ _ error. error ≡ Folder Memory };
+
     fn from(_error: AllocError) -> Self {
         SignError::Folder(FolderError::Memory)
     }
@@ -36,8 +53,24 @@ impl From<AllocError> for SignError {
 impl<F: Folder + Drop> LogFolder<F> {
     /// Serves a signed note as the log's checkpoint. From then on the folder serves this one until another is signed, while
     /// commits go on. `Text` where the note isn't the text of the log's state, an empty line and something behind it;
-    /// `TooLong` above 2^20 bytes.
-    pub fn sign(&mut self, note: &[u8]) -> Result<(), SignError> {
+    /// `TooLong` above 2^20 bytes; both before anything is written.
+    pub fn sign(&mut self, note: &[u8]) -> Result<(), SignError>
+        ensures signed { F.IsFaithful → OnOk result ((served old next : LogOf)
+            → Has F.seen F.may_leave served old next self.old
+            → Has F.seen F.may_leave old old next self.new) }
+        ensures ready { F.IsFaithful → IsReady F.seen F.may_leave self.old
+            → OnOk result (IsReady F.seen F.may_leave self.new) }
+        ensures put { F.IsFaithful → OnOk result (F.seen self.new.folder
+            ≡ put (checkpoint, note.now) (F.seen self.old.folder)) }
+        ensures note { OnOk result (IsNoteOf (text_of self.old.text) note.now) }
+        ensures text { result ≡ Err SignError.Text → IsNoteOf (text_of self.old.text) note.now → ⊥ }
+        ensures too_long { (result ≡ Err SignError.TooLong) ↔ (MOST_TEXT < length note.now) }
+        ensures refused { (result ≡ Err SignError.Text) ⊎ (result ≡ Err SignError.TooLong)
+            → self.new ≡ self.old }
+        ensures any_moment { F.IsFaithful → (served old next : LogOf)
+            → Has F.seen F.may_leave served old next self.old
+            → LeavesOnly F.moment F.left_since self.old.folder self.new.folder (IsOneOf served old old) }
+    {
         if note.len() > MOST_TEXT {
             return Err(SignError::TooLong);
         }
@@ -45,16 +78,16 @@ impl<F: Folder + Drop> LogFolder<F> {
         if !is_signed_note(note, text.as_slice()) {
             return Err(SignError::Text);
         }
-        let (_, folder) = self.device();
-        folder.replace(CHECKPOINT, note)?;
-        Ok(())
+        Ok(self.folder.replace(CHECKPOINT, note)?)
     }
 }
 
 // Whether a note is this text, an empty line and something behind it.
-fn is_signed_note(note: &[u8], text: &[u8]) -> bool {
-    match note.strip_prefix(text) {
-        Some([b'\n', _, ..]) => true,
-        _ => false,
-    }
+fn is_signed_note(note: &[u8], text: &[u8]) -> bool
+    ensures { IsTrue result ↔ IsNoteOf text.now note.now }
+{
+    let Some(rest) = note.strip_prefix(text) else {
+        return false;
+    };
+    rest.len() > 1 && rest[0] == b'\n'
 }

@@ -5,7 +5,8 @@ use warg_bundle::inclusion_bytes;
 use warg_crypto::weak::Flat;
 use warg_log::{LogBuilder, LogData, Node, VecLog};
 use warg_map::Map;
-use warg_uses::{claims, crypto, map, witness};
+use warg_store::{LogError, LogFolder, MemoryFolder};
+use warg_uses::{claims, crypto, map, store, witness};
 
 #[test]
 fn a_release_s_digest(rt: HostRuntime) -> Result<(), Fail> {
@@ -70,5 +71,20 @@ fn a_lie_of_a_log(rt: HostRuntime) -> Result<(), Fail> {
     )?;
     let pair = found.ok_or("no collision")?;
     assert!(rt; pair.first() == b"\0lie".as_slice() && pair.second() == b"\0one".as_slice());
+    Ok(())
+}
+
+#[test]
+fn a_release_out_of_a_folder(rt: HostRuntime) -> Result<(), Fail> {
+    let alloc = rt.alloc();
+    let log = LogFolder::create(alloc, MemoryFolder::new(alloc), b"example.com/log")?;
+    let log = store::released(alloc, log.into_folder(), b"one")?;
+    let log = store::released(alloc, log.into_folder(), b"two")?;
+    let checkpoint = log.checkpoint();
+    assert_eq!(rt; checkpoint.length(), 2);
+    let release = store::served_release(alloc, log.into_folder(), 1)?;
+    assert_eq!(rt; release.as_slice(), b"two".as_slice());
+    let none = store::served_release(alloc, MemoryFolder::new(alloc), 0);
+    assert!(rt; none == Err(LogError::NoLog));
     Ok(())
 }

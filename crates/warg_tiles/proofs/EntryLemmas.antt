@@ -42,3 +42,22 @@ written_more f xs i x inside is = rw (map_more f xs i x inside, is) (sym (bundle
 -- something is left
 pub some_left : (rest : List ℕ) → (length rest == 0) ≡ false → 0 < length rest
 some_left rest is = let other : length rest ≢ 0 = eqb-false (length rest) 0 is in omega arith
+
+-- as many entries at the head of a bundle's bytes are the bundle's first
+same_more : (x y xs ys : List ℕ) → two_bytes (length x) ++ (x ++ xs) ≡ two_bytes (length y) ++ (y ++ ys) → (x ≡ y) × (xs ≡ ys)
+same_more x y xs ys is =
+    let high : length x / 256 ≡ length y / 256 = cc in
+    let low : length x % 256 ≡ length y % 256 = cc in
+    let count : length x ≡ length y = omega arith in
+    let texts : x ++ xs ≡ y ++ ys = cc in
+    (sym (take_at x xs (length x) refl) ∙ ap (take (length x)) texts ∙ take_at y ys (length x) (sym count), sym (drop_at x xs (length x) refl) ∙ ap (drop (length x)) texts ∙ drop_at y ys (length x) (sym count))
+
+pub bundle_once : (xs ys : List (List ℕ)) (rest : List ℕ) → length xs ≡ length ys → bundle_of xs ++ rest ≡ bundle_of ys → xs ≡ ys
+unfolding bundle_of
+bundle_once [] [] rest count is = refl
+bundle_once [] (y ∷ ys) rest count is = absurd (omega (arith, count))
+bundle_once (x ∷ xs) [] rest count is = absurd (omega (arith, count))
+bundle_once (x ∷ xs) (y ∷ ys) rest count is =
+    let more = same_more x y (bundle_of xs ++ rest) (bundle_of ys) (ap (λ l. two_bytes (length x) ++ l) (sym (append_assoc x (bundle_of xs) rest)) ∙ is) in
+    let behind = bundle_once xs ys rest (omega (arith, count)) more.1 in
+    ap (λ e. e ∷ xs) more.0 ∙ ap (λ l. y ∷ l) behind

@@ -1,13 +1,18 @@
 -- Lemmas for the proofs of the crates above, over public definitions alone.
-use Rattle.std.proofs.Common.{◌≡◌, ℕ, ◌^◌, ◌≤◌, List, [], ◌∷◌, ◌++◌, length}
+use Rattle.std.proofs.Common.{◌≡◌, ℕ, ◌^◌, ◌≤◌, List, [], ◌∷◌, ◌++◌, length, Option, Some}
+use Rattle.std.specs.List.{AllByRecursion}
 use Rattle.warg_log.specs.Tree.{own_digest}
-use Rattle.warg_tiles.specs.Tiles.{TileAt}
-use Rattle.warg_tiles.specs.TileData.{IsTileBy}
+use Rattle.warg_tiles.specs.Tiles.{TileAt, tile_end}
+use Rattle.warg_tiles.specs.TileData.{Tiles, IsTileBy, digest_by}
 use Rattle.warg_tiles.specs.TileLog.{tile_digests, partial_tiles, full_between, AreFullBetween, ArePartialOf}
 use Rattle.warg_tiles.specs.EntryBundles.{two_bytes, bundle_of}
+use Rattle.warg_tiles.specs.CheckpointText.{Said, CanBeSaid, text_before}
+use Rattle.warg_tiles.proofs.EdgeLemmas as edges
 use Rattle.warg_tiles.proofs.EntryLemmas as entries
 use Rattle.warg_tiles.proofs.FullLemmas as full
 use Rattle.warg_tiles.proofs.OpenLemmas as opening
+use Rattle.warg_tiles.proofs.TextLemmas as texts
+use Rattle.warg_tiles.proofs.OwnLemmas as own
 
 -- the full tiles that a length has and an older one hasn't
 pub full_tiles : (old new : ℕ) → new ≤ 2 ^ 63 → AreFullBetween old new (full_between old new)
@@ -24,3 +29,19 @@ own_tile = opening.tile_same
 -- a bundle with one entry more
 pub bundle_more : (es : List (List ℕ)) (entry : List ℕ) → bundle_of (es ++ entry ∷ []) ≡ bundle_of es ++ (two_bytes (length entry) ++ entry)
 bundle_more = entries.bundle_of-push
+
+-- a log has each digest of a tile that ends within it
+pub tile_own : (H : List ℕ → List ℕ) (ds : List (List ℕ)) (t : TileAt) → tile_end t ≤ length ds → IsTileBy (own_digest H ds) t (tile_digests H ds t)
+tile_own H ds t fits = (edges.own_tile H ds t fits).digests.0
+
+-- a checkpoint's text is read in one way
+pub text_once : (s t : Said) (a b : Option (List ℕ)) → CanBeSaid s → CanBeSaid t → text_before s a ≡ text_before t b → (s ≡ t) × (a ≡ b)
+text_once = texts.text_once
+
+-- as many entries at the head of a bundle's bytes are the bundle's
+pub bundle_once : (xs ys : List (List ℕ)) (rest : List ℕ) → length xs ≡ length ys → bundle_of xs ++ rest ≡ bundle_of ys → xs ≡ ys
+bundle_once = entries.bundle_once
+
+-- a digest that a log's own tiles give is the node's
+pub digest_by_own : (H : List ℕ → List ℕ) (ds : List (List ℕ)) (tiles : Tiles) (x : ℕ) (d : List ℕ) → AllByRecursion (λ t. IsTileBy (own_digest H ds) t.0 t.1) tiles → digest_by H tiles x ≡ Some d → own_digest H ds x ≡ Some d
+digest_by_own = own.digest_by_own

@@ -65,6 +65,7 @@ impl<D, A: Allocator + Copy> CheckpointText<D, A> {
               root = checkpoint.root;
               extensions = [];
             }) }
+        ensures line { OnOk result (IsLine origin.now) }
         ensures origin { (result ≡ Err CheckpointTextError.Origin) ↔ (IsLine origin.now → ⊥) }
         ensures length { (result ≡ Err CheckpointTextError.Length)
             ↔ (IsLine origin.now × (GREATEST_LENGTH < checkpoint.length)) }

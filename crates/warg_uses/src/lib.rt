@@ -9,5 +9,6 @@ pub mod crypto;
 pub mod log;
 pub mod map;
 pub mod paths;
+pub mod store;
 pub mod tiles;
 pub mod witness;

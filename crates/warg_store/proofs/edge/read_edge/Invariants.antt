@@ -1,5 +1,16 @@
+use Rattle.std.proofs.Common.{◌≡◌, List, ℕ, length, map}
+use Rattle.std.specs.declared.alloc.Global.{Global}
+use Rattle.warg_crypto.specs.declared.hash.Sha256.{Sha256}
+use Rattle.warg_tiles.specs.declared.stored.StoredTile.{StoredTile}
+use Rattle.warg_store.specs.Log.{LogOf, HasFiles}
 use Rattle.warg_store.specs.Opening.{IsStaging}
+use Rattle.warg_store.proofs.OpenLemmas.{ArePartsTo}
 use Rattle.warg_store.proofs.edge.read_edge.Given as goal
 
 abbrev pub invariant-levels : goal.invariant-levels
-invariant-levels g l = g.F.Folder.IsFaithful → IsStaging (g.F.Folder.seen l.fn.folder) (g.F.Folder.may_leave l.fn.folder) → IsStaging (g.F.Folder.seen l.folder) (g.F.Folder.may_leave l.folder)
+invariant-levels g l = record {
+  ready : g.F.Folder.IsFaithful → IsStaging (g.F.Folder.seen l.fn.folder) (g.F.Folder.may_leave l.fn.folder) → IsStaging (g.F.Folder.seen l.folder) (g.F.Folder.may_leave l.folder);
+  seen : g.F.Folder.IsFaithful → g.F.Folder.seen l.folder ≡ g.F.Folder.seen l.fn.folder;
+  edge : g.F.Folder.IsFaithful → (log : LogOf) → l.log_length ≡ length log.entries → HasFiles log (g.F.Folder.seen l.fn.folder)
+      → ArePartsTo log l.level (map (λ (t : StoredTile Sha256 Global). (t.tile, t.digests.items)) l.edge.items);
+}

@@ -8,37 +8,37 @@ use Rattle.warg_store.proofs.GrowingLemmas.{beside_one_of, all_kept}
 use Rattle.warg_store.proofs.log_folder.LogFolder.put.Goals as goal
 
 pub returns-in_err-stage_edge-clause-any_moment : goal.returns-in_err-stage_edge-clause-any_moment
-returns-in_err-stage_edge-clause-any_moment g c = λ faithful served old next has new own text.
+returns-in_err-stage_edge-clause-any_moment g c = λ faithful served old next has new own text named.
     weaker g.F.Folder.moment g.F.Folder.left_since c.args.self.now.folder c.stage_edge.new.self.folder
     (IsBeside (g.F.Folder.seen c.args.self.now.folder)) (IsOneOf served old next) (c.stage_edge.ensures.any_moment faithful)
     (λ f beside. beside_one_of served old next (g.F.Folder.seen c.args.self.now.folder) f has.keeps beside)
 
 pub returns-in_err-commit_log-clause-any_moment : goal.returns-in_err-commit_log-clause-any_moment
-returns-in_err-commit_log-clause-any_moment g c = λ faithful served old next has new own text.
+returns-in_err-commit_log-clause-any_moment g c = λ faithful served old next has new own text named.
     let all = subst (HasAll g.F.Folder.seen g.F.Folder.may_leave served old next) (sym c.self.view_is) (c.in_ok-stage_edge.ensures.staged faithful served old next has new own) in
     then g.F.Folder.moment g.F.Folder.left_since c.args.self.now.folder c.self.inside.folder c.commit_log.new.folder
     (IsBeside (g.F.Folder.seen c.args.self.now.folder)) (IsOneOf served old next) (IsOneOf served old next)
     (subst (λ (l : LogIn g.row.F.Denot). LeavesOnly g.F.Folder.moment g.F.Folder.left_since c.args.self.now.folder l.folder (IsBeside (g.F.Folder.seen c.args.self.now.folder)))
     (sym c.self.view_is) (c.stage_edge.ensures.any_moment faithful))
-    (c.commit_log.ensures.any_moment faithful served old next all.keeps all.extends all.staged text)
+    (c.commit_log.ensures.any_moment faithful served old next all.keeps all.extends all.staged text named)
     (λ f beside. beside_one_of served old next (g.F.Folder.seen c.args.self.now.folder) f has.keeps beside) (λ f one. one)
 
 pub returns-clause-any_moment : goal.returns-clause-any_moment
-returns-clause-any_moment g c = λ faithful served old next has new own text.
+returns-clause-any_moment g c = λ faithful served old next has new own text named.
     let all = subst (HasAll g.F.Folder.seen g.F.Folder.may_leave served old next) (sym c.self.view_is) (c.in_ok-stage_edge.ensures.staged faithful served old next has new own) in
     then g.F.Folder.moment g.F.Folder.left_since c.args.self.now.folder c.self.inside.folder c.commit_log.new.folder
     (IsBeside (g.F.Folder.seen c.args.self.now.folder)) (IsOneOf served old next) (IsOneOf served old next)
     (subst (λ (l : LogIn g.row.F.Denot). LeavesOnly g.F.Folder.moment g.F.Folder.left_since c.args.self.now.folder l.folder (IsBeside (g.F.Folder.seen c.args.self.now.folder)))
     (sym c.self.view_is) (c.stage_edge.ensures.any_moment faithful))
-    (c.commit_log.ensures.any_moment faithful served old next all.keeps all.extends all.staged text)
+    (c.commit_log.ensures.any_moment faithful served old next all.keeps all.extends all.staged text named)
     (λ f beside. beside_one_of served old next (g.F.Folder.seen c.args.self.now.folder) f has.keeps beside) (λ f one. one)
 
 pub returns-clause-put : goal.returns-clause-put
-returns-clause-put g c = λ faithful served old next has new own text.
+returns-clause-put g c = λ faithful served old next has new own text named.
     let all = subst (HasAll g.F.Folder.seen g.F.Folder.may_leave served old next) (sym c.self.view_is) (c.in_ok-stage_edge.ensures.staged faithful served old next has new own) in
-    let kept = c.in_ok-commit_log.ensures.next faithful served old next all.keeps all.extends all.staged text in (
+    let kept = c.in_ok-commit_log.ensures.next faithful served old next all.keeps all.extends all.staged text named in (
       kept.0,
       all_kept g.F.Folder.seen g.F.Folder.may_leave served old next kept.0 _ _ all kept.1
-          (c.in_ok-commit_log.ensures.empty faithful) (c.in_ok-commit_log.ensures.ready faithful) refl refl refl
+          (c.in_ok-commit_log.ensures.empty faithful) (c.in_ok-commit_log.ensures.ready faithful) refl refl
           c.take_full.ensures.rest refl refl c.take_full.ensures.stands (omega (arith, all.held)),
     )

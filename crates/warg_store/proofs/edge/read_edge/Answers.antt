@@ -1,0 +1,50 @@
+use Rattle.std.proofs.Common.{◌≡◌, ℕ, ◌*◌, ◌/◌, ◌%◌, ◌^◌, ◌+◌, ◌<◌, List, [], ◌∷◌, ◌++◌, length, map, Some, Vec, sym, ap, subst, ◌∙◌, arith}
+use Rattle.std.proofs.lemmas.List.{map-append}
+use Rattle.std.specs.declared.alloc.Global.{Global}
+use Rattle.warg_crypto.specs.Digests.{sha256}
+use Rattle.warg_crypto.specs.declared.hash.Sha256.{Sha256}
+use Rattle.warg_log.specs.Tree.{leaves_of}
+use Rattle.warg_tiles.specs.Tiles.{TileAt}
+use Rattle.warg_tiles.specs.TilePaths.{tile_path}
+use Rattle.warg_tiles.specs.TileLog.{last_tile, tile_digests}
+use Rattle.warg_tiles.specs.declared.stored.StoredTile.{StoredTile}
+use Rattle.warg_store.specs.Log.{HasFiles, tile_bytes}
+use Rattle.warg_store.specs.Opening.{IsStaging}
+use Rattle.warg_store.proofs.GrowingLemmas.{same_tile}
+use Rattle.warg_store.proofs.OpenLemmas.{ArePartsTo, part_none, part_some, part_there}
+use Rattle.warg_store.proofs.edge.read_edge.Goals.{then-count-ne0+in_ok-read_tile+in_ok-push, else-count-ne0}
+use Rattle.warg_store.proofs.edge.read_edge.Goals as goal
+
+pub levels-preserved : goal.levels-preserved
+levels-preserved g c =
+    let level = c.levels.level in
+    let with_digests : StoredTile Sha256 Global → TileAt × List (List ℕ) = λ t. (t.tile, t.digests.items) in
+    let seen = g.F.Folder.seen in
+    elim c.if-count-ne0.branch [
+      | then-count-ne0+in_ok-read_tile+in_ok-push w ↦ record {
+        ready = λ faithful was. subst (λ (f : g.row.F.Denot). IsStaging (seen f) (g.F.Folder.may_leave f)) (sym w.folder-is) (w.in_ok-read_tile.ensures.ready faithful (c.levels.invariant.ready faithful was));
+        seen = λ faithful. ap seen w.folder-is ∙ w.read_tile.ensures.seen faithful ∙ c.levels.invariant.seen faithful;
+        edge = λ faithful log size has.
+            let read = w.in_ok-read_tile.field-0 in
+            let tile : w.new-tile.result ≡ last_tile (length log.entries) level =
+            same_tile w.new-tile.result (last_tile (length log.entries) level) w.new-tile.ensures.level (w.new-tile.ensures.number ∙ ap (λ n. n / 2 ^ (8 * level) / 256) size)
+            (w.new-tile.ensures.width ∙ ap (λ n. n / 2 ^ (8 * level) % 256) size) in
+            let some : 0 < length log.entries / 2 ^ (8 * level) % 256 = subst (λ n. 0 < n / 2 ^ (8 * level) % 256) size (omega (arith, w.if-count-ne0.true)) in
+            let there = part_there log (seen c.levels.folder) level c.levels-test.true some (subst (HasFiles log) (sym (c.levels.invariant.seen faithful)) has) in
+            let digests : read.digests.items ≡ tile_digests sha256 (leaves_of sha256 log.entries) (last_tile (length log.entries) level) =
+            w.in_ok-read_tile.ensures.read faithful log (subst (λ (t : TileAt). seen c.levels.folder (tile_path t) ≡ Some (tile_bytes log t)) (sym tile) there)
+            ∙ ap (tile_digests sha256 (leaves_of sha256 log.entries)) tile in
+            subst (λ l. ArePartsTo log (level + 1) l)
+            (sym (ap (λ (v : Vec (StoredTile Sha256 Global) Global). map with_digests v.items) w.edge-is ∙ ap (map with_digests) w.in_ok-push.ensures.items ∙ map-append with_digests c.levels.edge.items (read ∷ [])
+            ∙ ap (λ (t : TileAt). map with_digests c.levels.edge.items ++ (t, read.digests.items) ∷ []) (w.in_ok-read_tile.ensures.tile ∙ tile)))
+            (part_some log level (map with_digests c.levels.edge.items) read.digests.items some digests (c.levels.invariant.edge faithful log size has));
+      }
+      | else-count-ne0 w ↦ record {
+        ready = λ faithful was. subst (λ (f : g.row.F.Denot). IsStaging (seen f) (g.F.Folder.may_leave f)) (sym w.folder-is) (c.levels.invariant.ready faithful was);
+        seen = λ faithful. ap seen w.folder-is ∙ c.levels.invariant.seen faithful;
+        edge = λ faithful log size has.
+            let none : length log.entries / 2 ^ (8 * level) % 256 ≡ 0 = subst (λ n. n / 2 ^ (8 * level) % 256 ≡ 0) size (omega (arith, w.if-count-ne0.false)) in
+            subst (λ (v : Vec (StoredTile Sha256 Global) Global). ArePartsTo log (level + 1) (map with_digests v.items)) (sym w.edge-is)
+            (part_none log level (map with_digests c.levels.edge.items) none (c.levels.invariant.edge faithful log size has));
+      }
+    ]

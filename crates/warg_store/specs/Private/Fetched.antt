@@ -1,0 +1,10 @@
+-- Tiles that were read.
+use Rattle.std.specs.List.{AllByRecursion}
+use Rattle.warg_crypto.specs.Digests.{sha256}
+use Rattle.warg_log.specs.Tree.{leaves_of, own_digest}
+use Rattle.warg_tiles.specs.TileData.{Tiles, IsTileBy}
+use Rattle.warg_store.specs.Log.{LogOf}
+
+-- The tiles have the log's digests.
+abbrev pub AreOwn : LogOf → Tiles → Type 0
+AreOwn log tiles = AllByRecursion (λ t. IsTileBy (own_digest sha256 (leaves_of sha256 log.entries)) t.0 t.1) tiles

@@ -1,0 +1,35 @@
+//! A log that is kept in a folder, and read out of it.
+
+ghost use Rattle.std.specs.Prelude.{◌≡◌, Some, IfOk, slice_get};
+ghost use Rattle.warg_store.specs.Growing.{Has, with_entry};
+ghost use Rattle.warg_store.specs.Log.{LogOf, HasLog, Serves};
+ghost use Rattle.warg_store.specs.Opening.{opened};
+
+use anyhow::Result;
+use std::alloc::Global;
+use warg_store::{Folder, LogError, LogFolder, LogReader};
+
+/// Opens a folder's log, adds a release and commits: the log that the folder stood for, with one entry more.
+pub fn released<F: Folder + Drop>(alloc: Global, folder: F, release: &[u8]) -> Result<LogFolder<F>>
+    ensures { F.IsFaithful → IfOk result (λ log. (served kept : LogOf)
+        → HasLog served kept (opened (F.seen folder)) → let next = with_entry kept release.now in
+        (now : LogOf) × Has F.seen F.may_leave now next next log) }
+{
+    let mut log = LogFolder::open(alloc, folder)?;
+    log.push(release)?;
+    log.commit()?;
+    Ok(log)
+}
+
+/// The release at an index, out of a folder that serves a log, as a mirror or a client has it.
+pub fn served_release<F: Folder + Drop>(
+    alloc: Global,
+    folder: F,
+    index: usize,
+) -> Result<Vec<u8>, LogError>
+    ensures { F.IsFaithful → IfOk result (λ release. (log : LogOf) → Serves log (F.seen folder)
+        → slice_get log.entries index ≡ Some release.items) }
+{
+    let mut reader = LogReader::open(alloc, folder)?;
+    reader.entry(index)
+}
