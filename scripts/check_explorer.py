@@ -57,7 +57,7 @@ class Reader:
     def make(self, name, lines, origin="example.com/log"):
         ran("init", str(self.room / name), origin)
         ran("append", str(self.room / name), lines=lines)
-        shutil.copy(PAGE, self.room / name)
+        ran("page", str(self.room / name))
 
     def state(self):
         return self.page.value(f"{SCRIPT}.state()")

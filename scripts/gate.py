@@ -24,7 +24,7 @@ import time
 import kit
 
 ROOT = pathlib.Path(__file__).resolve().parent.parent
-BEFORE = (["kit_looks.py"], ["foreign_proofs.py"], ["definitions.py", "--check"], ["calls.py", "--check"], ["counts.py", "--check"], ["check_docs.py"], ["check_header.py"])
+BEFORE = (["kit_looks.py"], ["foreign_proofs.py"], ["definitions.py", "--check"], ["calls.py", "--check"], ["counts.py", "--check"], ["check_docs.py"], ["check_header.py"], ["page.py", "--check"])
 # What looks at the programs that have just been built, and runs them.
 PROGRAMS = ("warg_check_cli", "warg_verdict", "warg_tlog")
 BEHIND = (

@@ -11,6 +11,8 @@ from running import ran
 from tlog_logs import files
 from tried_folders import LINES, MORE, begun
 
+PAGE = pathlib.Path(__file__).resolve().parent.parent / "explorer/index.html"
+
 EMPTY = "47DEQpj8HBSa+/TImW+5JCeuQeRkm5NMpJWZG3hSuFU="
 SIGNATURE = "\n— example.com/log AAAAAAAA\n".encode()
 OPTIONS = (["--from"], ["--from", "2"], ["--from", "2:x"], ["--from", "x:" + EMPTY], ["--every"], ["--every", "x"], ["--binaryy"])
@@ -52,7 +54,9 @@ def of_commands(program, room):
     yield "no entry more", added(program, log, b"") == "first 2, length 2\n" and files(log) == before
     yield "the longest entry", added(program, log, b"00" * 65535 + b"\r\n\n") == "first 2, length 4\n"
     yield "audit", ran([program, "audit", log])[0] == 0
-    for words in ([], ["append"], ["prove"], ["sign"], ["prune"], ["rebuild"]):
+    before = files(log)
+    yield "page", ran([program, "page", log]) == (0, b"", b"") and files(log) == {**before, "index.html": PAGE.read_bytes()}
+    for words in ([], ["append"], ["prove"], ["sign"], ["prune"], ["rebuild"], ["page"]):
         status, out, err = ran([program, *words, "--help"])
         yield f"help of {words}", status == 0 and b"Usage" in out and not err
     yield "--version", ran([program, "--version"]) == (0, b"warg_tlog 0.9.2-rattle.1\n", b"")
@@ -89,7 +93,7 @@ def of_wrong_ones(program, room):
         yield f"a bad line: {lines[-9:]}", status_of(program, "append", log, input=lines) == 3
     for lines in (b"", b"inclusion 1 2\n", b"inclusion 1 2 00\n00\n", b"inclusion 0 1 " + b"00" * 32 + b"\n", b"tree 1 2\n"):
         yield f"a bad claim: {lines[:13]}", status_of(program, "verify", input=lines) == 3
-    for words in (["append"], ["audit"], ["checkpoint"], ["prove", "0"], ["consistency", "1"], ["sign"], ["prune"], ["rebuild"]):
+    for words in (["append"], ["audit"], ["checkpoint"], ["prove", "0"], ["consistency", "1"], ["sign"], ["prune"], ["rebuild"], ["page"]):
         status = status_of(program, words[0], room / "none", *words[1:], input=MORE)
         yield f"no log: {words}", status == 4 and not (room / "none").exists()
     yield "a log there", status_of(program, "init", log, "example.com/log") == 5

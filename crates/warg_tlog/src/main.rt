@@ -21,7 +21,7 @@ use std::io::ErrorKind;
 use std::process::ExitCode;
 use usage::{command, text};
 use verify::verify;
-use write::{Appending, append, init, prune, rebuild_tiles, sign};
+use write::{Appending, append, init, prune, put_page, rebuild_tiles, sign};
 
 fn main(rt: HostRuntime) -> ExitCode {
     match answer(&rt) {
@@ -87,6 +87,7 @@ fn run(session: &Session<'_>, name: &str, asked: &ArgMatches<'_>) -> Result<(), 
         "sign" => sign(session),
         "prune" => print_prune(session),
         "rebuild" => print_rebuild(session),
+        "page" => put_page(session),
         "checkpoint" => print_checkpoint(session),
         "prove" => print_inclusion(session, asked),
         "consistency" => print_consistency(session, asked),

@@ -52,7 +52,7 @@ enum Kind {
 
 const FOLDER: Word = (Kind::Text, "folder", "FOLDER", "The log's folder");
 
-const COMMANDS: [Usage; 10] = [
+const COMMANDS: [Usage; 11] = [
     Usage {
         name: "init",
         about: "Makes a log of no entries",
@@ -108,6 +108,12 @@ const COMMANDS: [Usage; 10] = [
     Usage {
         name: "rebuild",
         about: "Makes each tile again from the entry bundles, where these lead to the checkpoint's root",
+        after: None,
+        words: &[FOLDER],
+    },
+    Usage {
+        name: "page",
+        about: "Puts index.html into the folder, a page that shows the log in a browser and checks what it shows",
         after: None,
         words: &[FOLDER],
     },

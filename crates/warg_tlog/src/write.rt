@@ -6,8 +6,9 @@ use crate::session::Session;
 use crate::verify::root_in;
 use std::io::Read;
 use warg_crypto::Sha256;
+use warg_explorer::PAGE;
 use warg_log::Checkpoint;
-use warg_store::{LogFolder, Progress, SystemFolder, rebuild};
+use warg_store::{Folder, LogFolder, Progress, SystemFolder, rebuild};
 
 // A signed note has fewer bytes.
 const MOST_NOTE: u64 = 1 << 20;
@@ -164,5 +165,15 @@ pub fn rebuild_tiles(session: &Session<'_>) -> Result<Checkpoint<Sha256>, Refusa
     match rebuild(session.rt.alloc(), &mut folder, &mut session.counted()) {
         Ok(checkpoint) => Ok(checkpoint),
         Err(error) => Err(session.of_log(error)),
+    }
+}
+
+/// Puts the page that shows the log in a browser into the folder, as `index.html`.
+pub fn put_page(session: &Session<'_>) -> Result<(), Refusal> {
+    let _lock = session.lock()?;
+    let mut folder = session.folder()?;
+    match folder.replace("index.html", PAGE.as_bytes()) {
+        Ok(()) => Ok(()),
+        Err(error) => Err(session.of_folder(error)),
     }
 }

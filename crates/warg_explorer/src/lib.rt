@@ -1,0 +1,6 @@
+//! The page of `explorer/`, as text of a program.
+#![tactic(auto)]
+
+mod page;
+
+pub use page::PAGE;
