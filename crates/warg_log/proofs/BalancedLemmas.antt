@@ -70,13 +70,25 @@ pub roots : (P : ℕ → ℕ → List ℕ → Type 0) → Rule P → (n : ℕ) �
 roots P R n = let start : 0 * 2 ^ n ≡ 0 = omega arith in rw start at (roots_within P R n 0 n (below_pow n))
 
 -- the balanced roots follow one another, and their heights fall
-pub roots_follow : (n : ℕ) → Follow 0 n (balanced_roots n)
-roots_follow n = let all : 0 + n ≡ n = omega arith in rw all at (roots (λ a n ts. Follow a (a + n) ts) (record {
+follow_rule : Rule (λ a n ts. Follow a (a + n) ts)
+follow_rule = record {
   none = λ a. omega arith;
   first = λ h c m ts lt rest.
       let whole : c * 2 ^ h + (2 ^ h + m) ≡ c * 2 ^ h + 2 ^ h + m = omega arith in
       rw (whole, over_ends h c, (over_at h c).0, (over_at h c).1) (refl, rest);
-}) n)
+}
+
+pub roots_follow : (n : ℕ) → Follow 0 n (balanced_roots n)
+roots_follow n = let all : 0 + n ≡ n = omega arith in rw all at (roots (λ a n ts. Follow a (a + n) ts) follow_rule n)
+
+-- so do those of up to 2 ^ h leaves from a multiple of 2 ^ h on
+pub over_follow : (h c n : ℕ) → n ≤ 2 ^ h → Follow (c * 2 ^ h) (c * 2 ^ h + n) (balanced_over (c * 2 ^ h) n)
+over_follow h c n most = ⊎_elim
+    (λ (less : n < 2 ^ h). rw (balanced_at n h (c * 2 ^ h) n (below_pow n) less) (roots_within (λ a n ts. Follow a (a + n) ts) follow_rule h c n less))
+    (λ (whole : 2 ^ h ≤ n).
+    let all : n ≡ 2 ^ h = omega arith in
+    rw (all, balanced_full h (c * 2 ^ h), over_ends h c, (over_at h c).0, (over_at h c).1) (refl, refl))
+    (cases_lt n (2 ^ h))
 
 pub roots_fall : (n : ℕ) → Fall n (balanced_roots n)
 roots_fall n = roots (λ _ n ts. (k : ℕ) → n < 2 ^ k → Fall k ts) (record {

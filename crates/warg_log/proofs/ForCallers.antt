@@ -1,5 +1,5 @@
 -- Lemmas for the proofs of the crates above, over public definitions alone.
-use Rattle.std.proofs.Common.{◌≡◌, ℕ, suc, ◌+◌, ◌-◌, ◌*◌, ◌^◌, ◌<◌, ◌≤◌, List, [], ◌∷◌, ◌++◌, length, Option, Some, None, Ok, slice_index_or, refl, sym, arith, ◌⊎◌, ◌↔◌}
+use Rattle.std.proofs.Common.{◌≡◌, ℕ, suc, ◌+◌, ◌-◌, ◌*◌, ◌^◌, ◌<◌, ◌≤◌, List, [], ◌∷◌, ◌++◌, length, Option, Some, None, Ok, IsSome, slice_index_or, refl, sym, arith, ◌⊎◌, ◌↔◌}
 use Rattle.std.specs.List.{AllByRecursion}
 use Rattle.std.specs.Bool.{Decides}
 use Rattle.warg_log.specs.declared.node.Node.{Node}
@@ -7,12 +7,12 @@ use Rattle.std.specs.Cmp.Lexicographic.{pointwise_decides}
 use Rattle.std.proofs.lemmas.Bool.Decides.{Decides-eqb, Decides-and}
 use Rattle.std.proofs.lemmas.Nat.{pow_pos}
 use Rattle.warg_protobuf.proofs.ForCallers.{all_weaken}
-use Rattle.warg_log.specs.Nodes.{IsNode, ExistsAt, height_of, place_of, end_of, node_over, balanced_over, balanced_roots}
+use Rattle.warg_log.specs.Nodes.{IsNode, ExistsAt, height_of, place_of, end_of, node_over, balanced_over, balanced_roots, Follow}
 use Rattle.warg_crypto.specs.Tree.{branch}
 use Rattle.warg_log.specs.Ranges.{Range, leaves_from, range_of, front_part, rest_part, IsAligned}
 use Rattle.warg_log.specs.Tree.{front_of, root_over, own_digest}
 use Rattle.warg_log.specs.Cut.{Evaluation, with_own, is_target, joined, Way, at_target, at_node, at_parts, top_of, cut_over, cut_root, old_over, IsFull}
-use Rattle.warg_log.specs.Walks.{needed, needed_between}
+use Rattle.warg_log.specs.Walks.{IsKnown, needed, needed_between}
 use Rattle.warg_log.specs.Consistency.{consistency, IsConsistent}
 use Rattle.warg_log.specs.Inclusion.{inclusion}
 use Rattle.warg_log.specs.Claims.{InclusionClaim, Walk, same_node, same_walk}
@@ -190,3 +190,19 @@ walks_decide a b =
 -- data that hold more have the same old roots
 pub old_more : (H : List ℕ → List ℕ) (F G : ℕ → Option (List ℕ)) → ((y : ℕ) (d : List ℕ) → F y ≡ Some d → G y ≡ Some d) → (r : Range) (d : List ℕ) → old_over H F r ≡ Some d → old_over H G r ≡ Some d
 old_more H F G more r = reads.top_more H F G _ more _
+
+-- the balanced roots of up to 2 ^ h leaves from a multiple of 2 ^ h on follow one another
+pub over_follow : (h c n : ℕ) → n ≤ 2 ^ h → Follow (c * 2 ^ h) (c * 2 ^ h + n) (balanced_over (c * 2 ^ h) n)
+over_follow = balanced.over_follow
+
+-- a branch has a digest only where both its parts have one
+pub joined_some : (H : List ℕ → List ℕ) (p q : Option (List ℕ)) → IsSome (joined H p q) → IsSome p × IsSome q
+joined_some H p q = (reads.joined_known H p q).0
+
+-- where each needed node's digest is known, so is the cut root
+pub known_cut : (H : List ℕ → List ℕ) (F : ℕ → Option (List ℕ)) (x : List ℕ) (t n : ℕ) → IsKnown F (needed t n) → IsSome (cut_root H F t x n)
+known_cut H F x t n = (reads.needed_exactly H F x _).0
+
+-- what is known of two lists is known of each
+pub known_parts : (F : ℕ → Option (List ℕ)) (xs ys : List ℕ) → IsKnown F (xs ++ ys) → IsKnown F xs × IsKnown F ys
+known_parts F xs ys = (reads.known_append F xs ys).0

@@ -11,7 +11,7 @@ use Rattle.warg_log.proofs.BalancedLemmas.{map_same}
 use Rattle.warg_log.proofs.ClimbLemmas.{old_root-joined}
 
 -- the cut root is there exactly where each needed node's digest is
-known_append : (F : ℕ → Option (List ℕ)) (xs ys : List ℕ) → IsKnown F (xs ++ ys) ↔ (IsKnown F xs × IsKnown F ys)
+pub known_append : (F : ℕ → Option (List ℕ)) (xs ys : List ℕ) → IsKnown F (xs ++ ys) ↔ (IsKnown F xs × IsKnown F ys)
 known_append F [] ys = ((λ h. (tt, h)), (λ h. h.1))
 known_append F (x ∷ xs) ys = let r = known_append F xs ys in ((λ h. let p = r.0 h.1 in ((h.0, p.0), p.1)), (λ h. (h.0.0, r.1 (h.0.1, h.1))))
 
@@ -20,7 +20,7 @@ unfolding read_on
 known_at F true l r = let k = known_append F (read_on r) (read_on l) in ((λ h. let p = k.0 h in (p.1, p.0)), (λ h. k.1 (h.1, h.0)))
 known_at F false l r = known_append F (read_on l) (read_on r)
 
-joined_known : (H : List ℕ → List ℕ) (p q : Option (List ℕ)) → IsSome (joined H p q) ↔ (IsSome p × IsSome q)
+pub joined_known : (H : List ℕ → List ℕ) (p q : Option (List ℕ)) → IsSome (joined H p q) ↔ (IsSome p × IsSome q)
 joined_known H (Some l) (Some m) = ((λ _. (refl, refl)), (λ _. refl))
 joined_known H (Some l) None = ((λ i. (refl, i)), (λ i. i.1))
 joined_known H None q = ((λ i. absurd (cc)), (λ i. i.0))

@@ -6,4 +6,5 @@ mod LawLemmas
 mod GrowthLemmas
 mod UniqueLemmas
 mod UniqueGrowthLemmas
+mod KnownLemmas
 pub mod PremiseLemmas

@@ -1,9 +1,14 @@
 -- Paths that differ, and lead to one root with no collision: where each byte string is its own digest there is none.
-use Rattle.std.proofs.Common.{◌≡◌, ◌⊎◌, inl, inr, ℕ, List, [], ◌∷◌, length, Some, refl, ap, arith}
+use Rattle.std.proofs.Common.{◌≡◌, ◌⊎◌, inl, inr, ℕ, ◌<◌, ◌≤◌, true, List, [], ◌∷◌, length, Option, Some, None, IsSome, refl, ap, subst, arith}
 use Rattle.std.specs.Prelude.{replicate}
 use Rattle.warg_crypto.specs.Collisions.{AreHashes, SomeCollision}
+use Rattle.warg_log.specs.Nodes.{balanced_within}
+use Rattle.warg_log.specs.Ranges.{leaves_from}
+use Rattle.warg_log.specs.Cut.{old_over}
+use Rattle.warg_log.specs.Walks.{IsKnown, needed_between}
 use Rattle.warg_log.specs.Tree.{front_of, front_within}
-use Rattle.warg_paths.specs.Paths.{inclusion_root, consistency_roots, root_down, roots_down}
+use Rattle.warg_log.proofs.ForCallers.{old_full}
+use Rattle.warg_paths.specs.Paths.{beside, path_within, inclusion_of, growth_within, consistency_of, inclusion_root, consistency_roots, root_down, roots_down}
 use Rattle.warg_paths.specs.Ways.{ArePathInputs, AreGrowthInputs}
 
 -- Each byte string is its own digest.
@@ -48,3 +53,26 @@ consistency_roots_are_needed law = elim (law own 1 1 [] [] [] [] (ones 32 ∷ []
   | inl same ↦ absurd cc
   | inr c ↦ none_collide _ c
 ]
+
+-- No digest is known.
+abbrev nothing : ℕ → Option (List ℕ)
+nothing x = None
+
+second_unknown : old_over own nothing (leaves_from 1 1) ≡ None
+second_unknown = old_full own nothing (leaves_from 1 1) (0, refl)
+
+pub inclusion_digests_are_needed : ¬ ((H : List ℕ → List ℕ) (F : ℕ → Option (List ℕ)) (m n : ℕ) → m < n → IsSome (inclusion_of (old_over H F) m n))
+unfolding path_within front_of front_within
+inclusion_digests_are_needed law = let is = law own nothing 0 2 (omega arith) in let at : IsSome (beside (Some []) (old_over own nothing (leaves_from 1 1))) = is in absurd (let gone : IsSome (beside (Some []) None) = subst (λ o. IsSome (beside (Some []) o)) second_unknown at in cc)
+
+pub consistency_digests_are_needed : ¬ ((H : List ℕ → List ℕ) (F : ℕ → Option (List ℕ)) (m n : ℕ) → 0 < m → m ≤ n → IsSome (consistency_of (old_over H F) m n))
+unfolding growth_within front_of front_within
+consistency_digests_are_needed law = let is = law own nothing 1 2 (omega arith) (omega arith) in let at : IsSome (beside (Some []) (old_over own nothing (leaves_from 1 1))) = is in absurd (let gone : IsSome (beside (Some []) None) = subst (λ o. IsSome (beside (Some []) o)) second_unknown at in cc)
+
+pub old_entries_are_needed : ¬ ((H : List ℕ → List ℕ) (F : ℕ → Option (List ℕ)) (m n : ℕ) → m ≤ n → IsKnown F (needed_between m n) → IsSome (consistency_of (old_over H F) m n))
+unfolding growth_within front_of front_within balanced_within
+old_entries_are_needed law = let is = law own nothing 0 2 (omega arith) tt in let at : IsSome (beside (growth_within (old_over own nothing) 1 true 0 (leaves_from 0 1)) (old_over own nothing (leaves_from 1 1))) = is in absurd (none_beside _ (subst (λ o. IsSome (beside (growth_within (old_over own nothing) 1 true 0 (leaves_from 0 1)) o)) second_unknown at))
+  where
+    none_beside : (p : Option (List (List ℕ))) → IsSome (beside p None) → ⊥
+    none_beside (Some p) is = cc
+    none_beside None is = cc

@@ -1,9 +1,10 @@
 //! Laws of the paths: the contract of each function is the law, and it has no effect.
 
-ghost use Rattle.std.specs.Prelude.{◌≡◌, ℕ, ◌+◌, ◌-◌, ◌*◌, ◌^◌, ◌<◌, ◌≤◌, ◌⊎◌, Bool, false, List, [], ◌∷◌, length, take, Option, Some, slice_index_or};
+ghost use Rattle.std.specs.Prelude.{◌≡◌, ℕ, ◌+◌, ◌-◌, ◌*◌, ◌^◌, ◌<◌, ◌≤◌, ◌⊎◌, Bool, false, List, [], ◌∷◌, length, take, Option, Some, IsSome, slice_index_or};
 ghost use Rattle.warg_log.specs.Ranges.{Range, front_part, rest_part};
 ghost use Rattle.warg_log.specs.Tree.{front_of, root_of, own_digest};
 ghost use Rattle.warg_log.specs.Cut.{cut_root, old_over};
+ghost use Rattle.warg_log.specs.Walks.{IsKnown, needed, needed_between};
 ghost use Rattle.warg_crypto.specs.Collisions.{AreHashes, SomeCollision};
 ghost use Rattle.warg_paths.specs.Paths.{beside, inclusion_over, inclusion_of, path_at_end, consistency_over, consistency_of, inclusion_root, consistency_roots, led_to, led_to_both};
 ghost use Rattle.warg_paths.specs.Ways.{ArePathInputs, AreGrowthInputs};
@@ -49,6 +50,16 @@ pub fn consistency_of_more()
 pub fn path_leads_as_proof()
     ensures { (H : List ℕ → List ℕ) (F : ℕ → Option (List ℕ)) (m n : ℕ) (x : List ℕ) → m < n
         → led_to H m n x (inclusion_of (old_over H F) m n) ≡ cut_root H F (2 * m) x n }
+{}
+
+/// A path is made where the digests that its proof needs are known: whoever has those of the needed nodes gets the inclusion
+/// path of a leaf below the length, or the consistency path between two lengths in order, of which the first isn't 0.
+#[tactic(auto, using(crate::proofs::KnownLemmas::inclusion_known, crate::proofs::KnownLemmas::consistency_known))]
+pub fn path_is_made()
+    ensures inclusion { (H : List ℕ → List ℕ) (F : ℕ → Option (List ℕ)) (m n : ℕ) → m < n
+        → IsKnown F (needed (2 * m) n) → IsSome (inclusion_of (old_over H F) m n) }
+    ensures consistency { (H : List ℕ → List ℕ) (F : ℕ → Option (List ℕ)) (m n : ℕ) → 0 < m → m ≤ n
+        → IsKnown F (needed_between m n) → IsSome (consistency_of (old_over H F) m n) }
 {}
 
 /// A log's own inclusion paths lead to its roots: over its own digests the path of a leaf at a length up to its own

@@ -1,9 +1,11 @@
-//! What the premises of the laws that end in a collision are for: the contract of each function is the law, and it has no
-//! effect. Without any one premise the law is false. Of premises that both paths have, one is left out.
+//! What the premises of the laws are for: the contract of each function is the law, and it has no effect. Without any one of
+//! these premises the law is false. Of premises that both paths have, one is left out.
 
-ghost use Rattle.std.specs.Prelude.{◌≡◌, ℕ, ◌⊎◌, List, Some};
+ghost use Rattle.std.specs.Prelude.{◌≡◌, ℕ, ◌<◌, ◌≤◌, ◌⊎◌, List, Option, Some, IsSome};
 ghost use Rattle.warg_crypto.specs.Collisions.{AreHashes, SomeCollision};
-ghost use Rattle.warg_paths.specs.Paths.{inclusion_root, consistency_roots};
+ghost use Rattle.warg_log.specs.Cut.{old_over};
+ghost use Rattle.warg_log.specs.Walks.{IsKnown, needed_between};
+ghost use Rattle.warg_paths.specs.Paths.{inclusion_of, inclusion_root, consistency_of, consistency_roots};
 ghost use Rattle.warg_paths.specs.Ways.{ArePathInputs, AreGrowthInputs};
 
 /// Two inclusion paths of one place to one root may differ, without a collision, where one has digests of other lengths.
@@ -35,4 +37,18 @@ pub fn consistency_roots_are_needed()
     ensures { ¬ ((H : List ℕ → List ℕ) (m n : ℕ) (r s old new : List ℕ) (xs ys : List (List ℕ))
         → AreHashes xs → AreHashes ys → consistency_roots H m n s ys ≡ Some (old, new)
         → (xs ≡ ys) ⊎ SomeCollision H (AreGrowthInputs H m n r xs s ys)) }
+{}
+
+/// No path may be made where a digest that its proof needs isn't known.
+pub fn known_digests_are_needed()
+    ensures inclusion { ¬ ((H : List ℕ → List ℕ) (F : ℕ → Option (List ℕ)) (m n : ℕ) → m < n
+        → IsSome (inclusion_of (old_over H F) m n)) }
+    ensures consistency { ¬ ((H : List ℕ → List ℕ) (F : ℕ → Option (List ℕ)) (m n : ℕ) → 0 < m → m ≤ n
+        → IsSome (consistency_of (old_over H F) m n)) }
+{}
+
+/// Nor a consistency path from no entries.
+pub fn old_entries_are_needed()
+    ensures { ¬ ((H : List ℕ → List ℕ) (F : ℕ → Option (List ℕ)) (m n : ℕ) → m ≤ n
+        → IsKnown F (needed_between m n) → IsSome (consistency_of (old_over H F) m n)) }
 {}

@@ -37,7 +37,7 @@ pub type Path = Vec<Hash<Sha256>>;
 #[derive(Drop)]
 struct Fetched {
     tiles: Vec<Tile>,
-    data: TileData<Sha256, Vec<u8>>,
+    held: TileData<Sha256, Vec<u8>>,
 }
 
 /// A log as a folder serves it, for those who read: no call changes the folder, and none needs a lock. Whatever commits go on
@@ -289,7 +289,7 @@ fn inclusion<F: Folder>(
     let named = tiles_for_inclusion(alloc, index, log_length)?;
     tiles.fetch(alloc, folder, named.as_slice(), checkpoint.length())?;
     let leaf = tiles.leaf(alloc, folder, index, checkpoint.length())?;
-    let path = made(alloc, inclusion_path(alloc, &tiles.data, index, log_length))?;
+    let path = made(alloc, inclusion_path(alloc, &tiles.held, index, log_length))?;
     let root = root_of_inclusion(index, log_length, &leaf, path.as_slice());
     check_root(alloc, folder, &mut tiles, log_length, root, checkpoint)?;
     Ok(path)
@@ -320,7 +320,7 @@ fn growth<F: Folder>(
     }
     let mut tiles = Fetched::new(alloc);
     let path = fetched_growth(alloc, folder, &mut tiles, old, new, checkpoint.length())?;
-    let root = match stored_root(&tiles.data, &LeafRange::new(0, old)) {
+    let root = match stored_root(&tiles.held, &LeafRange::new(0, old)) {
         Some(root) => new_root(old, new, &root, path.as_slice()),
         None => None,
     };
@@ -340,14 +340,14 @@ fn fetched_growth<F: Folder>(
     requires order { old ≤ new }
     requires fits { new ≤ GREATEST_LENGTH }
     ensures own { F.IsFaithful → IfOk result (λ path. (log : LogOf) → HasFiles log (F.seen folder.old)
-        → length log.entries ≡ log_length → new ≤ log_length → AreOwn log tiles.old.data
+        → length log.entries ≡ log_length → new ≤ log_length → AreOwn log tiles.old.held
         → consistency_in log old new ≡ Some path.items) }
     ensures seen { F.IsFaithful → F.seen folder.new ≡ F.seen folder.old }
     ensures crash { F.IsFaithful → Within (F.may_leave folder.old) (F.may_leave folder.new) }
 {
     let named = tiles_for_consistency(alloc, old, new)?;
     tiles.fetch(alloc, folder, named.as_slice(), log_length)?;
-    made(alloc, consistency_path(alloc, &tiles.data, old, new))
+    made(alloc, consistency_path(alloc, &tiles.held, old, new))
 }
 
 // The path that was made, or the refusal for tiles that give none.
@@ -428,11 +428,11 @@ fn no_root(alloc: Global) -> LogError {
 impl Fetched {
     // No tile.
     fn new(alloc: Global) -> Fetched
-        ensures { (log : LogOf) → AreOwn log result.data }
+        ensures { (log : LogOf) → AreOwn log result.held }
     {
         Fetched {
             tiles: Vec::new(alloc),
-            data: TileData::new(alloc),
+            held: TileData::new(alloc),
         }
     }
 
@@ -446,8 +446,8 @@ impl Fetched {
     ) -> Result<(), LogError>
         ensures own { F.IsFaithful → OnOk result ((log : LogOf) (n : ℕ) → HasFiles log (F.seen folder.old)
             → length log.entries ≡ log_length → n ≤ log_length → n ≤ GREATEST_LENGTH
-            → AllByRecursion (IsTileOf n) tiles.now → AreOwn log self.old.data
-            → AreOwn log self.new.data) }
+            → AllByRecursion (IsTileOf n) tiles.now → AreOwn log self.old.held
+            → AreOwn log self.new.held) }
         ensures seen { F.IsFaithful → F.seen folder.new ≡ F.seen folder.old }
         ensures crash { F.IsFaithful → Within (F.may_leave folder.old) (F.may_leave folder.new) }
     {
@@ -465,7 +465,7 @@ impl Fetched {
         tile: Tile,
     ) -> Result<(), LogError>
         ensures own { F.IsFaithful → OnOk result ((log : LogOf) → HasFiles log (F.seen folder.old)
-            → IsTileIn log tile → AreOwn log self.old.data → AreOwn log self.new.data) }
+            → IsTileIn log tile → AreOwn log self.old.held → AreOwn log self.new.held) }
         ensures seen { F.IsFaithful → F.seen folder.new ≡ F.seen folder.old }
         ensures crash { F.IsFaithful → Within (F.may_leave folder.old) (F.may_leave folder.new) }
     {
@@ -474,7 +474,7 @@ impl Fetched {
         }
         let stored = read_tile(alloc, folder, tile)?;
         self.tiles.push(tile)?;
-        self.data.insert(stored.tile, stored.digests)?;
+        self.held.insert(stored.tile, stored.digests)?;
         Ok(())
     }
 
@@ -488,18 +488,18 @@ impl Fetched {
     ) -> Result<Hash<Sha256>, LogError>
         requires { index < GREATEST_LENGTH }
         ensures own { F.IsFaithful → OnOk result ((log : LogOf) → HasFiles log (F.seen folder.old)
-            → length log.entries ≡ log_length → index < log_length → AreOwn log self.old.data
-            → AreOwn log self.new.data) }
+            → length log.entries ≡ log_length → index < log_length → AreOwn log self.old.held
+            → AreOwn log self.new.held) }
         ensures seen { F.IsFaithful → F.seen folder.new ≡ F.seen folder.old }
         ensures crash { F.IsFaithful → Within (F.may_leave folder.old) (F.may_leave folder.new) }
     {
         let leaf = Node::leaf(index);
-        if let Some(digest) = self.data.hash_for(leaf) {
+        if let Some(digest) = self.held.hash_for(leaf) {
             return Ok(digest);
         }
         let tile = Tile::new(0, index / 256, index % 256 + 1);
         self.fetch_one(alloc, folder, tile_at(&tile, log_length))?;
-        match self.data.hash_for(leaf) {
+        match self.held.hash_for(leaf) {
             Some(digest) => Ok(digest),
             None => Err(no_root(alloc)),
         }

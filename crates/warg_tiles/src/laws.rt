@@ -91,7 +91,7 @@ pub fn each_partial_tile_once()
 
 /// The tiles that `tiles_for_inclusion` and `tiles_for_consistency` name are enough: whoever has them knows the digest of
 /// each needed node, so the evaluation has a root (`warg_log::laws::needed_known`), and the path is made
-/// (`warg_paths::laws::path_leads_as_proof`).
+/// (`warg_paths::laws::path_is_made`).
 pub fn named_tiles_are_enough()
     ensures { (H : List ℕ → List ℕ) (n : ℕ) (tiles : Tiles) (nodes : List ℕ)
         → AreFor n (map (λ t. t.0) tiles) nodes → IsKnown (digest_by H tiles) nodes }

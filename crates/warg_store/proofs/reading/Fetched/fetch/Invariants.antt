@@ -10,7 +10,7 @@ use Rattle.warg_store.proofs.reading.Fetched.fetch.Given as goal
 abbrev pub invariant-tiles : goal.invariant-tiles
 invariant-tiles g l = record {
   own : g.F.Folder.IsFaithful → (log : LogOf) (n : ℕ) → HasFiles log (g.F.Folder.seen l.fn.folder) → length log.entries ≡ l.log_length → n ≤ l.log_length → n ≤ 2 ^ 63
-      → AllByRecursion (IsTileOf n) l.tiles → AreOwn log l.fn.self.data → AreOwn log l.self.data;
+      → AllByRecursion (IsTileOf n) l.tiles → AreOwn log l.fn.self.held → AreOwn log l.self.held;
   seen : g.F.Folder.IsFaithful → g.F.Folder.seen l.folder ≡ g.F.Folder.seen l.fn.folder;
   crash : g.F.Folder.IsFaithful → Within (g.F.Folder.may_leave l.fn.folder) (g.F.Folder.may_leave l.folder);
 }
