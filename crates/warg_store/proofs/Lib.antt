@@ -16,3 +16,4 @@ mod GrowingLemmas
 mod CreateLemmas
 mod OpenLemmas
 mod SignLemmas
+mod PruneLemmas

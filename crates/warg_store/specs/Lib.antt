@@ -5,6 +5,7 @@ pub mod Opening
 pub mod Log
 pub mod Staged
 pub mod Growing
+pub mod Pruned
 pub mod Private
 pub mod Memory
 pub mod System
