@@ -17,3 +17,4 @@ mod CreateLemmas
 mod OpenLemmas
 mod SignLemmas
 mod FetchedLemmas
+mod PruneLemmas

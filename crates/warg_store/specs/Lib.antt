@@ -6,6 +6,7 @@ pub mod Reading
 pub mod Log
 pub mod Staged
 pub mod Growing
+pub mod Pruned
 pub mod Private
 pub mod Memory
 pub mod System

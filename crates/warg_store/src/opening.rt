@@ -4,6 +4,7 @@ ghost use Rattle.std.specs.Prelude.{◌≡◌, ◌≢◌, ℕ, true, false, List
 ghost use Rattle.std.specs.List.{All};
 ghost use Rattle.warg_tiles.specs.CheckpointText.{Said, CanBeSaid, text_before};
 ghost use Rattle.warg_store.specs.Files.{SameBut};
+ghost use Rattle.warg_store.specs.Moments.{Within, Elapses};
 ghost use Rattle.warg_store.specs.Growing.{IsReady, Has};
 ghost use Rattle.warg_store.specs.Log.{LogOf, CanBeKept, Serves, Keeps, HasLog, said_of};
 ghost use Rattle.warg_store.specs.Names.{checkpoint, state, mark};
@@ -207,6 +208,8 @@ fn read_text<F: Folder>(
         → text ≡ Some (said_of log)) }
     ensures none { F.IsFaithful → IfOk result (λ text. F.seen folder.old name.now ≡ None → text ≡ None) }
     ensures seen { F.IsFaithful → F.seen folder.new ≡ F.seen folder.old }
+    ensures crash { F.IsFaithful → Within (F.may_leave folder.old) (F.may_leave folder.new) }
+    ensures time { F.IsFaithful → Elapses F.moment F.left_since F.may_leave folder.old folder.new }
     ensures ready { F.IsFaithful → IsStaging (F.seen folder.old) (F.may_leave folder.old)
         → OnOk result (IsStaging (F.seen folder.new) (F.may_leave folder.new)) }
 {
@@ -290,6 +293,8 @@ pub(crate) fn read_served<F: Folder>(
     ensures text { F.IsFaithful → IfOk result (λ text. (log : LogOf) → Serves log (F.seen folder.old)
         → text ≡ said_of log) }
     ensures seen { F.IsFaithful → F.seen folder.new ≡ F.seen folder.old }
+    ensures crash { F.IsFaithful → Within (F.may_leave folder.old) (F.may_leave folder.new) }
+    ensures time { F.IsFaithful → Elapses F.moment F.left_since F.may_leave folder.old folder.new }
     ensures ready { F.IsFaithful → IsStaging (F.seen folder.old) (F.may_leave folder.old)
         → OnOk result (IsStaging (F.seen folder.new) (F.may_leave folder.new)) }
 {

@@ -1,75 +1,165 @@
 //! Files that the log needs no more.
 
+ghost use Rattle.std.specs.Prelude.{◌≡◌, ◌≤◌, ◌<◌, ◌↔◌, ℕ, true, List, length, IsTrue, IfOk, IfSome, OnOk, string_bytes};
+ghost use Rattle.warg_tiles.specs.Between.{IsTileOf};
+ghost use Rattle.warg_store.specs.Files.{Files};
+ghost use Rattle.warg_store.specs.Moments.{Only, LeavesOnly};
+ghost use Rattle.warg_store.specs.Names.{is_staged};
+ghost use Rattle.warg_store.specs.Opening.{IsStaging};
+ghost use Rattle.warg_store.specs.Log.{LogOf, Keeps, IsOneOf};
+ghost use Rattle.warg_store.specs.Growing.{Has};
+ghost use Rattle.warg_store.specs.Pruned.{full_of, HasFull, IsPruned};
+ghost use Rattle.warg_store.specs.Private.Steps.{IsPruning};
+
 use crate::device::{Folder, FolderError};
 use crate::error::LogError;
 use crate::log_folder::LogFolder;
 use crate::opening::read_served;
-use crate::reading::tile_at;
 use std::alloc::{AllocError, Global};
+use warg_log::GREATEST_LENGTH;
 use warg_tiles::Tile;
 
-// A tile's file, or a bundle's.
+// A tile, or the one over a bundle, and the path of the full one in its place.
 #[derive(Drop)]
-enum Kind {
-    Tile,
-    Entries,
+struct Named {
+    tile: Tile,
+    full: String,
 }
 
 impl<F: Folder + Drop> LogFolder<F> {
     /// Removes the partial tiles and bundles whose full one is there, and no other; a reader at an older length then reads the
-    /// full one. What the served checkpoint needs stays. Returns how many files were removed.
-    pub fn prune(&mut self) -> Result<usize, LogError> {
+    /// full one. What the served checkpoint needs stays. Returns how many files were removed. After an error, open the folder
+    /// again.
+    pub fn prune(&mut self) -> Result<usize, LogError>
+        ensures pruned { F.IsFaithful → OnOk result ((served old next : LogOf)
+            → Has F.seen F.may_leave served old next self.old
+            → Has F.seen F.may_leave served old next self.new) }
+        ensures any_moment { F.IsFaithful → (served old next : LogOf)
+            → Has F.seen F.may_leave served old next self.old
+            → LeavesOnly F.moment F.left_since self.old.folder self.new.folder (IsOneOf served old old) }
+        ensures only { F.IsFaithful → (served old next : LogOf)
+            → Has F.seen F.may_leave served old next self.old
+            → IsPruned (length old.entries) (length served.entries)
+            (F.seen self.old.folder) (F.seen self.new.folder) }
+    {
         let kept = self.checkpoint().length();
-        let (alloc, folder) = (self.alloc, &mut self.folder);
-        let served = read_served(alloc, folder)?.checkpoint().length();
-        let names = folder.list(alloc, "tile/")?;
-        let mut removed = 0usize;
-        for name in names.as_slice() {
-            if prune_one(alloc, folder, name.as_str(), kept, served)? {
-                removed = removed.saturating_add(1);
-            }
-        }
-        folder.sync()?;
-        Ok(removed)
+        prune_all(self.alloc, &mut self.folder, kept)
     }
 }
 
-// Removes a partial tile or bundle whose full one is there, unless the served checkpoint needs it. Whether it was removed.
+// As `prune`, of a folder whose log keeps so many entries.
+fn prune_all<F: Folder>(alloc: Global, folder: &mut F, kept: usize) -> Result<usize, LogError>
+    requires { kept ≤ GREATEST_LENGTH }
+    ensures any_moment { F.IsFaithful → (served log : LogOf) → Keeps served log (F.seen folder.old)
+        → IsStaging (F.seen folder.old) (F.may_leave folder.old)
+        → LeavesOnly F.moment F.left_since folder.old folder.new
+        (IsPruning kept (length served.entries) (F.seen folder.old)) }
+    ensures done { F.IsFaithful → OnOk result (Only (F.seen folder.new) (F.may_leave folder.new)
+        × ((n : List ℕ) → is_staged n ≡ true → F.seen folder.new n ≡ F.seen folder.old n)) }
+{
+    let served = read_served(alloc, folder)?.checkpoint().length();
+    let names = folder.list(alloc, "tile/")?;
+    let removed = prune_each(alloc, folder, names.as_slice(), kept, served)?;
+    folder.sync()?;
+    Ok(removed)
+}
+
+// Removes those of the named files that are spare. Returns how many they were.
+fn prune_each<F: Folder>(
+    alloc: Global,
+    folder: &mut F,
+    names: &[String],
+    kept: usize,
+    served: usize,
+) -> Result<usize, FolderError>
+    requires kept { kept ≤ GREATEST_LENGTH }
+    requires served { served ≤ GREATEST_LENGTH }
+    ensures any_moment { F.IsFaithful → (s : Files) → ((d : Files) → F.may_leave folder.old d → IsPruning kept served s d)
+        → LeavesOnly F.moment F.left_since folder.old folder.new (IsPruning kept served s) }
+    ensures crash { F.IsFaithful → (s c : Files) → ((d : Files) → F.may_leave folder.old d → IsPruning kept served s d)
+        → F.may_leave folder.new c → IsPruning kept served s c }
+    ensures staged { F.IsFaithful → OnOk result ((n : List ℕ) → is_staged n ≡ true
+        → F.seen folder.new n ≡ F.seen folder.old n) }
+{
+    let mut removed = 0usize;
+    'names: for name in names {
+        if prune_one(alloc, folder, name.as_str(), kept, served)? {
+            removed = removed.saturating_add(1);
+        }
+    }
+    Ok(removed)
+}
+
+// Removes a file that is spare. Whether it was.
 fn prune_one<F: Folder>(
     alloc: Global,
     folder: &mut F,
     name: &str,
     kept: usize,
     served: usize,
-) -> Result<bool, FolderError> {
-    let Some((kind, tile)) = tile_of(name) else {
+) -> Result<bool, FolderError>
+    requires kept { kept ≤ GREATEST_LENGTH }
+    requires served { served ≤ GREATEST_LENGTH }
+    ensures any_moment { F.IsFaithful → (s : Files) → ((d : Files) → F.may_leave folder.old d → IsPruning kept served s d)
+        → LeavesOnly F.moment F.left_since folder.old folder.new (IsPruning kept served s) }
+    ensures crash { F.IsFaithful → (s c : Files) → ((d : Files) → F.may_leave folder.old d → IsPruning kept served s d)
+        → F.may_leave folder.new c → IsPruning kept served s c }
+    ensures staged { F.IsFaithful → OnOk result ((n : List ℕ) → is_staged n ≡ true
+        → F.seen folder.new n ≡ F.seen folder.old n) }
+{
+    let Some(named) = tile_named(alloc, name)? else {
         return Ok(false);
     };
-    if tile.is_full() || tile_at(&tile, kept).width() != 256 || tile_at(&tile, served) == tile {
+    if !is_spare(&named.tile, kept, served) {
         return Ok(false);
     }
-    let full = path_of(alloc, &kind, &Tile::new(tile.level(), tile.number(), 256))?;
-    if folder.read(alloc, full.as_str(), 0)?.is_none() {
+    let Some(_) = folder.read(alloc, named.full.as_str(), 0)? else {
         return Ok(false);
-    }
+    };
     folder.remove(name)?;
     Ok(true)
 }
 
-// The tile, or the tile over the bundle, whose path a name is.
-fn tile_of(name: &str) -> Option<(Kind, Tile)> {
-    if let Ok(tile) = Tile::from_entries_path(name) {
-        return Some((Kind::Entries, tile));
+// Whether the tile is a partial one that the served length hasn't, and the kept length has the full one.
+fn is_spare(tile: &Tile, kept: usize, served: usize) -> bool
+    requires kept { kept ≤ GREATEST_LENGTH }
+    requires served { served ≤ GREATEST_LENGTH }
+    ensures { result ≡ true → (tile.now.width < 256) × IsTileOf kept (full_of tile.now)
+        × (IsTileOf served tile.now → ⊥) }
+{
+    if tile.width() == 256 || is_tile_of(tile, served) {
+        return false;
     }
-    match Tile::from_path(name) {
-        Ok(tile) => Some((Kind::Tile, tile)),
-        Err(_) => None,
-    }
+    is_tile_of(&Tile::new(tile.level(), tile.number(), 256), kept)
 }
 
-fn path_of(alloc: Global, kind: &Kind, tile: &Tile) -> Result<String, AllocError> {
-    match kind {
-        Kind::Entries if tile.level() == 0 => tile.entries_path(alloc),
-        _ => tile.path(alloc),
+// Whether the tile is one of a log of this length, which fills it as wide as it is.
+fn is_tile_of(tile: &Tile, length: usize) -> bool
+    requires { length ≤ GREATEST_LENGTH }
+    ensures { IsTrue result ↔ IsTileOf length tile.now }
+{
+    if tile.level() >= 8 {
+        return false;
+    }
+    let count = length >> (8 * tile.level());
+    let before = tile.number().saturating_mul(256);
+    count.saturating_sub(before).min(256) == tile.width()
+}
+
+// The tile, or the one over the bundle, whose path a name is.
+fn tile_named(alloc: Global, name: &str) -> Result<Option<Named>, AllocError>
+    ensures { IfOk result (λ found. IfSome found (λ named.
+        HasFull name.now named.tile (string_bytes named.full))) }
+{
+    if let Ok(tile) = Tile::from_entries_path(name) {
+        let full = Tile::new(0, tile.number(), 256).entries_path(alloc)?;
+        return Ok(Some(Named { tile, full }));
+    }
+    match Tile::from_path(name) {
+        Ok(tile) => {
+            let full = Tile::new(tile.level(), tile.number(), 256).path(alloc)?;
+            Ok(Some(Named { tile, full }))
+        }
+        Err(_) => Ok(None),
     }
 }

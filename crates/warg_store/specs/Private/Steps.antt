@@ -3,6 +3,7 @@ use Rattle.std.specs.Prelude.{◌≡◌, ◌⊎◌, ℕ, List, true, false, None
 use Rattle.warg_store.specs.Files.{Files, put}
 use Rattle.warg_store.specs.Names.{state, mark, staged, is_staged, is_served}
 use Rattle.warg_store.specs.Opening.{told}
+use Rattle.warg_store.specs.Pruned.{IsSpare}
 
 -- Some staged files are gone. While a commit's text is there, none of its files is staged any more.
 pub record IsRemoving (s c : Files) : Type 0 where
@@ -19,3 +20,8 @@ pub record IsMoving (s c : Files) : Type 0 where
 -- The text is put as the state, or as the state and the checkpoint, or not at all.
 abbrev pub IsPut : List ℕ → Files → Files → Type 0
 IsPut text s c = (c ≡ s) ⊎ (c ≡ put (state, text) s) ⊎ (c ≡ told text s)
+
+-- Spare files are gone, and staged ones may be anything but a commit's.
+pub record IsPruning (kept served : ℕ) (s c : Files) : Type 0 where
+  pub outside : (n : List ℕ) → is_staged n ≡ false → (c n ≡ s n) ⊎ ((c n ≡ None) × IsSpare kept served s n)
+  pub no_mark : c mark ≡ None

@@ -1,0 +1,142 @@
+-- A folder whose spare files go.
+use Rattle.std.proofs.Common.{◌≡◌, ◌⊎◌, inl, inr, ⊎_elim, ℕ, ◌^◌, ◌<◌, ◌≤◌, List, length, take, true, false, Option, Some, None, IsSome, refl, sym, ap, subst, ◌∙◌, arith}
+use Rattle.std.specs.Prelude.{option_map}
+use Rattle.warg_tiles.specs.Tiles.{TileAt}
+use Rattle.warg_tiles.specs.TilePaths.{tile_path, entries_path}
+use Rattle.warg_tiles.specs.Between.{IsTileOf}
+use Rattle.warg_store.specs.Files.{Files, without, Either}
+use Rattle.warg_store.specs.Moments.{Only}
+use Rattle.warg_store.specs.Names.{checkpoint, state, mark, staged, is_staged, is_served}
+use Rattle.warg_store.specs.Opening.{IsBeside, opened}
+use Rattle.warg_store.specs.Log.{LogOf, CanBeKept, IsFileOf, Keeps, IsOneOf}
+use Rattle.warg_store.specs.Growing.{LogIn, Has}
+use Rattle.warg_store.specs.Pruned.{HasFull, full_of, IsSpare, IsPruned}
+use Rattle.warg_store.specs.Private.Steps.{IsPruning}
+use Rattle.warg_store.proofs.NameLemmas.{one_name, apart, served_not_staged}
+use Rattle.warg_store.proofs.FileLemmas.{without_here, without_apart}
+use Rattle.warg_store.proofs.PathLemmas.{tile_path_once, entries_path_once, no_tile_a_bundle}
+use Rattle.warg_store.proofs.ServeLemmas.{opened_idle}
+use Rattle.warg_store.proofs.LeadLemmas.{width_at_most, file_served, same_served, same_kept}
+use Rattle.warg_store.proofs.GrowingLemmas.{level_low, none_some}
+use Rattle.warg_store.proofs.SignLemmas.{full_staged_same}
+
+-- a spare name is a served one, and so is the full one's
+pub path_served : (n full : List ℕ) (t : TileAt) → HasFull n t full → (is_served n ≡ true) × (is_served full ≡ true)
+path_served n full t (inl is) = (ap is_served (sym is.0), ap is_served (sym is.1))
+path_served n full t (inr is) = (ap is_served (sym is.1), ap is_served (sym is.2))
+
+module _ (kept served : ℕ) (s : Files) where
+  -- before any file goes
+  pub begun : (c : Files) → IsBeside s c → IsPruning kept served s c
+  begun c beside = record { outside = λ n isnt. inl (beside.outside n isnt); no_mark = beside.no_mark }
+
+  -- one file that goes
+  pub pruned_one : (d : Files) (name : List ℕ) → IsSpare kept served s name → IsPruning kept served s d → IsPruning kept served s (without name d)
+  pruned_one d name spare was = record {
+    outside = λ n isnt. elim (one_name name n) [
+      | inl here ↦ inr (ap (λ m. without name d m) (sym here.1) ∙ without_here name d, subst (IsSpare kept served s) here.1 spare)
+      | inr other ↦ elim (was.outside n isnt) [
+        | inl same ↦ inl (without_apart name d n other.1 ∙ same)
+        | inr gone ↦ inr (without_apart name d n other.1 ∙ gone.0, gone.1)
+      ]
+    ];
+    no_mark = without_apart name d mark (λ e. apart (sym (path_served name spare.full spare.tile spare.paths).0 ∙ ap is_served e)) ∙ was.no_mark;
+  }
+
+  -- what is there now was there
+  pub was_there : (now : Files) (full : List ℕ) → is_served full ≡ true → IsPruning kept served s now → IsSome (now full) → IsSome (s full)
+  was_there now full is was some = elim (was.outside full (served_not_staged full is)) [
+    | inl same ↦ subst IsSome same some
+    | inr gone ↦ absurd (none_some (now full) gone.0 some)
+  ]
+
+-- What a folder keeps, and what it serves, stays.
+module _ (served old : LogOf) (s : Files) (keeps : Keeps served old s) where
+  full_wins : (t u : TileAt) → t ≡ u → t.width < 256 → IsTileOf (length old.entries) (full_of t) → IsTileOf (length old.entries) u → ⊥
+  full_wins t u same part full is = let own : IsTileOf (length old.entries) t = subst (IsTileOf (length old.entries)) (sym same) is in omega (arith, own.width, full.width, part)
+
+  tile_needed : (t u : TileAt) → t ≡ u → t.width < 256 → IsTileOf (length old.entries) (full_of t) → (IsTileOf (length served.entries) t → ⊥)
+      → IsTileOf (length old.entries) u ⊎ IsTileOf (length served.entries) u → ⊥
+  tile_needed t u same part full unserved (inl is) = full_wins t u same part full is
+  tile_needed t u same part full unserved (inr is) = unserved (subst (IsTileOf (length served.entries)) (sym same) is)
+
+  level_of : (t : TileAt) → IsTileOf (length old.entries) (full_of t) → t.level < 8
+  level_of t is = level_low (length old.entries) (full_of t) keeps.can.most is
+
+  either_tile : (n : List ℕ) → IsFileOf old n ⊎ IsFileOf served n
+      → (u : TileAt) × (u.width ≤ 256) × (IsTileOf (length old.entries) u ⊎ IsTileOf (length served.entries) u) × (((u.level < 8) × (tile_path u ≡ n)) ⊎ ((u.level ≡ 0) × (entries_path u ≡ n)))
+  either_tile n (inl (inl f)) = (f.0, width_at_most _ f.0 f.1.exists, inl f.1.exists, inl (f.1.level, f.2))
+  either_tile n (inl (inr f)) = (f.0, width_at_most _ f.0 f.1.exists, inl f.1.exists, inr (f.1.level, f.2))
+  either_tile n (inr (inl f)) = (f.0, width_at_most _ f.0 f.1.exists, inr f.1.exists, inl (f.1.level, f.2))
+  either_tile n (inr (inr f)) = (f.0, width_at_most _ f.0 f.1.exists, inr f.1.exists, inr (f.1.level, f.2))
+
+  not_spare : (n : List ℕ) → IsFileOf old n ⊎ IsFileOf served n → IsSpare (length old.entries) (length served.entries) s n → ⊥
+  not_spare n file spare =
+      let u = either_tile n file in
+      let t = spare.tile in
+      let low : t.level < 8 = level_of t spare.exists in
+      let small : t.width ≤ 256 = omega (arith, spare.partial) in
+      let needed : t ≡ u.0 → ⊥ = λ same. tile_needed t u.0 same spare.partial spare.exists spare.unserved u.2 in
+      ⊎_elim
+      (λ tile. ⊎_elim
+      (λ own. needed (tile_path_once t u.0 low own.0 small u.1 (tile.0 ∙ sym own.1)))
+      (λ own. no_tile_a_bundle t u.0 low (tile.0 ∙ sym own.1))
+      u.3)
+      (λ bundle. ⊎_elim
+      (λ own. no_tile_a_bundle u.0 t own.0 (own.1 ∙ sym bundle.1))
+      (λ own. needed (entries_path_once t u.0 bundle.0 own.0 small u.1 (bundle.1 ∙ sym own.1)))
+      u.3)
+      spare.paths
+
+  module _ (c : Files) (was : IsPruning (length old.entries) (length served.entries) s c) where
+    stays_at : (n : List ℕ) → IsFileOf old n ⊎ IsFileOf served n → c n ≡ s n
+    stays_at n file = ⊎_elim (λ e. e) (λ gone. absurd (not_spare n file gone.1))
+        (was.outside n (served_not_staged n (⊎_elim (λ one. file_served old n one) (λ other. file_served served n other) file)))
+
+    stays_own : (n : List ℕ) → is_staged n ≡ false → is_served n ≡ false → c n ≡ s n
+    stays_own n isnt unserved = ⊎_elim (λ e. e) (λ gone. absurd (apart (sym (path_served n gone.1.full gone.1.tile gone.1.paths).0 ∙ unserved))) (was.outside n isnt)
+
+    pub pruned_keeps : Keeps served old c
+    pruned_keeps = same_kept served old s c stays_at (stays_own checkpoint refl refl) (stays_own state refl refl) keeps
+
+    pub pruned_moment : IsOneOf served old old c
+    pruned_moment =
+        let same : (n : List ℕ) → is_staged n ≡ false → opened c n ≡ c n = λ n isnt. opened_idle c n was.no_mark isnt in
+        record {
+          read = inl (record {
+            serves = same_served served s c (λ n is. stays_at n (inr is)) (stays_own checkpoint refl refl) keeps.serves;
+            stay = λ n is. same n (served_not_staged n (file_served served n is));
+          });
+          opened = inl (same_kept served old c (opened c)
+              (λ n is. same n (served_not_staged n (⊎_elim (λ one. file_served old n one) (λ other. file_served served n other) is)))
+              (same checkpoint refl) (same state refl) pruned_keeps);
+        }
+
+-- of the names at which commits put files, those that were spare are gone
+pub served_pruned : (kept served : ℕ) (s c : Files) → IsPruning kept served s c → IsPruned kept served s c
+served_pruned kept served s c was n is = was.outside n (served_not_staged n is)
+
+-- a log whose folder was pruned
+pub prune_has : {F : Type 0} (seen : F → Files) (may_leave : F → Files → Type 0) (served old next : LogOf) (l : LogIn F) (folder : F) → Has seen may_leave served old next l
+    → IsPruning (length old.entries) (length served.entries) (seen l.folder) (seen folder) → ((n : List ℕ) → is_staged n ≡ true → seen folder n ≡ seen l.folder n) → Only (seen folder) (may_leave folder)
+    → Has seen may_leave served old next (record l { folder = folder })
+prune_has seen may_leave served old next l folder has was same only = record {
+  is_open = has.is_open;
+  keeps = pruned_keeps served old (seen l.folder) has.keeps (seen folder) was;
+  extends = has.extends;
+  short = has.short;
+  text = has.text;
+  edge = has.edge;
+  since = has.since;
+  order = has.order;
+  held = has.held;
+  most = has.most;
+  bundle = has.bundle;
+  staged = full_staged_same l.text.length l.edge.taken next (seen l.folder) (seen folder) (λ n. same (staged n) refl) has.staged;
+  staging = λ c left. subst (λ (f : Files). IsBeside (seen folder) f) (sym (only c left)) (record { outside = λ n isnt. refl; no_mark = was.no_mark });
+}
+
+-- a file of which something was read is there
+pub some_read : (o : Option (List ℕ)) (bytes : List ℕ) (n : ℕ) → Some bytes ≡ option_map (take n) o → IsSome o
+some_read None bytes n e = cc
+some_read (Some b) bytes n e = refl

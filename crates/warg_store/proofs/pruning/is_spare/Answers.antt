@@ -1,0 +1,15 @@
+use Rattle.std.proofs.Common.{sym, subst, ◌∙◌, arith}
+use Rattle.warg_tiles.specs.Between.{IsTileOf}
+use Rattle.warg_store.specs.Pruned.{full_of}
+use Rattle.warg_store.proofs.NameLemmas.{apart}
+use Rattle.warg_store.proofs.GrowingLemmas.{same_tile}
+use Rattle.warg_store.proofs.pruning.is_spare.Goals as goal
+
+pub returns : goal.returns
+returns c = λ yes. (
+  omega arith,
+  subst (IsTileOf c.args.kept)
+      (same_tile c.new.result (full_of c.args.tile.now) (c.new.ensures.level ∙ c.level.ensures.value) (c.new.ensures.number ∙ c.number.ensures.value) c.new.ensures.width)
+      (c.is_tile_of-2.ensures.0 yes),
+  (λ is. apart (sym (c.is_tile_of.ensures.1 is) ∙ c.if-is_tile_of.false)),
+)

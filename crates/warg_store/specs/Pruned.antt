@@ -1,0 +1,30 @@
+-- What pruning removes: partial tiles and bundles whose full one is there.
+use Rattle.std.specs.Prelude.{◌≡◌, ◌⊎◌, ℕ, ◌<◌, true, List, None, IsSome}
+use Rattle.warg_tiles.specs.Tiles.{TileAt}
+use Rattle.warg_tiles.specs.TilePaths.{tile_path, entries_path}
+use Rattle.warg_tiles.specs.Between.{IsTileOf}
+use Rattle.warg_store.specs.Files.{Files}
+use Rattle.warg_store.specs.Names.{is_served}
+
+-- The full tile in a tile's place.
+abbrev pub full_of : TileAt → TileAt
+full_of t = record t { width = 256 }
+
+-- The name is the tile's, or that of the bundle below it, and the other one that of the full one in its place.
+abbrev pub HasFull : List ℕ → TileAt → List ℕ → Type 0
+HasFull n t full = ((tile_path t ≡ n) × (tile_path (full_of t) ≡ full)) ⊎ ((t.level ≡ 0) × (entries_path t ≡ n) × (entries_path (full_of t) ≡ full))
+
+-- The name is spare at a kept length and a served one: a partial tile's or bundle's that the served length hasn't, while the
+-- kept one has the full one, and its file is there.
+pub record IsSpare (kept served : ℕ) (files : Files) (n : List ℕ) : Type 0 where
+  pub tile : TileAt
+  pub full : List ℕ
+  pub paths : HasFull n tile full
+  pub partial : tile.width < 256
+  pub exists : IsTileOf kept (full_of tile)
+  pub unserved : IsTileOf served tile → ⊥
+  pub there : IsSome (files full)
+
+-- Each served file is as it was, or was spare and is gone.
+abbrev pub IsPruned : ℕ → ℕ → Files → Files → Type 0
+IsPruned kept served old new = (n : List ℕ) → is_served n ≡ true → (new n ≡ old n) ⊎ ((new n ≡ None) × IsSpare kept served old n)
