@@ -67,6 +67,11 @@ impl LogError {
         }
     }
 
+    /// That tiles don't lead to the root of the log's state.
+    pub(crate) fn no_root(alloc: Global) -> LogError {
+        LogError::damaged(alloc, "tile", "doesn't lead to the root of the log's state")
+    }
+
     /// Why a folder wasn't recovered.
     pub(crate) fn of_recovery(alloc: Global, error: &RecoverError) -> LogError {
         match error {

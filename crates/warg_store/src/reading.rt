@@ -1,152 +1,32 @@
 //! Entries and paths out of a log's folder, each once it leads to the root of the log's state.
 
-ghost use Rattle.std.specs.Prelude.{◌≡◌, ℕ, ◌<◌, ◌≤◌, List, length, Option, Some, Ok, IfOk, IfSome, IsSomeAnd, OnOk, IsTrue, slice_get};
-ghost use Rattle.std.specs.List.{AllByRecursion};
+ghost use Rattle.std.specs.Prelude.{◌≡◌, ◌<◌, ◌≤◌, length, Some, Ok, IfOk, IfSome, IsSomeAnd, OnOk, IsTrue, slice_get};
 ghost use Rattle.warg_crypto.specs.Digests.{sha256};
 ghost use Rattle.warg_paths.specs.Paths.{consistency_roots};
-ghost use Rattle.warg_tiles.specs.Tiles.{TileAt};
-ghost use Rattle.warg_tiles.specs.Between.{IsTileOf};
 ghost use Rattle.warg_store.specs.Audited.{IsOfEntries};
-ghost use Rattle.warg_tiles.specs.CheckpointText.{text_of};
 ghost use Rattle.warg_store.specs.Growing.{Has};
-ghost use Rattle.warg_store.specs.Log.{LogOf, AreShort, IsTileIn, HasFiles, Serves};
+ghost use Rattle.warg_store.specs.Log.{LogOf, AreShort, HasFiles};
 ghost use Rattle.warg_store.specs.Moments.{Within};
 ghost use Rattle.warg_store.specs.Private.Fetched.{AreOwn};
-ghost use Rattle.warg_store.specs.Reading.{Reads, checkpoint_said, inclusion_in, consistency_in, LeadsTo, IsShown, IncludesBy, GrowsBy};
+ghost use Rattle.warg_store.specs.Reading.{checkpoint_said, inclusion_in, consistency_in, LeadsTo, IsShown, IncludesBy, GrowsBy};
 
 use crate::auditing::{Progress, audited};
 use crate::device::{Folder, FolderError};
-use crate::edge::{damaged_bundle, entries_of, open_edge, read_bundle, read_edge, read_tile};
+use crate::edge::{damaged_bundle, entries_of, read_bundle};
 use crate::error::LogError;
+use crate::fetched::Fetched;
 use crate::log_folder::LogFolder;
-use crate::opening::read_newest;
 use std::alloc::Global;
-use std::marker::Model;
 use warg_crypto::{Hash, Sha256, hash_leaf};
-use warg_log::{Checkpoint, GREATEST_LENGTH, LeafRange, LogData, Node, stored_root};
+use warg_log::{Checkpoint, GREATEST_LENGTH, LeafRange, stored_root};
 use warg_paths::{
     PathError, check_tree, consistency_path, inclusion_path, root_of_inclusion,
     roots_of_consistency,
 };
-use warg_tiles::{CheckpointText, Tile, TileData, tiles_for_consistency, tiles_for_inclusion};
+use warg_tiles::{Tile, tiles_for_consistency, tiles_for_inclusion};
 
 /// The digests of a path, from the bottom up.
 pub type Path = Vec<Hash<Sha256>>;
-
-// The tiles that were read for a path, each once.
-#[derive(Drop)]
-struct Fetched {
-    tiles: Vec<Tile>,
-    held: TileData<Sha256, Vec<u8>>,
-}
-
-/// A log as a folder serves it, for those who read: no call changes the folder, and none needs a lock. Whatever commits go on
-/// meanwhile, the files of the checkpoint that was read stay.
-#[derive(Drop)]
-pub struct LogReader<F: Folder + Drop> {
-    alloc: Global,
-    folder: F,
-    text: CheckpointText<Sha256>,
-}
-
-impl<F: Folder + Drop> Model for LogReader<F> {
-    ghost use Rattle.warg_store.specs.Reading.{ServedIn};
-
-    ghost Value = { ServedIn F };
-
-    ghost view = { λ r. record { folder = r.folder; text = r.text } };
-}
-
-impl<F: Folder + Drop> LogReader<F> {
-    /// Reads a folder's checkpoint. `NoLog` where there is none; `RolledBack` where the log's state, if that is there, is
-    /// newer, and no commit is under way; `Damaged` where the checkpoint is corrupt.
-    pub fn open(alloc: Global, mut folder: F) -> Result<LogReader<F>, LogError>
-        ensures { F.IsFaithful → IfOk result (λ reader. (log : LogOf) → Serves log (F.seen folder)
-            → Reads F.seen log reader) }
-    {
-        let text = read_newest(alloc, &mut folder)?;
-        Ok(LogReader {
-            alloc,
-            folder,
-            text,
-        })
-    }
-
-    /// The folder.
-    pub fn into_folder(self) -> F
-        ensures { result ≡ self.folder }
-    {
-        let LogReader { folder, .. } = self;
-        folder
-    }
-
-    /// The checkpoint.
-    pub fn checkpoint(&self) -> Checkpoint<Sha256>
-        ensures { result ≡ checkpoint_said self.now.text }
-    {
-        self.text.checkpoint()
-    }
-
-    /// The log's origin.
-    pub fn origin(&self) -> &[u8]
-        ensures { result.now ≡ self.now.text.origin }
-    {
-        self.text.origin()
-    }
-
-    /// The checkpoint's text, without its signatures, once the log's last tiles lead to its root. `Damaged` where one of them is
-    /// missing or corrupt.
-    pub fn checkpoint_text(&mut self) -> Result<Vec<u8>, LogError>
-        ensures text { IfOk result (λ text. text.items ≡ text_of self.old.text) }
-        ensures reads { F.IsFaithful → (log : LogOf) → Reads F.seen log self.old → Reads F.seen log self.new }
-    {
-        let checkpoint = self.text.checkpoint();
-        let edge = read_edge(self.alloc, &mut self.folder, checkpoint.length())?;
-        open_edge(self.alloc, &checkpoint, edge.as_slice())?;
-        Ok(self.text.write(self.alloc)?)
-    }
-
-    /// As [`LogFolder::entry`], of the checkpoint.
-    pub fn entry(&mut self, index: usize) -> Result<Vec<u8>, LogError>
-        ensures shown { IfOk result (λ entry. IsShown (checkpoint_said self.old.text) index entry.items) }
-        ensures own { F.IsFaithful → IfOk result (λ entry. (log : LogOf) → Reads F.seen log self.old
-            → slice_get log.entries index ≡ Some entry.items) }
-        ensures reads { F.IsFaithful → (log : LogOf) → Reads F.seen log self.old → Reads F.seen log self.new }
-    {
-        let checkpoint = self.text.checkpoint();
-        entry(self.alloc, &mut self.folder, index, &checkpoint)
-    }
-
-    /// As [`LogFolder::inclusion_path`], of the checkpoint.
-    pub fn inclusion_path(&mut self, index: usize, length: usize) -> Result<Path, LogError>
-        ensures leads { IfOk result (λ path. IncludesBy (checkpoint_said self.old.text) index length path.items) }
-        ensures own { F.IsFaithful → IfOk result (λ path. (log : LogOf) → Reads F.seen log self.old
-            → inclusion_in log index length ≡ Some path.items) }
-        ensures reads { F.IsFaithful → (log : LogOf) → Reads F.seen log self.old → Reads F.seen log self.new }
-    {
-        let checkpoint = self.text.checkpoint();
-        inclusion(self.alloc, &mut self.folder, index, length, &checkpoint)
-    }
-
-    /// As [`LogFolder::consistency_path`], of the checkpoint.
-    pub fn consistency_path(&mut self, old: usize, new: usize) -> Result<Path, LogError>
-        ensures leads { IfOk result (λ path. GrowsBy (checkpoint_said self.old.text) old new path.items) }
-        ensures own { F.IsFaithful → IfOk result (λ path. (log : LogOf) → Reads F.seen log self.old
-            → consistency_in log old new ≡ Some path.items) }
-        ensures reads { F.IsFaithful → (log : LogOf) → Reads F.seen log self.old → Reads F.seen log self.new }
-    {
-        let checkpoint = self.text.checkpoint();
-        growth(self.alloc, &mut self.folder, old, new, &checkpoint)
-    }
-
-    /// As [`LogFolder::audit`], of the checkpoint.
-    pub fn audit<P: Progress>(&mut self, progress: &mut P) -> Result<Checkpoint<Sha256>, LogError>
-        ensures { IfOk result IsOfEntries }
-    {
-        let checkpoint = self.text.checkpoint();
-        audited(self.alloc, &mut self.folder, &checkpoint, progress)
-    }
-}
 
 impl<F: Folder + Drop> LogFolder<F> {
     /// The bytes of the entry at `index`, from 0, once its inclusion path leads to the root of the log's state. `OutOfRange`
@@ -203,8 +83,8 @@ impl<F: Folder + Drop> LogFolder<F> {
     }
 }
 
-// An entry, once its inclusion path leads to the checkpoint's root.
-fn entry<F: Folder>(
+/// An entry, once its inclusion path leads to the checkpoint's root.
+pub(crate) fn entry<F: Folder>(
     alloc: Global,
     folder: &mut F,
     index: usize,
@@ -262,8 +142,8 @@ fn damaged_entry(alloc: Global, index: usize) -> LogError {
     )
 }
 
-// The inclusion path of an entry at a length, once it leads to the checkpoint's root.
-fn inclusion<F: Folder>(
+/// The inclusion path of an entry at a length, once it leads to the checkpoint's root.
+pub(crate) fn inclusion<F: Folder>(
     alloc: Global,
     folder: &mut F,
     index: usize,
@@ -289,14 +169,17 @@ fn inclusion<F: Folder>(
     let named = tiles_for_inclusion(alloc, index, log_length)?;
     tiles.fetch(alloc, folder, named.as_slice(), checkpoint.length())?;
     let leaf = tiles.leaf(alloc, folder, index, checkpoint.length())?;
-    let path = made(alloc, inclusion_path(alloc, &tiles.held, index, log_length))?;
+    let path = made(
+        alloc,
+        inclusion_path(alloc, tiles.held(), index, log_length),
+    )?;
     let root = root_of_inclusion(index, log_length, &leaf, path.as_slice());
     check_root(alloc, folder, &mut tiles, log_length, root, checkpoint)?;
     Ok(path)
 }
 
-// The consistency path from an old length to a new one, once it leads to the checkpoint's root.
-fn growth<F: Folder>(
+/// The consistency path from an old length to a new one, once it leads to the checkpoint's root.
+pub(crate) fn growth<F: Folder>(
     alloc: Global,
     folder: &mut F,
     old: usize,
@@ -320,7 +203,7 @@ fn growth<F: Folder>(
     }
     let mut tiles = Fetched::new(alloc);
     let path = fetched_growth(alloc, folder, &mut tiles, old, new, checkpoint.length())?;
-    let root = match stored_root(&tiles.held, &LeafRange::new(0, old)) {
+    let root = match stored_root(tiles.held(), &LeafRange::new(0, old)) {
         Some(root) => new_root(old, new, &root, path.as_slice()),
         None => None,
     };
@@ -347,7 +230,7 @@ fn fetched_growth<F: Folder>(
 {
     let named = tiles_for_consistency(alloc, old, new)?;
     tiles.fetch(alloc, folder, named.as_slice(), log_length)?;
-    made(alloc, consistency_path(alloc, &tiles.held, old, new))
+    made(alloc, consistency_path(alloc, tiles.held(), old, new))
 }
 
 // The path that was made, or the refusal for tiles that give none.
@@ -357,7 +240,7 @@ fn made(alloc: Global, path: Result<Path, PathError>) -> Result<Path, LogError>
     match path {
         Ok(path) => Ok(path),
         Err(PathError::Memory) => Err(LogError::Folder(FolderError::Memory)),
-        Err(_) => Err(no_root(alloc)),
+        Err(_) => Err(LogError::no_root(alloc)),
     }
 }
 
@@ -391,13 +274,13 @@ fn check_root<F: Folder>(
     ensures crash { F.IsFaithful → Within (F.may_leave folder.old) (F.may_leave folder.new) }
 {
     let Some(root) = root else {
-        return Err(no_root(alloc));
+        return Err(LogError::no_root(alloc));
     };
     let old = Checkpoint::new(root, log_length);
     if old == *checkpoint || is_beginning(alloc, folder, tiles, &old, checkpoint)? {
         Ok(())
     } else {
-        Err(no_root(alloc))
+        Err(LogError::no_root(alloc))
     }
 }
 
@@ -419,106 +302,4 @@ fn is_beginning<F: Folder>(
     }
     let path = fetched_growth(alloc, folder, tiles, old_length, length, length)?;
     Ok(check_tree(old, checkpoint, path.as_slice()))
-}
-
-fn no_root(alloc: Global) -> LogError {
-    LogError::damaged(alloc, "tile", "doesn't lead to the root of the log's state")
-}
-
-impl Fetched {
-    // No tile.
-    fn new(alloc: Global) -> Fetched
-        ensures { (log : LogOf) → AreOwn log result.held }
-    {
-        Fetched {
-            tiles: Vec::new(alloc),
-            held: TileData::new(alloc),
-        }
-    }
-
-    // Reads the tiles that weren't read yet, each as wide as the log of this length has it.
-    fn fetch<F: Folder>(
-        &mut self,
-        alloc: Global,
-        folder: &mut F,
-        tiles: &[Tile],
-        log_length: usize,
-    ) -> Result<(), LogError>
-        ensures own { F.IsFaithful → OnOk result ((log : LogOf) (n : ℕ) → HasFiles log (F.seen folder.old)
-            → length log.entries ≡ log_length → n ≤ log_length → n ≤ GREATEST_LENGTH
-            → AllByRecursion (IsTileOf n) tiles.now → AreOwn log self.old.held
-            → AreOwn log self.new.held) }
-        ensures seen { F.IsFaithful → F.seen folder.new ≡ F.seen folder.old }
-        ensures crash { F.IsFaithful → Within (F.may_leave folder.old) (F.may_leave folder.new) }
-    {
-        'tiles: for tile in tiles {
-            self.fetch_one(alloc, folder, tile_at(tile, log_length))?;
-        }
-        Ok(())
-    }
-
-    // Reads a tile, unless it was read.
-    fn fetch_one<F: Folder>(
-        &mut self,
-        alloc: Global,
-        folder: &mut F,
-        tile: Tile,
-    ) -> Result<(), LogError>
-        ensures own { F.IsFaithful → OnOk result ((log : LogOf) → HasFiles log (F.seen folder.old)
-            → IsTileIn log tile → AreOwn log self.old.held → AreOwn log self.new.held) }
-        ensures seen { F.IsFaithful → F.seen folder.new ≡ F.seen folder.old }
-        ensures crash { F.IsFaithful → Within (F.may_leave folder.old) (F.may_leave folder.new) }
-    {
-        if self.tiles.contains(&tile) {
-            return Ok(());
-        }
-        let stored = read_tile(alloc, folder, tile)?;
-        self.tiles.push(tile)?;
-        self.held.insert(stored.tile, stored.digests)?;
-        Ok(())
-    }
-
-    // The leaf digest of an entry. Where no tile has it yet, its own is read.
-    fn leaf<F: Folder>(
-        &mut self,
-        alloc: Global,
-        folder: &mut F,
-        index: usize,
-        log_length: usize,
-    ) -> Result<Hash<Sha256>, LogError>
-        requires { index < GREATEST_LENGTH }
-        ensures own { F.IsFaithful → OnOk result ((log : LogOf) → HasFiles log (F.seen folder.old)
-            → length log.entries ≡ log_length → index < log_length → AreOwn log self.old.held
-            → AreOwn log self.new.held) }
-        ensures seen { F.IsFaithful → F.seen folder.new ≡ F.seen folder.old }
-        ensures crash { F.IsFaithful → Within (F.may_leave folder.old) (F.may_leave folder.new) }
-    {
-        let leaf = Node::leaf(index);
-        if let Some(digest) = self.held.hash_for(leaf) {
-            return Ok(digest);
-        }
-        let tile = Tile::new(0, index / 256, index % 256 + 1);
-        self.fetch_one(alloc, folder, tile_at(&tile, log_length))?;
-        match self.held.hash_for(leaf) {
-            Some(digest) => Ok(digest),
-            None => Err(no_root(alloc)),
-        }
-    }
-}
-
-/// The tile as wide as it is in a log of this length.
-pub(crate) fn tile_at(tile: &Tile, log_length: usize) -> Tile
-    ensures level { result.level ≡ tile.now.level }
-    ensures number { result.number ≡ tile.now.number }
-    ensures width { tile.now.width ≤ result.width }
-    ensures of { (n : ℕ) → n ≤ log_length → n ≤ GREATEST_LENGTH → IsTileOf n tile.now
-        → IsTileOf log_length result }
-{
-    if tile.level() >= 8 {
-        return *tile;
-    }
-    let count = log_length >> (8 * tile.level());
-    let before = tile.number().saturating_mul(256);
-    let width = count.saturating_sub(before).min(256);
-    Tile::new(tile.level(), tile.number(), width.max(tile.width()))
 }

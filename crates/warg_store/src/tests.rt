@@ -372,7 +372,13 @@ fn crashed_batch(
     push_some(&mut log, length, next)?;
     log.commit()?;
     let folder = log.into_folder();
-    let moment = random.below(folder.calls().len().saturating_sub(before).saturating_add(1));
+    let moment = random.below(
+        folder
+            .calls()
+            .len()
+            .saturating_sub(before)
+            .saturating_add(1),
+    );
     let calls = &folder.calls()[..before.saturating_add(moment).min(folder.calls().len())];
     mirrored(rt, alloc, &mut crashed(alloc, calls, 0)?, mirror)?;
     let mut left = crashed(alloc, calls, random.below(choices(calls)))?;

@@ -2,7 +2,7 @@ use Rattle.std.proofs.Common.{List, ℕ, ◌∷◌, [], ◌++◌, sym, ap, subst
 use Rattle.warg_tiles.specs.Tiles.{TileAt}
 use Rattle.warg_store.specs.Private.Fetched.{AreOwn}
 use Rattle.warg_store.proofs.FetchedLemmas.{own_more}
-use Rattle.warg_store.proofs.reading.Fetched.fetch_one.Goals as goal
+use Rattle.warg_store.proofs.fetched.Fetched.fetch_one.Goals as goal
 
 pub returns-clause-own : goal.returns-clause-own
 returns-clause-own g c faithful log files is own =

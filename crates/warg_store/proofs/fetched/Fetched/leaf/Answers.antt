@@ -3,7 +3,7 @@ use Rattle.warg_tiles.specs.Tiles.{TileAt}
 use Rattle.warg_tiles.specs.Between.{IsTileOf}
 use Rattle.warg_store.proofs.GrowingLemmas.{same_tile}
 use Rattle.warg_store.proofs.FetchedLemmas.{leaf_tile, wide_in}
-use Rattle.warg_store.proofs.reading.Fetched.leaf.Goals as goal
+use Rattle.warg_store.proofs.fetched.Fetched.leaf.Goals as goal
 
 pub returns-in-Some-clause-own : goal.returns-in-Some-clause-own
 returns-in-Some-clause-own g c faithful log files count below own = own

@@ -3,7 +3,7 @@ use Rattle.warg_tiles.specs.Between.{IsTileOf}
 use Rattle.warg_protobuf.proofs.ForCallers.{all_at}
 use Rattle.warg_store.specs.Log.{HasFiles}
 use Rattle.warg_store.proofs.FetchedLemmas.{wide_in}
-use Rattle.warg_store.proofs.reading.Fetched.fetch.Goals as goal
+use Rattle.warg_store.proofs.fetched.Fetched.fetch.Goals as goal
 
 pub tiles-preserved : goal.tiles-preserved
 tiles-preserved g c = record {

@@ -5,7 +5,7 @@ use Rattle.warg_tiles.specs.Between.{IsTileOf}
 use Rattle.warg_store.specs.Log.{LogOf, HasFiles}
 use Rattle.warg_store.specs.Moments.{Within}
 use Rattle.warg_store.specs.Private.Fetched.{AreOwn}
-use Rattle.warg_store.proofs.reading.Fetched.fetch.Given as goal
+use Rattle.warg_store.proofs.fetched.Fetched.fetch.Given as goal
 
 abbrev pub invariant-tiles : goal.invariant-tiles
 invariant-tiles g l = record {

@@ -1,0 +1,128 @@
+//! The tiles that a path is made of.
+
+ghost use Rattle.std.specs.Prelude.{◌≡◌, ℕ, ◌<◌, ◌≤◌, length, OnOk};
+ghost use Rattle.std.specs.List.{AllByRecursion};
+ghost use Rattle.warg_tiles.specs.Between.{IsTileOf};
+ghost use Rattle.warg_store.specs.Log.{LogOf, IsTileIn, HasFiles};
+ghost use Rattle.warg_store.specs.Moments.{Within};
+ghost use Rattle.warg_store.specs.Private.Fetched.{AreOwn};
+
+use crate::device::Folder;
+use crate::edge::read_tile;
+use crate::error::LogError;
+use std::alloc::Global;
+use warg_crypto::{Hash, Sha256};
+use warg_log::{GREATEST_LENGTH, LogData, Node};
+use warg_tiles::{Tile, TileData};
+
+/// The tiles that were read for a path, each once.
+#[derive(Drop)]
+pub(crate) struct Fetched {
+    tiles: Vec<Tile>,
+    held: TileData<Sha256, Vec<u8>>,
+}
+
+impl Fetched {
+    /// No tile.
+    pub(crate) fn new(alloc: Global) -> Fetched
+        ensures { (log : LogOf) → AreOwn log result.held }
+    {
+        Fetched {
+            tiles: Vec::new(alloc),
+            held: TileData::new(alloc),
+        }
+    }
+
+    /// Their digests.
+    pub(crate) fn held(&self) -> &TileData<Sha256, Vec<u8>>
+        ensures { result.now ≡ self.now.held }
+    {
+        &self.held
+    }
+
+    /// Reads the tiles that weren't read yet, each as wide as the log of this length has it.
+    pub(crate) fn fetch<F: Folder>(
+        &mut self,
+        alloc: Global,
+        folder: &mut F,
+        tiles: &[Tile],
+        log_length: usize,
+    ) -> Result<(), LogError>
+        ensures own { F.IsFaithful → OnOk result ((log : LogOf) (n : ℕ) → HasFiles log (F.seen folder.old)
+            → length log.entries ≡ log_length → n ≤ log_length → n ≤ GREATEST_LENGTH
+            → AllByRecursion (IsTileOf n) tiles.now → AreOwn log self.old.held
+            → AreOwn log self.new.held) }
+        ensures seen { F.IsFaithful → F.seen folder.new ≡ F.seen folder.old }
+        ensures crash { F.IsFaithful → Within (F.may_leave folder.old) (F.may_leave folder.new) }
+    {
+        'tiles: for tile in tiles {
+            self.fetch_one(alloc, folder, tile_at(tile, log_length))?;
+        }
+        Ok(())
+    }
+
+    // Reads a tile, unless it was read.
+    fn fetch_one<F: Folder>(
+        &mut self,
+        alloc: Global,
+        folder: &mut F,
+        tile: Tile,
+    ) -> Result<(), LogError>
+        ensures own { F.IsFaithful → OnOk result ((log : LogOf) → HasFiles log (F.seen folder.old)
+            → IsTileIn log tile → AreOwn log self.old.held → AreOwn log self.new.held) }
+        ensures seen { F.IsFaithful → F.seen folder.new ≡ F.seen folder.old }
+        ensures crash { F.IsFaithful → Within (F.may_leave folder.old) (F.may_leave folder.new) }
+    {
+        if self.tiles.contains(&tile) {
+            return Ok(());
+        }
+        let stored = read_tile(alloc, folder, tile)?;
+        self.tiles.push(tile)?;
+        self.held.insert(stored.tile, stored.digests)?;
+        Ok(())
+    }
+
+    /// The leaf digest of an entry. Where no tile has it yet, its own is read.
+    pub(crate) fn leaf<F: Folder>(
+        &mut self,
+        alloc: Global,
+        folder: &mut F,
+        index: usize,
+        log_length: usize,
+    ) -> Result<Hash<Sha256>, LogError>
+        requires { index < GREATEST_LENGTH }
+        ensures own { F.IsFaithful → OnOk result ((log : LogOf) → HasFiles log (F.seen folder.old)
+            → length log.entries ≡ log_length → index < log_length → AreOwn log self.old.held
+            → AreOwn log self.new.held) }
+        ensures seen { F.IsFaithful → F.seen folder.new ≡ F.seen folder.old }
+        ensures crash { F.IsFaithful → Within (F.may_leave folder.old) (F.may_leave folder.new) }
+    {
+        let leaf = Node::leaf(index);
+        if let Some(digest) = self.held.hash_for(leaf) {
+            return Ok(digest);
+        }
+        let tile = Tile::new(0, index / 256, index % 256 + 1);
+        self.fetch_one(alloc, folder, tile_at(&tile, log_length))?;
+        match self.held.hash_for(leaf) {
+            Some(digest) => Ok(digest),
+            None => Err(LogError::no_root(alloc)),
+        }
+    }
+}
+
+// The tile as wide as it is in a log of this length.
+fn tile_at(tile: &Tile, log_length: usize) -> Tile
+    ensures level { result.level ≡ tile.now.level }
+    ensures number { result.number ≡ tile.now.number }
+    ensures width { tile.now.width ≤ result.width }
+    ensures of { (n : ℕ) → n ≤ log_length → n ≤ GREATEST_LENGTH → IsTileOf n tile.now
+        → IsTileOf log_length result }
+{
+    if tile.level() >= 8 {
+        return *tile;
+    }
+    let count = log_length >> (8 * tile.level());
+    let before = tile.number().saturating_mul(256);
+    let width = count.saturating_sub(before).min(256);
+    Tile::new(tile.level(), tile.number(), width.max(tile.width()))
+}

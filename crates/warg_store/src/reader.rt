@@ -1,0 +1,127 @@
+//! A log as a folder serves it, as whoever reads it holds it.
+
+ghost use Rattle.std.specs.Prelude.{◌≡◌, Some, IfOk, slice_get};
+ghost use Rattle.warg_tiles.specs.CheckpointText.{text_of};
+ghost use Rattle.warg_store.specs.Audited.{IsOfEntries};
+ghost use Rattle.warg_store.specs.Log.{LogOf, Serves};
+ghost use Rattle.warg_store.specs.Reading.{Reads, checkpoint_said, inclusion_in, consistency_in, IsShown, IncludesBy, GrowsBy};
+
+use crate::auditing::{Progress, audited};
+use crate::device::Folder;
+use crate::edge::{open_edge, read_edge};
+use crate::error::LogError;
+use crate::opening::read_newest;
+use crate::reading::{Path, entry, growth, inclusion};
+use std::alloc::Global;
+use std::marker::Model;
+use warg_crypto::Sha256;
+use warg_log::Checkpoint;
+use warg_tiles::CheckpointText;
+
+/// A log as a folder serves it, for those who read: no call changes the folder, and none needs a lock. Whatever commits go on
+/// meanwhile, the files of the checkpoint that was read stay.
+#[derive(Drop)]
+pub struct LogReader<F: Folder + Drop> {
+    alloc: Global,
+    folder: F,
+    text: CheckpointText<Sha256>,
+}
+
+impl<F: Folder + Drop> Model for LogReader<F> {
+    ghost use Rattle.warg_store.specs.Reading.{ServedIn};
+
+    ghost Value = { ServedIn F };
+
+    ghost view = { λ r. record { folder = r.folder; text = r.text } };
+}
+
+impl<F: Folder + Drop> LogReader<F> {
+    /// Reads a folder's checkpoint. `NoLog` where there is none; `RolledBack` where the log's state, if that is there, is
+    /// newer, and no commit is under way; `Damaged` where the checkpoint is corrupt.
+    pub fn open(alloc: Global, mut folder: F) -> Result<LogReader<F>, LogError>
+        ensures { F.IsFaithful → IfOk result (λ reader. (log : LogOf) → Serves log (F.seen folder)
+            → Reads F.seen log reader) }
+    {
+        let text = read_newest(alloc, &mut folder)?;
+        Ok(LogReader {
+            alloc,
+            folder,
+            text,
+        })
+    }
+
+    /// The folder.
+    pub fn into_folder(self) -> F
+        ensures { result ≡ self.folder }
+    {
+        let LogReader { folder, .. } = self;
+        folder
+    }
+
+    /// The checkpoint.
+    pub fn checkpoint(&self) -> Checkpoint<Sha256>
+        ensures { result ≡ checkpoint_said self.now.text }
+    {
+        self.text.checkpoint()
+    }
+
+    /// The log's origin.
+    pub fn origin(&self) -> &[u8]
+        ensures { result.now ≡ self.now.text.origin }
+    {
+        self.text.origin()
+    }
+
+    /// The checkpoint's text, without its signatures, once the log's last tiles lead to its root. `Damaged` where one of them is
+    /// missing or corrupt.
+    pub fn checkpoint_text(&mut self) -> Result<Vec<u8>, LogError>
+        ensures text { IfOk result (λ text. text.items ≡ text_of self.old.text) }
+        ensures reads { F.IsFaithful → (log : LogOf) → Reads F.seen log self.old → Reads F.seen log self.new }
+    {
+        let checkpoint = self.text.checkpoint();
+        let edge = read_edge(self.alloc, &mut self.folder, checkpoint.length())?;
+        open_edge(self.alloc, &checkpoint, edge.as_slice())?;
+        Ok(self.text.write(self.alloc)?)
+    }
+
+    /// As [`LogFolder::entry`], of the checkpoint.
+    pub fn entry(&mut self, index: usize) -> Result<Vec<u8>, LogError>
+        ensures shown { IfOk result (λ entry. IsShown (checkpoint_said self.old.text) index entry.items) }
+        ensures own { F.IsFaithful → IfOk result (λ entry. (log : LogOf) → Reads F.seen log self.old
+            → slice_get log.entries index ≡ Some entry.items) }
+        ensures reads { F.IsFaithful → (log : LogOf) → Reads F.seen log self.old → Reads F.seen log self.new }
+    {
+        let checkpoint = self.text.checkpoint();
+        entry(self.alloc, &mut self.folder, index, &checkpoint)
+    }
+
+    /// As [`LogFolder::inclusion_path`], of the checkpoint.
+    pub fn inclusion_path(&mut self, index: usize, length: usize) -> Result<Path, LogError>
+        ensures leads { IfOk result (λ path. IncludesBy (checkpoint_said self.old.text) index length path.items) }
+        ensures own { F.IsFaithful → IfOk result (λ path. (log : LogOf) → Reads F.seen log self.old
+            → inclusion_in log index length ≡ Some path.items) }
+        ensures reads { F.IsFaithful → (log : LogOf) → Reads F.seen log self.old → Reads F.seen log self.new }
+    {
+        let checkpoint = self.text.checkpoint();
+        inclusion(self.alloc, &mut self.folder, index, length, &checkpoint)
+    }
+
+    /// As [`LogFolder::consistency_path`], of the checkpoint.
+    pub fn consistency_path(&mut self, old: usize, new: usize) -> Result<Path, LogError>
+        ensures leads { IfOk result (λ path. GrowsBy (checkpoint_said self.old.text) old new path.items) }
+        ensures own { F.IsFaithful → IfOk result (λ path. (log : LogOf) → Reads F.seen log self.old
+            → consistency_in log old new ≡ Some path.items) }
+        ensures reads { F.IsFaithful → (log : LogOf) → Reads F.seen log self.old → Reads F.seen log self.new }
+    {
+        let checkpoint = self.text.checkpoint();
+        growth(self.alloc, &mut self.folder, old, new, &checkpoint)
+    }
+
+    /// As [`LogFolder::audit`], of the checkpoint.
+    pub fn audit<P: Progress>(&mut self, progress: &mut P) -> Result<Checkpoint<Sha256>, LogError>
+        ensures { IfOk result IsOfEntries }
+    {
+        let checkpoint = self.text.checkpoint();
+        audited(self.alloc, &mut self.folder, &checkpoint, progress)
+    }
+}
