@@ -8,6 +8,7 @@ import pathlib
 import sys
 import tempfile
 
+import tried_convict
 import tried_tlog
 from running import little_memory, ran
 
@@ -121,7 +122,8 @@ def of_verdict(program):
 
 
 def main():
-    tried = [*of_check(sys.argv[1]), *of_verdict(sys.argv[2]), *of_vectors(sys.argv[2]), *tried_tlog.of_tlog(sys.argv[3])]
+    bundle = (ROOT / "crates/warg_verdict/data/proof.bundle").read_bytes()
+    tried = [*of_check(sys.argv[1]), *of_verdict(sys.argv[2]), *of_vectors(sys.argv[2]), *tried_convict.of_convict(sys.argv[2], bundle), *tried_tlog.of_tlog(sys.argv[3])]
     failed = [name for name, came in tried if not came]
     for name in failed:
         print(f"not as it should be: {name}")

@@ -1,11 +1,12 @@
-//! The claims that the program judges.
+//! The claims that the program judges, and the evidence for them.
 
-use crate::given::{bytes, checkpoint, number, root};
+use crate::given::{bytes, checkpoint, evidence_bytes, number, root};
 use anyhow::{Result, anyhow};
 use clap::ArgMatches;
 use std::alloc::Global;
 use warg_check::{
-    CheckError, check_absent, check_entry, check_growth, check_insertion, check_key, check_update,
+    CheckError, check_absent, check_entry, check_entry_path, check_growth, check_growth_path,
+    check_insertion, check_key, check_update,
 };
 use warg_crypto::{Hash, Sha256};
 use warg_log::Checkpoint;
@@ -52,16 +53,23 @@ pub enum Claim {
     },
 }
 
+/// What is to show a claim: the proof at a place of a bundle, or a path. No path shows a claim about a map.
+#[derive(Drop)]
+pub enum Evidence {
+    Bundle { bytes: Vec<u8>, at: usize },
+    Path(Vec<u8>),
+}
+
 impl Claim {
     /// The claim that a subcommand makes of its options.
     pub fn of(rt: &HostRuntime, name: &str, asked: &ArgMatches<'_>) -> Result<Claim> {
         match name {
-            "entry" => Ok(Claim::Entry {
+            "entry" | "entry-path" => Ok(Claim::Entry {
                 index: number(asked, "index")?,
                 value: bytes(rt, asked, "value")?,
                 checkpoint: checkpoint(asked, "length", "root")?,
             }),
-            "growth" => Ok(Claim::Growth {
+            "growth" | "growth-path" => Ok(Claim::Growth {
                 old: checkpoint(asked, "old-length", "old-root")?,
                 new: checkpoint(asked, "new-length", "new-root")?,
             }),
@@ -87,12 +95,36 @@ impl Claim {
                 old_root: root(asked, "old-root")?,
                 new_root: root(asked, "new-root")?,
             }),
-            _ => Err(anyhow!("no verdict is called {name}")),
+            _ => Err(anyhow!("no claim is called {name}")),
         }
     }
 
-    /// The verdict by the proof at a place of a bundle, or why the bundle is refused.
-    pub fn verdict(&self, alloc: Global, bundle: &[u8], at: usize) -> Result<bool, CheckError> {
+    /// The verdict by the evidence, or why this is refused.
+    pub fn verdict(&self, alloc: Global, evidence: &Evidence) -> Result<bool, CheckError> {
+        match evidence {
+            Evidence::Bundle { bytes, at } => self.verdict_by_bundle(alloc, bytes, *at),
+            Evidence::Path(bytes) => self.verdict_by_path(alloc, bytes),
+        }
+    }
+
+    fn verdict_by_path(&self, alloc: Global, path: &[u8]) -> Result<bool, CheckError> {
+        match self {
+            Claim::Entry {
+                index,
+                value,
+                checkpoint,
+            } => check_entry_path(alloc, path, *index, value, checkpoint),
+            Claim::Growth { old, new } => check_growth_path(alloc, path, old, new),
+            _ => Ok(false),
+        }
+    }
+
+    fn verdict_by_bundle(
+        &self,
+        alloc: Global,
+        bundle: &[u8],
+        at: usize,
+    ) -> Result<bool, CheckError> {
         match self {
             Claim::Entry {
                 index,
@@ -118,5 +150,19 @@ impl Claim {
                 new_root,
             } => check_insertion(alloc, bundle, at, key, value, old_root, new_root),
         }
+    }
+}
+
+impl Evidence {
+    /// The evidence that a subcommand takes.
+    pub fn of(rt: &HostRuntime, name: &str, asked: &ArgMatches<'_>) -> Result<Evidence> {
+        let bytes = evidence_bytes(rt, asked)?;
+        if name.ends_with("-path") {
+            return Ok(Evidence::Path(bytes));
+        }
+        Ok(Evidence::Bundle {
+            bytes,
+            at: number(asked, "at")?,
+        })
     }
 }

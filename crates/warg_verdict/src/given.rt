@@ -1,4 +1,4 @@
-//! What an argument gives: a bundle, bytes as text, as hexadecimal digits or out of a file, a number, a root.
+//! What an argument gives: evidence, bytes as text, as hexadecimal digits or out of a file, a number, a root.
 
 use anyhow::{Context, Result, anyhow};
 use clap::ArgMatches;
@@ -7,10 +7,10 @@ use std::io::Read;
 use warg_crypto::{Hash, Sha256};
 use warg_log::Checkpoint;
 
-/// The bundle's bytes, out of its file or standard input, where `-` stands for the file. With `--hex` these are digits,
-/// behind the word `bundle` or alone.
-pub fn bundle(rt: &HostRuntime, asked: &ArgMatches<'_>) -> Result<Vec<u8>> {
-    let path = text(asked, "bundle")?;
+/// The bytes of a bundle or a path, out of its file or standard input, where `-` stands for the file. With `--hex` these
+/// are digits, behind the word `bundle` or alone.
+pub fn evidence_bytes(rt: &HostRuntime, asked: &ArgMatches<'_>) -> Result<Vec<u8>> {
+    let path = text(asked, "evidence")?;
     let bytes = if path == "-" {
         standard_input(rt)?
     } else {
@@ -22,6 +22,11 @@ pub fn bundle(rt: &HostRuntime, asked: &ArgMatches<'_>) -> Result<Vec<u8>> {
         return digits(rt, word).context(format_args!("{path}"));
     }
     Ok(bytes)
+}
+
+/// Whether the evidence is to come from standard input.
+pub fn is_on_standard_input(asked: &ArgMatches<'_>) -> Result<bool> {
+    Ok(text(asked, "evidence")? == "-")
 }
 
 // The text of an argument that the command line requires.
@@ -65,8 +70,8 @@ pub fn bytes(rt: &HostRuntime, asked: &ArgMatches<'_>, name: &str) -> Result<Vec
     }
 }
 
-// The bytes that hexadecimal digits spell.
-fn digits(rt: &HostRuntime, digits: &[u8]) -> Result<Vec<u8>> {
+/// The bytes that hexadecimal digits spell.
+pub fn digits(rt: &HostRuntime, digits: &[u8]) -> Result<Vec<u8>> {
     hex::decode(rt.alloc(), digits).context(format_args!("{} digits", digits.len()))
 }
 
@@ -75,7 +80,8 @@ fn file(rt: &HostRuntime, path: &str) -> Result<Vec<u8>> {
     fs::read(rt, path).context(format_args!("{path}"))
 }
 
-fn standard_input(rt: &HostRuntime) -> Result<Vec<u8>> {
+/// All bytes on standard input.
+pub fn standard_input(rt: &HostRuntime) -> Result<Vec<u8>> {
     let mut bytes = Vec::new(rt.alloc());
     rt.stdin()
         .read_to_end(&mut bytes)

@@ -1,26 +1,33 @@
-//! `warg_verdict`: a verdict on one proof in a bundle, for scripts.
+//! `warg_verdict`: a verdict on one proof in a bundle or one path, for scripts.
 //!
-//! It prints `true`, `false`, with `-v` also why, or why the bundle is refused. The exit status is 0 for true, 1 for false, 2 for a refused
-//! bundle, and 3 for anything else: wrong arguments, a file that can't be read, memory that ran out.
+//! It prints `true`, `false`, with `-v` also why, or why the evidence is refused; with `convict`, whether the claim is true of
+//! entries or insertions, or two byte strings of one digest. The exit status is 0 for true, 1 for false or two byte strings, 2
+//! for evidence that is refused or isn't met, and 3 for anything else: wrong arguments, a file that can't be read, memory that
+//! ran out.
 #![tactic(auto)]
 
 mod claim;
+mod convict;
 mod given;
 mod reason;
 mod usage;
+mod world;
 
 ghost use Rattle.std.specs.Prelude.{◌≡◌, ◌↔◌, IsTrue};
 ghost use Rattle.std.specs.Process.{exit_status};
 
-use anyhow::Result;
-use claim::Claim;
+use anyhow::{Result, anyhow};
+use claim::{Claim, Evidence};
 use clap::ArgMatches;
-use given::{bundle, number};
+use convict::convict;
+use given::{is_on_standard_input, standard_input};
 use reason::reason;
 use std::env;
 use std::process::ExitCode;
 use usage::command;
 use warg_check::CheckError;
+use warg_crypto::Sha256;
+use warg_witness::Finding;
 
 fn main(rt: HostRuntime) -> ExitCode {
     match judge(&rt) {
@@ -32,7 +39,7 @@ fn main(rt: HostRuntime) -> ExitCode {
     }
 }
 
-// Reads the arguments, and prints the verdict that they ask for.
+// Reads the arguments, and prints what they ask for.
 fn judge(rt: &HostRuntime) -> Result<ExitCode> {
     let words = env::args(rt)?.collect::<Vec<String>>(rt.alloc())?;
     let matches = match command(rt.alloc())?.try_get_matches_from(words.as_slice()) {
@@ -43,19 +50,23 @@ fn judge(rt: &HostRuntime) -> Result<ExitCode> {
             return Ok(ExitCode::from(if is_help { 0 } else { 3 }));
         }
     };
-    let Some((name, asked)) = matches.subcommand() else {
-        return Ok(ExitCode::from(3));
-    };
-    answer(rt, &Claim::of(rt, name, asked)?, asked)
+    match matches.subcommand() {
+        Some(("convict", of)) => match of.subcommand() {
+            Some((name, asked)) => answer_conviction(rt, name, asked),
+            None => Ok(ExitCode::from(3)),
+        },
+        Some((name, asked)) => answer_verdict(rt, name, asked),
+        None => Ok(ExitCode::from(3)),
+    }
 }
 
-// Prints the verdict on a claim, or why the bundle is refused.
-fn answer(rt: &HostRuntime, claim: &Claim, asked: &ArgMatches<'_>) -> Result<ExitCode> {
-    let at = number(asked, "at")?;
-    let bundle = bundle(rt, asked)?;
-    match claim.verdict(rt.alloc(), bundle.as_slice(), at) {
+// Prints the verdict on a claim, or why the evidence is refused.
+fn answer_verdict(rt: &HostRuntime, name: &str, asked: &ArgMatches<'_>) -> Result<ExitCode> {
+    let claim = Claim::of(rt, name, asked)?;
+    let evidence = Evidence::of(rt, name, asked)?;
+    match claim.verdict(rt.alloc(), &evidence) {
         Ok(false) if asked.get_flag("verbose") => {
-            let reason = reason(rt.alloc(), claim, bundle.as_slice(), at)?;
+            let reason = reason(rt.alloc(), &claim, &evidence)?;
             println!(rt; "false: {reason}")?;
             Ok(status_of(false))
         }
@@ -63,12 +74,56 @@ fn answer(rt: &HostRuntime, claim: &Claim, asked: &ArgMatches<'_>) -> Result<Exi
             println!(rt; "{verdict}")?;
             Ok(status_of(verdict))
         }
-        Err(CheckError::Memory) => Err(CheckError::Memory.into()),
-        Err(refusal) => {
-            println!(rt; "refused: {refusal}")?;
+        Err(refusal) => refused(rt, refusal),
+    }
+}
+
+// Prints what evidence with a true verdict shows of the entries or insertions on standard input.
+fn answer_conviction(rt: &HostRuntime, name: &str, asked: &ArgMatches<'_>) -> Result<ExitCode> {
+    if is_on_standard_input(asked)? {
+        return Err(anyhow!(
+            "standard input has the entries or insertions, and can't have the evidence, too"
+        ));
+    }
+    let claim = Claim::of(rt, name, asked)?;
+    let evidence = Evidence::of(rt, name, asked)?;
+    let lines = String::from_utf8(standard_input(rt)?)?;
+    match claim.verdict(rt.alloc(), &evidence) {
+        Ok(true) => tell(rt, &convict(rt, &claim, &evidence, &lines)?),
+        Ok(false) => {
+            println!(rt; "not met: the verdict is false")?;
+            Ok(ExitCode::from(2))
+        }
+        Err(refusal) => refused(rt, refusal),
+    }
+}
+
+// Prints what was found where the verdict is true.
+fn tell(rt: &HostRuntime, found: &Finding<Sha256>) -> Result<ExitCode> {
+    match found {
+        Finding::Holds => {
+            println!(rt; "true of them")?;
+            Ok(ExitCode::from(0))
+        }
+        Finding::Collision(pair) => {
+            println!(rt; "{}", hex::encode(rt.alloc(), pair.first())?)?;
+            println!(rt; "{}", hex::encode(rt.alloc(), pair.second())?)?;
+            Ok(ExitCode::from(1))
+        }
+        Finding::NotMet => {
+            println!(rt; "not met: another length or root")?;
             Ok(ExitCode::from(2))
         }
     }
+}
+
+// Prints why evidence is refused.
+fn refused(rt: &HostRuntime, refusal: CheckError) -> Result<ExitCode> {
+    if let CheckError::Memory = refusal {
+        return Err(CheckError::Memory.into());
+    }
+    println!(rt; "refused: {refusal}")?;
+    Ok(ExitCode::from(2))
 }
 
 // The exit status that tells a verdict.

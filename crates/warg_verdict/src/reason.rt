@@ -1,6 +1,6 @@
 //! Why a verdict is false: what the proof is of, or where it leads, in place of what is claimed.
 
-use crate::claim::Claim;
+use crate::claim::{Claim, Evidence};
 use std::alloc::Global;
 use warg_bundle::{LogProofBundle, MapProofBundle};
 use warg_check::CheckError;
@@ -13,10 +13,23 @@ const ANOTHER_OLD_ROOT: &str = "another old root";
 
 const ANOTHER_NEW_ROOT: &str = "another new root";
 
+const NO_PATH: &str = "the path doesn't lead there";
+
 const NO_DIGEST: &str = "a digest is missing";
 
-/// The first thing by which the proof at a place of a bundle isn't that of a claim whose verdict is false.
+/// The first thing by which evidence isn't that of a claim whose verdict is false. Of a path that is all that can be said.
 pub fn reason(
+    alloc: Global,
+    claim: &Claim,
+    evidence: &Evidence,
+) -> Result<&'static str, CheckError> {
+    match evidence {
+        Evidence::Bundle { bytes, at } => of_bundle(alloc, claim, bytes, *at),
+        Evidence::Path(_) => Ok(NO_PATH),
+    }
+}
+
+fn of_bundle(
     alloc: Global,
     claim: &Claim,
     bundle: &[u8],
