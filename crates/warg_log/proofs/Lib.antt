@@ -18,3 +18,4 @@ mod FaultLemmas
 pub mod ForCallers
 mod DecimalLemmas
 mod TextLemmas
+pub mod PremiseLemmas

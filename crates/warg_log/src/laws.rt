@@ -128,13 +128,11 @@ pub fn needed_beside()
 
 /// Any other range needs what its two parts need: the rest's nodes stand first where the first part misses
 /// the target, and else the first part's.
-#[tactic(auto, using(crate::proofs::WayLemmas::way_over_parts, std::proofs::lemmas::Bool::false_from_ne_true), unfolding(crate::specs::Walks::read_on))]
 pub fn needed_parts()
-    ensures rest_first { (t r : Range) → 1 < r.count → r ≢ t
+    ensures rest_first { (t r : Range) → 1 < r.count
         → (IsFull r.count → IsTrue (is_beside t r) → ⊥) → IsTrue (is_beside t (front_part r))
         → needed_over t r ≡ needed_over t (rest_part r) ++ needed_over t (front_part r) }
-    ensures front_first { (t r : Range) → 1 < r.count → r ≢ t
-        → (IsFull r.count → IsTrue (is_beside t r) → ⊥) → (IsTrue (is_beside t (front_part r)) → ⊥)
+    ensures front_first { (t r : Range) → 1 < r.count → r ≢ t → (IsTrue (is_beside t (front_part r)) → ⊥)
         → needed_over t r ≡ needed_over t (front_part r) ++ needed_over t (rest_part r) }
 {}
 

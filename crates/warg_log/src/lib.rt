@@ -13,6 +13,7 @@ pub mod laws;
 mod leaf_range;
 mod log;
 mod node;
+pub mod premises;
 mod proof;
 mod sparse_data;
 mod stack_log;

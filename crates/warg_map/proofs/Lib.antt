@@ -19,3 +19,4 @@ pub mod LastInserted
 pub mod DigestBits
 pub mod ProofEquality
 pub mod ForCallers
+pub mod PremiseLemmas

@@ -23,6 +23,7 @@ mod link;
 mod map;
 mod node;
 mod path;
+pub mod premises;
 mod proof;
 mod singleton;
 mod walk;
