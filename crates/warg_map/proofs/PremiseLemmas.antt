@@ -1,14 +1,13 @@
 -- What refutes a law without one of its premises.
-use Rattle.std.proofs.Common.{◌≡◌, ℕ, suc, ◌+◌, inl, inr, Bool, true, false, not, List, [], ◌∷◌, ◌++◌, length, Option, Some, None, is_some, refl, sym, ap, ◌∙◌, arith}
+use Rattle.std.proofs.Common.{◌≡◌, ℕ, suc, ◌+◌, inl, inr, Bool, true, false, not, List, [], ◌∷◌, ◌++◌, length, Option, Some, is_some, refl, sym, ap, ◌∙◌, arith}
 use Rattle.std.specs.Prelude.{replicate}
 use Rattle.std.specs.FinMap.{get, insert, empty, contains_key, get-empty}
 use Rattle.std.proofs.lemmas.List.{append_cancel_left, append_cancel_right, length-replicate}
 use Rattle.std.proofs.lemmas.List.Elements.{All-replicate}
 use Rattle.warg_crypto.specs.Digests.{IsDigest, IsByte}
 use Rattle.warg_crypto.specs.EmptyTrees.{empty_root}
-use Rattle.warg_crypto.specs.Tree.{branch, input_beside}
 use Rattle.warg_map.specs.Sparse.{SparseMap, bits_cmp, root_of_levels, sparse_root}
-use Rattle.warg_map.specs.Peers.{IsPeers, Proves, ProvesAbsent, ProvesEmpty, shared}
+use Rattle.warg_map.specs.Peers.{IsPeers, Proves, ProvesAbsent, ProvesEmpty}
 use Rattle.warg_map.specs.ProofValue.{peer_of, proof_value}
 use Rattle.warg_map.proofs.BitsInFront.{no_some}
 use Rattle.warg_map.proofs.FoundInNode.{get-lone_other}

@@ -205,8 +205,19 @@ fn with_claims<'a>(
 }
 
 fn of_claim<'a>(alloc: Global, claim: &Asked, flags: &[Taken]) -> Result<Command<'a>, AllocError> {
-    let mut command = Command::new(alloc, claim.name).about(claim.about);
-    for taken in claim.evidence.iter().chain(flags).chain(claim.options) {
+    let command = Command::new(alloc, claim.name).about(claim.about);
+    let command = with_arguments(alloc, command, claim.evidence)?;
+    let command = with_arguments(alloc, command, flags)?;
+    with_arguments(alloc, command, claim.options)
+}
+
+fn with_arguments<'a>(
+    alloc: Global,
+    of: Command<'a>,
+    arguments: &[Taken],
+) -> Result<Command<'a>, AllocError> {
+    let mut command = of;
+    for taken in arguments {
         command = command.arg(argument(alloc, taken))?;
     }
     Ok(command)

@@ -1,17 +1,16 @@
 -- Two maps of one root at a key whose last value isn't one in both, and a step from one map to another.
-use Rattle.std.proofs.Common.{◌≡◌, ◌⊎◌, ℕ, ◌<◌, ◌+◌, get_or, map, inl, inr, Bool, List, [], ◌∷◌, ◌++◌, length, Option, Some, None, IfSome, refl, sym, ap, subst, ◌∙◌, arith}
+use Rattle.std.proofs.Common.{◌≡◌, ◌⊎◌, ℕ, ◌<◌, ◌+◌, get_or, map, inl, inr, List, [], ◌∷◌, ◌++◌, length, Option, Some, None, IfSome, refl, sym, ap, subst, ◌∙◌, arith}
 use Rattle.std.specs.List.{All, Contains}
 use Rattle.std.specs.Option.{MatchOption}
-use Rattle.std.proofs.lemmas.List.{append-nil, get_or-map, length-append, length-map, map-append}
+use Rattle.std.proofs.lemmas.List.{get_or-map, length-append, length-map, map-append}
 use Rattle.std.proofs.lemmas.List.Elements.{recursion_from_All}
 use Rattle.std.specs.FinMap.{get}
 use Rattle.warg_crypto.specs.Collisions.{GivesHashes}
-use Rattle.warg_crypto.specs.Tree.{leaf_digest, leaf_input}
 use Rattle.warg_map.specs.Bits.{key_bits}
 use Rattle.warg_map.specs.Last.{last_under, same_bits}
 use Rattle.warg_map.specs.Peers.{IsBeside}
 use Rattle.warg_map.specs.Sparse.{sparse_root, map_of, pair_bytes}
-use Rattle.warg_map.proofs.ForCallers.{all_bits, beside_input, same_bits-true, same_digest}
+use Rattle.warg_map.proofs.ForCallers.{all_bits, same_bits-true, same_digest}
 use Rattle.warg_witness.specs.ChangeClaims.{IsChangeMet, IsUpdate, IsUpdatePlaced}
 use Rattle.warg_witness.specs.Findings.{Finds}
 use Rattle.warg_witness.specs.MapClaims.{value_in, last_insertion, IsKeyMet, IsLastValue}
@@ -23,7 +22,7 @@ use Rattle.warg_witness.specs.Private.Divergence.{Shows}
 use Rattle.warg_witness.specs.declared.collision.Finding.{Finding}
 use Rattle.warg_witness.specs.declared.collision.Finding.TheVariants.{Holds, NotMet, Collision}
 use Rattle.warg_witness.proofs.InsertionLemmas.{last_with-is, last_of_digest, pair_at, length-pair_bytes}
-use Rattle.warg_witness.proofs.KeyLemmas.{own_root, plain_leaf_is}
+use Rattle.warg_witness.proofs.KeyLemmas.{own_root}
 use Rattle.warg_witness.proofs.KeyPremiseLemmas.{own_input}
 use Rattle.warg_witness.proofs.MapLawLemmas.{agree, is_key}
 

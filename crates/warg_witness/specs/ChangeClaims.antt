@@ -1,5 +1,5 @@
 -- What a map's proof claims of a step from one map to another, and where the two byte strings of a lie stand.
-use Rattle.std.specs.Prelude.{◌≡◌, ℕ, ◌⊎◌, List, [], ◌∷◌, ◌++◌, Option}
+use Rattle.std.specs.Prelude.{ℕ, ◌⊎◌, List, [], ◌∷◌, ◌++◌, Option}
 use Rattle.warg_witness.specs.MapClaims.{IsKeyMet, IsLastValue}
 use Rattle.warg_witness.specs.MapPlaced.{IsKeyPlaced}
 use Rattle.warg_witness.specs.MapsPlaced.{Insertions, HaveSameValues, IsPlacedInMaps}

@@ -1,4 +1,4 @@
-use Rattle.std.proofs.Common.{◌≡◌, ℕ, ◌<◌, ◌≤◌, List, inl, inr, length, take, Option, Some, refl, arith}
+use Rattle.std.proofs.Common.{◌≡◌, ℕ, List, inl, inr, take, Option, Some, refl, arith}
 use Rattle.std.proofs.lemmas.Bool.{cases_lt}
 use Rattle.warg_log.specs.Cut.{old_root, way_within, top_of}
 use Rattle.warg_log.specs.Tree.{root_of, own_digest}

@@ -3,7 +3,7 @@ use Rattle.std.specs.FinMap.{get, insert, empty, get-empty}
 use Rattle.warg_map.specs.Bits.{key_bits}
 use Rattle.warg_map.specs.Sparse.{bits_cmp, inserted}
 use Rattle.warg_map.proofs.SparseTree.{get-insert_same}
-use Rattle.warg_map.proofs.PremiseLemmas.{own, below, SameDigest}
+use Rattle.warg_map.proofs.PremiseLemmas.{own, SameDigest}
 use Rattle.warg_map.proofs.premises.any_order.Goals as goal
 
 pub returns-clause-permutation : goal.returns-clause-permutation

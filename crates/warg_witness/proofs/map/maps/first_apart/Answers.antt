@@ -1,4 +1,4 @@
-use Rattle.std.proofs.Common.{◌≡◌, ℕ, [], List, below_more, subst, sym, arith}
+use Rattle.std.proofs.Common.{ℕ, [], List, below_more, subst, sym, arith}
 use Rattle.std.proofs.lemmas.Bool.{iff_false}
 use Rattle.std.proofs.lemmas.List.Elements.{All-from_get_or}
 use Rattle.warg_map.specs.Sparse.{pair_bytes}
