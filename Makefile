@@ -1,5 +1,5 @@
 # Entry points; 'make' alone lists them. The first line of a target's comment is its help.
-.PHONY: help run verdict tlog try test kit-gate wrong-bodies bench ffi ffi-test install dist interop
+.PHONY: help run verdict tlog try test kit-gate wrong-bodies bench definitions ffi ffi-test install dist interop
 
 PROVE = python3 scripts/prove_all.py $(if $(V),--notes) $(if $(CPU),--cpu $(CPU))
 
@@ -43,9 +43,13 @@ kit-gate:
 wrong-bodies:
 	@python3 scripts/wrong_bodies.py --build $(if $(CRATE),--crate $(CRATE)) $(if $(ONLY),--only $(ONLY))
 
-# Proves and builds the measuring program, and prints its figures.
+# Proves and builds the measuring program, and prints its times; scripts/bench_counts.py counts.
 bench:
 	@$(PROVE) warg_bench && crates/warg_bench/out/proved/warg_bench measure
+
+# Prints the definitions that the contracts rest on, in reading order.
+definitions:
+	@python3 scripts/definitions.py
 
 # Proves and builds the library for C, as ffi/libwarg.a and ffi/libwarg.so.
 ffi:

@@ -34,20 +34,20 @@ func bench() {
 	rows := []row{
 		{
 			fmt.Sprintf("CheckRecord, %d digests", len(path)),
-			fmt.Sprintf("check_record %d %d %d %s %s", index, index, length, digits(top), list(path)),
-			fmt.Sprintf("check_record %d %d %d %s %s", length, index, index, digits(top), list(path)),
+			fmt.Sprintf("check_record %s %d %s %d %s", bytesOf(path), index, hexOf(value(index)), length, digits(top)),
+			fmt.Sprintf("check_record %s %d %s %d %s", bytesOf(path), length, hexOf(value(index)), index, digits(top)),
 			func() { stop(tlog.CheckRecord(path, length, top, index, leaf)) },
 		},
 		{
 			fmt.Sprintf("CheckTree, %d digests", len(growth)),
-			fmt.Sprintf("check_tree %d %s %d %s %s", old, digits(oldRoot), length, digits(top), list(growth)),
-			fmt.Sprintf("check_tree %d %s %d %s %s", length, digits(oldRoot), old, digits(top), list(growth)),
+			fmt.Sprintf("check_tree %s %d %s %d %s", bytesOf(growth), old, digits(oldRoot), length, digits(top)),
+			fmt.Sprintf("check_tree %s %d %s %d %s", bytesOf(growth), length, digits(oldRoot), old, digits(top)),
 			func() { stop(tlog.CheckTree(growth, length, top, old, oldRoot)) },
 		},
 		{
 			"one branch hash",
-			fmt.Sprintf("check_record 0 %d 2 %s %s", index, digits(pair), list(one)),
-			fmt.Sprintf("check_record 2 %d 0 %s %s", index, digits(pair), list(one)),
+			fmt.Sprintf("check_record %s 0 %s 2 %s", bytesOf(one), hexOf(value(index)), digits(pair)),
+			fmt.Sprintf("check_record %s 2 %s 0 %s", bytesOf(one), hexOf(value(index)), digits(pair)),
 			func() { tlog.NodeHash(leaf, top) },
 		},
 	}
@@ -72,7 +72,7 @@ func same(line, wanted string) {
 	for i := range lines {
 		lines[i] = line
 	}
-	for _, answer := range run(lines) {
+	for _, answer := range run(program, lines) {
 		if answer != wanted {
 			differ(line, answer, wanted)
 		}

@@ -58,12 +58,15 @@ func randomTree() tlog.Tree {
 
 // Asks for a text that has to be read as this tree, with this further line and these bytes behind it.
 func checkpointText(text []byte, tree tlog.Tree, extension string, behind []byte) {
-	ask("checkpoint_text "+hex.EncodeToString(text), answerFor(goOrigin, tree, extension, behind), nil)
+	ask("read_checkpoint_text "+hex.EncodeToString(text), answerFor(goOrigin, tree, extension, behind), nil)
 }
 
 func answerFor(origin string, tree tlog.Tree, extension string, behind []byte) string {
-	return fmt.Sprintf("%s %d %s %s %s", hex.EncodeToString([]byte(origin)), tree.N, digits(tree.Hash),
-		orNone(hex.EncodeToString([]byte(extension))), orNone(hex.EncodeToString(behind)))
+	extensions := "[]"
+	if extension != "" {
+		extensions = hexOf(extension)
+	}
+	return fmt.Sprintf("%s %d %s %s %s", hexOf(origin), tree.N, digits(tree.Hash), extensions, hexOf(string(behind)))
 }
 
 // Flips a bit behind the origin. Where tlog reads the text still, ours reads the same tree, unless its root is another base64
@@ -78,7 +81,7 @@ func flippedText(text []byte) int {
 		return 0
 	}
 	if string(lines[2]) != tree.Hash.String() {
-		ask("checkpoint_text "+hex.EncodeToString(other), "refused Root", nil)
+		ask("read_checkpoint_text "+hex.EncodeToString(other), "refused Root", nil)
 		return 1
 	}
 	checkpointText(other, tree, "", []byte{})

@@ -1,6 +1,6 @@
 // The comparison of this project's paths, tiles and checkpoint texts with those of Go's checksum database.
 //
-// Usage: interop WARG_INTEROP WARG_TLOG. With BENCH=1 in the environment it prints times too. docs/INTEROP.md says what is
+// Usage: interop WARG_VECTORS WARG_CHECK WARG_TLOG. With BENCH=1 in the environment it prints times too. docs/INTEROP.md says what is
 // compared.
 package main
 
@@ -13,11 +13,11 @@ import (
 var random = rand.New(rand.NewSource(1))
 
 func main() {
-	if len(os.Args) != 3 {
-		fmt.Fprintln(os.Stderr, "usage: interop WARG_INTEROP WARG_TLOG")
+	if len(os.Args) != 4 {
+		fmt.Fprintln(os.Stderr, "usage: interop WARG_VECTORS WARG_CHECK WARG_TLOG")
 		os.Exit(2)
 	}
-	program, folderProgram = os.Args[1], os.Args[2]
+	program, logProgram, folderProgram = os.Args[1], os.Args[2], os.Args[3]
 	// One entry more, since a log one longer is tried too.
 	grow(most + 1)
 	comparePaths()

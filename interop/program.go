@@ -1,4 +1,4 @@
-// Calls of warg_interop. They are gathered, and go to it together.
+// Calls of warg_vectors (docs/VECTORS.md). They are gathered, and go to it together.
 package main
 
 import (
@@ -13,33 +13,41 @@ import (
 
 const batch = 20000 // So many calls go to one run of the program.
 
-var program string
+// The program that answers calls, and the one that keeps a log.
+var program, logProgram string
 
 type call struct {
 	line, wanted string
 	judge        func(answer string) error
 }
 
-var (
-	calls  []call
-	pushed int64
-)
+var calls []call
+
+func gather(line, wanted string, judge func(string) error) {
+	calls = append(calls, call{line, wanted, judge})
+	if len(calls) == batch {
+		send()
+	}
+}
 
 // Gathers a call with the answer that is wanted, unless something is wrong already.
 func ask(line, wanted string, err error) {
 	stop(err)
-	calls = append(calls, call{line, wanted, nil})
+	gather(line, wanted, nil)
 }
+
+// Gathers a call whose answer is judged.
+func askJudged(line string, judge func(string) error) { gather(line, "", judge) }
 
 // Gathers a call for a path, which is the one that is wanted, and is accepted as our side spells it.
 func askPath(line string, path []tlog.Hash, check func([]tlog.Hash) error) {
-	calls = append(calls, call{line, list(path), func(answer string) error {
+	gather(line, list(path), func(answer string) error {
 		ours, err := read(answer)
 		if err != nil {
 			return err
 		}
 		return check(ours)
-	}})
+	})
 }
 
 // Gathers a call for a verdict, which is to be that of Go's side.
@@ -49,18 +57,21 @@ func askVerdict(line string, err error) {
 	} else {
 		refused++
 	}
-	calls = append(calls, call{line, strconv.FormatBool(err == nil), nil})
+	gather(line, strconv.FormatBool(err == nil), nil)
 }
 
-// Sends what was gathered to a new run of the program, and compares its answers. The log of the next run is pushed anew.
+// Sends what was gathered to a new run of the program, and compares its answers.
 func send() {
+	if len(calls) == 0 {
+		return
+	}
 	lines := make([]string, len(calls))
 	for i, call := range calls {
 		lines[i] = call.line
 	}
-	answers := run(lines)
+	answers := run(program, lines)
 	for i, call := range calls {
-		if answers[i] != call.wanted {
+		if call.wanted != "" && answers[i] != call.wanted {
 			differ(call.line, answers[i], call.wanted)
 		}
 		if call.judge == nil {
@@ -70,11 +81,11 @@ func send() {
 			differ(call.line, answers[i], err.Error())
 		}
 	}
-	calls, pushed = nil, 0
+	calls = nil
 }
 
-// Runs the program on lines, and returns its answers. Both pipes are served at once, so neither side waits for ever.
-func run(lines []string) []string {
+// Runs a program on lines, and returns its answers. Both pipes are served at once, so neither side waits for ever.
+func run(program string, lines []string) []string {
 	command := exec.Command(program)
 	command.Stdin = strings.NewReader(strings.Join(lines, "\n") + "\n")
 	command.Stderr = os.Stderr

@@ -1,6 +1,6 @@
 #!/usr/bin/env bash
-# Compares paths, tiles and checkpoint texts with those of Go's checksum database: of the given programs, warg_interop and
-# warg_tlog, or of those that it proves and builds. Where Go or its library isn't there it says so, and that is no failure.
+# Compares roots, paths, tiles and checkpoint texts with those of Go's checksum database: of the given programs, warg_vectors,
+# warg_check and warg_tlog, or of those that it proves and builds. Where Go or its library isn't there it says so, and that is no failure.
 # It installs and fetches nothing, and what it makes of Go's goes into a temporary folder.
 set -eu
 programs=("$@")
@@ -18,7 +18,8 @@ env "${settings[@]}" go list golang.org/x/mod/sumdb/tlog > /dev/null 2>&1 || not
 env "${settings[@]}" go build -o "$work/interop" interop/*.go
 
 if [ $# = 0 ]; then
-    python3 scripts/prove_all.py warg_interop warg_tlog
-    programs=(crates/warg_interop/out/proved/warg_interop crates/warg_tlog/out/proved/warg_tlog)
+    names=(warg_vectors warg_check_cli warg_tlog)
+    python3 scripts/prove_all.py "${names[@]}"
+    for name in "${names[@]}"; do programs+=("crates/$name/out/proved/$name"); done
 fi
 "$work/interop" "${programs[@]}"

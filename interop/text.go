@@ -12,6 +12,23 @@ import (
 
 func digits(hash tlog.Hash) string { return hex.EncodeToString(hash[:]) }
 
+// The digits of a text, `-` for none.
+func hexOf(text string) string {
+	if text == "" {
+		return "-"
+	}
+	return hex.EncodeToString([]byte(text))
+}
+
+// A path as bytes, one hash after the other.
+func bytesOf(path []tlog.Hash) string {
+	var bytes []byte
+	for _, hash := range path {
+		bytes = append(bytes, hash[:]...)
+	}
+	return hexOf(string(bytes))
+}
+
 func list(path []tlog.Hash) string {
 	if len(path) == 0 {
 		return "[]"

@@ -2,7 +2,6 @@
 package main
 
 import (
-	"encoding/hex"
 	"fmt"
 	"strconv"
 	"strings"
@@ -66,7 +65,7 @@ func tilePath(path string) {
 	} else {
 		goodPaths++
 	}
-	ask("tile_path "+orNone(hex.EncodeToString([]byte(path))), wanted, nil)
+	ask("read_tile_path "+hexOf(path), wanted, nil)
 }
 
 // What tlog reads a path as, once its height stands in it. C2SP has levels up to 63, and calls the entries' tiles so.
@@ -87,11 +86,4 @@ func theirs(path string) string {
 		level = "entries"
 	}
 	return fmt.Sprintf("%s:%d:%d", level, tile.N, tile.W)
-}
-
-func orNone(digits string) string {
-	if digits == "" {
-		return "-"
-	}
-	return digits
 }

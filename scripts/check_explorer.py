@@ -1,5 +1,5 @@
 #!/usr/bin/env python3
-"""Opens explorer/index.html in Chromium over folders of warg_tlog, and compares what it says with Python's own answers.
+"""Shows that explorer/index.html says, in Chromium over folders of warg_tlog, what Python's own answers say.
 
 Usage: check_explorer.py WARG_TLOG [PICTURES], with the built program; each view is drawn into the folder PICTURES.
 Where Chromium isn't there it says so, and that is no failure.

@@ -1,5 +1,5 @@
 #!/usr/bin/env python3
-"""Runs the programs as their users do, with right and wrong arguments and on devices that fail, and compares statuses.
+"""Shows that the programs end as they should for their users: with right and wrong arguments, and on devices that fail.
 
 Usage: check_programs.py WARG_CHECK WARG_VERDICT WARG_TLOG, with the built programs.
 """
@@ -10,7 +10,7 @@ import tempfile
 
 import tried_convict
 import tried_tlog
-from running import little_memory, ran
+from tlog import little_memory, ran
 
 ROOT = pathlib.Path(__file__).resolve().parent.parent
 COMMANDS = b"push 6f6e65\npush 74776f\nlog\n"

@@ -1,19 +1,14 @@
 #!/usr/bin/env python3
-"""Compares the bytes of the messages with Google's protobuf, over docs/warg.proto.
-
-Each message that the vectors' wire lines write is read by protobuf, which writes it as the same bytes. 1,603 of these lines,
-the last ones, are of random messages that protobuf wrote.
+"""Shows that the bytes of messages are those of Google's protobuf, over docs/warg.proto: each message that the vectors' wire lines
+write is read by protobuf, which writes it as the same bytes. 1,603 of these lines are of random messages that protobuf wrote.
 
 It needs protoc and Python's protobuf (Debian's protobuf-compiler and python3-protobuf), says so where one of them is missing,
 and is no failure there.
-
-Usage: check_protobuf.py [--more COUNT], which prints lines of so many random messages of each type
 """
 
 import importlib.util
 import os
 import pathlib
-import random
 import shutil
 import subprocess
 import sys
@@ -50,41 +45,11 @@ def written_by_vectors():
             yield words[1], bytes.fromhex(answer.strip("-"))
 
 
-def a_number():
-    return random.choice([0, 1, 127, 128, random.randrange(2**32), 2**32 - 1])
-
-
-def some_bytes():
-    return random.randbytes(random.choice([0, 1, 32, 32, 32, 200]))
-
-
-def fill(message):
-    """Fills each field of a message by chance."""
-    for field in message.DESCRIPTOR.fields:
-        is_list = field.label == field.LABEL_REPEATED
-        for _ in range(random.randrange(4) if is_list else random.randrange(2)):
-            if field.message_type:
-                fill(getattr(message, field.name).add())
-            else:
-                value = a_number() if field.type == field.TYPE_UINT32 else some_bytes()
-                getattr(message, field.name).append(value) if is_list else setattr(message, field.name, value)
-    return message
-
-
-def more(made, count):
-    """Yields lines of random messages, as protobuf writes them. Their answers are their own bytes."""
-    for kind in KINDS:
-        for _ in range(count):
-            yield f"wire {kind} {fill(getattr(made, kind)()).SerializeToString(deterministic=True).hex() or '-'}"
-
-
 def main():
     if not shutil.which("protoc") or not has_protobuf():
         sys.exit(print("check_protobuf: not run, since protoc or Python's protobuf is missing"))
     with tempfile.TemporaryDirectory() as room:
         made = messages(room)
-    if sys.argv[1:2] == ["--more"]:
-        sys.exit(print(*more(made, int(sys.argv[2])), sep="\n"))
     written = set(written_by_vectors())
     faults = [
         f"{kind} {message.hex()}: written otherwise by protobuf"

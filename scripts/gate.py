@@ -1,5 +1,5 @@
 #!/usr/bin/env python3
-"""The merge gate, on a copy of the tree without what earlier checks left: the layout; prove_all.py, which proves the crates
+"""Shows that the tree may be merged, on a copy of it without what earlier checks left: the layout; prove_all.py, which proves the crates
 from nothing and runs the programs, the vectors and the tests; the wrong bodies over the work that these proofs have kept;
 the examples for C, Python, Rust and Go; the archive of make dist, packed twice; the programs with right and wrong arguments;
 and the comparisons with Google's protobuf and Go's checksum database, and the page of explorer/ in Chromium, where these are
@@ -24,21 +24,19 @@ import time
 import kit
 
 ROOT = pathlib.Path(__file__).resolve().parent.parent
-BEFORE = (["kit_looks.py"], ["foreign_proofs.py"], ["definitions.py", "--check"], ["calls.py", "--check"], ["counts.py", "--check"], ["check_docs.py"], ["check_header.py"], ["page.py", "--check"])
+BEFORE = (["kit_looks.py"], ["foreign_proofs.py"], ["definitions.py", "--check"], ["pages.py", "--check"], ["explorer_page.py", "--check"])
 # What looks at the programs that have just been built, and runs them.
 PROGRAMS = ("warg_check_cli", "warg_verdict", "warg_tlog")
 BEHIND = (
     ["kit_looks.py", *(f"{name}=crates/{name}/out/{name}" for name in PROGRAMS)],
     ["check_programs.py", *(f"crates/{name}/out/{name}" for name in PROGRAMS)],
-    ["tlog_kills.py", "crates/warg_tlog/out/warg_tlog", "20"],
-    ["tlog_forced.py", "crates/warg_tlog/out/warg_tlog"],
-    ["tlog_faults.py", "crates/warg_tlog/out/warg_tlog"],
+    *(["tlog_disturbed.py", "crates/warg_tlog/out/warg_tlog", "--moments", "20", part] for part in ("kills", "forced", "faults")),
     ["tlog_power.py", "crates/warg_tlog/out/warg_tlog"],
     ["check_protobuf.py"],
 )
 # What is compared with others, or read by them: what it is called and runs.
 PEERS = {
-    "interop": ["interop/run.sh", "crates/warg_interop/out/warg_interop", "crates/warg_tlog/out/warg_tlog"],
+    "interop": ["interop/run.sh", *(f"crates/{name}/out/{name}" for name in ("warg_vectors", "warg_check_cli", "warg_tlog"))],
     "explorer": [sys.executable, "scripts/check_explorer.py", "crates/warg_tlog/out/warg_tlog"],
 }
 # Their commands, and the packages that have them.

@@ -1,5 +1,5 @@
 #!/usr/bin/env python3
-"""Takes the looks of the kit's own gate that need no proof: what rt ci refuses in a crate's text, words and imports that would
+"""Shows what the kit's own gate looks at without a proof: what rt ci refuses in a crate's text, words and imports that would
 read otherwise than they look, handles beyond HANDLES, and what a built program can call of the system.
 
 They are the kit's own functions, called by their names. Names what is refused, and exits 1.

@@ -1,10 +1,9 @@
 #!/usr/bin/env python3
-"""Proves each crate once, but for the tests, most vectors, and the program that measures: lowest first, as many at a time as
-the machine has room for. Builds it, runs each program on its stdin, args and data, and compares what it prints with its stdout.
+"""Shows that each crate is proved, but for the tests and the program that measures: lowest first, as many at a time as the
+machine has room for. Builds it, runs each program on its stdin, args and data, and compares what it prints with its stdout.
 
-These three call proved code, and no clause says what they print. The tests and the vectors run as rt try makes them, which
-stops at a bad access, an overflow or a failed unwrap; the program that measures has to compile. The vectors of maps that hash
-most are too slow so, and their program is proved and built.
+These two call proved code, and no clause says what they print. The tests run as rt try makes them, which stops at a bad
+access, an overflow or a failed unwrap; the program that measures has to compile.
 
 What a check keeps stays in crates/NAME/out, where the wrong bodies begin: from nothing where nothing is there.
 
@@ -35,8 +34,6 @@ VERDICT = re.compile(
 )
 # Proved by make bench alone, since the gate times nothing: here it has to compile.
 UNPROVED = ("warg_bench",)
-# Run without a proof, as the tests are.
-TRIED = ("warg_vectors",)
 # Made by both of the kit's compilers, all other programs by LLVM alone.
 BOTH = ("warg_check_cli",)
 # The bytes that a proof takes at most.
@@ -46,8 +43,6 @@ KEPT = ["--incremental", "out/incremental"]
 TOOLCHAIN = ["--toolchain", f"{kit.KIT}/toolchain"]
 # What a proof reads of a crate.
 PARTS = ("src", "specs", "proofs")
-# What a try that went to its end says last.
-TRIED_WELL = re.compile(r"^run=ended status=0 runners=\d proved=no$", re.M)
 
 
 class Failed(Exception):
@@ -135,8 +130,6 @@ class Crate:
         self.stamp.unlink(missing_ok=True)
         if self.name in UNPROVED and not self.is_named:
             self.compile()
-        elif self.name in TRIED and not self.is_named:
-            self.try_program()
         elif self.is_program:
             self.prove_program()
         elif kit.is_static(self.name):
@@ -158,16 +151,6 @@ class Crate:
     def run_tests(self):
         said = self.done("tests", kit.words_of_a_try(self.name, SECONDS))
         print(f"{self.name}: " + next(it for it in said.splitlines() if it.startswith("test result:")), flush=True)
-
-    def try_program(self):
-        """Runs the program on its stdin without a proof. It has to print what it should, and to end with status 0."""
-        with tempfile.TemporaryFile() as told:
-            words = kit.words_of_a_try(self.name, SECONDS, self.folder / "stdin")
-            status, printed = self.call("tests", words, stderr=told)
-            told.seek(0)
-            self.said.append(told.read().decode(errors="replace"))
-        if status or not TRIED_WELL.search(self.said[-1]) or printed.decode(errors="replace") != self.text("stdout"):
-            raise Failed(f"as it is tried, the program prints something else, or does not end well: status {status}")
 
     def prove_program(self):
         for backend in ("rattle", "llvm") if self.name in BOTH and not self.is_named else ("llvm",):

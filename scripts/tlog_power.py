@@ -1,6 +1,6 @@
 #!/usr/bin/env python3
-"""Cuts the power of a disk under warg_tlog: a file with an ext4, mounted through a loop device, is copied as it is, with nothing
-written back for the copy's sake, and the copy is mounted as a machine would mount its disk after a loss of power.
+"""Shows what a loss of power leaves of warg_tlog's logs: a disk's file with an ext4, mounted through a loop device, is copied as
+it is, with nothing written back for the copy's sake, and the copy is mounted as a machine would mount its disk after that.
 
 What a copy shows: the file has what the file system has sent to its device so far, for the device writes through to it and holds
 nothing back. What lies in the system's memory alone (pages that nobody forced, and a journal that isn't written yet) isn't in
@@ -27,7 +27,7 @@ import sys
 import tempfile
 import time
 
-from tlog_logs import ORIGIN, Mirror, files, length_of, lines, run, some
+from tlog import ORIGIN, Mirror, files, length_of, lines, mounted, run, some
 
 FIRST, STEP = 1200, 300
 # The sizes of the smallest file systems, and how they are made.
@@ -66,29 +66,27 @@ def copy_of(disk, to):
             copy.write(part)
 
 
-@contextlib.contextmanager
-def mounted(disk, folder, kind):
-    """A disk's file, mounted at a folder."""
-    folder.mkdir(exist_ok=True)
-    subprocess.run(["mount", "-o", OPTIONS.get(kind, "loop"), disk, folder], check=True, stderr=subprocess.PIPE)
-    try:
-        yield
-    finally:
-        subprocess.run(["umount", folder], check=True)
+def further(length):
+    """Returns the entries of the append to a log of some length."""
+    return some(length + STEP if length else FIRST)[length:]
+
+
+def grown(program, log, length):
+    """Appends to a log, in the steps of all appends, up to a length. Returns its files."""
+    while length_of(log) < length:
+        run(program, "append", log, entries=further(length_of(log)))
+    return files(log)
 
 
 class Power:
     """A log on a disk of its own, and what a loss of power leaves of it."""
 
     def __init__(self, program, room, kind):
-        self.program, self.room, self.kind = program, room, kind
+        self.program, self.room = program, room
         self.disk, self.left = room / "disk.image", room / "left.image"
         self.log, self.calm = room / "disk" / "log", room / "calm"
-        self.old = self.new = 0
-
-    def make(self):
-        """Makes the file system."""
-        size, words = MAKERS[self.kind]
+        self.option, self.old, self.new = OPTIONS.get(kind, "loop"), 0, 0
+        size, words = MAKERS[kind]
         with open(self.disk, "wb") as file:
             file.truncate(size)
         subprocess.run([*words, self.disk], check=True, stdout=subprocess.DEVNULL, stderr=subprocess.PIPE)
@@ -100,24 +98,18 @@ class Power:
         copy_of(self.disk, self.left)
         self.look([0], "behind init")
 
-    def wanted(self, length):
-        """Returns the files of a log that was appended to in the same steps, with no power cut."""
-        while length_of(self.calm) < length:
-            run(self.program, "append", self.calm, entries=further(length_of(self.calm)))
-        return files(self.calm)
-
     def look(self, lengths, why):
-        """Looks at what was left: a log of one of these lengths, which goes on to the last one."""
-        with mounted(self.left, self.room / "after", self.kind):
+        """Looks at what was left: a log of one of these lengths with no empty file, which goes on to the last one, and to the
+        files of a log that was appended to in the same steps with no power cut."""
+        with mounted(self.room / "after", "-o", self.option, self.left):
             log = self.room / "after" / "log"
             length = check_left(log, lengths, why)
             mirror = Mirror(self.program, self.room / "mirror")
             mirror.look(log, why)
             run(self.program, "append", log)
-            while length_of(log) < lengths[-1]:
-                run(self.program, "append", log, entries=further(length_of(log)))
+            found = grown(self.program, log, lengths[-1])
             mirror.look(log, why)
-            if files(log) != self.wanted(lengths[-1]):
+            if found != grown(self.program, self.calm, lengths[-1]):
                 sys.exit(f"{why}: the log goes on to other files")
         self.new += length == lengths[-1]
         self.old += length != lengths[-1]
@@ -135,22 +127,16 @@ class Power:
     def cut_during(self, whole):
         """Cuts the power at a random moment of an append that takes about so long."""
         length = length_of(self.log)
-        more, given = further(length), self.room / "given"
+        more, given, wait = further(length), self.room / "given", random.uniform(0, whole)
         given.write_bytes(lines(more))
         with given.open("rb") as entries:
             append = subprocess.Popen([self.program, "append", self.log], stdin=entries, stdout=subprocess.DEVNULL)
-        wait = random.uniform(0, whole)
         time.sleep(wait)
         lengths = [length, length + len(more)][append.poll() is not None :]
         copy_of(self.disk, self.left)
         if append.wait():
             sys.exit(f"an append of {len(more)} entries: status {append.returncode}")
         self.look(lengths, f"{wait:.3f} seconds into an append to {length} entries")
-
-
-def further(length):
-    """Returns the entries of the append to a log of some length."""
-    return some(length + STEP if length else FIRST)[length:]
 
 
 def check_left(log, lengths, why):
@@ -165,17 +151,17 @@ def check_left(log, lengths, why):
     return length_of(log)
 
 
-def cut_often(power, behind, during, limit):
+def cut_often(power, asked):
     """Cuts the power behind ends and during appends, until the time is up. Returns how often during."""
     began, took = time.monotonic(), 1.0
     power.begin()
-    for seconds in behind:
+    for seconds in asked.behind:
         took = power.cut_behind(seconds)
-    for turn in range(during):
-        if time.monotonic() - began > limit:
+    for turn in range(asked.during):
+        if time.monotonic() - began > asked.seconds:
             return turn
         power.cut_during(took)
-    return during
+    return asked.during
 
 
 def main():
@@ -187,18 +173,14 @@ def main():
     asked.add_argument("--behind", type=float, nargs="*", default=[0, 1], help="seconds behind ends of appends")
     asked = asked.parse_args()
     random.seed(1)
-    with tempfile.TemporaryDirectory(prefix="warg-tlog-") as room:
-        power = Power(os.path.realpath(asked.program), pathlib.Path(room), asked.format)
+    with tempfile.TemporaryDirectory(prefix="warg-tlog-") as room, contextlib.ExitStack() as stack:
         try:
-            power.make()
-            disk = mounted(power.disk, power.room / "disk", power.kind)
-            disk.__enter__()
+            power = Power(os.path.realpath(asked.program), pathlib.Path(room), asked.format)
+            stack.enter_context(mounted(power.log.parent, "-o", power.option, power.disk))
         except (OSError, subprocess.CalledProcessError) as error:
             print(f"no power is cut: no {asked.format} can be made and mounted here: {error}")
             return
-        with contextlib.ExitStack() as stack:
-            stack.push(disk)
-            during = cut_often(power, asked.behind, asked.during, asked.seconds)
+        during = cut_often(power, asked)
         print(f"power cut under {asked.format} behind init, {asked.behind} seconds behind appends, and at {during} moments of appends:"
               f" {power.old} logs from before and {power.new} from after, each whole")
 

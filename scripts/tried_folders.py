@@ -7,8 +7,7 @@ import shutil
 import subprocess
 import time
 
-from running import little_memory, ran
-from tlog_logs import Mirror, files, lines, some
+from tlog import Mirror, copied, files, little_memory, lines, ran, some
 
 LINES = b"".join(b"%04x\n" % i for i in range(600))
 MORE = b"6f6e65\n"
@@ -44,12 +43,6 @@ def begun(program, log):
     ran([program, "append", log], input=LINES)
 
 
-def anew(whole, log):
-    """Makes a log's folder anew."""
-    shutil.rmtree(log, ignore_errors=True)
-    shutil.copytree(whole, log)
-
-
 def damages(log):
     """Returns what is done to a log's files: what it is called, how, the file at fault, and the commands that are refused."""
     return (
@@ -79,7 +72,7 @@ def of_damage(program, room):
     whole, log = room / "whole", room / "damaged"
     begun(program, whole)
     for name, damage, file, tries in damages(log):
-        anew(whole, log)
+        copied(whole, log)
         damage()
         before = files(log)
         for words in tries:
@@ -89,12 +82,12 @@ def of_damage(program, room):
 def of_older_ones(program, room):
     """Yields what is tried of an older checkpoint that was put back, and of tiles that are made again."""
     whole, log = room / "whole", room / "older"
-    anew(whole, log)
+    copied(whole, log)
     ran([program, "append", log], input=MORE)
     shutil.copyfile(whole / "checkpoint", log / "checkpoint")
     for words in (["append"], ["audit"], ["checkpoint"], ["prove", "3"]):
         yield f"an older checkpoint: {words}", refused(program, log, words, "checkpoint") == 9
-    anew(whole, log)
+    copied(whole, log)
     for name in (TILE, EDGE, TOP):
         (log / name).write_bytes(b"not it")
     yield "rebuild", ran([program, "rebuild", log]) == (0, b"tiles of 600 entries made again\n", b"")
@@ -104,9 +97,9 @@ def of_older_ones(program, room):
 def of_leftovers(program, room):
     """Yields what is tried of files that no checkpoint stands over: of older lengths, and of an append that was killed."""
     whole, log, wanted = room / "whole", room / "leftovers", room / "calm"
-    anew(whole, wanted)
+    copied(whole, wanted)
     ran([program, "append", wanted], input=LINES)
-    anew(whole, log)
+    copied(whole, log)
     for name in (".log/replacing", ".log/staged/tile/0/002", ".log/staged/tile/9/000", ".log/staged/other"):
         (log / name).parent.mkdir(parents=True, exist_ok=True)
         (log / name).write_bytes(b"of another try")
@@ -137,7 +130,7 @@ def of_strangers(program, room):
     whole, log, outside = room / "whole", room / "strange", room / "outside"
     for kind in ("link", "pipe", "folder"):
         for name in ("checkpoint", ".log/state", ".log/lock", ".log/replacing", ".log/staged/state", EDGE, LAST, NEXT):
-            anew(whole, log)
+            copied(whole, log)
             shutil.rmtree(outside, ignore_errors=True)
             outside.mkdir()
             (outside / "file").write_bytes(b"mine")
@@ -151,7 +144,7 @@ def of_links_to_folders(program, room):
     """Yields what is tried of links in the place of folders: nothing outside is written, removed or made."""
     whole, log, outside = room / "whole", room / "strange", room / "outside"
     for name in (".log", ".log/staged", "tile", "tile/0", "tile/0/004.p"):
-        anew(whole, log)
+        copied(whole, log)
         shutil.rmtree(outside, ignore_errors=True)
         shutil.copytree(log / name, outside) if (log / name).exists() else outside.mkdir()
         (outside / "staged/tile/0").mkdir(parents=True, exist_ok=True)
@@ -204,7 +197,7 @@ def as_nobody():
 def of_readers(program, room):
     """Yields what is tried of those who only read: while the lock is held, in a folder of another user, and without a state."""
     log = room / "read"
-    anew(room / "whole", log)
+    copied(room / "whole", log)
     before = files(log)
     with open(log / ".log/lock") as lock:
         fcntl.flock(lock, fcntl.LOCK_EX)
@@ -231,7 +224,7 @@ def of_other_users(program, log):
 def of_devices(program, room):
     """Yields what is tried of disks and streams that fail, little memory, and two appends at once."""
     log = room / "devices"
-    anew(room / "whole", log)
+    copied(room / "whole", log)
     before = files(log)
     yield "no folder can be made", refused(program, "/proc/log", ["init", "example.com/log"], "/proc/log") == 11
     with open("/dev/full", "wb") as full:

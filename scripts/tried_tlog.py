@@ -7,8 +7,7 @@ import subprocess
 import tempfile
 
 import tried_folders
-from running import ran
-from tlog_logs import files
+from tlog import files, ran
 from tried_folders import LINES, MORE, begun
 
 PAGE = pathlib.Path(__file__).resolve().parent.parent / "explorer/index.html"

@@ -1,5 +1,5 @@
 #!/usr/bin/env python3
-"""Tries each crate's wrong bodies, crates/NAME/wrong-bodies/*.edit and must-fail/*.edit: the prover has to refuse every one.
+"""Shows that the prover refuses each crate's wrong bodies, crates/NAME/wrong-bodies/*.edit and must-fail/*.edit.
 
 An edit is a line 'file: src/lib.rt' and then pairs of lines 'old: TEXT' and 'new: TEXT', each old text standing
 there once; 'old line: TEXT' stands for a whole line. One check of a copy of the crate carries a round of edits, one a
@@ -30,7 +30,6 @@ import shutil
 import subprocess
 import sys
 import tempfile
-import threading
 import time
 
 import functions
@@ -89,19 +88,15 @@ def read(path):
     return Edit(path, pairs)
 
 
-def fits(edit, texts):
-    """Whether each of the edit's old texts stands exactly once in the texts, as the pairs before leave them."""
+def applied(edit, texts):
+    """Returns the texts with the edit, or None unless each of its old texts stands exactly once in them, as the pairs before
+    leave them."""
     changed = dict(texts)
     for file, old, new in edit.pairs:
         if changed.get(file, "").count(old) != 1:
-            return False
+            return None
         changed[file] = changed[file].replace(old, new)
-    return bool(edit.pairs)
-
-
-def apply(edit, texts):
-    for file, old, new in edit.pairs:
-        texts[file] = texts[file].replace(old, new)
+    return changed if edit.pairs else None
 
 
 def word_changed(old, new):
@@ -215,19 +210,18 @@ class Crate:
         found = [read(it) for it in sorted(files) if only in it.stem]
         # into the round of what they wait for
         found.sort(key=lambda it: not it.is_planted)
-        for edit in found:
-            if fits(edit, self.texts):
-                edit.function = function_of(edit, self.texts, self.name)
-                edit.proved_with = tuple(self.cycles.get(edit.function, [edit.function] if edit.function else []))
-            else:
-                self.faults.append(f"{edit.name}: an old text doesn't stand exactly once in its file")
-        return [it for it in found if fits(it, self.texts)]
+        fitting = [it for it in found if applied(it, self.texts)]
+        for edit in fitting:
+            edit.function = function_of(edit, self.texts, self.name)
+            edit.proved_with = tuple(self.cycles.get(edit.function, [edit.function] if edit.function else []))
+        self.faults += [f"{it.name}: an old text doesn't stand exactly once in its file" for it in found if it not in fitting]
+        return fitting
 
     def check(self, edits, keeps=None, flags=()):
         """Checks a copy of the crate with these edits, over a copy of its kept work, or into a folder that keeps it."""
-        texts = dict(self.texts)
+        texts = self.texts
         for edit in edits:
-            apply(edit, texts)
+            texts = applied(edit, texts)
         with tempfile.TemporaryDirectory(prefix="wrong-bodies-") as room:
             for part in PARTS:
                 if (self.folder / part).is_dir():
@@ -288,12 +282,12 @@ class Crate:
 
     def fitting(self, edits, told):
         """Returns as many of the edits as fit into one round, one a function at most. What two rounds left goes alone."""
-        taken, seen, texts = [], set(), dict(self.texts)
+        taken, seen, texts = [], set(), self.texts
         for edit in edits:
             is_new = edit.function and len(told[edit]) < 2
-            proof = edit.module, frozenset(edit.proved_with)
-            if is_new and proof not in seen and fits(edit, texts):
-                apply(edit, texts)
+            proof, changed = (edit.module, frozenset(edit.proved_with)), applied(edit, texts)
+            if is_new and proof not in seen and changed:
+                texts = changed
                 seen.add(proof)
                 taken.append(edit)
         return taken or edits[:1]
@@ -308,7 +302,7 @@ class Crate:
             self.kept = pathlib.Path(room, self.name)
             self.kept.mkdir()
             self.check([], keeps=self.kept)
-            report(f"{self.name}: proved in {self.seconds:.0f} processor seconds")
+            print(f"{self.name}: proved in {self.seconds:.0f} processor seconds", flush=True)
         left, told, number = list(edits), collections.defaultdict(list), 0
         while left:
             number += 1
@@ -325,9 +319,9 @@ class Crate:
                 if answer == "refused" or alone and answer != RENAMED or edit.is_planted and answer == "proved":
                     left.remove(edit)
             for edit in rest if len(rest) == 1 else []:
-                report(f"{self.name}: {edit.name}: {answers[edit]}")
+                print(f"{self.name}: {edit.name}: {answers[edit]}", flush=True)
             refused = list(answers.values()).count("refused")
-            report(f"{self.name}: round {number}: {refused} of {len(taken)} refused, {self.seconds:.0f} processor seconds so far")
+            print(f"{self.name}: round {number}: {refused} of {len(taken)} refused, {self.seconds:.0f} processor seconds so far", flush=True)
         whole = self.check([], flags=["--empty-contracts"])
         if not whole.is_proved:
             self.faults.append("the crate without an edit isn't proved over the same work")
@@ -346,14 +340,6 @@ def fault_of(edit, told, refused):
     if edit.name.startswith("waits_") and told[0] != "waits":
         return [f"{edit.name}: planted, and waits for no broken function in its first round: {told}"]
     return []
-
-
-printing = threading.Lock()
-
-
-def report(line):
-    with printing:
-        print(line, flush=True)
 
 
 def main():
@@ -378,16 +364,16 @@ def main():
         wrong = [it for it in edits if not it.is_planted]
         by_round = collections.Counter(crate.refused.values())
         shown = ", ".join(f"{count} in round {number}" for number, count in sorted(by_round.items()))
-        report(f"{crate.name}: {len(crate.refused)} of {len(wrong)} wrong bodies refused ({shown}), {len(edits) - len(wrong)} planted, {crate.checks} checks, {crate.seconds:.0f} processor seconds")
+        print(f"{crate.name}: {len(crate.refused)} of {len(wrong)} wrong bodies refused ({shown}), {len(edits) - len(wrong)} planted, {crate.checks} checks, {crate.seconds:.0f} processor seconds", flush=True)
         for edit, seconds in sorted(crate.took.items(), key=lambda it: -it[1]):
             if seconds > SLOW and not edit.is_planted:
-                report(f"{crate.name}: {edit.name} took {seconds:.0f} seconds to refuse")
+                print(f"{crate.name}: {edit.name} took {seconds:.0f} seconds to refuse", flush=True)
         for fault in crate.faults:
-            report(f"FAILED {crate.name}: {fault}")
+            print(f"FAILED {crate.name}: {fault}", flush=True)
     passed, failed = sum(len(it.refused) for it in crates), sum(len(it.faults) for it in crates)
     if asked.json:
         asked.json.write_text(json.dumps({it.name: it.seconds for it in crates}))
-    report(f"wrong bodies: {passed} refused, {failed} failed, {time.monotonic() - began:.0f} seconds")
+    print(f"wrong bodies: {passed} refused, {failed} failed, {time.monotonic() - began:.0f} seconds", flush=True)
     sys.exit(1 if failed else 0)
 
 

@@ -1,153 +1,111 @@
-//! Logs: pushes, evaluations, and images.
+//! Logs: pushes, evaluations, images, and paths as deployed logs send them.
 
-use crate::rows::print;
-use crate::times::{Call, each, now, time};
-use crate::{ENTRIES, Entry, entries};
+use crate::bench::Bench;
+use crate::{Entry, entries};
 use anyhow::Result;
-use warg_crypto::{Sha256, SupportedDigest};
-use warg_log::{LogBuilder, LogData, Node, StackLog, VecLog, push_all};
+use warg_crypto::{Sha256, hash_leaf};
+use warg_log::{Checkpoint, LogBuilder, LogData, Node, StackLog, VecLog, push_all};
+use warg_paths::{check_record, check_tree, consistency_path, inclusion_path, root_of_inclusion};
 
 /// A log whose digests are of SHA-256.
 pub type Log = VecLog<Sha256, Entry>;
 
 /// The log of these entries.
-pub fn log_of<D: SupportedDigest>(rt: &HostRuntime, entries: &[Entry]) -> Result<VecLog<D, Entry>> {
-    let mut log = VecLog::default(rt.alloc());
+pub fn log_of(bench: &Bench<'_>, entries: &[Entry]) -> Result<Log> {
+    let mut log = VecLog::default(bench.alloc());
     push_all(&mut log, entries)?;
     Ok(log)
 }
 
-/// Proves that an entry is in the log, and evaluates the proof. The entries are spread over the log.
-#[derive(Drop)]
-pub struct Inclusions<'a, D: SupportedDigest> {
-    pub log: &'a VecLog<D, Entry>,
-    pub entries: &'a [Entry],
-    pub every: usize,
+/// Measures a log of so many entries. Calls are spread over it.
+pub fn measure(bench: &Bench<'_>, count: usize) -> Result<()> {
+    let list = entries(bench.alloc(), count)?;
+    let list = list.as_slice();
+    let log = log_of(bench, list)?;
+    let text = format!(in bench.alloc(); "a log of {count} entries")?;
+    bench.say(text.as_str())?;
+    bench.pieces("VecLog::push", 1, count, |_| log_of(bench, list).is_ok())?;
+    bench.pieces(
+        "StackLog::push",
+        1,
+        count,
+        |_| stack_of(bench, list).is_ok(),
+    )?;
+    let every = count / 1_000;
+    bench.calls("inclusion evaluation", 1_000, |number| {
+        is_included(&log, number.saturating_mul(every), list)
+    })?;
+    bench.calls("consistency evaluation", 1_000, |number| {
+        is_consistent(&log, number.saturating_mul(every).saturating_add(1))
+    })?;
+    bench.calls(
+        "consistency evaluation from 65,535",
+        100,
+        |_| is_consistent(&log, 65_535),
+    )?;
+    images(bench, &log)?;
+    paths(bench, &log, list)
 }
 
-impl<D: SupportedDigest> Call for Inclusions<'_, D> {
-    fn call(&self, number: usize) -> bool {
-        let index = number.saturating_mul(self.every);
-        match self.entries.get(index) {
-            Some(entry) => is_included(self.log, index, entry),
-            None => false,
-        }
-    }
+fn stack_of(bench: &Bench<'_>, list: &[Entry]) -> Result<StackLog<Sha256, Entry>> {
+    let mut stack = StackLog::default(bench.alloc());
+    push_all(&mut stack, list)?;
+    Ok(stack)
 }
 
-fn is_included<D: SupportedDigest>(log: &VecLog<D, Entry>, index: usize, entry: &Entry) -> bool {
+// Proves that an entry is in the log, and evaluates the proof.
+fn is_included(log: &Log, index: usize, entries: &[Entry]) -> bool {
+    let Some(entry) = entries.get(index) else {
+        return false;
+    };
     let proof = log.prove_inclusion(Node(index.saturating_mul(2)), log.length());
     proof.evaluate_value(log, entry).is_ok()
 }
 
-/// Proves that an old length's log is a beginning of the log, and evaluates the proof. The old lengths are spread over
-/// the log, from the first one on.
-#[derive(Drop)]
-pub struct Consistencies<'a, D: SupportedDigest> {
-    pub log: &'a VecLog<D, Entry>,
-    pub first: usize,
-    pub every: usize,
-}
-
-impl<D: SupportedDigest> Call for Consistencies<'_, D> {
-    fn call(&self, number: usize) -> bool {
-        let old = number.saturating_mul(self.every).saturating_add(self.first);
-        is_consistent(self.log, old)
-    }
-}
-
-fn is_consistent<D: SupportedDigest>(log: &VecLog<D, Entry>, old: usize) -> bool {
+// Proves that an old length's log is a beginning of the log, and evaluates the proof.
+fn is_consistent(log: &Log, old: usize) -> bool {
     let length = log.length();
     let proof = log.prove_consistency(old.min(length), length);
     proof.evaluate(log).is_ok()
 }
 
-/// Measures pushes, evaluations and images.
-pub fn measure(rt: &HostRuntime, branch: u128) -> Result<()> {
-    let list = entries(rt, ENTRIES)?;
-    let list = list.as_slice();
-    let log = pushed(rt, list)?;
-    push_to_stack(rt, list)?;
-    evaluate_inclusions(rt, &log, list)?;
-    evaluate_consistencies(rt, &log)?;
-    images(rt, branch)
-}
-
-fn pushed(rt: &HostRuntime, list: &[Entry]) -> Result<Log> {
-    let start = now(rt)?;
-    let log = log_of(rt, list)?;
-    let time = each(rt, start, 100_000)?;
-    print(rt, "VecLog push: # ns", &[time])?;
-    Ok(log)
-}
-
-fn push_to_stack(rt: &HostRuntime, list: &[Entry]) -> Result<()> {
-    let start = now(rt)?;
-    let _stack = stack_of(rt, list)?;
-    let time = each(rt, start, 100_000)?;
-    print(rt, "StackLog push: # ns", &[time])
-}
-
-fn stack_of(rt: &HostRuntime, list: &[Entry]) -> Result<StackLog<Sha256, Entry>> {
-    let mut stack = StackLog::default(rt.alloc());
-    push_all(&mut stack, list)?;
-    Ok(stack)
-}
-
-fn evaluate_inclusions(rt: &HostRuntime, log: &Log, entries: &[Entry]) -> Result<()> {
-    let calls = Inclusions {
-        log,
-        entries,
-        every: 1,
-    };
-    let taken = time(rt, &calls, 2_000)?;
-    print(
-        rt,
-        "inclusion evaluation at 100,000: # ns (# of 2000)",
-        &[taken.each(2_000), taken.good],
-    )
-}
-
-fn evaluate_consistencies(rt: &HostRuntime, log: &Log) -> Result<()> {
-    let (first, every) = (1, 99);
-    let taken = time(rt, &Consistencies { log, first, every }, 1_000)?;
-    print(
-        rt,
-        "consistency evaluation at 100,000: # ns (# of 1000)",
-        &[taken.each(1_000), taken.good],
-    )
-}
-
-fn images(rt: &HostRuntime, branch: u128) -> Result<()> {
-    let list = entries(rt, 10_000)?;
-    let log = log_of(rt, list.as_slice())?;
-    let bytes = write_image(rt, &log)?;
-    read_image(rt, bytes.as_slice(), branch)
-}
-
-fn write_image(rt: &HostRuntime, log: &Log) -> Result<Vec<u8>> {
-    let start = now(rt)?;
+fn images(bench: &Bench<'_>, log: &Log) -> Result<()> {
+    let alloc = bench.alloc();
     let bytes = log.to_protobuf()?;
-    let time = each(rt, start, 1)?;
-    print(
-        rt,
-        "VecLog of 10,000 entries, # bytes: to_protobuf # ns",
-        &[bytes.len() as u128, time],
+    let (bytes, count) = (bytes.as_slice(), log.length());
+    bench.pieces(
+        "VecLog::to_protobuf",
+        1,
+        count,
+        |_| log.to_protobuf().is_ok(),
     )?;
-    Ok(bytes)
-}
-
-fn read_image(rt: &HostRuntime, bytes: &[u8], branch: u128) -> Result<()> {
-    let start = now(rt)?;
-    let log = read(rt, bytes)?;
-    let time = each(rt, start, 1)?;
-    print(
-        rt,
-        "VecLog of # entries: from_protobuf # ns, of which its 9,999 branches take # ns",
-        &[log.length() as u128, time, branch.saturating_mul(9_999)],
+    bench.pieces(
+        "VecLog::from_protobuf",
+        1,
+        count,
+        |_| Log::from_protobuf(alloc, bytes).is_ok(),
     )
 }
 
-fn read(rt: &HostRuntime, bytes: &[u8]) -> Result<Log> {
-    Ok(VecLog::from_protobuf(rt.alloc(), bytes)?)
+// Paths of the log's first entry, and of two thirds of the log.
+fn paths(bench: &Bench<'_>, log: &Log, list: &[Entry]) -> Result<()> {
+    let (length, old) = (log.length(), log.length() / 3 * 2);
+    let value = list.first().copied().unwrap_or([7; 32]);
+    let leaf = hash_leaf(&value);
+    let path = inclusion_path(bench.alloc(), log, 0, length)?;
+    let path = path.as_slice();
+    let known = &log.checkpoint();
+    bench.calls("root_of_inclusion", 1_000, |_| {
+        root_of_inclusion(0, length, &leaf, path).is_some()
+    })?;
+    bench.calls(
+        "check_record",
+        1_000,
+        |_| check_record(known, 0, &value, path),
+    )?;
+    let (old_root, _) = log.prove_consistency(old, length).evaluate(log)?;
+    let growth = consistency_path(bench.alloc(), log, old, length)?;
+    let growth = growth.as_slice();
+    let old = &Checkpoint::new(old_root, old);
+    bench.calls("check_tree", 1_000, |_| check_tree(old, known, growth))
 }

@@ -1,78 +1,75 @@
-//! Measures the calls that matter, beside one hash of a branch in the same run. With the argument `growth` it
-//! measures how they grow; with none it measures nothing and prints nothing.
+//! Measures the calls whose figures docs/BENCHMARKS.md has, beside one hash of a branch in the same run.
+//!
+//! `warg_bench measure` prints what each call takes, and `warg_bench growth` how that grows with a log's entries and a
+//! map's keys. `warg_bench PART CALL TIMES` makes one call of a part so often, and prints nothing: what callgrind counts
+//! of it is in `scripts/bench_counts.py`. With no argument it measures nothing.
 #![tactic(auto)]
 
+mod bench;
 mod bundles;
-mod counts;
-mod growth;
 mod logs;
 mod maps;
-mod paths;
-mod ratios;
-mod rows;
-mod slow;
-mod times;
-mod updates;
 mod verdicts;
-mod witnesses;
 
-use crate::rows::print;
-use crate::times::{each, now};
-use anyhow::Result;
+use crate::bench::{Bench, Only};
+use anyhow::{Result, bail};
+use std::alloc::Global;
 use std::env;
-use warg_crypto::{Hash, Sha256};
 
 type Entry = [u8; 32];
 
 const ENTRIES: usize = 100_000;
 
 fn main(rt: HostRuntime) -> Result<()> {
-    match env::args(&rt)?.nth(1) {
-        None => Ok(()),
-        Some(word) if word.as_str() == "growth" => growth::measure(&rt),
-        Some(_) => measure(&rt),
+    let words = env::args(&rt)?;
+    let words: Vec<String> = words.skip(1).collect(rt.alloc())?;
+    match words.as_slice() {
+        [] => Ok(()),
+        [word] if word.as_str() == "measure" => measure(&Bench::of_all(&rt)?),
+        [word] if word.as_str() == "growth" => growth(&Bench::of_all(&rt)?),
+        [part, call, times] => {
+            let Ok(times) = times.as_str().parse() else {
+                bail!("no number of times");
+            };
+            let call = call.as_str();
+            one_part(part.as_str(), &Bench::of_one(&rt, Only { call, times }))
+        }
+        _ => bail!("usage: warg_bench [measure | growth | PART CALL TIMES]"),
     }
 }
 
 // Measures each call, one part after the other.
-fn measure(rt: &HostRuntime) -> Result<()> {
-    let branch = branch_time(rt)?;
-    print(rt, "one hash of a branch: # ns", &[branch])?;
-    counts::measure(rt)?;
-    logs::measure(rt, branch)?;
-    paths::measure(rt, branch)?;
-    maps::measure(rt, 1_000)?;
-    maps::measure(rt, 10_000)?;
-    ratios::measure(rt)?;
-    bundles::measure(rt)?;
-    verdicts::measure(rt)?;
-    updates::measure(rt, branch, 10_000)?;
-    witnesses::measure(rt, branch)
+fn measure(bench: &Bench<'_>) -> Result<()> {
+    logs::measure(bench, ENTRIES)?;
+    maps::measure(bench, 1_000)?;
+    maps::measure(bench, 10_000)?;
+    bundles::measure(bench)?;
+    verdicts::measure(bench)
 }
 
-fn branch_time(rt: &HostRuntime) -> Result<u128> {
-    let start = now(rt)?;
-    let last = last_byte_of_branches();
-    let time = each(rt, start, 200_000)?;
-    print(rt, "last byte #", &[last])?;
-    Ok(time)
-}
-
-// Makes 200,000 branches, each of the one before.
-fn last_byte_of_branches() -> u128 {
-    let mut hash = Hash::<Sha256>::of(&());
-    for _ in 0..200_000u32 {
-        hash = Hash::of(&(1u8, hash.copied(), hash));
+// Measures how calls grow with entries and keys.
+fn growth(bench: &Bench<'_>) -> Result<()> {
+    for count in [1_000usize, 10_000, 100_000, 1_000_000] {
+        logs::measure(bench, count)?;
+        maps::measure(bench, count)?;
     }
-    match hash.bytes().last() {
-        Some(byte) => u128::from(*byte),
-        None => 0,
+    Ok(())
+}
+
+fn one_part(part: &str, bench: &Bench<'_>) -> Result<()> {
+    match part {
+        "logs" => logs::measure(bench, ENTRIES),
+        "maps" => maps::measure(bench, 1_000),
+        "more maps" => maps::measure(bench, 10_000),
+        "bundles" => bundles::measure(bench),
+        "verdicts" => verdicts::measure(bench),
+        _ => bail!("no part of this name"),
     }
 }
 
 // Entries of 32 bytes, all different.
-fn entries(rt: &HostRuntime, count: usize) -> Result<Vec<Entry>> {
-    let mut list = Vec::new(rt.alloc());
+fn entries(alloc: Global, count: usize) -> Result<Vec<Entry>> {
+    let mut list = Vec::new(alloc);
     for number in 0..count {
         list.push(entry(number))?;
     }

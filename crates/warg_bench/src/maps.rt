@@ -1,12 +1,9 @@
-//! Maps: insertions, proofs, evaluations, and verdicts on a key.
+//! Maps: insertions, extensions, proofs and evaluations.
 
-use crate::rows::print;
-use crate::times::{Call, each, now, rounds, share, time};
-use crate::verdicts::{KeyChecks, KeyReads};
-use crate::{Entry, entries};
+use crate::bench::{Bench, share};
+use crate::{Entry, entries, entry};
 use anyhow::Result;
-use warg_bundle::MapProofBundle;
-use warg_crypto::{Hash, Sha256, SupportedDigest};
+use warg_crypto::Sha256;
 use warg_map::{Map, Proof};
 
 /// A map whose digests are of SHA-256.
@@ -16,237 +13,83 @@ pub type Keys = Map<Sha256, Entry, Entry>;
 pub type KeyProof = Proof<Sha256, Entry, Entry>;
 
 /// The map of these keys, each with itself as its value.
-pub fn map_of<D: SupportedDigest>(
-    rt: &HostRuntime,
-    keys: &[Entry],
-) -> Result<Map<D, Entry, Entry>> {
-    let mut map = Map::default(rt.alloc());
+pub fn map_of(bench: &Bench<'_>, keys: &[Entry]) -> Result<Keys> {
+    let mut map = Map::default(bench.alloc());
     for key in keys {
         map = map.insert(*key, *key)?;
     }
     Ok(map)
 }
 
-/// The proof of a key.
-pub fn proof_of<D: SupportedDigest>(
-    map: &Map<D, Entry, Entry>,
-    key: &Entry,
-) -> Result<Option<Proof<D, Entry, Entry>>> {
-    Ok(map.prove(*key)?)
-}
-
-/// Inserts a key.
-#[derive(Drop)]
-pub struct Insertions<'a, D: SupportedDigest> {
-    pub map: &'a Map<D, Entry, Entry>,
-    pub keys: &'a [Entry],
-}
-
-impl<D: SupportedDigest> Call for Insertions<'_, D> {
-    fn call(&self, number: usize) -> bool {
-        match self.keys.get(number) {
-            Some(key) => self.map.insert(*key, *key).is_ok(),
-            None => false,
-        }
+/// These keys, each with itself as its value.
+pub fn pairs_of(bench: &Bench<'_>, keys: &[Entry]) -> Result<Vec<(Entry, Entry)>> {
+    let mut pairs = Vec::new(bench.alloc());
+    for key in keys {
+        pairs.push((*key, *key))?;
     }
-}
-
-/// Proves a key. The keys are spread over those of the map.
-#[derive(Drop)]
-pub struct Proofs<'a, D: SupportedDigest> {
-    pub map: &'a Map<D, Entry, Entry>,
-    pub keys: &'a [Entry],
-    pub every: usize,
-}
-
-impl<D: SupportedDigest> Call for Proofs<'_, D> {
-    fn call(&self, number: usize) -> bool {
-        match self.keys.get(number.saturating_mul(self.every)) {
-            Some(key) => matches!(self.map.prove(*key), Ok(Some(_))),
-            None => false,
-        }
-    }
-}
-
-/// Proves a key, and evaluates the proof. The keys are spread over those of the map.
-#[derive(Drop)]
-pub struct ProofsInUse<'a> {
-    pub map: &'a Keys,
-    pub keys: &'a [Entry],
-    pub every: usize,
-}
-
-impl Call for ProofsInUse<'_> {
-    fn call(&self, number: usize) -> bool {
-        match self.keys.get(number.saturating_mul(self.every)) {
-            Some(key) => is_proved(self.map, key),
-            None => false,
-        }
-    }
-}
-
-fn is_proved(map: &Keys, key: &Entry) -> bool {
-    match map.prove(*key) {
-        Ok(Some(proof)) => proof.evaluate(key, key) == *map.root(),
-        _ => false,
-    }
-}
-
-/// Evaluates a proof.
-#[derive(Drop)]
-pub struct Evaluation<'a, D: SupportedDigest> {
-    pub proof: &'a Proof<D, Entry, Entry>,
-    pub key: &'a Entry,
-    pub root: &'a Hash<D>,
-}
-
-impl<D: SupportedDigest> Call for Evaluation<'_, D> {
-    fn call(&self, _number: usize) -> bool {
-        self.proof.evaluate(self.key, self.key) == *self.root
-    }
+    Ok(pairs)
 }
 
 /// Measures a map of so many keys.
-pub fn measure(rt: &HostRuntime, count: usize) -> Result<()> {
-    let list = entries(rt, count)?;
+pub fn measure(bench: &Bench<'_>, count: usize) -> Result<()> {
+    let list = entries(bench.alloc(), count)?;
     let keys = list.as_slice();
-    let map = grown(rt, keys)?;
-    prove(rt, &map, keys)?;
-    evaluate(rt, &map, keys)?;
-    print_size(rt, &map, count)?;
-    match keys.first() {
-        Some(key) => measure_key(rt, &map, key, count),
-        None => Ok(()),
-    }
-}
-
-fn grown(rt: &HostRuntime, keys: &[Entry]) -> Result<Keys> {
-    let start = now(rt)?;
-    let map = map_of(rt, keys)?;
-    let time = each(rt, start, rounds(keys.len()))?;
-    print(
-        rt,
-        "map insert up to # keys: # ns",
-        &[keys.len() as u128, time],
+    let map = map_of(bench, keys)?;
+    print_size(bench, &map, count)?;
+    let known = &entry(0);
+    bench.pieces("Map::insert", 1, count, |_| map_of(bench, keys).is_ok())?;
+    bench.calls(
+        "Map::insert of a known key",
+        100,
+        |_| map.insert(*known, *known).is_ok(),
     )?;
-    Ok(map)
-}
-
-fn prove(rt: &HostRuntime, map: &Keys, keys: &[Entry]) -> Result<()> {
-    let start = now(rt)?;
-    let peers = peers_of_all(map, keys)?;
-    let time = each(rt, start, rounds(keys.len()))?;
-    print(
-        rt,
-        "map prove at # keys: # ns (# peers)",
-        &[keys.len() as u128, time, peers as u128],
-    )
-}
-
-// How many peers the proofs of these keys have.
-fn peers_of_all(map: &Keys, keys: &[Entry]) -> Result<usize> {
-    let mut peers = 0usize;
-    for key in keys {
-        if let Some(proof) = proof_of(map, key)? {
-            peers = peers.saturating_add(proof.peers().len());
-        }
-    }
-    Ok(peers)
-}
-
-fn evaluate(rt: &HostRuntime, map: &Keys, keys: &[Entry]) -> Result<()> {
-    let every = 1;
-    let taken = time(rt, &ProofsInUse { map, keys, every }, 1_000)?;
-    print(
-        rt,
-        "map prove and evaluate at # keys: # ns (# good)",
-        &[keys.len() as u128, taken.each(1_000), taken.good],
-    )
-}
-
-fn print_size(rt: &HostRuntime, map: &Keys, count: usize) -> Result<()> {
-    let nodes = map.node_count();
-    print(
-        rt,
-        "map nodes at # keys: #, # bytes a key",
-        &[
-            count as u128,
-            nodes,
-            share(node_bytes(nodes, rounds(count)), rounds(count)),
-        ],
-    )
-}
-
-/// The bytes of a map's nodes, by the sizes of their fields and two counters each: 252 for a lone key, of
-/// which there is one a key, and 112 for each of the others, forks and stems.
-pub fn node_bytes(nodes: u128, keys: u128) -> u128 {
-    nodes
-        .saturating_sub(keys)
-        .saturating_mul(112)
-        .saturating_add(keys.saturating_mul(252))
-}
-
-// A verdict on a key beside its two parts, the bundle's reading and the proof's evaluation.
-fn measure_key(rt: &HostRuntime, map: &Keys, key: &Entry, count: usize) -> Result<()> {
-    let Some(proof) = proof_of(map, key)? else {
+    bench.pieces(
+        "Map::extend",
+        1,
+        count,
+        |_| extended(bench, keys, count).is_ok(),
+    )?;
+    bench.pieces(
+        "two Map::extend",
+        1,
+        count,
+        |_| extended(bench, keys, count / 2).is_ok(),
+    )?;
+    bench.calls("Map::prove", count, |number| is_proved(&map, keys, number))?;
+    let Some(proof) = &map.prove(*known)? else {
         return Ok(());
     };
-    let root = map.root();
-    evaluate_one(
-        rt,
-        &Evaluation {
-            proof: &proof,
-            key,
-            root,
-        },
-        count,
+    bench.calls("evaluation of a map's proof", 1_000, |_| {
+        proof.evaluate(known, known) == *map.root()
+    })
+}
+
+fn is_proved(map: &Keys, keys: &[Entry], number: usize) -> bool {
+    match keys.get(number % keys.len().max(1)) {
+        Some(key) => matches!(map.prove(*key), Ok(Some(_))),
+        None => false,
+    }
+}
+
+// Extends the empty map by the first keys, as many as `first`, and then by the others.
+fn extended(bench: &Bench<'_>, keys: &[Entry], first: usize) -> Result<Keys> {
+    let (first, second) = keys.split_at(first.min(keys.len()));
+    let empty: Keys = Map::default(bench.alloc());
+    let half = empty.extend(pairs_of(bench, first)?.into_iter())?;
+    if second.is_empty() {
+        return Ok(half);
+    }
+    Ok(half.extend(pairs_of(bench, second)?.into_iter())?)
+}
+
+// The bytes of a map's nodes, by the sizes of their fields and two counters each: 252 for a lone key, of which there is
+// one a key, and 112 for each of the others, forks and stems.
+fn print_size(bench: &Bench<'_>, map: &Keys, count: usize) -> Result<()> {
+    let (nodes, keys) = (map.node_count(), count as u128);
+    let others = nodes.saturating_sub(keys).saturating_mul(112);
+    let bytes = share(others.saturating_add(keys.saturating_mul(252)), keys);
+    let line = format!(in bench.alloc();
+        "a map of {count} keys: {nodes} nodes, {bytes} bytes a key"
     )?;
-    let bytes = bundle_of(rt, proof)?;
-    let bytes = bytes.as_slice();
-    read(rt, bytes, count)?;
-    let alloc = rt.alloc();
-    check(
-        rt,
-        &KeyChecks {
-            alloc,
-            bytes,
-            key,
-            root,
-        },
-        count,
-    )
-}
-
-fn evaluate_one(rt: &HostRuntime, calls: &Evaluation<'_, Sha256>, count: usize) -> Result<()> {
-    let taken = time(rt, calls, 1_000)?;
-    print(
-        rt,
-        "map evaluate at # keys: # ns (# of 1000)",
-        &[count as u128, taken.each(1_000), taken.good],
-    )
-}
-
-/// The bundle of one proof, as bytes.
-pub fn bundle_of(rt: &HostRuntime, proof: KeyProof) -> Result<Vec<u8>> {
-    let proofs = vec![in rt.alloc(); proof]?;
-    Ok(MapProofBundle::bundle(proofs).encode(rt.alloc())?)
-}
-
-fn read(rt: &HostRuntime, bytes: &[u8], count: usize) -> Result<()> {
-    let alloc = rt.alloc();
-    let taken = time(rt, &KeyReads { alloc, bytes }, 1_000)?;
-    print(
-        rt,
-        "map bundle of # bytes at # keys: decode # ns",
-        &[bytes.len() as u128, count as u128, taken.each(taken.good)],
-    )
-}
-
-fn check(rt: &HostRuntime, calls: &KeyChecks<'_>, count: usize) -> Result<()> {
-    let taken = time(rt, calls, 1_000)?;
-    print(
-        rt,
-        "check_key at # keys: # ns (# of 1000)",
-        &[count as u128, taken.each(1_000), taken.good],
-    )
+    bench.say(line.as_str())
 }

@@ -1,207 +1,143 @@
-//! Verdicts on proofs in bytes, and the program on lines.
+//! Verdicts on proofs in bytes, witnesses, and the program on lines.
 
+use crate::bench::Bench;
 use crate::logs::{Log, log_of};
-use crate::maps::{Keys, map_of};
-use crate::rows::print;
-use crate::times::{Call, each, now, time};
-use crate::{ENTRIES, Entry, entries};
+use crate::maps::{KeyProof, Keys, map_of, pairs_of};
+use crate::{ENTRIES, Entry, entries, entry};
 use anyhow::Result;
-use std::alloc::Global;
-use warg_bundle::{LogProofBundle, MapProofBundle as KeyBundle};
-use warg_check::{check_consistency, check_inclusion, check_key};
-use warg_crypto::{Hash, Sha256};
-use warg_log::{ConsistencyProof, LogBuilder, LogData, Node};
+use warg_bundle::{LogProofBundle, MapProofBundle};
+use warg_check::{check_consistency, check_inclusion, check_key, check_update};
+use warg_crypto::Sha256;
+use warg_log::{LogBuilder, LogData, Node};
 use warg_program::run;
+use warg_witness::{witness_absent, witness_key, witness_value};
 
-/// Reads a bundle of a map's proof.
-#[derive(Drop)]
-pub struct KeyReads<'a> {
-    pub alloc: Global,
-    pub bytes: &'a [u8],
-}
+// How many keys the map has, and the log over which a witness looks.
+const KEYS: usize = 10_000;
 
-impl Call for KeyReads<'_> {
-    fn call(&self, _number: usize) -> bool {
-        KeyBundle::<Sha256, Entry, Entry>::decode(self.alloc, self.bytes).is_ok()
-    }
-}
-
-/// Checks a key against a bundle and a root.
-#[derive(Drop)]
-pub struct KeyChecks<'a> {
-    pub alloc: Global,
-    pub bytes: &'a [u8],
-    pub key: &'a Entry,
-    pub root: &'a Hash<Sha256>,
-}
-
-impl Call for KeyChecks<'_> {
-    fn call(&self, _number: usize) -> bool {
-        let (key, root) = (self.key, self.root);
-        matches!(
-            check_key(self.alloc, self.bytes, 0, key, key, root),
-            Ok(true)
-        )
-    }
-}
-
-// Checks an entry against a bundle and a root.
-#[derive(Drop)]
-struct InclusionChecks<'a> {
-    alloc: Global,
-    bytes: &'a [u8],
-    value: Entry,
-    root: Hash<Sha256>,
-}
-
-impl Call for InclusionChecks<'_> {
-    fn call(&self, _number: usize) -> bool {
-        let (value, root) = (&self.value, &self.root);
-        matches!(
-            check_inclusion(self.alloc, self.bytes, 0, value, root),
-            Ok(true)
-        )
-    }
-}
-
-// Checks two roots against a bundle.
-#[derive(Drop)]
-struct ConsistencyChecks<'a> {
-    alloc: Global,
-    bytes: &'a [u8],
-    old: Hash<Sha256>,
-    new: Hash<Sha256>,
-}
-
-impl Call for ConsistencyChecks<'_> {
-    fn call(&self, _number: usize) -> bool {
-        let (old, new) = (&self.old, &self.new);
-        matches!(
-            check_consistency(self.alloc, self.bytes, 0, old, new),
-            Ok(true)
-        )
-    }
-}
-
-/// Measures verdicts, and the program on lines.
-pub fn measure(rt: &HostRuntime) -> Result<()> {
-    let list = entries(rt, ENTRIES)?;
-    let log = log_of(rt, list.as_slice())?;
-    let value = list.first().copied().unwrap_or([7; 32]);
-    check_entry(rt, &log, value)?;
-    check_growth(rt, &log)?;
-    measure_lines(rt)
-}
-
-fn check_entry(rt: &HostRuntime, log: &Log, value: Entry) -> Result<()> {
-    let bytes = inclusion_of(rt, log)?;
-    let calls = InclusionChecks {
-        alloc: rt.alloc(),
-        bytes: bytes.as_slice(),
-        value,
-        root: log.checkpoint().root(),
-    };
-    print_checks(
-        rt,
-        "check_inclusion of # bytes at 100,000: # ns (# of 1000)",
-        &calls,
-        bytes.len(),
+/// Measures verdicts, witnesses, and the program on lines.
+pub fn measure(bench: &Bench<'_>) -> Result<()> {
+    let list = entries(bench.alloc(), ENTRIES)?;
+    let log = log_of(bench, list.as_slice())?;
+    of_inclusion(bench, &log)?;
+    of_consistency(bench, &log)?;
+    let list = entries(bench.alloc(), KEYS)?;
+    let keys = list.as_slice();
+    let map = map_of(bench, keys)?;
+    of_key(bench, &map)?;
+    of_update(bench, &map)?;
+    over_log(bench, keys)?;
+    over_map(bench, &map, keys)?;
+    let lines = lines_of(bench, keys)?;
+    bench.calls(
+        "10,000 insert lines and a map",
+        1,
+        |_| is_run(bench, lines.as_slice()),
     )
 }
 
-// The bundle of the proof of the log's first entry.
-fn inclusion_of(rt: &HostRuntime, log: &Log) -> Result<Vec<u8>> {
-    let proofs = vec![in rt.alloc(); log.prove_inclusion(Node(0), ENTRIES)]?;
-    let bundle = LogProofBundle::bundle(rt.alloc(), Vec::new(rt.alloc()), proofs, log)?;
-    Ok(bundle.encode(rt.alloc())?)
+fn of_inclusion(bench: &Bench<'_>, log: &Log) -> Result<()> {
+    let alloc = bench.alloc();
+    let proofs = vec![in alloc; log.prove_inclusion(Node(0), ENTRIES)]?;
+    let bundle = LogProofBundle::bundle(alloc, Vec::new(alloc), proofs, log)?;
+    let bytes = bundle.encode(alloc)?;
+    let (bytes, value, root) = (bytes.as_slice(), entry(0), log.checkpoint().root());
+    bench.calls("check_inclusion", 1_000, |_| {
+        check_inclusion(alloc, bytes, 0, &value, &root) == Ok(true)
+    })
 }
 
-fn check_growth(rt: &HostRuntime, log: &Log) -> Result<()> {
+fn of_consistency(bench: &Bench<'_>, log: &Log) -> Result<()> {
+    let alloc = bench.alloc();
     let proof = log.prove_consistency(66_666, ENTRIES);
-    let (old, new) = roots_of(log, &proof)?;
-    let bytes = consistency_of(rt, log, proof)?;
-    let calls = ConsistencyChecks {
-        alloc: rt.alloc(),
-        bytes: bytes.as_slice(),
-        old,
-        new,
+    let (old, new) = proof.evaluate(log)?;
+    let bundle = LogProofBundle::bundle(alloc, vec![in alloc; proof]?, Vec::new(alloc), log)?;
+    let bytes = bundle.encode(alloc)?;
+    let bytes = bytes.as_slice();
+    bench.calls("check_consistency", 1_000, |_| {
+        check_consistency(alloc, bytes, 0, &old, &new) == Ok(true)
+    })
+}
+
+// The bundle of one proof, as bytes.
+fn bundle_of(bench: &Bench<'_>, proof: KeyProof) -> Result<Vec<u8>> {
+    let proofs = vec![in bench.alloc(); proof]?;
+    Ok(MapProofBundle::bundle(proofs).encode(bench.alloc())?)
+}
+
+fn of_key(bench: &Bench<'_>, map: &Keys) -> Result<()> {
+    let (alloc, key) = (bench.alloc(), &entry(0));
+    let Some(proof) = map.prove(*key)? else {
+        return Ok(());
     };
-    print_checks(
-        rt,
-        "check_consistency of # bytes at 100,000: # ns (# of 1000)",
-        &calls,
-        bytes.len(),
-    )
+    let bytes = bundle_of(bench, proof)?;
+    let bytes = bytes.as_slice();
+    bench.calls("decoding of a key's bundle", 1_000, |_| {
+        MapProofBundle::<Sha256, Entry, Entry>::decode(alloc, bytes).is_ok()
+    })?;
+    bench.calls("check_key", 1_000, |_| {
+        check_key(alloc, bytes, 0, key, key, map.root()) == Ok(true)
+    })
 }
 
-fn roots_of(
-    log: &Log,
-    proof: &ConsistencyProof<Sha256, Entry>,
-) -> Result<(Hash<Sha256>, Hash<Sha256>)> {
-    Ok(proof.evaluate(log)?)
+// A step that an auditor checks: a key's value becomes another one.
+fn of_update(bench: &Bench<'_>, map: &Keys) -> Result<()> {
+    let (alloc, key, value) = (bench.alloc(), &entry(0), &entry(KEYS));
+    let step = map.insert_with_proof(*key, *value)?;
+    let bytes = bundle_of(bench, step.proof)?;
+    let (bytes, old, new) = (bytes.as_slice(), map.root(), step.map.root());
+    bench.calls("check_update", 1_000, |_| {
+        check_update(alloc, bytes, 0, key, key, value, old, new) == Ok(true)
+    })
 }
 
-fn consistency_of(
-    rt: &HostRuntime,
-    log: &Log,
-    proof: ConsistencyProof<Sha256, Entry>,
-) -> Result<Vec<u8>> {
-    let proofs = vec![in rt.alloc(); proof]?;
-    let bundle = LogProofBundle::bundle(rt.alloc(), proofs, Vec::new(rt.alloc()), log)?;
-    Ok(bundle.encode(rt.alloc())?)
+fn over_log(bench: &Bench<'_>, entries: &[Entry]) -> Result<()> {
+    let alloc = bench.alloc();
+    let log = log_of(bench, entries)?;
+    let proof = log.prove_inclusion(Node(4), log.length());
+    bench.calls(
+        "the tree over 10,000 entries",
+        5,
+        |_| log_of(bench, entries).is_ok(),
+    )?;
+    bench.calls("witness_value over 10,000 entries", 5, |_| {
+        witness_value(alloc, &proof, &log, &[7; 32], entries).is_ok()
+    })
 }
 
-fn print_checks<C: Call>(rt: &HostRuntime, text: &str, calls: &C, bytes: usize) -> Result<()> {
-    let taken = time(rt, calls, 1_000)?;
-    print(rt, text, &[bytes as u128, taken.each(1_000), taken.good])
+fn over_map(bench: &Bench<'_>, map: &Keys, keys: &[Entry]) -> Result<()> {
+    let (alloc, key, other) = (bench.alloc(), &entry(0), &[8; 32]);
+    let pairs = pairs_of(bench, keys)?;
+    let pairs = pairs.as_slice();
+    if let Some(proof) = &map.prove(*key)? {
+        bench.calls("witness_key over 10,000 insertions", 1, |_| {
+            witness_key(alloc, proof, key, other, pairs).is_ok()
+        })?;
+    }
+    if let Some(proof) = &map.prove_absence(*other)? {
+        bench.calls("witness_absent over 10,000 insertions", 1, |_| {
+            witness_absent(alloc, proof, other, pairs).is_ok()
+        })?;
+    }
+    Ok(())
 }
 
-// The program on lines that insert, beside the insertions alone.
-fn measure_lines(rt: &HostRuntime) -> Result<()> {
-    let list = entries(rt, 10_000)?;
-    let lines = lines_of(rt, list.as_slice())?;
-    run_on(rt, lines.as_slice())?;
-    let start = now(rt)?;
-    let map: Keys = map_of(rt, list.as_slice())?;
-    let time = each(rt, start, 1)?;
-    print(
-        rt,
-        "10,000 insertions: # ns (# keys)",
-        &[time, map.len() as u128],
-    )
-}
-
-fn lines_of(rt: &HostRuntime, keys: &[Entry]) -> Result<Vec<u8>> {
-    let mut lines = Vec::new(rt.alloc());
+// Lines that insert the keys, and one for the map.
+fn lines_of(bench: &Bench<'_>, keys: &[Entry]) -> Result<Vec<u8>> {
+    let mut lines = Vec::new(bench.alloc());
     for key in keys {
-        push_line(&mut lines, key)?;
+        let digits = hex::encode(bench.alloc(), key.as_slice())?;
+        let digits = digits.as_bytes();
+        for part in [b"insert ".as_slice(), digits, b" ", digits, b"\n"] {
+            lines.extend_from_slice(part)?;
+        }
     }
     lines.extend_from_slice(b"map\n")?;
     Ok(lines)
 }
 
-fn push_line(lines: &mut Vec<u8>, key: &Entry) -> Result<()> {
-    let digits = hex::encode(*lines.allocator(), key.as_slice())?;
-    push_words(lines, digits.as_bytes())
-}
-
-fn push_words(lines: &mut Vec<u8>, digits: &[u8]) -> Result<()> {
-    for part in [b"insert ".as_slice(), digits, b" ", digits, b"\n"] {
-        lines.extend_from_slice(part)?;
-    }
-    Ok(())
-}
-
-fn run_on(rt: &HostRuntime, lines: &[u8]) -> Result<()> {
+fn is_run(bench: &Bench<'_>, lines: &[u8]) -> bool {
     let mut input = lines;
-    let mut written = Vec::new(rt.alloc());
-    let start = now(rt)?;
-    let good = matches!(run(rt.alloc(), &mut input, &mut written), Ok(true));
-    let time = each(rt, start, 1)?;
-    let text = if good {
-        "10,000 insert lines and map, end to end: # ns (true, # bytes written)"
-    } else {
-        "10,000 insert lines and map, end to end: # ns (false, # bytes written)"
-    };
-    print(rt, text, &[time, written.len() as u128])
+    let mut written = Vec::new(bench.alloc());
+    matches!(run(bench.alloc(), &mut input, &mut written), Ok(true))
 }

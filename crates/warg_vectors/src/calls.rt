@@ -1,130 +1,124 @@
 //! The calls, by their names.
 
 mod bundles;
-mod checkpoint_texts;
 mod checks;
-mod data;
-mod growths;
-mod hashes;
-mod length;
 mod logs;
 mod map_proofs;
 mod map_witnesses;
+mod maps;
 mod messages;
 mod nodes;
+mod pages;
 mod paths;
 mod proofs;
-mod runs;
 mod stored;
+mod stored_pages;
+mod texts;
 mod tiles;
-mod updates;
-mod values;
 mod witnesses;
 
-use vector_lines::answer::Answer;
-use vector_lines::digest::Digest;
-use vector_lines::each;
-use vector_lines::lines::Calls;
-use vector_lines::words::{Fault, Given, Words};
+use crate::call::Call;
+use crate::fault::{Answered, Fault};
+use crate::memory::Memory;
 use warg_crypto::weak::{Flat, Own32, Sum};
 use warg_crypto::{Sha256, SupportedDigest};
 
-/// All calls but those that hash most.
-pub(crate) struct OtherCalls;
-
-impl Calls for OtherCalls {
-    fn answer(words: &mut Words<'_>, to: &mut Answer) -> Result<(), Fault> {
-        let name = words.name()?;
-        by_name(name, words, to)
+/// Answers a call. Its first word is its name.
+pub(crate) fn answer<M: Memory>(call: &mut Call<'_, M>) -> Answered {
+    match call.word()? {
+        "broots" => nodes::broots(call),
+        "exists" => nodes::exists(call),
+        "next" => nodes::next(call),
+        "first" => nodes::first(call),
+        "walk" => proofs::walk(call),
+        "inclusions" => proofs::inclusions(call),
+        "wire" => messages::wire(call),
+        "read" => messages::read(call),
+        "run" => messages::run(call),
+        "tile_over" => tiles::tile_over(call),
+        "tile_path" => tiles::tile_path(call),
+        "entries_path" => tiles::entries_path(call),
+        "read_tile_path" => tiles::read_tile_path(call),
+        "tiles_between" => tiles::tiles_between(call),
+        "entry_bundle" => tiles::entry_bundle(call),
+        "read_entry_bundle" => tiles::read_entry_bundle(call),
+        "checkpoint_text" => texts::checkpoint_text(call),
+        "read_checkpoint_text" => texts::read_checkpoint_text(call),
+        "page_path" => pages::page_path(call),
+        "read_page" => pages::read_page(call),
+        name => check(name, call),
     }
 }
 
-fn by_name(name: &str, words: &mut Words<'_>, to: &mut Answer) -> Result<(), Fault> {
+// Answers a call for a verdict, under SHA-256.
+fn check<M: Memory>(name: &str, call: &mut Call<'_, M>) -> Answered {
     match name {
-        "walk" => each::answer::<proofs::Walk>(words, to),
-        "inclusions" => each::answer::<proofs::Inclusions>(words, to),
-        "wire" => each::answer::<messages::Wire>(words, to),
-        "read" => values::read(words, to),
-        "run" => each::answer::<runs::Run>(words, to),
-        "check_inclusion" => each::answer::<checks::CheckInclusion>(words, to),
-        "check_consistency" => each::answer::<checks::CheckConsistency>(words, to),
-        "check_key" => each::answer::<checks::CheckKey>(words, to),
-        "check_absent" => each::answer::<checks::CheckAbsent>(words, to),
-        "check_entry" => each::answer::<checks::CheckEntry>(words, to),
-        "check_growth" => each::answer::<checks::CheckGrowth>(words, to),
-        "check_record" => each::answer::<paths::CheckRecord>(words, to),
-        "check_tree" => each::answer::<paths::CheckTree>(words, to),
-        "check_update" => each::answer::<updates::CheckUpdate>(words, to),
-        "check_insertion" => each::answer::<updates::CheckInsertion>(words, to),
-        "checkpoint_text" => each::answer::<checkpoint_texts::WriteText>(words, to),
-        "read_checkpoint_text" => each::answer::<checkpoint_texts::ReadText>(words, to),
-        _ if nodes::has_call(name) => nodes::answer(name, words, to),
-        _ if tiles::has_call(name) => tiles::answer(name, words, to),
-        _ => by_digest(name, words, to),
+        "check_inclusion" => checks::inclusion(call),
+        "check_consistency" => checks::consistency(call),
+        "check_key" => checks::key(call),
+        "check_absent" => checks::absent(call),
+        "check_entry" => checks::entry(call),
+        "check_growth" => checks::growth(call),
+        "check_update" => checks::update(call),
+        "check_insertion" => checks::insertion(call),
+        "check_record" => checks::record(call),
+        "check_tree" => checks::tree(call),
+        _ if nodes::takes_one(name) => nodes::of_one(name, call),
+        _ => by_digest(name, call),
     }
 }
 
-// Answers a call whose first word names its digest function.
-fn by_digest(name: &str, words: &mut Words<'_>, to: &mut Answer) -> Result<(), Fault> {
-    match Digest::read(words) {
-        Ok(Digest::Sha256) => of_log::<Sha256>(name, words, to),
-        Ok(Digest::Sum) => of_log::<Sum>(name, words, to),
-        Ok(Digest::Own32) => of_log::<Own32>(name, words, to),
-        Ok(Digest::Flat) => of_log::<Flat>(name, words, to),
-        Err(fault) => Err(fault),
+// Answers a call whose first word behind its name is its digest function's.
+fn by_digest<M: Memory>(name: &str, call: &mut Call<'_, M>) -> Answered {
+    match call.word()? {
+        "Sha256" => of_log::<Sha256, M>(name, call),
+        "Sum" => of_log::<Sum, M>(name, call),
+        "Own32" => of_log::<Own32, M>(name, call),
+        "Flat" => of_log::<Flat, M>(name, call),
+        _ => Err(Fault::BadCall),
     }
 }
 
-fn of_log<D: SupportedDigest>(
-    name: &str,
-    words: &mut Words<'_>,
-    to: &mut Answer,
-) -> Result<(), Fault> {
+fn of_log<D: SupportedDigest, M: Memory>(name: &str, call: &mut Call<'_, M>) -> Answered {
     match name {
-        "log" => each::answer::<logs::Log<D>>(words, to),
-        "evaluate_value" => each::answer::<proofs::EvaluateValue<D>>(words, to),
-        "evaluate_hash" => each::answer::<proofs::EvaluateHash<D>>(words, to),
-        "consistency" => each::answer::<proofs::Consistency<D>>(words, to),
-        "bundle" => each::answer::<bundles::Bundle<D>>(words, to),
-        "witness_value" => each::answer::<witnesses::WitnessValue<D>>(words, to),
-        "witness_hash" => each::answer::<witnesses::WitnessHash<D>>(words, to),
-        "witness_consistency" => each::answer::<witnesses::WitnessConsistency<D>>(words, to),
-        "agree_value" => each::answer::<witnesses::AgreeValue<D>>(words, to),
-        _ => of_path::<D>(name, words, to),
+        "log" => logs::log::<D, M>(call),
+        "evaluate_value" => proofs::evaluate_value::<D, M>(call),
+        "evaluate_hash" => proofs::evaluate_hash::<D, M>(call),
+        "consistency" => proofs::consistency::<D, M>(call),
+        "bundle" => bundles::bundle::<D, M>(call),
+        "inclusion_path" => paths::inclusion_path::<D, M>(call),
+        "consistency_path" => paths::consistency_path::<D, M>(call),
+        "root_of_inclusion" => paths::root_of_inclusion::<D, M>(call),
+        "roots_of_consistency" => paths::roots_of_consistency::<D, M>(call),
+        "tile_hashes" => tiles::tile_hashes::<D, M>(call),
+        "tile_data" => tiles::tile_data::<D, M>(call),
+        "witness_value" => witnesses::value::<D, M>(call),
+        "witness_hash" => witnesses::hash::<D, M>(call),
+        "witness_consistency" => witnesses::consistency::<D, M>(call),
+        "witness_record" => witnesses::record::<D, M>(call),
+        "witness_tree" => witnesses::tree::<D, M>(call),
+        "agree_value" => witnesses::agree_value::<D, M>(call),
+        "agree_record" => witnesses::agree_record::<D, M>(call),
+        _ => of_map::<D, M>(name, call),
     }
 }
 
-fn of_path<D: SupportedDigest>(
-    name: &str,
-    words: &mut Words<'_>,
-    to: &mut Answer,
-) -> Result<(), Fault> {
+fn of_map<D: SupportedDigest, M: Memory>(name: &str, call: &mut Call<'_, M>) -> Answered {
     match name {
-        "witness_record" => each::answer::<witnesses::WitnessRecord<D>>(words, to),
-        "witness_tree" => each::answer::<growths::WitnessTree<D>>(words, to),
-        "agree_record" => each::answer::<witnesses::AgreeRecord<D>>(words, to),
-        "inclusion_path" => each::answer::<paths::InclusionPath<D>>(words, to),
-        "consistency_path" => each::answer::<paths::ConsistencyPath<D>>(words, to),
-        "root_of_inclusion" => each::answer::<paths::RootOfInclusion<D>>(words, to),
-        "roots_of_consistency" => each::answer::<paths::RootsOfConsistency<D>>(words, to),
-        "tile_hashes" => each::answer::<tiles::TileHashes<D>>(words, to),
-        "tile_data" => each::answer::<tiles::TileDigest<D>>(words, to),
-        _ => of_map_proof::<D>(name, words, to),
-    }
-}
-
-fn of_map_proof<D: SupportedDigest>(
-    name: &str,
-    words: &mut Words<'_>,
-    to: &mut Answer,
-) -> Result<(), Fault> {
-    match name {
-        "map_proof" => each::answer::<map_proofs::MapProof<D>>(words, to),
-        "evaluate" => each::answer::<map_proofs::Evaluate<D>>(words, to),
-        "evaluate_absent" => each::answer::<map_proofs::EvaluateAbsent<D>>(words, to),
-        "agree_key" => each::answer::<map_witnesses::AgreeKey<D>>(words, to),
-        "witness_absent" => each::answer::<map_witnesses::WitnessAbsent<D>>(words, to),
-        "witness_update" => each::answer::<map_witnesses::WitnessUpdate<D>>(words, to),
+        "map" => maps::map::<D, M>(call),
+        "insert_with_proof" => maps::insert_with_proof::<D, M>(call),
+        "prove" => maps::prove::<D, M>(call, false),
+        "prove_absence" => maps::prove::<D, M>(call, true),
+        "map_bundle" => bundles::map_bundle::<D, M>(call),
+        "map_proof" => map_proofs::map_proof::<D, M>(call),
+        "evaluate" => map_proofs::evaluate::<D, M>(call),
+        "evaluate_absent" => map_proofs::evaluate_absent::<D, M>(call),
+        "witness_key" => map_witnesses::key::<D, M>(call),
+        "witness_absent" => map_witnesses::absent::<D, M>(call),
+        "witness_update" => map_witnesses::update::<D, M>(call),
+        "agree_key" => map_witnesses::agree::<D, M>(call),
+        "page_digest" => pages::page_digest::<D, M>(call),
+        "get" => pages::get::<D, M>(call),
         _ => Err(Fault::BadCall),
     }
 }

@@ -1,141 +1,113 @@
-//! Verdicts on the proofs in bytes, under SHA-256.
+//! Verdicts on proofs and paths in bytes, under SHA-256.
 
-use std::alloc::AllocError;
-use vector_lines::answer::Answer;
-use vector_lines::each::{Call, Memory};
+use crate::call::Call;
+use crate::fault::{Answered, Fault};
+use crate::memory::Memory;
 use warg_check::CheckError;
 use warg_crypto::{Hash, Sha256};
 use warg_log::Checkpoint;
 
-/// The bytes, and the place of the proof in them.
-pub(super) type Place = (Vec<u8>, usize);
+type Root = Hash<Sha256>;
 
-/// A root under SHA-256.
-pub(super) type Root = Hash<Sha256>;
+// The bytes, and the place of the proof in them.
+type Place = (Vec<u8>, usize);
 
-/// The length and the root of a checkpoint.
-pub(super) type Known = (usize, Root);
-
-/// Writes a verdict.
-pub(super) fn write(verdict: Result<bool, CheckError>, to: &mut Answer) -> Result<(), AllocError> {
-    match verdict {
-        Ok(verdict) => to.shown(&verdict),
-        Err(fault) => to.refusal(&fault),
-    }
+// The checkpoint of the length and the root that come next.
+fn checkpoint<M: Memory>(call: &mut Call<'_, M>) -> Result<Checkpoint<Sha256>, Fault> {
+    let (length, root): (usize, Root) = call.read()?;
+    Ok(Checkpoint::new(root, length))
 }
 
-pub(super) struct CheckInclusion;
-
-impl Call for CheckInclusion {
-    type Given = (Place, (Vec<u8>, Root));
-
-    fn answer<M: Memory>(
-        given: &(Place, (Vec<u8>, Root)),
-        memory: M,
-        to: &mut Answer,
-    ) -> Result<(), AllocError> {
-        let ((bytes, at), (value, root)) = given;
-        let bytes = bytes.as_slice();
-        write(
-            warg_check::check_inclusion(memory, bytes, *at, value, root),
-            to,
-        )
-    }
+fn write<M: Memory>(call: &mut Call<'_, M>, verdict: Result<bool, CheckError>) -> Answered {
+    let verdict = call.made(verdict)?;
+    call.to.show(&verdict)
 }
 
-pub(super) struct CheckConsistency;
-
-impl Call for CheckConsistency {
-    type Given = (Place, (Root, Root));
-
-    fn answer<M: Memory>(
-        given: &(Place, (Root, Root)),
-        memory: M,
-        to: &mut Answer,
-    ) -> Result<(), AllocError> {
-        let ((bytes, at), (old, new)) = given;
-        let bytes = bytes.as_slice();
-        write(
-            warg_check::check_consistency(memory, bytes, *at, old, new),
-            to,
-        )
-    }
+pub(super) fn inclusion<M: Memory>(call: &mut Call<'_, M>) -> Answered {
+    let (bytes, at): Place = call.read()?;
+    let (value, root): (Vec<u8>, Root) = call.read()?;
+    let verdict = warg_check::check_inclusion(call.memory, bytes.as_slice(), at, &value, &root);
+    write(call, verdict)
 }
 
-pub(super) struct CheckKey;
-
-impl Call for CheckKey {
-    type Given = (Place, ((Vec<u8>, Vec<u8>), Root));
-
-    fn answer<M: Memory>(
-        given: &(Place, ((Vec<u8>, Vec<u8>), Root)),
-        memory: M,
-        to: &mut Answer,
-    ) -> Result<(), AllocError> {
-        let ((bytes, at), ((key, value), root)) = given;
-        let bytes = bytes.as_slice();
-        write(
-            warg_check::check_key(memory, bytes, *at, key, value, root),
-            to,
-        )
-    }
+pub(super) fn consistency<M: Memory>(call: &mut Call<'_, M>) -> Answered {
+    let (bytes, at): Place = call.read()?;
+    let (old, new): (Root, Root) = call.read()?;
+    let verdict = warg_check::check_consistency(call.memory, bytes.as_slice(), at, &old, &new);
+    write(call, verdict)
 }
 
-pub(super) struct CheckAbsent;
-
-impl Call for CheckAbsent {
-    type Given = (Place, (Vec<u8>, Root));
-
-    fn answer<M: Memory>(
-        given: &(Place, (Vec<u8>, Root)),
-        memory: M,
-        to: &mut Answer,
-    ) -> Result<(), AllocError> {
-        let ((bytes, at), (key, root)) = given;
-        let bytes = bytes.as_slice();
-        write(warg_check::check_absent(memory, bytes, *at, key, root), to)
-    }
+pub(super) fn key<M: Memory>(call: &mut Call<'_, M>) -> Answered {
+    let (bytes, at): Place = call.read()?;
+    let (key, value): (Vec<u8>, Vec<u8>) = call.read()?;
+    let root: Root = call.read()?;
+    let verdict = warg_check::check_key(call.memory, bytes.as_slice(), at, &key, &value, &root);
+    write(call, verdict)
 }
 
-/// The checkpoint of what a line gives.
-pub(super) fn checkpoint(known: &Known) -> Checkpoint<Sha256> {
-    Checkpoint::new(known.1.copied(), known.0)
+pub(super) fn absent<M: Memory>(call: &mut Call<'_, M>) -> Answered {
+    let (bytes, at): Place = call.read()?;
+    let (key, root): (Vec<u8>, Root) = call.read()?;
+    let verdict = warg_check::check_absent(call.memory, bytes.as_slice(), at, &key, &root);
+    write(call, verdict)
 }
 
-pub(super) struct CheckEntry;
-
-impl Call for CheckEntry {
-    type Given = (Place, ((usize, Vec<u8>), Known));
-
-    fn answer<M: Memory>(
-        given: &(Place, ((usize, Vec<u8>), Known)),
-        memory: M,
-        to: &mut Answer,
-    ) -> Result<(), AllocError> {
-        let ((bytes, at), ((index, value), known)) = given;
-        let (bytes, known) = (bytes.as_slice(), checkpoint(known));
-        write(
-            warg_check::check_entry(memory, bytes, *at, *index, value, &known),
-            to,
-        )
-    }
+pub(super) fn entry<M: Memory>(call: &mut Call<'_, M>) -> Answered {
+    let (bytes, at): Place = call.read()?;
+    let (index, value): (usize, Vec<u8>) = call.read()?;
+    let known = checkpoint(call)?;
+    let bytes = bytes.as_slice();
+    let verdict = warg_check::check_entry(call.memory, bytes, at, index, &value, &known);
+    write(call, verdict)
 }
 
-pub(super) struct CheckGrowth;
+pub(super) fn growth<M: Memory>(call: &mut Call<'_, M>) -> Answered {
+    let (bytes, at): Place = call.read()?;
+    let (old, new) = (checkpoint(call)?, checkpoint(call)?);
+    let verdict = warg_check::check_growth(call.memory, bytes.as_slice(), at, &old, &new);
+    write(call, verdict)
+}
 
-impl Call for CheckGrowth {
-    type Given = (Place, (Known, Known));
+pub(super) fn update<M: Memory>(call: &mut Call<'_, M>) -> Answered {
+    let (bytes, at): Place = call.read()?;
+    let key: Vec<u8> = call.read()?;
+    let (old, new): (Vec<u8>, Vec<u8>) = call.read()?;
+    let (old_root, new_root): (Root, Root) = call.read()?;
+    let bytes = bytes.as_slice();
+    let verdict = warg_check::check_update(
+        call.memory,
+        bytes,
+        at,
+        &key,
+        &old,
+        &new,
+        &old_root,
+        &new_root,
+    );
+    write(call, verdict)
+}
 
-    fn answer<M: Memory>(
-        given: &(Place, (Known, Known)),
-        memory: M,
-        to: &mut Answer,
-    ) -> Result<(), AllocError> {
-        let ((bytes, at), (old, new)) = given;
-        let (old, new) = (checkpoint(old), checkpoint(new));
-        write(
-            warg_check::check_growth(memory, bytes.as_slice(), *at, &old, &new),
-            to,
-        )
-    }
+pub(super) fn insertion<M: Memory>(call: &mut Call<'_, M>) -> Answered {
+    let (bytes, at): Place = call.read()?;
+    let (key, value): (Vec<u8>, Vec<u8>) = call.read()?;
+    let (old, new): (Root, Root) = call.read()?;
+    let bytes = bytes.as_slice();
+    let verdict = warg_check::check_insertion(call.memory, bytes, at, &key, &value, &old, &new);
+    write(call, verdict)
+}
+
+pub(super) fn record<M: Memory>(call: &mut Call<'_, M>) -> Answered {
+    let bytes: Vec<u8> = call.read()?;
+    let (index, value): (usize, Vec<u8>) = call.read()?;
+    let known = checkpoint(call)?;
+    let path = call.made(warg_paths::hashes_in(call.memory, bytes.as_slice()))?;
+    call.to.show(&warg_paths::check_record(&known, index, &value, path.as_slice()))
+}
+
+pub(super) fn tree<M: Memory>(call: &mut Call<'_, M>) -> Answered {
+    let bytes: Vec<u8> = call.read()?;
+    let (old, new) = (checkpoint(call)?, checkpoint(call)?);
+    let path = call.made(warg_paths::hashes_in(call.memory, bytes.as_slice()))?;
+    call.to
+        .show(&warg_paths::check_tree(&old, &new, path.as_slice()))
 }

@@ -1,68 +1,61 @@
 //! Logs that entries are pushed into: one that keeps all digests, and one that keeps its balanced roots alone.
 
-use crate::calls::hashes::write_hashes;
+use crate::call::Call;
+use crate::fault::{Answered, Fault, Promise};
+use crate::memory::Memory;
 use std::alloc::{AllocError, Allocator, Global};
-use std::marker::PhantomData;
-use vector_lines::answer::Answer;
-use vector_lines::each::{Call, Memory};
-use vector_lines::words::List;
-use vector_lines::wrong::Wrong;
 use warg_crypto::SupportedDigest;
 use warg_log::{GREATEST_LENGTH, LogBuilder, LogData, Node, StackLog, VecLog, push_all};
 
 // A log whose entries are lists of bytes.
 type BytesLog<D, A = Global> = VecLog<D, Vec<u8>, A>;
 
-type Entries = List<Vec<u8>>;
-
-pub(super) struct Log<D>(PhantomData<D>);
-
-impl<D: SupportedDigest> Call for Log<D> {
-    type Given = Entries;
-
-    fn answer<M: Memory>(entries: &Entries, memory: M, to: &mut Answer) -> Result<(), AllocError> {
-        match grown_both::<D, M>(memory, entries) {
-            Ok(log) => write(&log, to),
-            Err(wrong) => wrong.write(to),
-        }
-    }
-}
-
-fn write<D: SupportedDigest, A: Allocator>(
-    log: &BytesLog<D, A>,
-    to: &mut Answer,
-) -> Result<(), AllocError> {
-    let checkpoint = log.checkpoint();
-    to.shown(&checkpoint.length())?;
-    to.hash(&checkpoint.root())?;
-    write_hashes(log.as_ref(), to)
+/// The length, the root and all digests of the log of some entries. Each kind of log has the same checkpoint.
+pub(super) fn log<D: SupportedDigest, M: Memory>(call: &mut Call<'_, M>) -> Answered {
+    let entries: Vec<Vec<u8>> = call.list()?;
+    let entries = entries.as_slice();
+    grown::<D, M, StackLog<D, Vec<u8>, M>>(call, entries)?;
+    let log: BytesLog<D, M> = grown(call, entries)?;
+    call.to.show(&log.checkpoint().length())?;
+    call.to.show(&log.checkpoint().root())?;
+    call.to.list(log.as_ref())
 }
 
 // A kind of log.
-trait Kind<D: SupportedDigest>: LogBuilder<D, Vec<u8>> + Sized + Drop {
+trait Kind<D: SupportedDigest, M: Memory>: LogBuilder<D, Vec<u8>> + Sized + Drop {
+    fn empty(memory: M) -> Self;
+
     fn cloned(&self) -> Result<Self, AllocError>;
 
     // Whether it is the same log as `plain`, which has the first of these entries.
-    fn is(&self, plain: &BytesLog<D>, entries: &Entries) -> bool;
+    fn is(&self, plain: &BytesLog<D>, entries: &[Vec<u8>]) -> bool;
 }
 
-impl<D: SupportedDigest, A: Memory> Kind<D> for BytesLog<D, A> {
-    fn cloned(&self) -> Result<BytesLog<D, A>, AllocError> {
+impl<D: SupportedDigest, M: Memory> Kind<D, M> for BytesLog<D, M> {
+    fn empty(memory: M) -> BytesLog<D, M> {
+        VecLog::default(memory)
+    }
+
+    fn cloned(&self) -> Result<BytesLog<D, M>, AllocError> {
         self.clone()
     }
 
-    fn is(&self, plain: &BytesLog<D>, entries: &Entries) -> bool {
+    fn is(&self, plain: &BytesLog<D>, entries: &[Vec<u8>]) -> bool {
         let same = self.as_ref() == plain.as_ref() && self.checkpoint() == plain.checkpoint();
-        same && proves_its_last(self, entries.items.as_slice())
+        same && proves_its_last(self, entries)
     }
 }
 
-impl<D: SupportedDigest, A: Memory> Kind<D> for StackLog<D, Vec<u8>, A> {
-    fn cloned(&self) -> Result<StackLog<D, Vec<u8>, A>, AllocError> {
+impl<D: SupportedDigest, M: Memory> Kind<D, M> for StackLog<D, Vec<u8>, M> {
+    fn empty(memory: M) -> StackLog<D, Vec<u8>, M> {
+        StackLog::default(memory)
+    }
+
+    fn cloned(&self) -> Result<StackLog<D, Vec<u8>, M>, AllocError> {
         self.clone()
     }
 
-    fn is(&self, plain: &BytesLog<D>, _entries: &Entries) -> bool {
+    fn is(&self, plain: &BytesLog<D>, _entries: &[Vec<u8>]) -> bool {
         self.checkpoint() == plain.checkpoint() && self.is_empty() == (plain.length() == 0)
     }
 }
@@ -80,79 +73,32 @@ fn proves_its_last<D: SupportedDigest, A: Allocator>(
     proof.evaluate_value(log, &entries[length - 1]) == Ok(log.checkpoint().root())
 }
 
-// The log of the entries that keeps all digests. The other one has the same checkpoint.
-fn grown_both<D: SupportedDigest, M: Memory>(
-    memory: M,
-    entries: &Entries,
-) -> Result<BytesLog<D, M>, Wrong> {
-    let stack = StackLog::<D, _, _>::default(memory);
-    grown(stack, StackLog::default(memory), memory, entries)?;
-    grown(
-        VecLog::default(memory),
-        VecLog::default(memory),
-        memory,
-        entries,
-    )
-}
-
-// The log of the entries, pushed one by one to an empty log. Pushing them at once to the other one gives the same log, and
-// a clone of it is the same.
-fn grown<D: SupportedDigest, M: Memory, K: Kind<D>>(
-    empty: K,
-    other: K,
-    memory: M,
-    entries: &Entries,
-) -> Result<K, Wrong> {
-    let log = pushed(empty, memory, entries)?;
-    let plain = beginning(entries, entries.items.len())?;
-    Wrong::unless(log.is(&plain, entries), "another log")?;
-    check_at_once(other, memory, entries, &plain)?;
-    check_clone(&log, memory, entries, &plain)?;
-    Ok(log)
-}
-
-// The log of the entries, pushed one by one.
-fn pushed<D: SupportedDigest, M: Memory, K: Kind<D>>(
-    empty: K,
-    memory: M,
-    entries: &Entries,
-) -> Result<K, Wrong> {
-    let mut log = empty;
-    for entry in entries.items.as_slice() {
-        push(&mut log, memory, entries, entry)?;
+// The log of the entries, pushed one by one. Pushing them at once gives the same log, and a clone of it is the same.
+fn grown<D: SupportedDigest, M: Memory, K: Kind<D, M>>(
+    call: &Call<'_, M>,
+    entries: &[Vec<u8>],
+) -> Result<K, Fault> {
+    let mut log = K::empty(call.memory);
+    for entry in entries {
+        push(call, &mut log, entries, entry)?;
     }
+    let plain = beginning(call.alloc(), entries, entries.len())?;
+    Fault::unless(log.is(&plain, entries), Promise::SameValue)?;
+    let at_once: K = pushed_at_once(call, entries)?;
+    Fault::unless(at_once.is(&plain, entries), Promise::SameValue)?;
+    let clone = call.again(|_| log.cloned())?;
+    Fault::unless(clone.is(&plain, entries), Promise::SameValue)?;
     Ok(log)
-}
-
-// A fault unless the entries, pushed at once, give the plain log.
-fn check_at_once<D: SupportedDigest, M: Memory, K: Kind<D>>(
-    empty: K,
-    memory: M,
-    entries: &Entries,
-    plain: &BytesLog<D>,
-) -> Result<(), Wrong> {
-    let log = pushed_at_once(empty, memory, entries)?;
-    Wrong::unless(log.is(plain, entries), "pushed at once, another log")
-}
-
-// A fault unless a clone of the log is the plain one.
-fn check_clone<D: SupportedDigest, M: Memory, K: Kind<D>>(
-    log: &K,
-    memory: M,
-    entries: &Entries,
-    plain: &BytesLog<D>,
-) -> Result<(), Wrong> {
-    let clone = cloned(log, memory)?;
-    Wrong::unless(clone.is(plain, entries), "another clone")
 }
 
 // The log of the first entries, as many as `count`.
 fn beginning<D: SupportedDigest>(
-    entries: &Entries,
+    alloc: Global,
+    entries: &[Vec<u8>],
     count: usize,
 ) -> Result<BytesLog<D>, AllocError> {
-    let mut log = VecLog::default(*entries.items.allocator());
-    for entry in entries.items.iter().take(count) {
+    let mut log = VecLog::default(alloc);
+    for entry in entries.iter().take(count) {
         if log.length() < GREATEST_LENGTH {
             log.push(entry)?;
         }
@@ -161,81 +107,70 @@ fn beginning<D: SupportedDigest>(
 }
 
 // A fault unless the log is that of so many of the entries.
-fn expect<D: SupportedDigest, K: Kind<D>>(
+fn expect<D: SupportedDigest, M: Memory, K: Kind<D, M>>(
+    call: &Call<'_, M>,
     log: &K,
-    entries: &Entries,
+    entries: &[Vec<u8>],
     count: usize,
-) -> Result<(), Wrong> {
-    let plain = beginning(entries, count)?;
-    Wrong::unless(log.is(&plain, entries), "after a refused push, another log")
+) -> Answered {
+    let plain = beginning(call.alloc(), entries, count)?;
+    Fault::unless(log.is(&plain, entries), Promise::Unchanged)
 }
 
 // Pushes an entry. Where it is refused, the log is the one of before, and takes the entry; the run ends with the refusal.
-fn push<D: SupportedDigest, M: Memory, K: Kind<D>>(
+fn push<D: SupportedDigest, M: Memory, K: Kind<D, M>>(
+    call: &Call<'_, M>,
     log: &mut K,
-    memory: M,
-    entries: &Entries,
+    entries: &[Vec<u8>],
     entry: &Vec<u8>,
-) -> Result<(), Wrong> {
+) -> Answered {
     let before = log.checkpoint().length();
     if push_next(log, entry, before).is_ok() {
         return Ok(());
     }
-    expect(log, entries, before)?;
-    memory.grant();
+    expect(call, log, entries, before)?;
+    call.memory.grant();
     push_next(log, entry, before)?;
-    expect(log, entries, before.saturating_add(1))?;
-    Err(Wrong::Memory)
+    expect(call, log, entries, before.saturating_add(1))?;
+    Err(Fault::Memory)
 }
 
 // Pushes an entry to a log of this length, which returns the entry's node.
-fn push_next<D: SupportedDigest, K: Kind<D>>(
+fn push_next<D: SupportedDigest, K: LogBuilder<D, Vec<u8>>>(
     log: &mut K,
     entry: &Vec<u8>,
     before: usize,
-) -> Result<(), Wrong> {
+) -> Answered {
     if before >= GREATEST_LENGTH || log.checkpoint().length() != before {
-        return Err(Wrong::Because("another length"));
+        return Err(Fault::Broken(Promise::NextNode));
     }
     let node = log.push(entry)?;
-    Wrong::unless(node == Node(2 * before), "another node")
+    Fault::unless(node == Node(2 * before), Promise::NextNode)
 }
 
 // The log of all entries, pushed at once. Where it is refused, it is that of the first ones, and takes the others.
-fn pushed_at_once<D: SupportedDigest, M: Memory, K: Kind<D>>(
-    empty: K,
-    memory: M,
-    entries: &Entries,
-) -> Result<K, Wrong> {
-    let mut log = empty;
-    if push_rest(&mut log, entries.items.as_slice()).is_err() {
-        expect(&log, entries, log.checkpoint().length())?;
-        memory.grant();
-        push_rest(&mut log, entries.items.as_slice())?;
+fn pushed_at_once<D: SupportedDigest, M: Memory, K: Kind<D, M>>(
+    call: &Call<'_, M>,
+    entries: &[Vec<u8>],
+) -> Result<K, Fault> {
+    let mut log = K::empty(call.memory);
+    if push_rest(&mut log, entries).is_err() {
+        expect(call, &log, entries, log.checkpoint().length())?;
+        call.memory.grant();
+        push_rest(&mut log, entries)?;
     }
     Ok(log)
 }
 
 // Pushes the entries that the log doesn't have yet.
-fn push_rest<D: SupportedDigest, K: Kind<D>>(
+fn push_rest<D: SupportedDigest, K: LogBuilder<D, Vec<u8>>>(
     log: &mut K,
     entries: &[Vec<u8>],
-) -> Result<(), Wrong> {
+) -> Answered {
     let count = log.checkpoint().length();
     if count > entries.len() || entries.len() > GREATEST_LENGTH {
-        return Err(Wrong::Because("too many entries"));
+        return Err(Fault::Broken(Promise::NextNode));
     }
     push_all(log, &entries[count..])?;
     Ok(())
-}
-
-// A clone of the log. Where it is refused, it is asked for again.
-fn cloned<D: SupportedDigest, M: Memory, K: Kind<D>>(log: &K, memory: M) -> Result<K, AllocError> {
-    match log.cloned() {
-        Err(AllocError) => {
-            memory.grant();
-            log.cloned()
-        }
-        ended => ended,
-    }
 }

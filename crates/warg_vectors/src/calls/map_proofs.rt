@@ -1,75 +1,79 @@
 //! Proofs of maps that are given by their peers, and what they evaluate to.
 
-use crate::calls::stored::{Messaged, through_message};
-use std::alloc::AllocError;
-use std::marker::PhantomData;
-use vector_lines::answer::Answer;
-use vector_lines::each::{Call, Memory};
-use vector_lines::peers::{BytesProof, GivenProof, Peers, proof_of, write_peers};
-use vector_lines::wrong::Wrong;
+use crate::call::Call;
+use crate::fault::{Answered, Fault, Promise};
+use crate::memory::Memory;
+use std::alloc::{AllocError, Allocator};
 use warg_crypto::SupportedDigest;
 use warg_map::Proof;
+use warg_protobuf::{DecodeError, MapInclusionProof, OptionalHash};
 
-impl<D: SupportedDigest, M: Memory> Messaged<M> for BytesProof<D, M> {
-    fn through_message(&self, memory: M) -> Result<BytesProof<D, M>, Wrong> {
-        let message = self.to_message(memory)?;
-        Ok(Proof::from_message(memory, message)?)
+/// A proof over bytes.
+pub(super) type BytesProof<D, A> = Proof<D, Vec<u8>, Vec<u8>, A>;
+
+// The peers of a proof, as their bytes.
+type Peers = Vec<Option<Vec<u8>>>;
+
+/// The proof of the peers that come next, of which there are at most 256.
+pub(super) fn read_proof<D: SupportedDigest, M: Memory>(
+    call: &mut Call<'_, M>,
+) -> Result<Proof<D, Vec<u8>, Vec<u8>>, Fault> {
+    let peers: Peers = call.list()?;
+    match proof_of(call.alloc(), &peers) {
+        Ok(proof) => Ok(proof),
+        Err(DecodeError::Memory) => Err(Fault::Memory),
+        Err(_) => Err(Fault::BadCall),
     }
 }
 
-pub(super) struct MapProof<D>(PhantomData<D>);
-
-impl<D: SupportedDigest> Call for MapProof<D> {
-    type Given = Peers;
-
-    fn answer<M: Memory>(peers: &Peers, memory: M, to: &mut Answer) -> Result<(), AllocError> {
-        let read: Result<BytesProof<D, M>, _> = proof_of(memory, peers);
-        match read {
-            Ok(proof) => write_same(&proof, through_message(&proof, memory), to),
-            Err(fault) => to.refusal(&fault),
-        }
+// The proof of the message of these peers.
+fn proof_of<D: SupportedDigest, A: Allocator + Copy>(
+    alloc: A,
+    peers: &Peers,
+) -> Result<BytesProof<D, A>, DecodeError> {
+    let mut hashes = Vec::new(alloc);
+    for peer in peers.as_slice() {
+        hashes.push(optional_hash(alloc, peer)?)?;
     }
+    Proof::from_message(alloc, MapInclusionProof { hashes })
 }
 
-// Writes the peers of a proof, which are those of the proof of its message.
-fn write_same<D: SupportedDigest, M: Memory>(
+fn optional_hash<A: Allocator + Copy>(
+    alloc: A,
+    peer: &Option<Vec<u8>>,
+) -> Result<OptionalHash<A>, AllocError> {
+    let hash = match peer {
+        Some(bytes) => Some(Vec::from_slice(alloc, bytes.as_slice())?),
+        None => None,
+    };
+    Ok(OptionalHash { hash })
+}
+
+/// The peers of a proof, which are those of the proof of its message.
+pub(super) fn map_proof<D: SupportedDigest, M: Memory>(call: &mut Call<'_, M>) -> Answered {
+    let peers: Peers = call.list()?;
+    let proof: BytesProof<D, M> = call.made(proof_of(call.memory, &peers))?;
+    let other = call.again(|memory| through_message(&proof, memory))?;
+    Fault::unless(other.peers() == proof.peers(), Promise::SameValue)?;
+    call.to.list(proof.peers())
+}
+
+fn through_message<D: SupportedDigest, M: Memory>(
     proof: &BytesProof<D, M>,
-    other: Result<BytesProof<D, M>, Wrong>,
-    to: &mut Answer,
-) -> Result<(), AllocError> {
-    match other {
-        Ok(other) if other.peers() == proof.peers() => write_peers(proof.peers(), to),
-        Ok(_) => to.word("another proof"),
-        Err(wrong) => wrong.write(to),
-    }
+    memory: M,
+) -> Result<BytesProof<D, M>, Fault> {
+    let message = proof.to_message(memory)?;
+    Ok(Proof::from_message(memory, message)?)
 }
 
-pub(super) struct Evaluate<D>(PhantomData<D>);
-
-impl<D: SupportedDigest> Call for Evaluate<D> {
-    type Given = (GivenProof<D>, (Vec<u8>, Vec<u8>));
-
-    fn answer<M: Memory>(
-        given: &(GivenProof<D>, (Vec<u8>, Vec<u8>)),
-        _memory: M,
-        to: &mut Answer,
-    ) -> Result<(), AllocError> {
-        let (given, (key, value)) = given;
-        to.hash(&given.proof.evaluate(key, value))
-    }
+pub(super) fn evaluate<D: SupportedDigest, M: Memory>(call: &mut Call<'_, M>) -> Answered {
+    let proof = read_proof::<D, M>(call)?;
+    let (key, value): (Vec<u8>, Vec<u8>) = call.read()?;
+    call.to.show(&proof.evaluate(&key, &value))
 }
 
-pub(super) struct EvaluateAbsent<D>(PhantomData<D>);
-
-impl<D: SupportedDigest> Call for EvaluateAbsent<D> {
-    type Given = (GivenProof<D>, Vec<u8>);
-
-    fn answer<M: Memory>(
-        given: &(GivenProof<D>, Vec<u8>),
-        _memory: M,
-        to: &mut Answer,
-    ) -> Result<(), AllocError> {
-        let (given, key) = given;
-        to.hash(&given.proof.evaluate_absent(key))
-    }
+pub(super) fn evaluate_absent<D: SupportedDigest, M: Memory>(call: &mut Call<'_, M>) -> Answered {
+    let proof = read_proof::<D, M>(call)?;
+    let key: Vec<u8> = call.read()?;
+    call.to.show(&proof.evaluate_absent(&key))
 }

@@ -1,79 +1,46 @@
 //! Collisions out of false claims about a map.
 
-use std::alloc::AllocError;
-use std::marker::PhantomData;
-use vector_lines::answer::Answer;
-use vector_lines::each::{Call, Memory};
-use vector_lines::found::{Pairs, write};
-use vector_lines::peers::GivenProof;
-use vector_lines::words::List;
+use crate::call::Call;
+use crate::calls::map_proofs::read_proof;
+use crate::fault::Answered;
+use crate::memory::Memory;
 use warg_crypto::SupportedDigest;
 
-// The pairs that a map is made of, by insertion in order.
-type Insertions = List<(Vec<u8>, Vec<u8>)>;
+// A key, and the value that is inserted under it.
+type Insertion = (Vec<u8>, Vec<u8>);
 
-// A proof, the key that is claimed to be absent, the insertions, and the pairs.
-type AbsenceClaim<D> = ((GivenProof<D>, Vec<u8>), (Insertions, Pairs));
-
-pub(super) struct WitnessAbsent<D>(PhantomData<D>);
-
-impl<D: SupportedDigest> Call for WitnessAbsent<D> {
-    type Given = AbsenceClaim<D>;
-
-    fn answer<M: Memory>(
-        given: &AbsenceClaim<D>,
-        memory: M,
-        to: &mut Answer,
-    ) -> Result<(), AllocError> {
-        let ((proof, key), (insertions, pairs)) = given;
-        let insertions = insertions.items.as_slice();
-        let found = warg_witness::witness_absent(memory, &proof.proof, key, insertions);
-        write(found, pairs, to)
-    }
+pub(super) fn key<D: SupportedDigest, M: Memory>(call: &mut Call<'_, M>) -> Answered {
+    let proof = read_proof::<D, M>(call)?;
+    let (key, value): (Vec<u8>, Vec<u8>) = call.read()?;
+    let insertions: Vec<Insertion> = call.list()?;
+    let insertions = insertions.as_slice();
+    call.write_found(warg_witness::witness_key(call.memory, &proof, &key, &value, insertions))
 }
 
-// A key, the value that it has, and the value that it is given.
-type Change = (Vec<u8>, (Vec<u8>, Vec<u8>));
-
-// A proof, the key, its old value and the new one, the insertions, and the pairs.
-type UpdateClaim<D> = ((GivenProof<D>, Change), (Insertions, Pairs));
-
-pub(super) struct WitnessUpdate<D>(PhantomData<D>);
-
-impl<D: SupportedDigest> Call for WitnessUpdate<D> {
-    type Given = UpdateClaim<D>;
-
-    fn answer<M: Memory>(
-        given: &UpdateClaim<D>,
-        memory: M,
-        to: &mut Answer,
-    ) -> Result<(), AllocError> {
-        let ((proof, (key, (old, new))), (insertions, pairs)) = given;
-        let insertions = insertions.items.as_slice();
-        let found = warg_witness::witness_update(memory, &proof.proof, key, old, new, insertions);
-        write(found, pairs, to)
-    }
+pub(super) fn absent<D: SupportedDigest, M: Memory>(call: &mut Call<'_, M>) -> Answered {
+    let proof = read_proof::<D, M>(call)?;
+    let key: Vec<u8> = call.read()?;
+    let insertions: Vec<Insertion> = call.list()?;
+    let insertions = insertions.as_slice();
+    call.write_found(warg_witness::witness_absent(call.memory, &proof, &key, insertions))
 }
 
-// A proof, and the value that it is evaluated from.
-type Side<D> = (GivenProof<D>, Vec<u8>);
+pub(super) fn update<D: SupportedDigest, M: Memory>(call: &mut Call<'_, M>) -> Answered {
+    let proof = read_proof::<D, M>(call)?;
+    let key: Vec<u8> = call.read()?;
+    let (old, new): (Vec<u8>, Vec<u8>) = call.read()?;
+    let insertions: Vec<Insertion> = call.list()?;
+    let insertions = insertions.as_slice();
+    let found = warg_witness::witness_update(call.memory, &proof, &key, &old, &new, insertions);
+    call.write_found(found)
+}
 
-// A key, two evaluations for it, and the pairs.
-type Agreement<D> = ((Vec<u8>, (Side<D>, Side<D>)), Pairs);
-
-pub(super) struct AgreeKey<D>(PhantomData<D>);
-
-impl<D: SupportedDigest> Call for AgreeKey<D> {
-    type Given = Agreement<D>;
-
-    fn answer<M: Memory>(
-        given: &Agreement<D>,
-        memory: M,
-        to: &mut Answer,
-    ) -> Result<(), AllocError> {
-        let ((key, ((first, value), (second, other_value))), pairs) = given;
-        let (first, second) = (&first.proof, &second.proof);
-        let found = warg_witness::agree_key(memory, key, first, value, second, other_value);
-        write(found, pairs, to)
-    }
+pub(super) fn agree<D: SupportedDigest, M: Memory>(call: &mut Call<'_, M>) -> Answered {
+    let key: Vec<u8> = call.read()?;
+    let first = read_proof::<D, M>(call)?;
+    let value: Vec<u8> = call.read()?;
+    let second = read_proof::<D, M>(call)?;
+    let other: Vec<u8> = call.read()?;
+    let found = warg_witness::agree_key(call.memory, &key, &first, &value, &second, &other);
+    call.write_found(found)
 }

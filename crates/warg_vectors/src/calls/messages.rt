@@ -1,81 +1,55 @@
-//! Messages of the wire.
+//! Messages of the wire, what is read from their bytes under SHA-256, and runs of the program.
 
-use std::alloc::AllocError;
-use vector_lines::answer::Answer;
-use vector_lines::each::{Call, Memory};
-use vector_lines::words::{Fault, Given, Words};
-use warg_protobuf::{LogProofBundle, MapProofBundle, StackLog, VecLog};
+use crate::call::Call;
+use crate::calls::stored;
+use crate::calls::stored::{LogBundle, MapBundle};
+use crate::fault::{Answered, Fault, Promise};
+use crate::memory::Memory;
+use warg_crypto::Sha256;
+use warg_program::run as run_program;
+use warg_protobuf as wire;
 
-/// The types of messages that stand alone.
-#[derive(Clone, Copy)]
-pub(super) enum Type {
-    LogProofBundle,
-    MapProofBundle,
-    StackLog,
-    VecLog,
-}
-
-impl Given for Type {
-    fn read(words: &mut Words<'_>) -> Result<Type, Fault> {
-        match words.next()? {
-            "LogProofBundle" => Ok(Type::LogProofBundle),
-            "MapProofBundle" => Ok(Type::MapProofBundle),
-            "StackLog" => Ok(Type::StackLog),
-            "VecLog" => Ok(Type::VecLog),
-            _ => Err(Fault::BadCall),
-        }
-    }
-}
-
-pub(super) struct Wire;
-
-impl Call for Wire {
-    // The bytes of a message of the type.
-    type Given = (Type, Vec<u8>);
-
-    fn answer<M: Memory>(
-        given: &(Type, Vec<u8>),
-        memory: M,
-        to: &mut Answer,
-    ) -> Result<(), AllocError> {
-        let bytes = given.1.as_slice();
-        match given.0 {
-            Type::LogProofBundle => log_bundle(memory, bytes, to),
-            Type::MapProofBundle => map_bundle(memory, bytes, to),
-            Type::StackLog => stack_log(memory, bytes, to),
-            Type::VecLog => vec_log(memory, bytes, to),
-        }
-    }
-}
-
-// Writes the bytes of the message that was read. Where they are refused, it is asked for them again.
+// Writes the bytes of the message that was read.
 macro_rules! write_again {
-    ($message:expr, $memory:expr, $to:expr) => {
-        match $message {
-            Ok(message) => match message.encode($memory) {
-                Ok(bytes) => $to.bytes(bytes.as_slice()),
-                Err(AllocError) => {
-                    $memory.grant();
-                    $to.bytes(message.encode($memory)?.as_slice())
-                }
-            },
-            Err(fault) => $to.refusal(&fault),
-        }
-    };
+    ($call:expr, $message:expr) => {{
+        let message = $call.made($message)?;
+        let bytes = $call.again(|memory| message.encode(memory))?;
+        $call.to.bytes(bytes.as_slice())
+    }};
 }
 
-fn log_bundle<M: Memory>(memory: M, bytes: &[u8], to: &mut Answer) -> Result<(), AllocError> {
-    write_again!(LogProofBundle::decode(memory, bytes), memory, to)
+pub(super) fn wire<M: Memory>(call: &mut Call<'_, M>) -> Answered {
+    let name = call.word()?;
+    let bytes: Vec<u8> = call.read()?;
+    let (memory, bytes) = (call.memory, bytes.as_slice());
+    match name {
+        "LogProofBundle" => write_again!(call, wire::LogProofBundle::decode(memory, bytes)),
+        "MapProofBundle" => write_again!(call, wire::MapProofBundle::decode(memory, bytes)),
+        "StackLog" => write_again!(call, wire::StackLog::decode(memory, bytes)),
+        "VecLog" => write_again!(call, wire::VecLog::decode(memory, bytes)),
+        _ => Err(Fault::BadCall),
+    }
 }
 
-fn map_bundle<M: Memory>(memory: M, bytes: &[u8], to: &mut Answer) -> Result<(), AllocError> {
-    write_again!(MapProofBundle::decode(memory, bytes), memory, to)
+pub(super) fn read<M: Memory>(call: &mut Call<'_, M>) -> Answered {
+    match call.word()? {
+        "LogProofBundle" => stored::read::<M, LogBundle<Sha256, M>>(call),
+        "MapProofBundle" => stored::read::<M, MapBundle<Sha256, M>>(call),
+        "StackLog" => stored::read::<M, warg_log::StackLog<Sha256, Vec<u8>, M>>(call),
+        "VecLog" => stored::read::<M, warg_log::VecLog<Sha256, Vec<u8>, M>>(call),
+        _ => Err(Fault::BadCall),
+    }
 }
 
-fn stack_log<M: Memory>(memory: M, bytes: &[u8], to: &mut Answer) -> Result<(), AllocError> {
-    write_again!(StackLog::decode(memory, bytes), memory, to)
-}
-
-fn vec_log<M: Memory>(memory: M, bytes: &[u8], to: &mut Answer) -> Result<(), AllocError> {
-    write_again!(VecLog::decode(memory, bytes), memory, to)
+/// A run of the program on the whole input. Where it is refused, nothing is written.
+pub(super) fn run<M: Memory>(call: &mut Call<'_, M>) -> Answered {
+    let input: Vec<u8> = call.read()?;
+    let mut reader = input.as_slice();
+    let mut writer = Vec::new(call.alloc());
+    let ended = run_program(call.memory, &mut reader, &mut writer);
+    let is_kept = ended.is_ok() || writer.is_empty();
+    Fault::unless(is_kept, Promise::NothingWritten)?;
+    let good = call.made(ended)?;
+    call.to.show(&good)?;
+    call.to.bytes(writer.as_slice())
 }

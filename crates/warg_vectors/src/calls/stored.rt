@@ -1,85 +1,113 @@
-//! Values that have a message: they are written, and read again, each where memory is refused once more.
+//! Values whose message stands alone: they are written, and read again, each where memory is refused once more.
 
-use std::alloc::AllocError;
-use vector_lines::answer::Answer;
-use vector_lines::each::Memory;
-use vector_lines::wrong::Wrong;
+use crate::call::Call;
+use crate::fault::{Answered, Fault, Promise};
+use crate::memory::Memory;
+use warg_bundle::{LogProofBundle, MapProofBundle};
+use warg_crypto::SupportedDigest;
+use warg_log::{StackLog, VecLog};
 use warg_protobuf::{DecodeError, EncodeError};
 
-/// A value that has a message.
-pub(super) trait Messaged<M: Memory>: Sized + Drop {
-    /// The value of the value's message.
-    fn through_message(&self, memory: M) -> Result<Self, Wrong>;
-}
+/// A bundle of the proofs of a log whose entries are lists of bytes.
+pub(super) type LogBundle<D, M> = LogProofBundle<D, Vec<u8>, M>;
+
+/// A bundle of the proofs of a map from bytes to bytes.
+pub(super) type MapBundle<D, M> = MapProofBundle<D, Vec<u8>, Vec<u8>, M>;
 
 /// A value whose message stands alone.
-pub(super) trait Stored<M: Memory>: Messaged<M> {
+pub(super) trait Stored<M: Memory>: Sized + Drop {
     fn decode(memory: M, bytes: &[u8]) -> Result<Self, DecodeError>;
 
     fn encode(&self, memory: M) -> Result<Vec<u8, M>, EncodeError>;
+
+    /// The value of the value's message.
+    fn through_message(&self, memory: M) -> Result<Self, Fault>;
 }
 
-/// The value of the value's message. Where it is refused for memory, it is asked for again.
-pub(super) fn through_message<M: Memory, T: Messaged<M>>(value: &T, memory: M) -> Result<T, Wrong> {
-    match value.through_message(memory) {
-        Err(Wrong::Memory) => {
-            memory.grant();
-            value.through_message(memory)
-        }
-        ended => ended,
-    }
-}
-
-/// The value's bytes. Where they are refused for memory, it is asked for them again.
-pub(super) fn encoded<M: Memory, T: Stored<M>>(
-    value: &T,
-    memory: M,
-) -> Result<Vec<u8, M>, EncodeError> {
-    match value.encode(memory) {
-        Err(EncodeError::Memory) => {
-            memory.grant();
-            value.encode(memory)
-        }
-        ended => ended,
-    }
-}
-
-/// Writes the bytes of the value that these bytes hold, or why they hold none.
-pub(super) fn read<M: Memory, T: Stored<M>>(
-    memory: M,
-    bytes: &[u8],
-    to: &mut Answer,
-) -> Result<(), AllocError> {
-    match T::decode(memory, bytes) {
-        Ok(value) => write(&value, memory, to),
-        Err(fault) => to.refusal(&fault),
-    }
+/// Reads a value's bytes, and writes them out of the value.
+pub(super) fn read<M: Memory, T: Stored<M>>(call: &mut Call<'_, M>) -> Answered {
+    let bytes: Vec<u8> = call.read()?;
+    let value = call.made(T::decode(call.memory, bytes.as_slice()))?;
+    write(call, &value)
 }
 
 /// Writes the value's bytes, which are those of the value of its message.
-pub(super) fn write<M: Memory, T: Stored<M>>(
-    value: &T,
-    memory: M,
-    to: &mut Answer,
-) -> Result<(), AllocError> {
-    let other = through_message(value, memory);
-    write_same(value, &other, memory, to)
+pub(super) fn write<M: Memory, T: Stored<M>>(call: &mut Call<'_, M>, value: &T) -> Answered {
+    let other = call.again(|memory| value.through_message(memory))?;
+    write_same(call, value, &other)
 }
 
 /// Writes the value's bytes, which the other value has to have too.
 pub(super) fn write_same<M: Memory, T: Stored<M>>(
+    call: &mut Call<'_, M>,
     value: &T,
-    other: &Result<T, Wrong>,
-    memory: M,
-    to: &mut Answer,
-) -> Result<(), AllocError> {
-    match (encoded(value, memory), other) {
-        (Ok(bytes), Ok(other)) => match other.encode(memory) {
-            Ok(again) if again.as_slice() != bytes.as_slice() => to.word("another value"),
-            Ok(_) => to.bytes(bytes.as_slice()),
-            Err(fault) => to.refusal(&fault),
-        },
-        (Err(fault), _) => to.refusal(&fault),
-        (_, Err(wrong)) => wrong.write(to),
+    other: &T,
+) -> Answered {
+    let bytes = call.again(|memory| value.encode(memory))?;
+    let others = call.made(other.encode(call.memory))?;
+    Fault::unless(others.as_slice() == bytes.as_slice(), Promise::SameValue)?;
+    call.to.bytes(bytes.as_slice())
+}
+
+impl<D: SupportedDigest, M: Memory> Stored<M> for LogBundle<D, M> {
+    fn decode(memory: M, bytes: &[u8]) -> Result<LogBundle<D, M>, DecodeError> {
+        LogProofBundle::decode(memory, bytes)
+    }
+
+    fn encode(&self, memory: M) -> Result<Vec<u8, M>, EncodeError> {
+        LogProofBundle::encode(self, memory)
+    }
+
+    fn through_message(&self, memory: M) -> Result<LogBundle<D, M>, Fault> {
+        let message = self.to_message(memory)?;
+        Ok(LogProofBundle::from_message(memory, message)?)
+    }
+}
+
+/// Its message goes through its parts, too.
+impl<D: SupportedDigest, M: Memory> Stored<M> for MapBundle<D, M> {
+    fn decode(memory: M, bytes: &[u8]) -> Result<MapBundle<D, M>, DecodeError> {
+        MapProofBundle::decode(memory, bytes)
+    }
+
+    fn encode(&self, memory: M) -> Result<Vec<u8, M>, EncodeError> {
+        MapProofBundle::encode(self, memory)
+    }
+
+    fn through_message(&self, memory: M) -> Result<MapBundle<D, M>, Fault> {
+        let message = self.to_message(memory)?;
+        let bundle: MapBundle<D, M> = MapProofBundle::from_message(memory, message)?;
+        let (proofs, absences) = bundle.unbundle_all();
+        Ok(MapProofBundle::bundle_with(proofs, absences))
+    }
+}
+
+impl<D: SupportedDigest, M: Memory> Stored<M> for StackLog<D, Vec<u8>, M> {
+    fn decode(memory: M, bytes: &[u8]) -> Result<StackLog<D, Vec<u8>, M>, DecodeError> {
+        StackLog::from_protobuf(memory, bytes)
+    }
+
+    fn encode(&self, _memory: M) -> Result<Vec<u8, M>, EncodeError> {
+        self.to_protobuf()
+    }
+
+    fn through_message(&self, memory: M) -> Result<StackLog<D, Vec<u8>, M>, Fault> {
+        let message = self.to_message()?;
+        Ok(StackLog::from_message(memory, message)?)
+    }
+}
+
+impl<D: SupportedDigest, M: Memory> Stored<M> for VecLog<D, Vec<u8>, M> {
+    fn decode(memory: M, bytes: &[u8]) -> Result<VecLog<D, Vec<u8>, M>, DecodeError> {
+        VecLog::from_protobuf(memory, bytes)
+    }
+
+    fn encode(&self, _memory: M) -> Result<Vec<u8, M>, EncodeError> {
+        self.to_protobuf()
+    }
+
+    fn through_message(&self, memory: M) -> Result<VecLog<D, Vec<u8>, M>, Fault> {
+        let message = self.to_message()?;
+        Ok(VecLog::from_message(memory, message)?)
     }
 }

@@ -1,0 +1,61 @@
+//! Pages of a map: their bytes, digests and paths, and what stands under a key by way of them.
+
+use crate::call::Call;
+use crate::calls::maps::{BytesMap, Pair, grown};
+use crate::calls::stored_pages::{NotLent, Way};
+use crate::fault::{Answered, Fault, Promise};
+use crate::memory::Memory;
+use warg_crypto::{Hash, Sha256, SupportedDigest};
+use warg_pages::{KeyInPages, MapPage, ProveError, prove_by_pages};
+
+pub(super) fn page_path<M: Memory>(call: &mut Call<'_, M>) -> Answered {
+    let (prefix, version): (Vec<u8>, usize) = call.read()?;
+    let path = warg_pages::page_path(call.memory, prefix.as_slice(), version as u64);
+    let path = call.made(path)?;
+    call.to.bytes(path.as_bytes())
+}
+
+/// The number of a page's slots. The page is written as its bytes, and each slot is found by its byte.
+pub(super) fn read_page<M: Memory>(call: &mut Call<'_, M>) -> Answered {
+    let bytes: Vec<u8> = call.read()?;
+    let page: MapPage<Sha256, M> = call.made(MapPage::read(call.memory, bytes.as_slice()))?;
+    let written = call.made(page.write(call.memory))?;
+    Fault::unless(written.as_slice() == bytes.as_slice(), Promise::SameValue)?;
+    for slot in page.slots() {
+        Fault::unless(page.slot(slot.byte).is_some(), Promise::Answer)?;
+    }
+    call.to.show(&page.slots().len())
+}
+
+pub(super) fn page_digest<D: SupportedDigest, M: Memory>(call: &mut Call<'_, M>) -> Answered {
+    let (depth, bytes): (usize, Vec<u8>) = call.read()?;
+    if depth >= 32 {
+        return call.to.word("no page's depth");
+    }
+    let page: MapPage<D, M> = call.made(MapPage::read(call.memory, bytes.as_slice()))?;
+    call.to.show(&page.digest(depth))
+}
+
+/// The index of the last insertion under a key's digest, if there is one, and the proof, by way of the pages of the
+/// insertions.
+pub(super) fn get<D: SupportedDigest, M: Memory>(call: &mut Call<'_, M>) -> Answered {
+    let insertions: Vec<Pair> = call.list()?;
+    let key: Vec<u8> = call.read()?;
+    let insertions = insertions.as_slice();
+    let map: BytesMap<'_, D, _> = grown(call.alloc(), insertions)?;
+    let pages = Way::of(call, insertions, &Hash::<D>::of(&key))?;
+    let version = insertions.len() as u64;
+    match prove_by_pages(call.memory, &pages, map.root(), version, &key) {
+        Ok(KeyInPages::Held(index, _, peers)) => {
+            call.to.show(&index)?;
+            call.to.list(peers.as_slice())
+        }
+        Ok(KeyInPages::Absent(peers)) => {
+            call.to.word("absent")?;
+            call.to.list(peers.as_slice())
+        }
+        Err(ProveError::Pages(NotLent::Memory)) => Err(Fault::Memory),
+        Err(ProveError::Pages(NotLent::NoPage)) => Err(Fault::Broken(Promise::Answer)),
+        Err(ProveError::Way(fault)) => call.made(Err(fault)),
+    }
+}
