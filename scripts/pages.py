@@ -83,7 +83,7 @@ def sentence(text, at):
 
 def signature_of(owner, text):
     """Returns a call's signature on one line."""
-    line = re.sub(r",? *([>)])", r"\1", re.sub(r"([(<]) ", r"\1", " ".join(text.split()))).rstrip("; ")
+    line = re.sub(r",? *([>)])", r"\1", re.sub(r"([(<]) ", r"\1", " ".join(text.split()))).rstrip("; }")
     return f"{owner}::{line.removeprefix('fn ')}".removeprefix("::")
 
 
@@ -93,7 +93,7 @@ def variants(crates):
     for path in sorted(it for name in crates for it in (CRATES / name / "src").rglob("*.rt")):
         bare = functions.blanked(path.read_text())
         for it in re.finditer(r"^pub enum (\w+)[^{]*\{", bare, re.M):
-            inside = re.sub(r"#\[[^\n]*\]", "", bare[it.end() : functions.closing(bare, it.end() - 1) - 1])
+            inside = re.sub(r"#\[[^\n]*\]| \{[^}]*\}", "", bare[it.end() : functions.closing(bare, it.end() - 1) - 1])
             found[it[1]] = functions.parted(inside, ",")
     return found
 
