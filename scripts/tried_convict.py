@@ -7,7 +7,7 @@ import hashlib
 import pathlib
 import tempfile
 
-from running import ran
+from tlog import ran
 
 OF_THEM = b"true of them\n"
 OTHERS = b"not met: another length or root\n"
