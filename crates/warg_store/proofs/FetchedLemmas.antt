@@ -15,7 +15,7 @@ use Rattle.warg_tiles.specs.Between.{IsTileOf}
 use Rattle.warg_tiles.specs.TileData.{Tiles, IsTileBy, digest_by}
 use Rattle.warg_tiles.specs.TileLog.{tile_digests}
 use Rattle.warg_tiles.specs.EntryBundles.{bundle_of}
-use Rattle.warg_tiles.proofs.ForCallers.{bundle_once, digest_by_own, tile_own}
+use Rattle.warg_tiles.proofs.ForCallers.{bundle_once, digest_by_own, low_level, tile_own}
 use Rattle.warg_store.specs.Files.{Files}
 use Rattle.warg_store.specs.Moments.{Within}
 use Rattle.warg_store.specs.Log.{LogOf, IsTileIn, IsBundleIn, bundle_bytes, Keeps}
@@ -25,7 +25,6 @@ use Rattle.warg_store.specs.Reading.{inclusion_in, consistency_in}
 use Rattle.warg_store.specs.Private.Fetched.{AreOwn}
 use Rattle.warg_protobuf.proofs.ForCallers.{all_push}
 use Rattle.warg_store.proofs.LeadLemmas.{end_inside}
-use Rattle.warg_store.proofs.GrowingLemmas.{level_low}
 
 -- one tile more
 pub own_more : (log : LogOf) (tiles : Tiles) (t : TileAt) (digests : List (List ℕ)) → IsTileIn log t → digests ≡ tile_digests sha256 (leaves_of sha256 log.entries) t → AreOwn log tiles → AreOwn log (tiles ++ (t, digests) ∷ [])
@@ -58,7 +57,7 @@ own_entry log t es place entry fits is count found =
 -- a tile of a length, as wide as a longer log has it, is one of that log
 pub wide_in : (log : LogOf) (n count : ℕ) (t u : TileAt) → length log.entries ≡ count → n ≤ 2 ^ 63 → IsTileOf n t → u.level ≡ t.level → IsTileOf count u → IsTileIn log u
 wide_in log n count t u is most of level wide = record {
-  level = omega (arith, level, level_low n t most of);
+  level = omega (arith, level, low_level n t most of);
   exists = subst (λ l. IsTileOf l u) (sym is) wide;
 }
 

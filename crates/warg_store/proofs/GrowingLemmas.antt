@@ -4,8 +4,7 @@ use Rattle.std.specs.List.{AllByRecursion, Contains, flat_map}
 use Rattle.std.proofs.lemmas.Bool.{cases_Bool, cases_eq, cases_lt, leb-false, lt-leb}
 use Rattle.std.proofs.lemmas.List.{length-map, length-append, length-drop, map-append, take_all, drop_all, drop-append-le, append-nil, nil_from_length}
 use Rattle.std.proofs.lemmas.Nat.{pow_pos, le-div}
-use Rattle.std.proofs.Math.Nat.{div-mul-le_self, mul-le-mul_right, div-one, mul_assoc}
-use Rattle.warg_log.proofs.ForCallers.{pow_below_pow}
+use Rattle.std.proofs.Math.Nat.{div-mul-le_self, div-one, mul_assoc}
 use Rattle.warg_crypto.specs.Digests.{sha256}
 use Rattle.warg_log.specs.Tree.{leaves_of, own_digest}
 use Rattle.warg_tiles.specs.Tiles.{TileAt, tile_end}
@@ -15,7 +14,7 @@ use Rattle.warg_tiles.specs.TileData.{Tiles, IsTileBy}
 use Rattle.warg_tiles.specs.EntryBundles.{two_bytes, bundle_of}
 use Rattle.warg_tiles.specs.CheckpointText.{Said}
 use Rattle.warg_tiles.specs.TileLog.{RightEdge, StandsFor, full_between, partial_tiles, AreTilesOf}
-use Rattle.warg_tiles.proofs.ForCallers.{full_tiles, partial_of, own_tile, bundle_more}
+use Rattle.warg_tiles.proofs.ForCallers.{full_tiles, partial_of, own_tile, bundle_more, low_level}
 use Rattle.warg_store.specs.Files.{File, Files, put, IsNameOf}
 use Rattle.warg_store.specs.Names.{checkpoint, state, staged, is_staged, is_served}
 use Rattle.warg_store.specs.Opening.{IsBeside, IsStaging, NothingStaged, opened, opened_by}
@@ -25,7 +24,7 @@ use Rattle.warg_store.specs.Moments.{LeavesOnly}
 use Rattle.warg_store.specs.Growing.{LogIn, Has, HasAll, with_entry, IsNewFull, AreFullStaged}
 use Rattle.warg_store.proofs.NameLemmas.{one_name, apart, staged_once, served_not_staged}
 use Rattle.warg_store.proofs.FileLemmas.{put_here, put_apart}
-use Rattle.warg_store.proofs.ListLemmas.{all_append}
+use Rattle.warg_protobuf.proofs.ForCallers.{all_append}
 use Rattle.warg_store.proofs.MomentLemmas.{stays}
 use Rattle.warg_store.proofs.PathLemmas.{tile_path_once, entries_path_once, no_tile_a_bundle}
 use Rattle.warg_store.proofs.LeadLemmas.{tile_between, end_inside, same_kept, file_served, tile_kept, bundle_kept, extends_self, extends_then}
@@ -128,14 +127,6 @@ module _ (log : LogOf) (R : TileAt → Type 0) (low : (t : TileAt) → R t → t
       (staged_from (λ f. (t : TileAt) × R t × (tile_end t ≤ older → ⊥) × (f.0 ≡ tile_path t)) (new_files older tiles) s n
       (each_file (λ f. (t : TileAt) × R t × (tile_end t ≤ older → ⊥) × (f.0 ≡ tile_path t)) older tiles (all_tiles _ _ (λ x is new. (x.0, is.0, new, refl)) tiles own)) some)
 
--- A tile's level.
-pub level_low : (n : ℕ) (t : TileAt) → n ≤ 2 ^ 63 → IsTileOf n t → t.level < 8
-level_low n t most is =
-    let p = 2 ^ (8 * t.level) in
-    let some : 1 ≤ n / p = omega (arith, is.some, is.width) in
-    let below : p < 2 ^ 64 = omega (arith, mul-le-mul_right p some, div-mul-le_self n p) in
-    omega (arith, pow_below_pow (8 * t.level) 64 below)
-
 -- The tile of level 0 over a full bundle.
 abbrev pub bundle_tile : ℕ → TileAt
 bundle_tile number = record { level = 0; number = number; width = 256 }
@@ -178,7 +169,7 @@ module _ (log : LogOf) (older taken number : ℕ) (tiles : Tiles) (bytes : List 
   files = own_files log IsFilled tiles filled own.digests
 
   low : (t : TileAt) → IsFilled t → t.level < 8
-  low t is = level_low (length log.entries) t most is.1
+  low t is = low_level (length log.entries) t most is.1
 
   wide : (t : TileAt) → IsFilled t → t.width ≤ 256
   wide t is = omega (arith, is.0)
@@ -411,7 +402,7 @@ module _ (old next : LogOf) (taken held : ℕ) (tiles : Tiles) (bytes : List ℕ
   part_files = own_files next IsPart tiles parts own.digests
 
   part_low : (t : TileAt) → IsPart t → t.level < 8
-  part_low t is = level_low (length next.entries) t most is.0
+  part_low t is = low_level (length next.entries) t most is.0
 
   part_wide : (t : TileAt) → IsPart t → t.width ≤ 256
   part_wide t is = omega (arith, is.1)

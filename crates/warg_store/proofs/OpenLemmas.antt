@@ -29,7 +29,8 @@ use Rattle.warg_store.specs.Log.{LogOf, AreShort, CanBeKept, said_of, checkpoint
 use Rattle.warg_store.specs.Growing.{Has}
 use Rattle.warg_store.proofs.NameLemmas.{apart, served_not_state}
 use Rattle.warg_store.proofs.FileLemmas.{put_here, put_apart}
-use Rattle.warg_store.proofs.ListLemmas.{all_append, all_take, all_drop}
+use Rattle.warg_protobuf.proofs.ForCallers.{all_append}
+use Rattle.warg_store.proofs.ListLemmas.{all_take, all_drop}
 use Rattle.warg_store.proofs.LeadLemmas.{end_inside, extends_self, file_served, same_files, same_served}
 use Rattle.warg_store.proofs.GrowingLemmas.{ground, none_some}
 

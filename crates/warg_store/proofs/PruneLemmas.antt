@@ -17,7 +17,8 @@ use Rattle.warg_store.proofs.FileLemmas.{without_here, without_apart}
 use Rattle.warg_store.proofs.PathLemmas.{tile_path_once, entries_path_once, no_tile_a_bundle}
 use Rattle.warg_store.proofs.ServeLemmas.{opened_idle}
 use Rattle.warg_store.proofs.LeadLemmas.{width_at_most, file_served, same_served, same_kept}
-use Rattle.warg_store.proofs.GrowingLemmas.{level_low, none_some}
+use Rattle.warg_tiles.proofs.ForCallers.{low_level}
+use Rattle.warg_store.proofs.GrowingLemmas.{none_some}
 use Rattle.warg_store.proofs.SignLemmas.{full_staged_same}
 
 -- a spare name is a served one, and so is the full one's
@@ -61,7 +62,7 @@ module _ (served old : LogOf) (s : Files) (keeps : Keeps served old s) where
   tile_needed t u same part full unserved (inr is) = unserved (subst (IsTileOf (length served.entries)) (sym same) is)
 
   level_of : (t : TileAt) → IsTileOf (length old.entries) (full_of t) → t.level < 8
-  level_of t is = level_low (length old.entries) (full_of t) keeps.can.most is
+  level_of t is = low_level (length old.entries) (full_of t) keeps.can.most is
 
   either_tile : (n : List ℕ) → IsFileOf old n ⊎ IsFileOf served n
       → (u : TileAt) × (u.width ≤ 256) × (IsTileOf (length old.entries) u ⊎ IsTileOf (length served.entries) u) × (((u.level < 8) × (tile_path u ≡ n)) ⊎ ((u.level ≡ 0) × (entries_path u ≡ n)))

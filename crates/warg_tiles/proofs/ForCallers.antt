@@ -1,8 +1,9 @@
 -- Lemmas for the proofs of the crates above, over public definitions alone.
-use Rattle.std.proofs.Common.{◌≡◌, ℕ, ◌^◌, ◌≤◌, List, [], ◌∷◌, ◌++◌, length, Option, Some}
+use Rattle.std.proofs.Common.{◌≡◌, ℕ, ◌^◌, ◌<◌, ◌≤◌, List, [], ◌∷◌, ◌++◌, length, Option, Some}
 use Rattle.std.specs.List.{AllByRecursion}
 use Rattle.warg_log.specs.Tree.{own_digest}
 use Rattle.warg_tiles.specs.Tiles.{TileAt, tile_end}
+use Rattle.warg_tiles.specs.Between.{IsTileOf}
 use Rattle.warg_tiles.specs.TileData.{Tiles, IsTileBy, digest_by}
 use Rattle.warg_tiles.specs.TileLog.{tile_digests, partial_tiles, full_between, AreFullBetween, ArePartialOf}
 use Rattle.warg_tiles.specs.EntryBundles.{two_bytes, bundle_of}
@@ -10,6 +11,7 @@ use Rattle.warg_tiles.specs.CheckpointText.{Said, CanBeSaid, text_before}
 use Rattle.warg_tiles.proofs.EdgeLemmas as edges
 use Rattle.warg_tiles.proofs.EntryLemmas as entries
 use Rattle.warg_tiles.proofs.FullLemmas as full
+use Rattle.warg_tiles.proofs.GrowthLemmas as growth
 use Rattle.warg_tiles.proofs.OpenLemmas as opening
 use Rattle.warg_tiles.proofs.TextLemmas as texts
 use Rattle.warg_tiles.proofs.OwnLemmas as own
@@ -45,3 +47,7 @@ bundle_once = entries.bundle_once
 -- a digest that a log's own tiles give is the node's
 pub digest_by_own : (H : List ℕ → List ℕ) (ds : List (List ℕ)) (tiles : Tiles) (x : ℕ) (d : List ℕ) → AllByRecursion (λ t. IsTileBy (own_digest H ds) t.0 t.1) tiles → digest_by H tiles x ≡ Some d → own_digest H ds x ≡ Some d
 digest_by_own = own.digest_by_own
+
+-- a tile of a length up to 2 ^ 63 is of one of the eight levels
+pub low_level : (n : ℕ) (t : TileAt) → n ≤ 2 ^ 63 → IsTileOf n t → t.level < 8
+low_level = growth.low_level
