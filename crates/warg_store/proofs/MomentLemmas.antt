@@ -1,7 +1,7 @@
 -- How a run of calls goes on.
 use Rattle.std.proofs.Common.{inl, inr, ⊎_elim, ℕ, arith}
 use Rattle.warg_store.specs.Files.{Files}
-use Rattle.warg_store.specs.Moments.{Elapses, LeavesOnly}
+use Rattle.warg_store.specs.Moments.{Within, Elapses, LeavesOnly}
 
 module _ {D : Type 0} (moment : D → ℕ) (left_since : D → ℕ → Files → Type 0) (may_leave : D → Files → Type 0) where
   -- one call more
@@ -21,6 +21,13 @@ module _ {D : Type 0} (moment : D → ℕ) (left_since : D → ℕ → Files →
     each = λ c left. ⊎_elim (λ was. first c (only c was)) (here c) (time.nothing_else (moment old) c (omega arith) left);
     before = λ t c le left. ⊎_elim (λ was. inl was) (λ now. inr (here c now)) (time.nothing_else t c le left);
   }
+
+  -- two calls that only read
+  pub read_twice : (old mid new : D) (P : Files → Type 0) → ((c : Files) → left_since old (moment old) c → may_leave old c) → Elapses moment left_since may_leave old mid → Elapses moment left_since may_leave mid new
+      → Within (may_leave old) (may_leave mid) → Within (may_leave mid) (may_leave new) → ((c : Files) → may_leave old c → P c) → LeavesOnly moment left_since old new P × ((c : Files) → may_leave new c → P c)
+  read_twice old mid new P only first second one two before =
+      let after : (c : Files) → may_leave new c → P c = λ c left. before c (one c (two c left)) in
+      (goes_on old mid new P (begins old mid P only first before (λ c left. before c (one c left))) second after, after)
 
 module _ {D : Type 0} (moment : D → ℕ) (left_since : D → ℕ → Files → Type 0) where
   -- no call

@@ -19,6 +19,7 @@ use Rattle.warg_store.proofs.ServeLemmas.{opened_idle}
 use Rattle.warg_store.proofs.LeadLemmas.{width_at_most, file_served, same_served, same_kept}
 use Rattle.warg_tiles.proofs.ForCallers.{low_level}
 use Rattle.warg_store.proofs.GrowingLemmas.{none_some}
+use Rattle.warg_store.proofs.StepLemmas.{either}
 use Rattle.warg_store.proofs.SignLemmas.{full_staged_same}
 
 -- a spare name is a served one, and so is the full one's
@@ -50,6 +51,21 @@ module _ (kept served : ℕ) (s : Files) where
     | inl same ↦ subst IsSome same some
     | inr gone ↦ absurd (none_some (now full) gone.0 some)
   ]
+
+  -- a spare file that was removed, or wasn't yet
+  pub gone_one : (now from c : Files) (name full : List ℕ) (tile : TileAt) → HasFull name tile full → (tile.width < 256) × IsTileOf kept (full_of tile) × (IsTileOf served tile → ⊥) → IsSome (now full)
+      → IsPruning kept served s now → IsPruning kept served s from → Either (without name) from c → IsPruning kept served s c
+  gone_one now from c name full tile paths spare there seen before removed =
+      let is : IsSpare kept served s name = record {
+        tile = tile;
+        full = full;
+        paths = paths;
+        partial = spare.0;
+        exists = spare.1;
+        unserved = spare.2;
+        there = was_there now full (path_served name full tile paths).1 seen there;
+      } in
+      either (IsPruning kept served s) (without name) from c removed before (pruned_one from name is before)
 
 -- What a folder keeps, and what it serves, stays.
 module _ (served old : LogOf) (s : Files) (keeps : Keeps served old s) where

@@ -1,61 +1,35 @@
 use Rattle.std.proofs.Common.{ℕ, take, Vec, Global, Option, IsSome, string_bytes, sym, ap, subst, ◌∙◌}
 use Rattle.std.specs.Prelude.{option_map, IfSome}
 use Rattle.warg_store.specs.declared.pruning.Named.{Named}
-use Rattle.warg_store.specs.Files.{without}
-use Rattle.warg_store.specs.Pruned.{HasFull, IsSpare}
+use Rattle.warg_store.specs.Pruned.{HasFull}
 use Rattle.warg_store.specs.Private.Steps.{IsPruning}
 use Rattle.warg_store.proofs.MomentLemmas.{goes_on, begins}
-use Rattle.warg_store.proofs.StepLemmas.{either}
-use Rattle.warg_store.proofs.PruneLemmas.{path_served, pruned_one, was_there, some_read}
+use Rattle.warg_store.proofs.PruneLemmas.{gone_one, some_read}
 use Rattle.warg_store.proofs.pruning.prune_one.Goals as goal
 
 pub returns-in_err-remove-clause-crash : goal.returns-in_err-remove-clause-crash
 returns-in_err-remove-clause-crash g c = λ faithful s e all left.
-    let seen = g.F.Folder.seen in
-    let now = c.args.folder.now in
+    let now = g.F.Folder.seen c.args.folder.now in
     let from = c.remove.ensures.crash faithful e left in
-    let before = all from.0 (c.read.ensures.crash faithful from.0 from.1) in
-    let kinds = c.is_spare.ensures c.if-not-is_spare.false in
-    let paths : HasFull c.args.name.now c.in-Some.named.tile (string_bytes c.in-Some.named.full) =
+    let full = string_bytes c.in-Some.named.full in
+    let paths : HasFull c.args.name.now c.in-Some.named.tile full =
     subst (λ (o : Option Named). IfSome o (λ named. HasFull c.args.name.now named.tile (string_bytes named.full))) c.in-Some.is c.in_ok-named.ensures in
-    let some : IsSome (seen now (string_bytes c.in-Some.named.full)) =
-    some_read (seen now (string_bytes c.in-Some.named.full)) c.in-Some-2.field-0.items 1
-    (sym (ap (option_map (λ (v : Vec ℕ Global). v.items)) c.in-Some-2.is) ∙ c.in_ok-read.ensures.found faithful ∙ ap (λ n. option_map (take 1) (seen now n)) c.as_str.ensures.value) in
-    let spare : IsSpare c.args.kept c.args.served s c.args.name.now = record {
-      tile = c.in-Some.named.tile;
-      full = string_bytes c.in-Some.named.full;
-      paths = paths;
-      partial = kinds.0;
-      exists = kinds.1;
-      unserved = kinds.2;
-      there = was_there c.args.kept c.args.served s (seen now) (string_bytes c.in-Some.named.full) (path_served c.args.name.now (string_bytes c.in-Some.named.full) c.in-Some.named.tile paths).1
-          (all (seen now) (g.met.F.Folder.seen_may_stay now)) some;
-    } in
-    either (IsPruning c.args.kept c.args.served s) (without c.args.name.now) from.0 e from.2 before (pruned_one c.args.kept c.args.served s from.0 c.args.name.now spare before)
+    let there : IsSome (now full) =
+    some_read (now full) c.in-Some-2.field-0.items 1 (sym (ap (option_map (λ (v : Vec ℕ Global). v.items)) c.in-Some-2.is) ∙ c.in_ok-read.ensures.found faithful ∙ ap (λ n. option_map (take 1) (now n)) c.as_str.ensures.value) in
+    gone_one c.args.kept c.args.served s now from.0 e c.args.name.now full c.in-Some.named.tile paths (c.is_spare.ensures c.if-not-is_spare.false) there (all now (g.met.F.Folder.seen_may_stay c.args.folder.now))
+    (all from.0 (c.read.ensures.crash faithful from.0 from.1)) from.2
 
 pub returns-clause-crash : goal.returns-clause-crash
 returns-clause-crash g c = λ faithful s e all left.
-    let seen = g.F.Folder.seen in
-    let now = c.args.folder.now in
+    let now = g.F.Folder.seen c.args.folder.now in
     let from = c.remove.ensures.crash faithful e left in
-    let before = all from.0 (c.read.ensures.crash faithful from.0 from.1) in
-    let kinds = c.is_spare.ensures c.if-not-is_spare.false in
-    let paths : HasFull c.args.name.now c.in-Some.named.tile (string_bytes c.in-Some.named.full) =
+    let full = string_bytes c.in-Some.named.full in
+    let paths : HasFull c.args.name.now c.in-Some.named.tile full =
     subst (λ (o : Option Named). IfSome o (λ named. HasFull c.args.name.now named.tile (string_bytes named.full))) c.in-Some.is c.in_ok-named.ensures in
-    let some : IsSome (seen now (string_bytes c.in-Some.named.full)) =
-    some_read (seen now (string_bytes c.in-Some.named.full)) c.in-Some-2.field-0.items 1
-    (sym (ap (option_map (λ (v : Vec ℕ Global). v.items)) c.in-Some-2.is) ∙ c.in_ok-read.ensures.found faithful ∙ ap (λ n. option_map (take 1) (seen now n)) c.as_str.ensures.value) in
-    let spare : IsSpare c.args.kept c.args.served s c.args.name.now = record {
-      tile = c.in-Some.named.tile;
-      full = string_bytes c.in-Some.named.full;
-      paths = paths;
-      partial = kinds.0;
-      exists = kinds.1;
-      unserved = kinds.2;
-      there = was_there c.args.kept c.args.served s (seen now) (string_bytes c.in-Some.named.full) (path_served c.args.name.now (string_bytes c.in-Some.named.full) c.in-Some.named.tile paths).1
-          (all (seen now) (g.met.F.Folder.seen_may_stay now)) some;
-    } in
-    either (IsPruning c.args.kept c.args.served s) (without c.args.name.now) from.0 e from.2 before (pruned_one c.args.kept c.args.served s from.0 c.args.name.now spare before)
+    let there : IsSome (now full) =
+    some_read (now full) c.in-Some-2.field-0.items 1 (sym (ap (option_map (λ (v : Vec ℕ Global). v.items)) c.in-Some-2.is) ∙ c.in_ok-read.ensures.found faithful ∙ ap (λ n. option_map (take 1) (now n)) c.as_str.ensures.value) in
+    gone_one c.args.kept c.args.served s now from.0 e c.args.name.now full c.in-Some.named.tile paths (c.is_spare.ensures c.if-not-is_spare.false) there (all now (g.met.F.Folder.seen_may_stay c.args.folder.now))
+    (all from.0 (c.read.ensures.crash faithful from.0 from.1)) from.2
 
 pub returns-in_err-remove-clause-any_moment : goal.returns-in_err-remove-clause-any_moment
 returns-in_err-remove-clause-any_moment g c = λ faithful s all.
