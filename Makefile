@@ -41,7 +41,8 @@ kit-gate:
 
 # Tries wrong bodies; of one crate with CRATE=warg_log, by a word of their names with ONLY=push.
 wrong-bodies:
-	@python3 scripts/wrong_bodies.py --build $(if $(CRATE),--crate $(CRATE)) $(if $(ONLY),--only $(ONLY))
+	@said="$$(cd $(if $(CRATE),crates/$(CRATE) && rt check,. && rt all check) 2>&1)" || { echo "$$said"; exit 1; }
+	@python3 scripts/wrong_bodies.py $(if $(CRATE),--crate $(CRATE)) $(if $(ONLY),--only $(ONLY))
 
 # Proves and builds the measuring program, and prints its times; scripts/bench_counts.py counts.
 bench:
@@ -49,7 +50,7 @@ bench:
 
 # Prints the definitions that the contracts rest on, in reading order.
 definitions:
-	@python3 scripts/definitions.py
+	@python3 scripts/pages.py --definitions
 
 # Proves and builds the library for C, as ffi/libwarg.a and ffi/libwarg.so.
 ffi:

@@ -5,8 +5,9 @@ import os
 import shutil
 import subprocess
 
-SETTINGS = ["--headless", "--remote-debugging-pipe", "--no-sandbox", "--no-first-run", "--disable-gpu", "--disable-dev-shm-usage", "--hide-scrollbars",
-            "--disable-background-networking", "--disable-component-update", "--host-resolver-rules=MAP log.test 127.0.0.1"]
+SETTINGS = ["--headless", "--remote-debugging-pipe", "--no-sandbox", "--no-first-run", "--disable-gpu", "--disable-dev-shm-usage",
+            "--hide-scrollbars", "--disable-background-networking", "--disable-component-update",
+            "--host-resolver-rules=MAP log.test 127.0.0.1"]
 PROGRAM = shutil.which("chromium") or shutil.which("chromium-browser")
 
 

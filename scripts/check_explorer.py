@@ -24,12 +24,27 @@ PAGE = pathlib.Path(__file__).resolve().parent.parent / "explorer/index.html"
 SCRIPT = pathlib.Path(__file__).with_suffix(".js").read_text()
 SECONDS, BYTES, SIZES = 420, 60000, (0, 1, 256, 257, 70000)
 PAIRS, KEY = [(b"package-%d" % (at % 1000), b"value %d" % at) for at in range(1200)], trees.sha256(b"package-17")
-HARMS = [("is missing", None), ("is (cut short|malformed)", lambda it: it[:-7]), ("is (too long|cut short|malformed)", lambda it: it + bytes(300)),
-         ("(was changed|is cut short|doesn’t fit)", lambda it: it[:40] + bytes([it[40] ^ 4]) + it[41:])]
-HARMED = [("600", "tile/0/001", "#entry/300"), ("600", "tile/0/002.p/88", ""), ("600", "tile/1/000.p/2", "#entry/5"), ("600", "tile/entries/001", "#entries/10"),
-          ("600", "tile/entries/002.p/88", ""), ("600", "checkpoint", ""), ("registry", "map/1200", "#key/package-17"), ("registry", f"map/x{KEY.hex()[:2]}/1018", "#key/package-17")]
-VIEWS = ["70000/", "70000/#entries", "70000/#entry/69998", "70000/#growth", "70000/#about", "registry/", "registry/#entries/3", "registry/#entry/5",
-         "registry/#key/package-17", "registry/#key/left-pad", "growth-0/#growth", "growth-1/", "harm-0-tile-0-001/#entry/300"]
+HARMS = {
+    "is missing": None,
+    "is (cut short|malformed)": lambda it: it[:-7],
+    "is (too long|cut short|malformed)": lambda it: it + bytes(300),
+    "(was changed|is cut short|doesn’t fit)": lambda it: it[:40] + bytes([it[40] ^ 4]) + it[41:],
+}
+# Files that are harmed, and a view that reads each.
+HARMED = f"""600 tile/0/001 #entry/300, 600 tile/0/002.p/88 #checkpoint, 600 tile/1/000.p/2 #entry/5, 600 tile/entries/001 #entries/10,
+600 tile/entries/002.p/88 #checkpoint, 600 checkpoint #checkpoint, registry map/1200 #key/package-17,
+registry map/x{KEY.hex()[:2]}/1018 #key/package-17"""
+VIEWS = """70000/ 70000/#entries 70000/#entry/69998 70000/#growth 70000/#about registry/ registry/#entries/3 registry/#entry/5
+registry/#key/package-17 registry/#key/left-pad growth-0/#growth growth-1/ harm-0-tile-0-001/#entry/300"""
+# A checkpoint that follows the one of 600 entries, and what the page says of it.
+GROWTHS = {
+    "700": "its 600 entries are the first of these 700",
+    "700-other": "The log forked",
+    "600-other": "The log forked",
+    "300": "The checkpoint went back",
+    "700-origin": "The log’s origin changed",
+    "registry": "The log changed its kind",
+}
 
 
 def entries(count, first=b"entry 0"):
@@ -37,7 +52,8 @@ def entries(count, first=b"entry 0"):
 
 
 def ran(*words, lines=()):
-    return subprocess.run([sys.argv[1], *words], input="".join(f"{it.hex()}\n" for it in lines), capture_output=True, text=True, check=True).stdout
+    given = "".join(f"{it.hex()}\n" for it in lines)
+    return subprocess.run([sys.argv[1], *words], input=given, capture_output=True, text=True, check=True).stdout
 
 
 class Noting(http.server.SimpleHTTPRequestHandler):
@@ -73,7 +89,8 @@ class Reader:
 
     def refuses(self, address, words):
         state = self.open(address)
-        return f"{address}: {words}", state["kind"] == "verdict bad" and bool(re.search(words, state["text"])) and "Checked:" not in state["text"]
+        well = state["kind"] == "verdict bad" and re.search(words, state["text"]) and "Checked:" not in state["text"]
+        return f"{address}: {words}", bool(well)
 
     def of_log(self, count):
         self.make(str(count), entries(count))
@@ -89,34 +106,34 @@ class Reader:
             yield f"the path of {index} of {count}", self.state()["path"] == path == program
 
     def of_registry(self):
-        for name, pairs in (("registry", PAIRS), ("none", []), ("bytes", [(b"\xff\0", b"\xfe"), (b"", "\u202e".encode())])):
+        for name, pairs in {"registry": PAIRS, "none": [], "bytes": [(b"\xff\0", b"\xfe"), (b"", "\u202e".encode())]}.items():
             self.make(name, [b"".join(len(it).to_bytes(8, "big") + it for it in pair) for pair in pairs])
             trees.add_map(self.room / name, pairs)
         yield self.says("registry/", "map/1200", "package-199", "value 1199", "Root of the map")
-        for index in [*range(1000, 1200, 90), *range(200, 1000, 90)]:
-            yield self.says(f"registry/#key/package-{index % 1000}", "this value stands", f"value {index}\n", f"entry {index:,}", "map/1200")
+        for at in [*range(1000, 1200, 90), *range(200, 1000, 90)]:
+            yield self.says(f"registry/#key/package-{at % 1000}", "this value stands", f"value {at}\n", f"entry {at:,}", "map/1200")
         yield self.says("registry/#key/left-pad", "nothing stands", trees.sha256(b"left-pad").hex(), "map/1200")
         yield self.says("none/#key/left-pad", "nothing stands", "no key yet")
         yield self.says("bytes/#key-hex/ff00", "this value stands", "fe\n", "ff00")
         yield self.says("bytes/#key/", "this value stands", "U+202E", "entry 1")
 
     def of_growth(self):
-        for name, *given in (("600", entries(600)), ("700", entries(700)), ("700-other", entries(700, b"another")), ("600-other", entries(600, b"another")),
-                             ("300", entries(300)), ("700-origin", entries(700), "another")):
-            self.make(name, *given)
-        cases = [("700", "its 600 entries are the first of these 700"), ("700-other", "The log forked"), ("600-other", "The log forked"), ("300", "The checkpoint went back"),
-                 ("700-origin", "The log’s origin changed"), ("registry", "The log changed its kind")]
-        for at, (then, words) in enumerate(cases):
+        for name in ("600", *GROWTHS):
+            count, *other = name.split("-")
+            if not (self.room / name).exists():
+                self.make(name, entries(int(count), b"another" if other == ["other"] else b"entry 0"), *["another"] * (other == ["origin"]))
+        for at, (then, words) in enumerate(GROWTHS.items()):
             shutil.copytree(self.room / "600", self.room / f"growth-{at}")
             self.open(f"growth-{at}/")
             shutil.copytree(self.room / then, self.room / f"growth-{at}", dirs_exist_ok=True)
             yield (self.refuses if at else self.says)(f"growth-{at}/#entry/5" if at else "growth-0/", words)
         self.page.value("document.querySelector('main button').click()")
-        yield "a new beginning", self.state()["kind"] == "verdict good" and self.says(f"growth-{at}/#growth", "the checkpoint that you saw last")[1]
+        yield "a new beginning", self.state()["kind"] == "verdict good"
+        yield self.says(f"growth-{at}/#growth", "the checkpoint that you saw last")
 
     def of_harm(self):
-        for whole, place, address in HARMED:
-            for at, (words, harm) in enumerate(HARMS):
+        for whole, place, address in map(str.split, HARMED.split(",")):
+            for at, (words, harm) in enumerate(HARMS.items()):
                 name = f"harm-{at}-{place.replace('/', '-')}"
                 file = shutil.copytree(self.room / whole, self.room / name) / place
                 file.write_bytes(harm(file.read_bytes())) if harm else file.unlink()
@@ -139,14 +156,15 @@ class Reader:
         yield "no SHA-256", "WebCrypto" in self.open("1/", "log.test")["text"]
 
     def of_looks(self, pictures):
-        for at, address in enumerate(VIEWS):
+        for at, address in enumerate(VIEWS.split()):
             for wide, scheme in ((390, "light"), (390, "dark"), (1280, "light"), (1280, "dark")):
                 self.page.call("Emulation.setDeviceMetricsOverride", width=wide, height=900, deviceScaleFactor=1, mobile=False)
                 self.page.call("Emulation.setEmulatedMedia", features=[{"name": "prefers-color-scheme", "value": scheme}])
                 self.open(address)
                 looks = self.page.value(f"{SCRIPT}.looks()")
                 yield f"{address} at {wide}, {scheme}: {looks}", looks["over"] <= 0 and looks["contrast"] >= 4.5 and not looks["unnamed"]
-                picture = self.page.call("Page.captureScreenshot", captureBeyondViewport=True, clip={"x": 0, "y": 0, "width": wide, "height": looks["high"], "scale": 1})
+                clip = {"x": 0, "y": 0, "width": wide, "height": looks["high"], "scale": 1}
+                picture = self.page.call("Page.captureScreenshot", captureBeyondViewport=True, clip=clip)
                 pathlib.Path(pictures, f"{at:02}-{wide}-{scheme}.png").write_bytes(base64.b64decode(picture["data"]))
 
 
@@ -163,7 +181,8 @@ def tried(room, profile, pictures):
         yield f"the console: {page.errors}", not page.errors
         for part in (reader.of_growth(), reader.of_harm(), reader.of_removed(), reader.of_looks(pictures)):
             yield from part
-        others = [it for it in page.errors if "404" not in it] + [it for it in Noting.asked if not re.fullmatch(r"/[^/]+/(|checkpoint|(tile|map)/.*)", it)]
+        others = [it for it in page.errors if "404" not in it]
+        others += [it for it in Noting.asked if not re.fullmatch(r"/[^/]+/(|checkpoint|(tile|map)/.*)", it)]
         yield f"errors and strange requests: {others}", not others
 
 
@@ -175,7 +194,8 @@ def main():
     with tempfile.TemporaryDirectory() as room, tempfile.TemporaryDirectory() as profile, tempfile.TemporaryDirectory() as pictures:
         came = [*tried(room, profile, [*sys.argv[2:], pictures][0])]
     failed = [name for name, well in came if not well]
-    print(*(f"not as it should be: {name}" for name in failed), f"explorer: {len(came) - len(failed)} of {len(came)} states of the page are as they should be", sep="\n")
+    print(*(f"not as it should be: {name}\n" for name in failed), sep="", end="")
+    print(f"explorer: {len(came) - len(failed)} of {len(came)} states of the page are as they should be")
     sys.exit(1 if failed else 0)
 
 

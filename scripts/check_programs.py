@@ -1,134 +1,123 @@
 #!/usr/bin/env python3
-"""Shows that the programs end as they should for their users: with right and wrong arguments, and on devices that fail.
+"""Shows that the programs end as they should for their users, also where an append of warg_tlog is disturbed, or the power is cut:
+that each run in scripts/programs/*.txt prints and ends as it says there.
 
-Usage: check_programs.py WARG_CHECK WARG_VERDICT WARG_TLOG, with the built programs.
+A part of a file begins with `## TITLE`, in a new folder. Its runs are lines `$ COMMAND` for bash, and below each what it prints: lines
+of its output; lines of its errors, behind `! `; and its status in brackets, if that isn't 0. `...` stands for any part of a line. Where
+a part has a table, it is run for each row, with the row's words in the places of {NAME}, and for each of a word's choices A / B / C.
+A part that needs strace, or leave to mount or to be another user, is left out where it can't be had.
+
+Usage: check_programs.py WARG_CHECK WARG_VERDICT WARG_TLOG NAME.., with the built programs, and the names of files of runs.
 """
 
+import itertools
+import os
 import pathlib
+import re
+import shutil
+import subprocess
 import sys
 import tempfile
 
-import tried_convict
-import tried_tlog
-from tlog import little_memory, ran
+import kit
+import trees
 
-ROOT = pathlib.Path(__file__).resolve().parent.parent
-COMMANDS = b"push 6f6e65\npush 74776f\nlog\n"
-BAD_LINE = b"log 0 e3b0c44298fc1c149afbf4c8996fb92427ae41e4649b934ca495991b7852b855\nbad line 2\n"
-ANSWERS = b"node 0\nnode 2\nlog 2 4f55f619d9215235778b2b9f17d6f4915b16171214d152381293669764de722e\n"
-
-
-def of_check(program):
-    """Yields what is tried of warg_check, and whether it came out."""
-    status, out, err = ran([program], input=COMMANDS)
-    yield "commands", (status, out, err) == (0, ANSWERS, b"")
-    for second in (b"height 1\n", b"logs\n"):
-        yield f"a bad line: {second}", ran([program], input=b"log\n" + second + b"log\n") == (1, BAD_LINE, b"")
-    for end, name in ((b"\r", b"a carriage return"), (b" ", b"a blank")):
-        note = b"warg_check: line 2 ends in " + name + b", and no command does\n"
-        yield f"a line that ends in {name}", ran([program], input=b"log\nlog" + end) == (1, BAD_LINE, note)
-    status, out, err = ran([program], input=b"verify " + b"0" * 64 + b" - 00\n")
-    yield "no bundle", (status, out) == (0, b"refused not decoded\n") and b"bundle" in err
-    for word in ("--help", "-h"):
-        status, out, err = ran([program, word])
-        yield word, status == 0 and b"push BYTES" in out and not err
-    for word in ("--version", "-V"):
-        yield word, ran([program, word]) == (0, b"warg_check 0.9.2-rattle.1\n", b"")
-    for words in (["--helpp"], ["lines.txt"], ["--help", "x"]):
-        status, out, err = ran([program, *words])
-        yield f"arguments {words}", status == 2 and not out and words[-1].encode() in err
-    with open("/proc/self/mem", "rb") as broken:  # its first byte can't be read
-        status, out, err = ran([program], input=None, stdin=broken)
-    yield "a read that fails", (status, out, err) == (2, b"", b"warg_check: read failed\n")
-    with open("/dev/full", "wb") as full:
-        status, out, err = ran([program], input=COMMANDS, stdout=full)
-    yield "a write that fails", (status, err) == (2, b"warg_check: write failed\n")
-    status, out, err = ran([program], input=b"\n" * (1 << 28), preexec_fn=little_memory)
-    yield "little memory", (status, out, err) == (3, b"", b"warg_check: out of memory\n")
+FOLDER = kit.ROOT / "scripts/programs"
+# Whether what a part needs, as its title says, can be had here.
+TRACED = "strace -qq -o trace -e trace=mkdir -e inject=mkdir:error=EIO mkdir none; [ $? = 1 ]"
+MOUNTED = "mkdir m && truncate -s 9m i && mkfs.ext4 -q i && mount -o loop i m && umount m && mount -t tmpfs tmpfs m && umount m"
+NEEDS = {"(as root)": "[ $(id -u) = 0 ]", "(by strace)": TRACED, "(by mount)": MOUNTED}
+# What each part begins with.
+GIVEN = """for i in {0..599}; do printf '%04x\\n' $i; done > entries; unhex $BUNDLE > proof.bundle
+warg_tlog init log example.com/log; warg_tlog append log < entries; cp -r log whole"""
 
 
-# The options of each verdict, in the order of the words of a line of vectors behind the bundle and the place.
-OPTIONS = {
-    "entry": ("index", "value", "length", "root"),
-    "growth": ("old-length", "old-root", "new-length", "new-root"),
-    "key": ("key", "value", "root"),
-    "absent": ("key", "root"),
-    "update": ("key", "old-value", "new-value", "old-root", "new-root"),
-    "insertion": ("key", "value", "old-root", "new-root"),
-}
+def digests():
+    """Returns what the commands name of logs and maps, in digits, by Python's hashlib."""
+    entries = {"A": b"left-pad 1.0.0", "B": b"left-pad 1.1.0", "ONE": b"one", "TWO": b"two"}
+    leaves = {f"{name}_LEAF": trees.sha256(b"\0", it) for name, it in entries.items()}
+    found = {**entries, **leaves, "BOTH": trees.root([leaves["A_LEAF"], leaves["B_LEAF"]]), "NO_KEY": trees.EMPTY[256], "ZEROS": bytes(32)}
+    found |= {f"K_{it.upper()}": trees.sparse({trees.sha256(b"k"): trees.sha256(b"\0", it.encode())}, 0) for it in "vw"}
+    found["PRESENT"] = bytes.fromhex("0a240a220a20") + trees.EMPTY[255]
+    found["BUNDLE"] = (kit.ROOT / "crates/warg_verdict/data/proof.bundle").read_bytes()
+    named = {name: it.hex() for name, it in found.items()}
+    return named | {"UPDATE": f"--key text:k --old-root {named['K_V']} --new-root {named['K_W']} --old-value text:v"}
 
 
-# The last words of the reasons for which a verdict is false.
-ENDS = (b"root", b"length", b"index", b"entry", b"empty", b"longer", b"missing")
+def rows(lines):
+    """Returns what stands for each name of a part's table, row by row and choice by choice."""
+    names, *others = [[it.strip() for it in line[1:-1].split("|")] for line in lines] or [[], []]
+    choices = (itertools.product(*(re.split("(?:^| )/ ", cell) for cell in row)) for row in others)
+    return [dict(zip(names, row)) for it in choices for row in it]
 
 
-def answered(program, line):
-    """Returns what warg_verdict answers to a check line of the vectors, and with -v where that is false."""
-    call, bundle, at, *words = line.split()
-    given = [program, call.removeprefix("check_"), "-", "--hex", "--at", at]
-    for option, word in zip(OPTIONS[given[1]], words):
-        is_bytes = option.endswith(("key", "value"))
-        given += [f"--{option}", f"hex:{word.strip('-')}" if is_bytes else word]
-    status, out, _ = ran(given, input=bundle.strip("-").encode())
-    reason = ran([*given, "-v"], input=bundle.strip("-").encode())[1] if status == 1 else b""
-    return {0: "true", 1: "false", 2: "refused", 3: "bad call"}[status], out.split(b":")[0].decode().strip(), reason
+def parts(name, named):
+    """Yields the title of each part of a file, with a row's words in their places, and its commands with what they print."""
+    for part in re.split("^## ", (FOLDER / f"{name}.txt").read_text(), flags=re.M)[1:]:
+        title, *lines = part.splitlines()
+        for row in rows([it for it in lines if it.startswith("|")]):
+            text = "\n".join(it for it in lines if not it.startswith("|"))
+            text = re.sub(r"\{([A-Z]+)\}", lambda it: row.get(it[1], it[0]), text)
+            runs = [it.partition("\n") for it in re.split(r"^\$ ", text, flags=re.M)[1:]]
+            yield title, [(command, re.sub(r"\$([A-Z_]+)", lambda it: named[it[1]], wanted)) for command, _, wanted in runs]
 
 
-def of_vectors(program):
-    """Yields whether warg_verdict answers the check lines of the vectors as they are answered there, call by call."""
-    lines, answers = ((ROOT / "crates/warg_vectors" / it).read_text().splitlines() for it in ("stdin", "stdout"))
-    for call in OPTIONS:
-        wrong = []
-        for line, answer in zip(lines, answers):
-            line, wanted = line.removeprefix("each "), answer.split()[0] if answer != "bad call" else answer
-            if line.startswith(f"check_{call} "):
-                status, out, reason = answered(program, line)
-                well = status == wanted and out == ("" if wanted == "bad call" else wanted)
-                well = well and (wanted != "false" or reason.startswith(b"false: ") and reason.split()[-1] in ENDS)
-                wrong += [] if well else [line]
-        yield f"vectors of {call}: {wrong[:1]}", not wrong
+def is_as(wanted, status, out, err):
+    """Whether a run printed and ended as it says."""
+    lines = [it for it in wanted.splitlines() if it]
+    statuses = lines.pop()[1:-1].split() if lines and re.fullmatch(r"\[[\d ]+\]", lines[-1]) else ["0"]
+    said = (out + re.sub("^", "! ", err.rstrip("\n"), flags=re.M) * bool(err)).rstrip("\n")
+    pattern = "\n".join(re.escape(it).replace(re.escape("..."), ".*") for it in lines)
+    return str(status) in statuses and bool(re.fullmatch(pattern, said))
 
 
-def of_verdict(program):
-    """Yields what is tried of warg_verdict, and whether it came out."""
-    words = (ROOT / "crates/warg_verdict/args").read_text().splitlines()
-    bundle = (ROOT / "crates/warg_verdict/data/proof.bundle").read_bytes()
-    with tempfile.TemporaryDirectory() as room:
-        file = pathlib.Path(room, "proof.bundle")
-        file.write_bytes(bundle)
-        given = [program, words[0], str(file), *words[2:]]
-        yield "true", ran(given) == (0, b"true\n", b"")
-        yield "false", ran([*given[:-1], "hex:00"]) == (1, b"false\n", b"")
-        value = pathlib.Path(room, "value")
-        value.write_bytes(words[-1].removeprefix("text:").encode())
-        yield "a value's file", ran([*given[:-1], f"file:{value}"]) == (0, b"true\n", b"")
-        for option, wrong, reason in (("--value", "hex:00", "root"), ("--length", "3", "length"), ("--index", "0", "index")):
-            at = given.index(option) + 1
-            words = [*given[:at], wrong, *given[at + 1 :], "-v"]
-            yield f"false by {option}", ran(words) == (1, f"false: another {reason}\n".encode(), b"")
-        for digits in (bundle.hex().upper(), f"bundle {bundle.hex()}\r\n"):
-            yield "digits", ran([*given[:2], "-", *given[3:], "--hex"], input=digits.encode()) == (0, b"true\n", b"")
-        yield "standard input", ran([*given[:2], "-", *given[3:]], input=bundle) == (0, b"true\n", b"")
-        yield "another place", ran([*given, "--at", "1"]) == (2, b"refused: no such proof\n", b"")
-        file.write_bytes(bundle[:-1])
-        yield "a cut bundle", ran(given) == (2, b"refused: truncated\n", b"")
-        for option, wrong, why in (("--index", "-1", "-1: a number must not be negative"), ("--value", "hex:abc", " 3 digits: Odd number of digits")):
-            at = given.index(option) + 1
-            status, out, err = ran([*given[:at], wrong, *given[at + 1 :]])
-            yield f"refused: {wrong}", (status, out, err) == (3, b"", f"warg_verdict: {option}{' ' if wrong == '-1' else ':'}{why}\n".encode())
-        for wrong in ([*given[:-1], "left-pad"], [*given, "--index", "-1"], [program, "entry"], [program], [*given[:2], "none", *given[3:]]):
-            status, out, err = ran(wrong)
-            yield f"wrong: {wrong[1:]}", status == 3 and not out and bool(err)
+def of_runs(name, room, settings):
+    """Yields each run of a file, and whether it came out."""
+    def bash(command, folder):
+        words = ["bash", "-c", f". {FOLDER}/calls.sh\n{command}"]
+        done = subprocess.run(words, input=b"", capture_output=True, timeout=1200, cwd=folder, env=settings)
+        return done.returncode, done.stdout.decode(errors="replace"), done.stderr.decode(errors="replace")
+
+    for title, runs in parts(name, settings):
+        folder = pathlib.Path(tempfile.mkdtemp(dir=room))
+        folder.chmod(0o755)
+        if any(it in title and bash(needed, folder)[0] for it, needed in NEEDS.items()):
+            print(f"not tried: {title}")
+            continue
+        shutil.rmtree(folder)
+        shutil.copytree(room / "given", folder)
+        for command, wanted in runs:
+            status, out, err = bash(command, folder)
+            print(*(it for it in out.splitlines(True) if it.startswith("seen: ")), sep="", end="", flush=True)
+            yield f"{name}, {title}: {command}: {out}{err}[{status}]", is_as(wanted, status, out, err)
+        shutil.rmtree(folder, ignore_errors=True)
+
+
+def prepared(room, files):
+    """Puts the programs and what each part begins with into a folder. Returns the settings of the commands."""
+    for name in ("bin", "given"):
+        (room / name).mkdir()
+    for name, file in zip(("warg_check", "warg_verdict", "warg_tlog"), files):
+        shutil.copyfile(file, room / "bin" / name)
+        (room / "bin" / name).chmod(0o755)
+    settings = {"PATH": f"{room}/bin:{os.environ['PATH']}", "TREE": str(kit.ROOT), "AS": "", "VERSION": kit.version(), **digests()}
+    settings["NOBODY"] = "" if os.geteuid() else "setpriv --reuid 65534 --regid 65534 --clear-groups"
+    words = ["bash", "-ec", f". {FOLDER}/calls.sh\n{GIVEN}"]
+    subprocess.run(words, cwd=room / "given", env=settings, check=True, stdout=subprocess.DEVNULL)
+    return settings
 
 
 def main():
-    bundle = (ROOT / "crates/warg_verdict/data/proof.bundle").read_bytes()
-    tried = [*of_check(sys.argv[1]), *of_verdict(sys.argv[2]), *of_vectors(sys.argv[2]), *tried_convict.of_convict(sys.argv[2], bundle), *tried_tlog.of_tlog(sys.argv[3])]
+    files, names = sys.argv[1:4], sys.argv[4:]
+    with tempfile.TemporaryDirectory() as room:
+        # (another user runs them, too)
+        os.chmod(room, 0o755)
+        settings = prepared(pathlib.Path(room), files)
+        tried = [it for name in names for it in of_runs(name, pathlib.Path(room), settings)]
     failed = [name for name, came in tried if not came]
-    for name in failed:
-        print(f"not as it should be: {name}")
+    print(*(f"not as it should be: {it}\n" for it in failed), sep="", end="")
     print(f"{len(tried) - len(failed)} of {len(tried)} runs of the programs end as they should")
-    sys.exit(1 if failed else 0)
+    sys.exit(bool(failed))
 
 
 if __name__ == "__main__":

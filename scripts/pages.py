@@ -1,49 +1,39 @@
 #!/usr/bin/env python3
 """Shows that the pages say what the sources have: writes the tables that are made of them, or with --check names each page
-that isn't as it would write it, and each fault in what the pages say of the code.
+that isn't as it would write it, and each fault in what the pages say of the code. With --definitions it prints the definitions that the
+contracts rest on, in reading order, out of the comments of specs/.
 
-It writes the tables of calls and laws into each CALLING.md, the sizes into docs/ARCHITECTURE.md, and into docs/USING.md the
-lines of crates.txt that each use takes. It checks that
+It writes the tables of calls and laws into each CALLING.md, the sizes into docs/ARCHITECTURE.md, into docs/USING.md the lines of
+crates.txt that each use takes, and explorer/index.html as the text of warg_explorer. It checks that
 
 - the README's program, the laws in docs/HEADLINE.md and the code in each CALLING.md stand in the crates as they are shown;
+- each definition that a public clause may name has a comment;
 - docs/PROVED.md and docs/HEADLINE.md name nothing that isn't there, and no clause that the call beside it hasn't;
 - each link within the repository leads to a file, and a page that is named is a link;
 - the programs and the library for C have the version of CHANGELOG.md, and ffi/warg.h the numbers of the definitions;
 - README.md has at most 90 lines, and docs/HEADLINE.md 40.
 """
 
+import itertools
 import re
 import sys
 
-import definitions
-import functions
+import items
 import kit
 
 ROOT, CRATES, DOCS = kit.ROOT, kit.ROOT / "crates", kit.ROOT / "docs"
-CALLS = "## All calls"
-NOTE = """What a signature takes by `&` is borrowed for the call, by `&mut` borrowed and changed; what it takes without either is consumed, unless it is `Copy`, as numbers and allocators are. `D` is the digest function, `V` the type of values, `K` that of keys, and `A` and `B` are allocators. The errors are all cases of the result's type; the call's comment says when each comes.
-"""
-LAWS = """Each law is the contract of a call that changes nothing and can always be made.
-"""
-SIZES = """
-By `scripts/pages.py`; the prover also counts what derives and macros write, and each closure.
+PAGE = """//! The page's text. Made by `scripts/pages.py` from `explorer/index.html`.
 
-| crate | files | functions | wrong bodies |
-|---|---|---|---|
+/// A page of HTML that shows a log's folder in a browser, and checks what it shows. It stands in the folder.
+pub const PAGE: &str = r##"{}"##;
 """
-LINES = """
-By `scripts/pages.py`, for a submodule in the folder `upstream`. Your own crate `mine` names the libraries that it uses, here with `anyhow` for its errors.
+DEFINITIONS = """# The definitions, in reading order
+
+Whoever believes these definitions believes what the contracts say. Under `Private` stand those that only clauses of private
+functions name, and the views and invariants of types whose fields are private. `H` is any function from byte lists to lists of
+32 bytes; only the definitions of `Sha256`, of the program's text and of the verdicts for C fix it.
 """
-# What a repository of one's own does, and the libraries that it calls.
-USES = {
-    "A log or a map, its proofs as bytes, and verdicts on them": ("warg_log", "warg_map", "warg_bundle", "warg_check"),
-    "A log alone": ("warg_log",),
-    "A map alone": ("warg_map",),
-    "Paths, as deployed logs send them": ("warg_log", "warg_paths"),
-    "Tiles, and a log in a folder": ("warg_log", "warg_paths", "warg_tiles", "warg_store"),
-    "Witnesses: collisions from false claims": ("warg_log", "warg_map", "warg_witness"),
-    "The Rust crate's paths": ("warg_transparency",),
-}
+ITEM = re.compile(r"^(?:unfoldable |abbrev )*pub (?:unfoldable |abbrev |record |inductive |data )*([^\s:({]+)", re.M)
 # Names of the standard library and of the kit.
 OF_OTHERS = {"Debug", "D", "H", "L", "Ok", "Err", "usize", "digest", "MAX", "n", "sha2"}
 # Where the programs say their version.
@@ -57,26 +47,46 @@ OF_IMAGES = {"NOT_A_LOG", "NOT_A_STACK"}
 IN_HEADER = {"OK_TRUE": "TRUE", "OK_FALSE": "FALSE", "MEMORY": "OUT_OF_MEMORY"}
 
 
+def modules(crate):
+    """Returns the files of a crate's specs/ by their modules, in reading order, the private ones last."""
+    folder, names = CRATES / crate / "specs", []
+    for file, prefix in (("Lib.antt", ""), ("Private.antt", "Private.")):
+        text = (folder / file).read_text() if (folder / file).exists() else ""
+        names += [prefix + it for it in re.findall(r"^pub mod (\w+)", text, re.M) if it != "Private"]
+    return {it: folder / f"{it.replace('.', '/')}.antt" for it in names}
+
+
+def definitions(crate):
+    """Yields the module, the name and the comment of each definition of a crate."""
+    for module, path in modules(crate).items():
+        for block in re.split(r"\n\n+", path.read_text()):
+            comment = " ".join(it[2:].strip() for it in block.split("\n") if it.startswith("--"))
+            yield from ((module, name, comment) for name in ITEM.findall(block))
+
+
+def definitions_page():
+    """Yields the text of all definitions."""
+    yield DEFINITIONS
+    for crate in (it for it in kit.crates() if [*definitions(it)]):
+        yield f"\n## `{crate}/specs`\n"
+        for module, path in modules(crate).items():
+            rows = [f"- `{name}`: {comment}\n" for of, name, comment in definitions(crate) if of == module]
+            about = re.match(r"(?:--.*\n)*", path.read_text())[0]
+            yield f"\n**`{module}`** {' '.join(about.replace('--', '').split())}\n\n{''.join(rows)}" if rows else ""
+
+
 def exported(root):
     """Returns the names that a library's root file exports."""
-    text = functions.blanked(root.read_text())
-    names = set()
-    for used in re.findall(r"^pub use ([^;]+);", text, re.M):
-        listed = re.search(r"\{(.*)\}", used, re.S)
-        for part in listed[1].split(",") if listed else [used.rpartition("::")[2]]:
-            names.add(part.strip().rpartition("::")[2].split(" as ")[0])
+    text = items.blanked(root.read_text())
+    used = re.split("[{,};]", "".join(re.findall(r"^pub use ([^;]+;)", text, re.M)))
+    names = {it.rpartition("::")[2].split(" as ")[0].strip() for it in used}
     return names | set(re.findall(r"^pub (?:struct|enum|trait) (\w+)", text, re.M))
 
 
 def sentence(text, at):
     """Returns the first sentence of the doc comment above a place."""
-    lines = []
-    for line in map(str.strip, reversed(text[:at].splitlines())):
-        if line.startswith("///"):
-            lines.append(line[3:].strip())
-        elif not line.startswith(("#[", "//")):
-            break
-    first = " ".join(reversed(lines)).split("  ")[0]
+    lines = itertools.takewhile(lambda it: it.startswith(("//", "#[")), map(str.strip, reversed(text[:at].splitlines())))
+    first = " ".join(reversed([it[3:].strip() for it in lines if it.startswith("///")])).split("  ")[0]
     ended = re.match(r"(.*?[.:])(?: |$)(?=[A-Z`]|$)", first)
     return re.sub(r"\[(`[^`]*`)\](\([^)]*\))?", r"\1", (ended[1] if ended else first).rstrip(".:"))
 
@@ -91,61 +101,47 @@ def variants(crates):
     """Returns the cases of each error type, as its enum lists them."""
     found = {}
     for path in sorted(it for name in crates for it in (CRATES / name / "src").rglob("*.rt")):
-        bare = functions.blanked(path.read_text())
+        bare = items.blanked(path.read_text())
         for it in re.finditer(r"^pub enum (\w+)[^{]*\{", bare, re.M):
-            inside = re.sub(r"#\[[^\n]*\]| \{[^}]*\}", "", bare[it.end() : functions.closing(bare, it.end() - 1) - 1])
-            found[it[1]] = functions.parted(inside, ",")
+            inside = bare[it.end() : items.closing(bare, it.end() - 1) - 1]
+            found[it[1]] = items.parted(re.sub(r"#\[[^\n]*\]| \{[^}]*\}", "", inside), ",")
     return found
 
 
 def errors(signature, known):
     """Returns a call's errors, by its result's type: the cases of an enum, or the type."""
     result = re.search(r"-> Result<(.*)>$", signature)
-    name = functions.parted(result[1], ",")[-1] if result else ""
+    name = items.parted(result[1], ",")[-1] if result else ""
     return ", ".join(f"`{it}`" for it in known.get(name, [name])) if result else ""
 
 
 def needs(clauses):
     """Returns what the `requires` of a call ask, each without its name."""
-    asked = re.findall(r"requires\*?(?: \w+)? \{ (.*?) \}\s*(?=$|requires|ensures)", " ".join(re.sub(r"//[^\n]*", "", clauses).split()))
-    return "; ".join(f"`{it}`" for it in asked)
-
-
-def declared(bare):
-    """Yields the trait of each method without a body, where it stands, where its clauses begin and where it ends."""
-    for block in re.finditer(r"^pub trait (\w+)[^{]*\{", bare, re.M):
-        end = functions.closing(bare, block.end() - 1)
-        for it in re.finditer(r"^    fn (\w+)", bare[:end], re.M):
-            if it.start() > block.end() and not functions.body_of(bare, it.end()):
-                stop = bare.find("\n\n", it.end(), end)
-                stop = end if stop < 0 else stop
-                clauses = re.search(r"\s(?:requires|ensures)", bare[it.end() : stop])
-                yield block[1], it.start(), it.end() + clauses.start() if clauses else stop, stop
+    text = " ".join(re.sub(r"//[^\n]*", "", clauses).split())
+    return "; ".join(f"`{it}`" for it in re.findall(r"requires\*?(?: \w+)? \{ (.*?) \}\s*(?=$|requires|ensures)", text))
 
 
 def calls(folder):
     """Yields the owner, signature, first sentence and conditions of each public call of a library, file by file, the laws last."""
     names = exported(folder / "src/lib.rt")
     for path in sorted((folder / "src").rglob("*.rt"), key=lambda it: (it.stem == "laws", it)):
-        text, bare, is_law = path.read_text(), functions.blanked(path.read_text()), path.stem == "laws"
-        traits = [(it.end() - 1, functions.closing(bare, it.end() - 1)) for it in re.finditer(r"^pub trait [^{]*\{", bare, re.M)]
-        for owner, start, clauses, end in declared(bare):
-            if owner in names:
-                yield owner, signature_of(owner, text[start:clauses]), sentence(text, start), needs(text[clauses:end])
-        for call in functions.functions(text, path.stem):
+        text, is_law = path.read_text(), path.stem == "laws"
+        for call in sorted(items.functions(text, path.stem), key=lambda it: it.body < it.end):
             line = text.rfind("\n", 0, call.start) + 1
-            in_trait = any(start < call.start < end for start, end in traits)
             owner = call.owner if call.owner != path.stem or call.owner in names else ""
             shown = is_law or (owner in names if owner else call.name in names or path.name == "lib.rt")
-            if shown and (re.match(r"\s*pub (?!\()", text[line:]) or in_trait and owner in names):
+            if shown and (re.match(r"\s*pub (?!\()", text[line:]) or call.is_of_trait and owner in names):
                 signature = signature_of(owner, text[call.start : min(call.clauses, call.body)])
                 yield "laws" if is_law else owner, signature, sentence(text, line), needs(text[call.clauses : call.body])
 
 
-def table(heads, rows):
-    """Returns a table with these heads, or nothing where it has no rows."""
+def with_table(text, heads, rows):
+    """Returns a page's text with these rows in the table with these heads, which comes last where the page has none."""
     lines = ["| " + " | ".join(it.replace("|", "\\|") for it in row) + " |" for row in rows]
-    return "\n".join([f"| {' | '.join(heads)} |", "|" + "---|" * len(heads), *lines, ""]) if lines else ""
+    head = f"| {' | '.join(heads)} |\n"
+    made = head + "\n".join(["|" + "---|" * len(heads), *lines, ""]) if lines else ""
+    found = re.search(re.escape(head) + r"(?:\|.*\n)*", text)
+    return text.replace(found[0], made) if found else f"{text}\n{made}" if made else text
 
 
 def handed_on(folder):
@@ -155,53 +151,43 @@ def handed_on(folder):
             yield from ((f"`{path.stem}::{name}`", f"[`{library}`](../{library}/src/lib.rt)") for name in re.findall(r"\w+", listed))
 
 
-def calling(page):
+def calling(folder):
     """Returns a library's page with the tables that are made from its sources."""
-    name = page.parent.name
-    known, made = variants([*kit.below(name, kit.crates()), name]), [*calls(page.parent)]
+    known, made = variants([*kit.below(folder.name, kit.crates()), folder.name]), [*calls(folder)]
     of_calls = [(f"`{it}`", says, errors(it, known), asks) for owner, it, says, asks in made if owner != "laws"]
     of_laws = [(f"`laws::{it.removesuffix('()')}`", says) for owner, it, says, _ in made if owner == "laws"]
-    parts = [NOTE * bool(of_calls), table(["call", "what it returns or says", "errors", "needs"], of_calls)]
-    parts += [LAWS * bool(of_laws), table(["law", "what it says"], of_laws)]
-    parts += [table(["path", "is of"], handed_on(page.parent)) if not made else ""]
-    before = page.read_text().partition(f"\n{CALLS}\n")[0].rstrip("\n")
-    return f"{before}\n\n{CALLS}\n\nMade from the sources by `scripts/pages.py`.\n\n" + "\n".join(it for it in parts if it)
+    text = with_table((folder / "CALLING.md").read_text(), ["call", "what it returns or says", "errors", "needs"], of_calls)
+    text = with_table(text, ["law", "what it says"], of_laws)
+    return text if made else with_table(text, ["path", "is of"], handed_on(folder))
 
 
-def sizes():
-    """Returns the table of sizes."""
+def sizes(text):
+    """Returns a page with the table of sizes."""
     rows = []
     for name in (it for it in kit.crates() if it.startswith("warg_") and not it.endswith("_tests")):
         sources = sorted((CRATES / name).glob("src/**/*.rt"))
-        counted = sum(len(functions.functions(it.read_text(), it.stem)) for it in sources)
+        counted = sum(function.body < function.end for it in sources for function in items.functions(it.read_text(), it.stem))
         wrong = sum(len([*(CRATES / name).glob(f"{it}/*.edit")]) for it in ("wrong-bodies", "must-fail"))
-        rows.append(f"| `{name}` | {len(sources)} | {counted} | {wrong} |\n")
-    return SIZES + "".join(rows)
+        rows.append((f"`{name}`", str(len(sources)), str(counted), str(wrong)))
+    return with_table(text, ["crate", "files", "functions", "wrong bodies"], rows)
 
 
-def lines():
-    """Returns the lines of crates.txt for each use."""
-    listed, parts = kit.crates(), [LINES]
+def listed_below(mine):
+    """Returns the lines of crates.txt for what a crate of another repository, in its own line, stands on."""
+    listed = kit.crates()
     there = {it: f"upstream/crates/{it}" for it in listed}
-    for use, libraries in USES.items():
-        below = {under for it in libraries for under in [*kit.below(it, listed), it]}
-        block = [f"{there[it]}: {' '.join(there.get(need, need) for need in listed[it])}" for it in listed if it in below]
-        block.append(f"mine: {' '.join(there[it] for it in listed if it in ('warg_crypto', *libraries))} anyhow")
-        parts.append(f"\n{use}:\n\n```text\n" + "\n".join(block) + "\n```\n")
-    return "".join(parts)
-
-
-def with_part(page, title, made):
-    """Returns a page with a part of this title in the place of the one that it has."""
-    before, _, rest = page.read_text().partition(title)
-    return before + title + made + "".join(rest.partition("\n## ")[1:])
+    below = {under for it in listed if there[it] in mine.split() for under in [*kit.below(it, listed), it]}
+    lines = [f"{there[it]}: {' '.join(there.get(need, need) for need in listed[it])}" for it in listed if it in below]
+    return "```text\n" + "\n".join([*lines, mine]) + "\n```"
 
 
 def made_pages():
-    """Yields each page of which a part is made from the sources, and its text with that part."""
-    yield DOCS / "ARCHITECTURE.md", with_part(DOCS / "ARCHITECTURE.md", "## Sizes\n", sizes())
-    yield DOCS / "USING.md", with_part(DOCS / "USING.md", "## The lines of crates.txt\n", lines())
-    yield from ((page, calling(page)) for it in kit.crates() if (page := CRATES / it / "CALLING.md").exists())
+    """Yields each file of which a part is made from others, and its text with that part."""
+    yield DOCS / "ARCHITECTURE.md", sizes((DOCS / "ARCHITECTURE.md").read_text())
+    using = (DOCS / "USING.md").read_text()
+    yield DOCS / "USING.md", re.sub(r"```text\n(?:upstream.*\n)*(mine: .*)\n```", lambda it: listed_below(it[1]), using)
+    yield CRATES / "warg_explorer/src/page.rt", PAGE.format((ROOT / "explorer/index.html").read_text())
+    yield from ((CRATES / it / "CALLING.md", calling(CRATES / it)) for it in kit.crates() if (CRATES / it / "CALLING.md").exists())
 
 
 def code_blocks(page):
@@ -210,15 +196,25 @@ def code_blocks(page):
 
 
 def code_faults():
-    """Yields code that is shown and stands nowhere, and pages that are too long."""
-    shown = [(ROOT / "README.md", [(CRATES / "example_first/src/main.rt").read_text()], "\n".join(code_blocks(ROOT / "README.md")))]
-    shown.append((DOCS / "HEADLINE.md", code_blocks(DOCS / "HEADLINE.md"), (CRATES / "warg_claims/src/laws.rt").read_text()))
+    """Yields code that is shown and stands nowhere, pages that are too long, and a page that no text of a program can have."""
+    readme, headline = ROOT / "README.md", DOCS / "HEADLINE.md"
     uses = "\n".join(path.read_text() for path in sorted((CRATES / "warg_uses/src").glob("*.rt")))
-    pages = (it for it in sorted(CRATES.glob("*/CALLING.md")) if it.parent.name not in WITHOUT_CALLER)
-    for page, blocks, code in [*shown, *((it, code_blocks(it), uses) for it in pages)]:
+    shown = [(it, code_blocks(it), uses) for it in sorted(CRATES.glob("*/CALLING.md")) if it.parent.name not in WITHOUT_CALLER]
+    shown += [(readme, [(CRATES / "example_first/src/main.rt").read_text()], "\n".join(code_blocks(readme)))]
+    shown += [(headline, code_blocks(headline), (CRATES / "warg_claims/src/laws.rt").read_text())]
+    for page, blocks, code in shown:
         yield from (f"{page}: shown otherwise than it stands: {it.splitlines()[0]}" for it in blocks if it not in code)
-    for page, most in ((ROOT / "README.md", 90), (DOCS / "HEADLINE.md", 40)):
-        yield from [f"{page} has more than {most} lines"] * (len(page.read_text().splitlines()) > most)
+    for page, most in ((readme, 90), (headline, 40)):
+        yield from [f"{page} has more than {most} lines"] * (page.read_text().count("\n") > most)
+    if '"##' in (ROOT / "explorer/index.html").read_text():
+        yield 'explorer/index.html: no text of a program can have "##'
+
+
+def definition_faults():
+    """Yields the definitions without a comment that a public clause may name."""
+    for crate in kit.crates():
+        rows = (it for it in definitions(crate) if not it[0].startswith("Private"))
+        yield from (f"{crate}/specs/{module}: {name} has no comment" for module, name, comment in rows if not comment)
 
 
 def link_faults():
@@ -235,7 +231,7 @@ def link_faults():
 
 def version_faults():
     """Yields the places that have another version than CHANGELOG.md."""
-    version = re.search(r"^## ([\w.-]+)", (ROOT / "CHANGELOG.md").read_text(), re.M)[1]
+    version = kit.version()
     number = "".join(f"{int(it):02x}" for it in re.findall(r"\d+", version))
     places = {f"crates/{it}": version for it in PROGRAMS}
     places |= {"ffi/warg.h": f"0x{number}", "crates/warg_ffi/src/lib.rt": f"0x{number[:4]}_{number[4:]}"}
@@ -260,7 +256,7 @@ def header_faults():
 def known_words():
     """Returns every name that a document may speak of: modules, crates, definitions, types, calls, fields, clause labels."""
     words = {path.stem for path in CRATES.rglob("*.rt")} | {path.name for path in CRATES.iterdir()}
-    words |= {name for _, module, name in definitions.definitions() for name in (module, name)}
+    words |= {name for crate in kit.crates() for module, name, _ in definitions(crate) for name in (module, name)}
     named = r"\b(?:fn|struct|enum|trait|type|mod|const|macro_rules!|ghost|(?:ensures|requires)\*?) (\w+)|^\s+(?:pub )?(\w+)(?:,|\(|:| \{)"
     for path in CRATES.glob("*/src/**/*.rt"):
         words |= {it for found in re.findall(named, path.read_text(), re.M) for it in found}
@@ -270,9 +266,9 @@ def known_words():
 def labels():
     """Returns the labels of the clauses of the calls of each name, in every library."""
     found = {}
-    for path in CRATES.glob("warg_*/src/**/*.rt"):
-        for name, rest in re.findall(r"\bfn (\w+)(.*?)(?=\n\s*(?:pub )?(?:const )?fn |\Z)", path.read_text(), re.S):
-            found.setdefault(name, set()).update(re.findall(r"\b(?:ensures|requires)\*? (\w+)", rest))
+    for text in (it.read_text() for it in CRATES.glob("warg_*/src/**/*.rt")):
+        for call in items.functions(text, ""):
+            found.setdefault(call.name, set()).update(re.findall(r"\b(?:ensures|requires)\*? (\w+)", text[call.start : call.body]))
     return found
 
 
@@ -289,14 +285,17 @@ def proved_faults():
 
 
 def main():
-    faults = []
-    for page, made in made_pages():
-        if "--check" not in sys.argv:
+    if "--definitions" in sys.argv:
+        sys.exit(print("".join(definitions_page()), end=""))
+    if "--check" not in sys.argv:
+        for page, made in made_pages():
             page.write_text(made)
-        elif page.read_text() != made:
-            faults.append(f"{page.relative_to(ROOT)}: not as the sources have it: run scripts/pages.py")
-    faults += [*code_faults(), *link_faults(), *version_faults(), *header_faults(), *proved_faults()]
-    sys.exit("\n".join(faults) if "--check" in sys.argv and faults else 0)
+        return
+    stale = (page.relative_to(ROOT) for page, made in made_pages() if page.read_text() != made)
+    faults = [f"{page}: not as its sources have it: run scripts/pages.py" for page in stale]
+    for part in (code_faults, definition_faults, link_faults, version_faults, header_faults, proved_faults):
+        faults += part()
+    sys.exit("\n".join(faults) or 0)
 
 
 if __name__ == "__main__":

@@ -11,13 +11,12 @@ With names, proves these crates and what they stand on, keeps nothing of a proof
 library is built with its statements, which the crates above it read faster than its proofs. What is unchanged since such
 a run, with all below it, isn't proved again. What the prover notes of a crate that came out is shown with --notes alone.
 
-Usage: prove_all.py [--json FILE] [--cpu CPU] [--notes] [NAME..]
+Usage: prove_all.py [--cpu CPU] [--notes] [NAME..]
 """
 
 import argparse
 import concurrent.futures
 import hashlib
-import json
 import os
 import pathlib
 import re
@@ -30,19 +29,15 @@ import kit
 
 # A proof that rests on nothing but the logic and what this run has proved: no handle, no C function of ours, no bug.
 VERDICT = re.compile(
-    r"logic=proved functions=\d+( axioms=\d+ target=\S+ cpu=\S+)? sum=\w+ native=nat,char,string logic-built=trusted libraries-built=trusted statements=trusted( incremental=trusted)?"
-)
+    r"logic=proved functions=\d+( axioms=\d+ target=\S+ cpu=\S+)? sum=\w+ native=nat,char,string logic-built=trusted"
+    r" libraries-built=trusted statements=trusted( incremental=trusted)?")
 # Proved by make bench alone, since the gate times nothing: here it has to compile.
 UNPROVED = ("warg_bench",)
 # Made by both of the kit's compilers, all other programs by LLVM alone.
 BOTH = ("warg_check_cli",)
-# The bytes that a proof takes at most.
-ROOM = 1 << 32
-SECONDS = 600
-KEPT = ["--incremental", "out/incremental"]
+# The bytes that a proof takes at most, and the seconds of a run.
+ROOM, SECONDS = 1 << 32, 600
 TOOLCHAIN = ["--toolchain", f"{kit.KIT}/toolchain"]
-# What a proof reads of a crate.
-PARTS = ("src", "specs", "proofs")
 
 
 class Failed(Exception):
@@ -54,7 +49,7 @@ def sum_of(name, listed):
     read = [(kit.KIT / "KIT-ID").read_bytes()]
     for each in [*kit.below(name, listed), name]:
         folder = kit.ROOT / "crates" / each
-        files = sorted(it for part in PARTS for it in folder.glob(f"{part}/**/*") if it.is_file())
+        files = sorted(it for part in kit.PARTS for it in folder.glob(f"{part}/**/*") if it.is_file())
         read += [each, listed[each], *((str(it.relative_to(folder)), it.read_bytes()) for it in files)]
     return hashlib.sha256(repr(read).encode()).hexdigest()
 
@@ -65,118 +60,86 @@ class Crate:
     def __init__(self, name, is_named=False, cpu=None):
         self.name, self.folder, self.is_named = name, kit.ROOT / "crates" / name, is_named
         self.seconds, self.said = {"proof": 0.0, "tests": 0.0}, []
-        self.is_program = kit.is_program(name)
+        self.is_program, self.is_static = kit.is_program(name), kit.is_static(name)
         self.has_tests = any("#[test]" in it.read_text() for it in self.folder.glob("src/**/*.rt"))
-        self.is_of_tests = self.has_tests and not (self.folder / "proofs").is_dir()
         # A library that other crates stand on is the same for each processor.
-        self.cpu = ["--cpu", cpu] if cpu and (self.is_program or kit.is_static(name)) else []
+        self.cpu = ["--cpu", cpu] if cpu and (self.is_program or self.is_static) else []
         self.libraries = "out/proved" if is_named else "out/rlib"
-        self.kept = [] if is_named else KEPT
+        self.kept = [] if is_named else ["--incremental", "out/incremental"]
+        built = "out/proved/" if is_named else "out/"
+        self.product = f"{self.libraries}/{name}.rlib"
+        if self.is_program or self.is_static:
+            self.product = built + (name if self.is_program else f"lib{name}.a")
+        # Where a run by name writes what it has proved, and that.
+        self.stamp, self.told = self.folder / self.libraries / "sum", " ".join([sum_of(name, kit.crates()), *self.cpu])
 
-    @property
-    def product(self):
-        """What a build of the crate leaves, in the crate's folder."""
-        if not self.is_program and not kit.is_static(self.name):
-            return f"{self.libraries}/{self.name}.rlib"
-        return ("out/proved/" if self.is_named else "out/") + (self.name if self.is_program else f"lib{self.name}.a")
+    def is_proved(self):
+        """Whether a run by name has proved the crate as it is, and left what it built."""
+        return self.stamp.is_file() and self.stamp.read_text() == self.told and (self.folder / self.product).exists()
 
-    def call(self, part, words, **how):
-        """Runs a command in the crate's folder. Returns its status and what it prints."""
-        with tempfile.TemporaryFile() as out:
-            how = {"cwd": self.folder, "stdin": subprocess.DEVNULL, "stdout": out, "stderr": subprocess.STDOUT, **how}
-            ran = subprocess.Popen([str(it) for it in words], **how)
-            _, status, used = os.wait4(ran.pid, 0)
-            ran.returncode = os.waitstatus_to_exitcode(status)
-            self.seconds[part] += used.ru_utime + used.ru_stime
-            out.seek(0)
-            return ran.returncode, out.read()
-
-    def done(self, part, words):
-        """Runs a command of the kit, which has to come out. Returns what it prints."""
-        status, said = self.call(part, words)
-        self.said.append(said.decode(errors="replace"))
-        if status:
+    def done(self, part, words, well="", **how):
+        """Runs a command in the crate's folder, which has to come out, or to say so. Returns what it prints."""
+        status, said, seconds = kit.call(words, self.folder, **how)
+        self.seconds[part] += seconds
+        self.said.append(said)
+        if well not in said if well else status:
             raise Failed(f"status {status} of {pathlib.Path(words[0]).name} {words[1]}")
-        return self.said[-1]
+        return said
 
     def build(self, *more):
         """Proves the crate and builds it. The verdict has to rest on no more than it may."""
         # Of a crate with wrong bodies, the script that tries these looks for empty contracts, over the work that is kept.
         looks = [] if self.is_named or (self.folder / "wrong-bodies").is_dir() else ["--empty-contracts"]
-        said = self.done("proof", [kit.RATTLE, "build", *kit.words(self.name, self.libraries), "--jobs", "1", "--links", f"{self.name}=", *looks, *more])
+        words = [kit.RATTLE, "build", *kit.words(self.name, self.libraries), "--jobs", "1", "--links", f"{self.name}="]
+        said = self.done("proof", [*words, *looks, *self.kept, *self.cpu, *more])
         if kit.EMPTY.search(said):
             raise Failed("a contract that no call can meet")
-        verdict = re.search(r"^logic=.*$", said, re.M)
-        if not verdict or not VERDICT.fullmatch(verdict[0]):
-            raise Failed(f"a verdict that may rest on more: {verdict and verdict[0]}")
-
-    def link(self, program):
-        words = ["--target", "x86_64-unknown-linux-gnu", *TOOLCHAIN, "-o", program, f"{program}.o"]
-        self.done("proof", [kit.KIT / "bin/rattle-link", *words, kit.KIT / "c/libos_c.a", kit.KIT / "c/liblibc_c.a"])
-
-    @property
-    def stamp(self):
-        """Where a run by name writes what it has proved."""
-        return self.folder / self.libraries / "sum"
-
-    def is_proved(self):
-        """Whether a run by name has proved the crate as it is, and left what it built."""
-        told = " ".join([sum_of(self.name, kit.crates()), *self.cpu])
-        return self.stamp.is_file() and self.stamp.read_text() == told and (self.folder / self.product).exists()
+        verdicts = re.findall("^logic=.*", said, re.M)
+        if len(verdicts) != 1 or not VERDICT.fullmatch(verdicts[0]):
+            raise Failed(f"a verdict that may rest on more: {verdicts}")
 
     def prove(self):
         """Proves the crate, and builds and runs what it has."""
         (self.folder / self.libraries).mkdir(parents=True, exist_ok=True)
         self.stamp.unlink(missing_ok=True)
         if self.name in UNPROVED and not self.is_named:
-            self.compile()
+            # The prover looks for the function that it is to prove only where the crate compiles.
+            words = [kit.RATTLE, "check", *kit.words(self.name), "--start", "no function"]
+            self.done("proof", words, f"`{self.name}` has no function `no function`")
         elif self.is_program:
-            self.prove_program()
-        elif kit.is_static(self.name):
-            self.build(*TOOLCHAIN, *self.kept, *self.cpu, "-o", self.product)
-        elif not self.is_of_tests:
-            self.build(*(self.kept or ["--statements"]), "-o", self.product)
+            for backend in ("rattle", "llvm") if self.name in BOTH and not self.is_named else ("llvm",):
+                self.build("--backend", backend, *TOOLCHAIN, "-o", f"{self.product}.o")
+                words = ["--target", "x86_64-unknown-linux-gnu", *TOOLCHAIN, "-o", self.product, f"{self.product}.o"]
+                self.done("proof", [kit.KIT / "bin/rattle-link", *words, kit.KIT / "c/libos_c.a", kit.KIT / "c/liblibc_c.a"])
+                self.run(backend)
+        elif self.is_static:
+            self.build(*TOOLCHAIN, "-o", self.product)
+        elif not self.has_tests or (self.folder / "proofs").is_dir():
+            self.build(*(["--statements"] if self.is_named else []), "-o", self.product)
         if self.has_tests and not self.is_named:
-            self.run_tests()
+            # The kit's interpreter, which is far slower than what is compiled, takes no more than the first steps.
+            said = self.done("tests", ["rt", "try", "--test", "--steps", "100000", "--seconds", SECONDS])
+            print(f"{self.name}: " + next(it for it in said.splitlines() if it.startswith("test result:")), flush=True)
         if self.is_named:
-            self.stamp.write_text(" ".join([sum_of(self.name, kit.crates()), *self.cpu]))
+            self.stamp.write_text(self.told)
 
-    def compile(self):
-        """Looks whether the crate compiles: the prover looks for the function that it is to prove only then."""
-        _, said = self.call("proof", [kit.RATTLE, "check", *kit.words(self.name), "--start", "no function"])
-        self.said.append(said.decode(errors="replace"))
-        if f"`{self.name}` has no function `no function`" not in self.said[-1]:
-            raise Failed("it does not compile")
-
-    def run_tests(self):
-        said = self.done("tests", kit.words_of_a_try(self.name, SECONDS))
-        print(f"{self.name}: " + next(it for it in said.splitlines() if it.startswith("test result:")), flush=True)
-
-    def prove_program(self):
-        for backend in ("rattle", "llvm") if self.name in BOTH and not self.is_named else ("llvm",):
-            self.build("--backend", backend, *TOOLCHAIN, *self.kept, *self.cpu, "-o", f"{self.product}.o")
-            self.link(self.product)
-            self.run(self.product, backend)
-
-    def text(self, name):
-        file = self.folder / name
-        return file.read_text() if file.is_file() else ""
-
-    def run(self, program, backend):
+    def run(self, backend):
         """Runs the program where its data lie. It has to print what it should, and to end with its status."""
+        args, stdout, wanted = (it.read_text() if it.is_file() else "" for it in map(self.folder.joinpath, ("args", "stdout", "status")))
         with tempfile.TemporaryDirectory(prefix="warg-run-") as room:
             if (self.folder / "data").is_dir():
                 shutil.copytree(self.folder / "data", room, dirs_exist_ok=True)
-            words = ["timeout", str(SECONDS), self.folder / program, *self.text("args").splitlines()]
-            with open(self.folder / "stdin" if self.text("stdin") else os.devnull, "rb") as given:
-                status, printed = self.call("tests", words, cwd=room, stdin=given, stderr=subprocess.DEVNULL)
-        if printed.decode(errors="replace") != self.text("stdout") or status != int(self.text("status") or 0):
+            words = ["timeout", str(SECONDS), self.folder / self.product, *args.splitlines()]
+            with open(self.folder / "stdin" if (self.folder / "stdin").is_file() else os.devnull, "rb") as given:
+                status, printed, seconds = kit.call(words, room, stdin=given, stderr=subprocess.DEVNULL)
+        self.seconds["tests"] += seconds
+        if printed != stdout or status != int(wanted or 0):
             raise Failed(f"as {backend} makes it, the program prints something else, or ends with another status: {status}")
 
-
-def spent(seconds):
-    """Returns how much processor time something took, as a text."""
-    return f"{seconds / 60:.0f} min" if seconds >= 60 else f"{seconds:.0f} s"
+    def took(self):
+        """Returns how much processor time the proof, and the tests and runs took, as a text."""
+        shown = {part: f"{it / 60:.1f} min" if it >= 60 else f"{it:.0f} s" for part, it in self.seconds.items()}
+        return shown["proof"] + (f", its tests {shown['tests']}" if self.seconds["tests"] >= 1 else "")
 
 
 def prove_all(crates, jobs, notes=False):
@@ -194,7 +157,7 @@ def prove_all(crates, jobs, notes=False):
                 why = str(failed)
         with printing:
             ended.append(crate)
-            print(f"{len(ended)} of {len(crates)}, {crate.name}, {why or spent(sum(crate.seconds.values()))}", flush=True)
+            print(f"{len(ended)} of {len(crates)}, {crate.name}, {why or crate.took()}", flush=True)
             print("".join(crate.said if notes else crate.said[-1:] if why else []), end="", flush=True)
         return not why
 
@@ -206,7 +169,6 @@ def prove_all(crates, jobs, notes=False):
 
 def main():
     asked = argparse.ArgumentParser()
-    asked.add_argument("--json", type=pathlib.Path, help="where to write the processor seconds of each crate")
     asked.add_argument("--cpu", help="the processor that programs are built for")
     asked.add_argument("--notes", action="store_true", help="show what the prover notes")
     asked.add_argument("names", nargs="*", metavar="NAME", help="a crate")
@@ -221,8 +183,6 @@ def main():
         what = f"{len(crates)} of {count} crates are to be proved, {jobs} at a time" if crates else f"all {count} crates are proved"
         print(f"{', '.join(asked.names)}: {what}", flush=True)
     well = prove_all(crates, jobs, asked.notes)
-    if asked.json:
-        asked.json.write_text(json.dumps({it.name: it.seconds for it in crates}))
     if not asked.names or len(well) < len(crates):
         print(f"crates: {len(well)} ok, {len(crates) - len(well)} failed")
     raise SystemExit(len(well) < len(crates))

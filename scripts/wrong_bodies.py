@@ -9,37 +9,31 @@ proof files, of the function that it changes, or of one in a cycle of calls with
 for a callee, lacks a name or was cut off goes to the next round. An edit that changes more than one function's body goes
 alone, and so does each that no round has judged. What is still let through fails.
 
-A crate is first proved without any edit, into a folder that each round starts from a copy of. Of a program, which has
-few edits, only the functions that they change and those below them are checked.
+A crate whose check has kept nothing is first proved without any edit, into a folder that each round starts from a copy of.
+Of a program, which has few edits, only the functions that they change and those below them are checked.
 
 The edits in wrong-bodies/planted change no meaning, and show that this script can fail: each must come out as let
 through, and one named waits_* must wait, in its first round, for the broken function that it calls.
 
-Usage: wrong_bodies.py [--build] [--crate NAME] [--only WORD] [--json FILE]
+Usage: wrong_bodies.py [--crate NAME] [--only WORD]
 """
 
 import argparse
 import collections
 import concurrent.futures
 import dataclasses
-import json
 import os
 import pathlib
 import re
 import shutil
-import subprocess
 import sys
 import tempfile
 import time
 
-import functions
+import items
 import kit
 
-PARTS = ("src", "specs", "proofs")
 RENAMED = "its goals have other names"
-# more seconds than a wrong body should take
-SLOW = 20
-PROGRESS = re.compile(r"checked (\S+), \d+ of \d+$")
 WAITS = re.compile(r"which (is|are) not proved")
 CYCLE = re.compile(r"#\[cycle\((\w+)\)\]\s*(?:#\[[^\n]*\]\s*|//[^\n]*\n\s*)*(?:pub(?:\(\w+\))? )?\Z")
 LACKS_A_GOAL = re.compile(r"^(?:\./)?proofs/(\S+)/\w+\.antt:\d+:\d+: error: `[^`]+`: `goal\.([^`]+)`: module", re.M)
@@ -49,18 +43,14 @@ LACKS_A_NAME = re.compile(r"has no field|is not in scope|has no `|was not admitt
 
 @dataclasses.dataclass(eq=False)
 class Edit:
-    """A wrong body: its pairs of texts by file, the one function that it changes, if it is one, those that have one proof
-    with it, itself first, and the words of its goals' names that it changes, by the folder of the answers."""
+    """A wrong body: its pairs of texts by file, the functions that have one proof with the one that it changes, if it is one,
+    itself first, the words of its goals' names that it changes, by the folder of the answers, and what its rounds told."""
 
     path: pathlib.Path
     pairs: list
-    function: str = ""
-    proved_with: tuple = ()
+    functions: list = ()
     renamed: set = dataclasses.field(default_factory=set)
-
-    @property
-    def name(self):
-        return self.path.stem
+    told: list = dataclasses.field(default_factory=list)
 
     @property
     def is_planted(self):
@@ -70,6 +60,25 @@ class Edit:
     def module(self):
         """The path of the module of the file that it changes."""
         return self.pairs[0][0].removeprefix("src/").removesuffix(".rt").replace("/", "::")
+
+    def names(self, known):
+        """Returns the whole names of its functions: by their ends, and by the edit's file where several end so."""
+        whole = []
+        for function in self.functions:
+            found = [it for it in known if f"::{it}".endswith(f"::{function}")]
+            if len(found) > 1:
+                found = [it for it in found if it.partition("::")[2].startswith(f"{self.module}::")]
+            whole += found if len(found) == 1 else []
+        return whole
+
+    def fault(self):
+        """Returns what is wrong with what its rounds told, or nothing."""
+        if not self.is_planted:
+            return "" if self.told[-1] == "refused" else f"LET THROUGH: {self.told[-1]}"
+        if self.told[-1] != "proved":
+            return f"planted, and not seen as let through: {self.told}"
+        waits = not self.path.stem.startswith("waits_") or self.told[0] == "waits"
+        return "" if waits else f"planted, and waits for no broken function in its first round: {self.told}"
 
 
 def read(path):
@@ -114,73 +123,21 @@ def rename(folder, before, old, new):
         file.write_text(names.sub(rf"\1-{new}", file.read_text()))
 
 
-def function_of(edit, texts, crate):
-    """Returns the end of the name of the one function that holds all of the edit's old texts outside its clauses, else none."""
-    found = set()
-    for file, old, _ in edit.pairs:
-        at = texts[file].find(old)
-        module = pathlib.Path(file).stem
-        module = crate if module in ("lib", "main") else module
-        around = [it for it in functions.functions(texts[file], module) if it.holds(at, at + len(old))]
-        found.add(f"{around[-1].owner}::{around[-1].name}" if around else "")
-    return found.pop() if len(found) == 1 else ""
-
-
-def cycles_of(texts, crate):
-    """Returns the functions of each cycle of calls, which have one proof, by the function."""
-    cycles = collections.defaultdict(list)
-    for file, text in texts.items():
-        module = pathlib.Path(file).stem
-        for it in functions.functions(text, crate if module in ("lib", "main") else module):
-            named = CYCLE.search(text[: it.start])
-            if named:
-                cycles[named[1]].append(f"{it.owner}::{it.name}")
-    return {it: [it, *(other for other in cycle if other != it)] for cycle in cycles.values() for it in cycle}
-
-
-def said_by(ran, stages):
-    """Returns what a check prints, whether it has named every function, and the seconds that each proof took, by the clock."""
-    lines, seconds, before = [], {}, time.monotonic()
-    for line in ran.stdout:
-        now = time.monotonic()
-        if ended := PROGRESS.match(line):
-            seconds[ended[1]] = now - before
-        lines.append(line)
-        before = now
-    return "".join(lines), stages.exists() and "stage lines" in stages.read_text(), seconds
-
-
-def names_of(edit, names):
-    """Returns the whole names of an edit's function, first, and of those that have one proof with it: by their ends, and by
-    the edit's file where several end so."""
-    whole = []
-    for function in edit.proved_with:
-        found = [it for it in names if f"::{it}".endswith(f"::{function}")]
-        if len(found) > 1:
-            found = [it for it in found if it.partition("::")[2].startswith(f"{edit.module}::")]
-        whole += found if len(found) == 1 else []
-    return whole
-
-
 class Check:
     """What the prover says of a copy of a crate with some edits."""
 
-    def __init__(self, said, has_named, seconds):
-        self.said, self.seconds = said, seconds
+    def __init__(self, said, is_whole):
+        self.said, self.is_whole = said, is_whole
         self.lines = dict(re.findall(r"^fn (\S+): (.*)$", said, re.M))
-        self.faults = collections.defaultdict(list)
-        for folder, fault in re.findall(r"^(?:\./)?proofs/(\S*?)/?\w+\.antt:\d+:\d+: error: (.*)$", said, re.M):
-            if not LACKS_A_NAME.search(fault):
-                self.faults[folder.replace("+", "")].append(fault)
+        found = re.findall(r"^(?:\./)?proofs/(\S*?)/?\w+\.antt:\d+:\d+: error: (.*)$", said, re.M)
+        self.faults = {folder.replace("+", "") for folder, fault in found if not LACKS_A_NAME.search(fault)}
         self.asked = {it.partition(": ")[0]: dict(ASKS.findall(it)) for it in re.split(r"^fn ", said, flags=re.M)[1:]}
-        self.is_whole = has_named
         self.is_proved = bool(re.search(r"^(logic=proved|only=(\d+) proved=\2$)", said, re.M))
 
     def is_broken(self, name):
         """Whether a function has an open goal of its own, or an error in its own proof that is no lack of a name."""
         said = self.lines.get(name, "proved")
-        own = "/".join(name.split("::")[1:])
-        return "did not prove" in said or not said.startswith("proved") and own in self.faults
+        return "did not prove" in said or not said.startswith("proved") and "/".join(name.split("::")[1:]) in self.faults
 
     def renamed(self, name):
         """Returns the words of the names that a function's answers lack, and for each the one that stands there now."""
@@ -192,30 +149,56 @@ class Check:
                 found.add((folder, *words))
         return found
 
+    def answer(self, edit, names, reached, is_alone):
+        """Returns what it says of an edit of these functions: refused, proved, or a word why it says nothing yet."""
+        said = self.lines[names[0]] if names else ""
+        if not self.is_whole:
+            return "unread: " + next((it for it in self.said.splitlines() if "error" in it), "")[:200]
+        if any(map(self.is_broken, names)) or is_alone and (reached or not edit.functions and self.faults):
+            return "refused"
+        if said.startswith("proved") or is_alone and self.is_proved:
+            return "proved"
+        if names and self.renamed(names[0]) - edit.renamed:
+            edit.renamed |= self.renamed(names[0])
+            return RENAMED
+        return "waits" if WAITS.search(said) else f"unjudged: {said[:200]}"
+
 
 class Crate:
     """A crate whose wrong bodies are tried, over a copy of the work that its proof has left."""
 
-    def __init__(self, name):
-        self.name = name
-        self.folder = kit.ROOT / "crates" / name
-        self.kept = self.folder / "out/incremental"
-        self.scope, self.functions = [], []
+    def __init__(self, name, only):
+        self.name, self.folder = name, kit.ROOT / "crates" / name
+        self.kept, self.seconds, self.checks, self.known = self.folder / "out/incremental", 0.0, 0, []
         self.texts = {str(it.relative_to(self.folder)): it.read_text() for it in sorted(self.folder.glob("src/**/*.rt"))}
-        self.cycles = cycles_of(self.texts, name)
-        self.seconds, self.checks, self.refused, self.took, self.faults = 0.0, 0, {}, {}, []
+        self.functions, cycles = {}, collections.defaultdict(list)
+        for file, text in self.texts.items():
+            module = pathlib.Path(file).stem
+            found = items.functions(text, name if module in ("lib", "main") else module)
+            self.functions[file] = [(it, f"{it.owner}::{it.name}") for it in found if it.body < it.end]
+            for it, named in self.functions[file]:
+                for cycle in CYCLE.findall(text[: it.start]):
+                    cycles[cycle].append(named)
+        found = [read(it) for it in sorted([*self.folder.glob("wrong-bodies/**/*.edit"), *self.folder.glob("must-fail/*.edit")])]
+        # Those that are planted come first, into the round of what they wait for.
+        self.found = sorted((it for it in found if only in it.path.stem), key=lambda it: not it.is_planted)
+        self.edits = [it for it in self.found if applied(it, self.texts)]
+        for edit in self.edits:
+            own = self.function_of(edit)
+            edit.functions = [own, *(it for cycle in cycles.values() if own in cycle for it in cycle if it != own)] if own else []
+        changed = [it.functions[0] if it.functions else "" for it in self.edits]
+        self.scope = [word for it in changed for word in ("--only", it)] if "src/main.rt" in self.texts else []
 
-    def edits(self, only):
-        files = [*self.folder.glob("wrong-bodies/**/*.edit"), *self.folder.glob("must-fail/*.edit")]
-        found = [read(it) for it in sorted(files) if only in it.stem]
-        # into the round of what they wait for
-        found.sort(key=lambda it: not it.is_planted)
-        fitting = [it for it in found if applied(it, self.texts)]
-        for edit in fitting:
-            edit.function = function_of(edit, self.texts, self.name)
-            edit.proved_with = tuple(self.cycles.get(edit.function, [edit.function] if edit.function else []))
-        self.faults += [f"{it.name}: an old text doesn't stand exactly once in its file" for it in found if it not in fitting]
-        return fitting
+    def function_of(self, edit):
+        """Returns the end of the name of the one function that holds all of the edit's old texts outside its clauses, or none."""
+        found = set()
+        for file, old, _ in edit.pairs:
+            at = self.texts[file].find(old)
+            end = at + len(old)
+            around = [name for it, name in self.functions[file]
+                      if it.start <= at and end <= it.end and (end <= it.clauses or it.body <= at)]
+            found.add(around[-1] if around else "")
+        return found.pop() if len(found) == 1 else ""
 
     def check(self, edits, keeps=None, flags=()):
         """Checks a copy of the crate with these edits, over a copy of its kept work, or into a folder that keeps it."""
@@ -223,9 +206,8 @@ class Crate:
         for edit in edits:
             texts = applied(edit, texts)
         with tempfile.TemporaryDirectory(prefix="wrong-bodies-") as room:
-            for part in PARTS:
-                if (self.folder / part).is_dir():
-                    shutil.copytree(self.folder / part, f"{room}/{part}")
+            for part in filter(lambda it: (self.folder / it).is_dir(), kit.PARTS):
+                shutil.copytree(self.folder / part, f"{room}/{part}")
             for file, text in texts.items():
                 pathlib.Path(room, file).write_text(text)
             for folder, *words in {it for edit in edits for it in edit.renamed}:
@@ -233,148 +215,94 @@ class Crate:
             if not keeps:
                 shutil.copytree(self.kept, f"{room}/kept", copy_function=os.link)
             words = [kit.RATTLE, "check", *kit.words(self.name), *self.scope, "--jobs", "1", "--incremental", keeps or f"{room}/kept"]
-            words += ["--progress", "--stage-times", f"{room}/stages", *flags]
-            how = {"stdin": subprocess.DEVNULL, "stdout": subprocess.PIPE, "stderr": subprocess.STDOUT, "text": True, "errors": "replace"}
-            ran = subprocess.Popen(words, cwd=room, **how)
-            told = said_by(ran, pathlib.Path(room, "stages"))
-            _, _, used = os.wait4(ran.pid, 0)
-        self.seconds += used.ru_utime + used.ru_stime
-        self.checks += 1
-        return Check(*told)
+            _, said, seconds = kit.call([*words, "--stage-times", f"{room}/stages", *flags], room)
+            stages = pathlib.Path(room, "stages")
+            is_whole = stages.exists() and "stage lines" in stages.read_text()
+        self.seconds, self.checks = self.seconds + seconds, self.checks + 1
+        return Check(said, is_whole)
 
     def refused_of(self, edits):
         """Returns those of the edits that are refused where their functions alone are checked, and what these call: of one, or
         of several that a whole check has seen, so that none of them reaches further than its function."""
-        names = {it: names_of(it, self.functions) for it in edits}
-        if self.scope or not any(names.values()):
+        names = {it: it.names(self.known) for it in edits}
+        if self.scope or not any(names.values()) or any(it.is_planted for it in edits):
             return []
         checked = self.check(edits, flags=[word for own in names.values() for it in own for word in ("--only", it)])
-        refused = [it for it, own in names.items() if checked.is_whole and any(map(checked.is_broken, own))]
-        for edit in refused:
-            self.took[edit] = max(checked.seconds.get(it, 0) for it in names[edit])
-        return refused
+        return [it for it, own in names.items() if checked.is_whole and any(map(checked.is_broken, own))]
 
     def judge(self, edits):
-        """Checks a round, and returns what it says of each edit: refused, proved, or a word why it says nothing yet."""
+        """Checks a round, and notes what it tells of each edit."""
         checked = self.check(edits)
-        self.functions = [*checked.lines]
-        names = {it: names_of(it, checked.lines) for it in edits}
+        self.known = [*checked.lines]
+        names = {it: it.names(checked.lines) for it in edits}
         reached = [it for it in checked.lines if checked.is_broken(it) and not any(it in own for own in names.values())]
         if len(edits) > 1 and (reached or not checked.is_whole):
             half = len(edits) // 2
-            return {**self.judge(edits[:half]), **self.judge(edits[half:])}
-        answers = {}
+            self.judge(edits[:half])
+            self.judge(edits[half:])
+            return
         for edit, own in names.items():
-            said = checked.lines[own[0]] if own else ""
-            self.took[edit] = max([checked.seconds.get(it, 0) for it in own], default=0)
-            if not checked.is_whole:
-                answers[edit] = "unread: " + next((it for it in checked.said.splitlines() if "error" in it), "")[:200]
-            elif any(map(checked.is_broken, own)) or len(edits) == 1 and (reached or not edit.function and checked.faults):
-                answers[edit] = "refused"
-            elif said.startswith("proved") or len(edits) == 1 and checked.is_proved:
-                answers[edit] = "proved"
-            elif own and checked.renamed(own[0]) - edit.renamed:
-                edit.renamed |= checked.renamed(own[0])
-                answers[edit] = RENAMED
-            else:
-                answers[edit] = "waits" if WAITS.search(said) else "unjudged: " + said[:200]
-        return answers
+            edit.told.append(checked.answer(edit, own, reached, len(edits) == 1))
 
-    def fitting(self, edits, told):
+    def fitting(self, edits):
         """Returns as many of the edits as fit into one round, one a function at most. What two rounds left goes alone."""
         taken, seen, texts = [], set(), self.texts
         for edit in edits:
-            is_new = edit.function and len(told[edit]) < 2
-            proof, changed = (edit.module, frozenset(edit.proved_with)), applied(edit, texts)
-            if is_new and proof not in seen and changed:
+            proof, changed = (edit.module, frozenset(edit.functions)), applied(edit, texts)
+            if edit.functions and len(edit.told) < 2 and proof not in seen and changed:
                 texts = changed
                 seen.add(proof)
                 taken.append(edit)
         return taken or edits[:1]
 
-    def try_all(self, only, room):
+    def try_all(self, room):
         """Proves the crate, unless a check has kept that work, tries the edits in rounds, until each is judged, and then
-        the crate without any."""
-        edits = self.edits(only)
-        if "src/main.rt" in self.texts:
-            self.scope = [it for edit in edits for it in ("--only", edit.function)]
+        the crate without any. Returns its faults."""
         if not self.kept.is_dir():
             self.kept = pathlib.Path(room, self.name)
             self.kept.mkdir()
             self.check([], keeps=self.kept)
-            print(f"{self.name}: proved in {self.seconds:.0f} processor seconds", flush=True)
-        left, told, number = list(edits), collections.defaultdict(list), 0
+        left = [*self.edits]
         while left:
-            number += 1
-            taken = self.fitting(left, told)
-            is_clear = len(taken) == 1 or all(told[it] for it in taken)
-            refused = self.refused_of(taken) if is_clear and not any(it.is_planted for it in taken) else []
+            taken = self.fitting(left)
+            refused = self.refused_of(taken) if len(taken) == 1 or all(it.told for it in taken) else []
+            for edit in refused:
+                edit.told.append("refused")
             rest = [it for it in taken if it not in refused]
-            answers = {it: "refused" for it in refused} | (self.judge(rest) if rest else {})
-            for edit, answer in answers.items():
-                alone = len(rest) == 1
-                told[edit].append(answer)
-                if answer == "refused":
-                    self.refused[edit] = number
-                if answer == "refused" or alone and answer != RENAMED or edit.is_planted and answer == "proved":
-                    left.remove(edit)
-            for edit in rest if len(rest) == 1 else []:
-                print(f"{self.name}: {edit.name}: {answers[edit]}", flush=True)
-            refused = list(answers.values()).count("refused")
-            print(f"{self.name}: round {number}: {refused} of {len(taken)} refused, {self.seconds:.0f} processor seconds so far", flush=True)
+            if rest:
+                self.judge(rest)
+            ended = [it for it in taken if it.told[-1] == "refused" or it.is_planted and it.told[-1] == "proved"]
+            ended += rest if len(rest) == 1 and rest[0].told[-1] != RENAMED else []
+            left = [it for it in left if it not in ended]
         whole = self.check([], flags=["--empty-contracts"])
-        if not whole.is_proved:
-            self.faults.append("the crate without an edit isn't proved over the same work")
-        self.faults += [f"a contract that no call can meet: {it}" for it in kit.EMPTY.findall(whole.said)]
-        for edit in edits:
-            self.faults += fault_of(edit, told[edit], edit in self.refused)
-        return edits
+        faults = [f"{it.path.stem}: an old text doesn't stand exactly once in its file" for it in self.found if it not in self.edits]
+        faults += [] if whole.is_proved else ["the crate without an edit isn't proved over the same work"]
+        faults += [f"a contract that no call can meet: {it}" for it in kit.EMPTY.findall(whole.said)]
+        faults += [f"{it.path.stem}: {it.fault()}" for it in self.edits if it.fault()]
+        wrong = [it for it in self.edits if not it.is_planted]
+        print(f"{self.name}: {self.refused()} of {len(wrong)} wrong bodies refused, {len(self.edits) - len(wrong)} planted,"
+              f" {self.checks} checks, {self.seconds / 60:.1f} min", *(f"FAILED {self.name}: {it}" for it in faults), sep="\n", flush=True)
+        return faults
 
-
-def fault_of(edit, told, refused):
-    """Returns what is wrong with what was told of an edit in its rounds, in a list of none or one."""
-    if not edit.is_planted:
-        return [] if refused else [f"{edit.name}: LET THROUGH: {told[-1]}"]
-    if refused or told[-1] != "proved":
-        return [f"{edit.name}: planted, and not seen as let through: {told}"]
-    if edit.name.startswith("waits_") and told[0] != "waits":
-        return [f"{edit.name}: planted, and waits for no broken function in its first round: {told}"]
-    return []
+    def refused(self):
+        """Returns how many of the edits are refused."""
+        return sum(it.told[-1] == "refused" for it in self.edits)
 
 
 def main():
     asked = argparse.ArgumentParser()
-    asked.add_argument("--build", action="store_true", help="check each crate first, and start from the work in its out/")
     asked.add_argument("--crate", action="append", default=[])
     asked.add_argument("--only", default="")
-    asked.add_argument("--json", type=pathlib.Path, help="where to write the processor seconds of each crate")
     asked = asked.parse_args()
-    crates = [Crate(it) for it in kit.crates() if any((kit.ROOT / "crates" / it / part).is_dir() for part in ("wrong-bodies", "must-fail"))]
-    crates = [it for it in crates if not asked.crate or it.name in asked.crate]
-    crates.sort(key=lambda it: -len(list(it.folder.glob("wrong-bodies/*.edit"))))
-    for crate in crates if asked.build else []:
-        ran = subprocess.run(["rt", "check"], cwd=crate.folder, stdout=subprocess.PIPE, stderr=subprocess.STDOUT, text=True)
-        if ran.returncode:
-            sys.exit(f"{ran.stdout}\n{crate.name} isn't proved as it stands")
+    crates = [Crate(it, asked.only) for it in kit.crates() if it in (asked.crate or kit.crates())]
+    crates = sorted((it for it in crates if it.found), key=lambda it: -len(it.edits))
     began = time.monotonic()
     with tempfile.TemporaryDirectory(prefix="wrong-bodies-kept-") as room:
         with concurrent.futures.ThreadPoolExecutor(len(os.sched_getaffinity(0))) as pool:
-            tried = dict(zip(crates, pool.map(lambda it: it.try_all(asked.only, room), crates)))
-    for crate, edits in tried.items():
-        wrong = [it for it in edits if not it.is_planted]
-        by_round = collections.Counter(crate.refused.values())
-        shown = ", ".join(f"{count} in round {number}" for number, count in sorted(by_round.items()))
-        print(f"{crate.name}: {len(crate.refused)} of {len(wrong)} wrong bodies refused ({shown}), {len(edits) - len(wrong)} planted, {crate.checks} checks, {crate.seconds:.0f} processor seconds", flush=True)
-        for edit, seconds in sorted(crate.took.items(), key=lambda it: -it[1]):
-            if seconds > SLOW and not edit.is_planted:
-                print(f"{crate.name}: {edit.name} took {seconds:.0f} seconds to refuse", flush=True)
-        for fault in crate.faults:
-            print(f"FAILED {crate.name}: {fault}", flush=True)
-    passed, failed = sum(len(it.refused) for it in crates), sum(len(it.faults) for it in crates)
-    if asked.json:
-        asked.json.write_text(json.dumps({it.name: it.seconds for it in crates}))
-    print(f"wrong bodies: {passed} refused, {failed} failed, {time.monotonic() - began:.0f} seconds", flush=True)
-    sys.exit(1 if failed else 0)
+            failed = sum(map(len, pool.map(lambda it: it.try_all(room), crates)))
+    refused, seconds = sum(it.refused() for it in crates), time.monotonic() - began
+    print(f"wrong bodies: {refused} refused, {failed} failed, {seconds:.0f} seconds")
+    sys.exit(bool(failed))
 
 
 if __name__ == "__main__":

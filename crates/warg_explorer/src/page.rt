@@ -1,4 +1,4 @@
-//! The page's text. Made by `scripts/explorer_page.py` from `explorer/index.html`.
+//! The page's text. Made by `scripts/pages.py` from `explorer/index.html`.
 
 /// A page of HTML that shows a log's folder in a browser, and checks what it shows. It stands in the folder.
 pub const PAGE: &str = r##"<!doctype html>

@@ -1,4 +1,4 @@
-"""The functions of a source file: where each body stands, and the end of the name by which a check knows it."""
+"""The functions of a source file: where each one's clauses and body stand, and the end of the name by which a check knows it."""
 
 import dataclasses
 import re
@@ -10,19 +10,16 @@ BLOCK = re.compile(r"^[ \t]*(?:pub(?:\(\w+\))? )?(?:unsafe )?(impl|trait)\b([^{}
 
 @dataclasses.dataclass(frozen=True)
 class Function:
-    """A function of a file: its name, its module or its type and trait, and where it begins, its clauses begin, its
-    body begins and it ends."""
+    """A function of a file: its name, its module or its type and trait, whether it stands in a trait, and where it begins, its
+    clauses begin, its body begins and it ends. One that a trait declares has no body."""
 
     name: str
     owner: str
+    is_of_trait: bool
     start: int
     clauses: int
     body: int
     end: int
-
-    def holds(self, start, end):
-        """Whether a part of the text lies in this function, and not in a clause."""
-        return self.start <= start and end <= self.end and (end <= self.clauses or self.body <= start)
 
 
 def blanked(text):
@@ -33,10 +30,10 @@ def blanked(text):
 def closing(text, at):
     """Returns the place behind the brace that closes the one at a place."""
     depth = 0
-    for place in range(at, len(text)):
-        depth += (text[place] == "{") - (text[place] == "}")
+    for it in re.compile("[{}]").finditer(text, at):
+        depth += 1 if it[0] == "{" else -1
         if not depth:
-            return place + 1
+            return it.end()
     return len(text)
 
 
@@ -77,51 +74,41 @@ def word_of(kind, parameters):
 def owner_of(kind, header):
     """Returns the word for an impl's type and trait, or for a trait."""
     header = re.split(r"\bwhere\b", " ".join(header.split()))[0].strip()
-    parameters = []
-    if header.startswith("<"):
-        depth = at = 0
-        for at, mark in enumerate(header):
-            depth += (mark == "<") - (mark == ">" and header[at - 1] != "-")
-            if not depth:
-                break
-        parameters = [re.sub(r"^const ", "", it).split(":")[0].split("=")[0].strip() for it in parted(header[1:at], ",")]
-        header = header[at + 1 :].strip()
     if kind == "trait":
         return re.match(r"\w+", header)[0]
+    parameters, depth = [], 0
+    for at, mark in enumerate(header if header.startswith("<") else ""):
+        depth += (mark == "<") - (mark == ">" and header[at - 1] != "-")
+        if not depth:
+            parameters = [re.sub(r"^const ", "", it).split(":")[0].split("=")[0].strip() for it in parted(header[1:at], ",")]
+            header = header[at + 1 :].strip()
+            break
     trait, _, of = header.rpartition(" for ")
     return word_of(of, parameters) + (word_of(trait, parameters) if trait not in ("", "Drop") else "")
 
 
 def body_of(text, at):
-    """Returns where the clauses begin, the body begins and the function ends whose name ends at a place, or None where
-    it has no body."""
-    depth, since, clauses = 0, at, 0
-    place = at
-    while place < len(text):
-        mark = text[place]
-        depth += (mark in "([") - (mark in ")]")
-        if mark == ";" and not depth:
-            return None
-        if mark == "{" and not depth:
-            end = closing(text, place)
-            clause = CLAUSE.search(text[since:place])
-            if not clause:
-                return clauses or end, place, end
-            clauses = clauses or since + clause.start()
-            place = since = end
+    """Returns where the clauses begin, the body begins and the function ends whose name ends at a place."""
+    since, clauses = at, 0
+    for it in re.compile(r"[;{]").finditer(text, at):
+        at = it.start()
+        between = text[since:at]
+        if at < since or between.count("(") + between.count("[") > between.count(")") + between.count("]"):
             continue
-        place += 1
-    return None
+        clause = CLAUSE.search(between) if it[0] == "{" else None
+        if not clause:
+            end = closing(text, at) if it[0] == "{" else at
+            return clauses or end, at, end
+        clauses, since = clauses or since + clause.start(), closing(text, at)
+    return clauses or at, at, at
 
 
 def functions(text, module):
-    """Returns the functions of a file's text that have a body, in the file's order; a free one is known by its module."""
+    """Returns the functions of a file's text, in its order; a free one is known by its module."""
     text = blanked(text)
-    blocks = [(it.end() - 1, closing(text, it.end() - 1), owner_of(it[1], it[2])) for it in BLOCK.finditer(text)]
+    blocks = [(it.end() - 1, closing(text, it.end() - 1), it[1] == "trait", owner_of(it[1], it[2])) for it in BLOCK.finditer(text)]
     found = []
     for it in re.finditer(r"\bfn\s+(\w+)", text):
-        body = body_of(text, it.end())
-        around = [owner for start, end, owner in blocks if start < it.start() < end]
-        if body:
-            found.append(Function(it[1], around[-1] if around else module, it.start(), *body))
+        around = [block[2:] for block in blocks if block[0] < it.start() < block[1]] or [(False, module)]
+        found.append(Function(it[1], around[-1][1], around[-1][0], it.start(), *body_of(text, it.end())))
     return found
