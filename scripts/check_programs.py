@@ -26,7 +26,7 @@ FOLDER = kit.ROOT / "scripts/programs"
 # Whether what a part needs, as its title says, can be had here.
 TRACED = "strace -qq -o trace -e trace=mkdir -e inject=mkdir:error=EIO mkdir none; [ $? = 1 ]"
 MOUNTED = "mkdir m && truncate -s 9m i && mkfs.ext4 -q i && mount -o loop i m && umount m && mount -t tmpfs tmpfs m && umount m"
-NEEDS = {"(as root)": "[ $(id -u) = 0 ]", "(by strace)": TRACED, "(by mount)": MOUNTED}
+NEEDS = {"(as root)": "[ $(id -u) = 0 ]", "(by protoc)": "command -v protoc", "(by strace)": TRACED, "(by mount)": MOUNTED}
 # What each part begins with.
 GIVEN = """for i in {0..599}; do printf '%04x\\n' $i; done > entries; unhex $BUNDLE > proof.bundle
 warg_tlog init log example.com/log; warg_tlog append log < entries; cp -r log whole"""

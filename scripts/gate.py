@@ -14,7 +14,6 @@ import os
 import pathlib
 import re
 import resource
-import shutil
 import subprocess
 import sys
 import tempfile
@@ -37,41 +36,18 @@ BEHIND = {
     "what the programs can call": ["looks.py", *(f"{name}={BUILT[name]}" for name in [*BUILT][:3])],
     "the programs": ["check_programs.py", CHECK, VERDICT, TLOG, "warg_check", "warg_verdict", "warg_tlog"],
     "appends that are disturbed": ["check_programs.py", CHECK, VERDICT, TLOG, "disturbed", "power"],
-    "what an append forces to the disk": ["tlog_forced.py", TLOG],
-    "comparison with Google's protobuf": ["check_protobuf.py"],
+    "comparison with Google's protobuf": ["check_programs.py", CHECK, VERDICT, TLOG, "protobuf"],
     "comparison with Go's checksum database": ["interop/run.sh", VECTORS, CHECK, TLOG],
     "the page in a browser": ["check_explorer.py", TLOG],
 }
-# Commands of others, and the packages that have them.
-PACKAGES = {
-    ("go", "protoc"): ("golang-go", "golang-golang-x-mod-dev", "protobuf-compiler", "python3-protobuf"),
-    ("strace",): ("strace",),
-    ("chromium",): ("chromium",),
-}
+# Tries to install what the results are compared with, where one lacks. What stays missing is left out.
+INSTALL = """type apt-get && [ "$(id -u)" = 0 ] && ! type go protoc strace chromium && export DEBIAN_FRONTEND=noninteractive || exit 0
+timeout 300 apt-get update
+for it in golang-go golang-golang-x-mod-dev protobuf-compiler strace chromium; do timeout 300 apt-get install -y "$it"; done"""
+# The files that git tracks, and the new ones that it does not ignore (whoever owns the checkout).
+COPY = """git -c safe.directory='*' ls-files -z --cached --others --exclude-standard |
+xargs -0 ls -d 2> /dev/null | tar -cT - | tar -xC "$0" """
 COUNTED = re.compile(r"[\w ]+: (\d+) (?:ok|refused), (\d+) failed")
-
-
-def copy_of_the_tree(to):
-    """Copies the files that git tracks, and the new ones that it does not ignore."""
-    # (whoever owns the checkout)
-    listed = ["git", "-c", "safe.directory=*", "ls-files", "-z", "--cached", "--others", "--exclude-standard"]
-    for name in subprocess.run(listed, cwd=kit.ROOT, capture_output=True, text=True, check=True).stdout.split("\0"):
-        if name and (kit.ROOT / name).is_file():
-            (to / name).parent.mkdir(parents=True, exist_ok=True)
-            shutil.copy2(kit.ROOT / name, to / name)
-
-
-def install_peers():
-    """Tries to install what the results are compared with, where one lacks. What stays missing is left out."""
-    lacking = [packages for commands, packages in PACKAGES.items() if not all(map(shutil.which, commands))]
-    if not lacking or os.geteuid() or not shutil.which("apt-get"):
-        return
-    quiet = {"stdin": subprocess.DEVNULL, "stdout": subprocess.DEVNULL, "stderr": subprocess.DEVNULL, "timeout": 300}
-    try:
-        for words in (["apt-get", "update"], *(["apt-get", "install", "-y", *packages] for packages in lacking)):
-            subprocess.run(words, env={**os.environ, "DEBIAN_FRONTEND": "noninteractive"}, **quiet)
-    except (OSError, subprocess.TimeoutExpired):
-        pass
 
 
 def used():
@@ -96,11 +72,11 @@ def tried(tree, words):
 
 def main():
     began, passed, failed, minutes = time.monotonic(), 0, 0, {}
-    install_peers()
+    subprocess.run(["bash", "-c", INSTALL], stdin=subprocess.DEVNULL, stdout=subprocess.DEVNULL, stderr=subprocess.DEVNULL)
     with tempfile.TemporaryDirectory(prefix="warg-gate-") as room:
         tree = pathlib.Path(room, "tree")
         tree.mkdir()
-        copy_of_the_tree(tree)
+        subprocess.run(["bash", "-c", COPY, tree], cwd=kit.ROOT, check=True)
         for title, words in [*BEFORE.items(), *BEHIND.items()]:
             before = used()
             well, badly = tried(tree, words)

@@ -45,6 +45,24 @@ verdicts() {
     wc -l < lines
 }
 
+# Has Google's protobuf read each message of the vectors' wire lines and write it: all at once, as the fields of one message.
+protobuf() {
+    local package kinds=(LogProofBundle MapProofBundle StackLog VecLog)
+    package=$(sed -n 's/^package \(.*\);/\1./p' "$TREE/docs/warg.proto")
+    (echo 'syntax = "proto3"; import "warg.proto"; message All {' && for ((at = 0; at < 4; at++)); do
+        echo "repeated $package${kinds[at]} of_kind_$at = $((at + 1));"
+    done && echo '}') > all.proto
+    paste "$TREE"/crates/warg_vectors/{stdin,stdout} |
+        sed -n 's/^\(each \)\?wire \([A-Za-z]*\) \S*\t-\?\([0-9a-f]*\)$/\2 \3/p' | sort -u > messages
+    unhex "$(awk -v "kinds=${kinds[*]}" 'BEGIN { split(kinds, all); for (at in all) number[all[at]] = at }
+        { printf "%02x", 8 * number[$1] + 2
+          for (left = length($2) / 2; left >= 128; left = int(left / 128)) printf "%02x", 128 + left % 128
+          print sprintf("%02x", left) $2 }' messages | tr -d '\n')" > given
+    protoc "--proto_path=$TREE/docs" --proto_path=. --decode=All all.proto < given > text
+    protoc "--proto_path=$TREE/docs" --proto_path=. --encode=All all.proto < text | cmp - given
+    echo "seen: $(wc -l < messages) messages of the vectors, $(wc -c < given) bytes, are the same by protobuf"
+}
+
 # Starts an append that has read standard input and waits for more.
 waits() {
     mkfifo in
@@ -180,6 +198,30 @@ small_disks() {
     pages=$(find start -type f -printf '%s\n' | awk '{ sum += int(($1 + 4095) / 4096) } END { print sum }')
     for ((status = 1; status; sizes++)); do on_disk $((4096 * (pages + sizes + 1))) rw size=16m; done
     echo "seen: $((sizes - 1)) sizes of a disk were too small"
+}
+
+# Appends a batch under a trace, and kills that before a call that forces, if one is named: traced BATCH [CALL].
+traced() {
+    strace -y -qq -o trace -e trace=openat,write,mkdir,fsync,rename,unlink -s 8 ${2:+-e "inject=fsync:error=EIO:signal=KILL:when=$2"} \
+        warg_tlog append "$PWD/log" < "$1"
+    status=$?
+    (cat trace; echo "ended $status") >> traces
+}
+
+# Looks at what an append, which is killed before each of its calls that force in turn, and the next one force to the disk.
+forced() {
+    local call
+    for ((call = 0; ; call++)); do
+        rm -rf log traces
+        cp -r start log
+        (traced first "${call#0}"; exit $status) > /dev/null 2>&1
+        killed=$?
+        traced second > /dev/null
+        [ "$status" = 0 ] || echo "status $status"
+        awk -v "log_folder=$PWD/log" -f "$TREE/scripts/programs/forced.awk" traces
+        [ "$call" = 0 ] || [ "$killed" = 137 ] || break
+    done
+    echo "seen: all that a commit needs is forced before it stands, also behind kills before $((call - 1)) calls that force"
 }
 
 # Halts an append, copies the disk's file as it is at one moment, until two copies in a row are alike, lets the append end, and mounts
