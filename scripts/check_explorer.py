@@ -196,7 +196,7 @@ def main():
     failed = [name for name, well in came if not well]
     print(*(f"not as it should be: {name}\n" for name in failed), sep="", end="")
     print(f"explorer: {len(came) - len(failed)} of {len(came)} states of the page are as they should be")
-    sys.exit(1 if failed else 0)
+    sys.exit(bool(failed))
 
 
 main()

@@ -78,19 +78,18 @@ def faults():
     yield from ["not as rt fmt lays it out"] * bool(subprocess.run([kit.RATTLE, "fmt", "--check", *kept]).returncode)
 
 
-def refused_programs(files):
+def faults_of_programs(files):
     """Yields each of these programs that can call what it may not."""
-    crates = {it.name: it for it in kits_gate().rtlib.crates_below(str(kit.ROOT))}
-    for name, file in files.items():
-        crates[name].out = sys.stdout
-        yield from [f"{name} can call what it may not"] * bool(crates[name].calls_beyond(file))
+    for crate in kits_gate().rtlib.crates_below(str(kit.ROOT)):
+        crate.out = sys.stdout
+        if crate.name in files and crate.calls_beyond(files[crate.name]):
+            yield f"{crate.name} can call what it may not"
 
 
 def main():
     os.chdir(kit.ROOT)
-    programs = dict(it.split("=", 1) for it in sys.argv[1:])
-    found = [*(refused_programs(programs) if programs else faults())]
-    sys.exit("\n".join(found) or 0)
+    files = dict(it.split("=", 1) for it in sys.argv[1:])
+    sys.exit("\n".join(faults_of_programs(files) if files else faults()) or 0)
 
 
 if __name__ == "__main__":
