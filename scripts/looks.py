@@ -80,10 +80,11 @@ def faults():
 
 def faults_of_programs(files):
     """Yields each of these programs that can call what it may not."""
-    for crate in kits_gate().rtlib.crates_below(str(kit.ROOT)):
-        crate.out = sys.stdout
-        if crate.name in files and crate.calls_beyond(files[crate.name]):
-            yield f"{crate.name} can call what it may not"
+    crates = {it.name: it for it in kits_gate().rtlib.crates_below(str(kit.ROOT))}
+    for name, file in files.items():
+        crates[name].out = sys.stdout
+        if crates[name].calls_beyond(file):
+            yield f"{name} can call what it may not"
 
 
 def main():
