@@ -287,12 +287,15 @@ fn a_tile_by_its_bytes(rt: HostRuntime) -> Result<(), Fail> {
     let tile = Tile::new(0, 0, 2);
     assert!(rt; data.insert_bytes(tile, &[1; 63]) == Err(TileBytesError::Length));
     assert!(rt; !data.has_hash(Node(0)));
+    assert!(rt; !data.has_tile(&tile));
     let mut bytes = Vec::new(rt.alloc());
     bytes.extend_from_slice(&[1; 32])?;
     bytes.extend_from_slice(&[2; 32])?;
     data.insert_bytes(tile, bytes.as_slice())?;
     let second = data.hash_for(Node(2)).ok_or("no digest")?;
     assert!(rt; second.bytes() == [2; 32].as_slice());
+    assert!(rt; data.has_tile(&Tile::new(0, 0, 1)) && data.has_tile(&tile));
+    assert!(rt; !data.has_tile(&Tile::new(0, 0, 3)) && !data.has_tile(&Tile::new(0, 1, 2)));
     Ok(())
 }
 

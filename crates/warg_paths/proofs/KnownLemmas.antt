@@ -7,9 +7,9 @@ use Rattle.std.proofs.Math.Nat.{pow-suc}
 use Rattle.warg_log.specs.Nodes.{height_of, start_of, end_of, node_over, balanced_over, balanced_roots, Follow}
 use Rattle.warg_log.specs.Ranges.{Range, leaves_from, range_of, front_part, rest_part}
 use Rattle.warg_log.specs.Tree.{front_of}
-use Rattle.warg_log.specs.Cut.{Evaluation, with_target, cut_over, cut_root, old_over, IsFull}
+use Rattle.warg_log.specs.Cut.{Evaluation, with_target, joined, cut_over, cut_root, old_over, IsFull}
 use Rattle.warg_log.specs.Walks.{IsKnown, needed, needed_between}
-use Rattle.warg_log.proofs.ForCallers.{below_pow, pow_below_pow, starts, counts, IsBeside, front_is_greatest, front_of_is, balanced_full, balanced_parts, cut_parts, cut_old, old_full, over_follow, joined_some, known_cut, known_parts}
+use Rattle.warg_log.proofs.ForCallers.{below_pow, pow_below_pow, starts, counts, IsBeside, front_is_greatest, front_of_is, balanced_full, balanced_parts, cut_parts, cut_old, old_full, old_parts, over_follow, joined_some, known_cut, known_parts}
 use Rattle.warg_paths.specs.Paths.{beside, path_at_end, inclusion_of, consistency_over, consistency_of, led_to}
 use Rattle.warg_paths.proofs.LawLemmas.{leads_as_proof}
 use Rattle.warg_paths.proofs.MakeLemmas.{consistency_end, consistency_front, consistency_rest}
@@ -148,3 +148,39 @@ module _ (H : List ℕ → List ℕ) (F : ℕ → Option (List ℕ)) where
 
   pub inclusion_known : (m n : ℕ) → m < n → IsKnown F (needed (2 * m) n) → IsSome (inclusion_of (old_over H F) m n)
   inclusion_known m n inside known = led_some m n (H []) (inclusion_of (old_over H F) m n) (subst IsSome (sym (leads_as_proof H F m n (H []) inside)) (known_cut H F (H []) (2 * m) n known))
+
+  joined_two : (p q : Option (List ℕ)) → IsSome p → IsSome q → IsSome (joined H p q)
+  joined_two (Some p) (Some q) left right = refl
+  joined_two (Some p) None left right = right
+  joined_two None q left right = left
+
+  -- where the balanced roots of a range are known, so is its old root
+  old_known : (steps : ℕ) (r : Range) → 0 < r.count → r.count ≤ steps → AllByRecursion (λ t. IsSome (F t)) (balanced_over r.start r.count) → IsSome (old_over H F r)
+  old_known zero r some enough known = absurd (omega arith)
+  old_known (suc steps) r some enough known = elim (cases_lt 1 r.count) [
+    | inr one ↦
+        let full : IsFull r.count = (0, omega arith) in
+        subst IsSome (sym (old_full H F r full)) (subst (AllByRecursion (λ t. IsSome (F t))) (balanced_full r.start r.count full) known).0
+    | inl more ↦
+        let f = front_is_greatest r.count more in
+        let j = f.0.0 in
+        elim (cases_lt r.count (2 * front_of r.count)) [
+          | inr twice ↦
+              let full : IsFull r.count = (suc j, omega (arith, twice, f.2, f.0.1, pow-suc 2 j)) in
+              subst IsSome (sym (old_full H F r full)) (subst (AllByRecursion (λ t. IsSome (F t))) (balanced_full r.start r.count full) known).0
+          | inl less ↦
+              let part : IsFull r.count → ⊥ = λ is. omega (arith, pow_below_pow j is.0 (omega (arith, is.1, f.1, f.0.1)), pow_below_pow is.0 (suc j) (omega (arith, is.1, less, f.0.1, pow-suc 2 j))) in
+              let parts = subst (AllByRecursion (λ t. IsSome (F t))) (balanced_parts r.start r.count more part) known in
+              let front : IsSome (old_over H F (front_part r)) = subst IsSome (sym (old_full H F (front_part r) f.0)) parts.0 in
+              let rest : IsSome (old_over H F (rest_part r)) = old_known steps (rest_part r) (omega (arith, f.1)) (omega (arith, f.0.1, pow_pos j)) parts.1 in
+              subst IsSome (sym (old_parts H F r more part)) (joined_two (old_over H F (front_part r)) (old_over H F (rest_part r)) front rest)
+        ]
+  ]
+
+  roots_known : (n : ℕ) (ts : List ℕ) → IsKnown F (flat_map (λ t. t ∷ needed t n) ts) → AllByRecursion (λ t. IsSome (F t)) ts
+  roots_known n [] known = tt
+  roots_known n (t ∷ ts) known = (known.0, roots_known n ts (known_parts F (needed t n) (flat_map (λ u. u ∷ needed u n) ts) known.1).1)
+
+  -- whoever knows what a consistency proof needs knows the old root
+  pub old_root_known : (m n : ℕ) → 0 < m → IsKnown F (needed_between m n) → IsSome (old_over H F (leaves_from 0 m))
+  old_root_known m n some known = old_known m (leaves_from 0 m) some (omega arith) (roots_known n (balanced_roots m) known)

@@ -24,6 +24,7 @@ use Rattle.warg_store.proofs.ReadyLemmas.{staging_kept}
 use Rattle.warg_store.specs.Reading.{inclusion_in, consistency_in}
 use Rattle.warg_store.specs.Private.Fetched.{AreOwn}
 use Rattle.warg_protobuf.proofs.ForCallers.{all_push}
+use Rattle.warg_store.proofs.GrowingLemmas.{same_tile}
 use Rattle.warg_store.proofs.LeadLemmas.{end_inside}
 
 -- one tile more
@@ -64,6 +65,16 @@ wide_in log n count t u is most of level wide = record {
 -- the tile over an entry's digest alone
 pub leaf_tile : (index : ℕ) → IsTileOf (index + 1) (record { level = 0; number = index / 256; width = index % 256 + 1 })
 leaf_tile index = record { some = omega arith; width = omega arith }
+
+-- and as wide as the log has it, one of the log
+pub leaf_in : (log : LogOf) (index count : ℕ) (t wide : TileAt) → length log.entries ≡ count → index < 2 ^ 63 → index < count → t.level ≡ 0 → t.number ≡ index / 256 → t.width ≡ index % 256 + 1 → wide.level ≡ t.level
+    → ((n : ℕ) → n ≤ count → n ≤ 2 ^ 63 → IsTileOf n t → IsTileOf count wide) → IsTileIn log wide
+leaf_in log index count t wide is small below level number width same of =
+    let least : TileAt = record { level = 0; number = index / 256; width = index % 256 + 1 } in
+    let named : IsTileOf (index + 1) t = subst (IsTileOf (index + 1)) (sym (same_tile t least level number width)) (leaf_tile index) in
+    let most : index + 1 ≤ 2 ^ 63 = omega (arith, small) in
+    let more : index + 1 ≤ count = omega (arith, below) in
+    wide_in log (index + 1) count t wide is most named same (of (index + 1) more most named)
 
 -- The bundle of an entry is one of the log.
 pub record IsEntryTile (log : LogOf) (t : TileAt) (index : ℕ) : Type 0 where

@@ -18,3 +18,5 @@ mod OpenLemmas
 mod SignLemmas
 mod FetchedLemmas
 mod PruneLemmas
+mod WholeLemmas
+mod EnoughLemmas

@@ -32,7 +32,7 @@ use Rattle.warg_store.proofs.FileLemmas.{put_here, put_apart}
 use Rattle.warg_protobuf.proofs.ForCallers.{all_append}
 use Rattle.warg_store.proofs.ListLemmas.{all_take, all_drop}
 use Rattle.warg_store.proofs.LeadLemmas.{end_inside, extends_self, file_served, same_files, same_served}
-use Rattle.warg_store.proofs.GrowingLemmas.{ground, none_some}
+use Rattle.warg_store.proofs.GrowingLemmas.{ground, none_some, same_tile}
 
 -- Digests of a log.
 
@@ -68,13 +68,18 @@ read_within o bytes whole most read is short =
     cut ∙ take_all (most + 1) whole (omega (arith, short))
 
 -- a tile's file is read as the log's digests
-pub tile_read : (log : LogOf) (t : TileAt) (o : Option (List ℕ)) (bytes : List ℕ) (digests : List (List ℕ)) → t.width ≤ 256 → o ≡ Some (tile_bytes log t) → Some bytes ≡ option_map (take (8192 + 1)) o
-    → hashes_of bytes ≡ Some digests → digests ≡ tile_digests sha256 (leaves_of sha256 log.entries) t
-tile_read log t o bytes digests wide is read hashes =
+pub tile_hashed : (log : LogOf) (t : TileAt) (o : Option (List ℕ)) (bytes : List ℕ) → t.width ≤ 256 → o ≡ Some (tile_bytes log t) → Some bytes ≡ option_map (take (8192 + 1)) o
+    → (hashes_of bytes ≡ Some (tile_digests sha256 (leaves_of sha256 log.entries) t)) × (length (tile_digests sha256 (leaves_of sha256 log.entries) t) ≡ t.width)
+tile_hashed log t o bytes wide is read =
     let own = tile_digests sha256 (leaves_of sha256 log.entries) t in
     let count : length own ≡ t.width = length-map-range_with_len (λ i. root_of sha256 (leaves_below (node_in t i) (leaves_of sha256 log.entries))) 0 t.width in
     let same : bytes ≡ tile_bytes log t = read_within o bytes (tile_bytes log t) 8192 read is (omega (arith, hashes_size own (tile_hashes log t), count, wide)) in
-    let both : Some digests ≡ Some own = sym hashes ∙ ap hashes_of same ∙ hashes_back own (tile_hashes log t) in
+    (ap hashes_of same ∙ hashes_back own (tile_hashes log t), count)
+
+pub tile_read : (log : LogOf) (t : TileAt) (o : Option (List ℕ)) (bytes : List ℕ) (digests : List (List ℕ)) → t.width ≤ 256 → o ≡ Some (tile_bytes log t) → Some bytes ≡ option_map (take (8192 + 1)) o
+    → hashes_of bytes ≡ Some digests → digests ≡ tile_digests sha256 (leaves_of sha256 log.entries) t
+tile_read log t o bytes digests wide is read hashes =
+    let both : Some digests ≡ Some (tile_digests sha256 (leaves_of sha256 log.entries) t) = sym hashes ∙ (tile_hashed log t o bytes wide is read).0 in
     cc
 
 bundle_size : (entries : List (List ℕ)) → AreShort entries → length (bundle_of entries) ≤ 65537 * length entries
@@ -213,6 +218,14 @@ bundles_full {X = X} log tile_of digests_of xs are none = elim (cases_lt 0 (leng
     at : (ys : List X) → ((x : X) → slice_get ys 0 ≡ Some x → (tile_of x).level ≡ 0 → ⊥) → (y : TileAt × List (List ℕ)) (rest : Tiles) → map (λ x. (tile_of x, digests_of x)) ys ≡ y ∷ rest → y.0.level ≡ 0 → ⊥
     at [] others y rest e level = cc
     at (x ∷ ys) others y rest e level = others x refl (ap (λ (z : TileAt × List (List ℕ)). z.0.level) (let same : (tile_of x, digests_of x) ≡ y = cc in same) ∙ level)
+
+-- the partial tile of a level of the log's length is the log's, and its file is there
+pub level_there : (log : LogOf) (files : Files) (n level : ℕ) (t : TileAt) → level < 8 → n ≡ length log.entries → t.level ≡ level → t.number ≡ n / 2 ^ (8 * level) / 256 → t.width ≡ n / 2 ^ (8 * level) % 256 → 0 < n / 2 ^ (8 * level) % 256 → HasFiles log files
+    → (t ≡ last_tile (length log.entries) level) × (files (tile_path t) ≡ Some (tile_bytes log t))
+level_there log files n level t low size at number width some has =
+    let last = last_tile (length log.entries) level in
+    let same : t ≡ last = same_tile t last at (number ∙ ap (λ n. n / 2 ^ (8 * level) / 256) size) (width ∙ ap (λ n. n / 2 ^ (8 * level) % 256) size) in
+    (same, subst (λ (u : TileAt). files (tile_path u) ≡ Some (tile_bytes log u)) (sym same) (part_there log files level low (subst (λ n. 0 < n / 2 ^ (8 * level) % 256) size some) has))
 
 -- The opened log.
 

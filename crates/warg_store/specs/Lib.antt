@@ -12,3 +12,4 @@ pub mod Memory
 pub mod System
 pub mod Audited
 pub mod Errors
+pub mod Refusals

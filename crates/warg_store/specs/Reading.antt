@@ -25,6 +25,12 @@ pub record Reads {F : Type 0} (seen : F → Files) (log : LogOf) (reader : Serve
   pub text : reader.text ≡ said_of log
   pub files : HasFiles log (seen reader.folder)
 
+-- The files are a log's, and the checkpoint says so.
+pub record AreOfLog (log : LogOf) (checkpoint : RootAndLength) (files : Files) : Type 0 where
+  pub can : CanBeKept log
+  pub said : checkpoint ≡ checkpoint_said (said_of log)
+  pub holds : HasFiles log files
+
 -- The inclusion path of the entry at an index in the log of the first `length` entries (RFC 6962, section 2.1.1).
 abbrev pub inclusion_in : LogOf → ℕ → ℕ → Option (List (List ℕ))
 inclusion_in log index length = inclusion_of (old_over sha256 (own_digest sha256 (leaves_of sha256 log.entries))) index length

@@ -1,21 +1,24 @@
 //! The right edge of a log that a folder keeps: its partial tiles and its last bundle.
 
-ghost use Rattle.std.specs.Prelude.{◌≡◌, ◌*◌, ◌/◌, ◌≤◌, length, map, drop, Some, IfOk, OnOk};
+ghost use Rattle.std.specs.Prelude.{◌≡◌, ◌*◌, ◌/◌, ◌≤◌, length, map, drop, true, Some, IfOk, IfErr, OnOk, option_copied};
 ghost use Rattle.warg_crypto.specs.Digests.{sha256};
+ghost use Rattle.warg_crypto.specs.Tree.{leaf_digest};
 ghost use Rattle.warg_log.specs.Tree.{leaves_of};
 ghost use Rattle.warg_tiles.specs.EntryBundles.{bundle_of};
 ghost use Rattle.warg_tiles.specs.TileLog.{StandsFor, tile_digests};
 ghost use Rattle.warg_tiles.specs.TilePaths.{tile_path, entries_path};
 ghost use Rattle.warg_store.specs.Growing.{ArePartsOf};
-ghost use Rattle.warg_store.specs.Log.{LogOf, AreShort, CanBeKept, HasFiles, tile_bytes, bundle_bytes};
+ghost use Rattle.warg_store.specs.Log.{LogOf, AreShort, CanBeKept, IsBundleIn, HasFiles, said_of, tile_bytes, bundle_bytes};
 ghost use Rattle.warg_store.specs.Moments.{Within};
 ghost use Rattle.warg_store.specs.Opening.{IsStaging};
+ghost use Rattle.warg_store.specs.Reading.{checkpoint_said};
+ghost use Rattle.warg_store.specs.Refusals.{IsNoFault};
 
 use crate::device::{Folder, FolderError};
 use crate::error::LogError;
 use crate::names::STATE;
 use std::alloc::Global;
-use warg_crypto::{Sha256, hash_leaf};
+use warg_crypto::{Hash, Sha256, hash_leaf};
 use warg_log::{Checkpoint, GREATEST_LENGTH, LogBuilder};
 use warg_paths::{HashesError, hashes_in};
 use warg_tiles::{EntriesError, OpenError, StoredTile, Tile, TileLog, read_entries};
@@ -25,6 +28,9 @@ const MOST_TILE: usize = 256 * 32;
 
 // An entry has at most 65,535 bytes, and two for its length.
 const MOST_BUNDLE: usize = 256 * 65_537;
+
+// What is wrong with a file of another size.
+const CUT: &str = "is cut short, or too long";
 
 /// Reads a tile. `Damaged` where its file is missing, or has another number of digests.
 #[tactic(auto, using(crate::proofs::ReadyLemmas::staging_kept))]
@@ -37,6 +43,8 @@ pub(crate) fn read_tile<F: Folder>(
         → F.seen folder.old (tile_path tile) ≡ Some (tile_bytes log tile)
         → read.digests.items ≡ tile_digests sha256 (leaves_of sha256 log.entries) tile) }
     ensures tile { IfOk result (λ read. read.tile ≡ tile) }
+    ensures whole { F.IsFaithful → (log : LogOf)
+        → F.seen folder.old (tile_path tile) ≡ Some (tile_bytes log tile) → IfErr result (IsNoFault ⊥) }
     ensures seen { F.IsFaithful → F.seen folder.new ≡ F.seen folder.old }
     ensures crash { F.IsFaithful → Within (F.may_leave folder.old) (F.may_leave folder.new) }
     ensures ready { F.IsFaithful → IsStaging (F.seen folder.old) (F.may_leave folder.old)
@@ -46,11 +54,16 @@ pub(crate) fn read_tile<F: Folder>(
     let Some(bytes) = folder.read(alloc, path.as_str(), MOST_TILE)? else {
         return Err(LogError::damaged(alloc, path.as_str(), "is missing"));
     };
-    match hashes_in::<Sha256, Global>(alloc, bytes.as_slice()) {
-        Ok(digests) if digests.len() == tile.width() => Ok(StoredTile::new(tile, digests)),
-        Err(HashesError::Memory) => Err(LogError::Folder(FolderError::Memory)),
-        _ => Err(LogError::damaged(alloc, path.as_str(), "is cut short, or too long")),
+    let width = tile.width();
+    let digests = match hashes_in::<Sha256, Global>(alloc, bytes.as_slice()) {
+        Ok(digests) => digests,
+        Err(HashesError::HashLength) => return Err(LogError::damaged(alloc, path.as_str(), CUT)),
+        Err(HashesError::Memory) => return Err(LogError::Folder(FolderError::Memory)),
+    };
+    if digests.len() != width {
+        return Err(LogError::damaged(alloc, path.as_str(), CUT));
     }
+    Ok(StoredTile::new(tile, digests))
 }
 
 /// Reads the partial tiles of a length, by level.
@@ -62,6 +75,8 @@ pub(crate) fn read_edge<F: Folder>(
     ensures edge { F.IsFaithful → IfOk result (λ edge. (log : LogOf)
         → log_length ≡ length log.entries → HasFiles log (F.seen folder.old)
         → ArePartsOf log edge.items) }
+    ensures whole { F.IsFaithful → (log : LogOf) → log_length ≡ length log.entries
+        → HasFiles log (F.seen folder.old) → IfErr result (IsNoFault ⊥) }
     ensures seen { F.IsFaithful → F.seen folder.new ≡ F.seen folder.old }
     ensures ready { F.IsFaithful → IsStaging (F.seen folder.old) (F.may_leave folder.old)
         → OnOk result (IsStaging (F.seen folder.new) (F.may_leave folder.new)) }
@@ -89,12 +104,32 @@ pub(crate) fn open_edge(
     ensures stands { IfOk result (λ log. (kept : LogOf)
         → checkpoint.now.length ≡ length kept.entries → ArePartsOf kept edge.now
         → StandsFor sha256 log (leaves_of sha256 kept.entries)) }
+    ensures whole { (kept : LogOf) → checkpoint.now ≡ checkpoint_said (said_of kept)
+        → ArePartsOf kept edge.now → IfErr result (IsNoFault ⊥) }
 {
-    match TileLog::open(alloc, checkpoint.length(), edge) {
-        Ok(log) if log.checkpoint() == *checkpoint => Ok(log),
-        Err(OpenError::Memory) => Err(LogError::Folder(FolderError::Memory)),
-        _ => Err(LogError::damaged(alloc, STATE, "has another root than the log's last tiles")),
+    let log = match TileLog::open(alloc, checkpoint.length(), edge) {
+        Ok(log) => log,
+        Err(error) => return Err(refused_edge(alloc, &error)),
+    };
+    if log.checkpoint() != *checkpoint {
+        return Err(other_root(alloc));
     }
+    Ok(log)
+}
+
+// Why no log goes on from the partial tiles.
+fn refused_edge(alloc: Global, error: &OpenError) -> LogError
+    ensures { error.now ≡ OpenError.Memory → IsNoFault ⊥ result }
+{
+    match error {
+        OpenError::Memory => LogError::Folder(FolderError::Memory),
+        _ => other_root(alloc),
+    }
+}
+
+// That the state's root isn't that of the last tiles.
+fn other_root(alloc: Global) -> LogError {
+    LogError::damaged(alloc, STATE, "has another root than the log's last tiles")
 }
 
 /// Reads a bundle of the entries below a tile of level 0. `Damaged` where its file is missing.
@@ -109,6 +144,9 @@ pub(crate) fn read_bundle<F: Folder>(
         → AreShort log.entries → tile.now.width ≤ 256
         → F.seen folder.old (entries_path tile.now) ≡ Some (bundle_bytes log tile.now)
         → read.items ≡ bundle_bytes log tile.now) }
+    ensures whole { F.IsFaithful → (log : LogOf)
+        → F.seen folder.old (entries_path tile.now) ≡ Some (bundle_bytes log tile.now)
+        → IfErr result (IsNoFault ⊥) }
     ensures seen { F.IsFaithful → F.seen folder.new ≡ F.seen folder.old }
     ensures crash { F.IsFaithful → Within (F.may_leave folder.old) (F.may_leave folder.new) }
     ensures ready { F.IsFaithful → IsStaging (F.seen folder.old) (F.may_leave folder.old)
@@ -130,12 +168,18 @@ pub(crate) fn entries_of<'a>(
     requires { tile.now.level ≡ 0 }
     ensures entries { IfOk result (λ entries. bytes.now ≡ bundle_of (map (λ e. e.now) entries.items)) }
     ensures count { IfOk result (λ entries. length entries.items ≡ tile.now.width) }
+    ensures whole { (log : LogOf) → AreShort log.entries → IsBundleIn log tile.now
+        → bytes.now ≡ bundle_bytes log tile.now → IfErr result (IsNoFault ⊥) }
 {
-    match read_entries(alloc, bytes) {
-        Ok(entries) if entries.len() == tile.width() => Ok(entries),
-        Err(EntriesError::Memory) => Err(LogError::Folder(FolderError::Memory)),
-        _ => Err(damaged_bundle(alloc, tile, "is cut short, or too long")),
+    let entries = match read_entries(alloc, bytes) {
+        Ok(entries) => entries,
+        Err(EntriesError::Truncated) => return Err(damaged_bundle(alloc, tile, CUT)),
+        Err(EntriesError::Memory) => return Err(LogError::Folder(FolderError::Memory)),
+    };
+    if entries.len() != tile.width() {
+        return Err(damaged_bundle(alloc, tile, CUT));
     }
+    Ok(entries)
 }
 
 /// That a bundle isn't what it is to be.
@@ -157,6 +201,8 @@ pub(crate) fn read_last_bundle<F: Folder>(
     ensures bundle { F.IsFaithful → IfOk result (λ bytes. (log : LogOf) → CanBeKept log
         → HasFiles log (F.seen folder.old) → ArePartsOf log edge.now
         → bytes.items ≡ bundle_of (drop (256 * (length log.entries / 256)) log.entries)) }
+    ensures whole { F.IsFaithful → (log : LogOf) → CanBeKept log → HasFiles log (F.seen folder.old)
+        → ArePartsOf log edge.now → IfErr result (IsNoFault ⊥) }
     ensures seen { F.IsFaithful → F.seen folder.new ≡ F.seen folder.old }
     ensures ready { F.IsFaithful → IsStaging (F.seen folder.old) (F.may_leave folder.old)
         → OnOk result (IsStaging (F.seen folder.new) (F.may_leave folder.new)) }
@@ -174,14 +220,27 @@ pub(crate) fn read_last_bundle<F: Folder>(
 // Refuses entries that aren't those of the tile.
 fn check_entries(alloc: Global, stored: &StoredTile<Sha256>, bytes: &[u8]) -> Result<(), LogError>
     requires { stored.now.tile.level ≡ 0 }
+    ensures { (log : LogOf) → AreShort log.entries → IsBundleIn log stored.now.tile
+        → bytes.now ≡ bundle_bytes log stored.now.tile
+        → stored.now.digests.items ≡ tile_digests sha256 (leaves_of sha256 log.entries) stored.now.tile
+        → IfErr result (IsNoFault ⊥) }
 {
     let entries = entries_of(alloc, &stored.tile, bytes)?;
-    let digests = stored.digests.as_slice().iter();
-    for (entry, digest) in entries.as_slice().iter().zip(digests) {
-        if hash_leaf::<Sha256, &[u8]>(entry) != *digest {
+    'entries: for (place, entry) in entries.as_slice().iter().enumerate() {
+        if !is_leaf(stored.digests.as_slice().get(place), entry) {
             let fault = "has other entries than its tile";
             return Err(damaged_bundle(alloc, &stored.tile, fault));
         }
     }
     Ok(())
+}
+
+// Whether a digest is there and is the leaf digest of an entry.
+fn is_leaf(digest: Option<&Hash<Sha256>>, entry: &[u8]) -> bool
+    ensures { option_copied digest.entry ≡ Some (leaf_digest sha256 entry.now) → result ≡ true }
+{
+    match digest {
+        Some(digest) => hash_leaf::<Sha256, &[u8]>(&entry) == *digest,
+        None => false,
+    }
 }

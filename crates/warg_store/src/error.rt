@@ -1,6 +1,6 @@
 //! Why a call on a log's folder is refused.
 
-ghost use Rattle.std.specs.Prelude.{◌≡◌};
+ghost use Rattle.std.specs.Prelude.{◌≡◌, ◌≢◌};
 
 use crate::device::FolderError;
 use crate::recovery::RecoverError;
@@ -47,18 +47,30 @@ impl From<FolderError> for LogError {
 }
 
 impl From<AllocError> for LogError {
+    ghost use Rattle.warg_store.specs.declared.device.FolderError.TheVariants.{Memory};
+    ghost use Rattle.warg_store.specs.declared.error.LogError.TheVariants.{Folder};
+
+    ghost from_gives = { λ _ error. error ≡ Folder Memory };
+
     fn from(_error: AllocError) -> Self {
         LogError::Folder(FolderError::Memory)
     }
 }
 
 impl<T: Drop> From<AllocFailed<T>> for LogError {
+    ghost use Rattle.warg_store.specs.declared.device.FolderError.TheVariants.{Memory};
+    ghost use Rattle.warg_store.specs.declared.error.LogError.TheVariants.{Folder};
+
+    ghost from_gives = { λ _ error. error ≡ Folder Memory };
+
     fn from(_error: AllocFailed<T>) -> Self {
         LogError::Folder(FolderError::Memory)
     }
 }
 
 impl LogError {
+    ghost use Rattle.warg_store.specs.Refusals.{IsNoFault};
+
     /// That a file isn't what it is to be.
     pub(crate) fn damaged(alloc: Global, name: &str, fault: &'static str) -> LogError {
         match String::from_str(alloc, name) {
@@ -73,7 +85,9 @@ impl LogError {
     }
 
     /// Why a folder wasn't recovered.
-    pub(crate) fn of_recovery(alloc: Global, error: &RecoverError) -> LogError {
+    pub(crate) fn of_recovery(alloc: Global, error: &RecoverError) -> LogError
+        ensures { error.now ≢ RecoverError.TooLong → IsNoFault ⊥ result }
+    {
         match error {
             RecoverError::Folder(FolderError::Memory) => LogError::Folder(FolderError::Memory),
             RecoverError::Folder(FolderError::Failed) => LogError::Folder(FolderError::Failed),

@@ -1,6 +1,6 @@
 //! A log's folder, made and opened.
 
-ghost use Rattle.std.specs.Prelude.{◌≡◌, ◌≢◌, ℕ, true, false, List, [], Option, Some, None, IfOk, OnOk, string_bytes};
+ghost use Rattle.std.specs.Prelude.{◌≡◌, ◌≢◌, ◌⊎◌, ◌<◌, ℕ, true, false, List, [], Option, Some, None, IfOk, IfErr, OnOk, string_bytes};
 ghost use Rattle.std.specs.List.{All};
 ghost use Rattle.warg_tiles.specs.CheckpointText.{Said, CanBeSaid, text_before};
 ghost use Rattle.warg_store.specs.Files.{SameBut};
@@ -9,6 +9,7 @@ ghost use Rattle.warg_store.specs.Growing.{IsReady, Has};
 ghost use Rattle.warg_store.specs.Log.{LogOf, CanBeKept, Serves, Keeps, HasLog, said_of};
 ghost use Rattle.warg_store.specs.Names.{checkpoint, state, mark};
 ghost use Rattle.warg_store.specs.Opening.{IsStaging, opened};
+ghost use Rattle.warg_store.specs.Refusals.{IsNoFault};
 
 use crate::committing::{MOST_TEXT, commit, is_signed};
 use crate::device::{Folder, FolderError};
@@ -89,6 +90,8 @@ impl<F: Folder + Drop> LogFolder<F> {
         ensures has { F.IsFaithful → IfOk result (λ log. (served kept : LogOf)
             → HasLog served kept (opened (F.seen folder))
             → Has F.seen F.may_leave served kept kept log) }
+        ensures opens { F.IsFaithful → (served kept : LogOf) → HasLog served kept (opened (F.seen folder))
+            → IfErr result (IsNoFault ⊥) }
     {
         if let Err(error) = recover(alloc, &mut folder) {
             return Err(LogError::of_recovery(alloc, &error));
@@ -109,6 +112,8 @@ fn kept_text<F: Folder>(alloc: Global, folder: &mut F) -> Result<CheckpointText<
     ensures text { F.IsFaithful → IfOk result (λ text. (served log : LogOf)
         → HasLog served log (F.seen folder.old)
         → (text ≡ said_of log) × Keeps served log (F.seen folder.new)) }
+    ensures whole { F.IsFaithful → (served log : LogOf) → HasLog served log (F.seen folder.old)
+        → IfErr result (IsNoFault ⊥) }
     ensures beside { F.IsFaithful → OnOk result (SameBut state (F.seen folder.old) (F.seen folder.new)) }
     ensures ready { F.IsFaithful → IsStaging (F.seen folder.old) (F.may_leave folder.old)
         → OnOk result (IsStaging (F.seen folder.new) (F.may_leave folder.new)) }
@@ -125,6 +130,8 @@ fn take_over<F: Folder>(alloc: Global, folder: &mut F) -> Result<CheckpointText<
     ensures text { F.IsFaithful → IfOk result (λ text. (log : LogOf)
         → Serves log (F.seen folder.old)
         → (text ≡ said_of log) × Keeps log log (F.seen folder.new)) }
+    ensures whole { F.IsFaithful → (log : LogOf) → Serves log (F.seen folder.old)
+        → IfErr result (IsNoFault ⊥) }
     ensures beside { F.IsFaithful → OnOk result (SameBut state (F.seen folder.old) (F.seen folder.new)) }
     ensures ready { F.IsFaithful → IsStaging (F.seen folder.old) (F.may_leave folder.old)
         → OnOk result (IsStaging (F.seen folder.new) (F.may_leave folder.new)) }
@@ -207,6 +214,10 @@ fn read_text<F: Folder>(
         → CanBeKept log → F.seen folder.old name.now ≡ Some (text_before (said_of log) behind)
         → text ≡ Some (said_of log)) }
     ensures none { F.IsFaithful → IfOk result (λ text. F.seen folder.old name.now ≡ None → text ≡ None) }
+    ensures whole { F.IsFaithful → (log : LogOf) (behind : Option (List ℕ)) → CanBeKept log
+        → F.seen folder.old name.now ≡ Some (text_before (said_of log) behind)
+        → IfErr result (IsNoFault ⊥) }
+    ensures absent { F.IsFaithful → F.seen folder.old name.now ≡ None → IfErr result (IsNoFault ⊥) }
     ensures seen { F.IsFaithful → F.seen folder.new ≡ F.seen folder.old }
     ensures crash { F.IsFaithful → Within (F.may_leave folder.old) (F.may_leave folder.new) }
     ensures time { F.IsFaithful → Elapses F.moment F.left_since F.may_leave folder.old folder.new }
@@ -227,6 +238,8 @@ pub(crate) fn read_newest<F: Folder>(
 ) -> Result<CheckpointText<Sha256>, LogError>
     ensures text { F.IsFaithful → IfOk result (λ text. (log : LogOf) → Serves log (F.seen folder.old)
         → text ≡ said_of log) }
+    ensures whole { F.IsFaithful → (served log : LogOf) → HasLog served log (F.seen folder.old)
+        → IfErr result (IsNoFault ⊥) }
     ensures seen { F.IsFaithful → F.seen folder.new ≡ F.seen folder.old }
 {
     let state = read_text(alloc, folder, STATE)?;
@@ -251,6 +264,8 @@ fn newest_of<F: Folder>(
 ) -> Result<CheckpointText<Sha256>, LogError>
     ensures text { F.IsFaithful → IfOk result (λ text. (log : LogOf) → Serves log (F.seen folder.old)
         → served ≡ said_of log → text ≡ said_of log) }
+    ensures whole { F.IsFaithful → (first log : LogOf) → Keeps first log (F.seen folder.old)
+        → state.now ≡ said_of log → IfErr result (IsNoFault ⊥) }
     ensures seen { F.IsFaithful → F.seen folder.new ≡ F.seen folder.old }
 {
     let newest = state.checkpoint().length();
@@ -266,23 +281,29 @@ fn newest_of<F: Folder>(
 
 // The text that a file's bytes begin with.
 fn text_in(alloc: Global, name: &str, bytes: &[u8]) -> Result<CheckpointText<Sha256>, LogError>
-    ensures { IfOk result (λ text. (said : Said) (behind : Option (List ℕ)) → CanBeSaid said
+    ensures read { IfOk result (λ text. (said : Said) (behind : Option (List ℕ)) → CanBeSaid said
         → bytes.now ≡ text_before said behind → text ≡ said) }
+    ensures whole { (said : Said) (behind : Option (List ℕ)) → CanBeSaid said
+        → bytes.now ≡ text_before said behind → IfErr result (IsNoFault ⊥) }
 {
     match CheckpointText::read(alloc, bytes) {
         Ok((text, _)) => Ok(text),
-        Err(CheckpointTextError::Memory) => Err(LogError::Folder(FolderError::Memory)),
-        Err(error) => Err(LogError::damaged(alloc, name, fault_of(&error))),
+        Err(error) => Err(refused_text(alloc, name, &error)),
     }
 }
 
-fn fault_of(error: &CheckpointTextError) -> &'static str {
-    match error {
+// Why a file's bytes aren't read as a text.
+fn refused_text(alloc: Global, name: &str, error: &CheckpointTextError) -> LogError
+    ensures { error.now ≡ CheckpointTextError.Memory → IsNoFault ⊥ result }
+{
+    let fault = match error {
         CheckpointTextError::Origin => "has no origin in its first line",
         CheckpointTextError::Length => "has no length in its second line",
         CheckpointTextError::Root => "has no root in its third line",
-        CheckpointTextError::Extension | CheckpointTextError::Memory => "ends within a line",
-    }
+        CheckpointTextError::Extension => "ends within a line",
+        CheckpointTextError::Memory => return LogError::Folder(FolderError::Memory),
+    };
+    LogError::damaged(alloc, name, fault)
 }
 
 /// What the served checkpoint says.
@@ -292,6 +313,8 @@ pub(crate) fn read_served<F: Folder>(
 ) -> Result<CheckpointText<Sha256>, LogError>
     ensures text { F.IsFaithful → IfOk result (λ text. (log : LogOf) → Serves log (F.seen folder.old)
         → text ≡ said_of log) }
+    ensures whole { F.IsFaithful → (log : LogOf) → Serves log (F.seen folder.old)
+        → IfErr result (IsNoFault ⊥) }
     ensures seen { F.IsFaithful → F.seen folder.new ≡ F.seen folder.old }
     ensures crash { F.IsFaithful → Within (F.may_leave folder.old) (F.may_leave folder.new) }
     ensures time { F.IsFaithful → Elapses F.moment F.left_since F.may_leave folder.old folder.new }
@@ -312,6 +335,8 @@ fn compare<F: Folder>(
     state: &CheckpointText<Sha256>,
     served: &CheckpointText<Sha256>,
 ) -> Result<(), LogError>
+    ensures whole { F.IsFaithful → (first log : LogOf) → Keeps first log (F.seen folder.old)
+        → state.now ≡ said_of log → served.now ≡ said_of first → IfErr result (IsNoFault ⊥) }
     ensures seen { F.IsFaithful → F.seen folder.new ≡ F.seen folder.old }
     ensures ready { F.IsFaithful → IsStaging (F.seen folder.old) (F.may_leave folder.old)
         → OnOk result (IsStaging (F.seen folder.new) (F.may_leave folder.new)) }
@@ -327,11 +352,16 @@ fn compare<F: Folder>(
             newest: newest.length(),
         });
     }
-    if found.length() > newest.length()
-        || found.length() == newest.length() && found.root() != newest.root()
-    {
+    if !is_older_or_same(&found, &newest) {
         let fault = "isn't a checkpoint of the log's state";
         return Err(LogError::damaged(alloc, CHECKPOINT, fault));
     }
     Ok(())
+}
+
+// Whether a checkpoint has fewer entries than another, or is that one.
+fn is_older_or_same(found: &Checkpoint<Sha256>, newest: &Checkpoint<Sha256>) -> bool
+    ensures { (found.now.length < newest.now.length) ⊎ (found.now ≡ newest.now) → result ≡ true }
+{
+    found.length() < newest.length() || *found == *newest
 }

@@ -1,10 +1,11 @@
 //! A log as a folder serves it, as whoever reads it holds it.
 
-ghost use Rattle.std.specs.Prelude.{◌≡◌, Some, IfOk, slice_get};
+ghost use Rattle.std.specs.Prelude.{◌≡◌, ◌⊎◌, ◌<◌, ◌≤◌, length, Some, IfOk, IfErr, slice_get};
 ghost use Rattle.warg_tiles.specs.CheckpointText.{text_of};
 ghost use Rattle.warg_store.specs.Audited.{IsOfEntries};
-ghost use Rattle.warg_store.specs.Log.{LogOf, Serves};
+ghost use Rattle.warg_store.specs.Log.{LogOf, HasLog, Serves};
 ghost use Rattle.warg_store.specs.Reading.{Reads, checkpoint_said, inclusion_in, consistency_in, IsShown, IncludesBy, GrowsBy};
+ghost use Rattle.warg_store.specs.Refusals.{IsNoFault};
 
 use crate::auditing::{Progress, audited};
 use crate::device::Folder;
@@ -39,8 +40,10 @@ impl<F: Folder + Drop> LogReader<F> {
     /// Reads a folder's checkpoint. `NoLog` where there is none; `RolledBack` where the log's state, if that is there, is
     /// newer, and no commit is under way; `Damaged` where the checkpoint is corrupt.
     pub fn open(alloc: Global, mut folder: F) -> Result<LogReader<F>, LogError>
-        ensures { F.IsFaithful → IfOk result (λ reader. (log : LogOf) → Serves log (F.seen folder)
+        ensures reads { F.IsFaithful → IfOk result (λ reader. (log : LogOf) → Serves log (F.seen folder)
             → Reads F.seen log reader) }
+        ensures opens { F.IsFaithful → (served kept : LogOf) → HasLog served kept (F.seen folder)
+            → IfErr result (IsNoFault ⊥) }
     {
         let text = read_newest(alloc, &mut folder)?;
         Ok(LogReader {
@@ -76,6 +79,7 @@ impl<F: Folder + Drop> LogReader<F> {
     /// missing or corrupt.
     pub fn checkpoint_text(&mut self) -> Result<Vec<u8>, LogError>
         ensures text { IfOk result (λ text. text.items ≡ text_of self.old.text) }
+        ensures whole { F.IsFaithful → (log : LogOf) → Reads F.seen log self.old → IfErr result (IsNoFault ⊥) }
         ensures reads { F.IsFaithful → (log : LogOf) → Reads F.seen log self.old → Reads F.seen log self.new }
     {
         let checkpoint = self.text.checkpoint();
@@ -89,6 +93,8 @@ impl<F: Folder + Drop> LogReader<F> {
         ensures shown { IfOk result (λ entry. IsShown (checkpoint_said self.old.text) index entry.items) }
         ensures own { F.IsFaithful → IfOk result (λ entry. (log : LogOf) → Reads F.seen log self.old
             → slice_get log.entries index ≡ Some entry.items) }
+        ensures whole { F.IsFaithful → (log : LogOf) → Reads F.seen log self.old
+            → IfErr result (IsNoFault (length log.entries ≤ index)) }
         ensures reads { F.IsFaithful → (log : LogOf) → Reads F.seen log self.old → Reads F.seen log self.new }
     {
         let checkpoint = self.text.checkpoint();
@@ -100,6 +106,8 @@ impl<F: Folder + Drop> LogReader<F> {
         ensures leads { IfOk result (λ path. IncludesBy (checkpoint_said self.old.text) index length path.items) }
         ensures own { F.IsFaithful → IfOk result (λ path. (log : LogOf) → Reads F.seen log self.old
             → inclusion_in log index length ≡ Some path.items) }
+        ensures whole { F.IsFaithful → (log : LogOf) → Reads F.seen log self.old
+            → IfErr result (IsNoFault ((self.old.text.length < length) ⊎ (length ≤ index))) }
         ensures reads { F.IsFaithful → (log : LogOf) → Reads F.seen log self.old → Reads F.seen log self.new }
     {
         let checkpoint = self.text.checkpoint();
@@ -111,6 +119,8 @@ impl<F: Folder + Drop> LogReader<F> {
         ensures leads { IfOk result (λ path. GrowsBy (checkpoint_said self.old.text) old new path.items) }
         ensures own { F.IsFaithful → IfOk result (λ path. (log : LogOf) → Reads F.seen log self.old
             → consistency_in log old new ≡ Some path.items) }
+        ensures whole { F.IsFaithful → (log : LogOf) → Reads F.seen log self.old
+            → IfErr result (IsNoFault ((self.old.text.length < new) ⊎ (old ≡ 0) ⊎ (new < old))) }
         ensures reads { F.IsFaithful → (log : LogOf) → Reads F.seen log self.old → Reads F.seen log self.new }
     {
         let checkpoint = self.text.checkpoint();

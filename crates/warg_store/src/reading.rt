@@ -1,26 +1,32 @@
 //! Entries and paths out of a log's folder, each once it leads to the root of the log's state.
 
-ghost use Rattle.std.specs.Prelude.{◌≡◌, ◌<◌, ◌≤◌, length, Some, Ok, IfOk, IfSome, IsSomeAnd, OnOk, IsTrue, slice_get};
+ghost use Rattle.std.specs.Prelude.{◌≡◌, ◌⊎◌, ◌<◌, ◌≤◌, ℕ, List, length, take, true, Some, Ok, IfOk, IfErr, IfSome, IsSomeAnd, OnOk, IsTrue, slice_get};
 ghost use Rattle.warg_crypto.specs.Digests.{sha256};
+ghost use Rattle.warg_log.specs.Cut.{old_over};
+ghost use Rattle.warg_log.specs.Ranges.{leaves_from};
+ghost use Rattle.warg_log.specs.Tree.{root_of, leaves_of};
+ghost use Rattle.warg_log.specs.Walks.{IsKnown, needed_between};
 ghost use Rattle.warg_paths.specs.Paths.{consistency_roots};
+ghost use Rattle.warg_tiles.specs.TileData.{digest_by};
 ghost use Rattle.warg_store.specs.Audited.{IsOfEntries};
 ghost use Rattle.warg_store.specs.Growing.{Has};
 ghost use Rattle.warg_store.specs.Log.{LogOf, AreShort, HasFiles};
 ghost use Rattle.warg_store.specs.Moments.{Within};
 ghost use Rattle.warg_store.specs.Private.Fetched.{AreOwn};
-ghost use Rattle.warg_store.specs.Reading.{checkpoint_said, inclusion_in, consistency_in, LeadsTo, IsShown, IncludesBy, GrowsBy};
+ghost use Rattle.warg_store.specs.Reading.{checkpoint_said, AreOfLog, inclusion_in, consistency_in, LeadsTo, IsShown, IncludesBy, GrowsBy};
+ghost use Rattle.warg_store.specs.Refusals.{IsNoFault};
 
 use crate::auditing::{Progress, audited};
 use crate::device::{Folder, FolderError};
 use crate::edge::{damaged_bundle, entries_of, read_bundle};
 use crate::error::LogError;
-use crate::fetched::Fetched;
+use crate::fetched::{Fetched, fetch, fetch_leaf};
 use crate::log_folder::LogFolder;
 use std::alloc::Global;
-use warg_crypto::{Hash, Sha256, hash_leaf};
+use warg_crypto::{Hash, Sha256};
 use warg_log::{Checkpoint, GREATEST_LENGTH, LeafRange, stored_root};
 use warg_paths::{
-    PathError, check_tree, consistency_path, inclusion_path, root_of_inclusion,
+    PathError, check_record, check_tree, consistency_path, inclusion_path, root_of_inclusion,
     roots_of_consistency,
 };
 use warg_tiles::{Tile, tiles_for_consistency, tiles_for_inclusion};
@@ -36,6 +42,8 @@ impl<F: Folder + Drop> LogFolder<F> {
         ensures own { F.IsFaithful → IfOk result (λ entry. (served old next : LogOf)
             → Has F.seen F.may_leave served old next self.old
             → slice_get old.entries index ≡ Some entry.items) }
+        ensures whole { F.IsFaithful → (served old next : LogOf) → Has F.seen F.may_leave served old next self.old
+            → IfErr result (IsNoFault (length old.entries ≤ index)) }
         ensures has { F.IsFaithful → (served old next : LogOf) → Has F.seen F.may_leave served old next self.old
             → Has F.seen F.may_leave served old next self.new }
     {
@@ -51,6 +59,8 @@ impl<F: Folder + Drop> LogFolder<F> {
         ensures own { F.IsFaithful → IfOk result (λ path. (served old next : LogOf)
             → Has F.seen F.may_leave served old next self.old
             → inclusion_in old index length ≡ Some path.items) }
+        ensures whole { F.IsFaithful → (served old next : LogOf) → Has F.seen F.may_leave served old next self.old
+            → IfErr result (IsNoFault ((self.old.text.length < length) ⊎ (length ≤ index))) }
         ensures has { F.IsFaithful → (served old next : LogOf) → Has F.seen F.may_leave served old next self.old
             → Has F.seen F.may_leave served old next self.new }
     {
@@ -66,6 +76,9 @@ impl<F: Folder + Drop> LogFolder<F> {
         ensures own { F.IsFaithful → IfOk result (λ path. (served kept next : LogOf)
             → Has F.seen F.may_leave served kept next self.old
             → consistency_in kept old new ≡ Some path.items) }
+        ensures whole { F.IsFaithful → (served kept next : LogOf)
+            → Has F.seen F.may_leave served kept next self.old
+            → IfErr result (IsNoFault ((self.old.text.length < new) ⊎ (old ≡ 0) ⊎ (new < old))) }
         ensures has { F.IsFaithful → (served old next : LogOf) → Has F.seen F.may_leave served old next self.old
             → Has F.seen F.may_leave served old next self.new }
     {
@@ -94,6 +107,8 @@ pub(crate) fn entry<F: Folder>(
     ensures own { F.IsFaithful → IfOk result (λ entry. (log : LogOf) → HasFiles log (F.seen folder.old)
         → AreShort log.entries → length log.entries ≡ checkpoint.now.length
         → slice_get log.entries index ≡ Some entry.items) }
+    ensures whole { F.IsFaithful → (log : LogOf) → AreOfLog log checkpoint.now (F.seen folder.old)
+        → IfErr result (IsNoFault (checkpoint.now.length ≤ index)) }
     ensures seen { F.IsFaithful → F.seen folder.new ≡ F.seen folder.old }
     ensures crash { F.IsFaithful → Within (F.may_leave folder.old) (F.may_leave folder.new) }
 {
@@ -103,10 +118,10 @@ pub(crate) fn entry<F: Folder>(
         return Err(LogError::OutOfRange { bound: length });
     }
     let entry = read_entry(alloc, folder, index, length)?;
-    let leaf = hash_leaf::<Sha256, Vec<u8>>(&entry);
-    match root_of_inclusion(index, length, &leaf, path.as_slice()) {
-        Some(root) if root == checkpoint.root() => Ok(entry),
-        _ => Err(damaged_entry(alloc, index)),
+    if check_record(checkpoint, index, &entry, path.as_slice()) {
+        Ok(entry)
+    } else {
+        Err(damaged_entry(alloc, index))
     }
 }
 
@@ -121,6 +136,8 @@ fn read_entry<F: Folder>(
     ensures own { F.IsFaithful → IfOk result (λ entry. (log : LogOf) → HasFiles log (F.seen folder.old)
         → AreShort log.entries → length log.entries ≡ log_length
         → slice_get log.entries index ≡ Some entry.items) }
+    ensures whole { F.IsFaithful → (log : LogOf) → HasFiles log (F.seen folder.old)
+        → AreShort log.entries → length log.entries ≡ log_length → IfErr result (IsNoFault ⊥) }
     ensures seen { F.IsFaithful → F.seen folder.new ≡ F.seen folder.old }
     ensures crash { F.IsFaithful → Within (F.may_leave folder.old) (F.may_leave folder.new) }
 {
@@ -154,6 +171,8 @@ pub(crate) fn inclusion<F: Folder>(
     ensures own { F.IsFaithful → IfOk result (λ path. (log : LogOf) → HasFiles log (F.seen folder.old)
         → length log.entries ≡ checkpoint.now.length
         → inclusion_in log index log_length ≡ Some path.items) }
+    ensures whole { F.IsFaithful → (log : LogOf) → AreOfLog log checkpoint.now (F.seen folder.old)
+        → IfErr result (IsNoFault ((checkpoint.now.length < log_length) ⊎ (log_length ≤ index))) }
     ensures seen { F.IsFaithful → F.seen folder.new ≡ F.seen folder.old }
     ensures crash { F.IsFaithful → Within (F.may_leave folder.old) (F.may_leave folder.new) }
 {
@@ -165,14 +184,12 @@ pub(crate) fn inclusion<F: Folder>(
     if index >= log_length {
         return Err(LogError::OutOfRange { bound: log_length });
     }
+    let length = checkpoint.length();
     let mut tiles = Fetched::new(alloc);
     let named = tiles_for_inclusion(alloc, index, log_length)?;
-    tiles.fetch(alloc, folder, named.as_slice(), checkpoint.length())?;
-    let leaf = tiles.leaf(alloc, folder, index, checkpoint.length())?;
-    let path = made(
-        alloc,
-        inclusion_path(alloc, tiles.held(), index, log_length),
-    )?;
+    fetch(alloc, folder, &mut tiles, named.as_slice(), length)?;
+    let leaf = fetch_leaf(alloc, folder, &mut tiles, index, length)?;
+    let path = made(alloc, inclusion_path(alloc, &tiles, index, log_length))?;
     let root = root_of_inclusion(index, log_length, &leaf, path.as_slice());
     check_root(alloc, folder, &mut tiles, log_length, root, checkpoint)?;
     Ok(path)
@@ -190,6 +207,8 @@ pub(crate) fn growth<F: Folder>(
     ensures own { F.IsFaithful → IfOk result (λ path. (log : LogOf) → HasFiles log (F.seen folder.old)
         → length log.entries ≡ checkpoint.now.length
         → consistency_in log old new ≡ Some path.items) }
+    ensures whole { F.IsFaithful → (log : LogOf) → AreOfLog log checkpoint.now (F.seen folder.old)
+        → IfErr result (IsNoFault ((checkpoint.now.length < new) ⊎ (old ≡ 0) ⊎ (new < old))) }
     ensures seen { F.IsFaithful → F.seen folder.new ≡ F.seen folder.old }
     ensures crash { F.IsFaithful → Within (F.may_leave folder.old) (F.may_leave folder.new) }
 {
@@ -203,10 +222,7 @@ pub(crate) fn growth<F: Folder>(
     }
     let mut tiles = Fetched::new(alloc);
     let path = fetched_growth(alloc, folder, &mut tiles, old, new, checkpoint.length())?;
-    let root = match stored_root(tiles.held(), &LeafRange::new(0, old)) {
-        Some(root) => new_root(old, new, &root, path.as_slice()),
-        None => None,
-    };
+    let root = new_root(&tiles, old, new, path.as_slice());
     check_root(alloc, folder, &mut tiles, new, root, checkpoint)?;
     Ok(path)
 }
@@ -223,19 +239,27 @@ fn fetched_growth<F: Folder>(
     requires order { old ≤ new }
     requires fits { new ≤ GREATEST_LENGTH }
     ensures own { F.IsFaithful → IfOk result (λ path. (log : LogOf) → HasFiles log (F.seen folder.old)
-        → length log.entries ≡ log_length → new ≤ log_length → AreOwn log tiles.old.held
+        → length log.entries ≡ log_length → new ≤ log_length → AreOwn log tiles.old
         → consistency_in log old new ≡ Some path.items) }
+    ensures tiles { F.IsFaithful → OnOk result ((log : LogOf) → HasFiles log (F.seen folder.old)
+        → length log.entries ≡ log_length → new ≤ log_length → AreOwn log tiles.old
+        → AreOwn log tiles.new) }
+    ensures known { OnOk result (IsKnown (digest_by sha256 tiles.new) (needed_between old new)) }
+    ensures whole { F.IsFaithful → (log : LogOf) → HasFiles log (F.seen folder.old)
+        → length log.entries ≡ log_length → 0 < old → new ≤ log_length
+        → IfErr result (IsNoFault ⊥) }
     ensures seen { F.IsFaithful → F.seen folder.new ≡ F.seen folder.old }
     ensures crash { F.IsFaithful → Within (F.may_leave folder.old) (F.may_leave folder.new) }
 {
     let named = tiles_for_consistency(alloc, old, new)?;
-    tiles.fetch(alloc, folder, named.as_slice(), log_length)?;
-    made(alloc, consistency_path(alloc, tiles.held(), old, new))
+    fetch(alloc, folder, tiles, named.as_slice(), log_length)?;
+    made(alloc, consistency_path(alloc, &*tiles, old, new))
 }
 
 // The path that was made, or the refusal for tiles that give none.
 fn made(alloc: Global, path: Result<Path, PathError>) -> Result<Path, LogError>
-    ensures { IfOk result (λ made. path ≡ Ok made) }
+    ensures path { IfOk result (λ made. path ≡ Ok made) }
+    ensures whole { IfErr path (λ error. error ≡ PathError.Memory) → IfErr result (IsNoFault ⊥) }
 {
     match path {
         Ok(path) => Ok(path),
@@ -244,19 +268,22 @@ fn made(alloc: Global, path: Result<Path, PathError>) -> Result<Path, LogError>
     }
 }
 
-// The new root by a consistency path that leads from the old one.
-fn new_root(
-    old: usize,
-    new: usize,
-    root: &Hash<Sha256>,
-    path: &[Hash<Sha256>],
-) -> Option<Hash<Sha256>>
-    ensures { IfSome result (λ to. consistency_roots sha256 old new root.now path.now
-        ≡ Some (root.now, to)) }
+// The new root by a consistency path that leads from the old root, which the tiles have.
+fn new_root(tiles: &Fetched, old: usize, new: usize, path: &[Hash<Sha256>]) -> Option<Hash<Sha256>>
+    requires some { 0 < old }
+    requires fits { old ≤ GREATEST_LENGTH }
+    ensures leads { IfSome result (λ to. (from : List ℕ)
+        × (consistency_roots sha256 old new from path.now ≡ Some (from, to))) }
+    ensures whole { (from to : List ℕ)
+        → old_over sha256 (digest_by sha256 tiles.now) (leaves_from 0 old) ≡ Some from
+        → consistency_roots sha256 old new from path.now ≡ Some (from, to) → result ≡ Some to }
 {
-    match roots_of_consistency(old, new, root, path) {
-        Some((old_root, new_root)) if old_root == *root => Some(new_root),
-        _ => None,
+    let from = stored_root(tiles, &LeafRange::new(0, old))?;
+    let (old_root, new_root) = roots_of_consistency(old, new, &from, path)?;
+    if old_root == from {
+        Some(new_root)
+    } else {
+        None
     }
 }
 
@@ -270,6 +297,10 @@ fn check_root<F: Folder>(
     checkpoint: &Checkpoint<Sha256>,
 ) -> Result<(), LogError>
     ensures leads { OnOk result (IsSomeAnd root (LeadsTo checkpoint.now log_length)) }
+    ensures whole { F.IsFaithful → (log : LogOf) → AreOfLog log checkpoint.now (F.seen folder.old)
+        → 0 < log_length → log_length ≤ checkpoint.now.length → AreOwn log tiles.old
+        → root ≡ Some (root_of sha256 (take log_length (leaves_of sha256 log.entries)))
+        → IfErr result (IsNoFault ⊥) }
     ensures seen { F.IsFaithful → F.seen folder.new ≡ F.seen folder.old }
     ensures crash { F.IsFaithful → Within (F.may_leave folder.old) (F.may_leave folder.new) }
 {
@@ -277,7 +308,10 @@ fn check_root<F: Folder>(
         return Err(LogError::no_root(alloc));
     };
     let old = Checkpoint::new(root, log_length);
-    if old == *checkpoint || is_beginning(alloc, folder, tiles, &old, checkpoint)? {
+    if old == *checkpoint {
+        return Ok(());
+    }
+    if is_beginning(alloc, folder, tiles, &old, checkpoint)? {
         Ok(())
     } else {
         Err(LogError::no_root(alloc))
@@ -293,6 +327,13 @@ fn is_beginning<F: Folder>(
     checkpoint: &Checkpoint<Sha256>,
 ) -> Result<bool, LogError>
     ensures leads { IfOk result (λ is. IsTrue is → LeadsTo checkpoint.now old.now.length old.now.root) }
+    ensures is { F.IsFaithful → IfOk result (λ is. (log : LogOf)
+        → AreOfLog log checkpoint.now (F.seen folder.old) → AreOwn log tiles.old
+        → 0 < old.now.length → old.now.length < checkpoint.now.length
+        → old.now.root ≡ root_of sha256 (take old.now.length (leaves_of sha256 log.entries))
+        → is ≡ true) }
+    ensures whole { F.IsFaithful → (log : LogOf) → AreOfLog log checkpoint.now (F.seen folder.old)
+        → 0 < old.now.length → IfErr result (IsNoFault ⊥) }
     ensures seen { F.IsFaithful → F.seen folder.new ≡ F.seen folder.old }
     ensures crash { F.IsFaithful → Within (F.may_leave folder.old) (F.may_leave folder.new) }
 {

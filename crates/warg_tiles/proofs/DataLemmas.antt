@@ -1,13 +1,14 @@
 -- The digest of a node by the first of some tiles.
-use Rattle.std.proofs.Common.{◌≡◌, ℕ, ◌+◌, ◌-◌, ◌*◌, ◌%◌, ◌^◌, ◌<◌, ◌≤◌, ◌==◌, ◌&&◌, nat_le, true, take, if◌then◌else◌, List, [], ◌∷◌, ◌++◌, length, drop, map, slice_index_or, Option, Some, None, IsSome, sym, ap, ◌∙◌, arith}
+use Rattle.std.proofs.Common.{◌≡◌, ℕ, ◌+◌, ◌-◌, ◌*◌, ◌%◌, ◌^◌, ◌<◌, ◌≤◌, ◌==◌, ◌&&◌, nat_le, true, take, if◌then◌else◌, List, [], ◌∷◌, ◌++◌, length, drop, map, get_or, slice_index_or, Option, Some, None, IsSome, sym, ap, ◌∙◌, arith}
 use borrow.Author.Count.{below_more}
 use Rattle.std.specs.Option.{option_or}
-use Rattle.std.proofs.lemmas.List.{at_drop_more, get_or_append_left}
+use Rattle.std.proofs.lemmas.List.{at_drop_more, get_or_append_left, get_or-map, length-map}
+use Rattle.std.proofs.lemmas.List.Folds.{list_any_at}
 use Rattle.std.proofs.Math.Seq.{get_or-append_seam}
 use Rattle.warg_log.specs.Nodes.{height_of}
 use Rattle.warg_log.specs.Tree.{root_of}
 use Rattle.warg_tiles.specs.Tiles.{TileAt, node_in, place_in_level, tile_over}
-use Rattle.warg_tiles.specs.TileData.{LacksOf, has_below, root_below, digest_of, digest_by}
+use Rattle.warg_tiles.specs.TileData.{LacksOf, covers, covered_by, has_below, root_below, digest_of, digest_by}
 
 -- the first tile that is left, and those behind it
 pub next_tile : {X : Type 0} (H : List ℕ → List ℕ) (f : X → TileAt × List (List ℕ)) (xs : List X) (x : X) (i node : ℕ) → i < length xs → x ≡ slice_index_or xs i x
@@ -38,3 +39,9 @@ pub digests_more : (F : ℕ → Option (List ℕ)) (old new : List (List ℕ)) (
 digests_more F old new n d len is here below =
     let seam : slice_index_or new n [] ≡ d = rw (is, ← len) (get_or-append_seam old d [] []) in
     below_more (λ k. F k ≡ Some (slice_index_or new k [])) n (λ k h. rw (is, get_or_append_left old (d ∷ []) [] k (omega (arith, len, h))) (below k h)) (here ∙ ap Some (sym seam))
+
+-- tiles of which the one at a place covers another one
+pub covered_at : {X : Type 0} (f : X → TileAt × List (List ℕ)) (xs : List X) (i : ℕ) (x : X) (other : TileAt) → i < length xs → x ≡ get_or xs i x → covers (f x).0 other ≡ true → covered_by (map f xs) other ≡ true
+covered_at f xs i x other inside is one =
+    list_any_at (λ (t : TileAt × List (List ℕ)). covers t.0 other) (map f xs) i (f x) (omega (arith, length-map xs f, inside))
+    (ap (λ (t : TileAt × List (List ℕ)). covers t.0 other) (get_or-map f xs i x (f x) inside ∙ ap f (sym is)) ∙ one)

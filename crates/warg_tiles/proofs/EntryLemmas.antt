@@ -53,3 +53,13 @@ bundle_once (x ∷ xs) (y ∷ ys) rest count is =
     let more = same_first x y (bundle_of xs ++ rest) (bundle_of ys) (ap (λ l. two_bytes (length x) ++ l) (sym (append_assoc x (bundle_of xs) rest)) ∙ is) in
     let behind = bundle_once xs ys rest (omega (arith, count)) more.1 in
     ap (λ e. e ∷ xs) more.0 ∙ ap (λ l. y ∷ l) behind
+
+-- a bundle's bytes are those of its entries alone
+pub bundle_same : (xs ys : List (List ℕ)) → bundle_of xs ≡ bundle_of ys → xs ≡ ys
+unfolding bundle_of
+bundle_same [] [] is = refl
+bundle_same [] (y ∷ ys) is = absurd (cc)
+bundle_same (x ∷ xs) [] is = absurd (cc)
+bundle_same (x ∷ xs) (y ∷ ys) is =
+    let more = same_first x y (bundle_of xs) (bundle_of ys) is in
+    ap (λ e. e ∷ xs) more.0 ∙ ap (λ l. y ∷ l) (bundle_same xs ys more.1)

@@ -4,19 +4,19 @@ use Rattle.std.specs.List.{AllByRecursion, flat_map, list_any}
 use Rattle.std.specs.Prelude.{IsSome, Option}
 use Rattle.std.specs.Option.{option_or}
 use Rattle.std.proofs.lemmas.Nat.{pow_pos, le-div}
-use Rattle.std.proofs.lemmas.Bool.{le-leb, eq-eqb, true≢false}
+use Rattle.std.proofs.lemmas.Bool.{le-leb, eq-eqb, eqb-true, leb-true, and_parts, true≢false}
 use Rattle.std.proofs.lemmas.Grind.{flat_map-append}
 use Rattle.std.proofs.lemmas.List.{append_assoc, append-nil, map_more}
 use Rattle.std.proofs.lemmas.List.Folds.{list_any-append, list_any_at}
 use Rattle.std.proofs.lemmas.List.Quantifiers.{all_pairs_push}
 use Rattle.warg_log.specs.declared.node.Node.{Node}
-use Rattle.warg_log.specs.Nodes.{ExistsAt, height_of, place_of, end_of, balanced_roots}
+use Rattle.warg_log.specs.Nodes.{ExistsAt, height_of, place_of, end_of, node_over, balanced_roots}
 use Rattle.warg_log.specs.Walks.{needed, IsKnown}
-use Rattle.warg_log.proofs.ForCallers.{pow_below_pow, roots_exist}
+use Rattle.warg_log.proofs.ForCallers.{pow_below_pow, over_at, roots_exist}
 use Rattle.warg_protobuf.proofs.ForCallers.{all_append, all_push, all_weaken, all_at}
 use Rattle.warg_tiles.specs.Tiles.{TileAt, place_in_level, tile_over}
 use Rattle.warg_tiles.specs.Between.{IsTileOf}
-use Rattle.warg_tiles.specs.TileData.{Tiles, has_below, digest_of, digest_by}
+use Rattle.warg_tiles.specs.TileData.{Tiles, covers, covered_by, has_below, digest_of, digest_by}
 use Rattle.warg_tiles.specs.Fetching.{gives, serves, AreFor, IsAdded}
 use Rattle.warg_tiles.proofs.TileLemmas.{place_in_level_is, width_most}
 use Rattle.warg_tiles.proofs.OwnLemmas.{leaves_by_tile}
@@ -125,3 +125,46 @@ added_root n tiles more roots i d inside so_far added =
     let root = (get_or roots i d).0 in
     rw (map_more (λ (x : Node). x.0) roots i d inside, flat_map-append (λ t. t ∷ needed t n) before (root ∷ []), append-nil (root ∷ needed root n))
     (added_append n [] tiles more (flat_map (λ t. t ∷ needed t n) before) (root ∷ needed root n) so_far added)
+
+-- the tests of a tile that covers another one
+covers_parts : (t u : TileAt) → covers t u ≡ true → (t.level ≡ u.level) × (t.number ≡ u.number) × (u.width ≤ t.width)
+covers_parts t u is =
+    let level = and_parts (t.level == u.level) (t.number == u.number && nat_le u.width t.width) is in
+    let number = and_parts (t.number == u.number) (nat_le u.width t.width) level.1 in
+    (eqb-true t.level u.level level.0, eqb-true t.number u.number number.0, leb-true u.width t.width number.1)
+
+covers_from : (t u : TileAt) → t.level ≡ u.level → t.number ≡ u.number → u.width ≤ t.width → covers t u ≡ true
+covers_from t u level number width = rw (eq-eqb t.level u.level level, eq-eqb t.number u.number number, le-leb u.width t.width width) refl
+
+covers_then : (t u v : TileAt) → covers t u ≡ true → covers u v ≡ true → covers t v ≡ true
+covers_then t u v one two =
+    let a = covers_parts t u one in
+    let b = covers_parts u v two in
+    covers_from t v (a.0 ∙ b.0) (a.1 ∙ b.1) (omega (arith, a.2, b.2))
+
+-- a wider tile in a tile's place gives what that one gives
+pub wider_gives : (t wide : TileAt) (x : ℕ) → wide.level ≡ t.level → wide.number ≡ t.number → t.width ≤ wide.width → has_below t x ≡ true → has_below wide x ≡ true
+wider_gives t wide x level number more = covers_then wide t (tile_over x) (covers_from wide t level number more)
+
+-- tiles of which one covers a tile give what that one gives
+pub covered_gives : (tiles : Tiles) (t : TileAt) (x : ℕ) → covered_by tiles t ≡ true → has_below t x ≡ true → gives (map (λ (s : TileAt × List (List ℕ)). s.0) tiles) x ≡ true
+covered_gives [] t x is has = absurd (true≢false (sym is))
+covered_gives (s ∷ tiles) t x is has = by_first (covers s.0 t) refl is (λ others. covered_gives tiles t x others has)
+  where
+    by_first : (b : Bool) → covers s.0 t ≡ b → (b || covered_by tiles t) ≡ true
+        → (covered_by tiles t ≡ true → gives (map (λ (s : TileAt × List (List ℕ)). s.0) tiles) x ≡ true)
+        → gives (map (λ (s : TileAt × List (List ℕ)). s.0) (s ∷ tiles)) x ≡ true
+    by_first true one is others = rw (covers_then s.0 t (tile_over x) one has) refl
+    by_first false none is others = rw (others is) (or_true (has_below s.0 x))
+
+-- a tile of level 0 that is as wide as an entry's place needs gives the entry's leaf
+pub leaf_given : (t : TileAt) (index : ℕ) → t.level ≡ 0 → t.number ≡ index / 256 → index % 256 + 1 ≤ t.width → has_below t (2 * index) ≡ true
+leaf_given t index level number wide =
+    let x = 2 * index in
+    let at = over_at 0 index in
+    let same : node_over (index * 2 ^ 0) (2 ^ 0) ≡ x = omega arith in
+    let height : height_of x ≡ 0 = ap height_of (sym same) ∙ at.0 in
+    let place : place_of x ≡ index = ap place_of (sym same) ∙ at.1 in
+    let one : 2 ^ (height_of x % 8) ≡ 1 = ap (λ h. 2 ^ (h % 8)) height in
+    let in_level : place_in_level x ≡ index = place_in_level_is x ∙ omega (arith, place, ap (λ n. place_of x * n) one) in
+    covers_from t (tile_over x) (level ∙ sym (ap (λ h. h / 8) height)) (number ∙ sym (ap (λ n. n / 256) in_level)) (omega (arith, in_level, one, wide))

@@ -1,15 +1,18 @@
 -- Lemmas for the proofs of the crates above, over public definitions alone.
-use Rattle.std.proofs.Common.{◌≡◌, ℕ, ◌^◌, ◌<◌, ◌≤◌, List, [], ◌∷◌, ◌++◌, length, Option, Some}
+use Rattle.std.proofs.Common.{◌≡◌, ℕ, ◌+◌, ◌*◌, ◌/◌, ◌%◌, ◌^◌, ◌<◌, ◌≤◌, true, List, [], ◌∷◌, ◌++◌, length, map, Option, Some}
 use Rattle.std.specs.List.{AllByRecursion}
 use Rattle.warg_log.specs.Tree.{own_digest}
+use Rattle.warg_log.specs.Walks.{IsKnown}
 use Rattle.warg_tiles.specs.Tiles.{TileAt, tile_end}
 use Rattle.warg_tiles.specs.Between.{IsTileOf}
-use Rattle.warg_tiles.specs.TileData.{Tiles, IsTileBy, digest_by}
+use Rattle.warg_tiles.specs.TileData.{Tiles, IsTileBy, covered_by, has_below, digest_by}
+use Rattle.warg_tiles.specs.Fetching.{gives}
 use Rattle.warg_tiles.specs.TileLog.{tile_digests, partial_tiles, full_between, AreFullBetween, ArePartialOf}
 use Rattle.warg_tiles.specs.EntryBundles.{two_bytes, bundle_of}
 use Rattle.warg_tiles.specs.CheckpointText.{Said, CanBeSaid, text_before}
 use Rattle.warg_tiles.proofs.EdgeLemmas as edges
 use Rattle.warg_tiles.proofs.EntryLemmas as entries
+use Rattle.warg_tiles.proofs.FetchLemmas as fetching
 use Rattle.warg_tiles.proofs.FullLemmas as full
 use Rattle.warg_tiles.proofs.GrowthLemmas as growth
 use Rattle.warg_tiles.proofs.OpenLemmas as opening
@@ -43,6 +46,26 @@ text_once = texts.text_once
 -- as many entries at the head of a bundle's bytes are the bundle's
 pub bundle_once : (xs ys : List (List ℕ)) (rest : List ℕ) → length xs ≡ length ys → bundle_of xs ++ rest ≡ bundle_of ys → xs ≡ ys
 bundle_once = entries.bundle_once
+
+-- a bundle's bytes are those of its entries alone
+pub bundle_same : (xs ys : List (List ℕ)) → bundle_of xs ≡ bundle_of ys → xs ≡ ys
+bundle_same = entries.bundle_same
+
+-- whoever has the tiles for some nodes knows their digests
+pub given_known : (H : List ℕ → List ℕ) (tiles : Tiles) (nodes : List ℕ) → AllByRecursion (λ x. gives (map (λ t. t.0) tiles) x ≡ true) nodes → IsKnown (digest_by H tiles) nodes
+given_known = fetching.all_known
+
+-- a wider tile in a tile's place gives what that one gives
+pub wider_gives : (t wide : TileAt) (x : ℕ) → wide.level ≡ t.level → wide.number ≡ t.number → t.width ≤ wide.width → has_below t x ≡ true → has_below wide x ≡ true
+wider_gives = fetching.wider_gives
+
+-- tiles of which one covers a tile give what that one gives
+pub covered_gives : (tiles : Tiles) (t : TileAt) (x : ℕ) → covered_by tiles t ≡ true → has_below t x ≡ true → gives (map (λ (s : TileAt × List (List ℕ)). s.0) tiles) x ≡ true
+covered_gives = fetching.covered_gives
+
+-- a tile of level 0 that is as wide as an entry's place needs gives the entry's leaf
+pub leaf_given : (t : TileAt) (index : ℕ) → t.level ≡ 0 → t.number ≡ index / 256 → index % 256 + 1 ≤ t.width → has_below t (2 * index) ≡ true
+leaf_given = fetching.leaf_given
 
 -- a digest that a log's own tiles give is the node's
 pub digest_by_own : (H : List ℕ → List ℕ) (ds : List (List ℕ)) (tiles : Tiles) (x : ℕ) (d : List ℕ) → AllByRecursion (λ t. IsTileBy (own_digest H ds) t.0 t.1) tiles → digest_by H tiles x ≡ Some d → own_digest H ds x ≡ Some d

@@ -1,6 +1,6 @@
 -- Digests of tiles, and what they come to.
 use Rattle.std.specs.Prelude.{◌≡◌, ℕ, ◌+◌, ◌*◌, ◌%◌, ◌^◌, ◌<◌, ◌==◌, ◌&&◌, nat_le, if◌then◌else◌, Bool, List, [], ◌∷◌, length, map, take, drop, Option, Some, None, slice_index_or}
-use Rattle.std.specs.List.{range_with_len}
+use Rattle.std.specs.List.{list_any, range_with_len}
 use Rattle.std.specs.Option.{option_or}
 use Rattle.warg_log.specs.Nodes.{height_of}
 use Rattle.warg_log.specs.Tree.{root_of, own_digest}
@@ -23,9 +23,17 @@ digests_in count bytes = map (λ i. take 32 (drop (32 * i) bytes)) (range_with_l
 abbrev pub Tiles : Type 0
 Tiles = List (TileAt × List (List ℕ))
 
+-- The tile has all digests of another one: it has its level and its number, and is at least as wide.
+abbrev pub covers : TileAt → TileAt → Bool
+covers t other = t.level == other.level && (t.number == other.number && nat_le other.width t.width)
+
+-- One of the tiles has all digests of another one.
+abbrev pub covered_by : Tiles → TileAt → Bool
+covered_by tiles other = list_any (λ (t : TileAt × List (List ℕ)). covers t.0 other) tiles
+
 -- The tile has all digests of its level below a node.
 abbrev pub has_below : TileAt → ℕ → Bool
-has_below t x = t.level == (tile_over x).level && (t.number == (tile_over x).number && nat_le (tile_over x).width t.width)
+has_below t x = covers t (tile_over x)
 
 -- The digests of a node's tile that are below the node.
 abbrev pub digests_below : List (List ℕ) → ℕ → List (List ℕ)

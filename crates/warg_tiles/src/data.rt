@@ -2,7 +2,7 @@
 
 ghost use Rattle.std.specs.Prelude.{◌≡◌, ◌≢◌, ◌*◌, ◌<◌, ◌≤◌, ◌↔◌, [], ◌∷◌, ◌++◌, length, map, Err, Option, IfOk, OnOk, OnErr};
 ghost use Rattle.warg_tiles.specs.Tiles.{tile_end};
-ghost use Rattle.warg_tiles.specs.TileData.{IsTileBy, LacksOf, digest_by, digests_in};
+ghost use Rattle.warg_tiles.specs.TileData.{IsTileBy, LacksOf, covered_by, digest_by, digests_in};
 
 use crate::error::{TileBytesError, TileError};
 use crate::stored::StoredTile;
@@ -80,6 +80,25 @@ impl<D: SupportedDigest, V: VisitBytes, A: Allocator> TileData<D, V, A> {
         self.tiles.push(StoredTile { tile, digests })?;
         Ok(())
     }
+
+    /// Whether one of the tiles has all digests of this one: it has its level and its number, and is at least as wide.
+    pub fn has_tile(&self, tile: &Tile) -> bool
+        ensures { result ≡ covered_by self.now tile.now }
+    {
+        any_covers(self.tiles.as_slice(), tile)
+    }
+}
+
+// Whether one of the tiles has all digests of another one.
+fn any_covers<D, A: Allocator>(tiles: &[StoredTile<D, A>], tile: &Tile) -> bool
+    ensures { result ≡ covered_by (map (λ h. (h.tile, h.digests.items)) tiles.now) tile.now }
+{
+    'tiles: for held in tiles {
+        if held.tile.covers(tile) {
+            return true;
+        }
+    }
+    false
 }
 
 impl<D: SupportedDigest, V: VisitBytes, A: Allocator + Copy> TileData<D, V, A> {

@@ -1,9 +1,10 @@
 //! Tiles of a log's tree.
 
-ghost use Rattle.std.specs.Prelude.{◌≡◌, ◌*◌, ◌<◌, ◌≤◌, ◌↔◌, ◌==◌, ◌&&◌, nat_le, map, IsTrue, IfOk};
+ghost use Rattle.std.specs.Prelude.{◌≡◌, ◌*◌, ◌<◌, ◌≤◌, ◌↔◌, map, IsTrue, IfOk};
 ghost use Rattle.std.specs.List.{range_with_len};
 ghost use Rattle.warg_log.specs.Nodes.{place_of};
 ghost use Rattle.warg_tiles.specs.Tiles.{node_in, tile_end, tile_over};
+ghost use Rattle.warg_tiles.specs.TileData.{covers};
 
 use std::alloc::{AllocError, Allocator};
 use std::marker::Model;
@@ -112,8 +113,7 @@ impl Tile {
 
     // Whether the tile has all digests of another one: it is of the same level and number, and at least as wide.
     pub(crate) fn covers(&self, other: &Tile) -> bool
-        ensures { result ≡ (self.now.level == other.now.level &&
-            (self.now.number == other.now.number && nat_le other.now.width self.now.width)) }
+        ensures { result ≡ covers self.now other.now }
     {
         self.level == other.level && (self.number == other.number && other.width <= self.width)
     }

@@ -10,8 +10,9 @@ use Rattle.warg_tiles.specs.TileLog.{last_tile, tile_digests}
 use Rattle.warg_tiles.specs.declared.stored.StoredTile.{StoredTile}
 use Rattle.warg_store.specs.Log.{HasFiles, tile_bytes}
 use Rattle.warg_store.specs.Opening.{IsStaging}
-use Rattle.warg_store.proofs.GrowingLemmas.{same_tile}
-use Rattle.warg_store.proofs.OpenLemmas.{ArePartsTo, part_none, part_some, part_there}
+use Rattle.warg_store.specs.Refusals.{IsNoFault}
+use Rattle.warg_store.proofs.OpenLemmas.{ArePartsTo, part_none, part_some, level_there}
+use Rattle.warg_store.proofs.WholeLemmas.{err_same}
 use Rattle.warg_store.proofs.edge.read_edge.Goals.{then-count-ne0+in_ok-read_tile+in_ok-push, else-count-ne0}
 use Rattle.warg_store.proofs.edge.read_edge.Goals as goal
 
@@ -26,13 +27,11 @@ levels-preserved g c =
         seen = λ faithful. ap seen w.folder-is ∙ w.read_tile.ensures.seen faithful ∙ c.levels.invariant.seen faithful;
         edge = λ faithful log size has.
             let read = w.in_ok-read_tile.field-0 in
-            let tile : w.new-tile.result ≡ last_tile (length log.entries) level =
-            same_tile w.new-tile.result (last_tile (length log.entries) level) w.new-tile.ensures.level (w.new-tile.ensures.number ∙ ap (λ n. n / 2 ^ (8 * level) / 256) size)
-            (w.new-tile.ensures.width ∙ ap (λ n. n / 2 ^ (8 * level) % 256) size) in
             let some : 0 < length log.entries / 2 ^ (8 * level) % 256 = subst (λ n. 0 < n / 2 ^ (8 * level) % 256) size (omega (arith, w.if-count-ne0.true)) in
-            let there = part_there log (seen c.levels.folder) level c.levels-test.true some (subst (HasFiles log) (sym (c.levels.invariant.seen faithful)) has) in
+            let there = level_there log (seen c.levels.folder) c.args.log_length level w.new-tile.result c.levels-test.true size w.new-tile.ensures.level w.new-tile.ensures.number w.new-tile.ensures.width (omega (arith, w.if-count-ne0.true)) (subst (HasFiles log) (sym (c.levels.invariant.seen faithful)) has) in
+            let tile = there.0 in
             let digests : read.digests.items ≡ tile_digests sha256 (leaves_of sha256 log.entries) (last_tile (length log.entries) level) =
-            w.in_ok-read_tile.ensures.read faithful log (subst (λ (t : TileAt). seen c.levels.folder (tile_path t) ≡ Some (tile_bytes log t)) (sym tile) there)
+            w.in_ok-read_tile.ensures.read faithful log there.1
             ∙ ap (tile_digests sha256 (leaves_of sha256 log.entries)) tile in
             subst (λ l. ArePartsTo log (level + 1) l)
             (sym (ap (λ (v : Vec (StoredTile Sha256 Global) Global). map with_digests v.items) w.edge-is ∙ ap (map with_digests) w.in_ok-push.ensures.items ∙ map-append with_digests c.levels.edge.items (read ∷ [])
@@ -48,3 +47,8 @@ levels-preserved g c =
             (part_none log level (map with_digests c.levels.edge.items) none (c.levels.invariant.edge faithful log size has));
       }
     ]
+
+pub returns-in_err-read_tile-clause-whole : goal.returns-in_err-read_tile-clause-whole
+returns-in_err-read_tile-clause-whole g c = λ faithful log size has.
+    let there = level_there log (g.F.Folder.seen c.levels.folder) c.args.log_length c.levels.level c.new-tile.result c.levels-test.true size c.new-tile.ensures.level c.new-tile.ensures.number c.new-tile.ensures.width (omega (arith, c.if-count-ne0.true)) (subst (HasFiles log) (sym (c.levels.invariant.seen faithful)) has) in
+    err_same (IsNoFault ⊥) c.in_err-read_tile.field-0.0 c.from_residual.result c.from_residual.ensures.1 (c.in_err-read_tile.ensures.whole faithful log there.1)

@@ -1,9 +1,12 @@
-use Rattle.std.proofs.Common.{◌≡◌, ℕ, List, Some, sym, ap, subst, ◌∙◌}
+use Rattle.std.proofs.Common.{◌≡◌, ℕ, List, length, Some, sym, ap, subst, ◌∙◌}
 use Rattle.warg_tiles.specs.CheckpointText.{Said, text_of}
 use Rattle.warg_store.specs.Files.{Files, put}
 use Rattle.warg_store.specs.Names.{state}
-use Rattle.warg_store.specs.Log.{Keeps, said_of, checkpoint_of}
+use Rattle.warg_store.specs.Log.{HasFiles, Keeps, said_of, checkpoint_of}
 use Rattle.warg_store.proofs.OpenLemmas.{taken_over}
+use Rattle.warg_store.specs.Growing.{ArePartsOf}
+use Rattle.warg_store.specs.Refusals.{IsNoFault}
+use Rattle.warg_store.proofs.WholeLemmas.{err_same, same_said}
 use Rattle.warg_store.proofs.opening.take_over.Goals as goal
 
 pub returns-clause-text : goal.returns-clause-text
@@ -18,3 +21,21 @@ returns-clause-text g c = λ faithful log serves.
           (sym (c.in_ok-replace.ensures.replaced faithful ∙ ap (λ (b : List ℕ). put (state, b) (seen c.read_edge.new.folder)) bytes ∙ ap (λ (f : Files). put (state, checkpoint_of log) f) same))
           (taken_over log (seen c.args.folder.now) serves),
     )
+
+pub returns-in_err-edge-clause-whole : goal.returns-in_err-edge-clause-whole
+returns-in_err-edge-clause-whole g c = λ faithful log serves.
+    let both : ◌≡◌ (Some c.in-Some.served) (Some (said_of log)) = sym c.in-Some.is ∙ c.in_ok-served.ensures.text faithful log serves.checkpoint.0 serves.can serves.checkpoint.1 in
+    let said : c.in-Some.served ≡ said_of log = cc (both) in
+    let size : c.length.result ≡ length log.entries = c.length.ensures ∙ c.checkpoint-checkpoint.ensures.length ∙ ap (λ (s : Said). s.length) said in
+    err_same (IsNoFault ⊥) c.in_err-edge.field-0.0 c.from_residual-in_err-edge.result c.from_residual-in_err-edge.ensures.1
+    (c.in_err-edge.ensures.whole faithful log size (subst (HasFiles log) (sym (c.read_text.ensures.seen faithful)) serves.holds))
+
+pub returns-in_err-open_edge-clause-whole : goal.returns-in_err-open_edge-clause-whole
+returns-in_err-open_edge-clause-whole g c = λ faithful log serves.
+    let both : ◌≡◌ (Some c.in-Some.served) (Some (said_of log)) = sym c.in-Some.is ∙ c.in_ok-served.ensures.text faithful log serves.checkpoint.0 serves.can serves.checkpoint.1 in
+    let said : c.in-Some.served ≡ said_of log = cc (both) in
+    let size : c.length.result ≡ length log.entries = c.length.ensures ∙ c.checkpoint-checkpoint.ensures.length ∙ ap (λ (s : Said). s.length) said in
+    let parts = c.in_ok-edge.ensures.edge faithful log size (subst (HasFiles log) (sym (c.read_text.ensures.seen faithful)) serves.holds) in
+    let says = same_said c.checkpoint-checkpoint.result (said_of log) (c.checkpoint-checkpoint.ensures.root ∙ ap (λ (s : Said). s.root) said) (c.checkpoint-checkpoint.ensures.length ∙ ap (λ (s : Said). s.length) said) in
+    err_same (IsNoFault ⊥) c.in_err-open_edge.field-0.0 c.from_residual-in_err-open_edge.result c.from_residual-in_err-open_edge.ensures.1
+    (c.in_err-open_edge.ensures.whole log says (subst (ArePartsOf log) (sym c.as_slice.ensures.value) parts))

@@ -1,4 +1,4 @@
-use Rattle.std.proofs.Common.{◌≡◌, List, length, sym, ap, subst, ◌∙◌, arith}
+use Rattle.std.proofs.Common.{◌≡◌, List, length, Err, sym, ap, subst, ◌∙◌, arith}
 use Rattle.std.specs.declared.alloc.Global.{Global}
 use Rattle.warg_crypto.specs.declared.hash.Sha256.{Sha256}
 use Rattle.warg_tiles.specs.CheckpointText.{Said}
@@ -7,6 +7,7 @@ use Rattle.warg_store.specs.Opening.{NothingStaged}
 use Rattle.warg_store.specs.Log.{Keeps, HasLog, HasFiles}
 use Rattle.warg_store.specs.Growing.{Has, ArePartsOf}
 use Rattle.warg_store.proofs.OpenLemmas.{opened_has, beside_state}
+use Rattle.warg_store.proofs.WholeLemmas.{mark_fits}
 use Rattle.warg_store.proofs.log_folder.LogFolder.open.Goals as goal
 
 pub returns-clause-has : goal.returns-clause-has
@@ -28,3 +29,7 @@ returns-clause-has g c = λ faithful served kept has.
     (c.in_ok-log.ensures.length.0 ∙ c.checkpoint-checkpoint.ensures.length) (c.in_ok-log.ensures.length.1 ∙ c.checkpoint-checkpoint.ensures.length)
     (c.in_ok-log.ensures.stands kept long first) (c.in_ok-bundle.ensures.bundle faithful kept keeps.can (subst (HasFiles kept) (sym edge_seen) keeps.holds) again)
     (omega (arith, c.length-held.ensures, c.checkpoint-checkpoint.ensures.length)))
+
+pub returns-in-Err-clause-opens : goal.returns-in-Err-clause-opens
+returns-in-Err-clause-opens g c = λ faithful served kept has.
+    c.of_recovery.ensures (λ long. let stands = c.in-Err.ensures.too_long faithful (ap (λ e. Err e) long) in omega (arith, mark_fits served kept (g.F.Folder.seen c.args.folder) stands.0 stands.1 has, stands.2))

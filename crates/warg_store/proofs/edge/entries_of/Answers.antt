@@ -1,0 +1,11 @@
+use Rattle.std.proofs.Common.{◌≡◌, List, ℕ, Bor, map, length, sym, ap, ◌∙◌, arith}
+use Rattle.std.proofs.lemmas.List.{length-map}
+use Rattle.warg_tiles.specs.EntryBundles.{bundle_of}
+use Rattle.warg_store.proofs.WholeLemmas.{bundle_count}
+use Rattle.warg_store.proofs.edge.entries_of.Goals as goal
+
+pub returns-then-len-width-clause-whole : goal.returns-then-len-width-clause-whole
+returns-then-len-width-clause-whole c = λ log short is same.
+    let es : List (List ℕ) = map (λ (e : Bor (List ℕ)). e.now) c.in-Ok.entries.items in
+    let count = bundle_count log c.args.tile.now es is (sym c.in-Ok.ensures.ok ∙ same) in
+    absurd (omega (arith, count, length-map c.in-Ok.entries.items (λ (e : Bor (List ℕ)). e.now), c.if-len-width.true, c.len.ensures, c.width.ensures.value))

@@ -1,0 +1,12 @@
+-- Why a call on a log in files is refused.
+use Rattle.std.specs.Prelude.{ℕ}
+use Rattle.warg_store.specs.declared.error.LogError.{LogError}
+use Rattle.warg_store.specs.declared.error.LogError.TheVariants.{NoLog, Damaged, RolledBack, OutOfRange, Folder}
+
+-- None of the log's files is at fault: memory was refused, the device failed, or what was asked for is beyond the log.
+abbrev pub IsNoFault : Type 0 → LogError → Type 0
+IsNoFault beyond NoLog = ⊥
+IsNoFault beyond (Damaged damage) = ⊥
+IsNoFault beyond (RolledBack found newest) = ⊥
+IsNoFault beyond (OutOfRange bound) = beyond
+IsNoFault beyond (Folder cause) = Unit {0}
