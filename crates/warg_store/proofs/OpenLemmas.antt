@@ -20,11 +20,11 @@ use Rattle.warg_tiles.specs.Between.{IsTileOf}
 use Rattle.warg_tiles.specs.TileData.{Tiles, IsTileBy}
 use Rattle.warg_tiles.specs.TileLog.{RightEdge, StandsFor, last_tile, tile_digests, AreTilesOf}
 use Rattle.warg_tiles.specs.EntryBundles.{bundle_of}
-use Rattle.warg_tiles.specs.CheckpointText.{Said, CanBeSaid, line, lines, behind, text_before}
+use Rattle.warg_tiles.specs.CheckpointText.{Said, CanBeSaid, line, lines, behind, text_before, text_of}
 use Rattle.warg_tiles.proofs.ForCallers.{partial_of, tile_own}
 use Rattle.warg_store.specs.Files.{Files, put, SameBut}
 use Rattle.warg_store.specs.Names.{checkpoint, state, staged, is_staged, is_own}
-use Rattle.warg_store.specs.Opening.{IsStaging, NothingStaged}
+use Rattle.warg_store.specs.Opening.{IsStaging, NothingStaged, CanBeServed, AgreesWith}
 use Rattle.warg_store.specs.Log.{LogOf, AreShort, CanBeKept, said_of, checkpoint_of, tile_bytes, bundle_bytes, HasFiles, Serves, Keeps, IsFileOf}
 use Rattle.warg_store.specs.Growing.{Has}
 use Rattle.warg_store.proofs.NameLemmas.{apart, served_not_state}
@@ -110,22 +110,33 @@ can_be_said log can = record { origin = can.origin; length = can.most; root = ro
 line_on : (a r x : List ℕ) → line a r ++ x ≡ line a (r ++ x)
 line_on a r x = append_assoc a (10 ∷ r) x
 
--- a text, and what stands behind it
-pub text_parts : (log : LogOf) (rest : Option (List ℕ)) → text_before (said_of log) rest ≡ checkpoint_of log ++ behind rest
+lines_on : (ls : List (List ℕ)) (r x : List ℕ) → lines ls r ++ x ≡ lines ls (r ++ x)
 unfolding lines
-text_parts log rest = sym (line_on _ _ (behind rest) ∙ ap (line log.origin) (line_on _ _ (behind rest) ∙ ap (line _) (line_on _ [] (behind rest))))
+lines_on [] r x = refl
+lines_on (l ∷ ls) r x = line_on l (lines ls r) x ∙ ap (line l) (lines_on ls r x)
+
+-- a text, and what stands behind it
+pub text_parts : (said : Said) (rest : Option (List ℕ)) → text_before said rest ≡ text_of said ++ behind rest
+text_parts said rest = sym (line_on _ _ (behind rest) ∙ ap (line said.origin) (line_on _ _ (behind rest) ∙ ap (line _) (line_on _ _ (behind rest) ∙ ap (line _) (lines_on said.extensions [] (behind rest)))))
+
+-- what a kept log says is a text that can be served
+pub kept_said : (log : LogOf) → CanBeKept log → CanBeServed (said_of log)
+kept_said log can = record { can = can_be_said log can; text = can.text }
+
+pub agrees_self : (said : Said) → AgreesWith said said
+agrees_self said = record { origin = refl; length = omega arith; root = λ same. refl }
 
 -- a text that was read up to a length behind it
-pub text_read : (log : LogOf) (rest : Option (List ℕ)) (o : Option (List ℕ)) (bytes : List ℕ) (most : ℕ) → CanBeKept log → most ≡ 2 ^ 20 → o ≡ Some (text_before (said_of log) rest) → Some bytes ≡ option_map (take (most + 1)) o
-    → (found : Option (List ℕ)) × (bytes ≡ text_before (said_of log) found)
-text_read log None o bytes most can is there read = (None, read_within o bytes (text_before (said_of log) None) most read there (omega (arith, is, can.text)))
-text_read log (Some rest) o bytes most can is there read =
-    let text = checkpoint_of log in
-    let same : Some bytes ≡ Some (take (most + 1) (text ++ (10 ∷ rest))) = read ∙ ap (option_map (take (most + 1))) there ∙ ap (λ (b : List ℕ). Some (take (most + 1) b)) (text_parts log (Some rest)) in
+pub text_read : (said : Said) (rest : Option (List ℕ)) (o : Option (List ℕ)) (bytes : List ℕ) (most : ℕ) → CanBeServed said → most ≡ 2 ^ 20 → o ≡ Some (text_before said rest) → Some bytes ≡ option_map (take (most + 1)) o
+    → (found : Option (List ℕ)) × (bytes ≡ text_before said found)
+text_read said None o bytes most can is there read = (None, read_within o bytes (text_before said None) most read there (omega (arith, is, can.text)))
+text_read said (Some rest) o bytes most can is there read =
+    let text = text_of said in
+    let same : Some bytes ≡ Some (take (most + 1) (text ++ (10 ∷ rest))) = read ∙ ap (option_map (take (most + 1))) there ∙ ap (λ (b : List ℕ). Some (take (most + 1) b)) (text_parts said (Some rest)) in
     let cut : bytes ≡ take (most + 1) (text ++ (10 ∷ rest)) = cc in
     let left : most + 1 ≡ length text + suc (most - length text) = omega (arith, is, can.text) in (
       Some (take (most - length text) rest),
-      cut ∙ ap (λ n. take n (text ++ (10 ∷ rest))) left ∙ take-append-add text (10 ∷ rest) (suc (most - length text)) ∙ sym (text_parts log (Some (take (most - length text) rest))),
+      cut ∙ ap (λ n. take n (text ++ (10 ∷ rest))) left ∙ take-append-add text (10 ∷ rest) (suc (most - length text)) ∙ sym (text_parts said (Some (take (most - length text) rest))),
     )
 
 -- The right edge.

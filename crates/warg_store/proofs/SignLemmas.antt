@@ -7,7 +7,7 @@ use Rattle.warg_store.specs.Files.{Files, put, Either}
 use Rattle.warg_store.specs.Moments.{Follows, LeavesOnly}
 use Rattle.warg_store.specs.Names.{checkpoint, state, mark, staged, is_staged, is_own}
 use Rattle.warg_store.specs.Opening.{IsBeside, IsStaging}
-use Rattle.warg_store.specs.Log.{LogOf, Keeps, IsOneOf, IsFileOf, IsNoteOf, checkpoint_of}
+use Rattle.warg_store.specs.Log.{said_of, LogOf, Keeps, IsOneOf, IsFileOf, IsNoteOf, checkpoint_of}
 use Rattle.warg_store.specs.Growing.{LogIn, Has, AreFullStaged}
 use Rattle.warg_store.proofs.NameLemmas.{one_name, apart, served_not_checkpoint}
 use Rattle.warg_store.proofs.FileLemmas.{put_here, put_apart}
@@ -58,7 +58,7 @@ module _ (note : List ℕ) (s : Files) where
         holds = same_files old s (put (checkpoint, note) s) same keeps.holds;
         serves = record {
           can = keeps.can;
-          checkpoint = (Some (is.0 ∷ is.1), put_here (checkpoint, note) s ∙ ap (λ (b : List ℕ). Some b) (is.2 ∙ sym (text_parts old (Some (is.0 ∷ is.1)))));
+          checkpoint = (Some (is.0 ∷ is.1), put_here (checkpoint, note) s ∙ ap (λ (b : List ℕ). Some b) (is.2 ∙ sym (text_parts (said_of old) (Some (is.0 ∷ is.1)))));
           holds = same_files old s (put (checkpoint, note) s) same keeps.holds;
         };
         begins = extends_self old;

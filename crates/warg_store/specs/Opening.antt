@@ -1,7 +1,8 @@
 -- What a folder stands for: its files once it has been opened.
-use Rattle.std.specs.Prelude.{◌≡◌, ◌⊎◌, ℕ, ◌^◌, ◌==◌, nat_eq, nat_lt, Bool, ◌&&◌, ◌||◌, true, false, List, [], ◌∷◌, length, Option, Some, None, if◌then◌else◌}
+use Rattle.std.specs.Prelude.{◌≡◌, ◌⊎◌, ℕ, ◌^◌, ◌≤◌, ◌==◌, nat_eq, nat_lt, Bool, ◌&&◌, ◌||◌, true, false, List, [], ◌∷◌, length, Option, Some, None, if◌then◌else◌}
 use Rattle.std.specs.Cmp.Lexicographic.{pointwise}
 use Rattle.std.specs.Option.{option_or}
+use Rattle.warg_tiles.specs.CheckpointText.{Said, CanBeSaid, text_of}
 use Rattle.warg_store.specs.Files.{Files, put}
 use Rattle.warg_store.specs.Names.{checkpoint, state, mark, staged, is_staged, is_own, is_served}
 
@@ -27,6 +28,17 @@ has_empty_line (byte ∷ bytes) = (byte == 10 && begins_line bytes) || has_empty
 unfoldable pub is_signed : Option (List ℕ) → Bool
 is_signed None = false
 is_signed (Some bytes) = nat_lt (2 ^ 20) (length bytes) || has_empty_line bytes
+
+-- What a checkpoint that a folder serves can say: its text has at most 2 ^ 20 bytes.
+pub record CanBeServed (said : Said) : Type 0 where
+  pub can : CanBeSaid said
+  pub text : length (text_of said) ≤ 2 ^ 20
+
+-- A served checkpoint can be of the log whose state says this: it has the origin, and fewer entries, or as many and the root.
+pub record AgreesWith (state served : Said) : Type 0 where
+  pub origin : served.origin ≡ state.origin
+  pub length : served.length ≤ state.length
+  pub root : served.length ≡ state.length → served.root ≡ state.root
 
 -- The checkpoint once a text is the log's state: a signed one stays until another is signed.
 abbrev pub checkpoint_after : List ℕ → Option (List ℕ) → Option (List ℕ)

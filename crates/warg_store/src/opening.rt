@@ -1,6 +1,6 @@
 //! A log's folder, made and opened.
 
-ghost use Rattle.std.specs.Prelude.{◌≡◌, ◌≢◌, ◌⊎◌, ◌<◌, ℕ, true, false, List, [], Option, Some, None, IfOk, IfErr, OnOk, string_bytes};
+ghost use Rattle.std.specs.Prelude.{◌≡◌, ◌≢◌, ◌⊎◌, ◌↔◌, ◌<◌, ℕ, true, false, List, [], Option, Some, None, IfOk, IfErr, OnOk, IsTrue, string_bytes};
 ghost use Rattle.std.specs.List.{All};
 ghost use Rattle.warg_tiles.specs.CheckpointText.{Said, CanBeSaid, text_before};
 ghost use Rattle.warg_store.specs.Files.{SameBut};
@@ -8,7 +8,7 @@ ghost use Rattle.warg_store.specs.Moments.{Within, Elapses};
 ghost use Rattle.warg_store.specs.Growing.{IsReady, Has};
 ghost use Rattle.warg_store.specs.Log.{LogOf, CanBeKept, Serves, Keeps, HasLog, said_of};
 ghost use Rattle.warg_store.specs.Names.{checkpoint, state, mark};
-ghost use Rattle.warg_store.specs.Opening.{IsStaging, opened};
+ghost use Rattle.warg_store.specs.Opening.{IsStaging, CanBeServed, AgreesWith, opened};
 ghost use Rattle.warg_store.specs.Refusals.{IsNoFault};
 
 use crate::committing::{MOST_TEXT, commit, is_signed};
@@ -90,6 +90,8 @@ impl<F: Folder + Drop> LogFolder<F> {
         ensures has { F.IsFaithful → IfOk result (λ log. (served kept : LogOf)
             → HasLog served kept (opened (F.seen folder))
             → Has F.seen F.may_leave served kept kept log) }
+        ensures agrees { F.IsFaithful → IfOk result (λ log. (served : Said) (behind : Option (List ℕ)) → CanBeServed served
+            → opened (F.seen folder) checkpoint ≡ Some (text_before served behind) → AgreesWith log.text served) }
         ensures opens { F.IsFaithful → (served kept : LogOf) → HasLog served kept (opened (F.seen folder))
             → IfErr result (IsNoFault ⊥) }
     {
@@ -114,6 +116,8 @@ fn kept_text<F: Folder>(alloc: Global, folder: &mut F) -> Result<CheckpointText<
         → (text ≡ said_of log) × Keeps served log (F.seen folder.new)) }
     ensures whole { F.IsFaithful → (served log : LogOf) → HasLog served log (F.seen folder.old)
         → IfErr result (IsNoFault ⊥) }
+    ensures agrees { F.IsFaithful → IfOk result (λ text. (served : Said) (behind : Option (List ℕ)) → CanBeServed served
+        → F.seen folder.old checkpoint ≡ Some (text_before served behind) → AgreesWith text served) }
     ensures beside { F.IsFaithful → OnOk result (SameBut state (F.seen folder.old) (F.seen folder.new)) }
     ensures ready { F.IsFaithful → IsStaging (F.seen folder.old) (F.may_leave folder.old)
         → OnOk result (IsStaging (F.seen folder.new) (F.may_leave folder.new)) }
@@ -132,6 +136,8 @@ fn take_over<F: Folder>(alloc: Global, folder: &mut F) -> Result<CheckpointText<
         → (text ≡ said_of log) × Keeps log log (F.seen folder.new)) }
     ensures whole { F.IsFaithful → (log : LogOf) → Serves log (F.seen folder.old)
         → IfErr result (IsNoFault ⊥) }
+    ensures agrees { F.IsFaithful → IfOk result (λ text. (served : Said) (behind : Option (List ℕ)) → CanBeServed served
+        → F.seen folder.old checkpoint ≡ Some (text_before served behind) → AgreesWith text served) }
     ensures beside { F.IsFaithful → OnOk result (SameBut state (F.seen folder.old) (F.seen folder.new)) }
     ensures ready { F.IsFaithful → IsStaging (F.seen folder.old) (F.may_leave folder.old)
         → OnOk result (IsStaging (F.seen folder.new) (F.may_leave folder.new)) }
@@ -210,12 +216,12 @@ fn read_text<F: Folder>(
     folder: &mut F,
     name: &str,
 ) -> Result<Option<CheckpointText<Sha256>>, LogError>
-    ensures text { F.IsFaithful → IfOk result (λ text. (log : LogOf) (behind : Option (List ℕ))
-        → CanBeKept log → F.seen folder.old name.now ≡ Some (text_before (said_of log) behind)
-        → text ≡ Some (said_of log)) }
+    ensures text { F.IsFaithful → IfOk result (λ text. (said : Said) (behind : Option (List ℕ))
+        → CanBeServed said → F.seen folder.old name.now ≡ Some (text_before said behind)
+        → text ≡ Some said) }
     ensures none { F.IsFaithful → IfOk result (λ text. F.seen folder.old name.now ≡ None → text ≡ None) }
-    ensures whole { F.IsFaithful → (log : LogOf) (behind : Option (List ℕ)) → CanBeKept log
-        → F.seen folder.old name.now ≡ Some (text_before (said_of log) behind)
+    ensures whole { F.IsFaithful → (said : Said) (behind : Option (List ℕ)) → CanBeServed said
+        → F.seen folder.old name.now ≡ Some (text_before said behind)
         → IfErr result (IsNoFault ⊥) }
     ensures absent { F.IsFaithful → F.seen folder.old name.now ≡ None → IfErr result (IsNoFault ⊥) }
     ensures seen { F.IsFaithful → F.seen folder.new ≡ F.seen folder.old }
@@ -313,6 +319,9 @@ pub(crate) fn read_served<F: Folder>(
 ) -> Result<CheckpointText<Sha256>, LogError>
     ensures text { F.IsFaithful → IfOk result (λ text. (log : LogOf) → Serves log (F.seen folder.old)
         → text ≡ said_of log) }
+    ensures said { F.IsFaithful → IfOk result (λ text. (said : Said) (behind : Option (List ℕ))
+        → CanBeServed said → F.seen folder.old checkpoint ≡ Some (text_before said behind)
+        → text ≡ said) }
     ensures whole { F.IsFaithful → (log : LogOf) → Serves log (F.seen folder.old)
         → IfErr result (IsNoFault ⊥) }
     ensures seen { F.IsFaithful → F.seen folder.new ≡ F.seen folder.old }
@@ -337,6 +346,7 @@ fn compare<F: Folder>(
 ) -> Result<(), LogError>
     ensures whole { F.IsFaithful → (first log : LogOf) → Keeps first log (F.seen folder.old)
         → state.now ≡ said_of log → served.now ≡ said_of first → IfErr result (IsNoFault ⊥) }
+    ensures agrees { OnOk result (AgreesWith state.now served.now) }
     ensures seen { F.IsFaithful → F.seen folder.new ≡ F.seen folder.old }
     ensures ready { F.IsFaithful → IsStaging (F.seen folder.old) (F.may_leave folder.old)
         → OnOk result (IsStaging (F.seen folder.new) (F.may_leave folder.new)) }
@@ -361,7 +371,7 @@ fn compare<F: Folder>(
 
 // Whether a checkpoint has fewer entries than another, or is that one.
 fn is_older_or_same(found: &Checkpoint<Sha256>, newest: &Checkpoint<Sha256>) -> bool
-    ensures { (found.now.length < newest.now.length) ⊎ (found.now ≡ newest.now) → result ≡ true }
+    ensures { IsTrue result ↔ ((found.now.length < newest.now.length) ⊎ (found.now ≡ newest.now)) }
 {
     found.length() < newest.length() || *found == *newest
 }
