@@ -17,8 +17,11 @@ use Rattle.warg_witness.specs.MapClaims.{value_in, last_insertion, IsKeyMet, IsL
 use Rattle.warg_witness.specs.MapInputs.{path_input, plain_input_at}
 use Rattle.warg_witness.specs.MapPlaced.{IsKeyPlaced, IsPlacedAtPrefix}
 use Rattle.warg_witness.specs.MapsPlaced.{Insertions, HaveOneValue, HaveSameValues, IsInserted, IsPlacedInMaps}
-use Rattle.warg_witness.specs.UpdateClaims.{IsUpdated}
-use Rattle.warg_witness.specs.Private.Divergence.{Shows}
+use Rattle.warg_witness.specs.Private.Divergence.{Parts, Shows}
+use Rattle.warg_witness.specs.Private.MapMeeting.{IsAlike, IsPlacedInStep}
+use Rattle.warg_witness.specs.declared.divergence.Divergence.{Divergence}
+use Rattle.warg_witness.specs.declared.divergence.Divergence.TheVariants.{Target, Branch}
+use Rattle.warg_witness.proofs.ClimbLemmas.{parts_placed}
 use Rattle.warg_witness.specs.declared.collision.Finding.{Finding}
 use Rattle.warg_witness.specs.declared.collision.Finding.TheVariants.{Holds, NotMet, Collision}
 use Rattle.warg_witness.proofs.InsertionLemmas.{last_with-is, last_of_digest, pair_at, length-pair_bytes}
@@ -86,18 +89,25 @@ module _ (H : List ℕ → List ℕ) (peers : List (Option (List ℕ))) (key old
   found_before Holds lie found = absurd (lie refl)
   found_before (Collision c) lie found = (met, λ is. found.1 is.before, inl found.2)
 
-  -- where no lie about the new root was found
-  pub is_updated : {D A : _} (finding : Finding D A) → (finding ≡ Holds) ⊎ (finding ≡ NotMet) → Finds (IsKeyMet H peers key old_value xs) (IsUpdated H peers key new_value xs) (IsPlacedAtPrefix H peers old_value key xs) finding → IsUpdated H peers key new_value xs
-  is_updated Holds is found = found.1
-  is_updated NotMet is found = absurd (found met.before)
-  is_updated (Collision c) (inl is) found = absurd (cc)
-  is_updated (Collision c) (inr is) found = absurd (cc)
+  -- where the evaluation is the old map's, both maps have one root
+  pub step_parts : {D : _} (p : Divergence D) → Parts H (IsPlacedAtPrefix H peers old_value key xs) (IsAlike H peers key old_value xs) p
+      → Parts H (λ _ _. Unit) (sparse_root H 256 (map_of H (xs ++ (key, new_value) ∷ [])) ≡ sparse_root H 256 (map_of H ys)) p
+  step_parts p parts = parts_placed H p (λ _ _ _. tt) (λ alike. sym (alike.updates new_value) ∙ met.after) parts
 
-  -- two maps of one root
-  pub one_root : IsUpdated H peers key new_value xs → sparse_root H 256 (map_of H (xs ++ (key, new_value) ∷ [])) ≡ sparse_root H 256 (map_of H ys)
-  one_root updated = sym updated ∙ met.after
+  -- what both maps show, where the old value is the key's
+  pub found_step : {D A : _} (p : Divergence D) → Parts H (IsPlacedAtPrefix H peers old_value key xs) (IsAlike H peers key old_value xs) p → IsLastValue key old_value xs → (finding : Finding D A)
+      → Finds Unit (HaveSameValues (xs ++ (key, new_value) ∷ []) ys) (IsPlacedInStep H p (xs ++ (key, new_value) ∷ []) ys) finding → FindsChange finding
+  found_step p parts before NotMet found = absurd (found tt)
+  found_step p parts before Holds found = (met, record { before = before; after = found.1 })
+  found_step Target parts before (Collision c) found = (met, λ is. found.1 is.after, inr found.2)
+  found_step (Branch branches) parts before (Collision c) found = (met, λ is. found.1 is.after, placed found.2)
+    where
+      placed : IsPlacedInStep H (Branch branches) (xs ++ (key, new_value) ∷ []) ys c.0 c.1 → IsUpdatePlaced H peers old_value new_value key (xs, ys) c.0 c.1
+      placed (inl is) = let Placed : List ℕ × List ℕ → Type 0 = λ two. IsPlacedAtPrefix H peers old_value key xs two.0 two.1 in inl (inl (subst Placed (sym is) parts.placed))
+      placed (inr maps) = inr maps
 
-  pub found_after : {D A : _} (finding : Finding D A) → ¬ HaveSameValues (xs ++ (key, new_value) ∷ []) ys → Finds Unit ⊥ (IsPlacedInMaps H (xs ++ (key, new_value) ∷ []) ys) finding → FindsChange finding
-  found_after NotMet apart found = absurd (found tt)
-  found_after Holds apart found = absurd found.1
-  found_after (Collision c) apart found = (met, λ is. apart is.after, inr found.2)
+-- two maps with a key apart haven't the same values
+pub apart_found : {D A : _} {claim : Type 0} {P Q : List ℕ → List ℕ → Type 0} → ¬ claim → ((l r : List ℕ) → P l r → Q l r) → (finding : Finding D A) → Finds Unit ⊥ P finding → Finds Unit claim Q finding
+apart_found untrue placed NotMet found = absurd (found tt)
+apart_found untrue placed Holds found = absurd found.1
+apart_found untrue placed (Collision c) found = (tt, untrue, placed c.0 c.1 found.2)

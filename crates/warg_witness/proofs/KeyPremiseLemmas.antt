@@ -20,7 +20,6 @@ use Rattle.warg_witness.specs.MapInputs.{path_input, fork_input, plain_input_at}
 use Rattle.warg_witness.specs.MapsPlaced.{HaveSameValues, IsPlacedInMaps, IsInserted}
 use Rattle.warg_witness.specs.MapPlaced.{IsPlacedAtPrefix, IsPlacedAtKeys, IsKeyPlaced, IsKeyAgreementPlaced}
 use Rattle.warg_witness.specs.UpdateClaims.{IsUpdated, Step, insertions_of, LeadThrough, CollidesAtStep}
-use Rattle.warg_witness.proofs.MapPremiseLemmas.{with_bottom}
 use Rattle.warg_witness.proofs.KeyLemmas.{plain_leaf_is, inserted_push}
 
 -- The plain input at each prefix is that of the evaluation of what stands beside the key, from its last value.
@@ -56,7 +55,7 @@ either_way : {x : List ℕ} (b : Bool) → cond b x x ≡ x
 either_way true = refl
 either_way false = refl
 
-no_peer : (H : List ℕ → List ℕ) (k : ℕ) → peer_of H [] k ≡ empty_root H k
+pub no_peer : (H : List ℕ → List ℕ) (k : ℕ) → peer_of H [] k ≡ empty_root H k
 no_peer H k = either_way _
 
 abbrev nothing : Option (List ℕ)
@@ -67,7 +66,11 @@ none_at zero k = refl
 none_at (suc n) zero = refl
 none_at (suc n) (suc k) = none_at n k
 
-above_bottom : (H : List ℕ → List ℕ) (digest : List ℕ) (k : ℕ) → peer_of H (with_bottom digest) (suc k) ≡ empty_root H (suc k)
+-- Peers with a digest at the bottom, and nothing above.
+abbrev pub with_bottom : List ℕ → List (Option (List ℕ))
+with_bottom digest = Some digest ∷ replicate 255 nothing
+
+pub above_bottom : (H : List ℕ → List ℕ) (digest : List ℕ) (k : ℕ) → peer_of H (with_bottom digest) (suc k) ≡ empty_root H (suc k)
 above_bottom H digest k = let rest : suc k - 0 ≡ suc k = omega arith in rw (rest, none_at 255 k) (either_way _)
 
 -- Digests of 32 bytes that tell whether the byte 1 stands behind the first byte of what was hashed.
@@ -146,7 +149,7 @@ few_left : (H : List ℕ → List ℕ) (key : List ℕ) (prefix rest : List Bool
 few_left H key prefix rest is = omega (arith, all_bits H key, ap length is, length-append prefix rest)
 
 -- The empty map's own evaluation meets the claim that a key has no bytes, and nothing collides.
-own_met : (H : List ℕ → List ℕ) (key : List ℕ) → IsKeyMet H [] key [] []
+pub own_met : (H : List ℕ → List ℕ) (key : List ℕ) → IsKeyMet H [] key [] []
 unfolding empty_root
 own_met H key =
     let leads : proof_value H [] (unwrap_or (get (map_of H []) (key_bits H key)) (leaf_digest H [])) (key_bits H key) ≡ sparse_root H 256 (map_of H []) = beside_root H (map_of H []) (key_bits H key) [] (all_bits H key) (empty_beside H key) in
@@ -257,7 +260,7 @@ absence_meeting_is_needed law =
       | inr keys ↦ only_key keys c.collide
     ]
 
-lone_leads : (H : List ℕ → List ℕ) (key value : List ℕ) → proof_value H [] (leaf_digest H value) (key_bits H key) ≡ sparse_root H 256 (map_of H ((key, value) ∷ []))
+pub lone_leads : (H : List ℕ → List ℕ) (key value : List ℕ) → proof_value H [] (leaf_digest H value) (key_bits H key) ≡ sparse_root H 256 (map_of H ((key, value) ∷ []))
 lone_leads H key value = rw (inserted_push H empty [] key value) (beside_replaced H (map_of H []) (key_bits H key) [] (leaf_digest H value) (all_bits H key) (empty_beside H key))
 
 -- All of a lone map's tree has ones or zeros.
@@ -319,323 +322,4 @@ equal_maps_meeting_is_needed law =
     elim c.placed [
       | inl at ↦ plain_apart at.prefix at.levels c.first c.second at.first_plain at.second_plain c.collide
       | inr keys ↦ c.collide.differ (sym (only_inserted keys.0) ∙ only_inserted keys.1)
-    ]
-
--- An empty leaf has two sevens, and the leaf of the byte 00 one. Two beside one make the bytes of one beside two.
-abbrev sevens : List ℕ → List ℕ
-sevens m = if same_bytes m (0 ∷ []) then 7 ∷ 7 ∷ [] else if same_bytes m (0 ∷ 0 ∷ []) then 7 ∷ [] else []
-
-abbrev one : List (Option (List ℕ))
-one = with_bottom (7 ∷ [])
-
-one_fork : (b : Bool) (below : List Bool) → fork_input sevens one (7 ∷ 7 ∷ []) b below ≡ fork_input sevens [] (7 ∷ []) b below
-unfolding proof_value empty_root
-one_fork true [] = refl
-one_fork false [] = refl
-one_fork b (c ∷ below) = rw (above_bottom sevens (7 ∷ []) (length below), no_peer sevens (suc (length below))) refl
-
-one_root : (bits : List Bool) → length bits ≡ 256 → proof_value sevens one (7 ∷ 7 ∷ []) bits ≡ proof_value sevens [] (7 ∷ []) bits
-unfolding proof_value
-one_root [] none = absurd (omega arith)
-one_root (b ∷ below) all = refl
-
-one_apart : (rest : List Bool) (first second : List ℕ) → first ≡ path_input sevens one [] rest → second ≡ path_input sevens [] (0 ∷ []) rest → Collides sevens (first, second) → ⊥
-one_apart [] first second is other c = let same : sevens (0 ∷ []) ≡ sevens (0 ∷ 0 ∷ []) = ap sevens (sym is) ∙ c.same ∙ ap sevens other in absurd cc
-one_apart (b ∷ below) first second is other c = c.differ (is ∙ one_fork b below ∙ sym other)
-
-pub absence_hashes_are_needed : ¬ ((H : List ℕ → List ℕ) (peers : List (Option (List ℕ))) (key : List ℕ) (insertions : List (List ℕ × List ℕ)) → IsAbsenceMet H peers key insertions → (IsLastValue key [] insertions → ⊥) → SomeCollision H (IsKeyPlaced H peers [] key insertions))
-unfolding last_with empty_root
-absence_hashes_are_needed law =
-    let c = law sevens one [] (([], 0 ∷ []) ∷ []) (one_root (key_bits sevens []) (all_bits sevens []) ∙ lone_leads sevens [] (0 ∷ [])) (λ is. absurd cc) in
-    elim c.placed [
-      | inl at ↦ one_apart at.rest c.first c.second at.evaluation (at.plain ∙ sym (lone_is sevens [] (0 ∷ []) at.prefix at.rest at.bits)) c.collide
-      | inr keys ↦ only_key keys c.collide
-    ]
-
--- Five sevens have a nine, and what holds a nine has one: so a root tells of a leaf of five.
-abbrev has_nine : List ℕ → Bool
-has_nine [] = false
-has_nine (x ∷ xs) = cond (nat_eq x 9) true (has_nine xs)
-
-abbrev nines : List ℕ → List ℕ
-nines m = if same_bytes m (0 ∷ []) then 7 ∷ 7 ∷ [] else if same_bytes m (0 ∷ 0 ∷ []) then 7 ∷ []
-    else if same_bytes m (1 ∷ 7 ∷ 7 ∷ 7 ∷ 7 ∷ 7 ∷ []) then 9 ∷ [] else if has_nine m then 9 ∷ [] else 8 ∷ []
-
-empty_eights : (k : ℕ) → empty_root nines (suc k) ≡ 8 ∷ []
-unfolding empty_root
-empty_eights zero = refl
-empty_eights (suc k) = rw (empty_eights k) refl
-
--- Three sevens beside one make the bytes of two beside two: so from the leaf of the byte 00 they lead as the empty map does.
-abbrev three : List (Option (List ℕ))
-three = with_bottom (7 ∷ 7 ∷ 7 ∷ [])
-
-eights_up : (b : Bool) (below : List Bool) → proof_value nines three (7 ∷ []) (b ∷ below) ≡ proof_value nines [] (7 ∷ 7 ∷ []) (b ∷ below)
-unfolding proof_value empty_root
-eights_up true [] = refl
-eights_up false [] = refl
-eights_up b (c ∷ below) = rw (above_bottom nines (7 ∷ 7 ∷ 7 ∷ []) (length below), no_peer nines (suc (length below)), eights_up c below) refl
-
-eights_fork : (b : Bool) (below : List Bool) → fork_input nines three (7 ∷ []) b below ≡ fork_input nines [] (7 ∷ 7 ∷ []) b below
-unfolding proof_value empty_root
-eights_fork true [] = refl
-eights_fork false [] = refl
-eights_fork b (c ∷ below) = rw (above_bottom nines (7 ∷ 7 ∷ 7 ∷ []) (length below), no_peer nines (suc (length below)), eights_up c below) refl
-
-eights_root : (bits : List Bool) → length bits ≡ 256 → proof_value nines three (7 ∷ []) bits ≡ proof_value nines [] (7 ∷ 7 ∷ []) bits
-eights_root [] none = absurd (omega arith)
-eights_root (b ∷ below) all = eights_up b below
-
-eights_apart : (rest : List Bool) (first second : List ℕ) → first ≡ path_input nines three (0 ∷ []) rest → second ≡ path_input nines [] [] rest → Collides nines (first, second) → ⊥
-eights_apart [] first second is other c = let same : nines (0 ∷ 0 ∷ []) ≡ nines (0 ∷ []) = ap nines (sym is) ∙ c.same ∙ ap nines other in absurd cc
-eights_apart (b ∷ below) first second is other c = c.differ (is ∙ eights_fork b below ∙ sym other)
-
-pub key_hashes_are_needed : ¬ ((H : List ℕ → List ℕ) (peers : List (Option (List ℕ))) (key value : List ℕ) (insertions : List (List ℕ × List ℕ)) → IsKeyMet H peers key value insertions → (IsLastValue key value insertions → ⊥) → SomeCollision H (IsKeyPlaced H peers value key insertions))
-unfolding last_with
-key_hashes_are_needed law =
-    let c = law nines three [] (0 ∷ []) [] (eights_root (key_bits nines []) (all_bits nines []) ∙ own_met nines []) (λ is. absurd cc) in
-    elim c.placed [
-      | inl at ↦ eights_apart at.rest c.first c.second at.evaluation (at.plain ∙ sym (plain_is nines [] at.prefix at.rest at.bits)) c.collide
-      | inr keys ↦ omega (arith, keys.inserted.1)
-    ]
-
-abbrev nine : List ℕ
-nine = 9 ∷ []
-
-abbrev eight : List ℕ
-eight = 8 ∷ []
-
--- From an empty leaf they lead to a nine, and the map that holds no bytes has an eight.
-eights_above : (k : ℕ) → peer_of nines three (suc k) ≡ 8 ∷ []
-eights_above k = above_bottom nines (7 ∷ 7 ∷ 7 ∷ []) k ∙ empty_eights k
-
-nine_up : (b : Bool) (below : List Bool) → proof_value nines three (7 ∷ 7 ∷ []) (b ∷ below) ≡ nine
-unfolding proof_value
-nine_up true [] = refl
-nine_up false [] = refl
-nine_up true (c ∷ below) = rw (eights_above (length below), nine_up c below) refl
-nine_up false (c ∷ below) = rw (eights_above (length below), nine_up c below) refl
-
-eight_up : (b : Bool) (below : List Bool) → proof_value nines [] (7 ∷ 7 ∷ []) (b ∷ below) ≡ eight
-unfolding proof_value empty_root
-eight_up true [] = refl
-eight_up false [] = refl
-eight_up true (c ∷ below) = rw (no_peer nines (suc (length below)), empty_eights (length below), eight_up c below) refl
-eight_up false (c ∷ below) = rw (no_peer nines (suc (length below)), empty_eights (length below), eight_up c below) refl
-
-nine_is_eight : nine ≡ eight → ⊥
-nine_is_eight is = absurd cc
-
-nine_differs : (bits : List Bool) → length bits ≡ 256 → proof_value nines three (7 ∷ 7 ∷ []) bits ≡ proof_value nines [] (7 ∷ 7 ∷ []) bits → ⊥
-nine_differs [] none _ = omega arith
-nine_differs (b ∷ below) all same = nine_is_eight (sym (nine_up b below) ∙ same ∙ eight_up b below)
-
-pub update_hashes_are_needed : ¬ ((H : List ℕ → List ℕ) (peers : List (Option (List ℕ))) (key old_value new_value : List ℕ) (insertions : List (List ℕ × List ℕ)) → IsKeyMet H peers key old_value insertions → ¬ (IsUpdated H peers key new_value insertions) → SomeCollision H (IsPlacedAtPrefix H peers old_value key insertions))
-update_hashes_are_needed law =
-    let bits = key_bits nines [] in
-    let c = law nines three [] (0 ∷ []) [] [] (eights_root bits (all_bits nines []) ∙ own_met nines [])
-    (λ is. nine_differs bits (all_bits nines []) (is ∙ sym (lone_leads nines [] []))) in
-    eights_apart c.placed.rest c.first c.second c.placed.evaluation (c.placed.plain ∙ sym (plain_is nines [] c.placed.prefix c.placed.rest c.placed.bits)) c.collide
-
--- The same as a step from the empty map.
-lie : Step
-lie = record { peers = three; key = []; old_value = 0 ∷ []; new_value = [] }
-
-at_step : (before : List Step) (step : Step) (after : List Step) → lie ∷ [] ≡ before ++ step ∷ after → SomeCollision nines (IsPlacedAtPrefix nines step.peers step.old_value step.key (insertions_of before)) → ⊥
-unfolding lie
-at_step [] step after split c =
-    let is : step ≡ lie = cc in
-    let own : SomeCollision nines (IsPlacedAtPrefix nines three (0 ∷ []) [] []) = subst (λ s. SomeCollision nines (IsPlacedAtPrefix nines s.peers s.old_value s.key [])) is c in
-    eights_apart own.placed.rest own.first own.second own.placed.evaluation (own.placed.plain ∙ sym (plain_is nines [] own.placed.prefix own.placed.rest own.placed.bits)) own.collide
-at_step (other ∷ before) step after split c = omega (arith, ap length split, length-append before (step ∷ after))
-
-pub steps_hashes_are_needed : ¬ ((H : List ℕ → List ℕ) (steps : List Step) (root : List ℕ) → LeadThrough H (sparse_root H 256 empty) steps root → (root ≡ sparse_root H 256 (map_of H (insertions_of steps))) ⊎ CollidesAtStep H steps)
-unfolding lie LeadThrough inserted
-steps_hashes_are_needed law =
-    let bits = key_bits nines [] in
-    let end = proof_value nines three (7 ∷ 7 ∷ []) bits in
-    elim (law nines (lie ∷ []) end (end, eights_root bits (all_bits nines []) ∙ own_met nines [], refl, refl)) [
-      | inl same ↦ nine_differs bits (all_bits nines []) (same ∙ sym (lone_leads nines [] []))
-      | inr c ↦ at_step c.before c.step c.after c.split c.collision
-    ]
-
--- Two keys whose bits differ at the last one, an empty leaf of two sevens, and the leaf of the byte 00 of one: a map with
--- this value under the one key has at their branch the bytes that a map with it under the other has.
-abbrev beside : List ℕ → List ℕ
-beside m =
-    if same_bytes m (0 ∷ []) then 7 ∷ 7 ∷ [] else if same_bytes m (0 ∷ 0 ∷ []) then 7 ∷ [] else if same_bytes m (5 ∷ []) then replicate 31 0 ++ 1 ∷ [] else []
-
-abbrev left_only : List (List ℕ × List ℕ)
-left_only = ([], 0 ∷ []) ∷ []
-
-abbrev right_only : List (List ℕ × List ℕ)
-right_only = (5 ∷ [], 0 ∷ []) ∷ []
-
-abbrev front : List Bool
-front = replicate 255 false
-
-left_bits : key_bits beside [] ≡ front ++ false ∷ []
-unfolding bits_from
-left_bits = refl
-
-right_bits : key_bits beside (5 ∷ []) ≡ front ++ true ∷ []
-unfolding bits_from
-right_bits = refl
-
--- Bits are those of the one key, those of the other, or neither's.
-at_last : (p f : List Bool) (b c : Bool) → length p ≡ length f
-    → same_bits (p ++ b ∷ []) (f ++ c ∷ []) ≡ cond (same_bits p f) (same_bits (b ∷ []) (c ∷ [])) false
-at_last [] [] b c len = refl
-at_last [] (x ∷ f) b c len = absurd (omega arith)
-at_last (x ∷ p) [] b c len = absurd (omega arith)
-at_last (true ∷ p) (true ∷ f) b c len = at_last p f b c (omega arith)
-at_last (true ∷ p) (false ∷ f) b c len = refl
-at_last (false ∷ p) (true ∷ f) b c len = refl
-at_last (false ∷ p) (false ∷ f) b c len = at_last p f b c (omega arith)
-
-found : (key : List ℕ) (b : Bool)
-    → option_map (λ (e : List ℕ × List ℕ). leaf_digest beside e.1) (option_or None (cond b (Some (key, 0 ∷ [])) None))
-    ≡ cond b (Some (7 ∷ [])) None
-found key true = refl
-found key false = refl
-
-abbrev left_held : List Bool → Option (List ℕ)
-left_held q = get (map_of beside left_only) q
-
-abbrev right_held : List Bool → Option (List ℕ)
-right_held q = get (map_of beside right_only) q
-
-held_left : (q : List Bool) → left_held q ≡ cond (same_bits q (front ++ false ∷ [])) (Some (7 ∷ [])) None
-unfolding last_with
-held_left q = last_held beside q left_only ∙ found [] (same_bits q (key_bits beside []))
-    ∙ ap (λ bits. cond (same_bits q bits) (Some (7 ∷ [])) None) left_bits
-
-held_right : (q : List Bool) → right_held q ≡ cond (same_bits q (front ++ true ∷ [])) (Some (7 ∷ [])) None
-unfolding last_with
-held_right q = last_held beside q right_only ∙ found (5 ∷ []) (same_bits q (key_bits beside (5 ∷ [])))
-    ∙ ap (λ bits. cond (same_bits q bits) (Some (7 ∷ [])) None) right_bits
-
--- The leaf digest where a map holds its value, or doesn't.
-abbrev leaf_of : Bool → List ℕ
-leaf_of b = unwrap_or (cond b (Some (7 ∷ [])) None) (empty_root beside 0)
-
-left_leaf : (p : List Bool) (b : Bool) → length p ≡ 255
-    → unwrap_or (left_held (p ++ b ∷ [])) (empty_root beside 0)
-    ≡ leaf_of (cond (same_bits p front) (same_bits (b ∷ []) (false ∷ [])) false)
-left_leaf p b len =
-    ap (λ o. unwrap_or o (empty_root beside 0))
-    (held_left (p ++ b ∷ []) ∙ ap (λ is. cond is (Some (7 ∷ [])) None) (at_last p front b false len))
-
-right_leaf : (p : List Bool) (b : Bool) → length p ≡ 255
-    → unwrap_or (right_held (p ++ b ∷ [])) (empty_root beside 0)
-    ≡ leaf_of (cond (same_bits p front) (same_bits (b ∷ []) (true ∷ [])) false)
-right_leaf p b len =
-    ap (λ o. unwrap_or o (empty_root beside 0))
-    (held_right (p ++ b ∷ []) ∙ ap (λ is. cond is (Some (7 ∷ [])) None) (at_last p front b true len))
-
-joined_leaves : (b : Bool)
-    → branch_input (leaf_of (cond b (same_bits (false ∷ []) (false ∷ [])) false))
-    (leaf_of (cond b (same_bits (true ∷ []) (false ∷ [])) false))
-    ≡ branch_input (leaf_of (cond b (same_bits (false ∷ []) (true ∷ [])) false))
-    (leaf_of (cond b (same_bits (true ∷ []) (true ∷ [])) false))
-unfolding empty_root
-joined_leaves true = refl
-joined_leaves false = refl
-
--- So both maps have the same bytes at each branch.
-module _ where
-  abbrev bytes_of : ℕ → (List Bool → Option (List ℕ)) → List ℕ
-  bytes_of k held =
-      branch_input (root_of_levels beside k (λ q. held (false ∷ q))) (root_of_levels beside k (λ q. held (true ∷ q)))
-
-  abbrev pair_of : List Bool → Bool → List ℕ
-  pair_of p last = branch_input (leaf_of (cond (same_bits p front) (same_bits (false ∷ []) (last ∷ [])) false))
-      (leaf_of (cond (same_bits p front) (same_bits (true ∷ []) (last ∷ [])) false))
-
-  two_leaves : (p : List Bool) (last : Bool) (held : List Bool → Option (List ℕ))
-      → ((b : Bool) → unwrap_or (held (b ∷ [])) (empty_root beside 0)
-      ≡ leaf_of (cond (same_bits p front) (same_bits (b ∷ []) (last ∷ [])) false))
-      → bytes_of 0 held ≡ pair_of p last
-  unfolding root_of_levels
-  two_leaves p last held is =
-      let left = is false in
-      let right = is true in
-      ap (λ x. branch_input x (unwrap_or (held (true ∷ [])) (empty_root beside 0))) left
-      ∙ ap (λ y. branch_input (leaf_of (cond (same_bits p front) (same_bits (false ∷ []) (last ∷ [])) false)) y) right
-
-  branches_same : (k : ℕ) (p : List Bool) (l r : List Bool → Option (List ℕ))
-      → ((q : List Bool) → l q ≡ left_held (p ++ q))
-      → ((q : List Bool) → r q ≡ right_held (p ++ q)) → length p + suc k ≡ 256 → bytes_of k l ≡ bytes_of k r
-  unfolding root_of_levels
-  branches_same zero p l r is_left is_right len =
-      let all : length p ≡ 255 = omega arith in
-      let e = empty_root beside 0 in
-      let first : bytes_of 0 l ≡ pair_of p false =
-      two_leaves p false l (λ b. ap (λ o. unwrap_or o e) (is_left (b ∷ [])) ∙ left_leaf p b all) in
-      let second : bytes_of 0 r ≡ pair_of p true =
-      two_leaves p true r (λ b. ap (λ o. unwrap_or o e) (is_right (b ∷ [])) ∙ right_leaf p b all) in
-      first ∙ joined_leaves (same_bits p front) ∙ sym second
-  branches_same (suc k) p l r is_left is_right len =
-      let below : (b : Bool) → bytes_of k (λ q. l (b ∷ q)) ≡ bytes_of k (λ q. r (b ∷ q)) =
-      λ b. branches_same k (p ++ b ∷ []) (λ q. l (b ∷ q)) (λ q. r (b ∷ q))
-      (λ q. is_left (b ∷ q) ∙ ap left_held (sym (append_assoc p (b ∷ []) q)))
-      (λ q. is_right (b ∷ q) ∙ ap right_held (sym (append_assoc p (b ∷ []) q)))
-      (omega (arith, length-append p (b ∷ []))) in
-      ap (λ bytes. branch_input (beside bytes) (beside (bytes_of k (λ q. l (true ∷ q))))) (below false)
-      ∙ ap (λ bytes. branch_input (beside (bytes_of k (λ q. r (false ∷ q)))) (beside bytes)) (below true)
-
-  whole_same : (n k : ℕ) → n ≡ suc k → suc k ≡ 256
-      → root_of_levels beside n left_held ≡ root_of_levels beside n right_held
-  unfolding root_of_levels
-  whole_same n k is all =
-      rw is (ap beside (branches_same k [] left_held right_held (λ q. refl) (λ q. refl) (omega arith)))
-
-  roots_same : sparse_root beside 256 (map_of beside left_only) ≡ sparse_root beside 256 (map_of beside right_only)
-  roots_same = whole_same 256 255 (omega arith) (omega arith)
-
--- At a leaf their digests differ, or both have the same bytes.
-two_values : (b c : Bool) (first second : List ℕ)
-    → first ≡ leaf_input (value_in (option_or None (cond b (Some ([], 0 ∷ [])) None)))
-    → second ≡ leaf_input (value_in (option_or None (cond c (Some (5 ∷ [], 0 ∷ [])) None)))
-    → Collides beside (first, second) → ⊥
-two_values true true first second one other c = c.differ (one ∙ sym other)
-two_values false false first second one other c = c.differ (one ∙ sym other)
-two_values true false first second one other c = let same : 7 ∷ [] ≡ 7 ∷ 7 ∷ [] = sym (ap beside one) ∙ c.same
-    ∙ ap beside other in absurd cc
-two_values false true first second one other c = let same : 7 ∷ 7 ∷ [] ≡ 7 ∷ [] = sym (ap beside one) ∙ c.same
-    ∙ ap beside other in absurd cc
-
-prefixes_apart : (k : ℕ) (prefix : List Bool) (first second : List ℕ) → length prefix + k ≡ 256
-    → first ≡ plain_input_at beside left_only prefix k → second ≡ plain_input_at beside right_only prefix k
-    → Collides beside (first, second) → ⊥
-unfolding last_with
-prefixes_apart zero prefix first second all one other c = two_values _ _ first second one other c
-prefixes_apart (suc k) prefix first second all one other c =
-    c.differ (one
-    ∙ branches_same k prefix (λ q. left_held (prefix ++ q)) (λ q. right_held (prefix ++ q)) (λ q. refl) (λ q. refl) all
-    ∙ sym other)
-
-one_of_two : {key : List ℕ} → IsInserted left_only right_only key → ([] ≡ key) ⊎ (5 ∷ [] ≡ key)
-one_of_two (inl at) = inl (the_one at.0 at.1 at.2)
-one_of_two (inr at) = inr (the_one at.0 at.1 at.2)
-
-keys_apart : (first second : List ℕ) → ([] ≡ first) ⊎ (5 ∷ [] ≡ first) → ([] ≡ second) ⊎ (5 ∷ [] ≡ second)
-    → Collides beside (first, second) → ⊥
-keys_apart first second (inl one) (inl other) c = c.differ (sym one ∙ other)
-keys_apart first second (inr one) (inr other) c = c.differ (sym one ∙ other)
-keys_apart first second (inl one) (inr other) c = let same : [] ≡ replicate 31 0 ++ 1 ∷ [] = ap beside one ∙ c.same
-    ∙ sym (ap beside other) in absurd cc
-keys_apart first second (inr one) (inl other) c = let same : replicate 31 0 ++ 1 ∷ [] ≡ [] = ap beside one ∙ c.same
-    ∙ sym (ap beside other) in absurd cc
-
-pub equal_maps_hashes_are_needed : ¬ ((H : List ℕ → List ℕ) (insertions others : List (List ℕ × List ℕ))
-    → sparse_root H 256 (map_of H insertions) ≡ sparse_root H 256 (map_of H others)
-    → ¬ (HaveSameValues insertions others)
-    → SomeCollision H (IsPlacedInMaps H insertions others))
-unfolding last_with
-equal_maps_hashes_are_needed law =
-    let c = law beside left_only right_only roots_same (λ same. let is : 0 ∷ [] ≡ [] = same [] in absurd cc) in
-    elim c.placed [
-      | inl at ↦ prefixes_apart at.levels at.prefix c.first c.second at.whole at.first_plain at.second_plain c.collide
-      | inr keys ↦ keys_apart c.first c.second (one_of_two keys.0) (one_of_two keys.1) c.collide
     ]

@@ -26,10 +26,10 @@ use Rattle.warg_witness.specs.Ranges.IsPart.{whole as part_whole, front as part_
 use Rattle.warg_witness.proofs.RangeLemmas.{part_in}
 
 -- Each byte string is its own digest, so none collide.
-abbrev own : List ℕ → List ℕ
+abbrev pub own : List ℕ → List ℕ
 own m = m
 
-none_collide : (P : List ℕ → List ℕ → Type 0) → ¬ SomeCollision own P
+pub none_collide : (P : List ℕ → List ℕ → Type 0) → ¬ SomeCollision own P
 none_collide P c = c.collide.differ c.collide.same
 
 -- No digest; the digest 5, 0 everywhere; 0 everywhere; and 32 zeros.

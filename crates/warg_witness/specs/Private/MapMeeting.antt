@@ -1,5 +1,5 @@
 -- A map's proof that leads to the plain root of given insertions, and what a witness knows of it.
-use Rattle.std.specs.Prelude.{◌≡◌, ℕ, List, [], if◌then◌else◌, Option, Some, None}
+use Rattle.std.specs.Prelude.{◌≡◌, ◌⊎◌, ℕ, List, [], if◌then◌else◌, Option, Some, None}
 use Rattle.std.specs.Option.{option_map}
 use Rattle.warg_crypto.specs.Bytes.{same_bytes}
 use Rattle.warg_map.specs.Bits.{key_bits}
@@ -10,6 +10,7 @@ use Rattle.warg_map.specs.Peers.{IsBeside}
 use Rattle.std.specs.FinMap.{get}
 use Rattle.warg_witness.specs.MapClaims.{value_in, IsKeyMet}
 use Rattle.warg_witness.specs.MapPlaced.{IsPlacedAtPrefix}
+use Rattle.warg_witness.specs.MapsPlaced.{Insertions, IsPlacedInMaps}
 use Rattle.warg_witness.specs.UpdateClaims.{IsUpdated}
 use Rattle.warg_witness.specs.Private.Divergence.{Parts, inputs}
 use Rattle.warg_witness.specs.declared.divergence.Divergence.{Divergence}
@@ -40,3 +41,8 @@ abbrev pub key_inputs : {D : _} → Divergence D → Option (List ℕ × List �
 key_inputs (Branch branches) last key value = inputs branches
 key_inputs Target None key value = (leaf_input value, leaf_input [])
 key_inputs Target (Some e) key value = if same_bytes value e.1 then (key, e.0) else (leaf_input value, leaf_input e.1)
+
+-- Where the two byte lists of a step's lie stand: at the branches at which the evaluation diverges, or in both maps.
+abbrev pub IsPlacedInStep : {D : _} → (List ℕ → List ℕ) → Divergence D → Insertions → Insertions → List ℕ → List ℕ → Type 0
+IsPlacedInStep H (Branch branches) xs ys first second = ((first, second) ≡ inputs branches) ⊎ IsPlacedInMaps H xs ys first second
+IsPlacedInStep H Target xs ys first second = IsPlacedInMaps H xs ys first second

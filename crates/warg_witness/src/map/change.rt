@@ -1,14 +1,18 @@
 //! The witness for a step from one map to another.
 
-ghost use Rattle.std.specs.Prelude.{◌≡◌, IfOk};
-ghost use Rattle.warg_map.specs.Sparse.{pair_bytes};
+ghost use Rattle.std.specs.Prelude.{◌≡◌, ◌↔◌, IfOk, IsTrue, ⊤};
+ghost use Rattle.warg_map.specs.Sparse.{map_of, pair_bytes, sparse_root};
 ghost use Rattle.warg_witness.specs.Findings.{Finds};
 ghost use Rattle.warg_witness.specs.ChangeClaims.{IsChangeMet, IsUpdate, IsUpdatePlaced};
+ghost use Rattle.warg_witness.specs.MapClaims.{IsKeyMet};
+ghost use Rattle.warg_witness.specs.MapsPlaced.{HaveSameValues};
+ghost use Rattle.warg_witness.specs.Private.Divergence.{Parts};
+ghost use Rattle.warg_witness.specs.Private.MapMeeting.{IsPlacedInStep};
 
 use crate::collision::Finding;
+use crate::divergence::Divergence;
 use crate::map::maps::{find_apart, key_apart};
 use crate::map::plain::{Lent, grown};
-use crate::map::update::find_update;
 use crate::map::{find_key, meet_insertions};
 use std::alloc::{AllocError, Allocator};
 use warg_crypto::{SupportedDigest, VisitBytes};
@@ -72,8 +76,7 @@ pub fn witness_change<
     let Some(met) = meet_insertions(alloc, proof.peers(), key, old_value, old)? else {
         return Ok(Finding::NotMet);
     };
-    let map: Map<D, Lent<'_, K>, Lent<'_, V>, A> = grown(alloc, new)?;
-    if proof.evaluate(key, new_value) != *map.root() {
+    if !leads_to(alloc, proof, key, new_value, new)? {
         return Ok(Finding::NotMet);
     }
     match find_key(alloc, &met, key, old_value, old)? {
@@ -83,11 +86,46 @@ pub fn witness_change<
     let mut updated = lent(alloc, old)?;
     updated.push((Lent(key), Lent(new_value)))?;
     let given = lent(alloc, new)?;
-    let Some(apart) = key_apart(&updated, &given)? else {
+    find_step(alloc, &met.divergence, &updated, &given)
+}
+
+// Whether a proof leads from a value to the root of the map of the insertions.
+fn leads_to<D: SupportedDigest, K: VisitBytes, V: VisitBytes, A: Allocator + Copy, B: Allocator>(
+    alloc: A,
+    proof: &Proof<D, K, V, B>,
+    key: &K,
+    value: &V,
+    insertions: &[(K, V)],
+) -> Result<bool, AllocError>
+    ensures { IfOk result (λ is. IsTrue is ↔ IsKeyMet D.digest proof.now (K.bytes key.now) (V.bytes value.now)
+        (pair_bytes K.bytes V.bytes insertions.now)) }
+{
+    let map: Map<D, Lent<'_, K>, Lent<'_, V>, A> = grown(alloc, insertions)?;
+    Ok(proof.evaluate(key, value) == *map.root())
+}
+
+// What the old insertions and the new value show beside the new ones, where the proof's evaluation diverges from the old
+// map's tree, or leads to both maps' one root.
+fn find_step<D: SupportedDigest, K: VisitBytes, V: VisitBytes, A: Allocator + Copy>(
+    alloc: A,
+    divergence: &Divergence<D>,
+    updated: &[(K, V)],
+    given: &[(K, V)],
+) -> Result<Finding<D, A>, AllocError>
+    requires { Parts D.digest (λ first second. ⊤)
+        (sparse_root D.digest 256 (map_of D.digest (pair_bytes K.bytes V.bytes updated.now))
+        ≡ sparse_root D.digest 256 (map_of D.digest (pair_bytes K.bytes V.bytes given.now)))
+        divergence.now }
+    ensures { IfOk result (Finds ⊤ (HaveSameValues (pair_bytes K.bytes V.bytes updated.now)
+        (pair_bytes K.bytes V.bytes given.now))
+        (IsPlacedInStep D.digest divergence.now (pair_bytes K.bytes V.bytes updated.now)
+        (pair_bytes K.bytes V.bytes given.now))) }
+{
+    let Some(apart) = key_apart(updated, given)? else {
         return Ok(Finding::Holds);
     };
-    match find_update(alloc, &met, proof, key, new_value)? {
-        Finding::Collision(pair) => Ok(Finding::Collision(pair)),
-        Finding::Holds | Finding::NotMet => find_apart(alloc, apart, &updated, &given),
+    match divergence {
+        Divergence::Branch(branches) => Ok(Finding::Collision(branches.collide(alloc)?)),
+        Divergence::Target => find_apart(alloc, apart, updated, given),
     }
 }

@@ -1,5 +1,0 @@
-use Rattle.warg_witness.proofs.KeyPremiseLemmas.{equal_maps_meeting_is_needed}
-use Rattle.warg_witness.proofs.premises.equal_maps_meeting_is_needed.Goals as goal
-
-pub returns : goal.returns
-returns c = equal_maps_meeting_is_needed

@@ -1,5 +1,0 @@
-use Rattle.warg_witness.proofs.PremiseLemmas.{record_agreement_sizes_are_needed}
-use Rattle.warg_witness.proofs.premises.record_agreement_sizes_are_needed.Goals as goal
-
-pub returns : goal.returns
-returns c = record_agreement_sizes_are_needed

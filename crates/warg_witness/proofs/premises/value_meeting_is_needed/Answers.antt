@@ -1,5 +1,0 @@
-use Rattle.warg_witness.proofs.PremiseLemmas.{value_meeting_is_needed}
-use Rattle.warg_witness.proofs.premises.value_meeting_is_needed.Goals as goal
-
-pub returns : goal.returns
-returns c = value_meeting_is_needed
