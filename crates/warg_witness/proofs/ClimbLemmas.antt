@@ -20,7 +20,7 @@ shown Target placed first second meet is = meet is
 shown (Branch branches) placed first second meet is = record { collides = is.collides; placed = placed _ _ is.placed }
 
 -- two branches are one where their digests are: those of one side have one length
-beside_parts : (b : Bool) {x u y v : List ℕ} → length x ≡ length y → input_beside b u x ≡ input_beside b v y → (x ≡ y) × (u ≡ v)
+pub beside_parts : (b : Bool) {x u y v : List ℕ} → length x ≡ length y → input_beside b u x ≡ input_beside b v y → (x ≡ y) × (u ≡ v)
 beside_parts true {x} {u} {y} {v} sizes same = let parts = branch_parts u x v y (omega (arith, sizes, length-append u x, length-append v y, ap length same)) same in (parts.1, parts.0)
 beside_parts false sizes same = branch_parts _ _ _ _ sizes same
 

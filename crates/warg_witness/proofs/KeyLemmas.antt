@@ -1,14 +1,18 @@
 -- Two evaluations along one key's bits, the plain sparse tree beside them, and what they show of a key.
-use Rattle.std.proofs.Common.{◌≡◌, ℕ, Bool, List, [], ◌∷◌, ◌++◌, length, Option, refl, sym, ap, ◌∙◌, arith, true, false, cond, Some, None, unwrap_or, inl, inr}
+use Rattle.std.proofs.Common.{◌≡◌, ℕ, Bool, List, [], ◌∷◌, ◌++◌, ◌⊎◌, length, map, Option, refl, sym, ap, ◌∙◌, arith, true, false, cond, Some, None, unwrap_or, inl, inr}
 use Rattle.warg_crypto.specs.EmptyTrees.{empty_root}
 use Rattle.warg_map.specs.ProofValue.{peer_of, proof_value}
 use Rattle.warg_crypto.specs.Tree.{input_beside, leaf_digest}
 use Rattle.warg_crypto.specs.Bytes.{same_bytes}
-use Rattle.warg_witness.specs.Private.MapPaths.{DivergesOnPath, DivergesNowhere, IsClimb, IsPathDivergence, MeetsOnPath}
+use Rattle.std.specs.Option.{MatchOption}
+use Rattle.warg_witness.specs.MapInputs.{fork_input}
+use Rattle.warg_witness.specs.Private.MapPaths.{MeetsOnPath}
+use Rattle.warg_witness.specs.Private.Turns.{Turn, climbed, AreTaken, IsTurnDivergence, IsClimb, bit_turns}
+use Rattle.warg_witness.proofs.TurnLemmas.{turn_up}
 use Rattle.warg_witness.specs.declared.divergence.Divergence.{Divergence}
 use Rattle.warg_witness.specs.declared.divergence.Divergence.TheVariants.{Target, Branch}
 use Rattle.warg_witness.specs.Private.Climbs.{IsUp}
-use Rattle.warg_witness.proofs.ClimbLemmas.{parts_placed, up_parts, shown}
+use Rattle.warg_witness.proofs.ClimbLemmas.{parts_placed, shown}
 use Rattle.warg_map.proofs.ForCallers.{last_held, all_bits, same_bits-true, same_digest, beside_root, beside_input, beside_replaced}
 use Rattle.std.proofs.lemmas.List.{append-nil, length-map, get_or-map}
 use Rattle.std.proofs.lemmas.Slice.Eq.{bytes_eq-Decides}
@@ -26,30 +30,43 @@ use Rattle.warg_crypto.specs.Collisions.{GivesHashes}
 use Rattle.warg_witness.specs.Private.Divergence.{Parts, Shows, inputs_of}
 use Rattle.warg_witness.proofs.InsertionLemmas.{last_with-is, last_of_digest}
 
--- one bit more with the same digest beside it
-fork_same : (b : Bool) (peer peer' value value' : List ℕ) → peer ≡ peer' → value ≡ value' → input_beside b peer value ≡ input_beside b peer' value'
-fork_same b peer peer' value value' p v = rw (p, v) refl
+module _ (H : List ℕ → List ℕ) where
+  -- a proof's turns lead to its value
+  pub bit_leads : (P : List (Option (List ℕ))) (x : List ℕ) (bits : List Bool) → climbed H x (bit_turns H P bits) ≡ proof_value H P x bits
+  unfolding proof_value
+  bit_leads P x [] = refl
+  bit_leads P x (b ∷ bits) = ap (λ v. H (input_beside b (peer_of H P (length bits)) v)) (bit_leads P x bits)
 
--- one bit up
-pub climb_up : {D : Type 0} {H : List ℕ → List ℕ} {P : List (Option (List ℕ))} {x : List ℕ} {Q : List (Option (List ℕ))} {y : List ℕ} {b : Bool} {bits : List Bool} {first second peer peer' above above' : List ℕ}
-    {p q : Divergence D} → peer_of H P (length bits) ≡ peer → peer_of H Q (length bits) ≡ peer' → IsClimb H P x Q y bits first second p → IsUp H b first peer second peer' p above above' q
-    → IsClimb H P x Q y (b ∷ bits) above above' q
-unfolding proof_value
-climb_up {D} {H} {P} {x} {Q} {y} {b} {bits} {p = p} at at' climb up =
-    let inputs = fork_same b _ _ _ _ at (sym climb.first_is) in
-    let others = fork_same b _ _ _ _ at' (sym climb.second_is) in record {
-      first_is = up.first_is ∙ ap H (sym inputs);
-      second_is = up.second_is ∙ ap H (sym others);
-      diverges = up_parts (DivergesOnPath H P x Q y (b ∷ bits)) (DivergesNowhere H P x Q y (b ∷ bits)) up
-          (λ same beside. parts_placed H p (λ _ _ is. record { above = b ∷ is.above; bit = is.bit; below = is.below; split = ap (λ q. b ∷ q) is.split; first_input = is.first_input; second_input = is.second_input })
-          (λ is. record { same = is.same; beside = λ leaf. ap H (fork_same b _ _ _ _ (at ∙ beside ∙ sym at') (is.beside leaf)) }) (climb.diverges same))
-          (record { above = []; bit = b; below = bits; split = refl; first_input = sym inputs; second_input = sym others });
-    }
+  pub bit_sides : (P Q : List (Option (List ℕ))) (bits : List Bool) → map (λ (t : Turn). t.right) (bit_turns H P bits) ≡ map (λ (t : Turn). t.right) (bit_turns H Q bits)
+  bit_sides P Q [] = refl
+  bit_sides P Q (b ∷ bits) = ap (λ sides. b ∷ sides) (bit_sides P Q bits)
 
--- at the leaf
-pub no_bits : {D : Type 0} (H : List ℕ → List ℕ) (P : List (Option (List ℕ))) (x : List ℕ) (Q : List (Option (List ℕ))) (y : List ℕ) → IsClimb {D = D} H P x Q y [] x y Target
-unfolding proof_value
-no_bits H P x Q y = record { first_is = refl; second_is = refl; diverges = λ e. record { same = e; beside = λ leaf. refl } }
+  -- proofs of the same turns lead to one value from any leaf
+  pub one_value : (P Q : List (Option (List ℕ))) (bits : List Bool) → bit_turns H P bits ≡ bit_turns H Q bits → (leaf : List ℕ) → proof_value H P leaf bits ≡ proof_value H Q leaf bits
+  one_value P Q bits one leaf = sym (bit_leads P leaf bits) ∙ ap (λ ts. climbed H leaf ts) one ∙ bit_leads Q leaf bits
+
+  -- The inputs of two evaluations where these bits are left, with one prefix above them.
+  abbrev pub OnBits : List (Option (List ℕ)) → List ℕ → List (Option (List ℕ)) → List ℕ → List Bool → List ℕ → List ℕ → Type 0
+  OnBits P x Q y bits first second =
+      (above : List Bool) × (bit : Bool) × (below : List Bool) × (bits ≡ above ++ bit ∷ below) × (first ≡ fork_input H P x bit below) × (second ≡ fork_input H Q y bit below)
+
+  module _ (P : List (Option (List ℕ))) (x : List ℕ) (Q : List (Option (List ℕ))) (y : List ℕ) where
+    -- what two proofs take at a turn stands there
+    pub on_bits : (bits : List Bool) (first second : List ℕ) → AreTaken H x (bit_turns H P bits) y (bit_turns H Q bits) first second → OnBits P x Q y bits first second
+    on_bits [] first second none = elim none [ ]
+    on_bits (b ∷ bits) first second (inl here) =
+        ([], b, bits, refl, here.0 ∙ ap (λ v. input_beside b (peer_of H P (length bits)) v) (bit_leads P x bits), here.1 ∙ ap (λ v. input_beside b (peer_of H Q (length bits)) v) (bit_leads Q y bits))
+    on_bits (b ∷ bits) first second (inr below) = let (above, bit, left, split, first_is, second_is) = on_bits bits first second below in (b ∷ above, bit, left, ap (λ q. b ∷ q) split, first_is, second_is)
+
+    -- one bit up, and where both come to one value, they meet
+    pub bit_up : {D : Type 0} {b : Bool} (bits : List Bool) {u v d e f g : List ℕ} {p q : Divergence D} → peer_of H P (length bits) ≡ u → peer_of H Q (length bits) ≡ v
+        → IsClimb H x (bit_turns H P bits) y (bit_turns H Q bits) d e p → IsUp H b d u e v p f g q → IsClimb H x (bit_turns H P (b ∷ bits)) y (bit_turns H Q (b ∷ bits)) f g q
+    bit_up bits at at' climb up = turn_up climb (rw (← at, ← at') at up)
+
+    pub keys_met : {D : Type 0} (bits : List Bool) {first second : List ℕ} {p : Divergence D} → IsClimb H x (bit_turns H P bits) y (bit_turns H Q bits) first second p → (met : Option (Divergence D))
+        → MatchOption met (¬ (first ≡ second)) (λ q. (first ≡ second) × (q ≡ p)) → MatchOption met (proof_value H P x bits ≡ proof_value H Q y bits → ⊥) (MeetsOnPath H P x Q y bits)
+    keys_met bits climb None apart = λ same. apart (climb.first_is ∙ bit_leads P x bits ∙ same ∙ sym (climb.second_is ∙ bit_leads Q y bits))
+    keys_met bits climb (Some q) is = rw is.1 (record { met = sym (climb.first_is ∙ bit_leads P x bits) ∙ is.0 ∙ climb.second_is ∙ bit_leads Q y bits; diverges = climb.diverges is.0 })
 
 leaf_is : (H : List ℕ → List ℕ) (o : Option (List ℕ × List ℕ)) → leaf_digest H (value_in o) ≡ unwrap_or (option_map (λ e. leaf_digest H e.1) o) (empty_root H 0)
 unfolding empty_root
@@ -77,32 +94,36 @@ module _ (H : List ℕ → List ℕ) (insertions : List (List ℕ × List ℕ)) 
     pub own_root : proof_value H own (leaf_digest H (value_in last)) (key_bits H key) ≡ sparse_root H 256 (map_of H insertions)
     own_root = rw (← last_is, plain_leaf_is H insertions (key_bits H key)) (beside_root H (map_of H insertions) (key_bits H key) own (all_bits H key) beside)
 
+    placed_on : (peers : List (Option (List ℕ))) (value l r : List ℕ) → OnBits H peers (leaf_digest H value) own (leaf_digest H (value_in last)) (key_bits H key) l r → IsPlacedAtPrefix H peers value key insertions l r
+    placed_on peers value l r (above, bit, below, split, first_is, second_is) = record {
+      prefix = above;
+      rest = bit ∷ below;
+      bits = split;
+      evaluation = first_is;
+      plain = second_is ∙ rw (← last_is, plain_leaf_is H insertions (key_bits H key), split) (beside_input H (map_of H insertions) above below bit own (rw split at beside));
+    }
+
     -- and where an evaluation meets it, it meets the plain tree
     pub own_met : {D : Type 0} (peers : List (Option (List ℕ))) (value : List ℕ) (p : Divergence D) → MeetsOnPath H peers (leaf_digest H value) own (leaf_digest H (value_in last)) (key_bits H key) p → IsKeyMeeting H peers key value insertions p last own
     own_met peers value p meets = record {
       met = meets.met ∙ own_root;
       diverges = parts_placed H p
-          (λ l r is. record {
-            prefix = is.above;
-            rest = is.bit ∷ is.below;
-            bits = is.split;
-            evaluation = is.first_input;
-            plain = is.second_input ∙ rw (← last_is, plain_leaf_is H insertions (key_bits H key), is.split) (beside_input H (map_of H insertions) is.above is.below is.bit own (rw is.split at beside));
-          })
-          (λ is. record { same = rw last_is is.same; updates = λ new. is.beside (leaf_digest H new) ∙ own_grown_root new }) meets.diverges;
+          (λ l r taken. placed_on peers value l r (on_bits H peers _ own _ (key_bits H key) l r taken))
+          (λ one. record { same = rw last_is one.0; updates = λ new. one_value H peers own (key_bits H key) one.1 (leaf_digest H new) ∙ own_grown_root new }) meets.diverges;
       last_is = last_is;
       beside = beside;
     }
 
--- what two proofs of a key with other values show
-pub key_agreement_shown : {D : Type 0} (H : List ℕ → List ℕ) (key : List ℕ) (P : List (Option (List ℕ))) (v : List ℕ) (Q : List (Option (List ℕ))) (u : List ℕ) (p : Divergence D)
-    → IsPathDivergence H P (H (0 ∷ v)) Q (H (0 ∷ u)) (key_bits H key) p → (v ≡ u → ⊥) → Shows H (IsKeyAgreementPlaced H key P v Q u) (inputs_of p (0 ∷ v) (0 ∷ u))
-key_agreement_shown H key P v Q u p diverges other = shown p
-    (λ l r is. record { prefix = is.above; rest = is.bit ∷ is.below; bits = is.split; first_evaluation = is.first_input; second_evaluation = is.second_input }) _ _
-    (λ is. record {
-      collides = record { differ = λ e. other (cc); same = is.same };
-      placed = record { prefix = key_bits H key; rest = []; bits = sym (append-nil (key_bits H key)); first_evaluation = refl; second_evaluation = refl };
-    }) diverges
+-- two proofs of a key with other values: what both take at a turn, or at the leaf
+module _ (H : List ℕ → List ℕ) (key : List ℕ) (P : List (Option (List ℕ))) (v : List ℕ) (Q : List (Option (List ℕ))) (u : List ℕ) where
+  pub key_agreement_placed : (first second : List ℕ) → AreTaken H (H (0 ∷ v)) (bit_turns H P (key_bits H key)) (H (0 ∷ u)) (bit_turns H Q (key_bits H key)) first second ⊎ ((first ≡ 0 ∷ v) × (second ≡ 0 ∷ u))
+      → IsKeyAgreementPlaced H key P v Q u first second
+  key_agreement_placed first second (inl taken) = let (above, bit, below, split, first_is, second_is) = on_bits H P _ Q _ (key_bits H key) first second taken in record { prefix = above; rest = bit ∷ below; bits = split; first_evaluation = first_is; second_evaluation = second_is }
+  key_agreement_placed first second (inr leaf) = record { prefix = key_bits H key; rest = []; bits = sym (append-nil (key_bits H key)); first_evaluation = leaf.0; second_evaluation = leaf.1 }
+
+  pub key_agreement_shown : {D : Type 0} (p : Divergence D) → IsTurnDivergence H (H (0 ∷ v)) (bit_turns H P (key_bits H key)) (H (0 ∷ u)) (bit_turns H Q (key_bits H key)) p → (v ≡ u → ⊥) → Shows H (IsKeyAgreementPlaced H key P v Q u) (inputs_of p (0 ∷ v) (0 ∷ u))
+  key_agreement_shown p diverges other = shown p (λ first second taken. key_agreement_placed first second (inl taken)) _ _
+      (λ one. record { collides = record { differ = λ e. other (cc); same = one.0 }; placed = key_agreement_placed _ _ (inr (refl, refl)) }) diverges
 
 module _ (H : List ℕ → List ℕ) (peers : List (Option (List ℕ))) (key value : List ℕ) (insertions : List (List ℕ × List ℕ)) where
   -- What a pair of a false claim shows.
@@ -140,8 +161,3 @@ module _ (H : List ℕ → List ℕ) (peers : List (Option (List ℕ))) (key val
         of_value : (same : Bool) → same_bytes value e.1 ≡ same → ShowsKey (cond same (key, e.0) (0 ∷ value, 0 ∷ e.1))
         of_value true t = keys_shown e digests last ((bytes_eq-Decides value e.1).0 t)
         of_value false f = leaf_shown e.1 is (ap value_in (sym last)) (not_from_Decides _ (bytes_eq-Decides value e.1) f)
-
--- where both come to one value, they meet
-pub climb_met : {D : Type 0} {H : List ℕ → List ℕ} {P : List (Option (List ℕ))} {x : List ℕ} {Q : List (Option (List ℕ))} {y : List ℕ} {bits : List Bool} {first second : List ℕ} {p : Divergence D}
-    → IsClimb H P x Q y bits first second p → first ≡ second → MeetsOnPath H P x Q y bits p
-climb_met climb same = record { met = sym climb.first_is ∙ same ∙ climb.second_is; diverges = climb.diverges same }

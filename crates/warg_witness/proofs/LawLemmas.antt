@@ -34,11 +34,12 @@ use Rattle.warg_map.specs.Peers.{Proves, ProvesAbsent, IsPeers, IsBeside}
 use Rattle.warg_map.specs.Last.{last_under}
 use Rattle.warg_witness.specs.MapClaims.{IsKeyAgreement, IsLastValue, IsKeyMet, IsAbsenceMet}
 use Rattle.warg_witness.specs.MapPlaced.{IsKeyPlaced, IsKeyAgreementPlaced, IsPlacedAtPrefix}
-use Rattle.warg_witness.specs.Private.MapPaths.{IsPathDivergence, IsClimb}
+use Rattle.warg_witness.specs.Private.Turns.{bit_turns}
+use Rattle.warg_witness.proofs.TurnLemmas.{two_ways}
 use Rattle.warg_witness.specs.Private.MapMeeting.{IsAlike}
 use Rattle.warg_map.specs.ProofValue.{proof_value}
 use Rattle.warg_witness.specs.MapInputs.{fork_input}
-use Rattle.warg_witness.proofs.KeyLemmas.{no_bits, climb_up, key_agreement_shown, plain_leaf_is, own_grown_root, key_shown, inserted_push}
+use Rattle.warg_witness.proofs.KeyLemmas.{bit_leads, bit_sides, key_agreement_placed, plain_leaf_is, own_grown_root, key_shown, inserted_push}
 use Rattle.warg_map.proofs.ForCallers.{all_bits, last_held, root_at_prefix, replaced_root, absent_root, absent_replaced_root}
 use Rattle.std.proofs.lemmas.List.{append-nil, map-append, length-reverse}
 use Rattle.warg_witness.specs.UpdateClaims.{IsUpdated, Step, insertions_of, LeadThrough, CollidesAtStep}
@@ -185,19 +186,6 @@ unfolding proof_value
 value_len H P x gives size [] = size
 value_len H P x gives size (b ∷ bits) = gives (fork_input H P x b bits)
 
--- two evaluations of one root diverge at a branch, or have one leaf digest
-module _ (H : List ℕ → List ℕ) (P : List (Option (List ℕ))) (x : List ℕ) (Q : List (Option (List ℕ))) (y : List ℕ) (gives : HasSize H) (size : length x ≡ 32) (size' : length y ≡ 32) where
-  climbed_on_path : (bits : List Bool) → (p : SomeDivergence) × IsClimb H P x Q y bits (proof_value H P x bits) (proof_value H Q y bits) p
-  unfolding proof_value
-  climbed_on_path [] = (Target, no_bits H P x Q y)
-  climbed_on_path (b ∷ bits) =
-      let below = climbed_on_path bits in
-      let values = value_len H P x gives size bits ∙ sym (value_len H Q y gives size' bits) in
-      let up = up_somewhere b below.0 values in (up.0, climb_up refl refl below.1 up.1)
-
-  pub diverged_on_path : (bits : List Bool) → proof_value H P x bits ≡ proof_value H Q y bits → (p : SomeDivergence) × IsPathDivergence H P x Q y bits p
-  diverged_on_path bits e = let climb = climbed_on_path bits in (climb.0, climb.1.diverges e)
-
 -- What is held has 32 bytes.
 abbrev HaveSize : (List Bool → Option (List ℕ)) → Type 0
 HaveSize held = (bits : List Bool) → IfSome (held bits) (λ digest. length digest ≡ 32)
@@ -216,9 +204,11 @@ module _ (H : List ℕ → List ℕ) (gives : HasSize H) where
 pub key_agreement_collides : (H : List ℕ → List ℕ) (key : List ℕ) (P : List (Option (List ℕ))) (v : List ℕ) (Q : List (Option (List ℕ))) (u : List ℕ) → GivesHashes H
     → IsKeyAgreement H key P v Q u → (v ≡ u → ⊥) → SomeCollision H (IsKeyAgreementPlaced H key P v Q u)
 key_agreement_collides H key P v Q u digests met other =
-    let gives = sizes digests in
-    let (p, diverges) = diverged_on_path H P _ Q _ gives (gives _) (gives _) (key_bits H key) met in
-    shown_collides _ (key_agreement_shown H key P v Q u p diverges other)
+    let bits = key_bits H key in
+    elim (two_ways H (sizes digests) (H (0 ∷ v)) (H (0 ∷ u)) (sizes digests _) (sizes digests _) (bit_turns H P bits) (bit_turns H Q bits) (bit_sides H P Q bits) (bit_leads H P _ bits ∙ met ∙ sym (bit_leads H Q _ bits))) [
+      | inl one ↦ record { first = 0 ∷ v; second = 0 ∷ u; collide = record { differ = λ e. other (cc); same = one.0 }; placed = key_agreement_placed H key P v Q u _ _ (inr (refl, refl)) }
+      | inr c ↦ record { first = c.first; second = c.second; collide = c.collide; placed = key_agreement_placed H key P v Q u c.first c.second (inl c.placed) }
+    ]
 
 -- a branch has the digests of both sides, on either side of a bit
 sides_same : (f : Bool → List ℕ) (b : Bool) (peer value : List ℕ) → ((c : Bool) → length (f c) ≡ 32) → length value ≡ 32 → input_beside b peer value ≡ branch_input (f false) (f true) → (peer ≡ f (not b)) × (value ≡ f b)

@@ -1,4 +1,5 @@
 pub mod ClimbLemmas
+pub mod TurnLemmas
 pub mod CutLemmas
 pub mod HashLemmas
 pub mod GrowthLemmas

@@ -1,31 +1,34 @@
--- Where paths lead, and an evaluation along a path beside another one of the same place, or beside a tree.
-use Rattle.std.proofs.Common.{◌≡◌, ℕ, ◌-◌, ◌<◌, ◌≤◌, List, [], ◌∷◌, ◌++◌, length, reverse, get_or, Some, refl, sym, ap, ◌∙◌, arith, ◌+◌, Bool, false, true}
+-- Where paths lead, turn by turn, two evaluations along paths of one place, and a tree's own path.
+use Rattle.std.proofs.Common.{◌≡◌, ◌⊎◌, inl, inr, ℕ, zero, suc, ◌+◌, ◌-◌, ◌==◌, ◌<◌, ◌≤◌, nat_le, nat_lt, Bool, true, false, List, [], ◌∷◌, ◌++◌, length, map, reverse, get_or, Option, Some, None, if◌then◌else◌, refl, sym, ap, ◌∙◌, arith}
+use Rattle.std.specs.Option.{MatchOption}
 use Rattle.std.proofs.lemmas.Bool.Decides.{nat_tests}
-use Rattle.std.proofs.lemmas.Bool.{lt-leb, lt-ltb, le-ltb}
+use Rattle.std.proofs.lemmas.Bool.{cases_lt, cases_Bool, lt-leb, le-leb, lt-ltb, le-ltb, eqb-true}
 use Rattle.std.proofs.lemmas.List.{reverse-append}
 use Rattle.std.proofs.Math.Seq.{take-length}
-use Rattle.warg_log.specs.Tree.{front_of, leaves_of, root_of, root_over}
-use Rattle.warg_log.specs.Cut.{joined}
-use Rattle.warg_paths.specs.Paths.{inclusion_root, root_down}
-use Rattle.warg_paths.proofs.ForCallers.{root_one}
-use Rattle.warg_witness.specs.PathClaims.{IsRecord}
-use Rattle.warg_witness.specs.Private.PathDivergence.{IsPathMeeting, IsBeside, tree_input}
-use Rattle.warg_witness.proofs.RangeLemmas.{Digest}
-use Rattle.warg_witness.proofs.CutLemmas.{leaves_count, plain_digest_is}
-use Rattle.warg_crypto.specs.Tree.{input_beside}
-use Rattle.warg_witness.specs.Ranges.{IsAround}
-use Rattle.warg_witness.specs.Private.Ranges.{AreSides}
+use Rattle.warg_crypto.specs.Tree.{branch_input, input_beside, leaf_input}
+use Rattle.warg_log.specs.Cut.{joined, old_over}
+use Rattle.warg_log.specs.Ranges.{Range, leaves_from, front_part, rest_part, IsAligned}
+use Rattle.warg_log.specs.Tree.{front_of, leaves_of, root_of, root_over, own_digest}
+use Rattle.warg_log.proofs.ForCallers.{root_over_parts, front_is_greatest, old_own_range}
+use Rattle.warg_paths.specs.Paths.{inclusion_of, inclusion_root, root_down, beside, path_within}
 use Rattle.warg_paths.specs.Ways.{IsOnWay, turn_input}
-use Rattle.warg_witness.specs.PathPlaced.{IsRecordAgreementPlaced, IsRecordPlaced}
 use Rattle.warg_paths.specs.Ways.IsOnWay.{whole, front, rest}
+use Rattle.warg_paths.proofs.ForCallers.{root_one}
+use Rattle.warg_witness.specs.Inputs.{plain_input}
+use Rattle.warg_witness.specs.PathClaims.{IsRecord}
+use Rattle.warg_witness.specs.PathPlaced.{record_input, IsRecordAgreementPlaced, IsRecordPlaced}
 use Rattle.warg_witness.specs.Private.Climbs.{IsUp}
 use Rattle.warg_witness.specs.Private.Divergence.{Shows, inputs_of}
-use Rattle.warg_witness.specs.Private.PathClimbs.{LeadNowhere, LeadNowhereAt, PathsDiverge, PathsMeet, IsPathClimb, IsClimbAt, NeverMeet, IsPathsMeeting, PathLeaves, PathMeets, DivergesFromTree, IsTreeClimb}
+use Rattle.warg_witness.specs.Private.PathClimbs.{LeadNowhere, IsPathClimb, NeverMeet, IsPathsMeeting}
+use Rattle.warg_witness.specs.Private.PathDivergence.{IsBeside, tree_input}
+use Rattle.warg_witness.specs.Private.Ranges.{AreSides}
+use Rattle.warg_witness.specs.Private.Turns.{Turn, climbed, path_turns, AreTaken}
 use Rattle.warg_witness.specs.declared.divergence.Divergence.{Divergence}
 use Rattle.warg_witness.specs.declared.divergence.Divergence.TheVariants.{Target}
 use Rattle.warg_witness.proofs.ClimbLemmas.{parts_placed, shown, up_parts, both_there}
-use Rattle.warg_log.proofs.ForCallers.{root_over_parts}
-use Rattle.warg_witness.specs.Inputs.{plain_input}
+use Rattle.warg_witness.proofs.CutLemmas.{leaves_count, plain_digest_is}
+use Rattle.warg_witness.proofs.RangeLemmas.{Digest, front_aligned, rest_aligned, whole_aligned}
+use Rattle.warg_witness.proofs.TurnLemmas.{no_turns, turn_up}
 
 -- a path that leads somewhere, from a place that is there
 pub leads_inside : (H : Digest) (m n : ℕ) (x root : List ℕ) (path : List (List ℕ)) → inclusion_root H m n x path ≡ Some root → (m < n) × (root_down H m n x (reverse path) ≡ Some root)
@@ -69,190 +72,309 @@ beside_up {H = H} tree {Q = Q} {B = B} {right} {a} {n} {p = p} more within sides
       parts = up_parts Q B up (λ same _. parts_placed H p widen meet (below.parts same)) (here plain);
     }
 
--- at the leaf
-module _ {s a n : ℕ} (one : n ≡ 1) (around : IsAround s 1 a n) where
-  leaf_led : (H : Digest) (x : List ℕ) (path : List (List ℕ)) → length path ≡ 0 → root_down H (s - a) n x (reverse path) ≡ Some x
-  leaf_led H x path none = rw one (root_one H (s - a) x path none)
-
-  leaf_way : {m₀ a₀ n₀ : ℕ} {ds₀ : List (List ℕ)} (path : List (List ℕ)) → length path ≡ 0 → IsOnWay m₀ a₀ n₀ ds₀ (s - a) a n (reverse path) → IsOnWay m₀ a₀ n₀ ds₀ 0 s 1 []
-  leaf_way path none way =
-      let here : s - a ≡ 0 = omega arith in
-      let start : a ≡ s = omega arith in rw (here, start, one, empty path none) at way
+-- both evaluations at a leaf, and one turn up
+module _ {D : Type 0} (H : Digest) (x y : List ℕ) where
+  pub leaf_climb : {m n : ℕ} {first second : List ℕ} {p : Divergence D} (path other : List (List ℕ)) → n ≡ 1 → length path ≡ 0 → length other ≡ 0 → first ≡ x → second ≡ y → p ≡ Target
+      → IsPathClimb H x (reverse path) y (reverse other) m n first second p
+  leaf_climb {m} path other one none others first second target =
+      rw (one, first, second, target) (record { first_led = root_one H m x path none; second_led = root_one H m y other others; climb = rw (empty path none, empty other others) (no_turns refl refl refl) })
     where
       empty : (path : List (List ℕ)) → length path ≡ 0 → reverse path ≡ []
       empty [] is = refl
       empty (d ∷ path) is = absurd (omega arith)
 
-  -- two evaluations, and one beside a tree
-  pub paths_start : {D : Type 0} (H : Digest) {x y first second : List ℕ} {p : Divergence D} (path other : List (List ℕ)) → length path ≡ 0 → length other ≡ 0 → first ≡ x → second ≡ y → p ≡ Target
-      → IsPathClimb H x (reverse path) y (reverse other) s a n first second p
-  paths_start H {x} {y} path other none others first second target = rw (first, second, target) (record {
-    first_is = leaf_led H x path none;
-    second_is = leaf_led H y other others;
-    diverges = λ same m₀ a₀ n₀ ds₀ es₀ way other_way. record { on_way = leaf_way path none way; other_on_way = leaf_way other others other_way; same = same };
-  })
-
-  pub tree_start : {D : Type 0} (H : Digest) {x first second : List ℕ} {p : Divergence D} (path tree : List (List ℕ)) → length path ≡ 0 → first ≡ x → second ≡ root_over H tree a n → p ≡ Target
-      → IsTreeClimb H x (reverse path) tree s a n first second p
-  tree_start H {x} path tree none first second target =
-      let start : a ≡ s = omega arith in
-      rw (first, target) (record {
-        first_is = leaf_led H x path none;
-        beside = record { is = second; parts = λ same m₀ a₀ n₀ ds₀ way. record { on_way = leaf_way path none way; same = rw (start, one) at (same ∙ second) } };
-      })
-
--- what is so of a leaf's place in the first part of a range and in the rest is so in the part that has the leaf
-in_part : (right : Bool) {s a n b k c j : ℕ} (P : Bool → ℕ → ℕ → ℕ → Type 0) → AreSides right a n b k c j → IsAround s 1 b k → a ≤ s
-    → (s - a < front_of n → P false (s - a) a (front_of n)) → (front_of n ≤ s - a → P true (s - a - front_of n) (a + front_of n) (n - front_of n)) → P right (s - b) b k
-in_part false P sides around starts left last = let low = around.ends in rw (sides.start, sides.count) (left (omega (arith, sides.start, sides.count)))
-in_part true {s} {a} {n} P sides around starts left last =
-    let high = around.starts in
-    let place : s - (a + front_of n) ≡ s - a - front_of n = omega arith in
-    rw (sides.start, sides.count, place) (last (omega (arith, sides.start)))
-
-module _ {right : Bool} {s a n b k c j : ℕ} (sides : AreSides right a n b k c j) (around : IsAround s 1 b k) (starts : a ≤ s) (more : 1 < n) where
-  -- where a path leads in that part and in the range
-  part_led : (H : Digest) (x t d : List ℕ) (ds : List (List ℕ)) → root_down H (s - b) k x ds ≡ Some d
-      → (root_down H (s - a) n x (t ∷ ds) ≡ Some (H (input_beside right t d))) × (turn_input H x (s - a) n t ds ≡ Some (input_beside right t d))
-  part_led H x t d ds = in_part right (λ side m b k. root_down H m k x ds ≡ Some d
-      → (root_down H (s - a) n x (t ∷ ds) ≡ Some (H (input_beside side t d))) × (turn_input H x (s - a) n t ds ≡ Some (input_beside side t d))) sides around starts
-      (λ lt is. (front_leads H (s - a) n x t ds more lt ∙ ap (λ l. joined H l (Some t)) is, rw (lt-ltb (s - a) (front_of n) lt, is) refl))
-      (λ le is. (rest_leads H (s - a) n x t ds more le ∙ ap (λ r. joined H (Some t) r) is, rw (le-ltb (s - a) (front_of n) le, is) refl))
-
-  pub part_there : (H : Digest) (x t e : List ℕ) (ds : List (List ℕ)) → root_down H (s - a) n x (t ∷ ds) ≡ Some e → (d : List ℕ) × (root_down H (s - b) k x ds ≡ Some d)
-  part_there H x t e ds is = in_part right (λ side m b k. (d : List ℕ) × (root_down H m k x ds ≡ Some d)) sides around starts
-      (λ lt. let both = both_there H _ _ e (sym (front_leads H (s - a) n x t ds more lt) ∙ is) in (both.0, both.2))
-      (λ le. let both = both_there H (Some t) _ e (sym (rest_leads H (s - a) n x t ds more le) ∙ is) in (both.1, both.3))
-
-  part_way : {m₀ a₀ n₀ : ℕ} {ds₀ : List (List ℕ)} {t : List ℕ} {ds : List (List ℕ)} → IsOnWay m₀ a₀ n₀ ds₀ (s - a) a n (t ∷ ds) → IsOnWay m₀ a₀ n₀ ds₀ (s - b) b k ds
-  part_way {m₀} {a₀} {n₀} {ds₀} {t} {ds} way = in_part right (λ side m b k. IsOnWay m₀ a₀ n₀ ds₀ m b k ds) sides around starts (front _ _ _ _ _ way more) (rest _ _ _ _ _ way more)
-
-  -- one branch up on both ways, and on one beside a tree
-  pub paths_up : {D : Type 0} {H : Digest} {x y t u d e f g : List ℕ} {ds es : List (List ℕ)} {p q : Divergence D} → IsPathClimb H x ds y es s b k d e p → IsUp H right d t e u p f g q
-      → IsPathClimb H x (t ∷ ds) y (u ∷ es) s a n f g q
-  paths_up {H = H} {x} {y} {t} {u} {d} {e} {ds = ds} {es} climb up =
-      let first = part_led H x t d ds climb.first_is in
-      let second = part_led H y u e es climb.second_is in record {
-        first_is = first.0 ∙ ap Some (sym up.first_is);
-        second_is = second.0 ∙ ap Some (sym up.second_is);
-        diverges = λ one m₀ a₀ n₀ digests₀ other_digests₀ way other_way. up_parts (PathsDiverge H x digests₀ y other_digests₀ m₀ a₀ n₀) (PathsMeet x digests₀ y other_digests₀ m₀ a₀ n₀ s) up
-            (λ same _. climb.diverges same m₀ a₀ n₀ digests₀ other_digests₀ (part_way way) (part_way other_way)) (search (way, other_way, first.1, second.1)) one;
-      }
-
-  pub tree_up : {D : Type 0} {H : Digest} {x t z d e f g : List ℕ} {ds : List (List ℕ)} (tree : List (List ℕ)) {p q : Divergence D} → a + n ≤ length tree → IsTreeClimb H x ds tree s b k d e p → z ≡ root_over H tree c j
-      → IsUp H right d t e z p f g q → IsTreeClimb H x (t ∷ ds) tree s a n f g q
-  tree_up {H = H} {x} {t} {d = d} {ds = ds} tree within climb z_is up =
-      let first = part_led H x t d ds climb.first_is in record {
-        first_is = first.0 ∙ ap Some (sym up.first_is);
-        beside = beside_up tree more within sides climb.beside z_is up (λ _ _ is m₀ a₀ n₀ ds₀ way. is m₀ a₀ n₀ ds₀ (part_way way)) (λ meets m₀ a₀ n₀ ds₀ way. meets m₀ a₀ n₀ ds₀ (part_way way))
-            (λ plain m₀ a₀ n₀ ds₀ way. search (way, more, first.1, plain));
-      }
-
-  -- where one leads nowhere in that part, it leads nowhere
-  pub paths_nowhere : (H : Digest) (x y t u : List ℕ) (ds es : List (List ℕ)) → LeadNowhere H x ds y es s b k → LeadNowhere H x (t ∷ ds) y (u ∷ es) s a n
-  paths_nowhere H x y t u ds es nowhere = λ first second is other.
-      let one = part_there H x t first ds is in
-      let two = part_there H y u second es other in nowhere one.0 two.0 one.1 two.1
-
--- the first part of a range and the rest
-front_sides : (a n : ℕ) → AreSides false a n a (front_of n) (a + front_of n) (n - front_of n)
-front_sides a n = record { start = refl; count = refl; other_start = refl; other_count = refl }
-
-rest_sides : (a n : ℕ) → AreSides true a n (a + front_of n) (n - front_of n) a (front_of n)
-rest_sides a n = record { start = refl; count = refl; other_start = refl; other_count = refl }
-
-front_around : (a m n : ℕ) → m < front_of n → IsAround (a + m) 1 a (front_of n)
-front_around a m n lt = record { starts = omega arith; ends = omega arith }
-
-rest_around : (a m n : ℕ) → front_of n ≤ m → m < n → IsAround (a + m) 1 (a + front_of n) (n - front_of n)
-rest_around a m n le lt = record { starts = omega arith; ends = omega arith }
-
--- both evaluations from a leaf up to a range of one leaf, and from the part that has the leaf up to a range
-module _ {D : Type 0} (H : Digest) (x y : List ℕ) where
-  pub leaf_climb : {m n : ℕ} {first second : List ℕ} {p : Divergence D} (path other : List (List ℕ)) → n ≡ 1 → m < n → length path ≡ 0 → length other ≡ 0 → first ≡ x → second ≡ y → p ≡ Target
-      → IsClimbAt H x (reverse path) y (reverse other) m n first second p
-  leaf_climb {m} path other one inside none others first second target = λ a. paths_start one (record { starts = omega arith; ends = omega arith }) H path other none others first second target
-
   module _ {t u : List ℕ} {ds es : List (List ℕ)} (m n : ℕ) (more : 1 < n) where
-    pub front_up : {d e f g : List ℕ} {p q : Divergence D} → m < front_of n → IsClimbAt H x ds y es m (front_of n) d e p → IsUp H false d t e u p f g q → IsClimbAt H x (t ∷ ds) y (u ∷ es) m n f g q
-    front_up lt climb up = λ a. paths_up (front_sides a n) (front_around a m n lt) (omega arith) more (climb a) up
-
-    pub rest_up : {d e f g : List ℕ} {p q : Divergence D} → front_of n ≤ m → m < n → IsClimbAt H x ds y es (m - front_of n) (n - front_of n) d e p → IsUp H true d t e u p f g q
-        → IsClimbAt H x (t ∷ ds) y (u ∷ es) m n f g q
-    rest_up le lt climb up = λ a.
-        let place : a + front_of n + (m - front_of n) ≡ a + m = omega arith in
-        paths_up (rest_sides a n) (rest_around a m n le lt) (omega arith) more (rw place at (climb (a + front_of n))) up
-
--- where one leads nowhere in the part that has the leaf, it leads nowhere
-module _ (H : List ℕ → List ℕ) (x y t u : List ℕ) (ds es : List (List ℕ)) (m n : ℕ) (more : 1 < n) where
-  pub front_nowhere : m < front_of n → LeadNowhereAt H x ds y es m (front_of n) → LeadNowhereAt H x (t ∷ ds) y (u ∷ es) m n
-  front_nowhere lt nowhere = λ a. paths_nowhere (front_sides a n) (front_around a m n lt) (omega arith) more H x y t u ds es (nowhere a)
-
-  pub rest_nowhere : front_of n ≤ m → m < n → LeadNowhereAt H x ds y es (m - front_of n) (n - front_of n) → LeadNowhereAt H x (t ∷ ds) y (u ∷ es) m n
-  rest_nowhere le lt nowhere = λ a.
-      let place : a + front_of n + (m - front_of n) ≡ a + m = omega arith in
-      paths_nowhere (rest_sides a n) (rest_around a m n le lt) (omega arith) more H x y t u ds es (rw place at (nowhere (a + front_of n)))
-
--- two paths of which one leads nowhere, or that lead to two digests
-pub nowhere_never : (H : Digest) (x y : List ℕ) (path other : List (List ℕ)) (m n : ℕ) → LeadNowhereAt H x (reverse path) y (reverse other) m n → NeverMeet H x path y other m n
-nowhere_never H x y path other m n nowhere = λ root first second.
-    let start : 0 + m - 0 ≡ m = omega arith in
-    let none = rw start at (nowhere 0) in none root root (leads_inside H m n x root path first).1 (leads_inside H m n y root other second).1
-
-pub apart_never : {D : Type 0} (H : Digest) (x y : List ℕ) (path other : List (List ℕ)) (m n : ℕ) (first second : List ℕ) (p : Divergence D) → IsClimbAt H x (reverse path) y (reverse other) m n first second p
-    → (first ≡ second → ⊥) → NeverMeet H x path y other m n
-apart_never H x y path other m n first second p climbs apart = λ root is other_is.
-    let start : 0 + m - 0 ≡ m = omega arith in
-    let climb = climbs 0 in
-    let one : Some first ≡ Some root = sym (rw start at climb.first_is) ∙ (leads_inside H m n x root path is).1 in
-    let two : Some second ≡ Some root = sym (rw start at climb.second_is) ∙ (leads_inside H m n y root other other_is).1 in apart (cc)
-
--- both evaluations over all leaves
-pub climbs_meet : {D : Type 0} {H : Digest} {x y : List ℕ} (path other_path : List (List ℕ)) {m n : ℕ} {first second : List ℕ} {p : Divergence D} → m < n
-    → IsClimbAt H x (reverse path) y (reverse other_path) m n first second p → first ≡ second → IsPathsMeeting H x path y other_path m n p
-climbs_meet {D} {H} {x} {y} path other_path {m} {n} {first} inside climbs same =
-    let start : 0 + m ≡ m = omega arith in
-    let place : m - 0 ≡ m = omega arith in
-    let climb = rw start at (climbs 0) in record {
-      root = first;
-      first_is = inside_leads H m n x path inside ∙ rw place at climb.first_is;
-      second_is = inside_leads H m n y other_path inside ∙ rw place at climb.second_is ∙ ap Some (sym same);
-      diverges = climb.diverges same;
+    pub front_up : {d e f g : List ℕ} {p q : Divergence D} → m < front_of n → IsPathClimb H x ds y es m (front_of n) d e p → IsUp H false d t e u p f g q → IsPathClimb H x (t ∷ ds) y (u ∷ es) m n f g q
+    front_up lt climb up = record {
+      first_led = front_leads H m n x t ds more lt ∙ ap (λ l. joined H l (Some t)) climb.first_led ∙ ap Some (sym up.first_is);
+      second_led = front_leads H m n y u es more lt ∙ ap (λ l. joined H l (Some u)) climb.second_led ∙ ap Some (sym up.second_is);
+      climb = rw (lt-ltb m (front_of n) lt) (turn_up climb.climb up);
     }
 
--- what a divergence of two paths shows, where the values differ
-pub record_agreement_shown : {D : Type 0} (H : Digest) (index n : ℕ) (path : List (List ℕ)) (value : List ℕ) (other_path : List (List ℕ)) (other : List ℕ) (p : Divergence D) → (value ≡ other → ⊥)
-    → IsPathsMeeting H (H (0 ∷ value)) path (H (0 ∷ other)) other_path index n p
-    → Shows H (IsRecordAgreementPlaced H index n path value other_path other) (inputs_of p (0 ∷ value) (0 ∷ other))
-record_agreement_shown H index n path value other_path other p apart met =
-    let place : index - 0 ≡ index = omega arith in
-    shown p (λ _ _ is. search is) _ _ (λ meets. record { collides = record { differ = λ e. apart (cc); same = meets.same }; placed = search meets })
-    (met.diverges index 0 n (reverse path) (reverse other_path) (rw place whole) (rw place whole))
+    pub rest_up : {d e f g : List ℕ} {p q : Divergence D} → front_of n ≤ m → IsPathClimb H x ds y es (m - front_of n) (n - front_of n) d e p → IsUp H true d t e u p f g q → IsPathClimb H x (t ∷ ds) y (u ∷ es) m n f g q
+    rest_up le climb up = record {
+      first_led = rest_leads H m n x t ds more le ∙ ap (λ r. joined H (Some t) r) climb.first_led ∙ ap Some (sym up.first_is);
+      second_led = rest_leads H m n y u es more le ∙ ap (λ r. joined H (Some u) r) climb.second_led ∙ ap Some (sym up.second_is);
+      climb = rw (le-ltb m (front_of n) le) (turn_up climb.climb up);
+    }
 
--- an evaluation that leads to a tree's root
-pub tree_led : {D : Type 0} {H : Digest} {x : List ℕ} (path tree : List (List ℕ)) {m : ℕ} {first second : List ℕ} {p : Divergence D} → inclusion_root H m (length tree) x path ≡ Some (root_of H tree)
-    → IsTreeClimb H x (reverse path) tree m 0 (length tree) first second p → DivergesFromTree H x (reverse path) tree m 0 (length tree) p
-tree_led {D} {H} {x} path tree {m} leads climb =
-    let place : m - 0 ≡ m = omega arith in
-    let first = rw place at climb.first_is in
-    let led = (leads_inside H m (length tree) x _ path leads).1 in
-    let second = climb.beside.is ∙ whole_root H tree in climb.beside.parts (cc)
+-- where one leads nowhere in the part that has the leaf, it leads nowhere
+module _ (H : Digest) (x y t u : List ℕ) (ds es : List (List ℕ)) (m n : ℕ) (more : 1 < n) where
+  pub front_nowhere : m < front_of n → LeadNowhere H x ds y es m (front_of n) → LeadNowhere H x (t ∷ ds) y (u ∷ es) m n
+  front_nowhere lt nowhere = λ first second is other.
+      let one = both_there H _ _ first (sym (front_leads H m n x t ds more lt) ∙ is) in
+      let two = both_there H _ _ second (sym (front_leads H m n y u es more lt) ∙ other) in nowhere one.0 two.0 one.2 two.2
 
--- what a divergence of a path from the tree over the entries shows, where the claim is false
-pub record_shown : {D : Type 0} (H : Digest) (index : ℕ) (path : List (List ℕ)) (value : List ℕ) (entries tree : List (List ℕ)) (p : Divergence D) → IsPathMeeting H index path (H (0 ∷ value)) entries tree
-    → (IsRecord index value entries → ⊥) → DivergesFromTree H (H (0 ∷ value)) (reverse path) tree index 0 (length tree) p
-    → Shows H (IsRecordPlaced H index path value entries) (inputs_of p (0 ∷ value) (0 ∷ get_or entries index []))
-record_shown H index path value entries tree p met other diverges =
-    let place : index - 0 ≡ index = omega arith in
-    let inside = met.inside in
-    shown p
-    (λ first second here.
-    let at : PathLeaves H (H (0 ∷ value)) (reverse path) (leaves_of H entries) index 0 (length entries) first second = here index 0 (length entries) (reverse path) (rw place whole) in
-    let plain : second ≡ plain_input H entries at.from at.count = rw (lt-leb at.count 1 at.more) at.plain in search (at, plain))
-    _ _
-    (λ here.
-    let at : PathMeets H (H (0 ∷ value)) (reverse path) (leaves_of H entries) index 0 (length entries) index = here index 0 (length entries) (reverse path) (rw place whole) in record {
-      collides = record { differ = λ e. other (cc); same = at.same ∙ plain_digest_is H entries index 1 (omega arith) (omega arith) };
-      placed = search at;
+  pub rest_nowhere : front_of n ≤ m → LeadNowhere H x ds y es (m - front_of n) (n - front_of n) → LeadNowhere H x (t ∷ ds) y (u ∷ es) m n
+  rest_nowhere le nowhere = λ first second is other.
+      let one = both_there H (Some t) _ first (sym (rest_leads H m n x t ds more le) ∙ is) in
+      let two = both_there H (Some u) _ second (sym (rest_leads H m n y u es more le) ∙ other) in nowhere one.1 two.1 one.3 two.3
+
+-- two paths of which one leads nowhere, that lead to two digests, and that lead to one
+module _ (H : Digest) (x y : List ℕ) (path other : List (List ℕ)) (m n : ℕ) where
+  pub nowhere_never : LeadNowhere H x (reverse path) y (reverse other) m n → NeverMeet H x path y other m n
+  nowhere_never nowhere = λ root first second. nowhere root root (leads_inside H m n x root path first).1 (leads_inside H m n y root other second).1
+
+  module _ {D : Type 0} {first second : List ℕ} {p : Divergence D} (climb : IsPathClimb H x (reverse path) y (reverse other) m n first second p) where
+    pub paths_met : m < n → (met : Option (Divergence D)) → MatchOption met (¬ (first ≡ second)) (λ q. (first ≡ second) × (q ≡ p)) → MatchOption met (NeverMeet H x path y other m n) (IsPathsMeeting H x path y other m n)
+    paths_met inside None apart = λ root is other_is.
+        let one : Some first ≡ Some root = sym climb.first_led ∙ (leads_inside H m n x root path is).1 in
+        let two : Some second ≡ Some root = sym climb.second_led ∙ (leads_inside H m n y root other other_is).1 in apart (cc)
+    paths_met inside (Some q) is = rw is.1 (record {
+      root = first;
+      first_is = inside_leads H m n x path inside ∙ climb.first_led;
+      second_is = inside_leads H m n y other inside ∙ climb.second_led ∙ ap Some (sym is.0);
+      diverges = climb.climb.diverges is.0;
     })
-    (rw (met.tree_is, leaves_count H entries) at diverges)
+
+-- where no digests are left, there is one leaf
+at_leaf : (H : List ℕ → List ℕ) (m n : ℕ) (x root : List ℕ) → root_down H m n x [] ≡ Some root → (n ≡ 1) × (x ≡ root)
+unfolding root_down
+at_leaf H m n x root is = elim (cases_Bool (n == 1)) [
+  | inl one ↦ let same = rw one at is in (eqb-true n 1 one, cc)
+  | inr more ↦ absurd (let none = rw more at is in cc)
+]
+
+more_leaves : (H : List ℕ → List ℕ) (m n : ℕ) (x root top : List ℕ) (below : List (List ℕ)) → root_down H m n x (top ∷ below) ≡ Some root → 1 < n
+unfolding root_down
+more_leaves H m n x root top below is = elim (cases_lt 1 n) [
+  | inl more ↦ more
+  | inr few ↦ absurd (let none = rw (le-leb n 1 few) at is in cc)
+]
+
+joined_left : (H : List ℕ → List ℕ) (left : Option (List ℕ)) (right root : List ℕ) → joined H left (Some right) ≡ Some root → (l : List ℕ) × (left ≡ Some l) × (H (branch_input l right) ≡ root)
+joined_left H (Some l) right root is = (l, refl, cc)
+joined_left H None right root is = absurd (cc)
+
+joined_right : (H : List ℕ → List ℕ) (left : List ℕ) (right : Option (List ℕ)) (root : List ℕ) → joined H (Some left) right ≡ Some root → (r : List ℕ) × (right ≡ Some r) × (H (branch_input left r) ≡ root)
+joined_right H left (Some r) root is = (r, refl, cc)
+joined_right H left None root is = absurd (cc)
+
+-- a path that leads to a root leads to it by its turns
+pub path_leads : (H : Digest) (m n : ℕ) (x root : List ℕ) (ds : List (List ℕ)) → root_down H m n x ds ≡ Some root → root ≡ climbed H x (path_turns m n ds)
+path_leads H m n x root [] is = sym (at_leaf H m n x root is).1
+path_leads H m n x root (top ∷ below) is =
+    let more = more_leaves H m n x root top below is in
+    elim (cases_lt m (front_of n)) [
+      | inl lt ↦ let (l, l_is, root_is) = joined_left H _ top _ (sym (front_leads H m n x top below more lt) ∙ is) in rw (lt-ltb m (front_of n) lt) (sym root_is ∙ ap (λ l. H (branch_input l top)) (path_leads H m (front_of n) x l below l_is))
+      | inr le ↦ let (r, r_is, root_is) = joined_right H top _ _ (sym (rest_leads H m n x top below more le) ∙ is) in rw (le-ltb m (front_of n) le) (sym root_is ∙ ap (λ r. H (branch_input top r)) (path_leads H (m - front_of n) (n - front_of n) x r below r_is))
+    ]
+
+-- two paths of one place have the same sides
+pub same_sides : (H : Digest) (x y root other : List ℕ) (m n : ℕ) (ds es : List (List ℕ)) → root_down H m n x ds ≡ Some root → root_down H m n y es ≡ Some other
+    → map (λ (t : Turn). t.right) (path_turns m n ds) ≡ map (λ (t : Turn). t.right) (path_turns m n es)
+same_sides H x y root other m n [] [] is other_is = refl
+same_sides H x y root other m n [] (u ∷ es) is other_is = let one = (at_leaf H m n x root is).0 in let more = more_leaves H m n y other u es other_is in absurd (omega arith)
+same_sides H x y root other m n (t ∷ ds) [] is other_is = let one = (at_leaf H m n y other other_is).0 in let more = more_leaves H m n x root t ds is in absurd (omega arith)
+same_sides H x y root other m n (t ∷ ds) (u ∷ es) is other_is =
+    let more = more_leaves H m n x root t ds is in
+    elim (cases_lt m (front_of n)) [
+      | inl lt ↦
+          let (l, l_is, _) = joined_left H _ t _ (sym (front_leads H m n x t ds more lt) ∙ is) in
+          let (k, k_is, _) = joined_left H _ u _ (sym (front_leads H m n y u es more lt) ∙ other_is) in
+          rw (lt-ltb m (front_of n) lt) (ap (λ sides. false ∷ sides) (same_sides H x y l k m (front_of n) ds es l_is k_is))
+      | inr le ↦
+          let (r, r_is, _) = joined_right H t _ _ (sym (rest_leads H m n x t ds more le) ∙ is) in
+          let (k, k_is, _) = joined_right H u _ _ (sym (rest_leads H m n y u es more le) ∙ other_is) in
+          rw (le-ltb m (front_of n) le) (ap (λ sides. true ∷ sides) (same_sides H x y r k (m - front_of n) (n - front_of n) ds es r_is k_is))
+    ]
+
+-- what two evaluations take at a turn, or at the leaf, stands on the way
+module _ (H : Digest) (index count : ℕ) (path : List (List ℕ)) (v : List ℕ) (other_path : List (List ℕ)) (u : List ℕ) where
+  -- What both take.
+  abbrev Take : ℕ → ℕ → List (List ℕ) → List (List ℕ) → List ℕ → List ℕ → Type 0
+  Take m n ds es first second = AreTaken H (H (0 ∷ v)) (path_turns m n ds) (H (0 ∷ u)) (path_turns m n es) first second ⊎ ((first ≡ 0 ∷ v) × (second ≡ 0 ∷ u))
+
+  on_way : (m a n : ℕ) (ds es : List (List ℕ)) (root other first second : List ℕ) → root_down H m n (H (0 ∷ v)) ds ≡ Some root → root_down H m n (H (0 ∷ u)) es ≡ Some other
+      → IsOnWay index 0 count (reverse path) m a n ds → IsOnWay index 0 count (reverse other_path) m a n es → Take m n ds es first second → IsRecordAgreementPlaced H index count path v other_path u first second
+  on_way m a n [] [] root other first second is other_is way other_way (inl none) = elim none [ ]
+  on_way m a n [] [] root other first second is other_is way other_way (inr leaf) =
+      record { leaf = m; from = a; count = n; digests = []; other_digests = []; on_way = way; other_on_way = other_way; first_evaluation = ap Some (sym leaf.0); second_evaluation = ap Some (sym leaf.1) }
+  on_way m a n [] (e ∷ es) root other first second is other_is way other_way take =
+      let one = (at_leaf H m n (H (0 ∷ v)) root is).0 in let more = more_leaves H m n (H (0 ∷ u)) other e es other_is in absurd (omega arith)
+  on_way m a n (d ∷ ds) [] root other first second is other_is way other_way take =
+      let one = (at_leaf H m n (H (0 ∷ u)) other other_is).0 in let more = more_leaves H m n (H (0 ∷ v)) root d ds is in absurd (omega arith)
+  on_way m a n (d ∷ ds) (e ∷ es) root other first second is other_is way other_way take =
+      let more = more_leaves H m n (H (0 ∷ v)) root d ds is in
+      elim (cases_lt m (front_of n)) [
+        | inl lt ↦
+            let (l, l_is, _) = joined_left H _ d _ (sym (front_leads H m n (H (0 ∷ v)) d ds more lt) ∙ is) in
+            let (k, k_is, _) = joined_left H _ e _ (sym (front_leads H m n (H (0 ∷ u)) e es more lt) ∙ other_is) in
+            elim (rw (lt-ltb m (front_of n) lt) at take) [
+              | inl (inl here) ↦ record {
+                leaf = m;
+                from = a;
+                count = n;
+                digests = d ∷ ds;
+                other_digests = e ∷ es;
+                on_way = way;
+                other_on_way = other_way;
+                first_evaluation = rw (lt-ltb m (front_of n) lt, l_is) (ap Some (ap (λ l. branch_input l d) (path_leads H m (front_of n) _ l ds l_is) ∙ sym here.0));
+                second_evaluation = rw (lt-ltb m (front_of n) lt, k_is) (ap Some (ap (λ l. branch_input l e) (path_leads H m (front_of n) _ k es k_is) ∙ sym here.1));
+              }
+              | inl (inr below) ↦ on_way m a (front_of n) ds es l k first second l_is k_is (front m a n d ds way more lt) (front m a n e es other_way more lt) (inl below)
+              | inr leaf ↦ on_way m a (front_of n) ds es l k first second l_is k_is (front m a n d ds way more lt) (front m a n e es other_way more lt) (inr leaf)
+            ]
+        | inr le ↦
+            let (r, r_is, _) = joined_right H d _ _ (sym (rest_leads H m n (H (0 ∷ v)) d ds more le) ∙ is) in
+            let (k, k_is, _) = joined_right H e _ _ (sym (rest_leads H m n (H (0 ∷ u)) e es more le) ∙ other_is) in
+            elim (rw (le-ltb m (front_of n) le) at take) [
+              | inl (inl here) ↦ record {
+                leaf = m;
+                from = a;
+                count = n;
+                digests = d ∷ ds;
+                other_digests = e ∷ es;
+                on_way = way;
+                other_on_way = other_way;
+                first_evaluation = rw (le-ltb m (front_of n) le, r_is) (ap Some (ap (λ r. branch_input d r) (path_leads H (m - front_of n) (n - front_of n) _ r ds r_is) ∙ sym here.0));
+                second_evaluation = rw (le-ltb m (front_of n) le, k_is) (ap Some (ap (λ r. branch_input e r) (path_leads H (m - front_of n) (n - front_of n) _ k es k_is) ∙ sym here.1));
+              }
+              | inl (inr below) ↦ on_way (m - front_of n) (a + front_of n) (n - front_of n) ds es r k first second r_is k_is (rest m a n d ds way more le) (rest m a n e es other_way more le) (inl below)
+              | inr leaf ↦ on_way (m - front_of n) (a + front_of n) (n - front_of n) ds es r k first second r_is k_is (rest m a n d ds way more le) (rest m a n e es other_way more le) (inr leaf)
+            ]
+      ]
+
+  -- so do those of two paths that lead somewhere
+  pub agreement_placed : {root other : List ℕ} (first second : List ℕ) → inclusion_root H index count (H (0 ∷ v)) path ≡ Some root → inclusion_root H index count (H (0 ∷ u)) other_path ≡ Some other
+      → Take index count (reverse path) (reverse other_path) first second → IsRecordAgreementPlaced H index count path v other_path u first second
+  agreement_placed first second is other_is take =
+      on_way index 0 count (reverse path) (reverse other_path) _ _ first second (leads_inside H index count _ _ path is).1 (leads_inside H index count _ _ other_path other_is).1 whole whole take
+
+  -- what a divergence of two paths shows, where the values differ
+  pub record_agreement_shown : {D : Type 0} (p : Divergence D) → (v ≡ u → ⊥) → IsPathsMeeting H (H (0 ∷ v)) path (H (0 ∷ u)) other_path index count p → Shows H (IsRecordAgreementPlaced H index count path v other_path u) (inputs_of p (0 ∷ v) (0 ∷ u))
+  record_agreement_shown p apart met = shown p (λ first second take. agreement_placed first second met.first_is met.second_is (inl take)) _ _
+      (λ one. record { collides = record { differ = λ e. apart (cc); same = one.0 }; placed = agreement_placed _ _ met.first_is met.second_is (inr (refl, refl)) }) met.diverges
+
+-- A tree's own path to leaf m of the n leaves from a on: beside it stand the tree's roots. Its digests are given from the
+-- topmost down.
+abbrev pub IsOwn : Digest → List (List ℕ) → ℕ → ℕ → ℕ → List (List ℕ) → Type 0
+IsOwn H tree m a n [] = n ≡ 1
+IsOwn H tree m a n (top ∷ below) =
+    (1 < n) × (((m < front_of n) × (top ≡ root_over H tree (a + front_of n) (n - front_of n)) × IsOwn H tree m a (front_of n) below)
+    ⊎ ((front_of n ≤ m) × (top ≡ root_over H tree a (front_of n)) × IsOwn H tree (m - front_of n) (a + front_of n) (n - front_of n) below))
+
+module _ (H : Digest) (tree : List (List ℕ)) where
+  -- it leads from the leaf's digest to the root over them
+  own_leads : (m a n : ℕ) (es : List (List ℕ)) → m < n → a + n ≤ length tree → IsOwn H tree m a n es → root_down H m n (root_over H tree (a + m) 1) es ≡ Some (root_over H tree a n)
+  own_leads m a n [] inside within one = let here : a + m ≡ a = omega arith in rw (here, one) (root_one H m _ [] refl)
+  own_leads m a n (top ∷ below) inside within (more, inl (lt, is, own)) =
+      front_leads H m n _ top below more lt ∙ ap (λ l. joined H l (Some top)) (own_leads m a (front_of n) below lt (let f = front_is_greatest n more in omega arith) own)
+      ∙ ap (λ t. Some (H (branch_input (root_over H tree a (front_of n)) t))) is ∙ ap Some (sym (root_over_parts H tree a n more within))
+  own_leads m a n (top ∷ below) inside within (more, inr (le, is, own)) =
+      let f = front_is_greatest n more in
+      let place : a + front_of n + (m - front_of n) ≡ a + m = omega arith in
+      rest_leads H m n _ top below more le ∙ ap (λ r. joined H (Some top) r) (rw place at (own_leads (m - front_of n) (a + front_of n) (n - front_of n) below (omega arith) (omega arith) own))
+      ∙ ap (λ t. Some (H (branch_input t (root_over H tree (a + front_of n) (n - front_of n))))) is ∙ ap Some (sym (root_over_parts H tree a n more within))
+
+  -- there is one
+  pub own_exists : (k m a n : ℕ) → n ≤ k → m < n → (es : List (List ℕ)) × IsOwn H tree m a n es
+  own_exists zero m a n le inside = absurd (omega arith)
+  own_exists (suc k) m a n le inside = elim (cases_lt 1 n) [
+    | inr few ↦ ([], omega arith)
+    | inl more ↦
+        let f = front_is_greatest n more in
+        elim (cases_lt m (front_of n)) [
+          | inl lt ↦ let below = own_exists k m a (front_of n) (omega arith) lt in (root_over H tree (a + front_of n) (n - front_of n) ∷ below.0, (more, inl (lt, refl, below.1)))
+          | inr ge ↦ let below = own_exists k (m - front_of n) (a + front_of n) (n - front_of n) (omega arith) (omega arith) in (root_over H tree a (front_of n) ∷ below.0, (more, inr (ge, refl, below.1)))
+        ]
+  ]
+
+  -- and it is the one that is made out of the tree's digests
+  abbrev roots : Range → Option (List ℕ)
+  roots = old_over H (own_digest H tree)
+
+  beside_is : (p : Option (List (List ℕ))) (t : Option (List ℕ)) (path : List (List ℕ)) → beside p t ≡ Some path → (below : List (List ℕ)) × (top : List ℕ) × (p ≡ Some below) × (t ≡ Some top) × (path ≡ below ++ top ∷ [])
+  beside_is (Some p) (Some t) path is = (p, t, refl, refl, cc)
+  beside_is (Some p) None path is = absurd (cc)
+  beside_is None t path is = absurd (cc)
+
+  pub own_made : (k m a n : ℕ) (path : List (List ℕ)) → n ≤ k → m < n → IsAligned a n → a + n ≤ length tree → path_within roots k m (leaves_from a n) ≡ Some path → IsOwn H tree m a n (reverse path)
+  unfolding path_within
+  own_made zero m a n path le inside aligned within is = absurd (omega arith)
+  own_made (suc k) m a n path le inside aligned within is = elim (cases_lt 1 n) [
+    | inr few ↦ let nothing : Some [] ≡ Some path = rw (le-leb n 1 few) at is in let none : [] ≡ path = cc in rw (← none) (omega arith)
+    | inl more ↦
+        let f = front_is_greatest n more in
+        elim (cases_lt m (front_of n)) [
+          | inl lt ↦
+              let (below, top, below_is, top_is, split) = beside_is _ _ path (rw (lt-leb n 1 more, lt-ltb m (front_of n) lt) at is) in
+              let far = old_own_range H tree (rest_part (leaves_from a n)) (omega arith) (rest_aligned aligned more) (omega arith) in
+              let same : Some (root_over H tree (a + front_of n) (n - front_of n)) ≡ Some top = sym far ∙ top_is in
+              rw (turned path below top split) (more, inl (lt, cc, own_made k m a (front_of n) below (omega arith) lt (front_aligned aligned (omega arith)) (omega arith) below_is))
+          | inr ge ↦
+              let (below, top, below_is, top_is, split) = beside_is _ _ path (rw (lt-leb n 1 more, le-ltb m (front_of n) ge) at is) in
+              let far = old_own_range H tree (front_part (leaves_from a n)) (omega arith) (front_aligned aligned (omega arith)) (omega arith) in
+              let same : Some (root_over H tree a (front_of n)) ≡ Some top = sym far ∙ top_is in
+              rw (turned path below top split) (more, inr (ge, cc, own_made k (m - front_of n) (a + front_of n) (n - front_of n) below (omega arith) (omega arith) (rest_aligned aligned more) (omega arith) below_is))
+        ]
+  ]
+
+  -- at each range on the way it is the range's own
+  own_at : {index count : ℕ} {own : List (List ℕ)} {m a n : ℕ} {ds : List (List ℕ)} → IsOnWay index 0 count own m a n ds → IsOwn H tree index 0 count own → index < count
+      → (a + m ≡ index) × (m < n) × (a + n ≤ count) × IsOwn H tree m a n ds
+  own_at whole own inside = (omega arith, inside, omega arith, own)
+  own_at (front m a n top below way more lt) own inside =
+      let at = own_at way own inside in let f = front_is_greatest n more in elim at.3.1 [ inl is ↦ (at.0, lt, omega arith, is.2) | inr is ↦ absurd (omega (arith, is.0)) ]
+  own_at (rest m a n top below way more le) own inside =
+      let at = own_at way own inside in let f = front_is_greatest n more in elim at.3.1 [ inl is ↦ absurd (omega (arith, is.0)) | inr is ↦ (omega arith, omega arith, omega arith, is.2) ]
+
+-- a path beside that of the tree over the entries
+module _ (H : Digest) (index : ℕ) (path : List (List ℕ)) (value : List ℕ) (entries own : List (List ℕ)) (inside : index < length entries) (made : IsOwn H (leaves_of H entries) index 0 (length entries) (reverse own)) where
+  abbrev tree : List (List ℕ)
+  tree = leaves_of H entries
+
+  abbrev entry : List ℕ
+  entry = get_or entries index []
+
+  fits : length tree ≡ length entries
+  fits = leaves_count H entries
+
+  leaf : root_over H tree index 1 ≡ H (0 ∷ entry)
+  leaf = plain_digest_is H entries index 1 (omega arith) (omega arith)
+
+  -- it leads from the entry to the root
+  pub own_met : inclusion_root H index (length entries) (H (0 ∷ entry)) own ≡ Some (root_of H tree)
+  own_met =
+      let start : 0 + index ≡ index = omega arith in
+      let from_leaf = rw (start, leaf) at (own_leads H tree index 0 (length entries) (reverse own) inside (omega (arith, fits)) made) in
+      inside_leads H index (length entries) (H (0 ∷ entry)) own inside ∙ from_leaf ∙ ap Some (plain_root H entries)
+
+  -- so what it takes is the plain input
+  plain : (m a n : ℕ) (ds : List (List ℕ)) (second : List ℕ) → (a + m ≡ index) × (m < n) × (a + n ≤ length entries) × IsOwn H tree m a n ds → record_input H entry m n ds ≡ Some second → second ≡ plain_input H entries a n
+  plain m a n [] second at is = let one : n ≡ 1 = at.3 in let here : a ≡ index = omega arith in rw (here, one) (cc)
+  plain m a n (top ∷ below) second at is =
+      let more = at.3.0 in
+      let f = front_is_greatest n more in
+      let x : root_over H tree (a + m) 1 ≡ H (0 ∷ entry) = rw at.0 leaf in
+      elim at.3.1 [
+        | inl (lt, top_is, own_below) ↦
+            let leads = rw x at (own_leads H tree m a (front_of n) below lt (omega (arith, fits)) own_below) in
+            let takes : Some (branch_input (root_over H tree a (front_of n)) top) ≡ Some second = rw (lt-ltb m (front_of n) lt, leads) at is in rw (lt-leb n 1 more, ← top_is) (cc)
+        | inr (le, top_is, own_below) ↦
+            let place : a + front_of n + (m - front_of n) ≡ a + m = omega arith in
+            let leads = rw (place, x) at (own_leads H tree (m - front_of n) (a + front_of n) (n - front_of n) below (omega arith) (omega (arith, fits)) own_below) in
+            let takes : Some (branch_input top (root_over H tree (a + front_of n) (n - front_of n))) ≡ Some second = rw (le-ltb m (front_of n) le, leads) at is in rw (lt-leb n 1 more, ← top_is) (cc)
+      ]
+
+  pub record_placed : (first second : List ℕ) → IsRecordAgreementPlaced H index (length entries) path value own entry first second → IsRecordPlaced H index path value entries first second
+  record_placed first second at = record {
+    leaf = at.leaf;
+    from = at.from;
+    count = at.count;
+    digests = at.digests;
+    on_way = at.on_way;
+    evaluation = at.first_evaluation;
+    plain = plain at.leaf at.from at.count at.other_digests second (own_at H tree at.other_on_way made inside) at.second_evaluation;
+  }
+
+  -- what a divergence of both shows, where the claim is false
+  pub record_shown : {D : Type 0} (p : Divergence D) → (IsRecord index value entries → ⊥) → IsPathsMeeting H (H (0 ∷ value)) path (H (0 ∷ entry)) own index (length entries) p → Shows H (IsRecordPlaced H index path value entries) (inputs_of p (0 ∷ value) (0 ∷ entry))
+  record_shown p untrue met =
+      let pair = record_agreement_shown H index (length entries) path value own entry p (λ e. untrue (sym e)) met in record { collides = pair.collides; placed = record_placed _ _ pair.placed }
+
+-- the path that the code makes of the tree over the entries
+pub own_from : (H : Digest) (index : ℕ) (entries tree own : List (List ℕ)) → tree ≡ leaves_of H entries → index < length entries → inclusion_of (old_over H (own_digest H tree)) index (length tree) ≡ Some own
+    → IsOwn H (leaves_of H entries) index 0 (length entries) (reverse own)
+own_from H index entries tree own is inside made =
+    own_made H (leaves_of H entries) (length entries) index 0 (length entries) own (omega arith) inside (whole_aligned (length entries) refl) (omega (arith, leaves_count H entries)) (rw (is, leaves_count H entries) at made)

@@ -8,6 +8,7 @@ pub mod Climbs
 pub mod RangeClimbs
 pub mod Compared
 pub mod PathDivergence
+pub mod Turns
 pub mod PathClimbs
 pub mod TreeDivergence
 pub mod Agreement

@@ -1,6 +1,6 @@
 //! Two evaluations that go up one way side by side, where they diverge, and the collision that they show there.
 
-ghost use Rattle.std.specs.Prelude.{◌≡◌, None, Ok, IfOk, IfSome};
+ghost use Rattle.std.specs.Prelude.{◌≡◌, None, Ok, IfOk, IfSome, MatchOption};
 ghost use Rattle.warg_crypto.specs.Collisions.{Collides};
 ghost use Rattle.warg_crypto.specs.Tree.{input_beside, leaf_input};
 ghost use Rattle.warg_witness.specs.Private.Climbs.{IsUp};
@@ -135,6 +135,19 @@ impl<D: SupportedDigest> Climb<D> {
                     second_beside: second_beside.copied(),
                 })
             },
+        }
+    }
+
+    /// Where they diverge, or None where they have come to two digests.
+    #[tactic(auto, using(crate::proofs::HashLemmas::meets))]
+    pub(crate) fn met(self) -> Option<Divergence<D>>
+        ensures { MatchOption result (¬ (self.first ≡ self.second))
+            (λ p. (self.first ≡ self.second) × (p ≡ self.divergence)) }
+    {
+        if self.first == self.second {
+            Some(self.divergence)
+        } else {
+            None
         }
     }
 }

@@ -1,9 +1,10 @@
 //! Witnesses for paths.
 
-ghost use Rattle.std.specs.Prelude.{◌≡◌, length, map, None, Some, Ok, IfOk, MatchOption, ⊤};
+ghost use Rattle.std.specs.Prelude.{◌≡◌, ◌<◌, ◌≤◌, length, map, None, Some, Ok, IfOk, MatchOption, ⊤};
 ghost use Rattle.warg_crypto.specs.Tree.{leaf_digest};
-ghost use Rattle.warg_log.specs.Tree.{leaves_of, root_of};
-ghost use Rattle.warg_paths.specs.Paths.{inclusion_root};
+ghost use Rattle.warg_log.specs.Cut.{old_over};
+ghost use Rattle.warg_log.specs.Tree.{leaves_of, root_of, own_digest};
+ghost use Rattle.warg_paths.specs.Paths.{inclusion_of, inclusion_root};
 ghost use Rattle.warg_witness.specs.Findings.{Finds};
 ghost use Rattle.warg_witness.specs.PathClaims.{IsRecord, IsRecordMet};
 ghost use Rattle.warg_witness.specs.PathPlaced.{IsRecordPlaced};
@@ -17,12 +18,12 @@ mod tree;
 use crate::collision::Finding;
 use crate::plain::{entry_at, tree_with_root};
 pub use agreement::agree_record;
-use climbing::divergence_from_tree;
+use climbing::meet_paths;
 use std::alloc::{AllocError, Allocator};
 pub use tree::witness_tree;
 use warg_crypto::{Hash, Leaf, SupportedDigest, VisitBytes, hash_leaf, have_same_bytes};
 use warg_log::{GREATEST_LENGTH, VecLog};
-use warg_paths::root_of_inclusion;
+use warg_paths::{inclusion_path, root_of_inclusion};
 
 // The most leaves that a tree has.
 const MOST_LEAVES: usize = GREATEST_LENGTH;
@@ -108,7 +109,29 @@ fn find_record<D: SupportedDigest, V: VisitBytes, A: Allocator + Copy>(
     if have_same_bytes(value, entry)? {
         return Ok(Finding::Holds);
     }
-    let divergence = divergence_from_tree(index, leaf, path, tree);
+    let own = own_path(alloc, index, tree)?;
+    let met = meet_paths(index, entries.len(), leaf, path, &hash_leaf(entry), &own);
+    let Some(divergence) = met else {
+        unreachable!()
+    };
     let pair = divergence.collide(alloc, &Leaf(value), &Leaf(entry))?;
     Ok(Finding::Collision(pair))
+}
+
+// The tree's own path of a place.
+fn own_path<D: SupportedDigest, V: VisitBytes, A: Allocator>(
+    alloc: A,
+    index: usize,
+    tree: &VecLog<D, V, A>,
+) -> Result<Vec<Hash<D>, A>, AllocError>
+    requires inside { index < length tree.now }
+    requires fits { length tree.now ≤ GREATEST_LENGTH }
+    ensures { IfOk result (λ path. inclusion_of (old_over D.digest (own_digest D.digest tree.now)) index
+        (length tree.now) ≡ Some path.items) }
+{
+    match inclusion_path(alloc, tree, index, tree.length()) {
+        Ok(path) => Ok(path),
+        // Out of memory: the tree has each digest that it takes.
+        Err(_) => Err(AllocError),
+    }
 }

@@ -88,10 +88,5 @@ pub(crate) fn meet_ranges<D: SupportedDigest, V: VisitBytes, L: LogData<D, V>, M
         (M.digest_at second.now) second_hash.now
         target.now.start target.now.count range.now.start range.now.count) }
 {
-    let climb = climb_ranges(first, first_hash, second, second_hash, target, range)?;
-    if climb.first == climb.second {
-        Some(climb.divergence)
-    } else {
-        None
-    }
+    climb_ranges(first, first_hash, second, second_hash, target, range)?.met()
 }

@@ -70,9 +70,5 @@ pub(crate) fn meet_on_path<D: SupportedDigest>(
         climb = climb.up(right, first_peer, second_peer);
         empty = D::empty_above(height, &empty);
     }
-    if climb.first == climb.second {
-        Some(climb.divergence)
-    } else {
-        None
-    }
+    climb.met()
 }

@@ -1,8 +1,8 @@
-use Rattle.std.proofs.Common.{sym, ◌∙◌}
+use Rattle.std.proofs.Common.{sym, ◌∙◌, map}
 use Rattle.std.proofs.lemmas.Bool.{iff_false}
-use Rattle.warg_witness.proofs.CutLemmas.{leaves_count}
+use Rattle.warg_witness.specs.PathClaims.{IsRecord}
 use Rattle.warg_witness.proofs.HashLemmas.{entries_count}
-use Rattle.warg_witness.proofs.RecordLemmas.{record_shown}
+use Rattle.warg_witness.proofs.RecordLemmas.{own_from, own_met, record_shown}
 use Rattle.warg_witness.proofs.paths.find_record.Goals as goal
 
 pub entry_at-entry-requires : goal.entry_at-entry-requires
@@ -11,19 +11,24 @@ entry_at-entry-requires g c = rw (entries_count g.V.VisitBytes.bytes c.args.entr
 pub returns-then-branch : goal.returns-then-branch
 returns-then-branch g c = (tt, c.entry_at-entry.ensures ∙ sym (c.in_ok-have_same_bytes.ensures.0 c.if-branch.true))
 
-pub divergence_from_tree-divergence-requires-clause-inside : goal.divergence_from_tree-divergence-requires-clause-inside
-divergence_from_tree-divergence-requires-clause-inside g c = let met = c.requires.met in rw (met.tree_is, leaves_count g.D.SupportedDigest.digest) met.inside
-
-pub divergence_from_tree-divergence-requires-clause-leads : goal.divergence_from_tree-divergence-requires-clause-leads
-divergence_from_tree-divergence-requires-clause-leads g c = let met = c.requires.met in rw (met.tree_is, leaves_count g.D.SupportedDigest.digest) met.leads
-
-pub collide-requires : goal.collide-requires
-collide-requires g c =
-    let met = rw c.requires.leaf at c.requires.met in
-    rw (← c.entry_at-entry.ensures) (record_shown _ _ _ _ _ _ _ met (λ is. iff_false c.in_ok-have_same_bytes.ensures c.if-branch.false (sym is ∙ c.entry_at-entry.ensures)) (rw c.requires.leaf at c.divergence_from_tree-divergence.ensures)).collides
+pub unreachable-requires : goal.unreachable-requires
+unreachable-requires g c =
+    let H = g.D.SupportedDigest.digest in
+    let entries = map g.V.VisitBytes.bytes c.args.entries.now in
+    let met = c.requires.met in
+    let count = entries_count g.V.VisitBytes.bytes c.args.entries.now in
+    let made = own_from H c.args.index entries c.args.tree.now c.in_ok-own.own.items met.tree_is met.inside c.in_ok-own.ensures in
+    let own = rw (count, c.entry_at-entry.ensures) at (own_met H c.args.index c.args.path.now (g.V.VisitBytes.bytes c.args.value.now) entries c.in_ok-own.own.items met.inside made) in
+    (rw (c.hash_leaf.ensures, c.deref.ensures.value) at c.in_default.ensures) _ (rw count at met.leads) own
 
 pub returns : goal.returns
 returns g c =
-    let met = rw c.requires.leaf at c.requires.met in
-    let shown = record_shown _ _ _ _ _ _ _ met (λ is. iff_false c.in_ok-have_same_bytes.ensures c.if-branch.false (sym is ∙ c.entry_at-entry.ensures)) (rw c.requires.leaf at c.divergence_from_tree-divergence.ensures) in
-    (tt, (λ is. iff_false c.in_ok-have_same_bytes.ensures c.if-branch.false (sym is ∙ c.entry_at-entry.ensures)), rw (c.in_ok-pair.ensures, ← c.entry_at-entry.ensures) shown.placed)
+    let H = g.D.SupportedDigest.digest in
+    let entries = map g.V.VisitBytes.bytes c.args.entries.now in
+    let value = g.V.VisitBytes.bytes c.args.value.now in
+    let met = c.requires.met in
+    let count = entries_count g.V.VisitBytes.bytes c.args.entries.now in
+    let made = own_from H c.args.index entries c.args.tree.now c.in_ok-own.own.items met.tree_is met.inside c.in_ok-own.ensures in
+    let untrue : ¬ IsRecord c.args.index value entries = λ is. iff_false c.in_ok-have_same_bytes.ensures c.if-branch.false (sym is ∙ c.entry_at-entry.ensures) in
+    let meets = rw (← count, c.requires.leaf, c.hash_leaf.ensures, ← c.entry_at-entry.ensures, c.deref.ensures.value) at c.in-Some.ensures in
+    let shown = record_shown H c.args.index c.args.path.now value entries c.in_ok-own.own.items met.inside made c.in-Some.divergence untrue meets in (tt, untrue, rw (c.in_ok-pair.ensures, ← c.entry_at-entry.ensures) shown.placed)

@@ -1,0 +1,51 @@
+-- A way from a digest up to a root, turn by turn, and two ways side by side. The turns of a way are given from the topmost
+-- down.
+use Rattle.std.specs.Prelude.{◌≡◌, ℕ, ◌-◌, ◌⊎◌, nat_lt, if◌then◌else◌, Bool, true, false, List, [], ◌∷◌, length, Option}
+use Rattle.warg_crypto.specs.Tree.{input_beside}
+use Rattle.warg_log.specs.Tree.{front_of}
+use Rattle.warg_map.specs.ProofValue.{peer_of}
+use Rattle.warg_witness.specs.declared.divergence.Divergence.{Divergence}
+use Rattle.warg_witness.specs.Private.Divergence.{Parts}
+
+-- The side from which the way comes, and the digest beside it.
+pub record Turn : Type 0 where
+  pub right : Bool
+  pub beside : List ℕ
+
+-- What the digest function takes at a turn, from the digest below.
+abbrev pub taken : Turn → List ℕ → List ℕ
+taken turn x = input_beside turn.right turn.beside x
+
+-- The root to which the turns lead.
+abbrev pub climbed : (List ℕ → List ℕ) → List ℕ → List Turn → List ℕ
+climbed H x [] = x
+climbed H x (turn ∷ below) = H (taken turn (climbed H x below))
+
+-- What two ways take at one turn of both.
+abbrev pub AreTaken : (List ℕ → List ℕ) → List ℕ → List Turn → List ℕ → List Turn → List ℕ → List ℕ → Type 0
+AreTaken H x [] y ts first second = ⊥
+AreTaken H x (s ∷ ss) y [] first second = ⊥
+AreTaken H x (s ∷ ss) y (t ∷ ts) first second = ((first ≡ taken s (climbed H x ss)) × (second ≡ taken t (climbed H y ts))) ⊎ AreTaken H x ss y ts first second
+
+-- The ways diverge nowhere, and are one from one digest on, or they diverge at one of their turns.
+abbrev pub IsTurnDivergence : {D : _} → (List ℕ → List ℕ) → List ℕ → List Turn → List ℕ → List Turn → Divergence D → Type 0
+IsTurnDivergence H x ss y ts p = Parts H (AreTaken H x ss y ts) ((x ≡ y) × (ss ≡ ts)) p
+
+-- Both ways lead to these digests, and diverge as said if the two are one.
+pub record IsClimb {D : _} (H : List ℕ → List ℕ) (x : List ℕ) (ss : List Turn) (y : List ℕ) (ts : List Turn) (first second : List ℕ) (p : Divergence D) : Type 0 where
+  pub first_is : first ≡ climbed H x ss
+  pub second_is : second ≡ climbed H y ts
+  pub diverges : first ≡ second → IsTurnDivergence H x ss y ts p
+
+-- The turns of a path to leaf m of n, by its digests from the topmost down.
+abbrev pub path_turns : ℕ → ℕ → List (List ℕ) → List Turn
+path_turns m n [] = []
+path_turns m n (top ∷ below) =
+    if nat_lt m (front_of n)
+    then record { right = false; beside = top } ∷ path_turns m (front_of n) below
+    else record { right = true; beside = top } ∷ path_turns (m - front_of n) (n - front_of n) below
+
+-- The turns of a map's proof along a key's bits.
+abbrev pub bit_turns : (List ℕ → List ℕ) → List (Option (List ℕ)) → List Bool → List Turn
+bit_turns H peers [] = []
+bit_turns H peers (bit ∷ below) = record { right = bit; beside = peer_of H peers (length below) } ∷ bit_turns H peers below
