@@ -2,12 +2,11 @@
 use Rattle.std.proofs.Common.{◌≡◌, ℕ, ◌+◌, ◌-◌, ◌<◌, ◌≤◌, ◌^◌, ◌↔◌, true, false, List, [], ◌∷◌, length, reverse, get_or, Option, Some, None, inl, inr, refl, sym, ap, ◌∙◌, arith, rules}
 use Rattle.std.specs.Option.{is_some}
 use Rattle.std.proofs.lemmas.Nat.{pow_pos}
-use Rattle.std.proofs.lemmas.Bool.{lt-leb, le-leb, lt-ltb, ne_eqb}
+use Rattle.std.proofs.lemmas.Bool.{lt-leb, le-leb, lt-ltb, eq-eqb, ne_eqb}
 use Rattle.warg_log.specs.Tree.{front_of, leaves_of, root_of, root_over, own_digest}
 use Rattle.warg_log.proofs.ForCallers.{front_is_greatest, front_of_is}
 use Rattle.warg_log.specs.Ranges.{IsAligned}
 use Rattle.warg_paths.specs.Paths.{roots_down, consistency_roots, subproof_roots, one_root, twice, grown, both_over}
-use Rattle.warg_paths.proofs.ForCallers.{both_one}
 use Rattle.warg_witness.specs.Ranges.{IsPart, IsAround}
 use Rattle.warg_witness.specs.Ranges.IsPart.{whole as part_whole, front as part_front, rest as part_rest}
 use Rattle.warg_witness.specs.Inputs.{plain_input}
@@ -30,7 +29,7 @@ use Rattle.warg_witness.proofs.ShownLemmas.{both_shown}
 use Rattle.warg_witness.proofs.RecordLemmas.{plain_root, beside_up}
 
 -- two roots are the same one by one
-pair_parts : (p q : List ℕ × List ℕ) → Some p ≡ Some q → (p.0 ≡ q.0) × (p.1 ≡ q.1)
+pub pair_parts : (p q : List ℕ × List ℕ) → Some p ≡ Some q → (p.0 ≡ q.0) × (p.1 ≡ q.1)
 pair_parts p q e = (cc, cc)
 
 -- the roots by what is left of a path, from lengths in order
@@ -79,13 +78,18 @@ module _ {place a m n k old new : ℕ} (more : m < n) (front_is : k ≡ front_of
       let f = front_is_greatest n (omega arith) in
       (omega arith, (record { starts = omega arith; ends = omega arith }, (rest_aligned aligned (omega arith), (omega arith, omega arith))))
 
--- where both lengths are one, so are the roots to which a path leads
-both_same : (H : Digest) (known : Option (List ℕ)) (n : ℕ) (path : List (List ℕ)) (r r' : List ℕ) → roots_down H known n n (reverse path) ≡ Some (r, r') → r ≡ r'
-both_same H known n path r r' leads = one (one_root known path) (sym (both_one H known n path) ∙ leads)
+-- where all leaves are old, there is one root
+pub all_old : (H : Digest) (known : Option (List ℕ)) (m n : ℕ) (digests : List (List ℕ)) (o w : List ℕ) → m ≡ n → roots_down H known m n digests ≡ Some (o, w) → o ≡ w
+unfolding roots_down
+all_old H known m n digests o w equal is = one (one_root known digests) (ends digests is)
   where
-    one : (root : Option (List ℕ)) → twice root ≡ Some (r, r') → r ≡ r'
-    one None is = cc
-    one (Some root) is = let both = pair_parts _ _ is in sym both.0 ∙ both.1
+    ends : (digests : List (List ℕ)) → roots_down H known m n digests ≡ Some (o, w) → twice (one_root known digests) ≡ Some (o, w)
+    ends [] is = rw (eq-eqb m n equal) at is
+    ends (top ∷ below) is = rw (eq-eqb m n equal) at is
+
+    one : (root : Option (List ℕ)) → twice root ≡ Some (o, w) → o ≡ w
+    one None is = absurd cc
+    one (Some root) is = let both = pair_parts (root, root) (o, w) is in sym both.0 ∙ both.1
 
 -- the plain input at more than one leaf is the tree's
 plain_is : (H : Digest) (entries tree : List (List ℕ)) (a n : ℕ) → tree ≡ leaves_of H entries → 1 < n → tree_input H tree a n ≡ plain_input H entries a n
@@ -96,7 +100,7 @@ pub growth_starts : {D : Type 0} (H : Digest) (old_tree new_tree : List (List �
     → IsAround place 1 a m → roots_down H known m n (reverse path) ≡ Some (r, r') → (b ≡ a) × (k ≡ n) → (o ≡ r) × (v ≡ r) → o' ≡ root_over H old_tree a n → v' ≡ root_over H new_tree a n
     → (p ≡ Target) × (q ≡ Target) → IsGrowth H old_tree new_tree place known m a n (reverse path) b k o o' p v v' q
 growth_starts H old_tree new_tree place known m a n path {r = r} {r' = r'} all around leads range first old_is new_is targets =
-    let same : r ≡ r' = both_same H known n path r r' (rw all at leads) in
+    let same : r ≡ r' = all_old H known m n (reverse path) r r' all leads in
     rw (range.0, range.1, first.0, first.1, targets.0, targets.1, all) (record {
       roots = rw all at leads ∙ ap (λ z. Some (r, z)) (sym same);
       around = rw all at around;
@@ -109,11 +113,11 @@ growth_starts H old_tree new_tree place known m a n path {r = r} {r' = r'} all a
 
 -- at a range, not all of whose leaves are old
 module _ (H : Digest) (known : Option (List ℕ)) (m n : ℕ) (top : List ℕ) (below : List (List ℕ)) (more : m < n) where
-  front_turn : m ≤ front_of n → roots_down H known m n (top ∷ below) ≡ grown H (roots_down H known m (front_of n) below) top
+  pub front_turn : m ≤ front_of n → roots_down H known m n (top ∷ below) ≡ grown H (roots_down H known m (front_of n) below) top
   unfolding roots_down
   front_turn low = rw (ne_eqb m n (λ e. omega arith), le-leb m (front_of n) low) refl
 
-  rest_turn : front_of n < m → roots_down H known m n (top ∷ below) ≡ both_over H top (roots_down H None (m - front_of n) (n - front_of n) below)
+  pub rest_turn : front_of n < m → roots_down H known m n (top ∷ below) ≡ both_over H top (roots_down H None (m - front_of n) (n - front_of n) below)
   unfolding roots_down
   rest_turn high = rw (ne_eqb m n (λ e. omega arith), lt-leb m (front_of n) high) refl
 

@@ -85,7 +85,7 @@ module _ (H : Digest) (F : Data) (x : List ℕ) (G : Data) (y : List ℕ) (s w :
   ]
 
   -- so two with one digest there diverge somewhere
-  diverged : {a n : ℕ} → IsAligned a n → IsAround s w a n → HaveOneDigest H F x G y s w a n → (p : SomeDivergence) × IsDivergence H F x G y s w a n p
+  pub diverged : {a n : ℕ} → IsAligned a n → IsAround s w a n → HaveOneDigest H F x G y s w a n → (p : SomeDivergence) × IsDivergence H F x G y s w a n p
   diverged {a} {n} aligned around one =
       let climb = climbed n a n (omega arith) aligned around one.digest one.digest one.first one.second in (climb.2, climb.3.diverges (cc (climb.3.first_is, climb.3.second_is)))
 

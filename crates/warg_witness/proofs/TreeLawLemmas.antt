@@ -1,75 +1,52 @@
 -- A consistency path that leads to the roots of two trees shows that the one's entries begin the other's, or collides with
 -- a tree, or both trees collide.
 use Rattle.std.proofs.Common.{◌≡◌, ℕ, zero, suc, ◌+◌, ◌-◌, ◌<◌, ◌≤◌, ◌⊎◌, inl, inr, List, [], ◌∷◌, length, reverse, slice_index_or, Option, Some, None, refl, sym, ap, subst, ◌∙◌, arith, pow-suc}
-use Rattle.std.proofs.lemmas.Bool.{cases_lt, lt-leb, le-leb, eq-eqb, ne_eqb}
+use Rattle.std.proofs.lemmas.Bool.{cases_lt, lt-leb, le-leb, ne_eqb}
 use Rattle.warg_crypto.specs.Collisions.{GivesHashes, SomeCollision}
 use Rattle.warg_crypto.specs.Tree.{branch_input, where_both}
-use Rattle.warg_crypto.proofs.ForCallers.{same_or_not, branch_parts, sizes}
+use Rattle.warg_crypto.proofs.ForCallers.{same_or_not, branch_parts, sizes as sizes_of}
 use Rattle.warg_log.specs.Tree.{front_of, leaves_of, root_of, root_over}
 use Rattle.warg_log.proofs.ForCallers.{front_is_greatest, front_of_is}
-use Rattle.warg_paths.specs.Paths.{roots_down, subproof_roots, grown, both_over, twice, one_root}
-use Rattle.warg_witness.specs.Ranges.{IsPart}
+use Rattle.warg_paths.specs.Paths.{roots_down, subproof_roots, grown, both_over}
+use Rattle.warg_witness.specs.Ranges.{IsPart, IsAround}
 use Rattle.warg_witness.specs.Ranges.IsPart.{whole as part_whole, front as part_front, rest as part_rest}
 use Rattle.warg_witness.specs.Claims.{Begins}
 use Rattle.warg_witness.specs.PathClaims.{IsTreeMet}
 use Rattle.warg_witness.specs.Inputs.{plain_input}
 use Rattle.warg_paths.specs.Ways.{IsOnGrowth, old_turn_input, new_turn_input, old_of}
 use Rattle.warg_paths.specs.Ways.IsOnGrowth.{whole, front, rest}
-use Rattle.warg_witness.specs.TreePlaced.{IsTreePlaced}
+use Rattle.warg_witness.specs.TreePlaced.{IsTurn, IsTreePlaced}
 use Rattle.std.proofs.lemmas.Bool.Decides.{nat_tests}
+use Rattle.warg_witness.proofs.GrowthLemmas.{pair_parts, same_front, all_old, front_turn as roots_front, rest_turn as roots_rest}
 use Rattle.warg_witness.proofs.RecordLemmas.{plain_root}
-use Rattle.warg_witness.proofs.LawLemmas.{difference}
-use Rattle.warg_witness.proofs.CutLemmas.{plain_digest_is}
-use Rattle.warg_witness.proofs.RangeLemmas.{part_in}
+use Rattle.warg_witness.proofs.LawLemmas.{difference, diverged, shown_collides}
+use Rattle.warg_witness.proofs.ShownLemmas.{both_shown}
+use Rattle.warg_witness.proofs.CutLemmas.{plain_digest_is, leaves_count, have_range}
+use Rattle.warg_witness.proofs.RangeLemmas.{part_in, leaf_node}
 use Rattle.warg_witness.proofs.PathLawLemmas.{left_parts, over_size}
-
--- the first part of a range on the way is that of its old leaves, where they end behind it
-same_front : (m n : ℕ) → front_of n < m → m < n → front_of m ≡ front_of n
-same_front m n lt more = let f = front_is_greatest n (omega arith) in front_of_is f.0.0 m (omega (arith, f.0.1)) (omega (arith, pow-suc, f.0.1, f.2)) ∙ sym f.0.1
-
--- where all leaves are old, there is one root
-twice_same : (known : Option (List ℕ)) (o w : List ℕ) → twice known ≡ Some (o, w) → o ≡ w
-twice_same None o w is = absurd cc
-twice_same (Some r) o w is = let both : ◌≡◌ {A = List ℕ × List ℕ} (r, r) (o, w) = cc in sym (ap (λ (p : List ℕ × List ℕ). p.0) both) ∙ ap (λ (p : List ℕ × List ℕ). p.1) both
-
-all_old : (H : List ℕ → List ℕ) (known : Option (List ℕ)) (m n : ℕ) (digests : List (List ℕ)) (o w : List ℕ) → m ≡ n → roots_down H known m n digests ≡ Some (o, w) → o ≡ w
-unfolding roots_down
-all_old H known m n [] o w equal is = twice_same (one_root known []) o w (rw (eq-eqb m n equal) at is)
-all_old H known m n (top ∷ below) o w equal is = twice_same (one_root known (top ∷ below)) o w (rw (eq-eqb m n equal) at is)
 
 -- where some aren't, no roots are there without digests, and else those of a part
 no_roots : (H : List ℕ → List ℕ) (known : Option (List ℕ)) (m n : ℕ) (roots : List ℕ × List ℕ) → m < n → roots_down H known m n [] ≡ Some roots → ⊥
 unfolding roots_down
 no_roots H known m n roots more is = let none = rw (ne_eqb m n (λ e. omega arith)) at is in absurd cc
 
-in_front : (H : List ℕ → List ℕ) (known : Option (List ℕ)) (m n : ℕ) (top : List ℕ) (below : List (List ℕ)) → m < n → m ≤ front_of n → roots_down H known m n (top ∷ below) ≡ grown H (roots_down H known m (front_of n) below) top
-unfolding roots_down
-in_front H known m n top below more le = rw (ne_eqb m n (λ e. omega arith), le-leb m (front_of n) le) refl
-
-in_rest : (H : List ℕ → List ℕ) (known : Option (List ℕ)) (m n : ℕ) (top : List ℕ) (below : List (List ℕ)) → m < n → front_of n < m
-    → roots_down H known m n (top ∷ below) ≡ both_over H top (roots_down H None (m - front_of n) (n - front_of n) below)
-unfolding roots_down
-in_rest H known m n top below more lt = rw (ne_eqb m n (λ e. omega arith), lt-leb m (front_of n) lt) refl
-
 grown_is : (H : List ℕ → List ℕ) (below : Option (List ℕ × List ℕ)) (top o w : List ℕ) → grown H below top ≡ Some (o, w) → (x : List ℕ) × (below ≡ Some (o, x)) × (H (branch_input x top) ≡ w)
 grown_is H None top o w is = absurd cc
 grown_is H (Some (p, x)) top o w is =
-    let both : ◌≡◌ {A = List ℕ × List ℕ} (p, H (branch_input x top)) (o, w) = cc in
-    (x, ap (λ z. Some (z, x)) (ap (λ (p : List ℕ × List ℕ). p.0) both), ap (λ (p : List ℕ × List ℕ). p.1) both)
+    let both = pair_parts (p, H (branch_input x top)) (o, w) is in (x, ap (λ z. Some (z, x)) both.0, both.1)
 
 over_is : (H : List ℕ → List ℕ) (below : Option (List ℕ × List ℕ)) (top o w : List ℕ) → both_over H top below ≡ Some (o, w)
     → (y : List ℕ) × (x : List ℕ) × (below ≡ Some (y, x)) × (H (branch_input top y) ≡ o) × (H (branch_input top x) ≡ w)
 over_is H None top o w is = absurd cc
 over_is H (Some (y, x)) top o w is =
-    let both : ◌≡◌ {A = List ℕ × List ℕ} (H (branch_input top y), H (branch_input top x)) (o, w) = cc in
-    (y, x, refl, ap (λ (p : List ℕ × List ℕ). p.0) both, ap (λ (p : List ℕ × List ℕ). p.1) both)
+    let both = pair_parts (H (branch_input top y), H (branch_input top x)) (o, w) is in (y, x, refl, both.0, both.1)
 
 -- the new root that is reckoned has 32 bytes, where not all leaves are old
 new_size : (H : List ℕ → List ℕ) → GivesHashes H → (known : Option (List ℕ)) (m n : ℕ) (digests : List (List ℕ)) (o w : List ℕ) → m < n → roots_down H known m n digests ≡ Some (o, w) → length w ≡ 32
 new_size H gives known m n [] o w less is = absurd (no_roots H known m n _ less is)
 new_size H gives known m n (top ∷ below) o w less is = elim (cases_lt (front_of n) m) [
-  | inr le ↦ let (x, _, root) = grown_is H (roots_down H known m (front_of n) below) top o w (sym (in_front H known m n top below less le) ∙ is) in sym (ap length root) ∙ sizes gives _
-  | inl lt ↦ let (y, x, _, _, root) = over_is H (roots_down H None (m - front_of n) (n - front_of n) below) top o w (sym (in_rest H known m n top below less lt) ∙ is) in sym (ap length root) ∙ sizes gives _
+  | inr le ↦ let (x, _, root) = grown_is H (roots_down H known m (front_of n) below) top o w (sym (roots_front H known m n top below less le) ∙ is) in sym (ap length root) ∙ sizes_of gives _
+  | inl lt ↦ let (y, x, _, _, root) = over_is H (roots_down H None (m - front_of n) (n - front_of n) below) top o w (sym (roots_rest H known m n top below less lt) ∙ is) in sym (ap length root) ∙ sizes_of gives _
 ]
 
 -- what is taken at a range for the new root
@@ -97,43 +74,18 @@ module _ (H : List ℕ → List ℕ) (gives : GivesHashes H) (path old new : Lis
   is_plain : (entries : List (List ℕ)) (a n : ℕ) → 1 < n → branch_at entries a n ≡ plain_input H entries a n
   is_plain entries a n more = rw (lt-leb n 1 more) refl
 
-  abbrev Same : ℕ → ℕ → Type 0
-  Same a m = (i : ℕ) → a ≤ i → i < a + m → slice_index_or old i [] ≡ slice_index_or new i []
-
   abbrev Collide : Type 0
   Collide = SomeCollision H (IsTreePlaced H path old new)
 
-  joined : (a f m : ℕ) → f ≤ m → Same a f → Same (a + f) (m - f) → Same a m
-  joined a f m le left right i low high = elim (cases_lt i (a + f)) [ inl lt ↦ left i low lt | inr ge ↦ right i ge (omega arith) ]
-
-  -- two trees of one root over a range
-  both_plain : (k a n : ℕ) → n ≤ k → 0 < n → IsPart 0 (length old) a n → IsPart 0 (length new) a n → over old a n ≡ over new a n → Same a n ⊎ Collide
-  both_plain zero a n le some old_part new_part same = absurd (omega arith)
-  both_plain (suc k) a n le some old_part new_part same =
-      let in_old = (part_in old_part).0 in
-      let in_new = (part_in new_part).0 in
-      elim (same_or_not (plain_input H old a n) (plain_input H new a n)) [
-        | inr differ ↦ inr (record {
-          first = _;
-          second = _;
-          collide = record { differ = differ; same = sym (plain_digest_is H old a n some in_old) ∙ same ∙ plain_digest_is H new a n some in_new };
-          placed = inr (inr (record { from = a; count = n; old_part = old_part; new_part = new_part; old_plain = refl; new_plain = refl }));
-        })
-        | inl equal ↦ elim (cases_lt 1 n) [
-          | inr few ↦ inl (λ i low high. let here : i ≡ a = omega arith in let leaves = rw (le-leb n 1 few) at equal in rw here (cc))
-          | inl more ↦
-              let f = front_is_greatest n more in
-              let parts = branch_parts (over old a (front_of n)) _ (over new a (front_of n)) _
-              (over_size H gives old a (front_of n) (omega arith) (omega arith) ∙ sym (over_size H gives new a (front_of n) (omega arith) (omega arith))) (is_plain old a n more ∙ equal ∙ sym (is_plain new a n more)) in
-              elim (both_plain k a (front_of n) (omega arith) (omega arith) (part_front a n old_part more) (part_front a n new_part more) parts.0) [
-                | inr collision ↦ inr collision
-                | inl left ↦ elim (both_plain k (a + front_of n) (n - front_of n) (omega arith) (omega arith) (part_rest a n old_part more) (part_rest a n new_part more) parts.1) [
-                  | inr collision ↦ inr collision
-                  | inl right ↦ inl (joined a (front_of n) n (omega arith) left right)
-                ]
-              ]
-        ]
-      ]
+  -- two trees of one root over a range in which the entries differ
+  both_collide : (place a n : ℕ) → IsAround place 1 a n → (slice_index_or old place [] ≡ slice_index_or new place [] → ⊥) → IsPart 0 (length old) a n → IsPart 0 (length new) a n → over old a n ≡ over new a n → Collide
+  both_collide place a n around differ old_part new_part same =
+      let in_old = part_in old_part in
+      let in_new = part_in new_part in
+      let sizes = over_size H gives old place 1 (omega arith) (omega arith) ∙ sym (over_size H gives new place 1 (omega arith) (omega arith)) in
+      let (p, diverges) = diverged H _ _ _ _ place 1 (sizes_of gives) sizes (leaf_node refl) in_old.1 around
+      (have_range H (leaves_of H old) (leaves_of H new) place 1 in_old.1 (omega arith) (omega (arith, leaves_count H old)) (omega (arith, leaves_count H new)) same) in
+      let pair = both_shown H old new place a n old_part new_part p diverges differ in shown_collides _ (record { collides = pair.collides; placed = inr (inr pair.placed) })
 
   abbrev OnWay : Option (List ℕ) → ℕ → ℕ → ℕ → List (List ℕ) → Type 0
   OnWay known m a n digests = IsOnGrowth (Some (root_of H (leaves_of H old))) (length old) (length new) (reverse path) known m a n digests
@@ -147,17 +99,7 @@ module _ (H : List ℕ → List ℕ) (gives : GivesHashes H) (path old new : Lis
       first = _;
       second = _;
       collide = record { differ = differ; same = root ∙ plain_digest_is H new a n (omega arith) within ∙ ap H (sym (is_plain new a n more)) };
-      placed = inr (inl (record {
-        known = known;
-        old_count = m;
-        from = a;
-        count = n;
-        top = top;
-        below = below;
-        turn = record { on_way = way; more = less };
-        evaluation = takes;
-        plain = is_plain new a n more;
-      }));
+      placed = let turn : IsTurn H path old new known m a n top below = record { on_way = way; more = less } in let plain = is_plain new a n more in inr (inl (search (turn, takes, plain)));
     })
   ]
 
@@ -169,26 +111,9 @@ module _ (H : List ℕ → List ℕ) (gives : GivesHashes H) (path old new : Lis
       first = _;
       second = _;
       collide = record { differ = differ; same = root ∙ plain_digest_is H old a m (omega arith) within ∙ ap H (sym (is_plain old a m more)) };
-      placed = inl (record {
-        known = known;
-        old_count = m;
-        from = a;
-        count = n;
-        top = top;
-        below = below;
-        turn = record { on_way = way; more = less };
-        in_rest = turns;
-        evaluation = takes;
-        plain = is_plain old a m more;
-      });
+      placed = let turn : IsTurn H path old new known m a n top below = record { on_way = way; more = less } in let plain = is_plain old a m more in inl (search (turn, turns, takes, plain));
     })
   ]
-
-  level : (digests : List (List ℕ)) (known : Option (List ℕ)) (m a n : ℕ) → 0 < m → n ≡ m → IsPart 0 (length old) a m → IsPart 0 (length new) a n
-      → roots_down H known m n digests ≡ Some (over old a m, over new a n) → Same a m ⊎ Collide
-  level digests known m a n some equal old_part new_part leads =
-      let one = all_old H known m n digests _ _ (sym equal) leads in
-      both_plain m a m (omega arith) some old_part (subst (λ k. IsPart 0 (length new) a k) equal new_part) (one ∙ ap (over new a) equal)
 
   -- the new root of a part has 32 bytes: it is reckoned, or the old one where all leaves are old
   part_size : (digests : List (List ℕ)) (known : Option (List ℕ)) (m a n : ℕ) (x : List ℕ) → 0 < m → m ≤ n → a + m ≤ length old → roots_down H known m n digests ≡ Some (over old a m, x) → length x ≡ 32
@@ -197,52 +122,54 @@ module _ (H : List ℕ → List ℕ) (gives : GivesHashes H) (path old new : Lis
     | inr all ↦ sym (ap length (all_old H known m n digests (over old a m) x (omega (arith, all, order)) is)) ∙ over_size H gives old a m some within
   ]
 
-  down : (digests : List (List ℕ)) (known : Option (List ℕ)) (m a n : ℕ) → 0 < m → m ≤ n → IsPart 0 (length old) a m → IsPart 0 (length new) a n → OnWay known m a n digests
-      → roots_down H known m n digests ≡ Some (over old a m, over new a n) → Same a m ⊎ Collide
-  down [] known m a n some order old_part new_part way leads = elim (cases_lt m n) [
-    | inl less ↦ absurd (no_roots H known m n _ less leads)
-    | inr same ↦ level [] known m a n some (omega arith) old_part new_part leads
-  ]
-  down (top ∷ below) known m a n some order old_part new_part way leads = elim (cases_lt m n) [
-    | inr same ↦ level (top ∷ below) known m a n some (omega arith) old_part new_part leads
-    | inl less ↦
-        let more : 1 < n = omega arith in
-        let f = front_is_greatest n more in
-        let in_new = (part_in new_part).0 in
-        let in_old = (part_in old_part).0 in
-        elim (cases_lt (front_of n) m) [
-          | inr le ↦
-              let (x, below_is, root) = grown_is H (roots_down H known m (front_of n) below) top _ _ (sym (in_front H known m n top below less le) ∙ leads) in
-              elim (new_fork known m a n top below x top less more in_new way (front_turn H known m n top below _ x le below_is) root) [
-                | inr collision ↦ inr collision
-                | inl same ↦
-                    let parts = branch_parts x top _ _ (part_size below known m a (front_of n) x some le in_old below_is ∙ sym (over_size H gives new a (front_of n) (omega arith) (omega arith))) same in
-                    down below known m a (front_of n) some le old_part (part_front a n new_part more) (front known m a n top below way less le) (below_is ∙ ap (λ w. Some (over old a m, w)) parts.0)
-              ]
-          | inl lt ↦
-              let fronts = same_front m n lt less in
-              let (y, x, below_is, old_root, new_root) = over_is H (roots_down H None (m - front_of n) (n - front_of n) below) top _ _ (sym (in_rest H known m n top below less lt) ∙ leads) in
-              elim (old_fork known m a n top below top y less (omega arith) lt in_old way (ap (where_both branch_input (Some top)) (ap old_of below_is)) old_root) [
-                | inr collision ↦ inr collision
-                | inl old_same ↦ elim (new_fork known m a n top below top x less more in_new way (rest_turn H known m n top below y x lt below_is) new_root) [
-                  | inr collision ↦ inr collision
-                  | inl new_same ↦
-                      let right = new_size H gives None (m - front_of n) (n - front_of n) below y x (omega arith) below_is ∙ sym (over_size H gives new (a + front_of n) (n - front_of n) (omega arith) (omega arith)) in
-                      let new_parts = left_parts top x (over new a (front_of n)) (over new (a + front_of n) (n - front_of n)) right new_same in
-                      let left = ap length new_parts.0 ∙ over_size H gives new a (front_of n) (omega arith) (omega arith) ∙ sym (over_size H gives old a (front_of n) (omega arith) (omega arith)) in
-                      let old_parts = branch_parts top y (over old a (front_of n)) (over old (a + front_of n) (m - front_of n)) left (rw fronts at old_same) in
-                      elim (both_plain (front_of n) a (front_of n) (omega arith) (omega arith) (rw fronts at (part_front a m old_part (omega arith))) (part_front a n new_part more) (sym old_parts.0 ∙ new_parts.0)) [
-                        | inr collision ↦ inr collision
-                        | inl left ↦ elim (down below None (m - front_of n) (a + front_of n) (n - front_of n) (omega arith) (omega arith) (rw fronts at (part_rest a m old_part (omega arith))) (part_rest a n new_part more)
-                            (rest known m a n top below way less lt) (below_is ∙ ap (λ z. Some (z, x)) old_parts.1 ∙ ap (λ z. Some (over old (a + front_of n) (m - front_of n), z)) new_parts.1)) [
-                              | inr collision ↦ inr collision
-                              | inl right ↦ inl (joined a (front_of n) m (omega arith) left right)
-                            ]
-                      ]
+  module _ (place : ℕ) (differ : slice_index_or old place [] ≡ slice_index_or new place [] → ⊥) where
+    level : (digests : List (List ℕ)) (known : Option (List ℕ)) (m a n : ℕ) → n ≡ m → IsAround place 1 a m → IsPart 0 (length old) a m → IsPart 0 (length new) a n → roots_down H known m n digests ≡ Some (over old a m, over new a n) → Collide
+    level digests known m a n equal around old_part new_part leads =
+        let one = all_old H known m n digests _ _ (sym equal) leads in both_collide place a m around differ old_part (subst (λ k. IsPart 0 (length new) a k) equal new_part) (one ∙ ap (over new a) equal)
+
+    down : (digests : List (List ℕ)) (known : Option (List ℕ)) (m a n : ℕ) → m ≤ n → IsAround place 1 a m → IsPart 0 (length old) a m → IsPart 0 (length new) a n → OnWay known m a n digests
+        → roots_down H known m n digests ≡ Some (over old a m, over new a n) → Collide
+    down [] known m a n order around old_part new_part way leads = elim (cases_lt m n) [
+      | inl less ↦ absurd (no_roots H known m n _ less leads)
+      | inr same ↦ level [] known m a n (omega arith) around old_part new_part leads
+    ]
+    down (top ∷ below) known m a n order around old_part new_part way leads = elim (cases_lt m n) [
+      | inr same ↦ level (top ∷ below) known m a n (omega arith) around old_part new_part leads
+      | inl less ↦
+          let more : 1 < n = omega arith in
+          let f = front_is_greatest n more in
+          let in_new = (part_in new_part).0 in
+          let in_old = (part_in old_part).0 in
+          elim (cases_lt (front_of n) m) [
+            | inr le ↦
+                let (x, below_is, root) = grown_is H (roots_down H known m (front_of n) below) top _ _ (sym (roots_front H known m n top below less le) ∙ leads) in
+                elim (new_fork known m a n top below x top less more in_new way (front_turn H known m n top below _ x le below_is) root) [
+                  | inr collision ↦ collision
+                  | inl same ↦
+                      let parts = branch_parts x top _ _ (part_size below known m a (front_of n) x (omega arith) le in_old below_is ∙ sym (over_size H gives new a (front_of n) (omega arith) (omega arith))) same in
+                      down below known m a (front_of n) le around old_part (part_front a n new_part more) (front known m a n top below way less le) (below_is ∙ ap (λ w. Some (over old a m, w)) parts.0)
                 ]
-              ]
-        ]
-  ]
+            | inl lt ↦
+                let fronts = same_front m n more lt order in
+                let (y, x, below_is, old_root, new_root) = over_is H (roots_down H None (m - front_of n) (n - front_of n) below) top _ _ (sym (roots_rest H known m n top below less lt) ∙ leads) in
+                elim (old_fork known m a n top below top y less (omega arith) lt in_old way (ap (where_both branch_input (Some top)) (ap old_of below_is)) old_root) [
+                  | inr collision ↦ collision
+                  | inl old_same ↦ elim (new_fork known m a n top below top x less more in_new way (rest_turn H known m n top below y x lt below_is) new_root) [
+                    | inr collision ↦ collision
+                    | inl new_same ↦
+                        let right = new_size H gives None (m - front_of n) (n - front_of n) below y x (omega arith) below_is ∙ sym (over_size H gives new (a + front_of n) (n - front_of n) (omega arith) (omega arith)) in
+                        let new_parts = left_parts top x (over new a (front_of n)) (over new (a + front_of n) (n - front_of n)) right new_same in
+                        let left = ap length new_parts.0 ∙ over_size H gives new a (front_of n) (omega arith) (omega arith) ∙ sym (over_size H gives old a (front_of n) (omega arith) (omega arith)) in
+                        let old_parts = branch_parts top y (over old a (front_of n)) (over old (a + front_of n) (m - front_of n)) left (rw fronts at old_same) in
+                        elim (cases_lt place (a + front_of n)) [
+                          | inl here ↦ both_collide place a (front_of n) (omega arith) differ (rw fronts at (part_front a m old_part (omega arith))) (part_front a n new_part more) (sym old_parts.0 ∙ new_parts.0)
+                          | inr there ↦ down below None (m - front_of n) (a + front_of n) (n - front_of n) (omega arith) (omega arith) (rw fronts at (part_rest a m old_part (omega arith))) (part_rest a n new_part more)
+                              (rest known m a n top below way less lt) (below_is ∙ ap (λ z. Some (z, x)) old_parts.1 ∙ ap (λ z. Some (over old (a + front_of n) (m - front_of n), z)) new_parts.1)
+                        ]
+                  ]
+                ]
+          ]
+    ]
 
 pub tree_collides : (H : List ℕ → List ℕ) → GivesHashes H → (digests old new : List (List ℕ)) → IsTreeMet H digests old new → ¬ Begins old new → SomeCollision H (IsTreePlaced H digests old new)
 tree_collides H gives digests old new met untrue =
@@ -250,7 +177,4 @@ tree_collides H gives digests old new met untrue =
     let differs = difference old new order untrue in
     let roots : roots_down H (Some (root_of H (leaves_of H old))) (length old) (length new) (reverse digests) ≡ Some (root_over H (leaves_of H old) 0 (length old), root_over H (leaves_of H new) 0 (length new)) =
     rw (plain_root H old, plain_root H new) leads in
-    elim (down H gives digests old new (reverse digests) _ (length old) 0 (length new) some order part_whole part_whole whole roots) [
-      | inl same ↦ absurd (differs.2 (same differs.0 (omega arith) (omega (arith, differs.1))))
-      | inr collision ↦ collision
-    ]
+    down H gives digests old new differs.0 differs.2 (reverse digests) _ (length old) 0 (length new) order (omega (arith, differs.1)) part_whole part_whole whole roots
