@@ -24,6 +24,7 @@ use Rattle.warg_witness.specs.declared.divergence.Branches.{Branches}
 use Rattle.warg_witness.specs.declared.divergence.Divergence.{Divergence}
 use Rattle.warg_witness.specs.declared.divergence.Divergence.TheVariants.{Target, Branch}
 use Rattle.warg_witness.proofs.ClimbLemmas.{parts_placed}
+use Rattle.warg_witness.proofs.CutLemmas.{leaves_count}
 use Rattle.warg_witness.proofs.RangeLemmas.{Digest, IsPart-trans, front_aligned, rest_aligned}
 use Rattle.warg_witness.proofs.ShownLemmas.{both_shown}
 use Rattle.warg_witness.proofs.RecordLemmas.{plain_root, beside_up}
@@ -248,21 +249,21 @@ shared_shown {H = H} {place = place} {b = b} {k = k} growth r diverges = λ path
     record { collides = pair.collides; placed = inr (inr pair.placed) }
 
 -- a path that leads to the roots of the trees over entries leads to them over all leaves, and what a divergence from there shows
-module _ (H : Digest) (path old new old_tree new_tree : List (List ℕ)) (meeting : IsTreeMeeting H path old new old_tree new_tree) {m n : ℕ} (old_count : length old ≡ m) (new_count : length new ≡ n) where
-  pub whole_growth : LeadsOver H old_tree new_tree (Some (root_over H old_tree 0 m)) m 0 n (reverse path)
+module _ (H : Digest) (path old new old_tree new_tree : List (List ℕ)) (meeting : IsTreeMeeting H path old new old_tree new_tree) where
+  pub whole_growth : LeadsOver H old_tree new_tree (Some (root_of H old_tree)) (length old_tree) 0 (length new_tree) (reverse path)
   whole_growth =
-      rw (meeting.old_is, meeting.new_is, ← old_count, ← new_count, plain_root H old, plain_root H new)
+      rw (meeting.old_is, meeting.new_is, leaves_count H old, leaves_count H new, plain_root H old, plain_root H new)
       (sym (subproof_is H (Some (root_of H (leaves_of H old))) _ _ path meeting.some meeting.order) ∙ meeting.met)
 
-  pub growth_shown : {D : Type 0} (place : ℕ) (p : Divergence D) → DiffersFirst old new place → IsTreeDivergence H old_tree new_tree place (Some (root_over H old_tree 0 m)) m 0 n (reverse path) p
+  pub growth_shown : {D : Type 0} (place : ℕ) (p : Divergence D) → DiffersFirst old new place → IsTreeDivergence H old_tree new_tree place (Some (root_of H old_tree)) (length old_tree) 0 (length new_tree) (reverse path) p
       → Shows H (IsTreePlaced H path old new) (inputs_of p (0 ∷ get_or old place []) (0 ∷ get_or new place []))
   growth_shown place p differs diverges = diverges path old new (record {
     old_is = meeting.old_is;
     new_is = meeting.new_is;
     differ = differs.differ;
-    on_way = rw (meeting.old_is, ← old_count, ← new_count, plain_root H old) whole;
-    old_part = rw (← old_count) part_whole;
-    new_part = rw (← new_count) part_whole;
+    on_way = rw (meeting.old_is, meeting.new_is, leaves_count H old, leaves_count H new) whole;
+    old_part = rw (meeting.old_is, leaves_count H old) part_whole;
+    new_part = rw (meeting.new_is, leaves_count H new) part_whole;
   })
 
 -- the roots to which a path leads, where it leads to those of the trees over entries, and what the trees are then

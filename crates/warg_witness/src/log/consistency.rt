@@ -11,11 +11,10 @@ ghost use Rattle.warg_witness.specs.Private.Ranges.{IsNodeRange, IsRootOf};
 ghost use Rattle.warg_witness.specs.Findings.{Finds};
 ghost use Rattle.warg_witness.specs.Claims.{Begins, IsConsistencyMet};
 ghost use Rattle.warg_witness.specs.Placed.{IsConsistencyPlaced};
-ghost use Rattle.warg_witness.specs.Private.Compared.{DiffersFirst};
 ghost use Rattle.warg_witness.specs.Private.Divergence.{IsDivergence};
 ghost use Rattle.warg_witness.specs.Private.Meeting.{IsConsistencyDivergence, IsConsistencyMeeting, LeadsToBoth};
 
-use crate::collision::{Collision, Finding};
+use crate::collision::Finding;
 use crate::divergence::Divergence;
 use crate::plain::{entry_at, plain_digest};
 use crate::ranges::meet_ranges;
@@ -157,30 +156,6 @@ fn divergence_at<D: SupportedDigest, V: VisitBytes, L: LogData<D, V>, A: Allocat
     divergence_below(trees, &root, place)
 }
 
-// The collision of the evaluation and the trees over entries that differ first at `place`.
-fn collide_trees<D: SupportedDigest, V: VisitBytes, L: LogData<D, V>, A: Allocator + Copy>(
-    alloc: A,
-    hashes: &L,
-    old: &[V],
-    new: &[V],
-    trees: &Trees<D, V, A>,
-    place: usize,
-) -> Result<Collision<D, A>, AllocError>
-    requires order { length old.now ≤ length new.now }
-    requires fits { length new.now ≤ GREATEST_LENGTH }
-    requires old_tree { trees.now.old ≡ leaves_of D.digest (map V.bytes old.now) }
-    requires new_tree { trees.now.new ≡ leaves_of D.digest (map V.bytes new.now) }
-    requires met { IsConsistent D.digest (L.digest_at hashes.now) (length trees.now.old)
-        (length trees.now.new) (root_of D.digest trees.now.old) (root_of D.digest trees.now.new) }
-    requires differs { DiffersFirst (map V.bytes old.now) (map V.bytes new.now) place }
-    ensures { IfOk result (λ pair. IsConsistencyPlaced D.digest (L.digest_at hashes.now)
-        (map V.bytes old.now) (map V.bytes new.now) pair.0 pair.1) }
-{
-    let divergence = divergence_at(hashes, trees, place);
-    let (old_entry, new_entry) = (entry_at(old, place), entry_at(new, place));
-    divergence.collide(alloc, &Leaf(old_entry), &Leaf(new_entry))
-}
-
 /// Whether a consistency proof's claim is true of the entries: the new entries begin with the old ones, byte
 /// by byte.
 ///
@@ -248,6 +223,8 @@ fn find_difference<D: SupportedDigest, V: VisitBytes, L: LogData<D, V>, A: Alloc
     let Some(place) = first_difference(trees, old, new)? else {
         return Ok(Finding::Holds);
     };
-    let pair = collide_trees(alloc, hashes, old, new, trees, place)?;
+    let divergence = divergence_at(hashes, trees, place);
+    let (old_entry, new_entry) = (entry_at(old, place), entry_at(new, place));
+    let pair = divergence.collide(alloc, &Leaf(old_entry), &Leaf(new_entry))?;
     Ok(Finding::Collision(pair))
 }

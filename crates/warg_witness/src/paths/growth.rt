@@ -1,8 +1,8 @@
 //! The evaluation of a consistency path and the trees over the old and the new entries, side by side.
 
-ghost use Rattle.std.specs.Prelude.{◌≡◌, ℕ, ◌+◌, ◌-◌, ◌<◌, ◌≤◌, length, reverse, None, MatchOption};
+ghost use Rattle.std.specs.Prelude.{◌≡◌, ℕ, ◌+◌, ◌-◌, ◌<◌, ◌≤◌, length, reverse, None, Some, MatchOption};
 ghost use Rattle.warg_log.specs.Ranges.{IsAligned};
-ghost use Rattle.warg_log.specs.Tree.{root_over};
+ghost use Rattle.warg_log.specs.Tree.{root_of, root_over};
 ghost use Rattle.warg_paths.specs.Paths.{roots_down};
 ghost use Rattle.warg_witness.specs.Ranges.{IsAround};
 ghost use Rattle.warg_witness.specs.Private.Climbs.{IsUp};
@@ -13,7 +13,7 @@ use crate::plain::plain_digest;
 use crate::trees::{Trees, divergence_below};
 use std::alloc::Allocator;
 use warg_crypto::{Hash, SupportedDigest, VisitBytes};
-use warg_log::LeafRange;
+use warg_log::{GREATEST_LENGTH, LeafRange, LogBuilder};
 use warg_paths::roots_of_subproof;
 
 // The evaluation of a path beside both trees, as far as it has come up from a range for which the path has one digest.
@@ -157,22 +157,20 @@ fn climb_growth<D: SupportedDigest, V: VisitBytes, A: Allocator>(
 pub(super) fn growth_divergence<D: SupportedDigest, V: VisitBytes, A: Allocator>(
     trees: &Trees<D, V, A>,
     place: usize,
-    old_root: Option<Hash<D>>,
-    old_length: usize,
-    range: &LeafRange,
     path: &[Hash<D>],
 ) -> Divergence<D>
-    requires order { old_length ≤ range.now.count }
-    requires around { IsAround place 1 range.now.start old_length }
-    requires aligned { IsAligned range.now.start range.now.count }
-    requires in_old { range.now.start + old_length ≤ length trees.now.old }
-    requires in_new { range.now.start + range.now.count ≤ length trees.now.new }
-    requires leads { LeadsOver D.digest trees.now.old trees.now.new old_root old_length
-        range.now.start range.now.count (reverse path.now) }
-    ensures { IsTreeDivergence D.digest trees.now.old trees.now.new place old_root old_length
-        range.now.start range.now.count (reverse path.now) result }
+    requires place { place < length trees.now.old }
+    requires order { length trees.now.old ≤ length trees.now.new }
+    requires fits { length trees.now.new ≤ GREATEST_LENGTH }
+    requires leads { LeadsOver D.digest trees.now.old trees.now.new (Some (root_of D.digest trees.now.old))
+        (length trees.now.old) 0 (length trees.now.new) (reverse path.now) }
+    ensures { IsTreeDivergence D.digest trees.now.old trees.now.new place
+        (Some (root_of D.digest trees.now.old)) (length trees.now.old) 0 (length trees.now.new)
+        (reverse path.now) result }
 {
-    let growth = climb_growth(trees, place, old_root, old_length, range, path);
+    let (old_root, old_length) = (trees.old.root(), trees.old.length());
+    let whole = LeafRange::new(0, trees.new.length());
+    let growth = climb_growth(trees, place, Some(old_root), old_length, &whole, path);
     let Some(Growth { shared, old, new }) = growth else {
         unreachable!()
     };

@@ -7,17 +7,16 @@ ghost use Rattle.warg_witness.specs.Findings.{Finds};
 ghost use Rattle.warg_witness.specs.Claims.{Begins};
 ghost use Rattle.warg_witness.specs.PathClaims.{IsTreeMet};
 ghost use Rattle.warg_witness.specs.TreePlaced.{IsTreePlaced};
-ghost use Rattle.warg_witness.specs.Private.Compared.{DiffersFirst};
 ghost use Rattle.warg_witness.specs.Private.TreeDivergence.{IsTreeMeeting};
 
 use super::MOST_LEAVES;
 use super::growth::growth_divergence;
-use crate::collision::{Collision, Finding};
-use crate::plain::{entry_at, plain_digest, plain_tree};
+use crate::collision::Finding;
+use crate::plain::{entry_at, plain_tree};
 use crate::trees::{Trees, first_difference};
 use std::alloc::{AllocError, Allocator};
 use warg_crypto::{Hash, Leaf, SupportedDigest, VisitBytes};
-use warg_log::LeafRange;
+use warg_log::LogBuilder;
 use warg_paths::roots_of_consistency;
 
 // Whether the path leads from a root of `old_length` entries to some root of `new_length`, whichever the old root is.
@@ -76,28 +75,6 @@ fn meet_trees<D: SupportedDigest, V: VisitBytes, A: Allocator + Copy>(
     }))
 }
 
-// The collision of a path and the trees over entries that differ first at `place`.
-fn collide_trees<D: SupportedDigest, V: VisitBytes, A: Allocator + Copy>(
-    alloc: A,
-    path: &[Hash<D>],
-    old: &[V],
-    new: &[V],
-    trees: &Trees<D, V, A>,
-    place: usize,
-) -> Result<Collision<D, A>, AllocError>
-    requires meeting { IsTreeMeeting D.digest path.now (map V.bytes old.now) (map V.bytes new.now)
-        trees.now.old trees.now.new }
-    requires differs { DiffersFirst (map V.bytes old.now) (map V.bytes new.now) place }
-    ensures { IfOk result (λ pair. IsTreePlaced D.digest path.now (map V.bytes old.now)
-        (map V.bytes new.now) pair.0 pair.1) }
-{
-    let old_root = plain_digest(&trees.old, &LeafRange::new(0, old.len()));
-    let whole = LeafRange::new(0, new.len());
-    let divergence = growth_divergence(trees, place, Some(old_root), old.len(), &whole, path);
-    let (old_entry, new_entry) = (entry_at(old, place), entry_at(new, place));
-    divergence.collide(alloc, &Leaf(old_entry), &Leaf(new_entry))
-}
-
 /// Whether a consistency path's claim is true of the entries: the new entries begin with the old ones, byte by byte.
 ///
 /// `NotMet` exactly if the path doesn't lead from the root of the tree over the old entries to this root and that of
@@ -150,6 +127,8 @@ fn find_difference<D: SupportedDigest, V: VisitBytes, A: Allocator + Copy>(
     let Some(place) = first_difference(trees, old, new)? else {
         return Ok(Finding::Holds);
     };
-    let pair = collide_trees(alloc, path, old, new, trees, place)?;
+    let divergence = growth_divergence(trees, place, path);
+    let (old_entry, new_entry) = (entry_at(old, place), entry_at(new, place));
+    let pair = divergence.collide(alloc, &Leaf(old_entry), &Leaf(new_entry))?;
     Ok(Finding::Collision(pair))
 }

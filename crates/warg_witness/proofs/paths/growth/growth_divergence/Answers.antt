@@ -1,29 +1,47 @@
-use Rattle.std.proofs.Common.{arith}
-use Rattle.warg_witness.proofs.RangeLemmas.{front_aligned, part_within}
+use Rattle.std.proofs.Common.{refl, arith}
+use Rattle.warg_witness.proofs.RangeLemmas.{whole_aligned, part_in}
 use Rattle.warg_witness.proofs.GrowthLemmas.{old_shown, new_shown, shared_same, shared_shown}
 use Rattle.warg_witness.proofs.paths.growth.growth_divergence.Goals as goal
 
 pub divergence_below-requires-clause-aligned : goal.divergence_below-requires-clause-aligned
-divergence_below-requires-clause-aligned g c = (part_within c.requires.aligned c.in-Some.ensures.new_part).1
+divergence_below-requires-clause-aligned g c =
+    let growth = rw (c.root-old_root.ensures, c.length-old_length.ensures.value, c.new-whole.ensures, c.length.ensures.value) at c.in-Some.ensures in
+    (part_in growth.new_part).1
 
 pub divergence_below-requires-clause-in_old : goal.divergence_below-requires-clause-in_old
 divergence_below-requires-clause-in_old g c =
-    let old_part = part_within (front_aligned c.requires.aligned c.requires.order) c.in-Some.ensures.old_part in omega (arith, old_part.0)
+    let growth = rw (c.root-old_root.ensures, c.length-old_length.ensures.value, c.new-whole.ensures, c.length.ensures.value) at c.in-Some.ensures in
+    (part_in growth.old_part).0
 
 pub divergence_below-requires-clause-in_new : goal.divergence_below-requires-clause-in_new
-divergence_below-requires-clause-in_new g c = let new_part = part_within c.requires.aligned c.in-Some.ensures.new_part in omega (arith, new_part.0)
-
-pub returns : goal.returns
-returns g c = shared_shown c.in-Some.ensures _ c.divergence_below.ensures
-
-pub returns-in-Branch : goal.returns-in-Branch
-returns-in-Branch g c = old_shown c.in-Some.ensures c.requires.leads c.in-Branch.is
-
-pub returns-in-Branch-divergence : goal.returns-in-Branch-divergence
-returns-in-Branch-divergence g c = new_shown c.in-Some.ensures c.requires.leads c.in-Branch-divergence.is
+divergence_below-requires-clause-in_new g c =
+    let growth = rw (c.root-old_root.ensures, c.length-old_length.ensures.value, c.new-whole.ensures, c.length.ensures.value) at c.in-Some.ensures in
+    (part_in growth.new_part).0
 
 pub divergence_below-requires-clause-around : goal.divergence_below-requires-clause-around
-divergence_below-requires-clause-around g c = c.in-Some.ensures.around
+divergence_below-requires-clause-around g c =
+    let growth = rw (c.root-old_root.ensures, c.length-old_length.ensures.value, c.new-whole.ensures, c.length.ensures.value) at c.in-Some.ensures in
+    growth.around
 
 pub divergence_below-requires-clause-same : goal.divergence_below-requires-clause-same
-divergence_below-requires-clause-same g c = shared_same c.in-Some.ensures c.requires.leads c.in_default-divergence.is c.in_default-divergence-2.is
+divergence_below-requires-clause-same g c =
+    let growth = rw (c.root-old_root.ensures, c.length-old_length.ensures.value, c.new-whole.ensures, c.length.ensures.value) at c.in-Some.ensures in
+    shared_same growth c.requires.leads c.in_default-divergence.is c.in_default-divergence-2.is
+
+pub returns : goal.returns
+returns g c =
+    let growth = rw (c.root-old_root.ensures, c.length-old_length.ensures.value, c.new-whole.ensures, c.length.ensures.value) at c.in-Some.ensures in
+    shared_shown growth _ c.divergence_below.ensures
+
+pub returns-in-Branch : goal.returns-in-Branch
+returns-in-Branch g c =
+    let growth = rw (c.root-old_root.ensures, c.length-old_length.ensures.value, c.new-whole.ensures, c.length.ensures.value) at c.in-Some.ensures in
+    old_shown growth c.requires.leads c.in-Branch.is
+
+pub returns-in-Branch-divergence : goal.returns-in-Branch-divergence
+returns-in-Branch-divergence g c =
+    let growth = rw (c.root-old_root.ensures, c.length-old_length.ensures.value, c.new-whole.ensures, c.length.ensures.value) at c.in-Some.ensures in
+    new_shown growth c.requires.leads c.in-Branch-divergence.is
+
+pub climb_growth-growth-requires-clause-aligned : goal.climb_growth-growth-requires-clause-aligned
+climb_growth-growth-requires-clause-aligned g c = rw c.new-whole.ensures (whole_aligned _ refl)
