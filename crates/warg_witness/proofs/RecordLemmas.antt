@@ -22,7 +22,7 @@ use Rattle.warg_witness.specs.Private.Divergence.{Shows, inputs_of}
 use Rattle.warg_witness.specs.Private.PathClimbs.{LeadNowhere, IsPathClimb, NeverMeet, IsPathsMeeting}
 use Rattle.warg_witness.specs.Private.PathDivergence.{IsBeside, tree_input}
 use Rattle.warg_witness.specs.Private.Ranges.{AreSides}
-use Rattle.warg_witness.specs.Private.Turns.{Turn, climbed, path_turns, AreTaken}
+use Rattle.warg_witness.specs.Private.Turns.{Turn, climbed, is_right, leaf_in, count_in, path_turns, AreTaken}
 use Rattle.warg_witness.specs.declared.divergence.Divergence.{Divergence}
 use Rattle.warg_witness.specs.declared.divergence.Divergence.TheVariants.{Target}
 use Rattle.warg_witness.proofs.ClimbLemmas.{parts_placed, shown, up_parts, both_there}
@@ -49,6 +49,78 @@ front_leads H m n x top below more lt = rw (lt-leb n 1 more, lt-ltb m (front_of 
 rest_leads : (H : Digest) (m n : ℕ) (x top : List ℕ) (below : List (List ℕ)) → 1 < n → front_of n ≤ m → root_down H m n x (top ∷ below) ≡ joined H (Some top) (root_down H (m - front_of n) (n - front_of n) x below)
 unfolding root_down
 rest_leads H m n x top below more le = rw (lt-leb n 1 more, le-ltb m (front_of n) le) refl
+
+-- where no digests are left, there is one leaf
+at_leaf : (H : List ℕ → List ℕ) (m n : ℕ) (x root : List ℕ) → root_down H m n x [] ≡ Some root → (n ≡ 1) × (x ≡ root)
+unfolding root_down
+at_leaf H m n x root is = elim (cases_Bool (n == 1)) [
+  | inl one ↦ let same = rw one at is in (eqb-true n 1 one, cc)
+  | inr more ↦ absurd (let none = rw more at is in cc)
+]
+
+more_leaves : (H : List ℕ → List ℕ) (m n : ℕ) (x root top : List ℕ) (below : List (List ℕ)) → root_down H m n x (top ∷ below) ≡ Some root → 1 < n
+unfolding root_down
+more_leaves H m n x root top below is = elim (cases_lt 1 n) [
+  | inl more ↦ more
+  | inr few ↦ absurd (let none = rw (le-leb n 1 few) at is in cc)
+]
+
+joined_left : (H : List ℕ → List ℕ) (left : Option (List ℕ)) (right root : List ℕ) → joined H left (Some right) ≡ Some root → (l : List ℕ) × (left ≡ Some l) × (H (branch_input l right) ≡ root)
+joined_left H (Some l) right root is = (l, refl, cc)
+joined_left H None right root is = absurd (cc)
+
+joined_right : (H : List ℕ → List ℕ) (left : List ℕ) (right : Option (List ℕ)) (root : List ℕ) → joined H (Some left) right ≡ Some root → (r : List ℕ) × (right ≡ Some r) × (H (branch_input left r) ≡ root)
+joined_right H left (Some r) root is = (r, refl, cc)
+joined_right H left None root is = absurd (cc)
+
+-- so it does by way of the part that has the leaf: the root there, and what is taken here
+leads_up : (H : Digest) (m n : ℕ) (x top l : List ℕ) (below : List (List ℕ)) → 1 < n → root_down H (leaf_in m n) (count_in m n) x below ≡ Some l → root_down H m n x (top ∷ below) ≡ Some (H (input_beside (is_right m n) top l))
+leads_up H m n x top l below more led = elim (cases_lt m (front_of n)) [
+  | inl lt ↦ rw (lt-leb (front_of n) m lt) (front_leads H m n x top below more lt ∙ ap (λ l. joined H l (Some top)) (rw (lt-leb (front_of n) m lt) at led))
+  | inr le ↦ rw (le-leb (front_of n) m le) (rest_leads H m n x top below more le ∙ ap (λ r. joined H (Some top) r) (rw (le-leb (front_of n) m le) at led))
+]
+
+taken_at : (H : Digest) (m n : ℕ) (x top l : List ℕ) (below : List (List ℕ)) → root_down H (leaf_in m n) (count_in m n) x below ≡ Some l → turn_input H x m n top below ≡ Some (input_beside (is_right m n) top l)
+taken_at H m n x top l below led = elim (cases_lt m (front_of n)) [
+  | inl lt ↦ let is : root_down H m (front_of n) x below ≡ Some l = rw (lt-leb (front_of n) m lt) at led in rw (lt-leb (front_of n) m lt, lt-ltb m (front_of n) lt, is) refl
+  | inr le ↦ let is : root_down H (m - front_of n) (n - front_of n) x below ≡ Some l = rw (le-leb (front_of n) m le) at led in rw (le-leb (front_of n) m le, le-ltb m (front_of n) le, is) refl
+]
+
+record IsLed (H : Digest) (m n : ℕ) (x root top : List ℕ) (below : List (List ℕ)) : Type 0 where
+  digest : List ℕ
+  more : 1 < n
+  led : root_down H (leaf_in m n) (count_in m n) x below ≡ Some digest
+  root_is : root ≡ H (input_beside (is_right m n) top digest)
+
+led_down : (H : Digest) (m n : ℕ) (x root top : List ℕ) (below : List (List ℕ)) → root_down H m n x (top ∷ below) ≡ Some root → IsLed H m n x root top below
+led_down H m n x root top below is =
+    let more = more_leaves H m n x root top below is in
+    elim (cases_lt m (front_of n)) [
+      | inl lt ↦
+          let (l, l_is, root_is) = joined_left H _ top _ (sym (front_leads H m n x top below more lt) ∙ is) in
+          record { digest = l; more = more; led = rw (lt-leb (front_of n) m lt) l_is; root_is = rw (lt-leb (front_of n) m lt) (sym root_is) }
+      | inr le ↦
+          let (r, r_is, root_is) = joined_right H top _ _ (sym (rest_leads H m n x top below more le) ∙ is) in
+          record { digest = r; more = more; led = rw (le-leb (front_of n) m le) r_is; root_is = rw (le-leb (front_of n) m le) (sym root_is) }
+    ]
+
+-- the part that has the leaf, of the n leaves from a on
+abbrev start_in : ℕ → ℕ → ℕ → ℕ
+start_in m a n = if is_right m n then a + front_of n else a
+
+way_in : {m₀ a₀ n₀ m a n : ℕ} {ds₀ below : List (List ℕ)} {top : List ℕ} → 1 < n → IsOnWay m₀ a₀ n₀ ds₀ m a n (top ∷ below) → IsOnWay m₀ a₀ n₀ ds₀ (leaf_in m n) (start_in m a n) (count_in m n) below
+way_in {m = m} {a} {n} {below = below} {top} more way = elim (cases_lt m (front_of n)) [
+  | inl lt ↦ rw (lt-leb (front_of n) m lt) (front m a n top below way more lt)
+  | inr le ↦ rw (le-leb (front_of n) m le) (rest m a n top below way more le)
+]
+
+bounds_in : (m a n : ℕ) → m < n → 1 < n → (start_in m a n + leaf_in m n ≡ a + m) × (leaf_in m n < count_in m n) × (start_in m a n + count_in m n ≤ a + n) × (count_in m n < n)
+bounds_in m a n inside more =
+    let f = front_is_greatest n more in
+    elim (cases_lt m (front_of n)) [
+      | inl lt ↦ rw (lt-leb (front_of n) m lt) (refl, lt, omega arith, omega arith)
+      | inr le ↦ rw (le-leb (front_of n) m le) (omega arith, omega arith, omega arith, omega arith)
+    ]
 
 -- the root over all leaves of a tree is its root
 pub whole_root : (H : Digest) (tree : List (List ℕ)) → root_over H tree 0 (length tree) ≡ root_of H tree
@@ -84,31 +156,16 @@ module _ {D : Type 0} (H : Digest) (x y : List ℕ) where
       empty (d ∷ path) is = absurd (omega arith)
 
   module _ {t u : List ℕ} {ds es : List (List ℕ)} (m n : ℕ) (more : 1 < n) where
-    pub front_up : {d e f g : List ℕ} {p q : Divergence D} → m < front_of n → IsPathClimb H x ds y es m (front_of n) d e p → IsUp H false d t e u p f g q → IsPathClimb H x (t ∷ ds) y (u ∷ es) m n f g q
-    front_up lt climb up = record {
-      first_led = front_leads H m n x t ds more lt ∙ ap (λ l. joined H l (Some t)) climb.first_led ∙ ap Some (sym up.first_is);
-      second_led = front_leads H m n y u es more lt ∙ ap (λ l. joined H l (Some u)) climb.second_led ∙ ap Some (sym up.second_is);
-      climb = rw (lt-ltb m (front_of n) lt) (turn_up climb.climb up);
-    }
-
-    pub rest_up : {d e f g : List ℕ} {p q : Divergence D} → front_of n ≤ m → IsPathClimb H x ds y es (m - front_of n) (n - front_of n) d e p → IsUp H true d t e u p f g q → IsPathClimb H x (t ∷ ds) y (u ∷ es) m n f g q
-    rest_up le climb up = record {
-      first_led = rest_leads H m n x t ds more le ∙ ap (λ r. joined H (Some t) r) climb.first_led ∙ ap Some (sym up.first_is);
-      second_led = rest_leads H m n y u es more le ∙ ap (λ r. joined H (Some u) r) climb.second_led ∙ ap Some (sym up.second_is);
-      climb = rw (le-ltb m (front_of n) le) (turn_up climb.climb up);
+    pub part_up : {d e f g : List ℕ} {p q : Divergence D} → IsPathClimb H x ds y es (leaf_in m n) (count_in m n) d e p → IsUp H (is_right m n) d t e u p f g q → IsPathClimb H x (t ∷ ds) y (u ∷ es) m n f g q
+    part_up climb up = record {
+      first_led = leads_up H m n x t _ ds more climb.first_led ∙ ap Some (sym up.first_is);
+      second_led = leads_up H m n y u _ es more climb.second_led ∙ ap Some (sym up.second_is);
+      climb = turn_up climb.climb up;
     }
 
 -- where one leads nowhere in the part that has the leaf, it leads nowhere
-module _ (H : Digest) (x y t u : List ℕ) (ds es : List (List ℕ)) (m n : ℕ) (more : 1 < n) where
-  pub front_nowhere : m < front_of n → LeadNowhere H x ds y es m (front_of n) → LeadNowhere H x (t ∷ ds) y (u ∷ es) m n
-  front_nowhere lt nowhere = λ first second is other.
-      let one = both_there H _ _ first (sym (front_leads H m n x t ds more lt) ∙ is) in
-      let two = both_there H _ _ second (sym (front_leads H m n y u es more lt) ∙ other) in nowhere one.0 two.0 one.2 two.2
-
-  pub rest_nowhere : front_of n ≤ m → LeadNowhere H x ds y es (m - front_of n) (n - front_of n) → LeadNowhere H x (t ∷ ds) y (u ∷ es) m n
-  rest_nowhere le nowhere = λ first second is other.
-      let one = both_there H (Some t) _ first (sym (rest_leads H m n x t ds more le) ∙ is) in
-      let two = both_there H (Some u) _ second (sym (rest_leads H m n y u es more le) ∙ other) in nowhere one.1 two.1 one.3 two.3
+pub part_nowhere : (H : Digest) (x y t u : List ℕ) (ds es : List (List ℕ)) (m n : ℕ) → LeadNowhere H x ds y es (leaf_in m n) (count_in m n) → LeadNowhere H x (t ∷ ds) y (u ∷ es) m n
+part_nowhere H x y t u ds es m n nowhere = λ first second is other. nowhere _ _ (led_down H m n x first t ds is).led (led_down H m n y second u es other).led
 
 -- two paths of which one leads nowhere, that lead to two digests, and that lead to one
 module _ (H : Digest) (x y : List ℕ) (path other : List (List ℕ)) (m n : ℕ) where
@@ -127,57 +184,24 @@ module _ (H : Digest) (x y : List ℕ) (path other : List (List ℕ)) (m n : ℕ
       diverges = climb.climb.diverges is.0;
     })
 
--- where no digests are left, there is one leaf
-at_leaf : (H : List ℕ → List ℕ) (m n : ℕ) (x root : List ℕ) → root_down H m n x [] ≡ Some root → (n ≡ 1) × (x ≡ root)
-unfolding root_down
-at_leaf H m n x root is = elim (cases_Bool (n == 1)) [
-  | inl one ↦ let same = rw one at is in (eqb-true n 1 one, cc)
-  | inr more ↦ absurd (let none = rw more at is in cc)
-]
-
-more_leaves : (H : List ℕ → List ℕ) (m n : ℕ) (x root top : List ℕ) (below : List (List ℕ)) → root_down H m n x (top ∷ below) ≡ Some root → 1 < n
-unfolding root_down
-more_leaves H m n x root top below is = elim (cases_lt 1 n) [
-  | inl more ↦ more
-  | inr few ↦ absurd (let none = rw (le-leb n 1 few) at is in cc)
-]
-
-joined_left : (H : List ℕ → List ℕ) (left : Option (List ℕ)) (right root : List ℕ) → joined H left (Some right) ≡ Some root → (l : List ℕ) × (left ≡ Some l) × (H (branch_input l right) ≡ root)
-joined_left H (Some l) right root is = (l, refl, cc)
-joined_left H None right root is = absurd (cc)
-
-joined_right : (H : List ℕ → List ℕ) (left : List ℕ) (right : Option (List ℕ)) (root : List ℕ) → joined H (Some left) right ≡ Some root → (r : List ℕ) × (right ≡ Some r) × (H (branch_input left r) ≡ root)
-joined_right H left (Some r) root is = (r, refl, cc)
-joined_right H left None root is = absurd (cc)
-
 -- a path that leads to a root leads to it by its turns
 pub path_leads : (H : Digest) (m n : ℕ) (x root : List ℕ) (ds : List (List ℕ)) → root_down H m n x ds ≡ Some root → root ≡ climbed H x (path_turns m n ds)
 path_leads H m n x root [] is = sym (at_leaf H m n x root is).1
 path_leads H m n x root (top ∷ below) is =
-    let more = more_leaves H m n x root top below is in
-    elim (cases_lt m (front_of n)) [
-      | inl lt ↦ let (l, l_is, root_is) = joined_left H _ top _ (sym (front_leads H m n x top below more lt) ∙ is) in rw (lt-ltb m (front_of n) lt) (sym root_is ∙ ap (λ l. H (branch_input l top)) (path_leads H m (front_of n) x l below l_is))
-      | inr le ↦ let (r, r_is, root_is) = joined_right H top _ _ (sym (rest_leads H m n x top below more le) ∙ is) in rw (le-ltb m (front_of n) le) (sym root_is ∙ ap (λ r. H (branch_input top r)) (path_leads H (m - front_of n) (n - front_of n) x r below r_is))
-    ]
+    let at = led_down H m n x root top below is in at.root_is ∙ ap (λ l. H (input_beside (is_right m n) top l)) (path_leads H (leaf_in m n) (count_in m n) x at.digest below at.led)
 
--- two paths of one place have the same sides
+-- two paths of one place have as many digests, and so the same sides
+one_or_more : (H : Digest) (m n : ℕ) (x y root other top : List ℕ) (below : List (List ℕ)) → root_down H m n x [] ≡ Some root → root_down H m n y (top ∷ below) ≡ Some other → ⊥
+one_or_more H m n x y root other top below is other_is = let one = (at_leaf H m n x root is).0 in let more = more_leaves H m n y other top below other_is in omega arith
+
 pub same_sides : (H : Digest) (x y root other : List ℕ) (m n : ℕ) (ds es : List (List ℕ)) → root_down H m n x ds ≡ Some root → root_down H m n y es ≡ Some other
     → map (λ (t : Turn). t.right) (path_turns m n ds) ≡ map (λ (t : Turn). t.right) (path_turns m n es)
 same_sides H x y root other m n [] [] is other_is = refl
-same_sides H x y root other m n [] (u ∷ es) is other_is = let one = (at_leaf H m n x root is).0 in let more = more_leaves H m n y other u es other_is in absurd (omega arith)
-same_sides H x y root other m n (t ∷ ds) [] is other_is = let one = (at_leaf H m n y other other_is).0 in let more = more_leaves H m n x root t ds is in absurd (omega arith)
+same_sides H x y root other m n [] (u ∷ es) is other_is = absurd (one_or_more H m n _ _ _ _ _ _ is other_is)
+same_sides H x y root other m n (t ∷ ds) [] is other_is = absurd (one_or_more H m n _ _ _ _ _ _ other_is is)
 same_sides H x y root other m n (t ∷ ds) (u ∷ es) is other_is =
-    let more = more_leaves H m n x root t ds is in
-    elim (cases_lt m (front_of n)) [
-      | inl lt ↦
-          let (l, l_is, _) = joined_left H _ t _ (sym (front_leads H m n x t ds more lt) ∙ is) in
-          let (k, k_is, _) = joined_left H _ u _ (sym (front_leads H m n y u es more lt) ∙ other_is) in
-          rw (lt-ltb m (front_of n) lt) (ap (λ sides. false ∷ sides) (same_sides H x y l k m (front_of n) ds es l_is k_is))
-      | inr le ↦
-          let (r, r_is, _) = joined_right H t _ _ (sym (rest_leads H m n x t ds more le) ∙ is) in
-          let (k, k_is, _) = joined_right H u _ _ (sym (rest_leads H m n y u es more le) ∙ other_is) in
-          rw (le-ltb m (front_of n) le) (ap (λ sides. true ∷ sides) (same_sides H x y r k (m - front_of n) (n - front_of n) ds es r_is k_is))
-    ]
+    let at = led_down H m n x root t ds is in
+    let other_at = led_down H m n y other u es other_is in ap (λ sides. is_right m n ∷ sides) (same_sides H x y at.digest other_at.digest (leaf_in m n) (count_in m n) ds es at.led other_at.led)
 
 -- what two evaluations take at a turn, or at the leaf, stands on the way
 module _ (H : Digest) (index count : ℕ) (path : List (List ℕ)) (v : List ℕ) (other_path : List (List ℕ)) (u : List ℕ) where
@@ -189,50 +213,21 @@ module _ (H : Digest) (index count : ℕ) (path : List (List ℕ)) (v : List ℕ
       → IsOnWay index 0 count (reverse path) m a n ds → IsOnWay index 0 count (reverse other_path) m a n es → Take m n ds es first second → IsRecordAgreementPlaced H index count path v other_path u first second
   on_way m a n [] [] root other first second is other_is way other_way (inl none) = elim none [ ]
   on_way m a n [] [] root other first second is other_is way other_way (inr leaf) =
-      record { leaf = m; from = a; count = n; digests = []; other_digests = []; on_way = way; other_on_way = other_way; first_evaluation = ap Some (sym leaf.0); second_evaluation = ap Some (sym leaf.1) }
-  on_way m a n [] (e ∷ es) root other first second is other_is way other_way take =
-      let one = (at_leaf H m n (H (0 ∷ v)) root is).0 in let more = more_leaves H m n (H (0 ∷ u)) other e es other_is in absurd (omega arith)
-  on_way m a n (d ∷ ds) [] root other first second is other_is way other_way take =
-      let one = (at_leaf H m n (H (0 ∷ u)) other other_is).0 in let more = more_leaves H m n (H (0 ∷ v)) root d ds is in absurd (omega arith)
+      let first_is : Some (leaf_input v) ≡ Some first = ap Some (sym leaf.0) in let second_is : Some (leaf_input u) ≡ Some second = ap Some (sym leaf.1) in search (way, other_way, first_is, second_is)
+  on_way m a n [] (e ∷ es) root other first second is other_is way other_way take = absurd (one_or_more H m n _ _ _ _ _ _ is other_is)
+  on_way m a n (d ∷ ds) [] root other first second is other_is way other_way take = absurd (one_or_more H m n _ _ _ _ _ _ other_is is)
   on_way m a n (d ∷ ds) (e ∷ es) root other first second is other_is way other_way take =
-      let more = more_leaves H m n (H (0 ∷ v)) root d ds is in
-      elim (cases_lt m (front_of n)) [
-        | inl lt ↦
-            let (l, l_is, _) = joined_left H _ d _ (sym (front_leads H m n (H (0 ∷ v)) d ds more lt) ∙ is) in
-            let (k, k_is, _) = joined_left H _ e _ (sym (front_leads H m n (H (0 ∷ u)) e es more lt) ∙ other_is) in
-            elim (rw (lt-ltb m (front_of n) lt) at take) [
-              | inl (inl here) ↦ record {
-                leaf = m;
-                from = a;
-                count = n;
-                digests = d ∷ ds;
-                other_digests = e ∷ es;
-                on_way = way;
-                other_on_way = other_way;
-                first_evaluation = rw (lt-ltb m (front_of n) lt, l_is) (ap Some (ap (λ l. branch_input l d) (path_leads H m (front_of n) _ l ds l_is) ∙ sym here.0));
-                second_evaluation = rw (lt-ltb m (front_of n) lt, k_is) (ap Some (ap (λ l. branch_input l e) (path_leads H m (front_of n) _ k es k_is) ∙ sym here.1));
-              }
-              | inl (inr below) ↦ on_way m a (front_of n) ds es l k first second l_is k_is (front m a n d ds way more lt) (front m a n e es other_way more lt) (inl below)
-              | inr leaf ↦ on_way m a (front_of n) ds es l k first second l_is k_is (front m a n d ds way more lt) (front m a n e es other_way more lt) (inr leaf)
-            ]
-        | inr le ↦
-            let (r, r_is, _) = joined_right H d _ _ (sym (rest_leads H m n (H (0 ∷ v)) d ds more le) ∙ is) in
-            let (k, k_is, _) = joined_right H e _ _ (sym (rest_leads H m n (H (0 ∷ u)) e es more le) ∙ other_is) in
-            elim (rw (le-ltb m (front_of n) le) at take) [
-              | inl (inl here) ↦ record {
-                leaf = m;
-                from = a;
-                count = n;
-                digests = d ∷ ds;
-                other_digests = e ∷ es;
-                on_way = way;
-                other_on_way = other_way;
-                first_evaluation = rw (le-ltb m (front_of n) le, r_is) (ap Some (ap (λ r. branch_input d r) (path_leads H (m - front_of n) (n - front_of n) _ r ds r_is) ∙ sym here.0));
-                second_evaluation = rw (le-ltb m (front_of n) le, k_is) (ap Some (ap (λ r. branch_input e r) (path_leads H (m - front_of n) (n - front_of n) _ k es k_is) ∙ sym here.1));
-              }
-              | inl (inr below) ↦ on_way (m - front_of n) (a + front_of n) (n - front_of n) ds es r k first second r_is k_is (rest m a n d ds way more le) (rest m a n e es other_way more le) (inl below)
-              | inr leaf ↦ on_way (m - front_of n) (a + front_of n) (n - front_of n) ds es r k first second r_is k_is (rest m a n d ds way more le) (rest m a n e es other_way more le) (inr leaf)
-            ]
+      let at = led_down H m n (H (0 ∷ v)) root d ds is in
+      let other_at = led_down H m n (H (0 ∷ u)) other e es other_is in
+      let deeper : Take (leaf_in m n) (count_in m n) ds es first second → IsRecordAgreementPlaced H index count path v other_path u first second =
+      on_way (leaf_in m n) (start_in m a n) (count_in m n) ds es at.digest other_at.digest first second at.led other_at.led (way_in at.more way) (way_in at.more other_way) in
+      elim take [
+        | inl (inl here) ↦
+            let first_is = taken_at H m n _ d _ ds at.led ∙ ap Some (ap (input_beside (is_right m n) d) (path_leads H (leaf_in m n) (count_in m n) _ _ ds at.led) ∙ sym here.0) in
+            let second_is = taken_at H m n _ e _ es other_at.led ∙ ap Some (ap (input_beside (is_right m n) e) (path_leads H (leaf_in m n) (count_in m n) _ _ es other_at.led) ∙ sym here.1) in
+            record { leaf = m; from = a; count = n; digests = d ∷ ds; other_digests = e ∷ es; on_way = way; other_on_way = other_way; first_evaluation = first_is; second_evaluation = second_is }
+        | inl (inr below) ↦ deeper (inl below)
+        | inr leaf ↦ deeper (inr leaf)
       ]
 
   -- so do those of two paths that lead somewhere
@@ -246,26 +241,29 @@ module _ (H : Digest) (index count : ℕ) (path : List (List ℕ)) (v : List ℕ
   record_agreement_shown p apart met = shown p (λ first second take. agreement_placed first second met.first_is met.second_is (inl take)) _ _
       (λ one. record { collides = record { differ = λ e. apart (cc); same = one.0 }; placed = agreement_placed _ _ met.first_is met.second_is (inr (refl, refl)) }) met.diverges
 
+-- The root over the part beside the one that has leaf m of the n leaves from a on.
+abbrev beside_root : Digest → List (List ℕ) → ℕ → ℕ → ℕ → List ℕ
+beside_root H tree m a n = if is_right m n then root_over H tree a (front_of n) else root_over H tree (a + front_of n) (n - front_of n)
+
 -- A tree's own path to leaf m of the n leaves from a on: beside it stand the tree's roots. Its digests are given from the
 -- topmost down.
 abbrev pub IsOwn : Digest → List (List ℕ) → ℕ → ℕ → ℕ → List (List ℕ) → Type 0
 IsOwn H tree m a n [] = n ≡ 1
-IsOwn H tree m a n (top ∷ below) =
-    (1 < n) × (((m < front_of n) × (top ≡ root_over H tree (a + front_of n) (n - front_of n)) × IsOwn H tree m a (front_of n) below)
-    ⊎ ((front_of n ≤ m) × (top ≡ root_over H tree a (front_of n)) × IsOwn H tree (m - front_of n) (a + front_of n) (n - front_of n) below))
+IsOwn H tree m a n (top ∷ below) = (1 < n) × (top ≡ beside_root H tree m a n) × IsOwn H tree (leaf_in m n) (start_in m a n) (count_in m n) below
 
 module _ (H : Digest) (tree : List (List ℕ)) where
+  -- the branch over the part that has the leaf and that beside it
+  own_branch : (m a n : ℕ) → 1 < n → a + n ≤ length tree → root_over H tree a n ≡ H (input_beside (is_right m n) (beside_root H tree m a n) (root_over H tree (start_in m a n) (count_in m n)))
+  own_branch m a n more within = elim (cases_lt m (front_of n)) [ inl lt ↦ rw (lt-leb (front_of n) m lt) (root_over_parts H tree a n more within) | inr le ↦ rw (le-leb (front_of n) m le) (root_over_parts H tree a n more within) ]
+
   -- it leads from the leaf's digest to the root over them
   own_leads : (m a n : ℕ) (es : List (List ℕ)) → m < n → a + n ≤ length tree → IsOwn H tree m a n es → root_down H m n (root_over H tree (a + m) 1) es ≡ Some (root_over H tree a n)
   own_leads m a n [] inside within one = let here : a + m ≡ a = omega arith in rw (here, one) (root_one H m _ [] refl)
-  own_leads m a n (top ∷ below) inside within (more, inl (lt, is, own)) =
-      front_leads H m n _ top below more lt ∙ ap (λ l. joined H l (Some top)) (own_leads m a (front_of n) below lt (let f = front_is_greatest n more in omega arith) own)
-      ∙ ap (λ t. Some (H (branch_input (root_over H tree a (front_of n)) t))) is ∙ ap Some (sym (root_over_parts H tree a n more within))
-  own_leads m a n (top ∷ below) inside within (more, inr (le, is, own)) =
-      let f = front_is_greatest n more in
-      let place : a + front_of n + (m - front_of n) ≡ a + m = omega arith in
-      rest_leads H m n _ top below more le ∙ ap (λ r. joined H (Some top) r) (rw place at (own_leads (m - front_of n) (a + front_of n) (n - front_of n) below (omega arith) (omega arith) own))
-      ∙ ap (λ t. Some (H (branch_input t (root_over H tree (a + front_of n) (n - front_of n))))) is ∙ ap Some (sym (root_over_parts H tree a n more within))
+  own_leads m a n (top ∷ below) inside within (more, is, own) =
+      let at = bounds_in m a n inside more in
+      let led = own_leads (leaf_in m n) (start_in m a n) (count_in m n) below at.1 (omega (arith, at.2)) own in
+      leads_up H m n _ top _ below more (ap (λ place. root_down H (leaf_in m n) (count_in m n) (root_over H tree place 1) below) (sym at.0) ∙ led)
+      ∙ ap (λ t. Some (H (input_beside (is_right m n) t (root_over H tree (start_in m a n) (count_in m n))))) is ∙ ap Some (sym (own_branch m a n more within))
 
   -- there is one
   pub own_exists : (k m a n : ℕ) → n ≤ k → m < n → (es : List (List ℕ)) × IsOwn H tree m a n es
@@ -273,11 +271,8 @@ module _ (H : Digest) (tree : List (List ℕ)) where
   own_exists (suc k) m a n le inside = elim (cases_lt 1 n) [
     | inr few ↦ ([], omega arith)
     | inl more ↦
-        let f = front_is_greatest n more in
-        elim (cases_lt m (front_of n)) [
-          | inl lt ↦ let below = own_exists k m a (front_of n) (omega arith) lt in (root_over H tree (a + front_of n) (n - front_of n) ∷ below.0, (more, inl (lt, refl, below.1)))
-          | inr ge ↦ let below = own_exists k (m - front_of n) (a + front_of n) (n - front_of n) (omega arith) (omega arith) in (root_over H tree a (front_of n) ∷ below.0, (more, inr (ge, refl, below.1)))
-        ]
+        let at = bounds_in m a n inside more in
+        let below = own_exists k (leaf_in m n) (start_in m a n) (count_in m n) (omega (arith, at.3)) at.1 in (beside_root H tree m a n ∷ below.0, (more, refl, below.1))
   ]
 
   -- and it is the one that is made out of the tree's digests
@@ -301,12 +296,12 @@ module _ (H : Digest) (tree : List (List ℕ)) where
               let (below, top, below_is, top_is, split) = beside_is _ _ path (rw (lt-leb n 1 more, lt-ltb m (front_of n) lt) at is) in
               let far = old_own_range H tree (rest_part (leaves_from a n)) (omega arith) (rest_aligned aligned more) (omega arith) in
               let same : Some (root_over H tree (a + front_of n) (n - front_of n)) ≡ Some top = sym far ∙ top_is in
-              rw (turned path below top split) (more, inl (lt, cc, own_made k m a (front_of n) below (omega arith) lt (front_aligned aligned (omega arith)) (omega arith) below_is))
+              rw (turned path below top split, lt-leb (front_of n) m lt) (more, cc, own_made k m a (front_of n) below (omega arith) lt (front_aligned aligned (omega arith)) (omega arith) below_is)
           | inr ge ↦
               let (below, top, below_is, top_is, split) = beside_is _ _ path (rw (lt-leb n 1 more, le-ltb m (front_of n) ge) at is) in
               let far = old_own_range H tree (front_part (leaves_from a n)) (omega arith) (front_aligned aligned (omega arith)) (omega arith) in
               let same : Some (root_over H tree a (front_of n)) ≡ Some top = sym far ∙ top_is in
-              rw (turned path below top split) (more, inr (ge, cc, own_made k (m - front_of n) (a + front_of n) (n - front_of n) below (omega arith) (omega arith) (rest_aligned aligned more) (omega arith) below_is))
+              rw (turned path below top split, le-leb (front_of n) m ge) (more, cc, own_made k (m - front_of n) (a + front_of n) (n - front_of n) below (omega arith) (omega arith) (rest_aligned aligned more) (omega arith) below_is)
         ]
   ]
 
@@ -314,10 +309,8 @@ module _ (H : Digest) (tree : List (List ℕ)) where
   own_at : {index count : ℕ} {own : List (List ℕ)} {m a n : ℕ} {ds : List (List ℕ)} → IsOnWay index 0 count own m a n ds → IsOwn H tree index 0 count own → index < count
       → (a + m ≡ index) × (m < n) × (a + n ≤ count) × IsOwn H tree m a n ds
   own_at whole own inside = (omega arith, inside, omega arith, own)
-  own_at (front m a n top below way more lt) own inside =
-      let at = own_at way own inside in let f = front_is_greatest n more in elim at.3.1 [ inl is ↦ (at.0, lt, omega arith, is.2) | inr is ↦ absurd (omega (arith, is.0)) ]
-  own_at (rest m a n top below way more le) own inside =
-      let at = own_at way own inside in let f = front_is_greatest n more in elim at.3.1 [ inl is ↦ absurd (omega (arith, is.0)) | inr is ↦ (omega arith, omega arith, omega arith, is.2) ]
+  own_at (front m a n top below way more lt) own inside = let at = own_at way own inside in let f = front_is_greatest n more in (at.0, lt, omega arith, rw (lt-leb (front_of n) m lt) at at.3.2)
+  own_at (rest m a n top below way more le) own inside = let at = own_at way own inside in let f = front_is_greatest n more in (omega arith, omega arith, omega arith, rw (le-leb (front_of n) m le) at at.3.2)
 
 -- a path beside that of the tree over the entries
 module _ (H : Digest) (index : ℕ) (path : List (List ℕ)) (value : List ℕ) (entries own : List (List ℕ)) (inside : index < length entries) (made : IsOwn H (leaves_of H entries) index 0 (length entries) (reverse own)) where
@@ -345,16 +338,14 @@ module _ (H : Digest) (index : ℕ) (path : List (List ℕ)) (value : List ℕ) 
   plain m a n [] second at is = let one : n ≡ 1 = at.3 in let here : a ≡ index = omega arith in rw (here, one) (cc)
   plain m a n (top ∷ below) second at is =
       let more = at.3.0 in
-      let f = front_is_greatest n more in
-      let x : root_over H tree (a + m) 1 ≡ H (0 ∷ entry) = rw at.0 leaf in
-      elim at.3.1 [
-        | inl (lt, top_is, own_below) ↦
-            let leads = rw x at (own_leads H tree m a (front_of n) below lt (omega (arith, fits)) own_below) in
-            let takes : Some (branch_input (root_over H tree a (front_of n)) top) ≡ Some second = rw (lt-ltb m (front_of n) lt, leads) at is in rw (lt-leb n 1 more, ← top_is) (cc)
-        | inr (le, top_is, own_below) ↦
-            let place : a + front_of n + (m - front_of n) ≡ a + m = omega arith in
-            let leads = rw (place, x) at (own_leads H tree (m - front_of n) (a + front_of n) (n - front_of n) below (omega arith) (omega (arith, fits)) own_below) in
-            let takes : Some (branch_input top (root_over H tree (a + front_of n) (n - front_of n))) ≡ Some second = rw (le-ltb m (front_of n) le, leads) at is in rw (lt-leb n 1 more, ← top_is) (cc)
+      let in_part = bounds_in m a n at.1 more in
+      let place : start_in m a n + leaf_in m n ≡ index = in_part.0 ∙ at.0 in
+      let leads = own_leads H tree (leaf_in m n) (start_in m a n) (count_in m n) below in_part.1 (omega (arith, in_part.2, fits)) at.3.2 in
+      let from : root_down H (leaf_in m n) (count_in m n) (H (0 ∷ entry)) below ≡ Some (root_over H tree (start_in m a n) (count_in m n)) = ap (λ x. root_down H (leaf_in m n) (count_in m n) x below) (sym (ap (λ i. root_over H tree i 1) place ∙ leaf)) ∙ leads in
+      let takes = sym (taken_at H m n (H (0 ∷ entry)) top _ below from) ∙ is in
+      elim (cases_lt m (front_of n)) [
+        | inl lt ↦ let top_is = rw (lt-leb (front_of n) m lt) at at.3.1 in let took = rw (lt-leb (front_of n) m lt) at takes in rw (lt-leb n 1 more, ← top_is) (cc)
+        | inr le ↦ let top_is = rw (le-leb (front_of n) m le) at at.3.1 in let took = rw (le-leb (front_of n) m le) at takes in rw (lt-leb n 1 more, ← top_is) (cc)
       ]
 
   pub record_placed : (first second : List ℕ) → IsRecordAgreementPlaced H index (length entries) path value own entry first second → IsRecordPlaced H index path value entries first second

@@ -1,6 +1,6 @@
 -- A way from a digest up to a root, turn by turn, and two ways side by side. The turns of a way are given from the topmost
 -- down.
-use Rattle.std.specs.Prelude.{◌≡◌, ℕ, ◌-◌, ◌⊎◌, nat_lt, if◌then◌else◌, Bool, true, false, List, [], ◌∷◌, length, Option}
+use Rattle.std.specs.Prelude.{◌≡◌, ℕ, ◌-◌, ◌⊎◌, nat_le, if◌then◌else◌, Bool, List, [], ◌∷◌, length, Option}
 use Rattle.warg_crypto.specs.Tree.{input_beside}
 use Rattle.warg_log.specs.Tree.{front_of}
 use Rattle.warg_map.specs.ProofValue.{peer_of}
@@ -37,13 +37,20 @@ pub record IsClimb {D : _} (H : List ℕ → List ℕ) (x : List ℕ) (ss : List
   pub second_is : second ≡ climbed H y ts
   pub diverges : first ≡ second → IsTurnDivergence H x ss y ts p
 
+-- Whether leaf m of n is in the rest of them, its number in the part that has it, and that part's count.
+abbrev pub is_right : ℕ → ℕ → Bool
+is_right m n = nat_le (front_of n) m
+
+abbrev pub leaf_in : ℕ → ℕ → ℕ
+leaf_in m n = if is_right m n then m - front_of n else m
+
+abbrev pub count_in : ℕ → ℕ → ℕ
+count_in m n = if is_right m n then n - front_of n else front_of n
+
 -- The turns of a path to leaf m of n, by its digests from the topmost down.
 abbrev pub path_turns : ℕ → ℕ → List (List ℕ) → List Turn
 path_turns m n [] = []
-path_turns m n (top ∷ below) =
-    if nat_lt m (front_of n)
-    then record { right = false; beside = top } ∷ path_turns m (front_of n) below
-    else record { right = true; beside = top } ∷ path_turns (m - front_of n) (n - front_of n) below
+path_turns m n (top ∷ below) = record { right = is_right m n; beside = top } ∷ path_turns (leaf_in m n) (count_in m n) below
 
 -- The turns of a map's proof along a key's bits.
 abbrev pub bit_turns : (List ℕ → List ℕ) → List (Option (List ℕ)) → List Bool → List Turn

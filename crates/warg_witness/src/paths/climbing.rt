@@ -1,6 +1,7 @@
 //! Two evaluations along inclusion paths of one place, side by side.
 
-ghost use Rattle.std.specs.Prelude.{◌<◌, reverse, MatchOption};
+ghost use Rattle.std.specs.Prelude.{◌≡◌, ◌<◌, reverse, MatchOption};
+ghost use Rattle.warg_witness.specs.Private.Turns.{is_right, leaf_in, count_in};
 ghost use Rattle.warg_witness.specs.Private.PathClimbs.{LeadNowhere, IsPathClimb, NeverMeet, IsPathsMeeting};
 
 use crate::divergence::{Climb, Divergence};
@@ -33,27 +34,33 @@ fn climb_paths<D: SupportedDigest>(
     }
     let (first_top, first_below) = first_path.split_last()?;
     let (second_top, second_below) = second_path.split_last()?;
-    let front = front_of(count);
-    if index < front {
-        let below = climb_paths(
-            index,
-            front,
-            first_leaf,
-            first_below,
-            second_leaf,
-            second_below,
-        )?;
-        return Some(below.up(false, first_top, second_top));
-    }
+    let (right, index, count) = part_of(index, count);
     let below = climb_paths(
-        index - front,
-        count - front,
+        index,
+        count,
         first_leaf,
         first_below,
         second_leaf,
         second_below,
     )?;
-    Some(below.up(true, first_top, second_top))
+    Some(below.up(right, first_top, second_top))
+}
+
+// Of so many leaves the part that has the one at an index: whether it is the rest, and in it the leaf's index and the count.
+fn part_of(index: usize, count: usize) -> (bool, usize, usize)
+    requires inside { index < count }
+    requires more { 1 < count }
+    ensures right { result.0 ≡ is_right index count }
+    ensures index { result.1 ≡ leaf_in index count }
+    ensures count { result.2 ≡ count_in index count }
+    ensures inside { result.1 < result.2 }
+{
+    let front = front_of(count);
+    if index < front {
+        (false, index, front)
+    } else {
+        (true, index - front, count - front)
+    }
 }
 
 /// Where two evaluations along paths of the place `index` of `length` leaves diverge, or None where they don't lead to one
