@@ -18,12 +18,10 @@ use Rattle.warg_witness.specs.PathPlaced.{IsRecordAgreementPlaced}
 use Rattle.warg_witness.specs.Placed.{IsAgreementPlaced, IsHashPlaced}
 use Rattle.warg_witness.specs.UpdateClaims.{IsUpdated}
 use Rattle.warg_witness.specs.Private.Agreement.{IsAgreed, IsCompared, IsFoundAt}
-use Rattle.warg_witness.specs.Private.Divergence.{HaveOneDigest, Parts, Shows, inputs_of}
-use Rattle.warg_witness.specs.Private.MapMeeting.{IsKeyMeeting}
+use Rattle.warg_witness.specs.Private.Divergence.{HaveOneDigest, Parts, Shows, inputs_of, IsRangesMeeting}
+use Rattle.warg_witness.specs.Private.MapMeeting.{IsKeyMeeting, MeetsOnPath}
 use Rattle.warg_witness.specs.Private.Meeting.{IsMeeting}
-use Rattle.warg_witness.specs.Private.MapPaths.{MeetsOnPath}
 use Rattle.warg_witness.specs.Private.PathClimbs.{NeverMeet, IsPathsMeeting}
-use Rattle.warg_witness.specs.Private.RangeClimbs.{IsRangesMeeting}
 use Rattle.warg_witness.specs.declared.collision.Finding.{Finding}
 use Rattle.warg_witness.specs.declared.collision.Finding.TheVariants.{Holds, NotMet, Collision}
 use Rattle.warg_witness.specs.declared.divergence.Divergence.{Divergence}

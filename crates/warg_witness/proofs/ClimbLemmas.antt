@@ -3,7 +3,7 @@ use Rattle.std.proofs.Common.{◌≡◌, ℕ, Bool, true, false, List, length, O
 use Rattle.warg_crypto.proofs.ForCallers.{branch_parts, same_or_not}
 use Rattle.warg_crypto.specs.Tree.{input_beside}
 use Rattle.warg_log.specs.Cut.{joined}
-use Rattle.warg_witness.specs.Private.Climbs.{DivergesUp, IsUp}
+use Rattle.warg_witness.specs.Private.Turns.{DivergesUp, IsUp}
 use Rattle.warg_witness.specs.Private.Divergence.{Parts, Shows, inputs_of}
 use Rattle.warg_witness.specs.declared.divergence.Divergence.{Divergence}
 use Rattle.warg_witness.specs.declared.divergence.Divergence.TheVariants.{Target, Branch}

@@ -11,9 +11,8 @@ use Rattle.warg_log.proofs.ForCallers.{starts, counts, cut_own_range, cut_parts,
 use Rattle.warg_witness.specs.Ranges.{IsPart, IsAround}
 use Rattle.warg_witness.specs.Ranges.IsPart.{whole}
 use Rattle.warg_witness.specs.Inputs.{plain_input, cut_input}
-use Rattle.warg_witness.specs.Private.Climbs.{IsUp}
-use Rattle.warg_witness.specs.Private.Divergence.{HaveOneDigest, MeetAt, DivergesAt}
-use Rattle.warg_witness.specs.Private.RangeClimbs.{LackDigest, IsRangeClimb}
+use Rattle.warg_witness.specs.Private.Turns.{IsUp}
+use Rattle.warg_witness.specs.Private.Divergence.{HaveOneDigest, MeetAt, DivergesAt, LackDigest, IsRangeClimb}
 use Rattle.warg_witness.specs.Private.Ranges.{AreSides}
 use Rattle.warg_witness.specs.declared.divergence.Divergence.{Divergence}
 use Rattle.warg_witness.specs.declared.divergence.Divergence.TheVariants.{Target}

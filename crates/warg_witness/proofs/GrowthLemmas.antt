@@ -16,10 +16,9 @@ use Rattle.warg_witness.specs.TreePlaced.{IsTurn, IsTreePlaced}
 use Rattle.warg_paths.specs.Ways.IsOnGrowth.{whole, front, rest}
 use Rattle.warg_witness.specs.Private.Compared.{DiffersFirst}
 use Rattle.warg_witness.specs.Private.Divergence.{IsDivergence, Shows, inputs_of}
-use Rattle.warg_witness.specs.Private.PathDivergence.{tree_input, IsBeside}
+use Rattle.warg_witness.specs.Private.TreeDivergence.{tree_input, IsBeside, IsTreeMeeting, LeadsOver, IsTreeDivergence, PlacedOnGrowth, IsGrowth}
 use Rattle.warg_witness.specs.Private.Ranges.{AreSides}
-use Rattle.warg_witness.specs.Private.Climbs.{IsUp}
-use Rattle.warg_witness.specs.Private.TreeDivergence.{IsTreeMeeting, LeadsOver, IsTreeDivergence, PlacedOnGrowth, IsGrowth}
+use Rattle.warg_witness.specs.Private.Turns.{IsUp}
 use Rattle.warg_witness.specs.declared.divergence.Branches.{Branches}
 use Rattle.warg_witness.specs.declared.divergence.Divergence.{Divergence}
 use Rattle.warg_witness.specs.declared.divergence.Divergence.TheVariants.{Target, Branch}

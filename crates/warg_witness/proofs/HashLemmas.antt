@@ -19,10 +19,6 @@ pub differ_from : {b : Bool} {P : Type 0} → ((b ≡ true) ↔ P) → false ≡
 differ_from {b = true} decides is same = cc
 differ_from {b = false} decides is same = let same : false ≡ true = decides.1 same in cc
 
-pub eq_from : {b : Bool} {P : Type 0} → ((b ≡ true) ↔ P) → false ≡ not (b && true) → P
-eq_from {b = true} decides is = decides.0 refl
-eq_from {b = false} decides is = absurd (cc)
-
 pub ne_from : {b : Bool} {P : Type 0} → ((b ≡ true) ↔ P) → true ≡ not (b && true) → P → ⊥
 ne_from {b = true} decides is same = cc
 ne_from {b = false} decides is same = let same : false ≡ true = decides.1 same in cc

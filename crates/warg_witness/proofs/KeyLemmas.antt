@@ -6,12 +6,11 @@ use Rattle.warg_crypto.specs.Tree.{input_beside, leaf_digest}
 use Rattle.warg_crypto.specs.Bytes.{same_bytes}
 use Rattle.std.specs.Option.{MatchOption}
 use Rattle.warg_witness.specs.MapInputs.{fork_input}
-use Rattle.warg_witness.specs.Private.MapPaths.{MeetsOnPath}
-use Rattle.warg_witness.specs.Private.Turns.{Turn, climbed, AreTaken, IsTurnDivergence, IsClimb, bit_turns}
+use Rattle.warg_witness.specs.Private.MapMeeting.{MeetsOnPath, IsAlike, IsKeyMeeting, key_inputs}
+use Rattle.warg_witness.specs.Private.Turns.{Turn, climbed, AreTaken, IsTurnDivergence, IsClimb, bit_turns, IsUp}
 use Rattle.warg_witness.proofs.TurnLemmas.{turn_up}
 use Rattle.warg_witness.specs.declared.divergence.Divergence.{Divergence}
 use Rattle.warg_witness.specs.declared.divergence.Divergence.TheVariants.{Target, Branch}
-use Rattle.warg_witness.specs.Private.Climbs.{IsUp}
 use Rattle.warg_witness.proofs.ClimbLemmas.{parts_placed, shown}
 use Rattle.warg_map.proofs.ForCallers.{last_held, all_bits, same_bits-true, same_digest, beside_root, beside_input, beside_replaced}
 use Rattle.std.proofs.lemmas.List.{append-nil, length-map, get_or-map}
@@ -25,7 +24,6 @@ use Rattle.warg_map.specs.Peers.{IsBeside}
 use Rattle.warg_witness.specs.MapClaims.{value_in, IsLastValue}
 use Rattle.warg_map.specs.Bits.{key_bits}
 use Rattle.warg_witness.specs.MapPlaced.{IsPlacedAtPrefix, IsKeyPlaced, IsKeyAgreementPlaced}
-use Rattle.warg_witness.specs.Private.MapMeeting.{IsAlike, IsKeyMeeting, key_inputs}
 use Rattle.warg_crypto.specs.Collisions.{GivesHashes}
 use Rattle.warg_witness.specs.Private.Divergence.{Parts, Shows, inputs_of}
 use Rattle.warg_witness.proofs.InsertionLemmas.{last_with-is, last_of_digest}

@@ -11,8 +11,7 @@ use Rattle.warg_crypto.specs.Collisions.{GivesHashes, SomeCollision}
 use Rattle.warg_witness.specs.Laws.{HoldsRoots}
 use Rattle.warg_log.specs.Ranges.{leaves_from, range_of, IsAligned}
 use Rattle.warg_witness.specs.Private.Ranges.{IsNodeRange, IsRootOf}
-use Rattle.warg_witness.specs.Private.Divergence.{HaveOneDigest, IsDivergence, Parts, Shows, inputs}
-use Rattle.warg_witness.specs.Private.RangeClimbs.{IsRangeClimb}
+use Rattle.warg_witness.specs.Private.Divergence.{HaveOneDigest, IsDivergence, Parts, Shows, inputs, IsRangeClimb}
 use Rattle.warg_witness.specs.declared.divergence.Divergence.{Divergence}
 use Rattle.warg_witness.proofs.RangeLemmas.{Digest, node_range, Data, more_than_one, node_some, wider, sides_aligned, side_around, leaf_node, node_aligned, whole_aligned, full_or_not, root_contained}
 use Rattle.warg_witness.specs.Private.Ranges.IsRootOf.{all_leaves, at_front, in_rest}

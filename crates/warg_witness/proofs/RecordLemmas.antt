@@ -17,12 +17,11 @@ use Rattle.warg_paths.proofs.ForCallers.{root_one}
 use Rattle.warg_witness.specs.Inputs.{plain_input}
 use Rattle.warg_witness.specs.PathClaims.{IsRecord}
 use Rattle.warg_witness.specs.PathPlaced.{record_input, IsRecordAgreementPlaced, IsRecordPlaced}
-use Rattle.warg_witness.specs.Private.Climbs.{IsUp}
+use Rattle.warg_witness.specs.Private.Turns.{IsUp, Turn, climbed, is_right, leaf_in, count_in, path_turns, AreTaken}
 use Rattle.warg_witness.specs.Private.Divergence.{Shows, inputs_of}
 use Rattle.warg_witness.specs.Private.PathClimbs.{LeadNowhere, IsPathClimb, NeverMeet, IsPathsMeeting}
-use Rattle.warg_witness.specs.Private.PathDivergence.{IsBeside, tree_input}
+use Rattle.warg_witness.specs.Private.TreeDivergence.{IsBeside, tree_input}
 use Rattle.warg_witness.specs.Private.Ranges.{AreSides}
-use Rattle.warg_witness.specs.Private.Turns.{Turn, climbed, is_right, leaf_in, count_in, path_turns, AreTaken}
 use Rattle.warg_witness.specs.declared.divergence.Divergence.{Divergence}
 use Rattle.warg_witness.specs.declared.divergence.Divergence.TheVariants.{Target}
 use Rattle.warg_witness.proofs.ClimbLemmas.{parts_placed, shown, up_parts, both_there}

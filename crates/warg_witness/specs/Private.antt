@@ -1,13 +1,9 @@
 -- What only clauses of private functions name; no public clause or law rests on it.
 pub mod Ranges
 pub mod MapMeeting
-pub mod MapPaths
 pub mod Meeting
 pub mod Divergence
-pub mod Climbs
-pub mod RangeClimbs
 pub mod Compared
-pub mod PathDivergence
 pub mod Turns
 pub mod PathClimbs
 pub mod TreeDivergence

@@ -3,7 +3,7 @@
 ghost use Rattle.std.specs.Prelude.{◌≡◌, None, Ok, IfOk, IfSome, MatchOption};
 ghost use Rattle.warg_crypto.specs.Collisions.{Collides};
 ghost use Rattle.warg_crypto.specs.Tree.{input_beside, leaf_input};
-ghost use Rattle.warg_witness.specs.Private.Climbs.{IsUp};
+ghost use Rattle.warg_witness.specs.Private.Turns.{IsUp};
 ghost use Rattle.warg_witness.specs.Private.Divergence.{inputs, inputs_of};
 ghost use Rattle.warg_witness.specs.Private.Agreement.{IsCompared};
 

@@ -8,7 +8,7 @@ ghost use Rattle.warg_paths.specs.Paths.{inclusion_of, inclusion_root};
 ghost use Rattle.warg_witness.specs.Findings.{Finds};
 ghost use Rattle.warg_witness.specs.PathClaims.{IsRecord, IsRecordMet};
 ghost use Rattle.warg_witness.specs.PathPlaced.{IsRecordPlaced};
-ghost use Rattle.warg_witness.specs.Private.PathDivergence.{IsPathMeeting};
+ghost use Rattle.warg_witness.specs.Private.PathClimbs.{IsPathMeeting};
 
 mod agreement;
 mod climbing;

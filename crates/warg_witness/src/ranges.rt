@@ -2,8 +2,7 @@
 
 ghost use Rattle.std.specs.Prelude.{◌≡◌, ◌+◌, ◌<◌, ◌≤◌, MatchOption};
 ghost use Rattle.warg_log.specs.Ranges.{IsAligned};
-ghost use Rattle.warg_witness.specs.Private.Divergence.{HaveOneDigest};
-ghost use Rattle.warg_witness.specs.Private.RangeClimbs.{LackDigest, IsRangeClimb, IsRangesMeeting};
+ghost use Rattle.warg_witness.specs.Private.Divergence.{HaveOneDigest, LackDigest, IsRangeClimb, IsRangesMeeting};
 ghost use Rattle.warg_witness.specs.Private.Ranges.{IsNodeRange, AreSides};
 ghost use Rattle.warg_witness.specs.Ranges.{IsAround};
 

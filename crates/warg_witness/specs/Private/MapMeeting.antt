@@ -1,5 +1,5 @@
 -- A map's proof that leads to the plain root of given insertions, and what a witness knows of it.
-use Rattle.std.specs.Prelude.{◌≡◌, ◌⊎◌, ℕ, List, [], if◌then◌else◌, Option, Some, None}
+use Rattle.std.specs.Prelude.{◌≡◌, ◌⊎◌, ℕ, List, [], if◌then◌else◌, Option, Some, None, Bool}
 use Rattle.std.specs.Option.{option_map}
 use Rattle.warg_crypto.specs.Bytes.{same_bytes}
 use Rattle.warg_map.specs.Bits.{key_bits}
@@ -16,6 +16,8 @@ use Rattle.warg_witness.specs.Private.Divergence.{Parts, inputs}
 use Rattle.warg_witness.specs.declared.divergence.Divergence.{Divergence}
 use Rattle.warg_witness.specs.declared.divergence.Divergence.TheVariants.{Target, Branch}
 use Rattle.std.specs.Borrow.{Bor}
+use Rattle.warg_map.specs.ProofValue.{proof_value}
+use Rattle.warg_witness.specs.Private.Turns.{IsTurnDivergence, bit_turns}
 
 -- The bytes of an insertion that is lent, if there is one.
 abbrev pub lent_pair : {K V : Type 0} → (K → List ℕ) → (V → List ℕ) → Option (Bor (K × V)) → Option (List ℕ × List ℕ)
@@ -46,3 +48,9 @@ key_inputs Target (Some e) key value = if same_bytes value e.1 then (key, e.0) e
 abbrev pub IsPlacedInStep : {D : _} → (List ℕ → List ℕ) → Divergence D → Insertions → Insertions → List ℕ → List ℕ → Type 0
 IsPlacedInStep H (Branch branches) xs ys first second = ((first, second) ≡ inputs branches) ⊎ IsPlacedInMaps H xs ys first second
 IsPlacedInStep H Target xs ys first second = IsPlacedInMaps H xs ys first second
+
+-- The evaluations by the peers P from the leaf digest x and by Q from y lead to one root, and diverge as said on the way down
+-- from it.
+pub record MeetsOnPath {D : _} (H : List ℕ → List ℕ) (P : List (Option (List ℕ))) (x : List ℕ) (Q : List (Option (List ℕ))) (y : List ℕ) (bits : List Bool) (divergence : Divergence D) : Type 0 where
+  pub met : proof_value H P x bits ≡ proof_value H Q y bits
+  pub diverges : IsTurnDivergence H x (bit_turns H P bits) y (bit_turns H Q bits) divergence

@@ -1,8 +1,9 @@
 -- Two evaluations along inclusion paths of leaf m of n, side by side. The digests of a path are given from the topmost down.
-use Rattle.std.specs.Prelude.{◌≡◌, ℕ, List, reverse, Some}
+use Rattle.std.specs.Prelude.{◌≡◌, ℕ, List, reverse, Some, ◌<◌, ◌≤◌, ◌^◌, length}
 use Rattle.warg_paths.specs.Paths.{inclusion_root, root_down}
 use Rattle.warg_witness.specs.declared.divergence.Divergence.{Divergence}
 use Rattle.warg_witness.specs.Private.Turns.{IsClimb, IsTurnDivergence, path_turns}
+use Rattle.warg_log.specs.Tree.{leaves_of, root_of}
 
 -- One of two paths leads to no digest, the first from the digest x of the leaf and the second from y.
 abbrev pub LeadNowhere : (List ℕ → List ℕ) → List ℕ → List (List ℕ) → List ℕ → List (List ℕ) → ℕ → ℕ → Type 0
@@ -24,3 +25,10 @@ pub record IsPathsMeeting {D : _} (H : List ℕ → List ℕ) (x : List ℕ) (pa
   pub first_is : inclusion_root H m n x path ≡ Some root
   pub second_is : inclusion_root H m n y other_path ≡ Some root
   pub diverges : IsTurnDivergence H x (path_turns m n (reverse path)) y (path_turns m n (reverse other_path)) p
+
+-- The path leads from the leaf digest x to the root of the tree over the entries, which can be numbered.
+pub record IsPathMeeting (H : List ℕ → List ℕ) (index : ℕ) (path : List (List ℕ)) (x : List ℕ) (entries tree : List (List ℕ)) : Type 0 where
+  pub inside : index < length entries
+  pub fits : length entries ≤ 2 ^ 63
+  pub tree_is : tree ≡ leaves_of H entries
+  pub leads : inclusion_root H index (length entries) x path ≡ Some (root_of H (leaves_of H entries))

@@ -1,15 +1,25 @@
 -- Where the evaluation of a consistency path and the trees over the old and the new entries diverge. The digests of a
 -- path are given from the topmost down.
-use Rattle.std.specs.Prelude.{◌≡◌, ℕ, ◌<◌, ◌≤◌, ◌^◌, List, [], ◌∷◌, length, reverse, Option, Some, slice_index_or}
-use Rattle.warg_log.specs.Tree.{leaves_of, root_of, root_over}
+use Rattle.std.specs.Prelude.{◌≡◌, ℕ, ◌<◌, ◌≤◌, ◌^◌, List, [], ◌∷◌, length, reverse, Option, Some, slice_index_or, ◌+◌, ◌-◌}
+use Rattle.warg_log.specs.Tree.{leaves_of, root_of, root_over, front_of}
 use Rattle.warg_paths.specs.Paths.{roots_down}
 use Rattle.warg_witness.specs.PathClaims.{IsTreeMet}
 use Rattle.warg_witness.specs.Ranges.{IsPart, IsAround}
 use Rattle.warg_paths.specs.Ways.{IsOnGrowth}
 use Rattle.warg_witness.specs.TreePlaced.{IsTreePlaced}
-use Rattle.warg_witness.specs.Private.Divergence.{Shows, inputs_of}
-use Rattle.warg_witness.specs.Private.PathDivergence.{IsBeside}
+use Rattle.warg_witness.specs.Private.Divergence.{Shows, inputs_of, Parts}
 use Rattle.warg_witness.specs.declared.divergence.Divergence.{Divergence}
+use Rattle.warg_crypto.specs.Tree.{branch_input}
+
+-- A tree's input at the branch over n leaves from a on.
+abbrev pub tree_input : (List ℕ → List ℕ) → List (List ℕ) → ℕ → ℕ → List ℕ
+tree_input H tree a n = branch_input (root_over H tree a (front_of n)) (root_over H tree (a + front_of n) (n - front_of n))
+
+-- A tree has the digest e over the n leaves from a on; where an evaluation comes to it there, with the digest d, both diverge
+-- nowhere, and meet at the bottom as said, or they diverge at branches that collide and stand where P says.
+pub record IsBeside {D : _} (H : List ℕ → List ℕ) (tree : List (List ℕ)) (P : List ℕ → List ℕ → Type 0) (meet : Type 0) (a n : ℕ) (d e : List ℕ) (p : Divergence D) : Type 0 where
+  pub is : e ≡ root_over H tree a n
+  pub parts : d ≡ e → Parts H P meet p
 
 -- The path leads from the root of the tree over the old entries to the roots of both trees, which can be numbered.
 pub record IsTreeMeeting (H : List ℕ → List ℕ) (path old new old_tree new_tree : List (List ℕ)) : Type 0 where

@@ -6,6 +6,7 @@ use Rattle.warg_log.specs.Tree.{front_of}
 use Rattle.warg_map.specs.ProofValue.{peer_of}
 use Rattle.warg_witness.specs.declared.divergence.Divergence.{Divergence}
 use Rattle.warg_witness.specs.Private.Divergence.{Parts}
+use Rattle.warg_witness.specs.declared.divergence.Divergence.TheVariants.{Branch}
 
 -- The side from which the way comes, and the digest beside it.
 pub record Turn : Type 0 where
@@ -56,3 +57,17 @@ path_turns m n (top ∷ below) = record { right = is_right m n; beside = top } �
 abbrev pub bit_turns : (List ℕ → List ℕ) → List (Option (List ℕ)) → List Bool → List Turn
 bit_turns H peers [] = []
 bit_turns H peers (bit ∷ below) = record { right = bit; beside = peer_of H peers (length below) } ∷ bit_turns H peers below
+
+-- After a step on the side of a bit, from the digest x with u beside it and from y with v, the evaluations diverge where
+-- they did before, with one digest below and one beside; or the inputs differ, and they diverge here.
+abbrev pub DivergesUp : {D : _} → Bool → List ℕ → List ℕ → List ℕ → List ℕ → Divergence D → Divergence D → Type 0
+DivergesUp bit x u y v before after =
+    ((x ≡ y) × (u ≡ v) × (after ≡ before))
+    ⊎ ((input_beside bit u x ≡ input_beside bit v y → ⊥)
+    × (after ≡ Branch (record { right = bit; first = x; first_beside = u; second = y; second_beside = v })))
+
+-- Such a step.
+pub record IsUp {D : _} (H : List ℕ → List ℕ) (bit : Bool) (x u y v : List ℕ) (before : Divergence D) (first second : List ℕ) (after : Divergence D) : Type 0 where
+  pub first_is : first ≡ H (input_beside bit u x)
+  pub second_is : second ≡ H (input_beside bit v y)
+  pub diverges : DivergesUp bit x u y v before after

@@ -4,7 +4,7 @@ ghost use Rattle.std.specs.Prelude.{◌≡◌, ◌<◌, ◌≤◌, length, Match
 ghost use Rattle.warg_crypto.specs.EmptyTrees.{empty_root};
 ghost use Rattle.warg_map.specs.Bits.{bit_at, last_bits};
 ghost use Rattle.warg_map.specs.ProofValue.{peer_of, proof_value};
-ghost use Rattle.warg_witness.specs.Private.MapPaths.{MeetsOnPath};
+ghost use Rattle.warg_witness.specs.Private.MapMeeting.{MeetsOnPath};
 
 use crate::divergence::{Climb, Divergence};
 use warg_crypto::{Hash, SupportedDigest};

@@ -5,7 +5,7 @@ ghost use Rattle.warg_log.specs.Ranges.{IsAligned};
 ghost use Rattle.warg_log.specs.Tree.{root_of, root_over};
 ghost use Rattle.warg_paths.specs.Paths.{roots_down};
 ghost use Rattle.warg_witness.specs.Ranges.{IsAround};
-ghost use Rattle.warg_witness.specs.Private.Climbs.{IsUp};
+ghost use Rattle.warg_witness.specs.Private.Turns.{IsUp};
 ghost use Rattle.warg_witness.specs.Private.TreeDivergence.{LeadsOver, IsGrowth, IsTreeDivergence};
 
 use crate::divergence::{Climb, Divergence};
