@@ -16,7 +16,7 @@ use Rattle.warg_witness.specs.MapPlaced.{IsPlacedAtPrefix, IsKeyPlaced, IsKeyAgr
 use Rattle.warg_witness.specs.MapsPlaced.{HaveSameValues, IsPlacedInMaps, IsInserted}
 use Rattle.warg_witness.specs.UpdateClaims.{IsUpdated, Step, insertions_of, LeadThrough, CollidesAtStep}
 use Rattle.warg_witness.proofs.PremiseLemmas.{own, none_collide}
-use Rattle.warg_witness.proofs.KeyPremiseLemmas.{with_bottom, above_bottom, no_peer, own_met, lone_leads}
+use Rattle.warg_witness.proofs.KeyPremiseLemmas.{with_bottom, above_bottom, no_peer, own_met, lone_leads, absence_meeting_is_needed, absence_untruth_is_needed, equal_maps_meeting_is_needed, key_agreement_meeting_is_needed, key_meeting_is_needed, key_untruth_is_needed, update_meeting_is_needed, update_untruth_is_needed}
 
 -- Where a leaf and a peer at the bottom make the bytes of another leaf and an empty one, on either side, they lead to one root.
 alike_up : (d x y : List ℕ) → x ++ d ≡ y ++ 0 ∷ [] → d ++ x ≡ 0 ∷ y → (b : Bool) (below : List Bool) → proof_value own (with_bottom d) x (b ∷ below) ≡ proof_value own [] y (b ∷ below)
@@ -132,3 +132,15 @@ steps_leading_is_needed H law = elim (law [] (0 ∷ sparse_root H 256 (map_of H 
   | inl same ↦ omega (arith, ap length same)
   | inr c ↦ omega (arith, ap length c.split, length-append c.before (c.step ∷ c.after))
 ]
+
+pub ruleset steps_needs = (steps_hashes_are_needed, steps_leading_is_needed)
+
+pub ruleset absence_needs = (absence_hashes_are_needed, absence_meeting_is_needed, absence_untruth_is_needed)
+
+pub ruleset equal_maps_needs = (equal_maps_hashes_are_needed, equal_maps_meeting_is_needed, equal_maps_difference_is_needed)
+
+pub ruleset key_agreement_needs = (key_agreement_hashes_are_needed, key_agreement_meeting_is_needed, key_agreement_difference_is_needed)
+
+pub ruleset key_needs = (key_hashes_are_needed, key_meeting_is_needed, key_untruth_is_needed)
+
+pub ruleset update_needs = (update_hashes_are_needed, update_meeting_is_needed, update_untruth_is_needed)

@@ -255,3 +255,13 @@ consistency_untruth_is_needed H gives law =
           new.other (one.0 ∙ sym (rw root refl)) (one.1 ∙ sym (rw root refl))
       | inr (inr both) ↦ c.collide.differ (both.old_plain ∙ sym both.new_plain)
     ]
+
+pub ruleset agreement_needs = (agreement_hashes_are_needed, agreement_meeting_is_needed, agreement_difference_is_needed)
+
+pub ruleset consistency_needs = (consistency_hashes_are_needed, consistency_meeting_is_needed, consistency_untruth_is_needed)
+
+pub ruleset hash_needs = (hash_hashes_are_needed, hash_size_is_needed, hash_meeting_is_needed, hash_untruth_is_needed)
+
+pub ruleset record_agreement_needs = (record_agreement_sizes_are_needed, record_agreement_meeting_is_needed, record_agreement_difference_is_needed)
+
+pub ruleset tree_needs = (tree_hashes_are_needed, tree_meeting_is_needed, tree_untruth_is_needed)

@@ -35,6 +35,7 @@ pub fn value_premises_are_needed()
 {}
 
 /// Of a hash's claim: the same, and that the hash has 32 bytes.
+#[tactic(auto, using(crate::proofs::PremiseLemmas::hash_needs))]
 pub fn hash_premises_are_needed()
     ensures hashes { ¬ ((H : List ℕ → List ℕ) (F : ℕ → Option (List ℕ)) (proof : InclusionClaim)
         (hash : List ℕ) (entries : List (List ℕ)) → length hash ≡ 32
@@ -55,6 +56,7 @@ pub fn hash_premises_are_needed()
 {}
 
 /// Of two values over two data: a function to 32 bytes, that both lead to one root, and that they differ.
+#[tactic(auto, using(crate::proofs::PremiseLemmas::agreement_needs))]
 pub fn agreement_premises_are_needed()
     ensures hashes { ¬ ((H : List ℕ → List ℕ) (proof : InclusionClaim) (F : ℕ → Option (List ℕ))
         (value : List ℕ) (G : ℕ → Option (List ℕ)) (other : List ℕ)
@@ -84,6 +86,7 @@ pub fn record_premises_are_needed()
 {}
 
 /// Of two values along two paths: digests of 32 bytes, that both lead to one root, and that they differ.
+#[tactic(auto, using(crate::proofs::PremiseLemmas::record_agreement_needs))]
 pub fn record_agreement_premises_are_needed()
     ensures sizes { ¬ ((H : List ℕ → List ℕ) (index n : ℕ) (path : List (List ℕ)) (value : List ℕ)
         (other_path : List (List ℕ)) (other : List ℕ) → AreHashes other_path
@@ -100,6 +103,7 @@ pub fn record_agreement_premises_are_needed()
 {}
 
 /// Of a consistency path's claim: a function to 32 bytes, that it is met, and that it isn't true.
+#[tactic(auto, using(crate::proofs::PremiseLemmas::tree_needs))]
 pub fn tree_premises_are_needed()
     ensures hashes { ¬ ((H : List ℕ → List ℕ) (path old new : List (List ℕ))
         → IsTreeMet H path old new → ¬ (Begins old new)
@@ -111,6 +115,7 @@ pub fn tree_premises_are_needed()
 {}
 
 /// Of a claim of consistency: the same.
+#[tactic(auto, using(crate::proofs::PremiseLemmas::consistency_needs))]
 pub fn consistency_premises_are_needed()
     ensures hashes { ¬ ((H : List ℕ → List ℕ) (F : ℕ → Option (List ℕ)) (m n : ℕ)
         (old new : List (List ℕ)) → HoldsRoots F m
@@ -125,6 +130,7 @@ pub fn consistency_premises_are_needed()
 {}
 
 /// Of two values of one key: a function to 32 bytes, that both lead to one root, and that they differ.
+#[tactic(auto, using(crate::proofs::MapPremiseLemmas::key_agreement_needs))]
 pub fn key_agreement_premises_are_needed()
     ensures hashes { ¬ ((H : List ℕ → List ℕ) (key : List ℕ) (peers : List (Option (List ℕ)))
         (value : List ℕ) (other_peers : List (Option (List ℕ))) (other : List ℕ)
@@ -141,6 +147,7 @@ pub fn key_agreement_premises_are_needed()
 {}
 
 /// Of a key's claim: a function to 32 bytes, that it is met, and that it isn't true.
+#[tactic(auto, using(crate::proofs::MapPremiseLemmas::key_needs))]
 pub fn key_premises_are_needed()
     ensures hashes { ¬ ((H : List ℕ → List ℕ) (peers : List (Option (List ℕ))) (key value : List ℕ)
         (insertions : List (List ℕ × List ℕ)) → IsKeyMet H peers key value insertions
@@ -156,6 +163,7 @@ pub fn key_premises_are_needed()
 {}
 
 /// Of an absence's claim: the same.
+#[tactic(auto, using(crate::proofs::MapPremiseLemmas::absence_needs))]
 pub fn absence_premises_are_needed()
     ensures hashes { ¬ ((H : List ℕ → List ℕ) (peers : List (Option (List ℕ))) (key : List ℕ)
         (insertions : List (List ℕ × List ℕ)) → IsAbsenceMet H peers key insertions
@@ -171,6 +179,7 @@ pub fn absence_premises_are_needed()
 {}
 
 /// Of an update's claim: the same.
+#[tactic(auto, using(crate::proofs::MapPremiseLemmas::update_needs))]
 pub fn update_premises_are_needed()
     ensures hashes { ¬ ((H : List ℕ → List ℕ) (peers : List (Option (List ℕ)))
         (key old_value new_value : List ℕ) (insertions : List (List ℕ × List ℕ))
@@ -188,6 +197,7 @@ pub fn update_premises_are_needed()
 {}
 
 /// Of two maps: a function to 32 bytes, that they have one root, and that they have different values.
+#[tactic(auto, using(crate::proofs::MapPremiseLemmas::equal_maps_needs))]
 pub fn equal_maps_premises_are_needed()
     ensures hashes { ¬ ((H : List ℕ → List ℕ) (insertions others : List (List ℕ × List ℕ))
         → sparse_root H 256 (map_of H insertions) ≡ sparse_root H 256 (map_of H others)
@@ -202,6 +212,7 @@ pub fn equal_maps_premises_are_needed()
 {}
 
 /// Of steps: a function to 32 bytes, and that they lead from the empty map's root.
+#[tactic(auto, using(crate::proofs::MapPremiseLemmas::steps_needs))]
 pub fn steps_premises_are_needed()
     ensures hashes { ¬ ((H : List ℕ → List ℕ) (steps : List Step) (root : List ℕ)
         → LeadThrough H (sparse_root H 256 empty) steps root
