@@ -84,38 +84,40 @@ keys_agreed H key P v Q u digest peers other_peers first second (Some p) meeting
 pub branches_collide : {D : Type 0} (H : Digest) (p : Divergence D) (placed : List ℕ → List ℕ → Type 0) (meet : Type 0) → Parts H placed meet p → Parts H (λ _ _. Unit) Unit p
 branches_collide H p placed meet parts = parts_placed H p (λ _ _ _. tt) (λ _. tt) parts
 
--- what a hash and an update show, by the meeting
+-- what is found where an evaluation diverges nowhere from a tree, or at branches that are placed
+found_at : {D A : Type 0} (H : Digest) {met claim holds meet : Type 0} (placed : List ℕ → List ℕ → Type 0) (p : Divergence D) → met → Parts H placed meet p → (meet → claim) → (holds → claim) → (claim → holds) → (it : Finding D A)
+    → IsFoundAt p holds it → Finds met claim placed it
+found_at H placed Target met parts meets from to NotMet is = absurd (cc)
+found_at H placed Target met parts meets from to Holds is = (met, meets parts)
+found_at H placed Target met parts meets from to (Collision pair) is = absurd (cc)
+found_at H placed (Branch branches) met parts meets from to NotMet is = absurd (is tt)
+found_at H placed (Branch branches) met parts meets from to Holds is = (met, from is.1)
+found_at H placed (Branch branches) met parts meets from to (Collision pair) is =
+    let Placed : List ℕ × List ℕ → Type 0 = λ two. placed two.0 two.1 in (met, λ true_claim. is.1 (to true_claim), subst Placed (sym is.2) parts.placed)
+
+-- so of a hash and of an update, by the meeting
 pub hash_found : {D A : Type 0} {H : Digest} {F : Data} {proof : InclusionClaim} {hash : List ℕ} {entries tree : List (List ℕ)} {s w : ℕ} {plain : List ℕ} (p : Divergence D) → IsMeeting H F proof hash entries tree s w plain p → (it : Finding D A)
     → IsFoundAt p (hash ≡ plain) it → Finds (IsMet H F proof hash entries) (IsRootBelow H hash proof.leaf.0 entries) (IsHashPlaced H F hash proof.leaf.0 entries) it
-hash_found Target meeting NotMet is = absurd (cc)
-hash_found Target meeting Holds is = (meeting.met, rw meeting.tree_is at meeting.diverges.same)
-hash_found Target meeting (Collision pair) is = absurd (cc)
-hash_found (Branch branches) meeting NotMet is = absurd (is tt)
-hash_found (Branch branches) meeting Holds is = (meeting.met, is.1 ∙ meeting.plain_is)
-hash_found {H = H} {F = F} {proof = proof} {hash = hash} {entries = entries} {tree = tree} (Branch branches) meeting (Collision pair) is =
-    let Placed : List ℕ × List ℕ → Type 0 = λ two. IsHashPlaced H F hash proof.leaf.0 entries two.0 two.1 in
-    let at = hash_placed H F entries tree meeting.tree_is proof.leaf.0 hash _ _ meeting.diverges.placed in (meeting.met, λ below. is.1 (below ∙ sym meeting.plain_is), subst Placed (sym is.2) at)
+hash_found {H = H} {F = F} {proof = proof} {hash = hash} {entries = entries} {tree = tree} p meeting = found_at H (IsHashPlaced H F hash proof.leaf.0 entries) p meeting.met
+    (parts_placed H p (hash_placed H F entries tree meeting.tree_is proof.leaf.0 hash) (λ meets. rw meeting.tree_is at meets.same) meeting.diverges) (λ below. below) (λ same. same ∙ meeting.plain_is) (λ below. below ∙ sym meeting.plain_is)
 
 pub update_found : {D A : Type 0} {H : Digest} {P : List (Option (List ℕ))} {key value : List ℕ} {insertions : List (List ℕ × List ℕ)} {last : Option (List ℕ × List ℕ)} {own : List (Option (List ℕ))} (new : List ℕ) (p : Divergence D)
     → IsKeyMeeting H P key value insertions p last own → (it : Finding D A) → IsFoundAt p (IsKeyAgreement H key P new own new) it → Finds (IsKeyMet H P key value insertions) (IsUpdated H P key new insertions) (IsPlacedAtPrefix H P value key insertions) it
-update_found new Target meeting NotMet is = absurd (cc)
-update_found new Target meeting Holds is = (meeting.met, meeting.diverges.updates new)
-update_found new Target meeting (Collision pair) is = absurd (cc)
-update_found new (Branch branches) meeting NotMet is = absurd (is tt)
-update_found {H = H} {key = key} {insertions = insertions} {own = own} new (Branch branches) meeting Holds is = (meeting.met, is.1 ∙ own_grown_root H insertions key own meeting.beside new)
-update_found {H = H} {P = P} {key = key} {value = value} {insertions = insertions} {own = own} new (Branch branches) meeting (Collision pair) is =
-    let Placed : List ℕ × List ℕ → Type 0 = λ two. IsPlacedAtPrefix H P value key insertions two.0 two.1 in
-    (meeting.met, λ updated. is.1 (updated ∙ sym (own_grown_root H insertions key own meeting.beside new)), subst Placed (sym is.2) meeting.diverges.placed)
+update_found {H = H} {P = P} {key = key} {value = value} {insertions = insertions} {own = own} new p meeting =
+    let root = own_grown_root H insertions key own meeting.beside new in found_at H (IsPlacedAtPrefix H P value key insertions) p meeting.met meeting.diverges (λ alike. alike.updates new) (λ same. same ∙ root) (λ updated. updated ∙ sym root)
 
--- what is found of a claim that is met, by a pair that shows a collision unless the claim is true, or by what it says itself
+-- what is found of one claim, said of another one that is met and true where it is
+pub finds_as : {D A : Type 0} {met met' claim claim' : Type 0} (P Q : List ℕ → List ℕ → Type 0) → (met → met') → (met' → met) → (claim → claim') → (claim' → claim) → (¬ claim → (l r : List ℕ) → P l r → Q l r) → (it : Finding D A)
+    → Finds met claim P it → Finds met' claim' Q it
+finds_as P Q up down from to placed NotMet finds = λ met. finds (down met)
+finds_as P Q up down from to placed Holds finds = (up finds.0, from finds.1)
+finds_as P Q up down from to placed (Collision pair) finds = (up finds.0, (λ claim. finds.1 (to claim)), placed finds.1 pair.0 pair.1 finds.2)
+
+-- so of a claim that is met, by a pair that shows a collision unless the claim is true, or by what it says itself
 pub finds_shown : {D A : Type 0} {H : Digest} {met at claim : Type 0} {placed : List ℕ → List ℕ → Type 0} {two : List ℕ × List ℕ} → met → (at → claim) → (claim → at) → ((at → ⊥) → Shows H placed two) → (it : Finding D A)
     → Finds Unit at (λ l r. (l, r) ≡ two) it → Finds met claim placed it
-finds_shown met is from shows NotMet finds = absurd (finds tt)
-finds_shown met is from shows Holds finds = (met, is finds.1)
-finds_shown {placed = placed} met is from shows (Collision pair) finds =
-    let Placed : List ℕ × List ℕ → Type 0 = λ two. placed two.0 two.1 in (met, λ true_claim. finds.1 (from true_claim), subst Placed (sym finds.2) (shows finds.1).placed)
+finds_shown {placed = placed} {two} met is from shows =
+    let Placed : List ℕ × List ℕ → Type 0 = λ two. placed two.0 two.1 in finds_as (λ l r. (l, r) ≡ two) placed (λ _. met) (λ _. tt) is from (λ untrue l r same. subst Placed (sym same) (shows untrue).placed)
 
 pub finds_met : {D A : Type 0} {met : Type 0} (claim : Type 0) (placed : List ℕ → List ℕ → Type 0) → met → (it : Finding D A) → Finds Unit claim placed it → Finds met claim placed it
-finds_met claim placed met NotMet finds = absurd (finds tt)
-finds_met claim placed met Holds finds = (met, finds.1)
-finds_met claim placed met (Collision pair) finds = (met, finds.1, finds.2)
+finds_met claim placed met = finds_as placed placed (λ _. met) (λ _. tt) (λ is. is) (λ is. is) (λ _ _ _ at. at)

@@ -21,6 +21,7 @@ use Rattle.warg_witness.specs.Private.Divergence.{Parts, Shows}
 use Rattle.warg_witness.specs.Private.MapMeeting.{IsAlike, IsPlacedInStep}
 use Rattle.warg_witness.specs.declared.divergence.Divergence.{Divergence}
 use Rattle.warg_witness.specs.declared.divergence.Divergence.TheVariants.{Target, Branch}
+use Rattle.warg_witness.proofs.AgreementLemmas.{finds_as}
 use Rattle.warg_witness.proofs.ClimbLemmas.{parts_placed}
 use Rattle.warg_witness.specs.declared.collision.Finding.{Finding}
 use Rattle.warg_witness.specs.declared.collision.Finding.TheVariants.{Holds, NotMet, Collision}
@@ -73,10 +74,9 @@ module _ (H : List ℕ → List ℕ) (xs ys : Insertions) (q : List ℕ) (insert
     -- what the proof of the one map shows of the other's insertions
     pub found_apart : {D A : _} (o : Option (List ℕ × List ℕ)) → last_under H (key_bits H q) xs ≡ o → IfSome o (λ e. q ≡ e.0) → (finding : Finding D A)
         → Finds (IsKeyMet H own q (value_in o) ys) (IsLastValue q (value_in o) ys) (IsKeyPlaced H own (value_in o) q ys) finding → Finds Unit ⊥ (IsPlacedInMaps H xs ys) finding
-    found_apart o under of_key NotMet found = absurd (found (own_root H xs q own beside o under ∙ same))
-    found_apart o under of_key Holds found =
-        let first : value_in (last_insertion q xs) ≡ value_in o = ap value_in (last_of_digest H q xs (rw under of_key) ∙ under) in absurd (apart (first ∙ sym found.1))
-    found_apart o under of_key (Collision c) found = (tt, λ no. no, placed o under c.0 c.1 found.2)
+    found_apart o under of_key =
+        let first : value_in (last_insertion q xs) ≡ value_in o = ap value_in (last_of_digest H q xs (rw under of_key) ∙ under) in
+        finds_as (IsKeyPlaced H own (value_in o) q ys) (IsPlacedInMaps H xs ys) (λ _. tt) (λ _. own_root H xs q own beside o under ∙ same) (λ is. apart (first ∙ sym is)) (λ no. absurd no) (λ _. placed o under)
 
 -- a step that is met
 module _ (H : List ℕ → List ℕ) (peers : List (Option (List ℕ))) (key old_value new_value : List ℕ) (xs ys : Insertions) (met : IsChangeMet H peers key old_value new_value xs ys) where
@@ -97,17 +97,10 @@ module _ (H : List ℕ → List ℕ) (peers : List (Option (List ℕ))) (key old
   -- what both maps show, where the old value is the key's
   pub found_step : {D A : _} (p : Divergence D) → Parts H (IsPlacedAtPrefix H peers old_value key xs) (IsAlike H peers key old_value xs) p → IsLastValue key old_value xs → (finding : Finding D A)
       → Finds Unit (HaveSameValues (xs ++ (key, new_value) ∷ []) ys) (IsPlacedInStep H p (xs ++ (key, new_value) ∷ []) ys) finding → FindsChange finding
-  found_step p parts before NotMet found = absurd (found tt)
-  found_step p parts before Holds found = (met, record { before = before; after = found.1 })
-  found_step Target parts before (Collision c) found = (met, λ is. found.1 is.after, inr found.2)
-  found_step (Branch branches) parts before (Collision c) found = (met, λ is. found.1 is.after, placed found.2)
+  found_step p parts before = finds_as (IsPlacedInStep H p (xs ++ (key, new_value) ∷ []) ys) (IsUpdatePlaced H peers old_value new_value key (xs, ys)) (λ _. met) (λ _. tt) (λ after. record { before = before; after = after }) (λ is. is.after) (λ _. placed p parts)
     where
-      placed : IsPlacedInStep H (Branch branches) (xs ++ (key, new_value) ∷ []) ys c.0 c.1 → IsUpdatePlaced H peers old_value new_value key (xs, ys) c.0 c.1
-      placed (inl is) = let Placed : List ℕ × List ℕ → Type 0 = λ two. IsPlacedAtPrefix H peers old_value key xs two.0 two.1 in inl (inl (subst Placed (sym is) parts.placed))
-      placed (inr maps) = inr maps
-
--- two maps with a key apart haven't the same values
-pub apart_found : {D A : _} {claim : Type 0} {P Q : List ℕ → List ℕ → Type 0} → ¬ claim → ((l r : List ℕ) → P l r → Q l r) → (finding : Finding D A) → Finds Unit ⊥ P finding → Finds Unit claim Q finding
-apart_found untrue placed NotMet found = absurd (found tt)
-apart_found untrue placed Holds found = absurd found.1
-apart_found untrue placed (Collision c) found = (tt, untrue, placed c.0 c.1 found.2)
+      placed : {D : _} (p : Divergence D) → Parts H (IsPlacedAtPrefix H peers old_value key xs) (IsAlike H peers key old_value xs) p
+          → (first second : List ℕ) → IsPlacedInStep H p (xs ++ (key, new_value) ∷ []) ys first second → IsUpdatePlaced H peers old_value new_value key (xs, ys) first second
+      placed Target parts first second maps = inr maps
+      placed (Branch branches) parts first second (inl is) = let Placed : List ℕ × List ℕ → Type 0 = λ two. IsPlacedAtPrefix H peers old_value key xs two.0 two.1 in inl (inl (subst Placed (sym is) parts.placed))
+      placed (Branch branches) parts first second (inr maps) = inr maps

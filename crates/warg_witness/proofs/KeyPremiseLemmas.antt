@@ -130,16 +130,18 @@ no_peers : (k : ℕ) → peer_of marked [] k ≡ zeros
 no_peers k = no_peer marked k ∙ empty_zeros k
 
 -- Without peers zeros lead to zeros.
+join_zeros : (b : Bool) → marked (input_beside b zeros zeros) ≡ zeros
+join_zeros true = refl
+join_zeros false = refl
+
 zeros_up : (bits : List Bool) → length bits ≤ 256 → proof_value marked [] zeros bits ≡ zeros
 unfolding proof_value
 zeros_up [] few = refl
-zeros_up (true ∷ bits) few = rw (zeros_up bits (omega arith), no_peers (length bits)) refl
-zeros_up (false ∷ bits) few = rw (zeros_up bits (omega arith), no_peers (length bits)) refl
+zeros_up (b ∷ bits) few = rw (zeros_up bits (omega arith), no_peers (length bits)) (join_zeros b)
 
 zeros_on_path : (rest : List Bool) → length rest ≤ 256 → marked (path_input marked [] [] rest) ≡ zeros
 zeros_on_path [] few = refl
-zeros_on_path (true ∷ below) few = rw (zeros_up below (omega arith), no_peers (length below)) refl
-zeros_on_path (false ∷ below) few = rw (zeros_up below (omega arith), no_peers (length below)) refl
+zeros_on_path (b ∷ below) few = rw (zeros_up below (omega arith), no_peers (length below)) (join_zeros b)
 
 ones_differ : ones ≡ zeros → ⊥
 ones_differ is = absurd cc
@@ -162,14 +164,6 @@ plain_is H key prefix rest is = own_input H [] [] (key_bits H key) prefix rest i
 own_apart : (H : List ℕ → List ℕ) (key first second : List ℕ) → IsPlacedAtPrefix H [] [] key [] first second → Collides H (first, second) → ⊥
 own_apart H key first second at c = c.differ (at.evaluation ∙ plain_is H key at.prefix at.rest at.bits ∙ sym at.plain)
 
-pub key_untruth_is_needed : (H : List ℕ → List ℕ) → ¬ ((peers : List (Option (List ℕ))) (key value : List ℕ) (insertions : List (List ℕ × List ℕ)) → IsKeyMet H peers key value insertions → SomeCollision H (IsKeyPlaced H peers value key insertions))
-key_untruth_is_needed H law =
-    let c = law [] [] [] [] (own_met H []) in
-    elim c.placed [
-      | inl at ↦ own_apart H [] c.first c.second at c.collide
-      | inr keys ↦ omega (arith, keys.inserted.1)
-    ]
-
 pub absence_untruth_is_needed : (H : List ℕ → List ℕ) → ¬ ((peers : List (Option (List ℕ))) (key : List ℕ) (insertions : List (List ℕ × List ℕ)) → IsAbsenceMet H peers key insertions → SomeCollision H (IsKeyPlaced H peers [] key insertions))
 unfolding empty_root
 absence_untruth_is_needed H law =
@@ -178,6 +172,10 @@ absence_untruth_is_needed H law =
       | inl at ↦ own_apart H [] c.first c.second at c.collide
       | inr keys ↦ omega (arith, keys.inserted.1)
     ]
+
+pub key_untruth_is_needed : (H : List ℕ → List ℕ) → ¬ ((peers : List (Option (List ℕ))) (key value : List ℕ) (insertions : List (List ℕ × List ℕ)) → IsKeyMet H peers key value insertions → SomeCollision H (IsKeyPlaced H peers value key insertions))
+unfolding empty_root
+key_untruth_is_needed H law = absence_untruth_is_needed H (λ peers key insertions. law peers key [] insertions)
 
 pub update_untruth_is_needed : (H : List ℕ → List ℕ) → ¬ ((peers : List (Option (List ℕ))) (key old_value new_value : List ℕ) (insertions : List (List ℕ × List ℕ)) → IsKeyMet H peers key old_value insertions → SomeCollision H (IsPlacedAtPrefix H peers old_value key insertions))
 update_untruth_is_needed H law = let c = law [] [] [] [] [] (own_met H []) in own_apart H [] c.first c.second c.placed c.collide
@@ -191,15 +189,6 @@ module _ (peers : List (Option (List ℕ))) (marks : (k : ℕ) → k < 256 → I
 
 no_marks : (k : ℕ) → k < 256 → IsMark (peer_of marked [] k)
 no_marks k _ = inl (no_peers k)
-
-pub key_meeting_is_needed : ¬ ((H : List ℕ → List ℕ) (peers : List (Option (List ℕ))) (key value : List ℕ) (insertions : List (List ℕ × List ℕ)) → GivesHashes H → (IsLastValue key value insertions → ⊥) → SomeCollision H (IsKeyPlaced H peers value key insertions))
-unfolding last_with
-key_meeting_is_needed law =
-    let c = law marked [] [] (1 ∷ []) [] marked_hashes (λ is. absurd cc) in
-    elim c.placed [
-      | inl at ↦ ones_apart [] no_marks [] c.first c.second at c.collide
-      | inr keys ↦ omega (arith, keys.inserted.1)
-    ]
 
 pub key_agreement_meeting_is_needed : ¬ ((H : List ℕ → List ℕ) (key : List ℕ) (peers : List (Option (List ℕ))) (value : List ℕ) (other_peers : List (Option (List ℕ))) (other : List ℕ) → GivesHashes H → (value ≡ other → ⊥) → SomeCollision H (IsKeyAgreementPlaced H key peers value other_peers other))
 key_agreement_meeting_is_needed law =
@@ -259,6 +248,9 @@ absence_meeting_is_needed law =
           ones_differ (sym (ones_on_path [] no_marks at.rest few) ∙ ap marked (lone_is marked [] (1 ∷ []) at.prefix at.rest at.bits ∙ sym at.plain) ∙ sym c.collide.same ∙ ap marked at.evaluation ∙ zeros_on_path at.rest few)
       | inr keys ↦ only_key keys c.collide
     ]
+
+pub key_meeting_is_needed : ¬ ((H : List ℕ → List ℕ) (peers : List (Option (List ℕ))) (key value : List ℕ) (insertions : List (List ℕ × List ℕ)) → GivesHashes H → (IsLastValue key value insertions → ⊥) → SomeCollision H (IsKeyPlaced H peers value key insertions))
+key_meeting_is_needed law = absence_meeting_is_needed (λ H peers key insertions. law H peers key [] insertions)
 
 pub lone_leads : (H : List ℕ → List ℕ) (key value : List ℕ) → proof_value H [] (leaf_digest H value) (key_bits H key) ≡ sparse_root H 256 (map_of H ((key, value) ∷ []))
 lone_leads H key value = rw (inserted_push H empty [] key value) (beside_replaced H (map_of H []) (key_bits H key) [] (leaf_digest H value) (all_bits H key) (empty_beside H key))

@@ -186,17 +186,17 @@ value_len H P x gives size [] = size
 value_len H P x gives size (b ∷ bits) = gives (fork_input H P x b bits)
 
 -- What is held has 32 bytes.
-abbrev HaveSize : (List Bool → Option (List ℕ)) → Type 0
+abbrev pub HaveSize : (List Bool → Option (List ℕ)) → Type 0
 HaveSize held = (bits : List Bool) → IfSome (held bits) (λ digest. length digest ≡ 32)
 
 module _ (H : List ℕ → List ℕ) (gives : HasSize H) where
   -- a root has 32 bytes where each leaf digest has
-  root_len : (k : ℕ) (held : List Bool → Option (List ℕ)) → HaveSize held → length (root_of_levels H k held) ≡ 32
+  pub root_len : (k : ℕ) (held : List Bool → Option (List ℕ)) → HaveSize held → length (root_of_levels H k held) ≡ 32
   unfolding root_of_levels empty_root
   root_len zero held h = grind (arith, h [])
   root_len (suc k) held h = gives _
 
-  held_len : (insertions : List (List ℕ × List ℕ)) → HaveSize (get (map_of H insertions))
+  pub held_len : (insertions : List (List ℕ × List ℕ)) → HaveSize (get (map_of H insertions))
   held_len insertions q = rw last_held (grind (arith, gives))
 
 -- an agreement of two values, and a claim of a key, that are met and aren't true

@@ -18,26 +18,10 @@ use Rattle.warg_map.proofs.ForCallers.{all_bits, last_held, same_digest, same_bi
 use Rattle.warg_witness.specs.MapClaims.{value_in, last_insertion}
 use Rattle.warg_witness.proofs.InsertionLemmas.{last_with-is, last_of_digest}
 use Rattle.warg_witness.proofs.KeyLemmas.{plain_leaf_is}
+use Rattle.warg_witness.proofs.LawLemmas.{HaveSize, root_len, held_len}
 use Rattle.warg_witness.specs.MapsPlaced.{Insertions, HaveOneValue, HaveSameValues, IsInserted, IsPlacedInMaps}
 
 module _ (H : List ℕ → List ℕ) (gives : GivesHashes H) where
-  -- What is held has 32 bytes, or that of an empty leaf has.
-  abbrev HaveSize : (List Bool → Option (List ℕ)) → Type 0
-  HaveSize held = (bits : List Bool) → length (unwrap_or (held bits) (empty_root H 0)) ≡ 32
-
-  leaf_size : (o : Option (List ℕ × List ℕ)) → length (unwrap_or (option_map (λ e. leaf_digest H e.1) o) (empty_root H 0)) ≡ 32
-  unfolding empty_root
-  leaf_size None = sizes gives (0 ∷ [])
-  leaf_size (Some e) = sizes gives (0 ∷ e.1)
-
-  held_size : (es : Insertions) → HaveSize (get (map_of H es))
-  held_size es bits = rw last_held (leaf_size (last_under H bits es))
-
-  levels_size : (k : ℕ) (f : List Bool → Option (List ℕ)) → HaveSize f → length (root_of_levels H k f) ≡ 32
-  unfolding root_of_levels
-  levels_size zero f sized = sized []
-  levels_size (suc k) f sized = sizes gives _
-
   -- The branch over what is held behind a prefix.
   abbrev branch_behind : ℕ → (List Bool → Option (List ℕ)) → List Bool → List ℕ
   branch_behind j f prefix = branch_input (root_of_levels H j (λ q. f (prefix ++ false ∷ q))) (root_of_levels H j (λ q. f (prefix ++ true ∷ q)))
@@ -56,7 +40,7 @@ module _ (H : List ℕ → List ℕ) (gives : GivesHashes H) where
     | inr differ ↦ inr (record { first = _; second = _; collide = record { differ = differ; same = same }; placed = placed [] k (omega arith) })
     | inl equal ↦
         let parts = branch_parts (root_of_levels H k (λ q. f (false ∷ q))) _ (root_of_levels H k (λ q. g (false ∷ q))) _
-        (levels_size k (λ q. f (false ∷ q)) (λ q. sized (false ∷ q)) ∙ sym (levels_size k (λ q. g (false ∷ q)) (λ q. sized' (false ∷ q)))) equal in
+        (root_len H (sizes gives) k (λ q. f (false ∷ q)) (λ q. sized (false ∷ q)) ∙ sym (root_len H (sizes gives) k (λ q. g (false ∷ q)) (λ q. sized' (false ∷ q)))) equal in
         elim (trees Q k (λ q. f (false ∷ q)) (λ q. g (false ∷ q)) (λ q. sized (false ∷ q)) (λ q. sized' (false ∷ q)) parts.0 (λ prefix j len. placed (false ∷ prefix) j (omega arith))) [
           | inr collision ↦ inr collision
           | inl left ↦ elim (trees Q k (λ q. f (true ∷ q)) (λ q. g (true ∷ q)) (λ q. sized (true ∷ q)) (λ q. sized' (true ∷ q)) parts.1 (λ prefix j len. placed (true ∷ prefix) j (omega arith))) [
@@ -154,7 +138,7 @@ module _ (H : List ℕ → List ℕ) (gives : GivesHashes H) (xs ys : Insertions
   at_branches prefix j len = inl (record { prefix = prefix; levels = suc j; whole = len; first_plain = refl; second_plain = refl })
 
   pub maps_collide : sparse_root H 256 (map_of H xs) ≡ sparse_root H 256 (map_of H ys) → ¬ HaveSameValues xs ys → Collide
-  maps_collide same untrue = elim (trees H gives (IsPlacedInMaps H xs ys) 256 (get (map_of H xs)) (get (map_of H ys)) (held_size H gives xs) (held_size H gives ys) same at_branches) [
+  maps_collide same untrue = elim (trees H gives (IsPlacedInMaps H xs ys) 256 (get (map_of H xs)) (get (map_of H ys)) (held_len H (sizes gives) xs) (held_len H (sizes gives) ys) same at_branches) [
     | inr collision ↦ collision
     | inl leaves ↦ elim (each xs AgreeOn Collide (λ e at. on_key leaves e.0 (inl (is_key xs e at)))) [
       | inr collision ↦ collision

@@ -83,27 +83,6 @@ fn growth_at<D: SupportedDigest, V: VisitBytes, A: Allocator>(
     }
 }
 
-// Both evaluations at a range, all of whose leaves are old. None where the path leads to no root over it.
-fn growth_of_range<D: SupportedDigest, V: VisitBytes, A: Allocator>(
-    trees: &Trees<D, V, A>,
-    old_root: Option<Hash<D>>,
-    range: &LeafRange,
-    path: &[Hash<D>],
-) -> Option<Growth<D>>
-    requires aligned { IsAligned range.now.start range.now.count }
-    requires in_old { range.now.start + range.now.count ≤ length trees.now.old }
-    requires in_new { range.now.start + range.now.count ≤ length trees.now.new }
-    ensures { (place : ℕ) → IsAround place 1 range.now.start range.now.count → MatchOption result
-        (roots_down D.digest old_root range.now.count range.now.count (reverse path.now) ≡ None)
-        (λ growth. IsGrowth D.digest trees.now.old trees.now.new place old_root range.now.count
-        range.now.start range.now.count (reverse path.now) growth.shared.start growth.shared.count
-        growth.old.first growth.old.second growth.old.divergence
-        growth.new.first growth.new.second growth.new.divergence) }
-{
-    let (root, _) = roots_of_subproof(old_root, range.count, range.count, path)?;
-    Some(growth_at(trees, range, &root))
-}
-
 // The evaluation and both trees up to a range, from the part that has the leaf at `place` and one digest in the path.
 // None where the path leads to no roots over the range.
 fn climb_growth<D: SupportedDigest, V: VisitBytes, A: Allocator>(
@@ -127,7 +106,8 @@ fn climb_growth<D: SupportedDigest, V: VisitBytes, A: Allocator>(
         growth.new.first growth.new.second growth.new.divergence) }
 {
     if old_length == range.count {
-        return growth_of_range(trees, old_root, range, path);
+        let (root, _) = roots_of_subproof(old_root, range.count, range.count, path)?;
+        return Some(growth_at(trees, range, &root));
     }
     let (top, below) = path.split_last()?;
     let (front, rest) = range.split();

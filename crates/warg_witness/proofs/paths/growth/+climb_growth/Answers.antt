@@ -1,17 +1,29 @@
-use Rattle.std.proofs.Common.{◌≡◌, refl, ◌∙◌, arith, rules}
+use Rattle.std.proofs.Common.{◌≡◌, refl, sym, ap, ◌∙◌, reverse, arith, rules}
+use Rattle.warg_paths.specs.Paths.{roots_down}
 use Rattle.warg_paths.proofs.ForCallers.{both_short}
 use Rattle.warg_log.specs.Tree.{front_of}
 use Rattle.warg_log.proofs.ForCallers.{starts, counts}
 use Rattle.warg_witness.proofs.RangeLemmas.{front_aligned, rest_aligned}
 use Rattle.warg_witness.proofs.RecordLemmas.{turned}
-use Rattle.warg_witness.proofs.GrowthLemmas.{still_more, front_up, rest_up, shared_up, front_lacks, rest_lacks, rest_led, front_takes, rest_takes}
+use Rattle.warg_witness.proofs.GrowthLemmas.{subproof_is, growth_starts, still_more, front_up, rest_up, shared_up, front_lacks, rest_lacks, rest_led, front_takes, rest_takes}
 use Rattle.warg_witness.proofs.paths.growth.+climb_growth.Goals as goal
 
-pub returns-then-old_length-range : goal.returns-then-old_length-range
-returns-then-old_length-range g t c = let all = c.if-old_length-range.true ∙ counts c.range.view_is in rw all (c.growth_of_range.ensures _ (rw all at c.requires.around))
+pub returns-in_err-root : goal.returns-in_err-root
+returns-in_err-root g t c =
+    let all = c.if-old_length-range.true ∙ counts c.range.view_is in
+    let n = c.args.range.now.count in
+    let same = subproof_is g.D.SupportedDigest.digest c.args.old_root n n c.args.path.now (omega arith) (omega arith) in rw (c.from_residual.ensures, all) (sym same ∙ rw (counts c.range.view_is) at (sym c.in_err-root.ensures))
 
-pub growth_of_range-requires-clause-in_old : goal.growth_of_range-requires-clause-in_old
-growth_of_range-requires-clause-in_old g t c = let all = c.if-old_length-range.true ∙ counts c.range.view_is in rw all at c.requires.in_old
+pub returns-then-old_length-range : goal.returns-then-old_length-range
+returns-then-old_length-range g t c =
+    let all = c.if-old_length-range.true ∙ counts c.range.view_is in
+    let n = c.args.range.now.count in
+    let same = subproof_is g.D.SupportedDigest.digest c.args.old_root n n c.args.path.now (omega arith) (omega arith) in
+    let at = c.growth_at.ensures in
+    growth_starts _ c.args.trees.now.old c.args.trees.now.new _ _ _ _ _ c.args.path.now all c.requires.around (ap (λ k. roots_down g.D.SupportedDigest.digest c.args.old_root k n (reverse c.args.path.now)) all ∙ sym same ∙ rw (counts c.range.view_is) at (sym c.in_ok-root.ensures)) (starts at.shared, counts at.shared) at.first at.old at.new at.targets
+
+pub growth_at-requires-clause-in_old : goal.growth_at-requires-clause-in_old
+growth_at-requires-clause-in_old g t c = let all = c.if-old_length-range.true ∙ counts c.range.view_is in rw all at c.requires.in_old
 
 pub returns-then-old_length-front : goal.returns-then-old_length-front
 returns-then-old_length-front g t c =
@@ -46,7 +58,7 @@ returns g t c =
 
 pub returns-in_err-top : goal.returns-in_err-top
 returns-in_err-top g t c =
-    let more = still_more c.requires.around c.requires.order c.if-old_length-range.false (counts c.range.view_is) in rw c.from_residual.ensures (both_short _ _ _ _ _ more.1 c.in_err-top.ensures.cases)
+    let more = still_more c.requires.around c.requires.order c.if-old_length-range.false (counts c.range.view_is) in rw c.from_residual-in_err-top.ensures (both_short _ _ _ _ _ more.1 c.in_err-top.ensures.cases)
 
 pub returns-in_err-growth : goal.returns-in_err-growth
 returns-in_err-growth g t c =
