@@ -1,25 +1,24 @@
 -- Claims of keys and maps that are untrue, not met, or both, and of which no placed byte strings collide.
-use Rattle.std.proofs.Common.{◌≡◌, ℕ, zero, suc, ◌+◌, ◌-◌, ◌≤◌, ◌<◌, nat_eq, ◌⊎◌, inl, inr, Bool, true, false, cond, List, [], ◌∷◌, ◌++◌, length, slice_index_or, Option, None, Some, is_some, unwrap_or, IsTrue, if◌then◌else◌, refl, sym, ap, subst, ◌∙◌, arith, append-nil, append_assoc, length-append}
+use Rattle.std.proofs.Common.{◌≡◌, ℕ, zero, suc, ◌-◌, ◌≤◌, ◌<◌, nat_eq, ◌⊎◌, inl, inr, Bool, true, false, cond, List, [], ◌∷◌, ◌++◌, length, slice_index_or, Option, None, Some, is_some, unwrap_or, IsTrue, refl, sym, ap, ◌∙◌, arith, append-nil, length-append}
 use Rattle.std.specs.Prelude.{replicate}
 use Rattle.std.proofs.lemmas.List.Elements.{All-replicate}
 use Rattle.std.specs.FinMap.{get, get-empty, empty}
-use Rattle.warg_crypto.specs.Bytes.{same_bytes}
 use Rattle.warg_crypto.specs.Collisions.{Collides, SomeCollision, GivesHashes}
 use Rattle.warg_crypto.specs.Digests.{IsDigest, IsByte}
 use Rattle.warg_crypto.specs.EmptyTrees.{empty_root}
 use Rattle.warg_crypto.specs.Tree.{branch, branch_input, leaf_digest, leaf_input, input_beside}
-use Rattle.warg_map.specs.Bits.{bits_from, key_bits}
-use Rattle.warg_map.specs.Last.{last_under, last_with, same_bits}
+use Rattle.warg_map.specs.Bits.{key_bits}
+use Rattle.warg_map.specs.Last.{last_under, last_with}
 use Rattle.warg_map.specs.Peers.{IsBeside, ProvesAbsent, ProvesEmpty, IsPeers}
 use Rattle.warg_map.specs.ProofValue.{peer_of, proof_value}
 use Rattle.std.specs.Option.{option_map, option_or}
 use Rattle.warg_map.specs.Sparse.{root_of_levels, sparse_root, map_of, inserted, bits_cmp}
 use Rattle.warg_map.proofs.ForCallers.{all_bits, last_held, key_beside, beside_input, beside_root, beside_replaced, beside_kept, same_bits-itself}
 use Rattle.warg_witness.specs.MapClaims.{IsKeyMet, IsAbsenceMet, IsLastValue, value_in}
-use Rattle.warg_witness.specs.MapInputs.{path_input, fork_input, plain_input_at}
+use Rattle.warg_witness.specs.MapInputs.{path_input, plain_input_at}
 use Rattle.warg_witness.specs.MapsPlaced.{HaveSameValues, IsPlacedInMaps, IsInserted}
 use Rattle.warg_witness.specs.MapPlaced.{IsPlacedAtPrefix, IsPlacedAtKeys, IsKeyPlaced, IsKeyAgreementPlaced}
-use Rattle.warg_witness.specs.UpdateClaims.{IsUpdated, Step, insertions_of, LeadThrough, CollidesAtStep}
+use Rattle.warg_witness.specs.UpdateClaims.{IsUpdated}
 use Rattle.warg_witness.proofs.KeyLemmas.{plain_leaf_is, inserted_push}
 
 -- The plain input at each prefix is that of the evaluation of what stands beside the key, from its last value.

@@ -2,19 +2,18 @@
 use Rattle.std.proofs.Common.{◌≡◌, ◌≢◌, ℕ, zero, suc, ◌+◌, ◌⊎◌, inl, inr, Bool, true, false, List, [], ◌∷◌, ◌++◌, length, map, Option, Some, None, refl, sym, ap, subst, ◌∙◌, arith, unwrap_or}
 use Rattle.std.specs.FinMap.{get}
 use Rattle.std.specs.List.{AllByRecursion, Contains}
-use Rattle.std.specs.Option.{option_map}
 use Rattle.std.specs.Cmp.Lexicographic.{same_text}
 use Rattle.std.proofs.lemmas.List.{length-map, get_or-map}
 use Rattle.std.proofs.lemmas.List.Elements.{All-from_recursion, All-contains}
 use Rattle.warg_crypto.specs.Bytes.{same_bytes}
 use Rattle.warg_crypto.specs.Collisions.{GivesHashes, SomeCollision}
 use Rattle.warg_crypto.specs.EmptyTrees.{empty_root}
-use Rattle.warg_crypto.specs.Tree.{leaf_digest, branch_input}
+use Rattle.warg_crypto.specs.Tree.{branch_input}
 use Rattle.warg_crypto.proofs.ForCallers.{same_or_not, sizes, branch_parts}
 use Rattle.warg_map.specs.Bits.{key_bits}
 use Rattle.warg_map.specs.Last.{last_under, same_bits}
 use Rattle.warg_map.specs.Sparse.{root_of_levels, sparse_root, map_of, leaf_at}
-use Rattle.warg_map.proofs.ForCallers.{all_bits, last_held, same_digest, same_bits-true}
+use Rattle.warg_map.proofs.ForCallers.{all_bits, same_digest, same_bits-true}
 use Rattle.warg_witness.specs.MapClaims.{value_in, last_insertion}
 use Rattle.warg_witness.proofs.InsertionLemmas.{last_with-is, last_of_digest}
 use Rattle.warg_witness.proofs.KeyLemmas.{plain_leaf_is}

@@ -5,7 +5,7 @@ use Rattle.std.specs.Prelude.{replicate}
 use Rattle.std.specs.FinMap.{empty}
 use Rattle.warg_crypto.specs.Collisions.{SomeCollision}
 use Rattle.warg_crypto.specs.EmptyTrees.{empty_root}
-use Rattle.warg_crypto.specs.Tree.{leaf_digest, input_beside}
+use Rattle.warg_crypto.specs.Tree.{input_beside}
 use Rattle.warg_map.specs.Bits.{bits_from, key_bits}
 use Rattle.warg_map.specs.Last.{last_with}
 use Rattle.warg_map.specs.ProofValue.{peer_of, proof_value}

@@ -4,8 +4,8 @@ use Rattle.std.proofs.Common.{◌≡◌, ℕ, ◌+◌, ◌<◌, ◌≤◌, ◌�
 use Rattle.std.proofs.lemmas.List.{reverse-reverse}
 use Rattle.warg_crypto.specs.Collisions.{GivesHashes, AreHashes, SomeCollision}
 use Rattle.warg_crypto.specs.Tree.{leaf_digest, branch_input}
-use Rattle.warg_crypto.proofs.ForCallers.{same_or_not, sizes, branch_parts}
-use Rattle.warg_log.specs.Tree.{leaves_of, root_of, root_over}
+use Rattle.warg_crypto.proofs.ForCallers.{sizes, branch_parts}
+use Rattle.warg_log.specs.Tree.{leaves_of, root_over}
 use Rattle.warg_paths.specs.Paths.{inclusion_root}
 use Rattle.warg_paths.specs.Ways.{ArePathInputs}
 use Rattle.warg_witness.specs.PathClaims.{IsRecord, IsRecordMet, IsRecordAgreement}

@@ -1,5 +1,5 @@
 -- Where paths lead, turn by turn, two evaluations along paths of one place, and a tree's own path.
-use Rattle.std.proofs.Common.{◌≡◌, ◌⊎◌, inl, inr, ℕ, zero, suc, ◌+◌, ◌-◌, ◌==◌, ◌<◌, ◌≤◌, nat_le, nat_lt, Bool, true, false, List, [], ◌∷◌, ◌++◌, length, map, reverse, get_or, Option, Some, None, if◌then◌else◌, refl, sym, ap, ◌∙◌, arith}
+use Rattle.std.proofs.Common.{◌≡◌, ◌⊎◌, inl, inr, ℕ, zero, suc, ◌+◌, ◌-◌, ◌==◌, ◌<◌, ◌≤◌, Bool, true, false, List, [], ◌∷◌, ◌++◌, length, map, reverse, get_or, Option, Some, None, if◌then◌else◌, refl, sym, ap, ◌∙◌, arith}
 use Rattle.std.specs.Option.{MatchOption}
 use Rattle.std.proofs.lemmas.Bool.Decides.{nat_tests}
 use Rattle.std.proofs.lemmas.Bool.{cases_lt, cases_Bool, lt-leb, le-leb, lt-ltb, le-ltb, eqb-true}
@@ -24,7 +24,7 @@ use Rattle.warg_witness.specs.Private.TreeDivergence.{IsBeside, tree_input}
 use Rattle.warg_witness.specs.Private.Ranges.{AreSides}
 use Rattle.warg_witness.specs.declared.divergence.Divergence.{Divergence}
 use Rattle.warg_witness.specs.declared.divergence.Divergence.TheVariants.{Target}
-use Rattle.warg_witness.proofs.ClimbLemmas.{parts_placed, shown, up_parts, both_there}
+use Rattle.warg_witness.proofs.ClimbLemmas.{parts_placed, shown, up_parts}
 use Rattle.warg_witness.proofs.CutLemmas.{leaves_count, plain_digest_is}
 use Rattle.warg_witness.proofs.RangeLemmas.{Digest, front_aligned, rest_aligned, whole_aligned}
 use Rattle.warg_witness.proofs.TurnLemmas.{no_turns, turn_up}

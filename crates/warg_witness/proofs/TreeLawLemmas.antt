@@ -1,12 +1,12 @@
 -- A consistency path that leads to the roots of two trees shows that the one's entries begin the other's, or collides with
 -- a tree, or both trees collide.
-use Rattle.std.proofs.Common.{◌≡◌, ℕ, zero, suc, ◌+◌, ◌-◌, ◌<◌, ◌≤◌, ◌⊎◌, inl, inr, List, [], ◌∷◌, length, reverse, slice_index_or, Option, Some, None, refl, sym, ap, subst, ◌∙◌, arith, pow-suc}
+use Rattle.std.proofs.Common.{◌≡◌, ℕ, ◌+◌, ◌-◌, ◌<◌, ◌≤◌, ◌⊎◌, inl, inr, List, [], ◌∷◌, length, reverse, slice_index_or, Option, Some, None, refl, sym, ap, subst, ◌∙◌, arith}
 use Rattle.std.proofs.lemmas.Bool.{cases_lt, lt-leb, le-leb, ne_eqb}
 use Rattle.warg_crypto.specs.Collisions.{GivesHashes, SomeCollision}
 use Rattle.warg_crypto.specs.Tree.{branch_input, where_both}
 use Rattle.warg_crypto.proofs.ForCallers.{same_or_not, branch_parts, sizes as sizes_of}
 use Rattle.warg_log.specs.Tree.{front_of, leaves_of, root_of, root_over}
-use Rattle.warg_log.proofs.ForCallers.{front_is_greatest, front_of_is}
+use Rattle.warg_log.proofs.ForCallers.{front_is_greatest}
 use Rattle.warg_paths.specs.Paths.{roots_down, subproof_roots, grown, both_over}
 use Rattle.warg_witness.specs.Ranges.{IsPart, IsAround}
 use Rattle.warg_witness.specs.Ranges.IsPart.{whole as part_whole, front as part_front, rest as part_rest}

@@ -3,7 +3,7 @@ use Rattle.std.proofs.Common.{◌≡◌, ℕ, Bool, List, [], ◌∷◌, length,
 use Rattle.warg_crypto.specs.Collisions.{SomeCollision}
 use Rattle.warg_crypto.specs.Tree.{input_beside}
 use Rattle.warg_crypto.proofs.ForCallers.{HasSize, same_or_not}
-use Rattle.warg_witness.specs.Private.Turns.{IsUp, Turn, taken, climbed, AreTaken, IsTurnDivergence, IsClimb}
+use Rattle.warg_witness.specs.Private.Turns.{IsUp, Turn, taken, climbed, AreTaken, IsClimb}
 use Rattle.warg_witness.specs.declared.divergence.Divergence.{Divergence}
 use Rattle.warg_witness.specs.declared.divergence.Divergence.TheVariants.{Target}
 use Rattle.warg_witness.proofs.ClimbLemmas.{beside_parts, parts_placed, up_parts}

@@ -1,4 +1,4 @@
-use Rattle.std.proofs.Common.{refl, arith}
+use Rattle.std.proofs.Common.{refl}
 use Rattle.warg_witness.proofs.RangeLemmas.{whole_aligned, part_in}
 use Rattle.warg_witness.proofs.GrowthLemmas.{old_shown, new_shown, shared_same, shared_shown}
 use Rattle.warg_witness.proofs.paths.growth.growth_divergence.Goals as goal
