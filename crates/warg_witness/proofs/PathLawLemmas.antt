@@ -47,26 +47,6 @@ record_collides H gives index path value entries met untrue =
       }
     ]
 
--- what the two evaluations take at a branch is what they take there from two values
-at_branch : (H : List ℕ → List ℕ) (m n : ℕ) (path : List (List ℕ)) (v : List ℕ) (other_path : List (List ℕ)) (u : List ℕ) → SomeCollision H (ArePathInputs H m n (leaf_digest H v) path (leaf_digest H u) other_path)
-    → SomeCollision H (IsRecordAgreementPlaced H m n path v other_path u)
-at_branch H m n path v other_path u c = record {
-  first = c.first;
-  second = c.second;
-  collide = c.collide;
-  placed = record {
-    leaf = c.placed.leaf;
-    from = c.placed.from;
-    count = c.placed.count;
-    digests = c.placed.top ∷ c.placed.below;
-    other_digests = c.placed.other_top ∷ c.placed.other_below;
-    on_way = c.placed.on_way;
-    other_on_way = c.placed.other_on_way;
-    first_evaluation = c.placed.first_evaluation;
-    second_evaluation = c.placed.second_evaluation;
-  };
-}
-
 -- Two paths of one place that lead to one root are one, or their evaluations collide.
 abbrev pub PathIsUnique : (List ℕ → List ℕ) → Type 0
 PathIsUnique H = (m n : ℕ) (x y root : List ℕ) (xs ys : List (List ℕ)) → AreHashes xs → AreHashes ys
@@ -76,7 +56,7 @@ pub record_agreement_collides : (H : List ℕ → List ℕ) → PathIsUnique H �
     → IsRecordAgreement H index n path value other_path other → value ≢ other → SomeCollision H (IsRecordAgreementPlaced H index n path value other_path other)
 record_agreement_collides H unique index n path v other_path u sized other_sized met differ =
     elim (unique index n (leaf_digest H v) (leaf_digest H u) met.root path other_path sized other_sized met.first_is met.second_is) [
-      | inr collision ↦ at_branch H index n path v other_path u collision
+      | inr c ↦ let at = c.placed in record { first = c.first; second = c.second; collide = c.collide; placed = search at }
       | inl same ↦ record {
         first = 0 ∷ v;
         second = 0 ∷ u;

@@ -1,6 +1,6 @@
-//! What the premises of the laws that end in a collision are for: the contract of each function is the law, and it has no
-//! effect. Without any one premise the law is false. That isn't shown of one: of consistency that the digests of the old
-//! length's balanced roots have 32 bytes.
+//! What the premises of the laws that end in a collision are for. Each function is of one law and has no effect, and says of
+//! each premise, in a clause of its name, that the law is false without it. That isn't shown of one: of consistency that the
+//! digests of the old length's balanced roots have 32 bytes.
 
 ghost use Rattle.std.specs.Prelude.{◌≡◌, ◌≢◌, ◌⊎◌, ℕ, List, [], length, Option};
 ghost use Rattle.warg_crypto.specs.Collisions.{GivesHashes, AreHashes, SomeCollision};
