@@ -63,9 +63,9 @@ fn meet_path<D: SupportedDigest, V: VisitBytes, A: Allocator>(
 /// collision: what the digest function takes in the evaluation of the path (first; RFC 6962, section 2.1.1) and in
 /// the tree over the entries (second) at one range on the way to the leaf.
 ///
-/// It hashes each leaf and branch of the tree over the entries once, and besides the value and at most as many branches
-/// as four times the path's length. It fails only if allocation fails. A value or an entry of more than
-/// `usize::MAX` bytes counts as that, and so do more than 2^63 entries.
+/// It hashes each leaf and branch of the tree over the entries once, and besides the value, for a collision the entry once
+/// more, and at most as many branches as four times the path's length. It fails only if allocation fails. A value or an
+/// entry of more than `usize::MAX` bytes counts as that, and so do more than 2^63 entries.
 pub fn witness_record<D: SupportedDigest, V: VisitBytes, A: Allocator + Copy>(
     alloc: A,
     index: usize,
