@@ -155,7 +155,7 @@ absent_leads H key x root os n h few leads =
     reversed_value H (take n os) x (last_bits key 256) (length-last_bits key 256) size ∙ left_value H x (last_bits key 256) os n h ∙ leads
 
 -- the way from the root, where there are insertions
-last_of_all : (H : List ℕ → List ℕ) (e : List ℕ × List ℕ) (es : List (List ℕ × List ℕ)) → stands_over H (e ∷ es) [] (last_with (is_below H []) (e ∷ es)) ≡ true
+pub last_of_all : (H : List ℕ → List ℕ) (e : List ℕ × List ℕ) (es : List (List ℕ × List ℕ)) → stands_over H (e ∷ es) [] (last_with (is_below H []) (e ∷ es)) ≡ true
 unfolding last_with
 last_of_all H e es = by_last (last_with (is_below H []) es)
   where
@@ -163,7 +163,7 @@ last_of_all H e es = by_last (last_with (is_below H []) es)
     by_last None = refl
     by_last (Some f) = refl
 
-version_of_all : (H : List ℕ → List ℕ) (es : List (List ℕ × List ℕ)) → version H es [] ≡ length es
+pub version_of_all : (H : List ℕ → List ℕ) (es : List (List ℕ × List ℕ)) → version H es [] ≡ length es
 unfolding last_place
 version_of_all H [] = refl
 version_of_all H (e ∷ es) = rw (version_of_all H es) (more (length es))
@@ -200,7 +200,7 @@ whole_way H bytes_at root key count os more held fits some e way = rw e record {
     at_root es h = let P : List Bool → Type 0 = λ p. IsPeers H (λ k. None) (below (map_of H es) p) (last_bits key 256) more in subst P (no_bits key) h
 
 -- where there are none
-nothing_held : (H : List ℕ → List ℕ) (es : List (List ℕ × List ℕ)) → length es ≡ 0 → (q : List Bool) → get (map_of H es) q ≡ None
+pub nothing_held : (H : List ℕ → List ℕ) (es : List (List ℕ × List ℕ)) → length es ≡ 0 → (q : List Bool) → get (map_of H es) q ≡ None
 unfolding last_with
 nothing_held H [] n q = last_held H q []
 nothing_held H (e ∷ es) n q = absurd (omega arith)

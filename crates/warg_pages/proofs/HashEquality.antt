@@ -18,3 +18,10 @@ other_hashes a b r is e same =
     let both : pointwise eqb a b ≡ true = (bytes_decides a b).1 same in
     let no : not (pointwise eqb a b && true) ≡ false = rw both refl in
     absurd (let t : true ≡ false = sym e ∙ is ∙ no in cc)
+
+-- and `==`
+pub hashes_decide : (a b : List ℕ) (r : Bool) → r ≡ (pointwise eqb a b && true) → (r ≡ true → a ≡ b) × (a ≡ b → r ≡ true)
+hashes_decide a b r is = (
+  λ t. (bytes_decides a b).0 (sym (alone_and (pointwise eqb a b)) ∙ sym is ∙ t),
+  λ e. is ∙ alone_and (pointwise eqb a b) ∙ (bytes_decides a b).1 e,
+)

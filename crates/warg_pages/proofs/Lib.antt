@@ -21,6 +21,15 @@ mod SideBits
 mod BitParts
 mod HashEquality
 mod OwnWays
+mod MoreInsertions
+mod PagesAfter
+mod ChangesBelow
+mod PrefixBytes
+mod ChangedAmong
+mod SlotsAfter
+mod OwnBelow
+mod OwnUpdates
+mod FirstUpdates
 mod Refused
 mod FinalPeers
 mod PremiseLemmas

@@ -20,7 +20,7 @@ use Rattle.warg_pages.proofs.PageRoots.{HasByte, slot_byte, begins-append, root-
 use Rattle.warg_pages.proofs.KeyPrefixes.{length-bits_from, key_split}
 
 -- the last element, and its place, with one more behind
-last_with-more : {X : Type 0} (p : X → Bool) (xs : List X) (x : X) → last_with p (xs ++ x ∷ []) ≡ cond (p x) (Some x) (last_with p xs)
+pub last_with-more : {X : Type 0} (p : X → Bool) (xs : List X) (x : X) → last_with p (xs ++ x ∷ []) ≡ cond (p x) (Some x) (last_with p xs)
 unfolding last_with
 last_with-more p [] x = refl
 last_with-more p (y ∷ xs) x = rw (last_with-more p xs x) (join (p x) (last_with p xs) (cond (p y) (Some y) None) x)
@@ -29,7 +29,7 @@ last_with-more p (y ∷ xs) x = rw (last_with-more p xs x) (join (p x) (last_wit
     join true o r x = refl
     join false o r x = refl
 
-last_place-more : {X : Type 0} (p : X → Bool) (xs : List X) (x : X) → last_place p (xs ++ x ∷ []) ≡ cond (p x) (length (xs ++ x ∷ [])) (last_place p xs)
+pub last_place-more : {X : Type 0} (p : X → Bool) (xs : List X) (x : X) → last_place p (xs ++ x ∷ []) ≡ cond (p x) (length (xs ++ x ∷ [])) (last_place p xs)
 unfolding last_place
 last_place-more p [] x = refl
 last_place-more p (y ∷ xs) x = rw (last_place-more p xs x) (join (p x) (length (xs ++ x ∷ [])) (last_place p xs) (cond (p y) 1 0) some)
@@ -41,7 +41,7 @@ last_place-more p (y ∷ xs) x = rw (last_place-more p xs x) (join (p x) (length
     join true n m r e = cond-false _ _ _ e
     join false n m r e = refl
 
-list_all-more : {X : Type 0} (p : X → Bool) (xs : List X) (x : X) → p x ≡ true → list_all p (xs ++ x ∷ []) ≡ list_all p xs
+pub list_all-more : {X : Type 0} (p : X → Bool) (xs : List X) (x : X) → p x ≡ true → list_all p (xs ++ x ∷ []) ≡ list_all p xs
 list_all-more p [] x e = rw e refl
 list_all-more p (y ∷ xs) x e = rw (list_all-more p xs x e) refl
 
@@ -61,7 +61,7 @@ slot_over-other H es e p s (Some x) f =
     let l : is_lone H (es ++ e ∷ []) p x ≡ is_lone H es p x = list_all-more (λ y. not (is_below H p y) || same_bits (key_bits H x.0) (key_bits H y.0)) es e (rw f refl) in
     rw (v, d, l) refl
 
-slot_of-other : (H : List ℕ → List ℕ) (es : List (List ℕ × List ℕ)) (e : List ℕ × List ℕ) (p : List Bool) (s : ℕ) → is_below H (p ++ byte_bits s) e ≡ false → slot_of H (es ++ e ∷ []) p s ≡ slot_of H es p s
+pub slot_of-other : (H : List ℕ → List ℕ) (es : List (List ℕ × List ℕ)) (e : List ℕ × List ℕ) (p : List Bool) (s : ℕ) → is_below H (p ++ byte_bits s) e ≡ false → slot_of H (es ++ e ∷ []) p s ≡ slot_of H es p s
 slot_of-other H es e p s f =
     ap (slot_over H (es ++ e ∷ []) (p ++ byte_bits s) s) (last_with-more (is_below H (p ++ byte_bits s)) es e ∙ cond-false _ _ _ f) ∙ slot_over-other H es e (p ++ byte_bits s) s _ f
 
@@ -71,7 +71,7 @@ slot_of-same H es e p s t =
     ap (slot_over H (es ++ e ∷ []) (p ++ byte_bits s) s) (last_with-more (is_below H (p ++ byte_bits s)) es e ∙ cond-true _ _ _ t) ∙ rw v refl
 
 -- of a page's bytes one begins with a key's bits
-begins-front : (p a b : List Bool) → begins (p ++ a) (p ++ b) ≡ begins a b
+pub begins-front : (p a b : List Bool) → begins (p ++ a) (p ++ b) ≡ begins a b
 begins-front [] a b = refl
 begins-front (true ∷ p) a b = begins-front p a b
 begins-front (false ∷ p) a b = begins-front p a b
@@ -85,17 +85,17 @@ begins-same (true ∷ a) (false ∷ b) c n e = absurd (cc)
 begins-same (false ∷ a) (true ∷ b) c n e = absurd (cc)
 begins-same (false ∷ a) (false ∷ b) c n e = ap (λ t. false ∷ t) (begins-same a b c (omega arith) e)
 
-own_byte : (p rest : List Bool) (s : ℕ) → begins (p ++ byte_bits s) (p ++ (byte_bits s ++ rest)) ≡ true
+pub own_byte : (p rest : List Bool) (s : ℕ) → begins (p ++ byte_bits s) (p ++ (byte_bits s ++ rest)) ≡ true
 own_byte p rest s = begins-front p (byte_bits s) (byte_bits s ++ rest) ∙ begins-append (byte_bits s) rest
 
-other_byte : (p rest : List Bool) (s t : ℕ) → s < 256 → t < 256 → ¬ (t ≡ s) → begins (p ++ byte_bits t) (p ++ (byte_bits s ++ rest)) ≡ false
+pub other_byte : (p rest : List Bool) (s t : ℕ) → s < 256 → t < 256 → ¬ (t ≡ s) → begins (p ++ byte_bits t) (p ++ (byte_bits s ++ rest)) ≡ false
 other_byte p rest s t low lt n = begins-front p (byte_bits t) (byte_bits s ++ rest) ∙ false_from_ne_true _ (λ e. n (same e))
   where
     same : begins (byte_bits t) (byte_bits s ++ rest) ≡ true → t ≡ s
     same e = sym (number-byte_bits t lt) ∙ ap number (begins-same (byte_bits t) (byte_bits s) rest (length-bits_from (t ∷ []) 0 8 ∙ sym (length-bits_from (s ∷ []) 0 8)) e) ∙ number-byte_bits s low
 
 -- slots of functions that differ at one number
-abbrev Alike : (ℕ → Option SlotAt) → (ℕ → Option SlotAt) → ℕ → Type 0
+abbrev pub Alike : (ℕ → Option SlotAt) → (ℕ → Option SlotAt) → ℕ → Type 0
 Alike f g s = (t : ℕ) → t < 256 → ¬ (t ≡ s) → g t ≡ f t
 
 behind : (f g : ℕ → Option SlotAt) (s first n : ℕ) → Alike f g s → s < first → first + n ≤ 256 → filter_map g (numbers first n) ≡ filter_map f (numbers first n)
@@ -123,7 +123,7 @@ unfolding with_slot
 passed x first None ys h lt = refl
 passed x first (Some y) ys h lt = sym (cond-false _ _ _ (le-ltb x.byte y.byte (omega arith)) ∙ cond-false _ _ _ (false_from_ne_true _ (λ e. let same = eqb-true x.byte y.byte e in omega arith)))
 
-with_one : (f g : ℕ → Option SlotAt) (x : SlotAt) (first n : ℕ) → ((t : ℕ) → HasByte t (f t)) → Alike f g x.byte → g x.byte ≡ Some x → first ≤ x.byte → x.byte < first + n → first + n ≤ 256
+pub with_one : (f g : ℕ → Option SlotAt) (x : SlotAt) (first n : ℕ) → ((t : ℕ) → HasByte t (f t)) → Alike f g x.byte → g x.byte ≡ Some x → first ≤ x.byte → x.byte < first + n → first + n ≤ 256
     → filter_map g (numbers first n) ≡ with_slot x (filter_map f (numbers first n))
 unfolding numbers
 with_one f g x first zero i h at ge lt le = absurd (omega arith)
@@ -152,7 +152,7 @@ page_on_way H es e depth is lt =
     one_more H es e (prefix_of H e.0 depth) (last_bits (H e.0) (slot_height depth)) (slice_index (H e.0) depth) (is.are_bytes depth 0 (omega arith)) (key_split H e.0 depth lt)
 
 -- every other page
-longer : (p q k : List Bool) → begins p k ≡ false → begins (p ++ q) k ≡ false
+pub longer : (p q k : List Bool) → begins p k ≡ false → begins (p ++ q) k ≡ false
 longer [] q k f = absurd (cc)
 longer (true ∷ p) q [] f = refl
 longer (false ∷ p) q [] f = refl

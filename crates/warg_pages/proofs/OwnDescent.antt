@@ -80,7 +80,7 @@ pub record OwnSlot (H : List ℕ → List ℕ) (es : List (List ℕ × List ℕ)
   pub digest : x.digest ≡ root_of_levels H (256 - length p) (below (map_of H es) p)
   pub page : x.lone ≡ None → stands H es p ≡ true
 
-own_slot_over : (H : List ℕ → List ℕ) (es : List (List ℕ × List ℕ)) (p : List Bool) (s : ℕ) (last : Option (List ℕ × List ℕ)) (x : SlotAt) → last_with (is_below H p) es ≡ last → slot_over H es p s last ≡ Some x → OwnSlot H es p x
+pub own_slot_over : (H : List ℕ → List ℕ) (es : List (List ℕ × List ℕ)) (p : List Bool) (s : ℕ) (last : Option (List ℕ × List ℕ)) (x : SlotAt) → last_with (is_below H p) es ≡ last → slot_over H es p s last ≡ Some x → OwnSlot H es p x
 own_slot_over H es p s None x l e = absurd (cc)
 own_slot_over H es p s (Some f) x l e = record {
   version = sym (ap (λ (y : SlotAt). y.version) same);

@@ -45,7 +45,7 @@ ascends f first (suc n) i = cons (f first) (i first) (ascends f (first + 1) n i)
     cons (Some x) h up above = Ascends-cons x _ (All-weaker (λ (y : SlotAt). first + 1 ≤ y.byte) (λ (y : SlotAt). x.byte < y.byte) (λ y le. omega arith) _ above) up
 
 -- a version is at most the length
-version_within : {X : Type 0} (p : X → Bool) (xs : List X) → last_place p xs ≤ length xs
+pub version_within : {X : Type 0} (p : X → Bool) (xs : List X) → last_place p xs ≤ length xs
 unfolding last_place
 version_within p [] = omega arith
 version_within p (x ∷ xs) = either (eqb (last_place p xs) 0) (p x) (version_within p xs)

@@ -2,11 +2,12 @@
 use Rattle.std.proofs.Common.{◌≡◌, ℕ, zero, suc, ◌+◌, ◌-◌, ◌*◌, ◌<◌, Bool, true, false, not, ◌||◌, cond, eqb, List, [], ◌∷◌, ◌++◌, length, take, get_or, Option, Some, None, refl, sym, ap, subst, ◌∙◌, ◌≢◌, arith, inl, inr, append_assoc, length-append, unwrap_or}
 use Rattle.std.proofs.lemmas.Bool.{cases_Bool, and_parts, false_from_ne_true, eqb-true}
 use Rattle.std.proofs.lemmas.List.{append-nil, append_cancel_left, length-take}
+use Rattle.std.proofs.lemmas.List.Elements.{All-take}
 use Rattle.std.specs.Prelude.{IfSome}
 use Rattle.std.specs.Bool.{then_some}
 use Rattle.std.specs.Option.{option_or}
 use Rattle.std.specs.FinMap.{get}
-use Rattle.warg_crypto.specs.Digests.{IsDigest}
+use Rattle.warg_crypto.specs.Digests.{IsDigest, IsByte}
 use Rattle.warg_crypto.specs.Collisions.{GivesHashes}
 use Rattle.warg_crypto.specs.EmptyTrees.{empty_root}
 use Rattle.warg_crypto.specs.Tree.{leaf_digest}
@@ -85,13 +86,13 @@ own_value H es k depth lt is =
     ∙ sym (root_above H (slot_height depth) (below (map_of H es) p) (byte_bits s) (page_peers H depth (page_of H es p) k) (own_above H es p depth s lt n byte)) ∙ ap (λ h. root_of_levels H h (below (map_of H es) p)) height
 
 -- what a source of own pages has
-own_bytes : (H : List ℕ → List ℕ) (bytes_at : List ℕ → ℕ → Option (List ℕ)) (k digest : List ℕ) (depth number : ℕ) (es : List (List ℕ × List ℕ)) → depth < 32 → IsDigest k → IsOwnAt H bytes_at k depth digest number es
+pub own_bytes : (H : List ℕ → List ℕ) (bytes_at : List ℕ → ℕ → Option (List ℕ)) (k digest : List ℕ) (depth number : ℕ) (es : List (List ℕ × List ℕ)) → depth < 32 → IsDigest k → IsOwnAt H bytes_at k depth digest number es
     → bytes_at (take depth k) number ≡ Some (page_bytes (page_of H es (bits_from k 0 (8 * depth))))
 own_bytes H bytes_at k digest depth number es lt is own =
     let size = is.has_32 in
     let bits : bits_of_bytes (take depth k) ≡ bits_from k 0 (8 * depth) = bits_of_taken k depth (omega arith) in
     let short : length (take depth k) < 32 = let all = length-take depth k in omega arith in
-    ap (bytes_at (take depth k)) (own.is_version ∙ ap (version H es) (sym bits)) ∙ own.pages (take depth k) short (ap (stands H es) bits ∙ own.is_there) ∙ ap (λ p. Some (page_bytes (page_of H es p))) bits
+    ap (bytes_at (take depth k)) (own.is_version ∙ ap (version H es) (sym bits)) ∙ own.pages (take depth k) (All-take IsByte depth k is.are_bytes) short (ap (stands H es) bits ∙ own.is_there) ∙ ap (λ p. Some (page_bytes (page_of H es p))) bits
 
 pub own_page_is : (H : List ℕ → List ℕ) → GivesHashes H → (bytes_at : List ℕ → ℕ → Option (List ℕ)) (k digest : List ℕ) (depth number : ℕ) (page : List SlotAt) (es : List (List ℕ × List ℕ)) → depth < 32 → IsDigest k → IsPage page
     → IfSome (bytes_at (take depth k) number) (λ known. known ≡ page_bytes page) → IsOwnAt H bytes_at k depth digest number es → page ≡ page_of H es (bits_from k 0 (8 * depth))
@@ -176,7 +177,7 @@ at_own_page : (H : List ℕ → List ℕ) (es : List (List ℕ × List ℕ)) (k 
 at_own_page H es k depth page more same h = let P : List SlotAt → Type 0 = λ xs. IsPeers H (λ h. None) (below (map_of H es) (bits_from k 0 (8 * depth))) (last_bits k (256 - 8 * depth)) (page_peers H depth xs k ++ more) in subst P (sym same) h
 
 -- own slots of insertions, by cases on the last one
-begins-whole : (a b : List Bool) → length a ≡ length b → begins a b ≡ same_bits a b
+pub begins-whole : (a b : List Bool) → length a ≡ length b → begins a b ≡ same_bits a b
 begins-whole a b n = elim (cases_Bool (begins a b)) [
   | inl t ↦ (let same : a ≡ b = begins-same a b [] n (ap (begins a) (append-nil b) ∙ t) in t ∙ sym (ap (same_bits a) (sym same) ∙ same_bits-itself a))
   | inr f ↦ elim (cases_Bool (same_bits a b)) [
@@ -186,7 +187,7 @@ begins-whole a b n = elim (cases_Bool (begins a b)) [
 ]
 
 -- the version of a lone key's slot is that of its whole digest
-version_lone : (H : List ℕ → List ℕ) (p : List Bool) (e : List ℕ × List ℕ) (es : List (List ℕ × List ℕ)) → is_below H p e ≡ true → is_lone H es p e ≡ true → version H es p ≡ version H es (key_bits H e.0)
+pub version_lone : (H : List ℕ → List ℕ) (p : List Bool) (e : List ℕ × List ℕ) (es : List (List ℕ × List ℕ)) → is_below H p e ≡ true → is_lone H es p e ≡ true → version H es p ≡ version H es (key_bits H e.0)
 unfolding last_place
 version_lone H p e [] t h = refl
 version_lone H p e (x ∷ es) t h =
@@ -196,7 +197,7 @@ version_lone H p e (x ∷ es) t h =
     rw (version_lone H p e es t parts.1, whole) refl
 
 -- some insertion is below
-some_version : {X : Type 0} (p : X → Bool) (xs : List X) (e : X) → last_with p xs ≡ Some e → 0 < last_place p xs
+pub some_version : {X : Type 0} (p : X → Bool) (xs : List X) (e : X) → last_with p xs ≡ Some e → 0 < last_place p xs
 unfolding last_place last_with
 some_version p [] e h = absurd (cc)
 some_version {X = X} p (x ∷ xs) e h = either (last_with p xs) (p x) (eqb (last_place p xs) 0) refl (some_version p xs e) h
@@ -213,7 +214,7 @@ pub record OwnLone (H : List ℕ → List ℕ) (es : List (List ℕ × List ℕ)
   pub whole : x.version ≡ version H es (last_bits lone.0 256)
   pub some : 0 < x.version
 
-own_lone_over : (H : List ℕ → List ℕ) (es : List (List ℕ × List ℕ)) (p : List Bool) (s : ℕ) (last : Option (List ℕ × List ℕ)) (x : SlotAt) (lone : List ℕ × List ℕ) → last_with (is_below H p) es ≡ last → slot_over H es p s last ≡ Some x → x.lone ≡ Some lone → OwnLone H es p x lone
+pub own_lone_over : (H : List ℕ → List ℕ) (es : List (List ℕ × List ℕ)) (p : List Bool) (s : ℕ) (last : Option (List ℕ × List ℕ)) (x : SlotAt) (lone : List ℕ × List ℕ) → last_with (is_below H p) es ≡ last → slot_over H es p s last ≡ Some x → x.lone ≡ Some lone → OwnLone H es p x lone
 own_lone_over H es p s None x lone l h is = absurd (cc)
 own_lone_over H es p s (Some e) x lone l h is =
     let slot : SlotAt = record { byte = s; version = version H es p; digest = root_of_levels H (256 - length p) (below (map_of H es) p); lone = then_some {T = List ℕ × List ℕ} (is_lone H es p e) (H e.0, leaf_digest H e.1) } in
@@ -350,7 +351,7 @@ pub own_next_end : (H : List ℕ → List ℕ) → GivesHashes H → (bytes_at :
 own_next_end H gives bytes_at k digest depth number page slot es lt is page_is at there no_lone fault at_own = fault es (own_next H gives bytes_at k digest depth number page slot es lt is page_is at there no_lone at_own)
 
 -- no page stands at a whole digest
-all_one : (H : List ℕ → List ℕ) (p : List Bool) (e : List ℕ × List ℕ) (es : List (List ℕ × List ℕ)) → length p ≡ 256 → is_below H p e ≡ true → is_lone H es p e ≡ true
+pub all_one : (H : List ℕ → List ℕ) (p : List Bool) (e : List ℕ × List ℕ) (es : List (List ℕ × List ℕ)) → length p ≡ 256 → is_below H p e ≡ true → is_lone H es p e ≡ true
 all_one H p e [] n t = refl
 all_one H p e (x ∷ es) n t = rw (one (is_below H p x) refl, all_one H p e es n t) refl
   where

@@ -73,7 +73,7 @@ begins-append (true ∷ p) q = begins-append p q
 begins-append (false ∷ p) q = begins-append p q
 
 -- where no insertion is below a prefix, nothing is held there
-later_none : {X : Type 0} (later : Option X) (b : Bool) (x : X) → option_or later (cond b (Some x) None) ≡ None → (later ≡ None) × (b ≡ false)
+pub later_none : {X : Type 0} (later : Option X) (b : Bool) (x : X) → option_or later (cond b (Some x) None) ≡ None → (later ≡ None) × (b ≡ false)
 later_none None true x e = absurd (cc)
 later_none None false x e = (refl, refl)
 later_none (Some y) b x e = absurd (cc)

@@ -3,11 +3,11 @@ use Rattle.warg_pages.proofs.KeyPrefixes.{length-bits_from}
 use Rattle.warg_map.specs.Bits.{key_bits, bits_from}
 use Rattle.warg_map.proofs.ForCallers.{all_bits, last_held, same_bits-itself, same_bits-true}
 use Rattle.std.specs.FinMap.{get}
-use Rattle.std.proofs.Common.{◌≡◌, ℕ, zero, suc, ◌+◌, ◌-◌, ◌*◌, ◌^◌, ◌<◌, ◌≤◌, ◌==◌, ◌⊎◌, inl, inr, Bool, true, false, cond, nat_eq, List, [], ◌∷◌, ◌++◌, length, take, drop, Option, Some, None, if◌then◌else◌, refl, sym, ap, subst, ◌∙◌, arith, append-nil, unwrap_or}
+use Rattle.std.proofs.Common.{◌≡◌, ℕ, zero, suc, ◌+◌, ◌-◌, ◌*◌, ◌^◌, ◌<◌, ◌==◌, ◌⊎◌, inl, inr, Bool, true, false, cond, nat_eq, List, [], ◌∷◌, ◌++◌, length, take, drop, Option, Some, None, if◌then◌else◌, refl, sym, ap, subst, ◌∙◌, arith, append-nil, unwrap_or}
 use Rattle.std.specs.Prelude.{replicate}
-use Rattle.std.specs.List.{All, filter_map, cons_option}
+use Rattle.std.specs.List.{filter_map, cons_option}
 use Rattle.std.proofs.lemmas.Bool.{cases_lt, cond-false, ne_eqb, false_from_ne_true}
-use Rattle.std.proofs.lemmas.List.{take-append-drop, length-append, length-drop, length-take-le}
+use Rattle.std.proofs.lemmas.List.{take-append-drop, length-append, length-take-le}
 use Rattle.std.proofs.lemmas.List.Elements.{All-replicate, All-cons, All-nil}
 use Rattle.std.proofs.Math.Nat.{pow-suc}
 use Rattle.warg_crypto.specs.Collisions.{GivesHashes, Collides, SomeCollision}

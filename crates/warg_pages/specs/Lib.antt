@@ -8,5 +8,6 @@ pub mod PageInsertions
 pub mod GivenPages
 pub mod Private
 pub mod OwnPages
+pub mod ChangedPages
 pub mod Refusals
 pub mod ProvedKeys

@@ -1,5 +1,7 @@
 -- The pages of a list of insertions.
 use Rattle.std.specs.Prelude.{◌≡◌, ℕ, ◌<◌, Bool, true, false, not, ◌||◌, nat_eq, List, length, Option, Some, None}
+use Rattle.std.specs.List.{All}
+use Rattle.warg_crypto.specs.Digests.{IsByte}
 use Rattle.warg_map.specs.Last.{last_with}
 use Rattle.warg_pages.specs.Prefixes.{bits_of_bytes, is_below, version}
 use Rattle.warg_pages.specs.Slots.{is_lone, page_of}
@@ -16,5 +18,5 @@ stands H insertions prefix = stands_over H insertions prefix (last_with (is_belo
 
 -- What a source of pages has at a prefix of bytes and a version are the pages of these insertions: where a page stands, its bytes at its version.
 abbrev pub AreOwnPages : (List ℕ → List ℕ) → (List ℕ → ℕ → Option (List ℕ)) → List (List ℕ × List ℕ) → Type 0
-AreOwnPages H bytes_at insertions = (prefix : List ℕ) → length prefix < 32 → stands H insertions (bits_of_bytes prefix) ≡ true
+AreOwnPages H bytes_at insertions = (prefix : List ℕ) → All IsByte prefix → length prefix < 32 → stands H insertions (bits_of_bytes prefix) ≡ true
     → bytes_at prefix (version H insertions (bits_of_bytes prefix)) ≡ Some (page_bytes (page_of H insertions (bits_of_bytes prefix)))

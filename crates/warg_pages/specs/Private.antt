@@ -1,3 +1,5 @@
 -- What only clauses of private functions name; no public clause or law rests on it.
 pub mod Descents
 pub mod Finals
+pub mod Updates
+pub mod SlotUpdates

@@ -53,6 +53,16 @@ pub enum WayError {
     Memory,
 }
 
+impl From<AllocError> for WayError {
+    ghost use Rattle.warg_pages.specs.declared.error.WayError.TheVariants.{Memory};
+
+    ghost from_gives = { λ _ error. error ≡ Memory };
+
+    fn from(_error: AllocError) -> Self {
+        Self::Memory
+    }
+}
+
 impl<T: Drop> From<AllocFailed<T>> for WayError {
     ghost use Rattle.warg_pages.specs.declared.error.WayError.TheVariants.{Memory};
 

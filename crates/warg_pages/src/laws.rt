@@ -1,10 +1,13 @@
 //! Laws of the pages, over their definitions alone.
 
-ghost use Rattle.std.specs.Prelude.{◌≡◌, ◌+◌, ◌*◌, ◌-◌, ◌^◌, ◌<◌, ℕ, List, Bool, not, ◌⊎◌, Option, Some, None, cond, [], ◌∷◌, ◌++◌, length, slice_index, false};
+ghost use Rattle.std.specs.Prelude.{◌≡◌, ◌+◌, ◌*◌, ◌-◌, ◌^◌, ◌<◌, ◌≤◌, ℕ, List, Bool, not, ◌⊎◌, Option, Some, None, cond, [], ◌∷◌, ◌++◌, length, slice_index, false};
 ghost use Rattle.warg_crypto.specs.Digests.{IsDigest};
 ghost use Rattle.warg_crypto.specs.Collisions.{GivesHashes, SomeCollision};
 ghost use Rattle.warg_pages.specs.GivenPages.{HaveSameDigests, AreInputsAt};
+ghost use Rattle.std.specs.List.{All};
 ghost use Rattle.warg_pages.specs.PageBytes.{page_bytes};
+ghost use Rattle.warg_pages.specs.OwnPages.{AreOwnPages};
+ghost use Rattle.warg_pages.specs.ChangedPages.{ChangedPageAt, AreChangedPages};
 ghost use Rattle.warg_map.specs.Bits.{key_bits, last_bits};
 ghost use Rattle.warg_map.specs.Last.{same_bits};
 ghost use Rattle.warg_map.specs.Sparse.{root_of_levels, sparse_root, map_of};
@@ -61,6 +64,17 @@ pub fn page_off_way()
 pub fn own_slots()
     ensures { (H : List ℕ → List ℕ) (insertions : List (List ℕ × List ℕ)) (prefix : List Bool)
         → GivesHashes H → length insertions < 2 ^ 64 → IsPage (page_of H insertions prefix) }
+{}
+
+/// The pages that insertions change, with those before them, are the pages of all the insertions: where the changed pages
+/// are put at their names, and what stood at the older names stays.
+pub fn pages_after()
+    ensures { (H : List ℕ → List ℕ) (bytes_at after : List ℕ → ℕ → Option (List ℕ))
+        (old more : List (List ℕ × List ℕ)) (pages : List ChangedPageAt)
+        → AreOwnPages H bytes_at old → AreChangedPages H old more pages
+        → All (λ c. after c.prefix c.version ≡ Some (page_bytes c.page)) pages
+        → ((prefix : List ℕ) (number : ℕ) → number ≤ length old → after prefix number ≡ bytes_at prefix number)
+        → AreOwnPages H after (old ++ more) }
 {}
 
 /// Two pages of the same bytes are one page.

@@ -8,14 +8,19 @@
 //! The definitions that the contracts cite stand in `specs/`: read Prefixes, Slots and Pages first.
 #![tactic(auto)]
 
+mod alone;
+mod below;
 mod bits;
 mod bytes;
+mod change;
+mod changed;
 mod climb;
 mod descent;
 mod error;
 pub mod laws;
 mod lone;
 mod page;
+mod paged;
 mod path;
 mod peers;
 pub mod premises;
@@ -23,9 +28,12 @@ mod prove;
 mod root;
 mod slot;
 mod source;
+mod update;
 
+pub use changed::ChangedPage;
 pub use error::{PageError, ProveError, WayError};
 pub use page::MapPage;
+pub use paged::PagedMap;
 pub use path::page_path;
 pub use prove::{KeyInPages, prove_by_pages};
 pub use slot::{LoneKey, Slot};

@@ -1,14 +1,14 @@
 //! The pages of a map.
 
-ghost use Rattle.std.specs.Prelude.{◌≡◌, ◌≢◌, ◌<◌, ◌↔◌, ℕ, List, Err, IfOk, IsTrue};
-ghost use Rattle.std.specs.List.{All};
+ghost use Rattle.std.specs.Prelude.{◌≡◌, ◌≢◌, ◌<◌, ◌++◌, ◌↔◌, [], ℕ, List, Err, IfOk, IfErr, IfSome, IsTrue, OnOk};
+ghost use Rattle.std.specs.List.{All, cons_option};
 ghost use Rattle.std.specs.Option.{option_copied};
 ghost use Rattle.warg_pages.specs.Slots.{SlotAt, Ascends, IsPage};
 ghost use Rattle.warg_pages.specs.Pages.{page_digest, slot_at};
 ghost use Rattle.warg_pages.specs.PageBytes.{page_bytes};
 
 use crate::bytes::{first_slot, write_slot};
-use crate::error::PageError;
+use crate::error::{PageError, WayError};
 use crate::root::page_root;
 use crate::slot::Slot;
 use std::alloc::{AllocError, Allocator, Global};
@@ -73,6 +73,27 @@ impl<D, A: Allocator> MapPage<D, A> {
             write_slot(&mut bytes, slot)?;
         }
         Ok(bytes)
+    }
+
+    /// A page without slots.
+    pub(crate) fn new(alloc: A) -> MapPage<D, A>
+        ensures { result ≡ [] }
+    {
+        MapPage {
+            slots: Vec::new(alloc),
+        }
+    }
+
+    /// Puts a slot, if there is one, behind those of lower bytes.
+    pub(crate) fn put_behind(&mut self, slot: Option<Slot<D>>) -> Result<(), WayError>
+        requires { IfSome slot (λ x. All (λ y. y.byte < x.byte) self.old) }
+        ensures ok { OnOk result (self.new ≡ self.old ++ cons_option slot []) }
+        ensures err { IfErr result (λ e. e ≡ WayError.Memory) }
+    {
+        if let Some(slot) = slot {
+            self.slots.push(slot)?;
+        }
+        Ok(())
     }
 
     /// The slots, ascending by their bytes.

@@ -1,5 +1,7 @@
 //! The slots of a page.
 
+ghost use Rattle.std.specs.Prelude.{◌≡◌};
+
 use std::marker::Model;
 use warg_crypto::Hash;
 
@@ -23,6 +25,17 @@ impl<D> Model for LoneKey<D> {
 impl<D> Drop for LoneKey<D> {
     fn drop(self) {
         let LoneKey { key: _, leaf: _ } = self;
+    }
+}
+
+impl<D> LoneKey<D> {
+    pub(crate) fn copied(&self) -> LoneKey<D>
+        ensures { result ≡ self.now }
+    {
+        LoneKey {
+            key: self.key.copied(),
+            leaf: self.leaf.copied(),
+        }
     }
 }
 
@@ -61,5 +74,22 @@ impl<D> Drop for Slot<D> {
             digest: _,
             lone: _,
         } = self;
+    }
+}
+
+impl<D> Slot<D> {
+    pub(crate) fn copied(&self) -> Slot<D>
+        ensures { result ≡ self.now }
+    {
+        let lone = match &self.lone {
+            Some(lone) => Some(lone.copied()),
+            None => None,
+        };
+        Slot {
+            byte: self.byte,
+            version: self.version,
+            digest: self.digest.copied(),
+            lone,
+        }
     }
 }

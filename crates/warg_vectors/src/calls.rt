@@ -8,6 +8,7 @@ mod map_witnesses;
 mod maps;
 mod messages;
 mod nodes;
+mod page_commits;
 mod pages;
 mod paths;
 mod proofs;
@@ -117,6 +118,8 @@ fn of_map<D: SupportedDigest, M: Memory>(name: &str, call: &mut Call<'_, M>) -> 
         "witness_absent" => map_witnesses::absent::<D, M>(call),
         "witness_update" => map_witnesses::update::<D, M>(call),
         "agree_key" => map_witnesses::agree::<D, M>(call),
+        "page" => page_commits::page::<D, M>(call),
+        "pages" => page_commits::pages::<D, M>(call),
         "page_digest" => pages::page_digest::<D, M>(call),
         "get" => pages::get::<D, M>(call),
         _ => Err(Fault::BadCall),

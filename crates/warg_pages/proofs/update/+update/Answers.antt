@@ -1,0 +1,78 @@
+use Rattle.std.proofs.Common.{◌≡◌, ◌∙◌, ◌++◌, [], ◌∷◌, List, ℕ, length, sym, ap, subst, arith, append_assoc}
+use Rattle.std.proofs.lemmas.List.{append-nil}
+use Rattle.std.specs.List.{cons_option}
+use Rattle.warg_pages.specs.Prefixes.{bits_of_bytes}
+use Rattle.warg_pages.specs.Slots.{slot_of, numbers}
+use Rattle.warg_pages.specs.Pages.{page_digest}
+use Rattle.warg_pages.specs.ChangedPages.{ChangedPageAt}
+use Rattle.warg_pages.specs.Private.Updates.{IsOwnUpdate, IsUpdated, GoesBelow}
+use Rattle.warg_pages.proofs.ChangedAmong.{none_among, next_among}
+use Rattle.warg_pages.proofs.OwnUpdates.{slot_of_page, slots-more, slots_below, page_updated}
+use Rattle.warg_pages.proofs.update.+update.Goals as goal
+
+pub slot_after-returns-in_ok-digest-in-Below-clause-ok : goal.slot_after-returns-in_ok-digest-in-Below-clause-ok
+slot_after-returns-in_ok-digest-in-Below-clause-ok g t c =
+    let H = g.D.SupportedDigest.digest in
+    let bytes_at = g.P.Pages.bytes_at c.args.pages.now in
+    let prefix = c.args.update.now.prefix.items in
+    let below = c.in-Below.below in
+    let step = rw c.in-Below.is at c.in_ok-slot.ensures.ok in
+    let done = c.in_ok-digest-in-Below.ensures.ok in (
+      done.0,
+      done.1,
+      λ old more own.
+          let update = step.2 old more own in
+          let updated = done.2 old more update in
+          let P : List ℕ → Type 0 = λ p. IsOwnUpdate H bytes_at p below.version below.page below.changes.items old more in
+          let Q : List ℕ → Type 0 = λ p. IsUpdated H old more p c.in_ok-digest-in-Below.digest done.0 in
+          slot_of_page H bytes_at prefix c.args.byte below.version c.in_ok-digest-in-Below.digest below.page below.changes.items done.0 old more (subst P step.0 update) (subst Q step.0 updated),
+    )
+
+pub update_page-loop-byte-init : goal.update_page-loop-byte-init
+unfolding numbers
+update_page-loop-byte-init g t c =
+    let H = g.D.SupportedDigest.digest in
+    let none = c.new-page.ensures in record {
+      below = rw none (λ k d lt. absurd (omega arith));
+      changed = ([], sym (append-nil c.args.changed.now.items), λ old more own. (none, none_among H old more (GoesBelow c.args.update.prefix.items 0) (λ prefix kind changes. let low = kind.2 in omega arith)));
+    }
+
+pub update_page-loop-byte-preserved : goal.update_page-loop-byte-preserved
+update_page-loop-byte-preserved g t c =
+    let H = g.D.SupportedDigest.digest in
+    let prefix = c.args.update.prefix.items in
+    let byte = c.loop-byte.byte in
+    let put = c.in_ok-put_behind.ensures.ok in
+    let before = c.loop-byte.invariant.changed in
+    let step = c.in_ok-slot.ensures.ok in record {
+      below = rw put (slots_below c.loop-byte.page c.in_ok-slot.slot byte c.loop-byte.invariant.below c.in_ok-slot.ensures.byte);
+      changed = (
+        before.0 ++ step.0,
+        step.1 ∙ ap (λ l. l ++ step.0) before.1 ∙ append_assoc c.args.changed.now.items before.0 step.0,
+        λ old more own.
+            let front = before.2 old more own in
+            let here = step.2 old more own.own in (
+              put ∙ (λ i. front.0 i ++ cons_option (here.is_slot i) []) ∙ sym (slots-more (slot_of H (old ++ more) (bits_of_bytes prefix)) byte),
+              next_among H old more prefix byte before.0 step.0 front.1 here.changed,
+            ),
+      );
+    }
+
+pub update_page-returns-clause-ok : goal.update_page-returns-clause-ok
+update_page-returns-clause-ok g t c =
+    let H = g.D.SupportedDigest.digest in
+    let bytes_at = g.P.Pages.bytes_at c.args.pages.now in
+    let prefix = c.args.update.prefix.items in
+    let before = c.loop-byte.invariant.changed in
+    let end : c.loop-byte.byte ≡ 256 = omega arith in
+    let digest = c.digest-digest.ensures ∙ ap (λ (l : List ℕ). page_digest H (length l) c.loop-byte.page) c.as_slice.ensures.value in
+    let name = c.into_prefix.ensures in
+    let added = c.in_ok-add_page.ensures.ok in
+    let one : List ChangedPageAt = record { prefix = prefix; version = c.args.update.version; page = c.loop-byte.page } ∷ [] in (
+      before.0 ++ one,
+      added ∙ (λ i. before.1 i ++ record { prefix = (name i).items; version = c.args.update.version; page = c.loop-byte.page } ∷ []) ∙ append_assoc c.args.changed.now.items before.0 one,
+      λ old more own.
+          let done = rw end at (before.2 old more own) in
+          let P : List ℕ → Type 0 = λ d. IsUpdated H old more prefix d (before.0 ++ one) in
+          subst P (sym digest) (page_updated H bytes_at prefix c.args.update.version c.args.update.page c.args.update.changes.items c.loop-byte.page before.0 old more c.requires own done.0 done.1),
+    )

@@ -1,0 +1,13 @@
+-- What becomes of a slot.
+use Rattle.std.specs.Prelude.{◌≡◌, ℕ, ◌<◌, List, [], ◌∷◌, ◌++◌, length, Option, IfSome}
+use Rattle.warg_pages.specs.declared.update.SlotUpdate.{SlotUpdate}
+use Rattle.warg_pages.specs.declared.update.SlotUpdate.TheVariants.{Whole, Below}
+use Rattle.warg_pages.specs.Slots.{SlotAt}
+use Rattle.warg_pages.specs.Private.Updates.{ChangeAt, IsOwnChange, IsOwnUpdate, IsUpdatedSlot}
+
+-- A slot, as the new insertions leave it, with no page below it that they change; or the page below it, which they change.
+abbrev pub IsSlotUpdate : {D A : _} → (List ℕ → List ℕ) → (List ℕ → ℕ → Option (List ℕ)) → List ℕ → List SlotAt → List ChangeAt → ℕ → SlotUpdate D A → Type 0
+IsSlotUpdate H bytes_at prefix slots changes byte (Whole slot) = IfSome slot (λ x. x.byte ≡ byte) × ((old more : List (List ℕ × List ℕ)) → IsOwnChange H bytes_at prefix slots changes old more
+    → IsUpdatedSlot H old more prefix byte slot [])
+IsSlotUpdate H bytes_at prefix slots changes byte (Below update) = (update.prefix.items ≡ prefix ++ byte ∷ []) × (length update.prefix.items < 32) × ((old more : List (List ℕ × List ℕ)) → IsOwnChange H bytes_at prefix slots changes old more
+    → IsOwnUpdate H bytes_at update.prefix.items update.version update.page update.changes.items old more)

@@ -1,0 +1,223 @@
+//! One pass through the pages that insertions change.
+
+ghost use Rattle.std.specs.Prelude.{◌≡◌, ◌+◌, ◌<◌, ◌++◌, [], ◌∷◌, ℕ, List, length, IfOk, IfErr, IfSome, OnOk};
+ghost use Rattle.std.specs.Option.{option_copied};
+ghost use Rattle.warg_pages.specs.ChangedPages.{ChangedPageAt};
+ghost use Rattle.warg_pages.specs.Private.Updates.{IsOwnChange, IsOwnUpdate, IsUpdated, IsUpdatedSlot, IsOwnBelow, IsReadBelow};
+ghost use Rattle.warg_pages.specs.Private.SlotUpdates.{IsSlotUpdate};
+ghost use Rattle.warg_pages.specs.Refusals.{IsOfSourceUnless};
+
+use crate::alone::{lone_slot_after, stays_alone};
+use crate::below::page_below;
+use crate::change::{Change, changes_at};
+use crate::changed::ChangedPage;
+use crate::error::{ProveError, WayError};
+use crate::page::MapPage;
+use crate::slot::Slot;
+use crate::source::Pages;
+use std::alloc::Allocator;
+use warg_crypto::{Hash, SupportedDigest};
+
+/// A page that changes: as it was, with the changes below its prefix.
+pub(crate) struct PageUpdate<D, A: Allocator> {
+    pub(crate) prefix: Vec<u8, A>,
+    pub(crate) version: u64,
+    pub(crate) page: MapPage<D, A>,
+    pub(crate) changes: Vec<Change<D>, A>,
+}
+
+impl<D, A: Allocator> Drop for PageUpdate<D, A> {
+    fn drop(self) {
+        let PageUpdate {
+            prefix: _,
+            version: _,
+            page: _,
+            changes: _,
+        } = self;
+    }
+}
+
+impl<D, A: Allocator> PageUpdate<D, A> {
+    // The prefix alone.
+    fn into_prefix(self) -> Vec<u8, A>
+        ensures { result ≡ self.prefix }
+    {
+        let PageUpdate {
+            prefix,
+            version: _,
+            page: _,
+            changes: _,
+        } = self;
+        prefix
+    }
+}
+
+/// What becomes of a slot.
+pub(crate) enum SlotUpdate<D, A: Allocator> {
+    /// A slot, with no page below it that changes, or none.
+    Whole(Option<Slot<D>>),
+    /// A page below it changes.
+    Below(PageUpdate<D, A>),
+}
+
+/// Changes a page and those below it, adds them to the changed ones, each behind those below it, and gives its digest.
+#[cycle(update)]
+pub(crate) fn update_page<D: SupportedDigest, P: Pages<A>, A: Allocator + Copy>(
+    alloc: A,
+    pages: &P,
+    update: PageUpdate<D, A>,
+    changed: &mut Vec<ChangedPage<D, A>, A>,
+) -> Result<Hash<D>, ProveError<P::Error>>
+    requires { length update.prefix.items < 32 }
+    ensures ok { IfOk result (λ digest. (added : List ChangedPageAt)
+        × (changed.new.items ≡ changed.old.items ++ added)
+        × ((old more : List (List ℕ × List ℕ)) → IsOwnUpdate D.digest (P.bytes_at pages.now) update.prefix.items
+        update.version update.page update.changes.items old more
+        → IsUpdated D.digest old more update.prefix.items digest added)) }
+    ensures err { IfErr result (IsOfSourceUnless ((old more : List (List ℕ × List ℕ))
+        → IsOwnUpdate D.digest (P.bytes_at pages.now) update.prefix.items
+        update.version update.page update.changes.items old more → ⊥)) }
+{
+    let mut page = MapPage::new(alloc);
+    for byte in 0..256usize {
+        let slot = slot_after(alloc, pages, &update, byte as u8, changed)?;
+        page.put_behind(slot)?;
+    }
+    let digest = page.digest(update.prefix.as_slice().len());
+    let version = update.version;
+    add_page(changed, update.into_prefix(), version, page)?;
+    Ok(digest)
+}
+
+// The slot of a byte after the changes. The pages below it are changed and added.
+#[cycle(update)]
+fn slot_after<D: SupportedDigest, P: Pages<A>, A: Allocator + Copy>(
+    alloc: A,
+    pages: &P,
+    update: &PageUpdate<D, A>,
+    byte: u8,
+    changed: &mut Vec<ChangedPage<D, A>, A>,
+) -> Result<Option<Slot<D>>, ProveError<P::Error>>
+    requires { length update.now.prefix.items < 32 }
+    ensures byte { IfOk result (λ slot. IfSome slot (λ x. x.byte ≡ byte)) }
+    ensures ok { IfOk result (λ slot. (added : List ChangedPageAt)
+        × (changed.new.items ≡ changed.old.items ++ added)
+        × ((old more : List (List ℕ × List ℕ)) → IsOwnChange D.digest (P.bytes_at pages.now) update.now.prefix.items
+        update.now.page update.now.changes.items old more
+        → IsUpdatedSlot D.digest old more update.now.prefix.items byte slot added)) }
+    ensures err { IfErr result (IsOfSourceUnless ((old more : List (List ℕ × List ℕ))
+        → IsOwnChange D.digest (P.bytes_at pages.now) update.now.prefix.items
+        update.now.page update.now.changes.items old more → ⊥)) }
+{
+    match slot_update(alloc, pages, update, byte)? {
+        SlotUpdate::Whole(slot) => Ok(slot),
+        SlotUpdate::Below(below) => {
+            let version = below.version;
+            let digest = update_page(alloc, pages, below, changed)?;
+            Ok(Some(Slot {
+                byte,
+                version,
+                digest,
+                lone: None,
+            }))
+        }
+    }
+}
+
+// What becomes of the slot of a byte.
+fn slot_update<D: SupportedDigest, P: Pages<A>, A: Allocator + Copy>(
+    alloc: A,
+    pages: &P,
+    update: &PageUpdate<D, A>,
+    byte: u8,
+) -> Result<SlotUpdate<D, A>, ProveError<P::Error>>
+    requires { length update.now.prefix.items < 32 }
+    ensures ok { IfOk result (IsSlotUpdate D.digest (P.bytes_at pages.now) update.now.prefix.items
+        update.now.page update.now.changes.items byte) }
+    ensures err { IfErr result (IsOfSourceUnless ((old more : List (List ℕ × List ℕ))
+        → IsOwnChange D.digest (P.bytes_at pages.now) update.now.prefix.items
+        update.now.page update.now.changes.items old more → ⊥)) }
+{
+    let prefix = update.prefix.as_slice();
+    let slot = update.page.slot(byte);
+    let there = changes_at(alloc, update.changes.as_slice(), prefix.len(), byte)?;
+    let Some(last) = there.as_slice().last() else {
+        return Ok(SlotUpdate::Whole(copied_slot(slot)));
+    };
+    if stays_alone(slot, &last.key, there.as_slice()) {
+        let slot = lone_slot_after(prefix.len(), byte, slot, last)?;
+        return Ok(SlotUpdate::Whole(Some(slot)));
+    }
+    let version = last.version;
+    let below = update_below(alloc, pages, prefix, byte, slot, version, there)?;
+    Ok(SlotUpdate::Below(below))
+}
+
+// A copy of a slot, if there is one.
+fn copied_slot<D>(slot: Option<&Slot<D>>) -> Option<Slot<D>>
+    ensures { result ≡ option_copied slot.entry }
+{
+    match slot {
+        Some(slot) => Some(slot.copied()),
+        None => None,
+    }
+}
+
+// The page below the slot of a byte, as it was, with the changes there.
+fn update_below<D: SupportedDigest, P: Pages<A>, A: Allocator + Copy>(
+    alloc: A,
+    pages: &P,
+    prefix: &[u8],
+    byte: u8,
+    slot: Option<&Slot<D>>,
+    version: u64,
+    changes: Vec<Change<D>, A>,
+) -> Result<PageUpdate<D, A>, ProveError<P::Error>>
+    requires { length prefix.now < 32 }
+    ensures ok { IfOk result (λ below. (length prefix.now < 31) × (below.prefix.items ≡ prefix.now ++ byte ∷ [])
+        × (below.version ≡ version) × (below.changes.items ≡ changes.items)
+        × IsReadBelow D.digest (P.bytes_at pages.now) (prefix.now ++ byte ∷ []) (option_copied slot.entry) below.page) }
+    ensures err { IfErr result (IsOfSourceUnless (length prefix.now < 31 → (insertions : List (List ℕ × List ℕ))
+        → IsOwnBelow D.digest (P.bytes_at pages.now) (prefix.now ++ byte ∷ []) (option_copied slot.entry) insertions → ⊥)) }
+{
+    if prefix.len() == 31 {
+        return Err(ProveError::Way(WayError::WrongLoneKey));
+    }
+    let below = longer(alloc, prefix, byte)?;
+    let page = page_below(alloc, pages, below.as_slice(), slot)?;
+    Ok(PageUpdate {
+        prefix: below,
+        version,
+        page,
+        changes,
+    })
+}
+
+// A prefix and a byte behind it.
+fn longer<A: Allocator>(alloc: A, prefix: &[u8], byte: u8) -> Result<Vec<u8, A>, WayError>
+    ensures ok { IfOk result (λ below. below.items ≡ prefix.now ++ byte ∷ []) }
+    ensures err { IfErr result (λ e. e ≡ WayError.Memory) }
+{
+    let mut below = Vec::from_slice(alloc, prefix)?;
+    below.push(byte)?;
+    Ok(below)
+}
+
+// Adds a changed page.
+fn add_page<D, A: Allocator>(
+    changed: &mut Vec<ChangedPage<D, A>, A>,
+    prefix: Vec<u8, A>,
+    version: u64,
+    page: MapPage<D, A>,
+) -> Result<(), WayError>
+    ensures ok { OnOk result (changed.new.items ≡ changed.old.items
+        ++ record { prefix = prefix.items; version = version; page = page } ∷ []) }
+    ensures err { IfErr result (λ e. e ≡ WayError.Memory) }
+{
+    changed.push(ChangedPage {
+        prefix,
+        version,
+        page,
+    })?;
+    Ok(())
+}
