@@ -1,27 +1,24 @@
 -- The page at the empty prefix, before and after more insertions.
-use Rattle.std.proofs.Common.{◌≡◌, ◌≢◌, ℕ, ◌+◌, ◌^◌, ◌<◌, Bool, true, List, [], ◌∷◌, ◌++◌, length, take, Option, Some, None, refl, sym, ap, ◌∙◌, arith, length-append}
+use Rattle.std.proofs.Common.{◌≡◌, ◌≢◌, ℕ, ◌+◌, ◌^◌, ◌<◌, Bool, true, List, [], ◌∷◌, ◌++◌, length, take, Option, Some, refl, sym, ap, ◌∙◌, arith, length-append}
 use Rattle.std.proofs.lemmas.List.Elements.{All-nil}
 use Rattle.std.specs.Prelude.{IfSome}
 use Rattle.std.specs.List.{filter}
 use Rattle.std.specs.FinMap.{get}
 use Rattle.warg_crypto.specs.Digests.{IsByte}
 use Rattle.warg_crypto.specs.Collisions.{GivesHashes}
-use Rattle.warg_crypto.specs.EmptyTrees.{empty_root}
 use Rattle.warg_map.specs.Bits.{bits_from, last_bits}
 use Rattle.warg_map.specs.Sparse.{root_of_levels, sparse_root, map_of}
 use Rattle.warg_pages.specs.Prefixes.{begins, is_below, bits_of_bytes, version}
 use Rattle.warg_pages.specs.Slots.{SlotAt, IsPage, page_of}
-use Rattle.warg_pages.specs.Pages.{page_digest}
 use Rattle.warg_pages.specs.PageBytes.{page_bytes}
 use Rattle.warg_pages.specs.OwnPages.{stands}
 use Rattle.warg_pages.specs.ProvedKeys.{IsOwnSource}
 use Rattle.warg_pages.specs.ChangedPages.{ChangedPageAt, AreChangedPages}
 use Rattle.warg_pages.specs.Private.Updates.{ChangeAt, changes_from, changes_below, IsFirstPage, IsOwnUpdate, IsUpdated}
-use Rattle.warg_pages.proofs.PageRoots.{first_page, root-same, root-nothing}
 use Rattle.warg_pages.proofs.PremiseLemmas.{empty_page}
 use Rattle.warg_pages.proofs.OwnPages.{own_slots, version_within}
 use Rattle.warg_pages.proofs.OwnWays.{own_bytes, own_page_is}
-use Rattle.warg_pages.proofs.FinalPeers.{own_at_root, last_of_all, version_of_all, nothing_held}
+use Rattle.warg_pages.proofs.FinalPeers.{own_at_root, last_of_all, version_of_all}
 
 -- an own source's first page
 no_bytes : (k : List ℕ) → take 0 k ≡ []
@@ -41,17 +38,14 @@ own_first_page H gives bytes_at root count page es fits some is at own =
     own_page_is H gives bytes_at (H []) root 0 count page es (omega arith) (gives _) is at (own_at_root H bytes_at root (H []) count es fits some own) ∙ ap (page_of H es) (no_bits (H []))
 
 pub first_page_refused : (H : List ℕ → List ℕ) → GivesHashes H → (bytes_at : List ℕ → ℕ → Option (List ℕ)) (root : List ℕ) (count : ℕ) (es : List (List ℕ × List ℕ)) → count < 2 ^ 64 → ¬ (count ≡ 0)
-    → ((slots : List SlotAt) → IsPage slots → page_digest H 0 slots ≡ root → bytes_at [] count ≢ Some (page_bytes slots)) → IsOwnSource H bytes_at root count es → ⊥
+    → ((slots : List SlotAt) → IsPage slots → bytes_at [] count ≢ Some (page_bytes slots)) → IsOwnSource H bytes_at root count es → ⊥
 first_page_refused H gives bytes_at root count es fits some fault own =
     let all = own.all in
-    fault (page_of H es []) (own_slots H es [] gives (omega arith)) (first_page H es ∙ sym own.is_root) (own_first_bytes H gives bytes_at root count es fits some own)
+    fault (page_of H es []) (own_slots H es [] gives (omega arith)) (own_first_bytes H gives bytes_at root count es fits some own)
 
 -- of no insertions
-pub empty_first_page : (H : List ℕ → List ℕ) (bytes_at : List ℕ → ℕ → Option (List ℕ)) (root : List ℕ) (count : ℕ) (page : List SlotAt) → count ≡ 0 → root ≡ empty_root H 256 → page ≡ [] → IsFirstPage H bytes_at root count page
-empty_first_page H bytes_at root count page z empty e = record {
-  digest = ap (page_digest H 0) (e ∙ sym (empty_page H)) ∙ first_page H [] ∙ root-same H 256 (get (map_of H [])) (λ q. None) (nothing_held H [] refl) ∙ root-nothing H 256 ∙ sym empty;
-  own = λ es own. e ∙ none es (own.all ∙ z);
-}
+pub empty_first_page : (H : List ℕ → List ℕ) (bytes_at : List ℕ → ℕ → Option (List ℕ)) (root : List ℕ) (count : ℕ) (page : List SlotAt) → count ≡ 0 → page ≡ [] → IsFirstPage H bytes_at root count page
+empty_first_page H bytes_at root count page z e = λ es own. e ∙ none es (own.all ∙ z)
   where
     none : (es : List (List ℕ × List ℕ)) → length es ≡ 0 → [] ≡ page_of H es []
     none [] n = sym (empty_page H)
@@ -71,7 +65,7 @@ all_stand H [] some = absurd (omega arith)
 all_stand H (e ∷ es) some = last_of_all H e es
 
 pub first_update : (H : List ℕ → List ℕ) (bytes_at : List ℕ → ℕ → Option (List ℕ)) (root : List ℕ) (count : ℕ) (page : List SlotAt) (old more : List (List ℕ × List ℕ)) → 0 < length more → count + length more < 2 ^ 64 → IsFirstPage H bytes_at root count page → IsOwnSource H bytes_at root count old
-    → IsOwnUpdate H bytes_at [] (count + length more) page (changes_from H count more) old more
+    → IsOwnUpdate H bytes_at [] (count + length more) root page (changes_from H count more) old more
 first_update H bytes_at root count page old more some fits first own =
     let n = own.all in
     let size = length-append old more in
@@ -80,7 +74,7 @@ first_update H bytes_at root count page old more some fits first own =
         pages = own.pages;
         fits = omega arith;
         are_bytes = All-nil IsByte;
-        are_slots = first.own old own ∙ ap (page_of H old) (sym no_prefix);
+        are_slots = first old own ∙ ap (page_of H old) (sym no_prefix);
         are_changes = ap (λ m. changes_from H m more) (sym n) ∙ sym (all_of (changes_from H (length old) more)) ∙ ap (changes_below H (length old) more) (sym no_prefix);
       };
       changed = record {
@@ -90,7 +84,11 @@ first_update H bytes_at root count page old more some fits first own =
         later = (let v = ap (version H (old ++ more)) no_prefix ∙ version_of_all H (old ++ more) in omega arith);
       };
       is_version = (let v = ap (version H (old ++ more)) no_prefix ∙ version_of_all H (old ++ more) in omega arith);
+      is_digest = own.is_root ∙ sym (at_prefix old no_prefix);
     }
+  where
+    at_prefix : (es : List (List ℕ × List ℕ)) {p : List Bool} → p ≡ [] → root_of_levels H 256 (λ bits. get (map_of H es) (p ++ bits)) ≡ sparse_root H 256 (map_of H es)
+    at_prefix es e = ap (λ q. root_of_levels H 256 (λ bits. get (map_of H es) (q ++ bits))) e
 
 -- all pages that change
 pub all_changed : (H : List ℕ → List ℕ) (old more : List (List ℕ × List ℕ)) (digest : List ℕ) (pages : List ChangedPageAt) → IsUpdated H old more [] digest pages → AreChangedPages H old more pages

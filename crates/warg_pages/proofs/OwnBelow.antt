@@ -10,16 +10,12 @@ use Rattle.warg_crypto.specs.Collisions.{GivesHashes}
 use Rattle.warg_crypto.specs.Tree.{leaf_digest}
 use Rattle.warg_map.specs.Bits.{bits_from, last_bits, key_bits}
 use Rattle.warg_map.specs.Last.{last_with}
-use Rattle.warg_map.specs.Sparse.{root_of_levels, map_of}
-use Rattle.warg_pages.specs.Prefixes.{byte_bits, is_below, below, bits_of_bytes, version}
+use Rattle.warg_pages.specs.Prefixes.{byte_bits, is_below, bits_of_bytes, version}
 use Rattle.warg_pages.specs.Slots.{SlotAt, IsPage, is_lone, slot_over, slot_of, numbers, page_of}
-use Rattle.warg_pages.specs.Pages.{page_digest}
 use Rattle.warg_pages.specs.PageBytes.{page_bytes}
 use Rattle.warg_pages.specs.PageInsertions.{with_slot}
-use Rattle.warg_pages.specs.Private.Descents.{lone_root}
-use Rattle.warg_pages.specs.Private.Updates.{IsOwnBelow, lone_slot, slot_one_down, IsLoneBelow}
+use Rattle.warg_pages.specs.Private.Updates.{IsOwnBelow, lone_slot, slot_one_down}
 use Rattle.warg_pages.proofs.PageFormat.{one_page, same_parts}
-use Rattle.warg_pages.proofs.PageRoots.{page_root}
 use Rattle.warg_pages.proofs.KeyPrefixes.{length-bits_from}
 use Rattle.warg_pages.proofs.BitParts.{key_at}
 use Rattle.warg_pages.proofs.OwnPages.{own_slots}
@@ -29,7 +25,7 @@ use Rattle.warg_pages.proofs.LoneSlots.{lone_of, last_passes, some_same}
 use Rattle.warg_pages.proofs.OneMore.{with_one}
 use Rattle.warg_pages.proofs.MoreInsertions.{none_longer, lone_longer, lone_elsewhere}
 use Rattle.warg_pages.proofs.PrefixBytes.{length-bits, begins-more, same_bytes}
-use Rattle.warg_pages.proofs.SlotsAfter.{lone_over_is, lone_slot_is}
+use Rattle.warg_pages.proofs.SlotsAfter.{lone_slot_is}
 
 -- no slot at any byte
 no_slots : (f : ℕ → Option SlotAt) (first n : ℕ) → ((t : ℕ) → f t ≡ None) → filter_map f (numbers first n) ≡ []
@@ -77,7 +73,7 @@ one_below H gives es p depth e size lt last lone =
 
 -- what an own slot with a lone key says of it
 pub record OwnLoneBelow (H : List ℕ → List ℕ) (es : List (List ℕ × List ℕ)) (prefix : List ℕ) (x : SlotAt) (lone : List ℕ × List ℕ) : Type 0 where
-  pub checked : IsLoneBelow H prefix x lone
+  pub begins : take (length prefix) lone.0 ≡ prefix
   pub page : page_of H es (bits_of_bytes prefix) ≡ slot_one_down H prefix x.version lone ∷ []
 
 own_over : (H : List ℕ → List ℕ) → GivesHashes H → (es : List (List ℕ × List ℕ)) (prefix : List ℕ) (s : ℕ) (last : Option (List ℕ × List ℕ)) (x : SlotAt) (lone : List ℕ × List ℕ) → All IsByte prefix → length prefix < 32
@@ -95,13 +91,11 @@ own_over H gives es prefix s (Some f) x lone bytes short l e is =
     let has = is_digest.has_32 in
     let taken : length (take (length prefix) (H f.0)) ≡ length prefix = let all = length-take (length prefix) (H f.0) in omega arith in
     let begins : take (length prefix) (H f.0) ≡ prefix = same_bytes (take (length prefix) (H f.0)) prefix (All-take IsByte (length prefix) (H f.0) is_digest.are_bytes) bytes taken (bits_of_taken (H f.0) (length prefix) (omega arith) ∙ sym bits) in
-    let root : lone_root H (H f.0) (leaf_digest H f.1) (256 - 8 * length prefix) ≡ x.digest =
-    ap (λ n. lone_root H (H f.0) (leaf_digest H f.1) (256 - n)) (sym size) ∙ sym (lone_over_is H es p s f l found.0 (omega arith)) ∙ sym (ap (λ (y : SlotAt). y.digest) same) in
     let page = one_below H gives es p (length prefix) f size short l found.0 in
     let version_is : version H es p ≡ x.version = sym (ap (λ (y : SlotAt). y.version) same) in
     let P : List ℕ × List ℕ → Type 0 = λ l. OwnLoneBelow H es prefix x l in
     subst P found.1 record {
-      checked = (begins, root);
+      begins = begins;
       page = page ∙ ap (λ v. lone_slot H (length prefix) (slice_index (H f.0) (length prefix)) v (H f.0, leaf_digest H f.1) ∷ []) version_is;
     }
 
@@ -124,10 +118,5 @@ own_page_below H gives bytes_at prefix x page es short is at own none =
     one_page page (page_of H es (bits_of_bytes prefix)) is (own_slots H es (bits_of_bytes prefix) gives own.fits) (sym (rw (own_bytes_below H bytes_at prefix x es short own none) at at))
 
 pub own_page_refused : (H : List ℕ → List ℕ) → GivesHashes H → (bytes_at : List ℕ → ℕ → Option (List ℕ)) (prefix : List ℕ) (x : SlotAt) (es : List (List ℕ × List ℕ)) → length prefix < 32
-    → ((slots : List SlotAt) → IsPage slots → page_digest H (length prefix) slots ≡ x.digest → bytes_at prefix x.version ≢ Some (page_bytes slots)) → IsOwnBelow H bytes_at prefix (Some x) es → x.lone ≡ None → ⊥
-own_page_refused H gives bytes_at prefix x es short fault own none =
-    let slot = own_slot_below H bytes_at prefix x es own in
-    let size = length-bits prefix in
-    fault (page_of H es (bits_of_bytes prefix)) (own_slots H es (bits_of_bytes prefix) gives own.fits)
-    (page_root H es (bits_of_bytes prefix) (length prefix) short size ∙ ap (λ n. root_of_levels H (256 - n) (below (map_of H es) (bits_of_bytes prefix))) (sym size) ∙ sym slot.digest)
-    (own_bytes_below H bytes_at prefix x es short own none)
+    → ((slots : List SlotAt) → IsPage slots → bytes_at prefix x.version ≢ Some (page_bytes slots)) → IsOwnBelow H bytes_at prefix (Some x) es → x.lone ≡ None → ⊥
+own_page_refused H gives bytes_at prefix x es short fault own none = fault (page_of H es (bits_of_bytes prefix)) (own_slots H es (bits_of_bytes prefix) gives own.fits) (own_bytes_below H bytes_at prefix x es short own none)

@@ -17,8 +17,8 @@ use Rattle.warg_pages.specs.Pages.{slot_height, slot_at, page_digest}
 use Rattle.warg_pages.specs.OwnPages.{stands}
 use Rattle.warg_pages.specs.ChangedPages.{ChangedPageAt, page_at, ChangesAt}
 use Rattle.warg_pages.specs.Private.Descents.{lone_root}
-use Rattle.warg_pages.specs.Private.Updates.{ChangeAt, changes_from, changes_below, goes_to, IsOwnChange, IsOwnUpdate, IsUpdated, IsUpdatedSlot, IsOwnBelow, IsReadBelow, GoesOn, GoesBelow, AreChangedAmong, lone_slot, StaysAlone, HasLoneDigest}
-use Rattle.warg_pages.proofs.PageRoots.{page_root}
+use Rattle.warg_pages.specs.Private.Updates.{ChangeAt, changes_from, changes_below, goes_to, IsOwnChange, IsOwnUpdate, IsUpdated, IsUpdatedSlot, IsOwnBelow, IsReadBelow, GoesOn, GoesBelow, AreChangedAmong, lone_slot, slot_digest, StaysAlone, HasLoneDigest}
+use Rattle.warg_pages.proofs.PageRoots.{page_root, digest_of, slot_digest as same_slot_digest}
 use Rattle.warg_pages.proofs.OwnPages.{version_within}
 use Rattle.warg_pages.proofs.OwnDescent.{own_slot_at}
 use Rattle.warg_pages.proofs.LoneSlots.{last_passes, some_same, lone_of}
@@ -151,9 +151,28 @@ other_alone H gives bytes_at prefix slots changes there byte e old more lt are o
         let P : Option SlotAt → Type 0 = λ o. StaysAlone (H e.0) o xs in
         let Q : List ChangeAt → Type 0 = λ l. StaysAlone (H e.0) r l in subst Q q (subst P p h)
 
+named_digest : (H : List ℕ → List ℕ) (old : List (List ℕ × List ℕ)) (prefix : List ℕ) (byte : ℕ) (slot : Option SlotAt) → slot ≡ slot_over H old (bits_of_bytes (prefix ++ byte ∷ [])) byte (last_with (is_below H (bits_of_bytes (prefix ++ byte ∷ []))) old)
+    → slot_digest H (length prefix) slot ≡ root_of_levels H (256 - 8 * length (prefix ++ byte ∷ [])) (below (map_of H old) (bits_of_bytes (prefix ++ byte ∷ [])))
+named_digest H old prefix byte slot is =
+    let q : List Bool = bits_of_bytes (prefix ++ byte ∷ []) in
+    let size = sizes prefix byte in
+    let height : 256 - length q ≡ slot_height (length prefix) = omega arith in
+    let all : slot_height (length prefix) ≡ 256 - 8 * length (prefix ++ byte ∷ []) = let n = length-append prefix (byte ∷ []) in omega arith in
+    ap (slot_digest H (length prefix)) is ∙ as_digest (slot_over H old q byte (last_with (is_below H q) old)) ∙ same_slot_digest H (slot_height (length prefix)) old q byte (last_with (is_below H q) old) refl height ∙ ap (λ n. root_of_levels H n (below (map_of H old) q)) all
+  where
+    as_digest : (o : Option SlotAt) → slot_digest H (length prefix) o ≡ digest_of H (slot_height (length prefix)) o
+    as_digest None = refl
+    as_digest (Some x) = refl
+
+-- the digest of the page before
+pub digest_before : (H : List ℕ → List ℕ) (bytes_at : List ℕ → ℕ → Option (List ℕ)) (prefix : List ℕ) (number : ℕ) (named : List ℕ) (slots : List SlotAt) (changes : List ChangeAt) (old more : List (List ℕ × List ℕ)) → length prefix < 32
+    → IsOwnUpdate H bytes_at prefix number named slots changes old more → page_digest H (length prefix) slots ≡ named
+digest_before H bytes_at prefix number named slots changes old more short own =
+    ap (page_digest H (length prefix)) own.own.are_slots ∙ page_root H old (bits_of_bytes prefix) (length prefix) short (length-bits prefix) ∙ sym own.is_digest
+
 pub page_changes : (H : List ℕ → List ℕ) → GivesHashes H → (bytes_at : List ℕ → ℕ → Option (List ℕ)) (prefix : List ℕ) (slots : List SlotAt) (changes : List ChangeAt) (byte : ℕ) (c : ChangeAt) (page : List SlotAt) (old more : List (List ℕ × List ℕ)) → length prefix < 31 → byte < 256
     → last_of (filter (goes_to (length prefix) byte) changes) ≡ Some c → ¬ StaysAlone c.key (slot_at slots byte) (filter (goes_to (length prefix) byte) changes) → IsReadBelow H bytes_at (prefix ++ byte ∷ []) (slot_at slots byte) page
-    → IsOwnChange H bytes_at prefix slots changes old more → IsOwnUpdate H bytes_at (prefix ++ byte ∷ []) c.version page (filter (goes_to (length prefix) byte) changes) old more
+    → IsOwnChange H bytes_at prefix slots changes old more → IsOwnUpdate H bytes_at (prefix ++ byte ∷ []) c.version (slot_digest H (length prefix) (slot_at slots byte)) page (filter (goes_to (length prefix) byte) changes) old more
 page_changes H gives bytes_at prefix slots changes byte c page old more short lt last other read own =
     let q : List Bool = bits_of_bytes (prefix ++ byte ∷ []) in
     let are = changes_there H gives bytes_at prefix slots changes byte old more (omega arith) lt own in
@@ -182,6 +201,7 @@ page_changes H gives bytes_at prefix slots changes byte c page old more short lt
         later = omega arith;
       };
       is_version = number ∙ sym place;
+      is_digest = named_digest H old prefix byte (slot_at slots byte) (own_there H bytes_at prefix slots changes byte old more lt own ∙ ap (λ p. slot_over H old p byte (last_with (is_below H p) old)) (sym (bits-more prefix byte)));
     }
 
 -- two key digests don't share all their bytes
@@ -198,10 +218,10 @@ none_at_last H gives bytes_at prefix slots changes byte c old more full lt last 
     not_lone (all_one H q there.last (old ++ more) (omega arith) (last_passes (is_below H q) more there.last there.is_last))
 
 -- the slot of a page that changed
-pub slot_of_page : (H : List ℕ → List ℕ) (bytes_at : List ℕ → ℕ → Option (List ℕ)) (prefix : List ℕ) (byte number : ℕ) (digest : List ℕ) (slots : List SlotAt) (changes : List ChangeAt) (pages : List ChangedPageAt) (old more : List (List ℕ × List ℕ))
-    → IsOwnUpdate H bytes_at (prefix ++ byte ∷ []) number slots changes old more → IsUpdated H old more (prefix ++ byte ∷ []) digest pages
+pub slot_of_page : (H : List ℕ → List ℕ) (bytes_at : List ℕ → ℕ → Option (List ℕ)) (prefix : List ℕ) (byte number : ℕ) (named digest : List ℕ) (slots : List SlotAt) (changes : List ChangeAt) (pages : List ChangedPageAt) (old more : List (List ℕ × List ℕ))
+    → IsOwnUpdate H bytes_at (prefix ++ byte ∷ []) number named slots changes old more → IsUpdated H old more (prefix ++ byte ∷ []) digest pages
     → IsUpdatedSlot H old more prefix byte (Some record { byte = byte; version = number; digest = digest; lone = None }) pages
-slot_of_page H bytes_at prefix byte number digest slots changes pages old more own updated =
+slot_of_page H bytes_at prefix byte number named digest slots changes pages old more own updated =
     let q : List Bool = bits_of_bytes (prefix ++ byte ∷ []) in
     let size = sizes prefix byte in
     let all = length-bits (prefix ++ byte ∷ []) in
@@ -230,11 +250,11 @@ slots_below xs None n all is = All-append (λ (x : SlotAt). x.byte < n + 1) xs [
 slots_below xs (Some x) n all is = All-append (λ (x : SlotAt). x.byte < n + 1) xs (x ∷ []) (λ i d lt. let h = all i d lt in omega arith) (All-cons (λ (x : SlotAt). x.byte < n + 1) x [] (omega arith) (All-nil (λ (x : SlotAt). x.byte < n + 1)))
 
 -- all of them
-pub page_updated : (H : List ℕ → List ℕ) (bytes_at : List ℕ → ℕ → Option (List ℕ)) (prefix : List ℕ) (number : ℕ) (slots : List SlotAt) (changes : List ChangeAt) (fresh : List SlotAt) (pages : List ChangedPageAt) (old more : List (List ℕ × List ℕ)) → length prefix < 32
-    → IsOwnUpdate H bytes_at prefix number slots changes old more → fresh ≡ filter_map (slot_of H (old ++ more) (bits_of_bytes prefix)) (numbers 0 256) → AreChangedAmong H old more (GoesBelow prefix 256) pages
+pub page_updated : (H : List ℕ → List ℕ) (bytes_at : List ℕ → ℕ → Option (List ℕ)) (prefix : List ℕ) (number : ℕ) (named : List ℕ) (slots : List SlotAt) (changes : List ChangeAt) (fresh : List SlotAt) (pages : List ChangedPageAt) (old more : List (List ℕ × List ℕ)) → length prefix < 32
+    → IsOwnUpdate H bytes_at prefix number named slots changes old more → fresh ≡ filter_map (slot_of H (old ++ more) (bits_of_bytes prefix)) (numbers 0 256) → AreChangedAmong H old more (GoesBelow prefix 256) pages
     → IsUpdated H old more prefix (page_digest H (length prefix) fresh) (pages ++ record { prefix = prefix; version = number; page = fresh } ∷ [])
 unfolding page_of
-page_updated H bytes_at prefix number slots changes fresh pages old more short own are among =
+page_updated H bytes_at prefix number named slots changes fresh pages old more short own are among =
     let page : fresh ≡ page_of H (old ++ more) (bits_of_bytes prefix) = are in
     let named : record { prefix = prefix; version = number; page = fresh } ≡ page_at H (old ++ more) prefix = λ i. record { prefix = prefix; version = own.is_version i; page = page i } in
     let P : ChangedPageAt → Type 0 = λ c. AreChangedAmong H old more (GoesOn prefix) (pages ++ c ∷ []) in

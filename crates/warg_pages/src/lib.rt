@@ -26,6 +26,7 @@ mod peers;
 pub mod premises;
 mod prove;
 mod root;
+mod root_pair;
 mod slot;
 mod source;
 mod update;

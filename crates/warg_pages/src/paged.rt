@@ -8,12 +8,11 @@ ghost use Rattle.warg_pages.specs.ChangedPages.{AreChangedPages};
 ghost use Rattle.warg_pages.specs.Private.Updates.{IsFirstPage};
 ghost use Rattle.warg_pages.specs.Refusals.{IsOfSourceUnless};
 
-use crate::below::page_with_digest;
 use crate::change::changes_of;
 use crate::changed::ChangedPage;
-use crate::error::{ProveError, WayError};
+use crate::error::ProveError;
 use crate::page::MapPage;
-use crate::source::Pages;
+use crate::source::{Pages, read_page};
 use crate::update::{PageUpdate, update_page};
 use std::alloc::Allocator;
 use warg_crypto::{Hash, SupportedDigest, VisitBytes};
@@ -70,6 +69,7 @@ impl<D: SupportedDigest> PagedMap<D> {
         let update = PageUpdate {
             prefix: Vec::new(alloc),
             version,
+            digest: self.root.copied(),
             page,
             changes,
         };
@@ -78,22 +78,19 @@ impl<D: SupportedDigest> PagedMap<D> {
         Ok(changed)
     }
 
-    // The page at the empty prefix, if it has the map's root.
+    // The page at the empty prefix, by the source.
     fn first_page<P: Pages<A>, A: Allocator>(
         &self,
         alloc: A,
         pages: &P,
     ) -> Result<MapPage<D, A>, ProveError<P::Error>>
-        ensures ok { IfOk result (λ page. IsFirstPage D.digest (P.bytes_at pages.now) self.now.root self.now.version page) }
+        ensures ok { IfOk result (IsFirstPage D.digest (P.bytes_at pages.now) self.now.root self.now.version) }
         ensures err { IfErr result (IsOfSourceUnless ((old : List (List ℕ × List ℕ))
             → IsOwnSource D.digest (P.bytes_at pages.now) self.now.root self.now.version old → ⊥)) }
     {
-        if self.version != 0 {
-            return page_with_digest(alloc, pages, &[], self.version, &self.root);
+        if self.version == 0 {
+            return Ok(MapPage::new(alloc));
         }
-        if self.root != D::empty_tree(256) {
-            return Err(ProveError::Way(WayError::WrongDigest));
-        }
-        Ok(MapPage::new(alloc))
+        read_page(alloc, pages, &[], self.version)
     }
 }

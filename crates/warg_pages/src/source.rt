@@ -32,6 +32,7 @@ pub(crate) fn read_page<D, P: Pages<A>, A: Allocator>(
 ) -> Result<MapPage<D, A>, ProveError<P::Error>>
     ensures ok { IfOk result (λ page. IfSome (P.bytes_at pages.now prefix.now version)
         (λ known. known ≡ page_bytes page)) }
+    ensures page { IfOk result (λ page. IsPage page) }
     ensures err { IfErr result (IsOfSourceUnless ((slots : List SlotAt) → IsPage slots
         → P.bytes_at pages.now prefix.now version ≢ Some (page_bytes slots))) }
 {

@@ -2,8 +2,9 @@
 
 ghost use Rattle.std.specs.Prelude.{◌≡◌, ◌+◌, ◌<◌, ◌++◌, [], ◌∷◌, ℕ, List, length, IfOk, IfErr, IfSome, OnOk};
 ghost use Rattle.std.specs.Option.{option_copied};
+ghost use Rattle.warg_pages.specs.Pages.{page_digest};
 ghost use Rattle.warg_pages.specs.ChangedPages.{ChangedPageAt};
-ghost use Rattle.warg_pages.specs.Private.Updates.{IsOwnChange, IsOwnUpdate, IsUpdated, IsUpdatedSlot, IsOwnBelow, IsReadBelow};
+ghost use Rattle.warg_pages.specs.Private.Updates.{IsOwnChange, IsOwnUpdate, IsUpdated, IsUpdatedSlot, IsOwnBelow, IsReadBelow, slot_digest};
 ghost use Rattle.warg_pages.specs.Private.SlotUpdates.{IsSlotUpdate};
 ghost use Rattle.warg_pages.specs.Refusals.{IsOfSourceUnless};
 
@@ -13,15 +14,18 @@ use crate::change::{Change, changes_at};
 use crate::changed::ChangedPage;
 use crate::error::{ProveError, WayError};
 use crate::page::MapPage;
+use crate::root_pair::page_roots;
 use crate::slot::Slot;
 use crate::source::Pages;
 use std::alloc::Allocator;
 use warg_crypto::{Hash, SupportedDigest};
 
-/// A page that changes: as it was, with the changes below its prefix.
+/// A page that changes: as it was, with the digest that it has to have, and the changes below its prefix, of which the last
+/// one is its version.
 pub(crate) struct PageUpdate<D, A: Allocator> {
     pub(crate) prefix: Vec<u8, A>,
     pub(crate) version: u64,
+    pub(crate) digest: Hash<D>,
     pub(crate) page: MapPage<D, A>,
     pub(crate) changes: Vec<Change<D>, A>,
 }
@@ -31,6 +35,7 @@ impl<D, A: Allocator> Drop for PageUpdate<D, A> {
         let PageUpdate {
             prefix: _,
             version: _,
+            digest: _,
             page: _,
             changes: _,
         } = self;
@@ -45,6 +50,7 @@ impl<D, A: Allocator> PageUpdate<D, A> {
         let PageUpdate {
             prefix,
             version: _,
+            digest: _,
             page: _,
             changes: _,
         } = self;
@@ -72,18 +78,23 @@ pub(crate) fn update_page<D: SupportedDigest, P: Pages<A>, A: Allocator + Copy>(
     ensures ok { IfOk result (λ digest. (added : List ChangedPageAt)
         × (changed.new.items ≡ changed.old.items ++ added)
         × ((old more : List (List ℕ × List ℕ)) → IsOwnUpdate D.digest (P.bytes_at pages.now) update.prefix.items
-        update.version update.page update.changes.items old more
+        update.version update.digest update.page update.changes.items old more
         → IsUpdated D.digest old more update.prefix.items digest added)) }
+    ensures digest { OnOk result (page_digest D.digest (length update.prefix.items) update.page ≡ update.digest) }
     ensures err { IfErr result (IsOfSourceUnless ((old more : List (List ℕ × List ℕ))
         → IsOwnUpdate D.digest (P.bytes_at pages.now) update.prefix.items
-        update.version update.page update.changes.items old more → ⊥)) }
+        update.version update.digest update.page update.changes.items old more → ⊥)) }
 {
     let mut page = MapPage::new(alloc);
     for byte in 0..256usize {
         let slot = slot_after(alloc, pages, &update, byte as u8, changed)?;
         page.put_behind(slot)?;
     }
-    let digest = page.digest(update.prefix.as_slice().len());
+    let depth = update.prefix.as_slice().len();
+    let (before, digest) = page_roots(depth, update.page.slots(), page.slots());
+    if before != update.digest {
+        return Err(ProveError::Way(WayError::WrongDigest));
+    }
     let version = update.version;
     add_page(changed, update.into_prefix(), version, page)?;
     Ok(digest)
@@ -175,7 +186,9 @@ fn update_below<D: SupportedDigest, P: Pages<A>, A: Allocator + Copy>(
 ) -> Result<PageUpdate<D, A>, ProveError<P::Error>>
     requires { length prefix.now < 32 }
     ensures ok { IfOk result (λ below. (length prefix.now < 31) × (below.prefix.items ≡ prefix.now ++ byte ∷ [])
-        × (below.version ≡ version) × (below.changes.items ≡ changes.items)
+        × (below.version ≡ version)
+        × (below.digest ≡ slot_digest D.digest (length prefix.now) (option_copied slot.entry))
+        × (below.changes.items ≡ changes.items)
         × IsReadBelow D.digest (P.bytes_at pages.now) (prefix.now ++ byte ∷ []) (option_copied slot.entry) below.page) }
     ensures err { IfErr result (IsOfSourceUnless (length prefix.now < 31 → (insertions : List (List ℕ × List ℕ))
         → IsOwnBelow D.digest (P.bytes_at pages.now) (prefix.now ++ byte ∷ []) (option_copied slot.entry) insertions → ⊥)) }
@@ -188,9 +201,21 @@ fn update_below<D: SupportedDigest, P: Pages<A>, A: Allocator + Copy>(
     Ok(PageUpdate {
         prefix: below,
         version,
+        digest: digest_named(prefix.len(), slot),
         page,
         changes,
     })
+}
+
+// The digest of what stands below a slot of a page at a prefix of `depth` bytes, or that of the empty tree.
+fn digest_named<D: SupportedDigest>(depth: usize, slot: Option<&Slot<D>>) -> Hash<D>
+    requires { depth < 32 }
+    ensures { result ≡ slot_digest D.digest depth (option_copied slot.entry) }
+{
+    match slot {
+        Some(slot) => slot.digest.copied(),
+        None => D::empty_tree(248 - 8 * depth),
+    }
 }
 
 // A prefix and a byte behind it.

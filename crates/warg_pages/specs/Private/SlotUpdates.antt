@@ -10,4 +10,4 @@ abbrev pub IsSlotUpdate : {D A : _} → (List ℕ → List ℕ) → (List ℕ �
 IsSlotUpdate H bytes_at prefix slots changes byte (Whole slot) = IfSome slot (λ x. x.byte ≡ byte) × ((old more : List (List ℕ × List ℕ)) → IsOwnChange H bytes_at prefix slots changes old more
     → IsUpdatedSlot H old more prefix byte slot [])
 IsSlotUpdate H bytes_at prefix slots changes byte (Below update) = (update.prefix.items ≡ prefix ++ byte ∷ []) × (length update.prefix.items < 32) × ((old more : List (List ℕ × List ℕ)) → IsOwnChange H bytes_at prefix slots changes old more
-    → IsOwnUpdate H bytes_at update.prefix.items update.version update.page update.changes.items old more)
+    → IsOwnUpdate H bytes_at update.prefix.items update.version update.digest update.page update.changes.items old more)

@@ -1,14 +1,15 @@
 -- The pages below a prefix, as insertions change them.
-use Rattle.std.specs.Prelude.{◌≡◌, ◌≢◌, ℕ, ◌+◌, ◌-◌, ◌*◌, ◌^◌, ◌<◌, nat_eq, Bool, List, [], ◌∷◌, ◌++◌, length, slice_index, take, Option, Some, None}
+use Rattle.std.specs.Prelude.{◌≡◌, ◌≢◌, ℕ, ◌+◌, ◌-◌, ◌*◌, ◌^◌, ◌<◌, nat_eq, Bool, List, [], ◌∷◌, ◌++◌, length, slice_index, Option, Some, None}
 use Rattle.std.specs.List.{All, AllPairs, Contains, filter}
 use Rattle.warg_crypto.specs.Digests.{IsByte}
+use Rattle.warg_crypto.specs.EmptyTrees.{empty_root}
 use Rattle.warg_crypto.specs.Tree.{leaf_digest}
 use Rattle.warg_map.specs.Bits.{last_bits}
 use Rattle.warg_map.specs.Last.{last_with}
 use Rattle.warg_map.specs.Sparse.{root_of_levels, map_of}
 use Rattle.warg_pages.specs.Prefixes.{bits_of_bytes, begins, is_below, below, version}
 use Rattle.warg_pages.specs.Slots.{SlotAt, slot_over, slot_of, page_of}
-use Rattle.warg_pages.specs.Pages.{page_digest, slot_height}
+use Rattle.warg_pages.specs.Pages.{slot_height}
 use Rattle.warg_pages.specs.OwnPages.{AreOwnPages}
 use Rattle.warg_pages.specs.ProvedKeys.{IsOwnSource}
 use Rattle.warg_pages.specs.Private.Descents.{lone_root}
@@ -41,11 +42,12 @@ pub record IsOwnChange (H : List ℕ → List ℕ) (bytes_at : List ℕ → ℕ 
   pub are_slots : slots ≡ page_of H old (bits_of_bytes prefix)
   pub are_changes : changes ≡ changes_below H (length old) more (bits_of_bytes prefix)
 
--- So a page stands at the prefix, which the new ones change, and this is its version.
-pub record IsOwnUpdate (H : List ℕ → List ℕ) (bytes_at : List ℕ → ℕ → Option (List ℕ)) (prefix : List ℕ) (number : ℕ) (slots : List SlotAt) (changes : List ChangeAt) (old more : List (List ℕ × List ℕ)) : Type 0 where
+-- So a page stands at the prefix, which the new ones change: this is its version then, and its digest before.
+pub record IsOwnUpdate (H : List ℕ → List ℕ) (bytes_at : List ℕ → ℕ → Option (List ℕ)) (prefix : List ℕ) (number : ℕ) (digest : List ℕ) (slots : List SlotAt) (changes : List ChangeAt) (old more : List (List ℕ × List ℕ)) : Type 0 where
   pub own : IsOwnChange H bytes_at prefix slots changes old more
   pub changed : ChangesAt H old more prefix
   pub is_version : number ≡ version H (old ++ more) (bits_of_bytes prefix)
+  pub is_digest : digest ≡ root_of_levels H (256 - 8 * length prefix) (below (map_of H old) (bits_of_bytes prefix))
 
 -- A prefix begins with another, and goes on with a byte below this one.
 abbrev pub GoesBelow : List ℕ → ℕ → List ℕ → Type 0
@@ -92,14 +94,15 @@ lone_slot H depth byte number lone = record {
 abbrev pub slot_one_down : (List ℕ → List ℕ) → List ℕ → ℕ → List ℕ × List ℕ → SlotAt
 slot_one_down H prefix number lone = lone_slot H (length prefix) (slice_index lone.0 (length prefix)) number lone
 
--- A lone key begins with a prefix, and its tree below it has the digest of its slot.
-abbrev pub IsLoneBelow : (List ℕ → List ℕ) → List ℕ → SlotAt → List ℕ × List ℕ → Type 0
-IsLoneBelow H prefix x lone = (take (length prefix) lone.0 ≡ prefix) × (lone_root H lone.0 lone.1 (256 - 8 * length prefix) ≡ x.digest)
-
 -- The tree of a slot's lone key has the slot's digest.
 abbrev pub HasLoneDigest : (List ℕ → List ℕ) → ℕ → Option SlotAt → Type 0
 HasLoneDigest H depth None = Unit {0}
 HasLoneDigest H depth (Some x) = (lone : List ℕ × List ℕ) → x.lone ≡ Some lone → lone_root H lone.0 lone.1 (slot_height depth) ≡ x.digest
+
+-- The digest of what stands below a slot of a page at a prefix of so many bytes.
+abbrev pub slot_digest : (List ℕ → List ℕ) → ℕ → Option SlotAt → List ℕ
+slot_digest H depth None = empty_root H (slot_height depth)
+slot_digest H depth (Some x) = x.digest
 
 -- No key stands below a slot but this one.
 abbrev pub HoldsOnly : List ℕ → Option SlotAt → Type 0
@@ -114,7 +117,6 @@ StaysAlone key slot changes = HoldsOnly key slot × All (λ c. c.key ≡ key) ch
 abbrev pub IsReadBelow : (List ℕ → List ℕ) → (List ℕ → ℕ → Option (List ℕ)) → List ℕ → Option SlotAt → List SlotAt → Type 0
 IsReadBelow H bytes_at prefix slot page = (insertions : List (List ℕ × List ℕ)) → IsOwnBelow H bytes_at prefix slot insertions → page ≡ page_of H insertions (bits_of_bytes prefix)
 
--- A first page has a root, and where it is an own source's, it is the page at the empty prefix.
-pub record IsFirstPage (H : List ℕ → List ℕ) (bytes_at : List ℕ → ℕ → Option (List ℕ)) (root : List ℕ) (count : ℕ) (page : List SlotAt) : Type 0 where
-  pub digest : page_digest H 0 page ≡ root
-  pub own : (insertions : List (List ℕ × List ℕ)) → IsOwnSource H bytes_at root count insertions → page ≡ page_of H insertions []
+-- Where a source is an own one, this is the page at the empty prefix.
+abbrev pub IsFirstPage : (List ℕ → List ℕ) → (List ℕ → ℕ → Option (List ℕ)) → List ℕ → ℕ → List SlotAt → Type 0
+IsFirstPage H bytes_at root count page = (insertions : List (List ℕ × List ℕ)) → IsOwnSource H bytes_at root count insertions → page ≡ page_of H insertions []

@@ -6,8 +6,9 @@ use Rattle.warg_pages.specs.Slots.{slot_of, numbers}
 use Rattle.warg_pages.specs.Pages.{page_digest}
 use Rattle.warg_pages.specs.ChangedPages.{ChangedPageAt}
 use Rattle.warg_pages.specs.Private.Updates.{IsOwnUpdate, IsUpdated, GoesBelow}
+use Rattle.warg_pages.proofs.HashEquality.{same_hashes, other_hashes}
 use Rattle.warg_pages.proofs.ChangedAmong.{none_among, next_among}
-use Rattle.warg_pages.proofs.OwnUpdates.{slot_of_page, slots-more, slots_below, page_updated}
+use Rattle.warg_pages.proofs.OwnUpdates.{slot_of_page, slots-more, slots_below, digest_before, page_updated}
 use Rattle.warg_pages.proofs.update.+update.Goals as goal
 
 pub slot_after-returns-in_ok-digest-in-Below-clause-ok : goal.slot_after-returns-in_ok-digest-in-Below-clause-ok
@@ -23,9 +24,9 @@ slot_after-returns-in_ok-digest-in-Below-clause-ok g t c =
       λ old more own.
           let update = step.2 old more own in
           let updated = done.2 old more update in
-          let P : List ℕ → Type 0 = λ p. IsOwnUpdate H bytes_at p below.version below.page below.changes.items old more in
+          let P : List ℕ → Type 0 = λ p. IsOwnUpdate H bytes_at p below.version below.digest below.page below.changes.items old more in
           let Q : List ℕ → Type 0 = λ p. IsUpdated H old more p c.in_ok-digest-in-Below.digest done.0 in
-          slot_of_page H bytes_at prefix c.args.byte below.version c.in_ok-digest-in-Below.digest below.page below.changes.items done.0 old more (subst P step.0 update) (subst Q step.0 updated),
+          slot_of_page H bytes_at prefix c.args.byte below.version below.digest c.in_ok-digest-in-Below.digest below.page below.changes.items done.0 old more (subst P step.0 update) (subst Q step.0 updated),
     )
 
 pub update_page-loop-byte-init : goal.update_page-loop-byte-init
@@ -65,7 +66,7 @@ update_page-returns-clause-ok g t c =
     let prefix = c.args.update.prefix.items in
     let before = c.loop-byte.invariant.changed in
     let end : c.loop-byte.byte ≡ 256 = omega arith in
-    let digest = c.digest-digest.ensures ∙ ap (λ (l : List ℕ). page_digest H (length l) c.loop-byte.page) c.as_slice.ensures.value in
+    let digest : c.page_roots-before.result.1 ≡ page_digest H (length prefix) c.loop-byte.page = rw (c.slots-2.ensures.value, c.as_slice-depth.ensures.value) at c.page_roots-before.ensures.after in
     let name = c.into_prefix.ensures in
     let added = c.in_ok-add_page.ensures.ok in
     let one : List ChangedPageAt = record { prefix = prefix; version = c.args.update.version; page = c.loop-byte.page } ∷ [] in (
@@ -74,5 +75,19 @@ update_page-returns-clause-ok g t c =
       λ old more own.
           let done = rw end at (before.2 old more own) in
           let P : List ℕ → Type 0 = λ d. IsUpdated H old more prefix d (before.0 ++ one) in
-          subst P (sym digest) (page_updated H bytes_at prefix c.args.update.version c.args.update.page c.args.update.changes.items c.loop-byte.page before.0 old more c.requires own done.0 done.1),
+          subst P (sym digest) (page_updated H bytes_at prefix c.args.update.version c.args.update.digest c.args.update.page c.args.update.changes.items c.loop-byte.page before.0 old more c.requires own done.0 done.1),
     )
+
+pub update_page-returns-then-ne-clause-err : goal.update_page-returns-then-ne-clause-err
+update_page-returns-then-ne-clause-err g t c = λ old more own.
+    let H = g.D.SupportedDigest.digest in
+    let prefix = c.args.update.prefix.items in
+    let before : c.page_roots-before.result.0 ≡ page_digest H (length prefix) c.args.update.page = rw (c.slots.ensures.value, c.as_slice-depth.ensures.value) at c.page_roots-before.ensures.before in
+    other_hashes _ _ _ c.ne.ensures c.if-ne.true (before ∙ digest_before H _ prefix c.args.update.version c.args.update.digest c.args.update.page c.args.update.changes.items old more c.requires own)
+
+pub update_page-returns-clause-digest : goal.update_page-returns-clause-digest
+update_page-returns-clause-digest g t c =
+    let H = g.D.SupportedDigest.digest in
+    let prefix = c.args.update.prefix.items in
+    let before : c.page_roots-before.result.0 ≡ page_digest H (length prefix) c.args.update.page = rw (c.slots.ensures.value, c.as_slice-depth.ensures.value) at c.page_roots-before.ensures.before in
+    sym before ∙ same_hashes _ _ _ c.ne.ensures c.if-ne.false

@@ -101,9 +101,9 @@ returns-clause-ok g c =
     let back = rw (key, slot, c.as_slice-3.ensures.value, there) at c.stays_alone.ensures.1 in
     let ok = rw (c.as_slice-prefix.ensures.value, slot) at c.in_ok-below.ensures.ok in
     let few : length (prefix ++ byte ∷ []) < 32 = let n = length-append prefix (byte ∷ []) in let low = ok.0 in omega arith in
-    rw (ok.1, ok.2, ok.3, there, number) (
+    rw (ok.1, ok.2, ok.3, ok.4, there, number) (
       refl,
       few,
       λ old more own.
-          page_changes H g.met.D.SupportedDigest.is_digest _ prefix page changes byte c.in-Some.last.now c.in_ok-below.below.page old more ok.0 lt is (λ stays. let yes : c.stays_alone.result ≡ true = back stays in let no : true ≡ false = sym yes ∙ c.if-stays_alone.false in cc) ok.4 own,
+          page_changes H g.met.D.SupportedDigest.is_digest _ prefix page changes byte c.in-Some.last.now c.in_ok-below.below.page old more ok.0 lt is (λ stays. let yes : c.stays_alone.result ≡ true = back stays in let no : true ≡ false = sym yes ∙ c.if-stays_alone.false in cc) ok.5 own,
     )

@@ -27,7 +27,7 @@ returns-in_err-self-clause-refused g c =
     let items = c.new.ensures.items in
     let changes = c.in_ok-changes.ensures.ok in
     source_refused c.from_residual-in_err-self.result c.in_err-self.field-0.0 c.from_residual-in_err-self.ensures.1 (λ fault old own.
-    fault old more (first_update H _ c.args.self.now.root count c.in_ok-page.page old more some fits c.in_ok-page.ensures.ok own)) (rw (items, changes, number) at c.in_err-self.ensures.err)
+    fault old more (first_update H _ c.args.self.now.root count c.in_ok-page.page old more some fits c.in_ok-page.ensures.ok own)) (rw (items, changes, number, c.copied.ensures) at c.in_err-self.ensures.err)
 
 pub returns-clause-pages : goal.returns-clause-pages
 returns-clause-pages g c = λ old own.
@@ -41,7 +41,7 @@ returns-clause-pages g c = λ old own.
     let number : c.args.self.now.version + length c.args.insertions.now ≡ count + length more = omega arith in
     let items = c.new.ensures.items in
     let changes = c.in_ok-changes.ensures.ok in
-    let done = rw (items, changes, number) at c.in_ok-self.ensures.ok in
+    let done = rw (items, changes, number, c.copied.ensures) at c.in_ok-self.ensures.ok in
     let updated = done.2 old more (first_update H _ c.args.self.now.root count c.in_ok-page.page old more some fits c.in_ok-page.ensures.ok own) in
     let are : c.update_page.new.changed.items ≡ done.0 = done.1 ∙ ap (λ l. l ++ done.0) c.new-changed.ensures.items in
     let P : List ChangedPageAt → Type 0 = λ l. AreChangedPages H old more l in
@@ -59,6 +59,6 @@ returns-clause-root g c = λ old own.
     let number : c.args.self.now.version + length c.args.insertions.now ≡ count + length more = omega arith in
     let items = c.new.ensures.items in
     let changes = c.in_ok-changes.ensures.ok in
-    let done = rw (items, changes, number) at c.in_ok-self.ensures.ok in
+    let done = rw (items, changes, number, c.copied.ensures) at c.in_ok-self.ensures.ok in
     let updated = done.2 old more (first_update H _ c.args.self.now.root count c.in_ok-page.page old more some fits c.in_ok-page.ensures.ok own) in
     root_changed H old more c.in_ok-self.field-0 done.0 updated
