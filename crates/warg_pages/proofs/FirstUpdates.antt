@@ -14,7 +14,8 @@ use Rattle.warg_pages.specs.PageBytes.{page_bytes}
 use Rattle.warg_pages.specs.OwnPages.{stands}
 use Rattle.warg_pages.specs.ProvedKeys.{IsOwnSource}
 use Rattle.warg_pages.specs.ChangedPages.{ChangedPageAt, AreChangedPages}
-use Rattle.warg_pages.specs.Private.Updates.{ChangeAt, changes_from, changes_below, IsFirstPage, IsOwnUpdate, IsUpdated}
+use Rattle.warg_pages.specs.ChangedPages.StoodAt.{first}
+use Rattle.warg_pages.specs.Private.Updates.{AreChangesAt, IsNamedAt, ChangeAt, changes_from, changes_below, IsFirstPage, IsOwnUpdate, IsUpdated}
 use Rattle.warg_pages.proofs.PremiseLemmas.{empty_page}
 use Rattle.warg_pages.proofs.OwnPages.{own_slots, version_within}
 use Rattle.warg_pages.proofs.OwnWays.{own_bytes, own_page_is}
@@ -66,7 +67,7 @@ all_stand H (e ∷ es) some = last_of_all H e es
 
 pub first_update : (H : List ℕ → List ℕ) (bytes_at : List ℕ → ℕ → Option (List ℕ)) (root : List ℕ) (count : ℕ) (page : List SlotAt) (old more : List (List ℕ × List ℕ)) → 0 < length more → count + length more < 2 ^ 64 → IsFirstPage H bytes_at root count page → IsOwnSource H bytes_at root count old
     → IsOwnUpdate H bytes_at [] (count + length more) root page (changes_from H count more) old more
-first_update H bytes_at root count page old more some fits first own =
+first_update H bytes_at root count page old more some fits is_first own =
     let n = own.all in
     let size = length-append old more in
     record {
@@ -74,7 +75,7 @@ first_update H bytes_at root count page old more some fits first own =
         pages = own.pages;
         fits = omega arith;
         are_bytes = All-nil IsByte;
-        are_slots = first old own ∙ ap (page_of H old) (sym no_prefix);
+        are_slots = is_first old own ∙ ap (page_of H old) (sym no_prefix);
         are_changes = ap (λ m. changes_from H m more) (sym n) ∙ sym (all_of (changes_from H (length old) more)) ∙ ap (changes_below H (length old) more) (sym no_prefix);
       };
       changed = record {
@@ -115,4 +116,14 @@ none_changed H old more pages none e = rw e record {
       let le = version_within (is_below H (bits_of_bytes prefix)) (old ++ more) in
       let size = length-append old more in absurd (omega arith);
   once = λ i j d lt within. absurd (omega arith);
+}
+
+-- what stood at the empty prefix
+pub named_first : (H : List ℕ → List ℕ) (root : List ℕ) → IsNamedAt H root [] root
+named_first H root = λ slots e. first slots e
+
+pub first_changes : (H : List ℕ → List ℕ) (count : ℕ) (more : List (List ℕ × List ℕ)) → AreChangesAt H count more [] (changes_from H count more)
+first_changes H count more = record {
+  are_bytes = All-nil IsByte;
+  are_changes = sym (all_of (changes_from H count more)) ∙ ap (changes_below H count more) (sym no_prefix);
 }

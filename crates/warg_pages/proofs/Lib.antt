@@ -30,6 +30,7 @@ mod SlotsAfter
 mod OwnBelow
 mod OwnUpdates
 mod FirstUpdates
+mod WhatStood
 mod SlotDigests
 mod Refused
 mod FinalPeers

@@ -34,13 +34,17 @@ key_digests : (H : List ℕ → List ℕ) → GivesHashes H → (n : ℕ) (es : 
 key_digests H gives n [] = All-nil (λ (c : ChangeAt). IsDigest c.key)
 key_digests H gives n (x ∷ es) = All-cons (λ (c : ChangeAt). IsDigest c.key) _ (changes_from H (n + 1) es) (gives _) (key_digests H gives (n + 1) es)
 
+pub changes_next : (H : List ℕ → List ℕ) → GivesHashes H → (prefix : List ℕ) (changes : List ChangeAt) (byte n : ℕ) (more : List (List ℕ × List ℕ)) → length prefix < 32 → byte < 256
+    → changes ≡ changes_below H n more (bits_of_bytes prefix) → filter (goes_to (length prefix) byte) changes ≡ changes_below H n more (bits_of_bytes (prefix ++ byte ∷ []))
+changes_next H gives prefix changes byte n more short lt are =
+    ap (filter (goes_to (length prefix) byte)) are
+    ∙ sym (filtered_again (λ (c : ChangeAt). begins (bits_of_bytes prefix) (last_bits c.key 256)) (goes_to (length prefix) byte) (λ (c : ChangeAt). begins (bits_of_bytes prefix ++ byte_bits byte) (last_bits c.key 256)) (changes_from H n more)
+    (λ i d within. begins-more _ (bits_of_bytes prefix) (length prefix) byte (key_digests H gives n more i d within) (length-bits prefix) short lt))
+    ∙ ap (changes_below H n more) (sym (bits-more prefix byte))
+
 pub changes_there : (H : List ℕ → List ℕ) → GivesHashes H → (bytes_at : List ℕ → ℕ → Option (List ℕ)) (prefix : List ℕ) (slots : List SlotAt) (changes : List ChangeAt) (byte : ℕ) (old more : List (List ℕ × List ℕ)) → length prefix < 32 → byte < 256
     → IsOwnChange H bytes_at prefix slots changes old more → filter (goes_to (length prefix) byte) changes ≡ changes_below H (length old) more (bits_of_bytes (prefix ++ byte ∷ []))
-changes_there H gives bytes_at prefix slots changes byte old more short lt own =
-    ap (filter (goes_to (length prefix) byte)) own.are_changes
-    ∙ sym (filtered_again (λ (c : ChangeAt). begins (bits_of_bytes prefix) (last_bits c.key 256)) (goes_to (length prefix) byte) (λ (c : ChangeAt). begins (bits_of_bytes prefix ++ byte_bits byte) (last_bits c.key 256)) (changes_from H (length old) more)
-    (λ i d within. begins-more _ (bits_of_bytes prefix) (length prefix) byte (key_digests H gives (length old) more i d within) (length-bits prefix) short lt))
-    ∙ ap (changes_below H (length old) more) (sym (bits-more prefix byte))
+changes_there H gives bytes_at prefix slots changes byte old more short lt own = changes_next H gives prefix changes byte (length old) more short lt own.are_changes
 
 -- the last of them is that of the last insertion below
 pub record LastThere (H : List ℕ → List ℕ) (n : ℕ) (q : List Bool) (more : List (List ℕ × List ℕ)) (c : ChangeAt) : Type 0 where

@@ -5,6 +5,8 @@
 //! the empty prefix, where there is an insertion, and at each other prefix of whole bytes that two held key digests
 //! share. Its version is 1 and the index of the last insertion below its prefix, so prefix and version name its bytes.
 //!
+//! [`PagedMap`] is a map whose keys stand in pages alone: what it inserts changes a few of them.
+//!
 //! The definitions that the contracts cite stand in `specs/`: read Prefixes, Slots and Pages first.
 #![tactic(auto)]
 

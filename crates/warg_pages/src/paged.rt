@@ -4,7 +4,8 @@ ghost use Rattle.std.specs.Prelude.{◌≡◌, ◌+◌, ◌^◌, ◌<◌, ◌++�
 ghost use Rattle.warg_crypto.specs.EmptyTrees.{empty_root};
 ghost use Rattle.warg_map.specs.Sparse.{sparse_root, map_of, pair_bytes};
 ghost use Rattle.warg_pages.specs.ProvedKeys.{IsOwnSource};
-ghost use Rattle.warg_pages.specs.ChangedPages.{AreChangedPages};
+ghost use Rattle.std.specs.List.{All};
+ghost use Rattle.warg_pages.specs.ChangedPages.{AreChangedPages, ChangesWhatStood};
 ghost use Rattle.warg_pages.specs.Private.Updates.{IsFirstPage};
 ghost use Rattle.warg_pages.specs.Refusals.{IsOfSourceUnless};
 
@@ -38,8 +39,19 @@ impl<D: SupportedDigest> PagedMap<D> {
         }
     }
 
-    /// Inserts keys with values, in order, and gives the pages that change, each once and behind those that its slots
-    /// name. Where a key is inserted again, its last value counts.
+    /// Inserts keys with values, in order, and returns the pages that change, each once and behind those that its
+    /// slots name. Where a key is inserted again, its last value counts. No insertions change no page.
+    ///
+    /// Over the pages of a list of insertions with the map's root, these are exactly the pages of the longer list that
+    /// its new insertions change, and the new root is that of its map. Over any pages, each page that is returned is
+    /// what stood at its prefix below the old root, by digests alone, but for the slots with an insertion below them.
+    /// The refusals: `Pages` where the source has no page; `BadPage`, `WrongDigest` and `WrongLoneKey` only where its
+    /// pages aren't those of insertions with this root; or memory. A refused call leaves the map as it was.
+    ///
+    /// It reads each page that changes once. Of its branches those that stay are hashed once, those above a change
+    /// twice. A lone key that gets a new value has its way down hashed before and after; one that meets a new key has it
+    /// hashed once for each byte more that both share. The memory is that of the pages that change, and one change for
+    /// each insertion in each page on its way.
     pub fn insert_all<K: VisitBytes, V: VisitBytes, P: Pages<A>, A: Allocator + Copy>(
         &mut self,
         alloc: A,
@@ -54,6 +66,8 @@ impl<D: SupportedDigest> PagedMap<D> {
             → IsOwnSource D.digest (P.bytes_at pages.now) self.old.root self.old.version old
             → self.new.root ≡ sparse_root D.digest 256
             (map_of D.digest (old ++ pair_bytes K.bytes V.bytes insertions.now))) }
+        ensures stood { IfOk result (λ changed. All (ChangesWhatStood D.digest self.old.root
+            (pair_bytes K.bytes V.bytes insertions.now)) changed.items) }
         ensures version { OnOk result (self.new.version ≡ self.old.version + length insertions.now) }
         ensures refused { IfErr result (IsOfSourceUnless ((old : List (List ℕ × List ℕ))
             → IsOwnSource D.digest (P.bytes_at pages.now) self.old.root self.old.version old → ⊥)) }

@@ -2,9 +2,10 @@
 
 ghost use Rattle.std.specs.Prelude.{◌≡◌, ◌+◌, ◌<◌, ◌++◌, [], ◌∷◌, ℕ, List, length, IfOk, IfErr, IfSome, OnOk};
 ghost use Rattle.std.specs.Option.{option_copied};
-ghost use Rattle.warg_pages.specs.Pages.{page_digest};
-ghost use Rattle.warg_pages.specs.ChangedPages.{ChangedPageAt};
-ghost use Rattle.warg_pages.specs.Private.Updates.{IsOwnChange, IsOwnUpdate, IsUpdated, IsUpdatedSlot, IsOwnBelow, IsReadBelow, slot_digest};
+ghost use Rattle.std.specs.List.{All, filter};
+ghost use Rattle.warg_pages.specs.Pages.{page_digest, slot_at};
+ghost use Rattle.warg_pages.specs.ChangedPages.{ChangedPageAt, ChangesWhatStood};
+ghost use Rattle.warg_pages.specs.Private.Updates.{goes_to, AreChangesAt, IsNamedAt, ChangeWhatStood, IsOwnChange, IsOwnUpdate, IsUpdated, IsUpdatedSlot, IsOwnBelow, IsReadBelow, slot_digest};
 ghost use Rattle.warg_pages.specs.Private.SlotUpdates.{IsSlotUpdate};
 ghost use Rattle.warg_pages.specs.Refusals.{IsOfSourceUnless};
 
@@ -20,8 +21,8 @@ use crate::source::Pages;
 use std::alloc::Allocator;
 use warg_crypto::{Hash, SupportedDigest};
 
-/// A page that changes: as it was, with the digest that it has to have, and the changes below its prefix, of which the last
-/// one is its version.
+/// A page that changes: as it was, with the digest that it has to have, the changes below its prefix, and the version of
+/// the last one.
 pub(crate) struct PageUpdate<D, A: Allocator> {
     pub(crate) prefix: Vec<u8, A>,
     pub(crate) version: u64,
@@ -79,7 +80,10 @@ pub(crate) fn update_page<D: SupportedDigest, P: Pages<A>, A: Allocator + Copy>(
         × (changed.new.items ≡ changed.old.items ++ added)
         × ((old more : List (List ℕ × List ℕ)) → IsOwnUpdate D.digest (P.bytes_at pages.now) update.prefix.items
         update.version update.digest update.page update.changes.items old more
-        → IsUpdated D.digest old more update.prefix.items digest added)) }
+        → IsUpdated D.digest old more update.prefix.items digest added)
+        × ((root : List ℕ) (count : ℕ) (more : List (List ℕ × List ℕ)) → IsNamedAt D.digest root update.prefix.items update.digest
+        → AreChangesAt D.digest count more update.prefix.items update.changes.items
+        → All (ChangesWhatStood D.digest root more) added)) }
     ensures digest { OnOk result (page_digest D.digest (length update.prefix.items) update.page ≡ update.digest) }
     ensures err { IfErr result (IsOfSourceUnless ((old more : List (List ℕ × List ℕ))
         → IsOwnUpdate D.digest (P.bytes_at pages.now) update.prefix.items
@@ -115,7 +119,10 @@ fn slot_after<D: SupportedDigest, P: Pages<A>, A: Allocator + Copy>(
         × (changed.new.items ≡ changed.old.items ++ added)
         × ((old more : List (List ℕ × List ℕ)) → IsOwnChange D.digest (P.bytes_at pages.now) update.now.prefix.items
         update.now.page update.now.changes.items old more
-        → IsUpdatedSlot D.digest old more update.now.prefix.items byte slot added)) }
+        → IsUpdatedSlot D.digest old more update.now.prefix.items byte slot added)
+        × ChangeWhatStood D.digest update.now.prefix.items update.now.page update.now.changes.items added) }
+    ensures kept { IfOk result (λ slot. filter (goes_to (length update.now.prefix.items) byte) update.now.changes.items ≡ []
+        → slot ≡ slot_at update.now.page byte) }
     ensures err { IfErr result (IsOfSourceUnless ((old more : List (List ℕ × List ℕ))
         → IsOwnChange D.digest (P.bytes_at pages.now) update.now.prefix.items
         update.now.page update.now.changes.items old more → ⊥)) }

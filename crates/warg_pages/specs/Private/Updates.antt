@@ -9,11 +9,11 @@ use Rattle.warg_map.specs.Last.{last_with}
 use Rattle.warg_map.specs.Sparse.{root_of_levels, map_of}
 use Rattle.warg_pages.specs.Prefixes.{bits_of_bytes, begins, is_below, below, version}
 use Rattle.warg_pages.specs.Slots.{SlotAt, slot_over, slot_of, page_of}
-use Rattle.warg_pages.specs.Pages.{slot_height}
+use Rattle.warg_pages.specs.Pages.{slot_height, page_digest}
 use Rattle.warg_pages.specs.OwnPages.{AreOwnPages}
 use Rattle.warg_pages.specs.ProvedKeys.{IsOwnSource}
 use Rattle.warg_pages.specs.Private.Descents.{lone_root}
-use Rattle.warg_pages.specs.ChangedPages.{ChangedPageAt, page_at, ChangesAt}
+use Rattle.warg_pages.specs.ChangedPages.{ChangedPageAt, page_at, ChangesAt, StoodAt, ChangesWhatStood}
 
 -- What an insertion puts under a key digest: a leaf digest, as the version of what stands there.
 pub record ChangeAt : Type 0 where
@@ -62,6 +62,19 @@ pub record AreChangedAmong (H : List ℕ → List ℕ) (old more : List (List �
   pub each : All (λ c. Kind c.prefix × ChangesAt H old more c.prefix × (c ≡ page_at H (old ++ more) c.prefix)) pages
   pub all : (prefix : List ℕ) → Kind prefix → ChangesAt H old more prefix → Contains pages (page_at H (old ++ more) prefix)
   pub once : AllPairs (λ c d. c.prefix ≢ d.prefix) pages
+
+-- The changes at a prefix of bytes are those of insertions behind so many.
+pub record AreChangesAt (H : List ℕ → List ℕ) (count : ℕ) (more : List (List ℕ × List ℕ)) (prefix : List ℕ) (changes : List ChangeAt) : Type 0 where
+  pub are_bytes : All IsByte prefix
+  pub are_changes : changes ≡ changes_below H count more (bits_of_bytes prefix)
+
+-- Slots with this digest are what stood at a prefix below a root.
+abbrev pub IsNamedAt : (List ℕ → List ℕ) → List ℕ → List ℕ → List ℕ → Type 0
+IsNamedAt H root prefix digest = (slots : List SlotAt) → page_digest H (length prefix) slots ≡ digest → StoodAt H root prefix slots
+
+-- Over any pages: where slots stood at a prefix, each of the changed pages is what stood, but for what was inserted.
+abbrev pub ChangeWhatStood : (List ℕ → List ℕ) → List ℕ → List SlotAt → List ChangeAt → List ChangedPageAt → Type 0
+ChangeWhatStood H prefix slots changes pages = (root : List ℕ) (count : ℕ) (more : List (List ℕ × List ℕ)) → AreChangesAt H count more prefix changes → StoodAt H root prefix slots → All (ChangesWhatStood H root more) pages
 
 -- What stands below a prefix after the new insertions: the digest there, and the pages that change.
 pub record IsUpdated (H : List ℕ → List ℕ) (old more : List (List ℕ × List ℕ)) (prefix digest : List ℕ) (pages : List ChangedPageAt) : Type 0 where

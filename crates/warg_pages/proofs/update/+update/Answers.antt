@@ -1,13 +1,15 @@
-use Rattle.std.proofs.Common.{◌≡◌, ◌∙◌, ◌++◌, [], ◌∷◌, List, ℕ, length, sym, ap, subst, arith, append_assoc}
+use Rattle.std.proofs.Common.{◌≡◌, ◌∙◌, ◌<◌, ◌++◌, [], ◌∷◌, List, ℕ, length, sym, ap, subst, arith, append_assoc}
 use Rattle.std.proofs.lemmas.List.{append-nil}
+use Rattle.std.proofs.lemmas.List.Elements.{All-nil, All-cons, All-append}
 use Rattle.std.specs.List.{cons_option}
 use Rattle.warg_pages.specs.Prefixes.{bits_of_bytes}
 use Rattle.warg_pages.specs.Slots.{slot_of, numbers}
 use Rattle.warg_pages.specs.Pages.{page_digest}
-use Rattle.warg_pages.specs.ChangedPages.{ChangedPageAt}
+use Rattle.warg_pages.specs.ChangedPages.{ChangedPageAt, ChangesWhatStood}
 use Rattle.warg_pages.specs.Private.Updates.{IsOwnUpdate, IsUpdated, GoesBelow}
 use Rattle.warg_pages.proofs.HashEquality.{same_hashes, other_hashes}
 use Rattle.warg_pages.proofs.ChangedAmong.{none_among, next_among}
+use Rattle.warg_pages.proofs.WhatStood.{next_changes, named_next, page_stood, kept_more}
 use Rattle.warg_pages.proofs.OwnUpdates.{slot_of_page, slots-more, slots_below, digest_before, page_updated}
 use Rattle.warg_pages.proofs.update.+update.Goals as goal
 
@@ -16,18 +18,34 @@ slot_after-returns-in_ok-digest-in-Below-clause-ok g t c =
     let H = g.D.SupportedDigest.digest in
     let bytes_at = g.P.Pages.bytes_at c.args.pages.now in
     let prefix = c.args.update.now.prefix.items in
+    let changes = c.args.update.now.changes.items in
+    let byte = c.args.byte in
+    let lt : byte < 256 = omega arith in
     let below = c.in-Below.below in
     let step = rw c.in-Below.is at c.in_ok-slot.ensures.ok in
     let done = c.in_ok-digest-in-Below.ensures.ok in (
       done.0,
       done.1,
       λ old more own.
-          let update = step.2 old more own in
+          let update = step.5 old more own in
           let updated = done.2 old more update in
           let P : List ℕ → Type 0 = λ p. IsOwnUpdate H bytes_at p below.version below.digest below.page below.changes.items old more in
           let Q : List ℕ → Type 0 = λ p. IsUpdated H old more p c.in_ok-digest-in-Below.digest done.0 in
-          slot_of_page H bytes_at prefix c.args.byte below.version below.digest c.in_ok-digest-in-Below.digest below.page below.changes.items done.0 old more (subst P step.0 update) (subst Q step.0 updated),
+          slot_of_page H bytes_at prefix byte below.version below.digest c.in_ok-digest-in-Below.digest below.page below.changes.items done.0 old more (subst P step.0 update) (subst Q step.0 updated),
+      λ root count more are stood.
+          let next = next_changes H g.met.D.SupportedDigest.is_digest prefix changes byte count more c.requires lt are in
+          let named = named_next H root prefix c.args.update.now.page byte stood in
+          done.3 root count more (rw (step.0, step.2) named) (rw (step.0, step.3) next),
     )
+
+pub slot_after-returns-in_ok-digest-in-Below-clause-kept : goal.slot_after-returns-in_ok-digest-in-Below-clause-kept
+slot_after-returns-in_ok-digest-in-Below-clause-kept g t c = λ none. (let step = rw c.in-Below.is at c.in_ok-slot.ensures.ok in absurd (step.4 none))
+
+pub slot_after-returns-in-Whole-clause-ok : goal.slot_after-returns-in-Whole-clause-ok
+slot_after-returns-in-Whole-clause-ok g t c =
+    let H = g.D.SupportedDigest.digest in
+    let step = rw c.in-Whole.is at c.in_ok-slot.ensures.ok in
+    ([], sym (append-nil c.args.changed.now.items), step.2, λ root count more are stood. All-nil (ChangesWhatStood H root more))
 
 pub update_page-loop-byte-init : goal.update_page-loop-byte-init
 unfolding numbers
@@ -35,7 +53,8 @@ update_page-loop-byte-init g t c =
     let H = g.D.SupportedDigest.digest in
     let none = c.new-page.ensures in record {
       below = rw none (λ k d lt. absurd (omega arith));
-      changed = ([], sym (append-nil c.args.changed.now.items), λ old more own. (none, none_among H old more (GoesBelow c.args.update.prefix.items 0) (λ prefix kind changes. let low = kind.2 in omega arith)));
+      changed = ([], sym (append-nil c.args.changed.now.items), λ old more own. (none, none_among H old more (GoesBelow c.args.update.prefix.items 0) (λ prefix kind changes. let low = kind.2 in omega arith)), λ root count more are stood. All-nil (ChangesWhatStood H root more));
+      kept = λ s lt quiet. absurd (omega arith);
     }
 
 pub update_page-loop-byte-preserved : goal.update_page-loop-byte-preserved
@@ -56,7 +75,9 @@ update_page-loop-byte-preserved g t c =
               put ∙ (λ i. front.0 i ++ cons_option (here.is_slot i) []) ∙ sym (slots-more (slot_of H (old ++ more) (bits_of_bytes prefix)) byte),
               next_among H old more prefix byte before.0 step.0 front.1 here.changed,
             ),
+        λ root count more are stood. All-append (ChangesWhatStood H root more) before.0 step.0 (before.3 root count more are stood) (step.3 root count more are stood),
       );
+      kept = rw put (kept_more c.args.update.page c.loop-byte.page c.in_ok-slot.slot byte (length prefix) c.args.update.changes.items c.loop-byte.invariant.below c.in_ok-slot.ensures.byte c.loop-byte.invariant.kept c.in_ok-slot.ensures.kept);
     }
 
 pub update_page-returns-clause-ok : goal.update_page-returns-clause-ok
@@ -76,6 +97,11 @@ update_page-returns-clause-ok g t c =
           let done = rw end at (before.2 old more own) in
           let P : List ℕ → Type 0 = λ d. IsUpdated H old more prefix d (before.0 ++ one) in
           subst P (sym digest) (page_updated H bytes_at prefix c.args.update.version c.args.update.digest c.args.update.page c.args.update.changes.items c.loop-byte.page before.0 old more c.requires own done.0 done.1),
+      λ root count more named are.
+          let before_is : c.page_roots-before.result.0 ≡ page_digest H (length prefix) c.args.update.page = rw (c.slots.ensures.value, c.as_slice-depth.ensures.value) at c.page_roots-before.ensures.before in
+          let stood = named c.args.update.page (sym before_is ∙ same_hashes _ _ _ c.ne.ensures c.if-ne.false) in
+          All-append (ChangesWhatStood H root more) before.0 one (before.3 root count more are stood)
+          (All-cons (ChangesWhatStood H root more) _ [] (page_stood H g.met.D.SupportedDigest.is_digest root prefix c.args.update.version count more c.args.update.page c.loop-byte.page c.args.update.changes.items c.requires are stood (rw end at c.loop-byte.invariant.kept)) (All-nil (ChangesWhatStood H root more))),
     )
 
 pub update_page-returns-then-ne-clause-err : goal.update_page-returns-then-ne-clause-err

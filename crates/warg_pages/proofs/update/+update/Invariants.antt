@@ -1,9 +1,10 @@
-use Rattle.std.proofs.Common.{◌≡◌, ℕ, ◌+◌, ◌-◌, ◌*◌, ◌<◌, ◌++◌, List, length}
-use Rattle.std.specs.List.{All, filter_map}
+use Rattle.std.proofs.Common.{◌≡◌, ℕ, ◌+◌, ◌-◌, ◌*◌, ◌<◌, ◌++◌, [], List, length}
+use Rattle.std.specs.List.{All, filter, filter_map}
 use Rattle.warg_pages.specs.Prefixes.{bits_of_bytes}
 use Rattle.warg_pages.specs.Slots.{slot_of, numbers}
+use Rattle.warg_pages.specs.Pages.{slot_at}
 use Rattle.warg_pages.specs.ChangedPages.{ChangedPageAt}
-use Rattle.warg_pages.specs.Private.Updates.{IsOwnUpdate, GoesBelow, AreChangedAmong}
+use Rattle.warg_pages.specs.Private.Updates.{IsOwnUpdate, GoesBelow, AreChangedAmong, ChangeWhatStood, goes_to}
 use Rattle.warg_pages.proofs.update.+update.Given as goal
 
 abbrev pub decreases-update_page : goal.decreases-update_page
@@ -17,5 +18,7 @@ invariant-update_page-loop-byte g l = record {
   below : All (λ x. x.byte < l.byte) l.page;
   changed : (added : List ChangedPageAt) × (l.changed.items ≡ l.fn.changed.items ++ added)
       × ((old more : List (List ℕ × List ℕ)) → IsOwnUpdate g.D.SupportedDigest.digest (g.P.Pages.bytes_at l.pages) l.update.prefix.items l.update.version l.update.digest l.update.page l.update.changes.items old more
-      → (l.page ≡ filter_map (slot_of g.D.SupportedDigest.digest (old ++ more) (bits_of_bytes l.update.prefix.items)) (numbers 0 l.byte)) × AreChangedAmong g.D.SupportedDigest.digest old more (GoesBelow l.update.prefix.items l.byte) added);
+      → (l.page ≡ filter_map (slot_of g.D.SupportedDigest.digest (old ++ more) (bits_of_bytes l.update.prefix.items)) (numbers 0 l.byte)) × AreChangedAmong g.D.SupportedDigest.digest old more (GoesBelow l.update.prefix.items l.byte) added)
+      × ChangeWhatStood g.D.SupportedDigest.digest l.update.prefix.items l.update.page l.update.changes.items added;
+  kept : (s : ℕ) → s < l.byte → filter (goes_to (length l.update.prefix.items) s) l.update.changes.items ≡ [] → slot_at l.page s ≡ slot_at l.update.page s;
 }

@@ -1,4 +1,4 @@
-use Rattle.std.proofs.Common.{◌≡◌, ◌∙◌, ◌-◌, ◌<◌, ◌++◌, [], ◌∷◌, Some, true, false, length, refl, sym, ap, arith, inl, inr, length-append}
+use Rattle.std.proofs.Common.{◌≡◌, ◌∙◌, None, ◌-◌, ◌<◌, ◌++◌, [], ◌∷◌, Some, true, false, length, refl, sym, ap, arith, inl, inr, length-append}
 use Rattle.std.proofs.lemmas.Bool.{cases_lt}
 use Rattle.std.specs.Option.{option_copied}
 use Rattle.std.specs.List.{filter, slice_get}
@@ -23,7 +23,7 @@ returns-in_default-clause-ok g c =
     let got : slice_get c.in_ok-there.there.items (length c.in_ok-there.there.items - 1) ≡ option_copied c.last.result = sym (rw c.as_slice-2.ensures.value at c.last.ensures.value) in
     let last : last_of (filter (goes_to (length prefix) byte) changes) ≡ option_copied c.last.result = ap last_of (sym there) ∙ sym (last_of-get c.in_ok-there.there.items) ∙ got in
     let same : c.copied_slot.result ≡ slot_at page byte = c.copied_slot.ensures ∙ slot in
-    rw same (slot_at-byte page byte, λ old more own. slot_stays H g.met.D.SupportedDigest.is_digest _ prefix page changes byte old more short lt (last ∙ ap option_copied c.in_default.is) own)
+    rw same (slot_at-byte page byte, λ none. refl, λ old more own. slot_stays H g.met.D.SupportedDigest.is_digest _ prefix page changes byte old more short lt (last ∙ ap option_copied c.in_default.is) own)
 
 pub returns-in_err-slot-clause-err : goal.returns-in_err-slot-clause-err
 returns-in_err-slot-clause-err g c =
@@ -57,7 +57,7 @@ returns-then-stays_alone-clause-ok g c =
     let is : last_of (filter (goes_to (length prefix) byte) changes) ≡ Some c.in-Some.last.now = last ∙ ap option_copied c.in-Some.is in
     let stays : StaysAlone c.in-Some.last.now.key (slot_at page byte) (filter (goes_to (length prefix) byte) changes) = rw (key, slot, c.as_slice-3.ensures.value, there) at (c.stays_alone.ensures.0 c.if-stays_alone.true) in
     let new : c.in_ok-slot.slot ≡ lone_slot H (length prefix) byte c.in-Some.last.now.version (c.in-Some.last.now.key, c.in-Some.last.now.leaf) = rw c.as_slice-prefix.ensures.value at c.in_ok-slot.ensures.ok in
-    rw new (refl, λ old more own. slot_alone H g.met.D.SupportedDigest.is_digest _ prefix page changes byte c.in-Some.last.now old more short lt is stays own)
+    rw new (refl, λ none. absurd (let no : None ≡ Some c.in-Some.last.now = sym (ap last_of none) ∙ is in cc), λ old more own. slot_alone H g.met.D.SupportedDigest.is_digest _ prefix page changes byte c.in-Some.last.now old more short lt is stays own)
 
 pub returns-in_err-below-clause-err : goal.returns-in_err-below-clause-err
 returns-in_err-below-clause-err g c =
@@ -104,6 +104,9 @@ returns-clause-ok g c =
     rw (ok.1, ok.2, ok.3, ok.4, there, number) (
       refl,
       few,
+      refl,
+      refl,
+      λ none. (let no : None ≡ Some c.in-Some.last.now = sym (ap last_of none) ∙ is in cc),
       λ old more own.
           page_changes H g.met.D.SupportedDigest.is_digest _ prefix page changes byte c.in-Some.last.now c.in_ok-below.below.page old more ok.0 lt is (λ stays. let yes : c.stays_alone.result ≡ true = back stays in let no : true ≡ false = sym yes ∙ c.if-stays_alone.false in cc) ok.5 own,
     )

@@ -1,10 +1,11 @@
 use Rattle.std.proofs.Common.{◌≡◌, ◌∙◌, ◌+◌, ◌<◌, ◌^◌, ◌++◌, List, length, sym, ap, subst, arith}
 use Rattle.std.proofs.lemmas.Bool.{eqb-true, eqb-false}
 use Rattle.std.proofs.lemmas.List.{length-map}
+use Rattle.std.proofs.lemmas.List.Elements.{All-nil}
 use Rattle.warg_map.specs.Sparse.{pair_bytes}
-use Rattle.warg_pages.specs.ChangedPages.{ChangedPageAt, AreChangedPages}
+use Rattle.warg_pages.specs.ChangedPages.{ChangedPageAt, AreChangedPages, ChangesWhatStood}
 use Rattle.warg_pages.proofs.Refused.{source_refused}
-use Rattle.warg_pages.proofs.FirstUpdates.{first_update, all_changed, root_changed, none_changed}
+use Rattle.warg_pages.proofs.FirstUpdates.{first_update, all_changed, root_changed, none_changed, named_first, first_changes}
 use Rattle.warg_pages.proofs.paged.PagedMap.insert_all.Goals as goal
 
 pub returns-then-is_empty-clause-pages : goal.returns-then-is_empty-clause-pages
@@ -62,3 +63,25 @@ returns-clause-root g c = λ old own.
     let done = rw (items, changes, number, c.copied.ensures) at c.in_ok-self.ensures.ok in
     let updated = done.2 old more (first_update H _ c.args.self.now.root count c.in_ok-page.page old more some fits c.in_ok-page.ensures.ok own) in
     root_changed H old more c.in_ok-self.field-0 done.0 updated
+
+pub returns-clause-stood : goal.returns-clause-stood
+returns-clause-stood g c =
+    let H = g.D.SupportedDigest.digest in
+    let more = pair_bytes g.K.VisitBytes.bytes g.V.VisitBytes.bytes c.args.insertions.now in
+    let count = c.args.self.now.version in
+    let size : length more ≡ length c.args.insertions.now = length-map c.args.insertions.now _ in
+    let no = eqb-false (length c.args.insertions.now) 0 (sym c.is_empty.ensures ∙ c.if-is_empty.false) in
+    let some : 0 < length more = omega arith in
+    let fits : count + length more < 2 ^ 64 = let all = c.requires in omega arith in
+    let number : c.args.self.now.version + length c.args.insertions.now ≡ count + length more = omega arith in
+    let items = c.new.ensures.items in
+    let changes = c.in_ok-changes.ensures.ok in
+    let done = rw (items, changes, number, c.copied.ensures) at c.in_ok-self.ensures.ok in
+    let are : c.update_page.new.changed.items ≡ done.0 = done.1 ∙ ap (λ l. l ++ done.0) c.new-changed.ensures.items in
+    rw are (done.3 c.args.self.now.root count more (named_first H c.args.self.now.root) (first_changes H count more))
+
+pub returns-then-is_empty-clause-stood : goal.returns-then-is_empty-clause-stood
+returns-then-is_empty-clause-stood g c =
+    let H = g.D.SupportedDigest.digest in
+    let more = pair_bytes g.K.VisitBytes.bytes g.V.VisitBytes.bytes c.args.insertions.now in
+    rw c.new-changed.ensures.items (All-nil (ChangesWhatStood H c.args.self.now.root more))
