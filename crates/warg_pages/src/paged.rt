@@ -39,8 +39,8 @@ impl<D: SupportedDigest> PagedMap<D> {
         }
     }
 
-    /// Inserts keys with values, in order, and returns the pages that change, each once and behind those that its
-    /// slots name. Where a key is inserted again, its last value counts. No insertions change no page.
+    /// Inserts keys with values, in order, and returns the pages that change, each once. Where a key is inserted
+    /// again, its last value counts. No insertions change no page.
     ///
     /// Over the pages of a list of insertions with the map's root, these are exactly the pages of the longer list that
     /// its new insertions change, and the new root is that of its map. Over any pages, each page that is returned is

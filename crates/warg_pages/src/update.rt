@@ -67,7 +67,7 @@ pub(crate) enum SlotUpdate<D, A: Allocator> {
     Below(PageUpdate<D, A>),
 }
 
-/// Changes a page and those below it, adds them to the changed ones, each behind those below it, and gives its digest.
+/// Changes a page and those below it, adds them to the changed ones, and gives its digest.
 #[cycle(update)]
 pub(crate) fn update_page<D: SupportedDigest, P: Pages<A>, A: Allocator + Copy>(
     alloc: A,

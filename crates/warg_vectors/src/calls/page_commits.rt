@@ -1,5 +1,7 @@
 //! The pages that insertions write, as a map kept in pages alone hands them out.
 
+ghost use Rattle.std.specs.Prelude.{◌≤◌, length};
+
 use crate::answer::Item;
 use crate::call::Call;
 use crate::calls::maps::{BytesMap, Pair, grown};
@@ -135,12 +137,19 @@ impl<D: SupportedDigest, M: Memory> Kept<D, M> {
 
 // Puts a name before those of greater prefixes.
 fn put_in_order(names: &mut Vec<Name>, name: Name) -> Result<(), AllocError> {
-    let mut at = 0;
-    for other in names.as_slice() {
-        if other.prefix.as_slice() <= name.prefix.as_slice() {
-            at += 1;
-        }
-    }
+    let at = place_of(names.as_slice(), name.prefix.as_slice());
     names.insert(at, name)?;
     Ok(())
+}
+
+// Where the first name of a greater prefix stands.
+fn place_of(names: &[Name], prefix: &[u8]) -> usize
+    ensures { result ≤ length names.now }
+{
+    for at in 0..names.len() {
+        if prefix < names[at].prefix.as_slice() {
+            return at;
+        }
+    }
+    names.len()
 }
