@@ -18,7 +18,7 @@ use Rattle.warg_tiles.proofs.ForCallers.{full_tiles, partial_of, own_tile, bundl
 use Rattle.warg_store.specs.Files.{File, Files, put, IsNameOf}
 use Rattle.warg_store.specs.Names.{checkpoint, state, staged, is_staged, is_served}
 use Rattle.warg_store.specs.Opening.{IsBeside, IsStaging, NothingStaged, opened, opened_by}
-use Rattle.warg_store.specs.Log.{LogOf, said_of, Keeps, Extends, IsOneOf, tile_bytes, bundle_bytes, IsTileIn, IsBundleIn, IsNewName, AreStagedFor}
+use Rattle.warg_store.specs.Log.{LogOf, said_of, Keeps, Extends, IsOneOf, IsCommitting, tile_bytes, bundle_bytes, IsTileIn, IsBundleIn, IsNewName, AreStagedFor}
 use Rattle.warg_store.specs.Staged.{staged_all, new_files}
 use Rattle.warg_store.specs.Moments.{LeavesOnly}
 use Rattle.warg_store.specs.Growing.{LogIn, Has, HasAll, with_entry, IsNewFull, AreFullStaged}
@@ -236,6 +236,13 @@ beside_one_of served old next s c keeps beside =
       });
       opened = inl (keeps_beside served old s (opened c) (λ n isnt. same n isnt ∙ beside.outside n isnt) keeps);
     }
+
+pub beside_committing : (served old next : LogOf) (s c : Files) → Keeps served old s → IsBeside s c → IsCommitting served old next s c
+beside_committing served old next s c keeps beside = record { one = beside_one_of served old next s c keeps beside; names = λ n is known. beside.outside n (served_not_staged n is) }
+
+-- and what a commit leaves behind that
+pub committing_then : (served old next : LogOf) (s mid c : Files) → IsBeside s mid → IsCommitting served old next mid c → IsCommitting served old next s c
+committing_then served old next s mid c beside now = record { one = now.one; names = λ n is known. now.names n is known ∙ beside.outside n (served_not_staged n is) }
 
 -- With what the last entry has filled staged, the log has the same entries.
 module _ {F : Type 0} (seen : F → Files) (may_leave : F → Files → Type 0) (served old next : LogOf) (l m : LogIn F) (tiles : Tiles) (number : ℕ) (held : l.held ≡ 256) (has : Has seen may_leave served old next l)
@@ -589,8 +596,8 @@ same_length old next by same =
 
 -- Where no call is made, a crash leaves the log.
 module _ {F : Type 0} (seen : F → Files) (may_leave : F → Files → Type 0) (moment : F → ℕ) (left_since : F → ℕ → Files → Type 0) (served old next : LogOf) (l : LogIn F) where
-  pub idle : ((c : Files) → left_since l.folder (moment l.folder) c → may_leave l.folder c) → Has seen may_leave served old next l → LeavesOnly moment left_since l.folder l.folder (IsOneOf served old next)
-  idle now has = stays moment left_since l.folder (IsOneOf served old next) (λ c left. beside_one_of served old next (seen l.folder) c has.keeps (has.staging c (now c left)))
+  pub idle : ((c : Files) → left_since l.folder (moment l.folder) c → may_leave l.folder c) → Has seen may_leave served old next l → LeavesOnly moment left_since l.folder l.folder (IsCommitting served old next (seen l.folder))
+  idle now has = stays moment left_since l.folder (IsCommitting served old next (seen l.folder)) (λ c left. beside_committing served old next (seen l.folder) c has.keeps (has.staging c (now c left)))
 
   -- a log whose folder keeps as many entries keeps them all
   pub all_there : l.edge.len ≡ l.text.length → Has seen may_leave served old next l → (log : LogOf) × Has seen may_leave log next next l

@@ -19,7 +19,7 @@ use Rattle.warg_tiles.specs.EntryBundles.{bundle_of}
 use Rattle.warg_store.specs.Files.{Files}
 use Rattle.warg_store.specs.Names.{checkpoint, state, mark, staged, is_own, is_served}
 use Rattle.warg_store.specs.Opening.{is_signed, checkpoint_after, opened, committed, IsBetween}
-use Rattle.warg_store.specs.Log.{LogOf, CanBeKept, checkpoint_of, tile_bytes, bundle_bytes, IsTileIn, IsBundleIn, HasFiles, Serves, IsFileOf, Extends, Keeps, IsServed, IsOneOf, IsNewName, AreStagedFor}
+use Rattle.warg_store.specs.Log.{LogOf, CanBeKept, checkpoint_of, tile_bytes, bundle_bytes, IsTileIn, IsBundleIn, HasFiles, Serves, IsFileOf, Extends, Keeps, IsServed, IsOneOf, IsCommitting, IsNewName, AreStagedFor}
 use Rattle.warg_store.proofs.NameLemmas.{apart, served_not_own}
 use Rattle.warg_store.proofs.PathLemmas.{tile_path_once, entries_path_once, no_tile_a_bundle}
 use Rattle.warg_store.proofs.ServeLemmas.{idle_same, committed_served, opened_idle}
@@ -248,3 +248,11 @@ module _ (served old next : LogOf) (files : Files) (keeps : Keeps served old fil
         opened_idle_keeps = same_kept served old files (opened files)
             (λ n is. idle_same files n idle (⊎_elim (λ one. file_outside old n one) (λ other. file_outside served n other) is))
             (idle_same files checkpoint idle refl) (opened_idle files state idle refl) keeps
+
+    pub between_committing : IsCommitting served old next files c
+    between_committing = record {
+      one = between_one_of;
+      names = λ n is known.
+          let none : files (staged n) ≡ None = none_by served old next keeps.begins extends files are_staged n is known (files (staged n)) refl in
+          ⊎_elim (λ e. e) (λ e. e ∙ committed_served files text n is ∙ ap (λ (o : Option (List ℕ)). option_or o (files n)) none) (was.each n (served_not_own n is));
+    }

@@ -116,6 +116,12 @@ abbrev pub IsNewName : LogOf → LogOf → List ℕ → Type 0
 IsNewName old next n = ((t : TileAt) × IsTileIn next t × (IsTileIn old t → ⊥) × (tile_path t ≡ n))
     ⊎ ((t : TileAt) × IsBundleIn next t × (IsBundleIn old t → ⊥) × (entries_path t ≡ n))
 
+-- What a commit's crash leaves of files: who reads or opens them finds the one log or the next, and each name at which commits
+-- put files has its bytes, but for those of tiles and bundles that the next log has and the old one hasn't.
+pub record IsCommitting (served old next : LogOf) (before after : Files) : Type 0 where
+  pub one : IsOneOf served old next after
+  pub names : (n : List ℕ) → is_served n ≡ true → (IsNewName old next n → ⊥) → after n ≡ before n
+
 -- What is staged are the tiles and bundles that the next log has and the old one hasn't, with their bytes.
 pub record AreStagedFor (old next : LogOf) (files : Files) : Type 0 where
   pub tile : (t : TileAt) → IsTileIn next t → (IsTileIn old t → ⊥) → files (staged (tile_path t)) ≡ Some (tile_bytes next t)

@@ -7,7 +7,7 @@ ghost use Rattle.warg_store.specs.Files.{put};
 ghost use Rattle.warg_store.specs.Moments.{Only, LeavesOnly, HasCause};
 ghost use Rattle.warg_store.specs.Names.{staged};
 ghost use Rattle.warg_store.specs.Opening.{IsBeside, IsStaging, NothingStaged};
-ghost use Rattle.warg_store.specs.Log.{LogOf, CanBeKept, checkpoint_of, Extends, Keeps, IsOneOf, AreStagedFor};
+ghost use Rattle.warg_store.specs.Log.{LogOf, CanBeKept, checkpoint_of, Extends, Keeps, IsCommitting, AreStagedFor};
 ghost use Rattle.warg_store.specs.Staged.{staged_all, new_files};
 
 use crate::committing::{MOST_TEXT, commit};
@@ -28,7 +28,8 @@ pub(crate) fn commit_log<F: Folder>(
     requires short { length text.now ≤ MOST_TEXT }
     ensures any_moment { F.IsFaithful → (served old next : LogOf) → Keeps served old (F.seen folder.old)
         → Extends old next → AreStagedFor old next (F.seen folder.old) → text.now ≡ checkpoint_of next → CanBeKept next
-        → LeavesOnly F.moment F.left_since folder.old folder.new (IsOneOf served old next) }
+        → LeavesOnly F.moment F.left_since folder.old folder.new
+        (IsCommitting served old next (F.seen folder.old)) }
     ensures next { F.IsFaithful → OnOk result ((served old next : LogOf) → Keeps served old (F.seen folder.old)
         → Extends old next → AreStagedFor old next (F.seen folder.old) → text.now ≡ checkpoint_of next → CanBeKept next
         → (log : LogOf) × Keeps log next (F.seen folder.new)) }

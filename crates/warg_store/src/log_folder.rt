@@ -8,7 +8,7 @@ ghost use Rattle.warg_tiles.specs.TileLog.{StandsFor};
 ghost use Rattle.warg_store.specs.Moments.{LeavesOnly};
 ghost use Rattle.warg_store.specs.Opening.{IsBeside, IsStaging};
 ghost use Rattle.warg_store.specs.Growing.{IsReady, IsSameBut, Has, HasAll, IsPut, ArePartsOf, with_entry};
-ghost use Rattle.warg_store.specs.Log.{LogOf, CanBeKept, IsOneOf, said_of, checkpoint_of};
+ghost use Rattle.warg_store.specs.Log.{LogOf, CanBeKept, IsCommitting, said_of, checkpoint_of};
 
 use crate::committing::MOST_TEXT;
 use crate::device::{Folder, FolderError};
@@ -238,15 +238,16 @@ impl<F: Folder + Drop> LogFolder<F> {
     }
 
     /// Keeps what was pushed, and serves it, unless the checkpoint is signed: that one is served until another is signed. All
-    /// of it or nothing, whatever happens at whatever moment; after `Ok` a crash leaves all of it. A commit of nothing changes
-    /// nothing. `Memory` only before anything is written, and the log is as it was; after another error it takes no more,
+    /// of it or nothing, whatever happens at whatever moment; after `Ok` a crash leaves all of it. No name of a tile or a bundle
+    /// that isn't new changes its bytes. A commit of nothing changes nothing. `Memory` only before anything is written, and the log is as it was; after another error it takes no more,
     /// and the folder is opened again.
     pub fn commit(&mut self) -> Result<(), CommitError>
         requires { F.IsFaithful → IsReady F.seen F.may_leave self.old }
         ensures ready { F.IsFaithful → IsReady F.seen F.may_leave self.new }
         ensures any_moment { F.IsFaithful → (served old next : LogOf)
             → Has F.seen F.may_leave served old next self.old
-            → LeavesOnly F.moment F.left_since self.old.folder self.new.folder (IsOneOf served old next) }
+            → LeavesOnly F.moment F.left_since self.old.folder self.new.folder
+            (IsCommitting served old next (F.seen self.old.folder)) }
         ensures committed { F.IsFaithful → OnOk result ((served old next : LogOf)
             → Has F.seen F.may_leave served old next self.old
             → (log : LogOf) × Has F.seen F.may_leave log next next self.new) }
@@ -285,7 +286,8 @@ impl<F: Folder + Drop> LogFolder<F> {
         ensures any_moment { F.IsFaithful → (served old next : LogOf)
             → Has F.seen F.may_leave served old next self.old → self.old.text.length < self.old.edge.len
             → ArePartsOf next tiles.now → text.now ≡ checkpoint_of next → CanBeKept next
-            → LeavesOnly F.moment F.left_since self.old.folder self.new.folder (IsOneOf served old next) }
+            → LeavesOnly F.moment F.left_since self.old.folder self.new.folder
+            (IsCommitting served old next (F.seen self.old.folder)) }
         ensures put { F.IsFaithful → OnOk result ((served old next : LogOf)
             → Has F.seen F.may_leave served old next self.old → self.old.text.length < self.old.edge.len
             → ArePartsOf next tiles.now → text.now ≡ checkpoint_of next → CanBeKept next

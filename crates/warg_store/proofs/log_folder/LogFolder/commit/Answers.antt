@@ -7,7 +7,7 @@ use Rattle.warg_tiles.specs.CheckpointText.{Said, IsLine, text_of}
 use Rattle.warg_tiles.specs.declared.stored.StoredTile.{StoredTile}
 use Rattle.warg_store.specs.Moments.{LeavesOnly}
 use Rattle.warg_store.specs.Opening.{IsStaging}
-use Rattle.warg_store.specs.Log.{CanBeKept, IsOneOf, said_of, checkpoint_of}
+use Rattle.warg_store.specs.Log.{CanBeKept, IsCommitting, said_of, checkpoint_of}
 use Rattle.warg_store.specs.Growing.{LogIn, Has, ArePartsOf}
 use Rattle.warg_store.proofs.GrowingLemmas.{idle, noted, own_parts}
 use Rattle.warg_store.proofs.log_folder.LogFolder.commit.Goals as goal
@@ -43,7 +43,7 @@ returns-in-Ok-clause-any_moment g c = λ faithful served old next has.
     let kept : c.length-3.result ≡ c.args.self.now.text.length = c.length-3.ensures ∙ c.checkpoint.ensures.length ∙ ap (λ (l : LogIn g.row.F.Denot). l.text.length) c.self.view_is in
     let len : c.length.result ≡ c.args.self.now.edge.len = c.length.ensures.value ∙ ap (λ (l : LogIn g.row.F.Denot). l.edge.len) c.self.view_is in
     let new : c.args.self.now.text.length < c.args.self.now.edge.len = omega (arith, c.if-length.false, kept, len, has.since, has.order) in
-    subst (λ (l : LogIn g.row.F.Denot). LeavesOnly g.F.Folder.moment g.F.Folder.left_since c.args.self.now.folder l.folder (IsOneOf served old next)) (sym c.self-2.view_is)
+    subst (λ (l : LogIn g.row.F.Denot). LeavesOnly g.F.Folder.moment g.F.Folder.left_since c.args.self.now.folder l.folder (IsCommitting served old next (g.F.Folder.seen c.args.self.now.folder))) (sym c.self-2.view_is)
     (c.put.ensures.any_moment faithful served old next has new own text named)
 
 pub returns-in-Err-clause-any_moment : goal.returns-in-Err-clause-any_moment
@@ -58,7 +58,7 @@ returns-in-Err-clause-any_moment g c = λ faithful served old next has.
     let kept : c.length-3.result ≡ c.args.self.now.text.length = c.length-3.ensures ∙ c.checkpoint.ensures.length ∙ ap (λ (l : LogIn g.row.F.Denot). l.text.length) c.self.view_is in
     let len : c.length.result ≡ c.args.self.now.edge.len = c.length.ensures.value ∙ ap (λ (l : LogIn g.row.F.Denot). l.edge.len) c.self.view_is in
     let new : c.args.self.now.text.length < c.args.self.now.edge.len = omega (arith, c.if-length.false, kept, len, has.since, has.order) in
-    subst (λ (l : LogIn g.row.F.Denot). LeavesOnly g.F.Folder.moment g.F.Folder.left_since c.args.self.now.folder l.folder (IsOneOf served old next)) (sym c.self-2.view_is)
+    subst (λ (l : LogIn g.row.F.Denot). LeavesOnly g.F.Folder.moment g.F.Folder.left_since c.args.self.now.folder l.folder (IsCommitting served old next (g.F.Folder.seen c.args.self.now.folder))) (sym c.self-2.view_is)
     (c.put.ensures.any_moment faithful served old next has new own text named)
 
 pub returns-in-Ok-clause-committed : goal.returns-in-Ok-clause-committed
