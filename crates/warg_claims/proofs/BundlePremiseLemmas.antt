@@ -1,10 +1,9 @@
 -- A bundle with the inclusion proof of the only entry of a log, and the verdicts on it.
-use Rattle.std.proofs.Common.{◌≡◌, ℕ, Bool, true, false, cond, nat_eq, List, [], ◌∷◌, Option, Ok, refl, sym, ap, ◌∙◌, arith, inl, inr}
-use Rattle.std.specs.Prelude.{replicate, Contains}
+use Rattle.std.proofs.Common.{◌≡◌, ℕ, true, List, [], ◌∷◌, Option, Ok, refl, sym, ap, ◌∙◌, arith, inl, inr}
+use Rattle.std.specs.Prelude.{Contains}
 use Rattle.std.specs.Cmp.Lexicographic.{bytes_decides}
-use Rattle.std.proofs.lemmas.List.Elements.{All-replicate}
-use Rattle.warg_crypto.specs.Collisions.{GivesHashes, SomeCollision}
-use Rattle.warg_crypto.specs.Digests.{IsDigest, IsByte}
+use Rattle.warg_crypto.proofs.ForCallers.{zeros, ones, marked}
+use Rattle.warg_crypto.specs.Collisions.{SomeCollision}
 use Rattle.warg_crypto.specs.Tree.{leaf_digest, leaf_input}
 use Rattle.warg_protobuf.specs.Field.{payload_at, field_at}
 use Rattle.warg_protobuf.specs.HashEntry.{entry_schema}
@@ -58,33 +57,6 @@ at_entry H value first second at =
     let one = part_of_one at.part in
     let is : first ≡ leaf_input value = (let found = rw (one.0, one.1) at at.evaluation in cc) in
     (is, rw (one.0, one.1) at at.plain)
-
--- Ones where a one stands behind the first byte of what is hashed, and else zeros.
-abbrev pub zeros : List ℕ
-zeros = replicate 32 0
-
-abbrev pub ones : List ℕ
-ones = replicate 32 1
-
-abbrev has_one : List ℕ → Bool
-has_one [] = false
-has_one (x ∷ xs) = cond (nat_eq x 1) true (has_one xs)
-
-abbrev mark : Bool → List ℕ
-mark true = ones
-mark false = zeros
-
-abbrev pub marked : List ℕ → List ℕ
-marked [] = zeros
-marked (tag ∷ more) = mark (has_one more)
-
-mark-digest : (b : Bool) → IsDigest (mark b)
-mark-digest true = record { has_32 = refl; are_bytes = All-replicate IsByte 32 1 (omega arith) }
-mark-digest false = record { has_32 = refl; are_bytes = All-replicate IsByte 32 0 (omega arith) }
-
-pub marked_hashes : GivesHashes marked
-marked_hashes [] = mark-digest false
-marked_hashes (tag ∷ more) = mark-digest (has_one more)
 
 pub marks_apart : SomeCollision marked (IsValuePlaced marked (held_digest []) (1 ∷ []) 0 ([] ∷ [])) → ⊥
 marks_apart c =

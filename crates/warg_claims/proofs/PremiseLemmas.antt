@@ -7,6 +7,7 @@ use Rattle.std.proofs.lemmas.Bool.{cases_lt, cases_Bool, eqb-true, eqb-false}
 use Rattle.std.proofs.lemmas.List.{length-replicate}
 use Rattle.std.proofs.lemmas.Bool.Decides.{nat_tests}
 use Rattle.std.proofs.lemmas.List.Elements.{recursion_from_All}
+use Rattle.warg_crypto.proofs.ForCallers.{zeros}
 use Rattle.warg_crypto.specs.Digests.{IsByte}
 use Rattle.warg_paths.specs.Pieces.{pieces}
 use Rattle.warg_paths.specs.Paths.{root_down}
@@ -61,9 +62,6 @@ untruth_is_needed H law = none_placed H ([] ∷ []) (λ n is. rw is refl) (law (
 
 -- Two entries, of no bytes and of 32, and their log where each byte string is its own digest: its root is also that over
 -- the entry of one byte and the 32.
-abbrev zeros : List ℕ
-zeros = replicate 32 0
-
 abbrev own : RootAndLength
 own = record { root = 1 ∷ 0 ∷ 0 ∷ zeros; length = 2 }
 

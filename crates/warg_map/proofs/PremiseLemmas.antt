@@ -3,8 +3,7 @@ use Rattle.std.proofs.Common.{◌≡◌, ℕ, suc, ◌+◌, inl, inr, Bool, true
 use Rattle.std.specs.Prelude.{replicate}
 use Rattle.std.specs.FinMap.{get, insert, empty, contains_key, get-empty}
 use Rattle.std.proofs.lemmas.List.{append_cancel_left, append_cancel_right, length-replicate}
-use Rattle.std.proofs.lemmas.List.Elements.{All-replicate}
-use Rattle.warg_crypto.specs.Digests.{IsDigest, IsByte}
+use Rattle.warg_crypto.proofs.ForCallers.{zeros, ones}
 use Rattle.warg_crypto.specs.EmptyTrees.{empty_root}
 use Rattle.warg_map.specs.Sparse.{SparseMap, bits_cmp, root_of_levels, sparse_root}
 use Rattle.warg_map.specs.Peers.{IsPeers, Proves, ProvesAbsent, ProvesEmpty}
@@ -20,12 +19,6 @@ abbrev pub own : List ℕ → List ℕ
 own m = m
 
 -- Of no bytes none, and of others 32 zeros.
-abbrev pub zeros : List ℕ
-zeros = replicate 32 0
-
-abbrev pub ones : List ℕ
-ones = replicate 32 1
-
 abbrev pub short : List ℕ → List ℕ
 short [] = []
 short (b ∷ bytes) = zeros
@@ -47,12 +40,6 @@ SameDigest x y = x ≡ y
 
 abbrev pub SamePeers : List (Option (List ℕ)) → List (Option (List ℕ)) → Type 0
 SamePeers ps qs = ps ≡ qs
-
-pub zeros_are : IsDigest zeros
-zeros_are = record { has_32 = refl; are_bytes = All-replicate IsByte 32 0 (omega arith) }
-
-pub ones_are : IsDigest ones
-ones_are = record { has_32 = refl; are_bytes = All-replicate IsByte 32 1 (omega arith) }
 
 -- One bit, the other one, and 256.
 abbrev pub one_bit : List Bool

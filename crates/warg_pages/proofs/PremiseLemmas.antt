@@ -3,13 +3,14 @@ use Rattle.warg_pages.proofs.KeyPrefixes.{length-bits_from}
 use Rattle.warg_map.specs.Bits.{key_bits, bits_from}
 use Rattle.warg_map.proofs.ForCallers.{all_bits, last_held, same_bits-itself, same_bits-true}
 use Rattle.std.specs.FinMap.{get}
-use Rattle.std.proofs.Common.{◌≡◌, ℕ, zero, suc, ◌+◌, ◌-◌, ◌*◌, ◌^◌, ◌<◌, ◌==◌, ◌⊎◌, inl, inr, Bool, true, false, cond, nat_eq, List, [], ◌∷◌, ◌++◌, length, take, drop, Option, Some, None, if◌then◌else◌, refl, sym, ap, subst, ◌∙◌, arith, append-nil, unwrap_or}
+use Rattle.std.proofs.Common.{◌≡◌, ℕ, zero, suc, ◌+◌, ◌-◌, ◌*◌, ◌^◌, ◌<◌, ◌==◌, ◌⊎◌, inl, inr, Bool, true, false, List, [], ◌∷◌, ◌++◌, length, take, drop, Option, Some, None, if◌then◌else◌, refl, sym, ap, subst, ◌∙◌, arith, append-nil, unwrap_or}
 use Rattle.std.specs.Prelude.{replicate}
 use Rattle.std.specs.List.{filter_map, cons_option}
 use Rattle.std.proofs.lemmas.Bool.{cases_lt, cond-false, ne_eqb, false_from_ne_true}
 use Rattle.std.proofs.lemmas.List.{take-append-drop, length-append, length-take-le}
 use Rattle.std.proofs.lemmas.List.Elements.{All-replicate, All-cons, All-nil}
 use Rattle.std.proofs.Math.Nat.{pow-suc}
+use Rattle.warg_crypto.proofs.ForCallers.{zeros, ones, ones_are, marked}
 use Rattle.warg_crypto.specs.Collisions.{GivesHashes, Collides, SomeCollision}
 use Rattle.warg_crypto.specs.Digests.{IsDigest, IsByte}
 use Rattle.warg_crypto.specs.EmptyTrees.{empty_root}
@@ -118,36 +119,6 @@ module _ (H : List ℕ → List ℕ) (gives : GivesHashes H) where
         size_empty 248,
         length-take-le 31 pair (omega (arith, length-append (empty_root H 248) (empty_root H 248), size_empty 248)),
       )
-
--- Ones where a one stands behind the first byte of what is hashed, and else zeros.
-abbrev pub zeros : List ℕ
-zeros = replicate 32 0
-
-abbrev pub ones : List ℕ
-ones = replicate 32 1
-
-abbrev has_one : List ℕ → Bool
-has_one [] = false
-has_one (x ∷ xs) = cond (nat_eq x 1) true (has_one xs)
-
-abbrev mark : Bool → List ℕ
-mark true = ones
-mark false = zeros
-
-abbrev pub marked : List ℕ → List ℕ
-marked [] = zeros
-marked (tag ∷ rest) = mark (has_one rest)
-
-pub ones-digest : IsDigest ones
-ones-digest = record { has_32 = refl; are_bytes = All-replicate IsByte 32 1 (omega arith) }
-
-mark-digest : (b : Bool) → IsDigest (mark b)
-mark-digest true = ones-digest
-mark-digest false = record { has_32 = refl; are_bytes = All-replicate IsByte 32 0 (omega arith) }
-
-pub marked_hashes : GivesHashes marked
-marked_hashes [] = mark-digest false
-marked_hashes (tag ∷ rest) = mark-digest (has_one rest)
 
 empty_zeros : (k : ℕ) → empty_root marked k ≡ zeros
 unfolding empty_root
@@ -317,7 +288,7 @@ is_slot byte digest low is = record { is_byte = low; fits = omega arith; digest 
 pub ones_page : IsPage with_ones
 ones_page = record {
   ascend = λ i j d order inside. absurd (omega arith);
-  are_slots = All-cons IsSlot (slot 0 ones) [] (is_slot 0 ones (omega arith) ones-digest) (All-nil IsSlot);
+  are_slots = All-cons IsSlot (slot 0 ones) [] (is_slot 0 ones (omega arith) ones_are) (All-nil IsSlot);
 }
 
 pub both_page : IsPage with_both
@@ -325,7 +296,7 @@ both_page = record {
   ascend = λ i j d order inside. let first : i ≡ 0 = omega arith in let second : j ≡ 1 = omega arith in
       rw (first, second) (omega arith);
   are_slots =
-      All-cons IsSlot (slot 0 ones) (slot 2 twos ∷ []) (is_slot 0 ones (omega arith) ones-digest)
+      All-cons IsSlot (slot 0 ones) (slot 2 twos ∷ []) (is_slot 0 ones (omega arith) ones_are)
       (All-cons IsSlot (slot 2 twos) [] (is_slot 2 twos (omega arith) twos-digest) (All-nil IsSlot));
 }
 

@@ -6,6 +6,7 @@ use Rattle.std.proofs.Math.Seq.{drop-append_seam}
 use Rattle.std.proofs.lemmas.Bool.{cases_lt, eq-eqb, ne_eqb}
 use Rattle.std.proofs.lemmas.List.{length-replicate}
 use Rattle.std.proofs.lemmas.List.Elements.{All-replicate, recursion_from_All, Contains-append_cases}
+use Rattle.warg_crypto.proofs.ForCallers.{zeros, zeros_are, ones}
 use Rattle.warg_crypto.specs.Collisions.{AreHashes, Collides, SomeCollision}
 use Rattle.warg_log.specs.Cut.{with_target, way_within, top_of}
 use Rattle.warg_log.specs.Nodes.{height_of, height_within, place_of}
@@ -15,7 +16,6 @@ use Rattle.warg_log.proofs.ForCallers.{root_over_parts}
 use Rattle.warg_protobuf.proofs.ForCallers.{all_append}
 use Rattle.warg_tiles.specs.Tiles.{TileAt, node_in}
 use Rattle.warg_tiles.specs.TileData.{Tiles, digest_by}
-use Rattle.warg_crypto.specs.Digests.{IsByte}
 use Rattle.warg_tiles.specs.CheckpointText.{Said, CanBeSaid}
 use Rattle.warg_tiles.specs.TileLog.{root_on, completed_from, completed_at, full_between}
 use Rattle.warg_tiles.specs.Between.{levels_from, level_tiles}
@@ -39,12 +39,6 @@ some_length a b is = let same : a ≡ b = cc in ap length same
 -- So many zeros.
 abbrev pub bytes : ℕ → List ℕ
 bytes n = replicate n 0
-
-abbrev pub zeros : List ℕ
-zeros = replicate 32 0
-
-abbrev pub ones : List ℕ
-ones = replicate 32 1
 
 -- The first tile of leaf digests, of a width.
 abbrev pub leaf_tile : ℕ → TileAt
@@ -241,7 +235,7 @@ pub lines_can_be_said : CanBeSaid two_lines
 lines_can_be_said = record {
   origin = record { some = omega arith; no_newline = (λ is. omega (arith, is), tt) };
   length = omega arith;
-  root = record { has_32 = refl; are_bytes = All-replicate IsByte 32 0 (omega arith) };
+  root = zeros_are;
   extensions = (
     record { some = omega arith; no_newline = (λ is. omega (arith, is), tt) },
     (record { some = omega arith; no_newline = (λ is. omega (arith, is), tt) }, tt),

@@ -1,10 +1,9 @@
 -- Claims of keys and maps that are untrue, not met, or both, and of which no placed byte strings collide.
-use Rattle.std.proofs.Common.{◌≡◌, ℕ, zero, suc, ◌-◌, ◌≤◌, ◌<◌, nat_eq, ◌⊎◌, inl, inr, Bool, true, false, cond, List, [], ◌∷◌, ◌++◌, length, slice_index_or, Option, None, Some, is_some, unwrap_or, IsTrue, refl, sym, ap, ◌∙◌, arith, append-nil, length-append}
+use Rattle.std.proofs.Common.{◌≡◌, ℕ, zero, suc, ◌-◌, ◌≤◌, ◌<◌, ◌⊎◌, inl, inr, Bool, true, false, cond, List, [], ◌∷◌, ◌++◌, length, slice_index_or, Option, None, Some, is_some, unwrap_or, IsTrue, refl, sym, ap, ◌∙◌, arith, append-nil, length-append}
 use Rattle.std.specs.Prelude.{replicate}
-use Rattle.std.proofs.lemmas.List.Elements.{All-replicate}
 use Rattle.std.specs.FinMap.{get, get-empty, empty}
+use Rattle.warg_crypto.proofs.ForCallers.{zeros, ones, marked, marked_hashes}
 use Rattle.warg_crypto.specs.Collisions.{Collides, SomeCollision, GivesHashes}
-use Rattle.warg_crypto.specs.Digests.{IsDigest, IsByte}
 use Rattle.warg_crypto.specs.EmptyTrees.{empty_root}
 use Rattle.warg_crypto.specs.Tree.{branch, branch_input, leaf_digest, leaf_input, input_beside}
 use Rattle.warg_map.specs.Bits.{key_bits}
@@ -71,33 +70,6 @@ with_bottom digest = Some digest ∷ replicate 255 nothing
 
 pub above_bottom : (H : List ℕ → List ℕ) (digest : List ℕ) (k : ℕ) → peer_of H (with_bottom digest) (suc k) ≡ empty_root H (suc k)
 above_bottom H digest k = let rest : suc k - 0 ≡ suc k = omega arith in rw (rest, none_at 255 k) (either_way _)
-
--- Digests of 32 bytes that tell whether the byte 1 stands behind the first byte of what was hashed.
-abbrev has_one : List ℕ → Bool
-has_one [] = false
-has_one (x ∷ xs) = cond (nat_eq x 1) true (has_one xs)
-
-abbrev zeros : List ℕ
-zeros = replicate 32 0
-
-abbrev ones : List ℕ
-ones = replicate 32 1
-
-abbrev mark : Bool → List ℕ
-mark true = ones
-mark false = zeros
-
-abbrev marked : List ℕ → List ℕ
-marked [] = zeros
-marked (tag ∷ rest) = mark (has_one rest)
-
-mark-digest : (b : Bool) → IsDigest (mark b)
-mark-digest true = record { has_32 = refl; are_bytes = All-replicate IsByte 32 1 (omega arith) }
-mark-digest false = record { has_32 = refl; are_bytes = All-replicate IsByte 32 0 (omega arith) }
-
-marked_hashes : GivesHashes marked
-marked_hashes [] = mark-digest false
-marked_hashes (tag ∷ rest) = mark-digest (has_one rest)
 
 -- Empty trees have zeros.
 empty_zeros : (k : ℕ) → empty_root marked k ≡ zeros

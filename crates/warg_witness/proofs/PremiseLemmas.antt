@@ -11,7 +11,7 @@ use Rattle.warg_paths.specs.Paths.{root_down, roots_down}
 use Rattle.warg_paths.specs.Ways.{IsOnWay, IsOnGrowth}
 use Rattle.warg_paths.specs.Ways.IsOnWay.{whole, front, rest}
 use Rattle.warg_paths.specs.Ways.IsOnGrowth.{whole as grown_whole, front as grown_front, rest as grown_rest}
-use Rattle.warg_crypto.proofs.ForCallers.{same_or_not}
+use Rattle.warg_crypto.proofs.ForCallers.{same_or_not, zeros}
 use Rattle.warg_witness.specs.Claims.{IsMet, IsEntry, IsRootBelow, IsAgreement, IsConsistencyMet, Begins}
 use Rattle.warg_witness.specs.Placed.{IsValuePlaced, IsHashPlaced, IsAgreementPlaced, IsConsistencyPlaced}
 use Rattle.warg_log.specs.Consistency.{IsConsistent}
@@ -41,9 +41,6 @@ everywhere node = Some (5 ∷ 0 ∷ [])
 
 abbrev zero_everywhere : ℕ → Option (List ℕ)
 zero_everywhere node = Some (0 ∷ [])
-
-abbrev zeros : List ℕ
-zeros = replicate 32 0
 
 abbrev zeros_everywhere : ℕ → Option (List ℕ)
 zeros_everywhere node = Some zeros

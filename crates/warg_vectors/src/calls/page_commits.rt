@@ -10,7 +10,7 @@ use crate::fault::{Answered, Fault, Promise};
 use crate::memory::Memory;
 use std::alloc::{AllocError, Allocator, Global};
 use warg_crypto::{Hash, SupportedDigest};
-use warg_pages::{ChangedPage, PagedMap, Pages, ProveError};
+use warg_pages::{ChangedPage, PagedMap, Pages, ProveError, WayError};
 
 /// The version and the bytes of the page at a prefix, or `none`.
 pub(super) fn page<D: SupportedDigest, M: Memory>(call: &mut Call<'_, M>) -> Answered {
@@ -110,7 +110,8 @@ impl<D: SupportedDigest, M: Memory> Kept<D, M> {
             Ok(changed) => changed,
             Err(ProveError::Pages(NotLent::NoPage)) => return Err(Fault::Broken(Promise::Answer)),
             Err(ProveError::Pages(NotLent::Memory)) => return Err(Fault::Memory),
-            Err(ProveError::Way(_)) => return Err(Fault::Memory),
+            Err(ProveError::Way(WayError::Memory)) => return Err(Fault::Memory),
+            Err(ProveError::Way(_)) => return Err(Fault::Broken(Promise::Answer)),
         };
         for page in changed {
             let name = Name {

@@ -1,6 +1,7 @@
 use Rattle.std.proofs.Common.{[], ◌∷◌, refl}
 use Rattle.warg_log.specs.Tree.{root_within}
-use Rattle.warg_claims.proofs.BundlePremiseLemmas.{marked, marked_hashes, zeros, ones, growth_bytes, one_growth, growth_read, entries_apart}
+use Rattle.warg_crypto.proofs.ForCallers.{marked, marked_hashes, zeros, ones}
+use Rattle.warg_claims.proofs.BundlePremiseLemmas.{growth_bytes, one_growth, growth_read, entries_apart}
 use Rattle.warg_claims.proofs.premises.extension_verdict_is_needed.Goals as goal
 
 pub returns : goal.returns

@@ -1,7 +1,8 @@
 use Rattle.std.proofs.Common.{◌≡◌, [], ◌∷◌}
 use Rattle.std.specs.declared.cmp.Ordering.TheVariants.{Equal, Less, Greater}
 use Rattle.warg_map.specs.Bits.{bits_from}
-use Rattle.warg_map.proofs.PremiseLemmas.{short, zeros_are}
+use Rattle.warg_crypto.proofs.ForCallers.{zeros_are}
+use Rattle.warg_map.proofs.PremiseLemmas.{short}
 use Rattle.warg_map.proofs.premises.order_of_bits.Goals as goal
 
 pub returns-clause-first : goal.returns-clause-first

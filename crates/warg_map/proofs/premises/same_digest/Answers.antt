@@ -1,6 +1,7 @@
 use Rattle.std.proofs.Common.{[], ◌∷◌, length, slice_index_or, refl, ap, arith}
 use Rattle.warg_map.specs.Bits.{bits_from}
-use Rattle.warg_map.proofs.PremiseLemmas.{short, apart, zeros, ones, zeros_are, ones_are, SameNumber, SameList}
+use Rattle.warg_crypto.proofs.ForCallers.{zeros, ones, zeros_are, ones_are}
+use Rattle.warg_map.proofs.PremiseLemmas.{short, apart, SameNumber, SameList}
 use Rattle.warg_map.proofs.premises.same_digest.Goals as goal
 
 pub returns-clause-first : goal.returns-clause-first

@@ -2,7 +2,8 @@ use Rattle.std.proofs.Common.{inl, inr, subst, List}
 use Rattle.warg_crypto.specs.Collisions.{SomeCollision}
 use Rattle.warg_pages.specs.Slots.{SlotAt}
 use Rattle.warg_pages.specs.GivenPages.{HaveSameDigests, AreInputsAt}
-use Rattle.warg_pages.proofs.PremiseLemmas.{marked, marked_hashes, with_ones, ones_page, ones_apart, ones_differ, lone_key, lone_bits, lone_page, lone_root, lone_length}
+use Rattle.warg_crypto.proofs.ForCallers.{marked, marked_hashes}
+use Rattle.warg_pages.proofs.PremiseLemmas.{with_ones, ones_page, ones_apart, ones_differ, lone_key, lone_bits, lone_page, lone_root, lone_length}
 use Rattle.warg_pages.proofs.premises.page_depth_is_needed.Goals as goal
 
 pub returns : goal.returns

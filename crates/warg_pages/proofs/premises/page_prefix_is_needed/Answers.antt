@@ -1,5 +1,6 @@
 use Rattle.std.proofs.Common.{inl, inr, [], arith}
-use Rattle.warg_pages.proofs.PremiseLemmas.{marked, marked_hashes, lone_key, no_page, short_root, top_differs, top_apart}
+use Rattle.warg_crypto.proofs.ForCallers.{marked, marked_hashes}
+use Rattle.warg_pages.proofs.PremiseLemmas.{lone_key, no_page, short_root, top_differs, top_apart}
 use Rattle.warg_pages.proofs.premises.page_prefix_is_needed.Goals as goal
 
 pub returns : goal.returns

@@ -1,5 +1,6 @@
 use Rattle.std.proofs.Common.{inl, inr, ℕ, ◌≡◌, ◌^◌, List, [], ◌∷◌, length, map, refl, sym, ◌∙◌, arith, Some}
-use Rattle.warg_tiles.proofs.PremiseLemmas.{ones, zeros, some_leaves, many, many_count, many_sizes, many_root, many_last, no_row, edge_of_one}
+use Rattle.warg_crypto.proofs.ForCallers.{ones, zeros}
+use Rattle.warg_tiles.proofs.PremiseLemmas.{some_leaves, many, many_count, many_sizes, many_root, many_last, no_row, edge_of_one}
 use Rattle.warg_tiles.specs.Tiles.{TileAt}
 use Rattle.warg_tiles.specs.TileData.{Tiles}
 use Rattle.warg_tiles.specs.TileLog.{partial_tiles}

@@ -1,5 +1,6 @@
 use Rattle.std.proofs.Common.{inl, inr, [], ◌∷◌, refl, arith}
-use Rattle.warg_tiles.proofs.PremiseLemmas.{zeros, no_row, edge_of_one}
+use Rattle.warg_crypto.proofs.ForCallers.{zeros}
+use Rattle.warg_tiles.proofs.PremiseLemmas.{no_row, edge_of_one}
 use Rattle.warg_log.specs.Tree.{root_within, front_of, front_within}
 use Rattle.warg_log.specs.Nodes.{height_of, height_within, place_of}
 use Rattle.warg_tiles.proofs.premises.partial_places_are_needed.Goals as goal

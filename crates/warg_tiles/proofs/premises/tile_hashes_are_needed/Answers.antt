@@ -1,5 +1,6 @@
 use Rattle.std.proofs.Common.{inl, inr, [], ◌∷◌, refl, arith}
-use Rattle.warg_tiles.proofs.PremiseLemmas.{tell, zeros, ones, tile_apart, leaf_tile}
+use Rattle.warg_crypto.proofs.ForCallers.{zeros, ones}
+use Rattle.warg_tiles.proofs.PremiseLemmas.{tell, tile_apart, leaf_tile}
 use Rattle.warg_log.specs.Tree.{root_within, front_of, front_within}
 use Rattle.warg_log.specs.Nodes.{height_of, height_within, place_of}
 use Rattle.warg_tiles.proofs.premises.tile_hashes_are_needed.Goals as goal
