@@ -13,7 +13,7 @@ pub trait ByteVisitor {
     // The visitor stands for this list of bytes.
     ghost stands_for: { Self → List ℕ → Type 0 };
 
-    /// Takes `bytes` behind those that came before.
+    /// Takes `bytes`, which follow all that came before.
     fn visit_bytes(&mut self, bytes: &[u8])
         ensures { (m : List ℕ) → stands_for self.old m → stands_for self.new (m ++ bytes.now) };
 }
@@ -213,8 +213,8 @@ fn begins_with<V: VisitBytes, W: VisitBytes>(value: &V, front: &W) -> Result<boo
     }
 }
 
-/// Whether two values have the same bytes, for a look at each piece of the one beside each of the other. It
-/// does not allocate, and refuses only values of more than `usize::MAX` bytes, of which no copy could be had.
+/// Whether two values have the same bytes. It visits each value once for every piece of the other, and does not
+/// allocate: `AllocError` comes only for a value of more than `usize::MAX` bytes, which no memory could hold.
 pub fn have_same_bytes<V: VisitBytes, W: VisitBytes>(
     first: &V,
     second: &W,
