@@ -1,10 +1,10 @@
 //! What the premises of the laws are for: the contract of each function is the law, and it has no effect. Without any one of
 //! these premises the law is false. Of premises that both paths have, one is left out.
 
-ghost use Rattle.std.specs.Prelude.{◌≡◌, ℕ, ◌<◌, ◌≤◌, ◌⊎◌, List, Option, Some, IsSome};
+ghost use Rattle.std.specs.Prelude.{◌≡◌, ℕ, ◌*◌, ◌<◌, ◌≤◌, ◌⊎◌, List, Option, Some, IsSome};
 ghost use Rattle.warg_crypto.specs.Collisions.{AreHashes, SomeCollision};
 ghost use Rattle.warg_log.specs.Cut.{old_over};
-ghost use Rattle.warg_log.specs.Walks.{IsKnown, needed_between};
+ghost use Rattle.warg_log.specs.Walks.{IsKnown, needed, needed_between};
 ghost use Rattle.warg_paths.specs.Paths.{inclusion_of, inclusion_root, consistency_of, consistency_roots};
 ghost use Rattle.warg_paths.specs.Ways.{ArePathInputs, AreGrowthInputs};
 
@@ -50,5 +50,17 @@ pub fn known_digests_are_needed()
 /// Nor a consistency path from no entries.
 pub fn old_entries_are_needed()
     ensures { ¬ ((H : List ℕ → List ℕ) (F : ℕ → Option (List ℕ)) (m n : ℕ) → m ≤ n
+        → IsKnown F (needed_between m n) → IsSome (consistency_of (old_over H F) m n)) }
+{}
+
+/// Nor an inclusion path of a leaf that isn't below the length.
+pub fn index_below_is_needed()
+    ensures { ¬ ((H : List ℕ → List ℕ) (F : ℕ → Option (List ℕ)) (m n : ℕ)
+        → IsKnown F (needed (2 * m) n) → IsSome (inclusion_of (old_over H F) m n)) }
+{}
+
+/// Nor a consistency path between lengths that aren't in order.
+pub fn order_of_lengths_is_needed()
+    ensures { ¬ ((H : List ℕ → List ℕ) (F : ℕ → Option (List ℕ)) (m n : ℕ) → 0 < m
         → IsKnown F (needed_between m n) → IsSome (consistency_of (old_over H F) m n)) }
 {}
