@@ -5,8 +5,8 @@ use Rattle.warg_protobuf.specs.declared.error.WireError.{WireError}
 use Rattle.warg_protobuf.specs.declared.error.WireError.TheVariants as wire
 use Rattle.warg_protobuf.specs.declared.value_error.EncodeError.{EncodeError}
 use Rattle.warg_protobuf.specs.declared.value_error.EncodeError.TheVariants as encode
-use Rattle.warg_log.specs.declared.tested.AppendError.{AppendError}
-use Rattle.warg_log.specs.declared.tested.AppendError.TheVariants as append
+use Rattle.warg_log.specs.declared.log.AppendError.{AppendError}
+use Rattle.warg_log.specs.declared.log.AppendError.TheVariants as append
 use Rattle.warg_protobuf.specs.declared.value_error.DecodeError.{DecodeError}
 use Rattle.warg_protobuf.specs.declared.value_error.DecodeError.TheVariants.{Wire, NotAStack, NotALog}
 

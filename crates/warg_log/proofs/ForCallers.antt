@@ -1,7 +1,8 @@
 -- Lemmas for the proofs of the crates above, over public definitions alone.
-use Rattle.std.proofs.Common.{◌≡◌, ℕ, suc, ◌+◌, ◌-◌, ◌*◌, ◌^◌, ◌<◌, ◌≤◌, List, [], ◌∷◌, ◌++◌, length, Option, Some, None, Ok, IsSome, slice_index_or, refl, sym, arith, ◌⊎◌, ◌↔◌}
+use Rattle.std.proofs.Common.{◌≡◌, ℕ, suc, ◌+◌, ◌-◌, ◌*◌, ◌^◌, ◌<◌, ◌≤◌, List, [], ◌∷◌, ◌++◌, length, Option, Some, None, Ok, IsSome, slice_index_or, refl, sym, arith, ◌⊎◌, ◌↔◌, ◌≢◌, get_or}
 use Rattle.std.specs.List.{AllByRecursion}
 use Rattle.std.specs.Bool.{Decides}
+use Rattle.std.specs.Fmt.{decimal}
 use Rattle.warg_log.specs.declared.node.Node.{Node}
 use Rattle.std.specs.Cmp.Lexicographic.{pointwise_decides}
 use Rattle.std.proofs.lemmas.Bool.Decides.{Decides-eqb, Decides-and}
@@ -16,6 +17,7 @@ use Rattle.warg_log.specs.Walks.{IsKnown, needed, needed_between}
 use Rattle.warg_log.specs.Consistency.{consistency, IsConsistent}
 use Rattle.warg_log.specs.Inclusion.{inclusion}
 use Rattle.warg_log.specs.Claims.{InclusionClaim, Walk, same_node, same_walk}
+use Rattle.warg_log.proofs.DecimalLemmas as decimals
 use Rattle.warg_log.proofs.NodeLemmas as nodes
 use Rattle.warg_log.proofs.RootLemmas as powers
 use Rattle.warg_log.proofs.BalancedLemmas as balanced
@@ -206,3 +208,8 @@ known_cut H F x t n = (reads.needed_exactly H F x _).0
 -- what is known of two lists is known of each
 pub known_parts : (F : ℕ → Option (List ℕ)) (xs ys : List ℕ) → IsKnown F (xs ++ ys) → IsKnown F xs × IsKnown F ys
 known_parts F xs ys = (reads.known_append F xs ys).0
+
+-- a number in decimal has digits alone
+pub decimal_without : (n c i : ℕ) → n < 2 ^ 64 → (48 < c + 1 → c < 58 → ⊥) → i < length (decimal n)
+    → get_or (decimal n) i 0 ≢ c
+decimal_without = decimals.decimal_without

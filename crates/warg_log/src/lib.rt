@@ -17,19 +17,19 @@ pub mod premises;
 mod proof;
 mod sparse_data;
 mod stack_log;
-mod tested;
 mod text;
 mod vec_log;
 
 pub use consistency::{ConsistencyProof, ConsistencyProofError};
 pub use decimal::decimal_in;
 pub use leaf_range::{LeafRange, range_root, stored_root};
-pub use log::{Checkpoint, GREATEST_LENGTH, LogBuilder, LogData, push_all};
+pub use log::{
+    AppendError, Checkpoint, GREATEST_LENGTH, LogBuilder, LogData, OutOfRange, push_all,
+};
 pub use node::Node;
 pub use proof::{InclusionProof, InclusionProofError, InclusionProofWalk};
 pub use sparse_data::{NotAscending, SparseLogData};
 pub use stack_log::StackLog;
-pub use tested::{AppendError, OutOfRange};
 pub use text::BadCheckpoint;
 pub use vec_log::VecLog;
 pub use warg_crypto::{Side, hash_branch, hash_empty, hash_leaf};

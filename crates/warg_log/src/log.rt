@@ -1,4 +1,4 @@
-//! What all logs have in common: checkpoints, and the two traits.
+//! What all logs have in common: checkpoints, refusals, and the two traits.
 
 ghost use Rattle.std.specs.Prelude.{◌≡◌, ℕ, ◌+◌, ◌*◌, ◌<◌, ◌≤◌, ◌↔◌, map, take, List, [], ◌∷◌, length, Option, IsTrue, IsSome, IfOk, OnOk, OnErr};
 ghost use Rattle.warg_crypto.specs.Tree.{leaf_digest};
@@ -10,10 +10,37 @@ use crate::node::Node;
 use crate::proof::InclusionProof;
 use std::alloc::AllocError;
 use std::marker::Model;
+use thiserror::Error;
 use warg_crypto::{Hash, SupportedDigest, VisitBytes};
 
 /// The greatest length of a log: 2^63 entries.
 pub const GREATEST_LENGTH: usize = 1 << 63;
+
+/// Why an entry isn't appended.
+#[derive(Debug, PartialEq, Eq, Drop, Error)]
+pub enum AppendError {
+    /// The log has 2^63 entries.
+    #[error("log is full")]
+    Full,
+    /// Memory ran out.
+    #[error("out of memory")]
+    Memory,
+}
+
+impl From<AllocError> for AppendError {
+    ghost use Rattle.warg_log.specs.declared.log.AppendError.TheVariants.{Memory};
+
+    ghost from_gives = { λ _ error. error ≡ Memory };
+
+    fn from(_error: AllocError) -> AppendError {
+        AppendError::Memory
+    }
+}
+
+/// An index or a length is none of the log's.
+#[derive(Clone, Copy, Debug, PartialEq, Eq, Error)]
+#[error("out of the log's range")]
+pub struct OutOfRange;
 
 /// A log's root and length, which together fix what the log holds.
 ///

@@ -1,6 +1,6 @@
 //! A log that keeps the digests of its balanced roots alone.
 
-ghost use Rattle.std.specs.Prelude.{◌≡◌, ℕ, ◌+◌, ◌*◌, ◌<◌, ◌≤◌, ◌↔◌, List, [], ◌∷◌, ◌++◌, Some, length, map, IsTrue, IfOk, OnOk, OnErr, vec_capacity, vec_len};
+ghost use Rattle.std.specs.Prelude.{◌≡◌, ℕ, ◌+◌, ◌*◌, ◌<◌, ◌≤◌, ◌↔◌, List, [], ◌∷◌, ◌++◌, Some, length, map, Err, IsTrue, IfOk, OnOk, OnErr, vec_capacity, vec_len};
 ghost use Rattle.warg_log.specs.Nodes.{height_of, start_of, balanced_roots};
 ghost use Rattle.warg_crypto.specs.Tree.{leaf_digest};
 ghost use Rattle.warg_log.specs.Tree.{root_of};
@@ -8,10 +8,9 @@ ghost use Rattle.warg_log.specs.Cut.{old_root};
 ghost use Rattle.warg_log.specs.Blocks.{Blocks, StandsFor, block_at, joined_blocks, pushed};
 ghost use Rattle.warg_log.specs.Private.Growth.{Grows};
 
-mod append;
 mod image;
 
-use crate::log::{Checkpoint, GREATEST_LENGTH, LogBuilder};
+use crate::log::{AppendError, Checkpoint, GREATEST_LENGTH, LogBuilder};
 use crate::node::Node;
 use std::alloc::{AllocError, Allocator, Global};
 use std::marker::{Model, PhantomData};
@@ -70,6 +69,21 @@ impl<D: SupportedDigest, V: VisitBytes, A: Allocator> StackLog<D, V, A> {
         ensures { IsTrue result ↔ (self.now.len ≡ 0) }
     {
         self.count == 0
+    }
+
+    /// Adds an entry at the end, as [`push`](LogBuilder::push), and returns its leaf's node: `Full` exactly if the log has
+    /// 2^63 entries. A refusal leaves the log as it was.
+    pub fn append(&mut self, entry: &V) -> Result<Node, AppendError>
+        ensures ok { OnOk result (self.new ≡ pushed D.digest self.old
+            (leaf_digest D.digest (V.bytes entry.now))) }
+        ensures node { IfOk result (λ node. node.0 ≡ 2 * self.old.len) }
+        ensures full { (result ≡ Err AppendError.Full) ↔ (self.old.len ≡ GREATEST_LENGTH) }
+        ensures err { OnErr result (self.new ≡ self.old) }
+    {
+        if self.length() == GREATEST_LENGTH {
+            return Err(AppendError::Full);
+        }
+        Ok(self.push(entry)?)
     }
 
     /// A log of the same length and blocks. It fails only if allocation fails.

@@ -1,5 +1,4 @@
 mod TileLemmas
-mod DecimalLemmas
 mod PathLemmas
 mod EntryLemmas
 mod BetweenLemmas

@@ -11,7 +11,7 @@ use Rattle.std.specs.Fmt.{decimal, char_count, padded_integral, format_spec}
 use Rattle.std.proofs.lemmas.Fmt.{decimal_digit, decimal_step}
 use Rattle.warg_tiles.specs.TilePaths.{three_digits, group_of, groups_within, groups_of, number_path, place_path, tile_path}
 use Rattle.warg_tiles.specs.Tiles.{TileAt, IsTile}
-use Rattle.warg_tiles.proofs.DecimalLemmas.{decimal_without}
+use Rattle.warg_log.proofs.ForCallers.{decimal_without}
 use Rattle.warg_tiles.specs.Private.PathDigits.{number_on}
 
 -- more digits make no smaller number

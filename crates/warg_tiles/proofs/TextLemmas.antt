@@ -22,7 +22,7 @@ use Rattle.warg_tiles.specs.CheckpointFaults.{HasLength, HasRoot, IsFirstFault}
 use Rattle.warg_tiles.specs.Private.Texts.{IsExtensionFault}
 use Rattle.warg_tiles.specs.declared.error.CheckpointTextError.{CheckpointTextError}
 use Rattle.warg_tiles.specs.declared.error.CheckpointTextError.TheVariants.{Origin, Length, Root, Extension, Memory}
-use Rattle.warg_tiles.proofs.DecimalLemmas.{decimal_without}
+use Rattle.warg_log.proofs.ForCallers.{decimal_without}
 
 -- bytes with no newline are no line with its newline
 pub no_line : (bytes a r : List ℕ) → HasNoNewline bytes → bytes ≢ line a r
